@@ -1,0 +1,195 @@
+-- The image of a file that keeps all rules.
+use Rattle.std.proofs.Common.{◌≡◌, ◌≤◌, ◌<◌, ℕ, zero, suc, ◌+◌, ◌-◌, ◌*◌, ◌^◌, inl, inr, List, [], ◌∷◌, ◌++◌, length, take, drop, replicate, slice_index, slice_index_or, min, map, arith, refl, sym, ap, subst, ◌∙◌, append_assoc, length-append, length-drop, length-take, Bool, true, false}
+use Rattle.std.specs.Prelude.{Some, None, unwrap_or, nat_lt, if◌then◌else◌}
+use Rattle.std.proofs.lemmas.List.{length-replicate, get_or_append_left, get_or-append-add, get_or_past, take-append-drop, take-append-le, get_or-replicate}
+use Rattle.std.proofs.lemmas.Grind.{get_or_default_zero}
+use Rattle.std.proofs.lemmas.Bool.{cases_lt, lt-ltb}
+use Rattle.std.proofs.Math.Seq.{drop-append_seam}
+use Rattle.g1_words.specs.Heap.{Heap, region, start}
+use Rattle.g1_words.specs.Valid.{IsValid, IsReference, IsShapedBy}
+use Rattle.g1_words.specs.declared.region.Kind.{Kind}
+use Rattle.g1_words.specs.declared.region.Kind.TheVariants.{Free, Ordinary, HumongousFirst, Continuation}
+use Rattle.g1_words.specs.declared.fault.Fault.{Fault}
+use Rattle.g1_words.specs.declared.fault.Fault.TheVariants as fault
+use Rattle.g1_words.specs.declared.fault.Place.TheVariants as place
+use Rattle.g1_words.specs.declared.fault.Stand.TheVariants as stand
+use Rattle.g1_image.specs.Text.{File, Entry, file_text, total}
+use Rattle.g1_image.specs.Image.{IsImage, IsLog, IsUsedCard, all_words, used_words, heap_of, file_of, region_of_entry, entry_of, kind_of, kind_number}
+use Rattle.g1_image.specs.Faults.{FileFits, MayFail, IsKnown, KindsKnown, IsFirstBreach, IsGoodLogged, LogGood, SetGood}
+use Rattle.g1_image.specs.Judged.{IsGoodHeap, HeapFault}
+use Rattle.g1_image.specs.Draft.{IsDraft}
+use Rattle.g1_image.proofs.Words.{total-cons}
+
+-- the fault of a whole file is the bytes'
+pub heap_fault : (bytes : List ℕ) (f : File) (e : Fault) → FileFits f → bytes ≡ file_text f → KindsKnown f → HeapFault (heap_of f) e → MayFail bytes e
+heap_fault bytes f (fault.Shape r) fits text known h = inr (f, fits, text, (known, h))
+heap_fault bytes f (fault.Reference (place.Root i)) fits text known h = inr (f, fits, text, (known, h.0, h.1))
+heap_fault bytes f (fault.Reference (place.Slot p)) fits text known h = inr (f, fits, text, (known, h.0, h.1, h.2))
+heap_fault bytes f _ fits text known h = absurd h
+
+pub log_fault : (bytes : List ℕ) (f : File) (e : Fault) (i : ℕ) → FileFits f → bytes ≡ file_text f → KindsKnown f → IsGoodHeap (heap_of f) → e ≡ fault.Card (stand.Dirty i) →
+    IsFirstBreach (LogGood f) (length f.log) i → MayFail bytes e
+log_fault bytes f e i fits text known g is b = subst (MayFail bytes) (sym is) (inr (f, fits, text, (known, g.shaped, g.roots, g.slots, b)))
+
+pub set_fault : (bytes : List ℕ) (f : File) (e : Fault) (r : ℕ) → FileFits f → bytes ≡ file_text f → KindsKnown f → IsGoodHeap (heap_of f) →
+    ((i : ℕ) → i < length f.log → LogGood f i) → e ≡ fault.Card (stand.Region r) → IsFirstBreach (SetGood f) f.n r → MayFail bytes e
+set_fault bytes f e r fits text known g logged is b = subst (MayFail bytes) (sym is) (inr (f, fits, text, (known, g.shaped, g.roots, g.slots, logged, b)))
+
+-- no more words are used than a region has
+top_of : (k : Kind) (h : Heap) (r : ℕ) → IsShapedBy k h r → (region h r).top ≤ h.geometry.w
+top_of Free h r s = omega (arith, s)
+top_of Ordinary h r s = s.1
+top_of HumongousFirst h r s = omega (arith, s.3)
+top_of Continuation h r s = omega (arith, s.5)
+
+take_same : (n : ℕ) (xs : List ℕ) → take n (take n xs) ≡ take n xs
+take_same zero xs = refl
+take_same (suc n) [] = refl
+take_same (suc n) (x ∷ xs) = ap (λ l. x ∷ l) (take_same n xs)
+
+-- the words of the first region
+module _ (w : ℕ) (e : Entry) (es : List Entry) (ws : List ℕ) (le : total (e ∷ es) ≤ length ws) (top : e.top ≤ w) where
+  used : List ℕ
+  used = take (min e.top w) ws
+
+  chunk : List ℕ
+  chunk = take (min e.top w) ws ++ replicate (w - e.top) 0
+
+  length-front : length (take (min e.top w) ws) ≡ e.top
+  length-front = omega (arith, length-take (min e.top w) ws, le, total-cons e es, top)
+
+  length-chunk : length (take (min e.top w) ws ++ replicate (w - e.top) 0) ≡ w
+  length-chunk = omega (arith, length-append (take (min e.top w) ws) (replicate (w - e.top) 0), length-front, length-replicate {A = ℕ} (w - e.top) 0, top)
+
+  split : all_words w (e ∷ es) ws ≡ (take (min e.top w) ws ++ replicate (w - e.top) 0) ++ all_words w es (drop e.top ws)
+  split = sym (append_assoc (take (min e.top w) ws) (replicate (w - e.top) 0) (all_words w es (drop e.top ws)))
+
+  zero_first : (i : ℕ) → e.top ≤ i → i < w → slice_index (all_words w (e ∷ es) ws) i ≡ 0
+  zero_first i ge lt =
+      let place : i ≡ length (take (min e.top w) ws) + (i - e.top) = omega (arith, length-front, ge) in
+      ap (λ k. slice_index (all_words w (e ∷ es) ws) k) place
+      ∙ get_or-append-add (take (min e.top w) ws) (replicate (w - e.top) 0 ++ all_words w es (drop e.top ws)) (i - e.top) 0
+      ∙ get_or_append_left (replicate (w - e.top) 0) (all_words w es (drop e.top ws)) 0 (i - e.top) (omega (arith, length-replicate {A = ℕ} (w - e.top) 0, ge, lt))
+      ∙ get_or-replicate (w - e.top) (i - e.top) 0 0 (omega (arith, ge, lt))
+
+  later : (k : ℕ) → slice_index (all_words w (e ∷ es) ws) (w + k) ≡ slice_index (all_words w es (drop e.top ws)) k
+  later k =
+      let place : w + k ≡ length (take (min e.top w) ws ++ replicate (w - e.top) 0) + k = omega (arith, length-chunk) in
+      ap (λ l. slice_index l (w + k)) split ∙ ap (λ j. slice_index ((take (min e.top w) ws ++ replicate (w - e.top) 0) ++ all_words w es (drop e.top ws)) j) place
+      ∙ get_or-append-add (take (min e.top w) ws ++ replicate (w - e.top) 0) (all_words w es (drop e.top ws)) k 0
+
+  dropped : drop w (all_words w (e ∷ es) ws) ≡ all_words w es (drop e.top ws)
+  dropped = ap (λ l. drop w l) split ∙ ap (λ k. drop k ((take (min e.top w) ws ++ replicate (w - e.top) 0) ++ all_words w es (drop e.top ws))) (sym length-chunk)
+      ∙ drop-append_seam (take (min e.top w) ws ++ replicate (w - e.top) 0) (all_words w es (drop e.top ws))
+
+  taken : take e.top (all_words w (e ∷ es) ws) ≡ take e.top ws
+  taken =
+      let m : min e.top w ≡ e.top = omega (arith, top) in
+      take-append-le e.top (take (min e.top w) ws) (replicate (w - e.top) 0 ++ all_words w es (drop e.top ws)) (omega (arith, length-front))
+      ∙ ap (λ k. take e.top (take k ws)) m ∙ take_same e.top ws
+
+pub zero_at : (w : ℕ) (es : List Entry) (ws : List ℕ) (r i : ℕ) → total es ≤ length ws → ((q : ℕ) → q < length es → (slice_index_or es q (record { kind = 0; top = 0 })).top ≤ w) →
+    r < length es → (slice_index_or es r (record { kind = 0; top = 0 })).top ≤ i → i < w → slice_index (all_words w es ws) (r * w + i) ≡ 0
+zero_at w [] ws r i le tops lt ge il = absurd (omega (arith, lt))
+zero_at w (e ∷ es) ws zero i le tops lt ge il =
+    let place : 0 * w + i ≡ i = omega arith in
+    ap (λ k. slice_index (all_words w (e ∷ es) ws) k) place ∙ zero_first w e es ws le (tops 0 (omega arith)) i ge il
+zero_at w (e ∷ es) ws (suc r) i le tops lt ge il =
+    let place : suc r * w + i ≡ w + (r * w + i) = omega arith in
+    ap (λ k. slice_index (all_words w (e ∷ es) ws) k) place ∙ later w e es ws le (tops 0 (omega arith)) (r * w + i)
+    ∙ zero_at w es (drop e.top ws) r i (omega (arith, le, total-cons e es, length-drop e.top ws)) (λ q l. tops (suc q) (omega (arith, l))) (omega (arith, lt)) ge il
+
+pub used_all : (w : ℕ) (es : List Entry) (ws : List ℕ) → length ws ≡ total es → ((q : ℕ) → q < length es → (slice_index_or es q (record { kind = 0; top = 0 })).top ≤ w) →
+    used_words w (map region_of_entry es) (all_words w es ws) ≡ ws
+used_all w [] [] e tops = refl
+used_all w [] (x ∷ ws) e tops = absurd (omega (arith, e))
+used_all w (e ∷ es) ws le tops =
+    let fits : total (e ∷ es) ≤ length ws = omega (arith, le) in
+    let rest : used_words w (map region_of_entry es) (all_words w es (drop e.top ws)) ≡ drop e.top ws =
+    used_all w es (drop e.top ws) (omega (arith, le, total-cons e es, length-drop e.top ws)) (λ q l. tops (suc q) (omega (arith, l))) in
+    (λ t. taken w e es ws fits (tops 0 (omega arith)) t ++ used_words w (map region_of_entry es) (dropped w e es ws fits (tops 0 (omega arith)) t))
+    ∙ ap (λ l. take e.top ws ++ l) rest ∙ take-append-drop e.top ws
+
+kind_again : (x : ℕ) → x ≤ 3 → kind_number (kind_of x) ≡ x
+kind_again zero le = refl
+kind_again (suc zero) le = refl
+kind_again (suc (suc zero)) le = refl
+kind_again (suc (suc (suc zero))) le = refl
+kind_again (suc (suc (suc (suc x)))) le = absurd (omega (arith, le))
+
+pub table_again : (es : List Entry) → ((r : ℕ) → r < length es → IsKnown es r) → map entry_of (map region_of_entry es) ≡ es
+table_again [] known = refl
+table_again (e ∷ es) known =
+    let first : kind_number (kind_of e.kind) ≡ e.kind = kind_again e.kind (known 0 (omega arith)) in
+    (λ t. record { kind = first t; top = e.top } ∷ table_again es (λ r lt. known (suc r) (omega (arith, lt))) t)
+
+pub region_top : (es : List Entry) (r : ℕ) → (slice_index_or (map region_of_entry es) r (record { kind = Free; top = 0 })).top ≡ (slice_index_or es r (record { kind = 0; top = 0 })).top
+region_top [] r = refl
+region_top (e ∷ es) zero = refl
+region_top (e ∷ es) (suc r) = region_top es r
+
+-- a heap whose regions and references are good is valid
+pub valid_heap : (h : Heap) → IsDraft h → IsGoodHeap h → ((r i : ℕ) → r < h.geometry.n → (region h r).top ≤ i → i < h.geometry.w → slice_index h.words (start h r + i) ≡ 0) → IsValid h
+valid_heap h d g zeros = record {
+  limits = d.limits;
+  word_count = d.word_count;
+  word_fits = d.word_fits;
+  region_count = d.region_count;
+  root_count = d.root_count;
+  shaped = g.shaped;
+  zero_above = zeros;
+  roots = λ i x lt. subst (IsReference h) (sym (get_or_default_zero h.roots i x lt)) (g.roots i lt);
+  slots = λ o p has slot. elim (cases_lt p (h.geometry.n * h.geometry.w)) [
+    | inl lt ↦ g.slots p lt o has slot
+    | inr ge ↦ inl (get_or_past h.words p 0 (omega (arith, ge, d.word_count)))
+  ];
+  current_in = d.current_in;
+}
+
+module _ (f : File) (fits : FileFits f) (g : IsGoodHeap (heap_of f)) where
+  tops : (q : ℕ) → q < length f.table → (slice_index_or f.table q (record { kind = 0; top = 0 })).top ≤ f.w
+  tops q lt =
+      let s = g.shaped q (omega (arith, lt, fits.table.how_many)) in
+      omega (arith, top_of (region (heap_of f) q).kind (heap_of f) q s.by_kind, region_top f.table q)
+
+  pub zeros : (r i : ℕ) → r < f.n → (region (heap_of f) r).top ≤ i → i < f.w → slice_index (heap_of f).words (start (heap_of f) r + i) ≡ 0
+  zeros r i lt ge il =
+      zero_at f.w f.table f.words r i (omega (arith, fits.words.how_many)) tops (omega (arith, lt, fits.table.how_many)) (omega (arith, ge, region_top f.table r)) il
+
+  current_again : (c n : ℕ) → c ≤ n → unwrap_or (if nat_lt c n then Some c else None) n ≡ c
+  current_again c n le = by (nat_lt c n) refl where
+    by : (b : Bool) → nat_lt c n ≡ b → unwrap_or (if b then Some c else None) n ≡ c
+    by true e = refl
+    by false e = elim (cases_lt c n) [
+      | inl lt ↦ (let clash : true ≡ false = sym (lt-ltb c n lt) ∙ e in cc)
+      | inr ge ↦ (let s : n ≡ c = omega (arith, ge, le) in s)
+    ]
+
+  pub file_again : KindsKnown f → file_of (record { heap = heap_of f; sets = f.sets; log = f.log }) ≡ f
+  file_again known = λ t. record {
+    w = f.w;
+    k = f.k;
+    n = f.n;
+    current = current_again f.current f.n fits.limits.current t;
+    table = table_again f.table (λ r lt. known r (omega (arith, lt, fits.table.how_many))) t;
+    roots = f.roots;
+    log = f.log;
+    sets = f.sets;
+    words = used_all f.w f.table f.words fits.words.how_many tops t;
+  }
+
+pub is_log : (h : Heap) (log : List ℕ) → length log < 2 ^ 32 → ((i : ℕ) → i < length log → IsGoodLogged h log i) → IsLog h log
+is_log h log count good = record {
+  used = λ i x lt. subst (IsUsedCard h) (sym (get_or_default_zero log i x lt)) (good i lt).0;
+  distinct = λ i j d lt le e. (good j le).1 i lt (sym (get_or_default_zero log i d (omega (arith, lt, le))) ∙ e ∙ get_or_default_zero log j d le);
+  count = count;
+}
+
+pub is_image : (f : File) → FileFits f → IsDraft (heap_of f) → IsGoodHeap (heap_of f) → ((i : ℕ) → i < length f.log → LogGood f i) → ((r : ℕ) → r < f.n → SetGood f r) →
+    IsImage (record { heap = heap_of f; sets = f.sets; log = f.log })
+is_image f fits d g logged sets = record {
+  heap = valid_heap (heap_of f) d g (zeros f fits g);
+  one_each = fits.sets.how_many;
+  sets = sets;
+  log = is_log (heap_of f) f.log fits.heading.dirty logged;
+}

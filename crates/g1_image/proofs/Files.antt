@@ -1,0 +1,170 @@
+-- A file that is read part by part.
+use Rattle.std.proofs.Common.{◌≡◌, ◌≤◌, ◌<◌, ℕ, suc, ◌*◌, inl, inr, List, [], ◌∷◌, ◌++◌, length, drop, arith, refl, sym, ap, subst, ◌∙◌, append_assoc, length-drop}
+use Rattle.std.proofs.lemmas.List.{append-nil, append_cancel_left, drop_all}
+use Rattle.g1_words.specs.declared.fault.Fault.{Fault}
+use Rattle.g1_words.specs.declared.fault.Fault.TheVariants as fault
+use Rattle.g1_image.specs.declared.cursor.Heading.{Heading}
+use Rattle.g1_image.specs.Text.{File, Entry, magic, heading_text, heading_of, body_text, file_text, table_text, words_text, numbers_text, sets_text, entry_text, set_text, u32, u64, words_of, total}
+use Rattle.g1_image.specs.Reading.{Are, IsU32, IsU64, IsBytes, EndsWithin, FailsIf}
+use Rattle.g1_image.specs.Faults.{HeadingFits, IsGoodHeading, EntryFits, SetFits, FileFits, FaultOf, MayFail}
+use Rattle.g1_image.specs.Plain.{plain_file, PlainIs}
+use Rattle.g1_image.proofs.Numbers.{u32_once, u64_once}
+use Rattle.g1_image.proofs.PrefixFree.{IsPrefixFree, Are-free}
+use Rattle.g1_image.proofs.Parts.{entry_free, set_free, heading_free}
+use Rattle.g1_image.proofs.Sequence.{Left, Left-step, Left-short}
+use Rattle.g1_image.proofs.Words.{words_of-text, words_of-are, words_short}
+
+pub numbers_free : (n : ℕ) → IsPrefixFree (Are IsU32 n) numbers_text
+numbers_free n = Are-free IsU32 u32 (λ x y s t fx fy e. u32_once x y s t fx fy e) n
+
+pub words_free : (n : ℕ) → IsPrefixFree (Are IsU64 n) words_text
+words_free n = Are-free IsU64 u64 (λ x y s t fx fy e. u64_once x y s t fx fy e) n
+
+-- the first reader that has not what it needs
+pub fails : (bytes : List ℕ) (e : Fault) (P : Type 0) → FailsIf e P → (P → FaultOf bytes fault.Short) → MayFail bytes e
+fails bytes fault.Memory P h f = inl refl
+fails bytes fault.Short P h f = inr (f h)
+fails bytes _ P h f = absurd h
+
+abbrev pub Is : Heading → File → Type 0
+Is h f = heading_of f ≡ h
+
+abbrev after_table : File → List ℕ
+after_table f = words_text f.roots ++ (numbers_text f.log ++ (sets_text f.sets ++ words_text f.words))
+
+abbrev after_roots : File → List ℕ
+after_roots f = numbers_text f.log ++ (sets_text f.sets ++ words_text f.words)
+
+abbrev after_log : File → List ℕ
+after_log f = sets_text f.sets ++ words_text f.words
+
+abbrev after_sets : File → List ℕ
+after_sets f = words_text f.words
+
+pub are_table : (h : Heading) (f : File) → FileFits f → Is h f → Are EntryFits h.n f.table
+are_table h f fits is = subst (λ (x : Heading). Are EntryFits x.n f.table) is fits.table
+
+pub are_roots : (h : Heading) (f : File) → FileFits f → Is h f → Are IsU64 h.roots f.roots
+are_roots h f fits is = record { how_many = ap (λ (x : Heading). x.roots) is; each = fits.roots }
+
+pub are_log : (h : Heading) (f : File) → FileFits f → Is h f → Are IsU32 h.dirty f.log
+are_log h f fits is = record { how_many = ap (λ (x : Heading). x.dirty) is; each = fits.log }
+
+pub are_sets : (h : Heading) (f : File) → FileFits f → Is h f → Are SetFits h.n f.sets
+are_sets h f fits is = subst (λ (x : Heading). Are SetFits x.n f.sets) is fits.sets
+
+pub words_as : (table : List Entry) (f : File) → FileFits f → f.table ≡ table → Are IsU64 (total table) f.words
+words_as table f fits is = subst (λ t. Are IsU64 (total t) f.words) is fits.words
+
+-- what follows in bytes is bytes
+suffix : (bytes xs ys : List ℕ) → bytes ≡ xs ++ ys → IsBytes bytes → IsBytes ys
+suffix bytes xs ys e b = of xs ys (subst IsBytes e b) where
+  of : (xs ys : List ℕ) → IsBytes (xs ++ ys) → IsBytes ys
+  of [] ys b = b
+  of (x ∷ xs) ys b = of xs ys (λ i. b (suc i))
+
+module _ (bytes rest : List ℕ) (h : Heading) (hf : HeadingFits h) (good : IsGoodHeading h) (e : bytes ≡ magic ++ (heading_text h ++ rest)) where
+  known : Left FileFits file_text bytes (λ f. Unit {0} × Is h f) body_text rest
+  known f tail fits ef =
+      let flat : file_text f ++ tail ≡ magic ++ (heading_text (heading_of f) ++ (body_text f ++ tail)) =
+      append_assoc magic (heading_text (heading_of f) ++ body_text f) tail ∙ ap (λ l. magic ++ l) (append_assoc (heading_text (heading_of f)) (body_text f) tail) in
+      let same : heading_text h ++ rest ≡ heading_text (heading_of f) ++ (body_text f ++ tail) =
+      append_cancel_left magic (heading_text h ++ rest) (heading_text (heading_of f) ++ (body_text f ++ tail)) (sym e ∙ ef ∙ flat) in
+      let one = heading_free h (heading_of f) rest (body_text f ++ tail) hf fits.heading same in
+      ((tt, sym one.0), one.1)
+
+  short : EndsWithin FileFits file_text bytes → FaultOf bytes fault.Short
+  short w = inr (inr (h, rest, hf, good, e, w))
+
+  pub short_table : EndsWithin (Are EntryFits h.n) table_text rest → FaultOf bytes fault.Short
+  short_table w = short (Left-short FileFits file_text bytes (λ f. Unit {0} × Is h f) body_text rest (λ f. f.table) (Are EntryFits h.n) table_text after_table known
+      (λ f fits k. refl) (λ f fits k. are_table h f fits k.1) w)
+
+  module _ (table : List Entry) (r1 : List ℕ) (ft : Are EntryFits h.n table) (et : rest ≡ table_text table ++ r1) where
+    known1 : Left FileFits file_text bytes (λ f. (Unit {0} × Is h f) × (f.table ≡ table)) after_table r1
+    known1 = Left-step FileFits file_text bytes (λ f. Unit {0} × Is h f) body_text rest (λ f. f.table) (Are EntryFits h.n) table_text after_table known
+        (λ f fits k. refl) (λ f fits k. are_table h f fits k.1) (Are-free EntryFits entry_text entry_free h.n) table r1 ft et
+
+    pub short_roots : EndsWithin (Are IsU64 h.roots) words_text r1 → FaultOf bytes fault.Short
+    short_roots w = short (Left-short FileFits file_text bytes (λ f. (Unit {0} × Is h f) × (f.table ≡ table)) after_table r1 (λ f. f.roots) (Are IsU64 h.roots) words_text after_roots known1
+        (λ f fits k. refl) (λ f fits k. are_roots h f fits k.0.1) w)
+
+    module _ (roots : List ℕ) (r2 : List ℕ) (fr : Are IsU64 h.roots roots) (er : r1 ≡ words_text roots ++ r2) where
+      known2 : Left FileFits file_text bytes (λ f. ((Unit {0} × Is h f) × (f.table ≡ table)) × (f.roots ≡ roots)) after_roots r2
+      known2 = Left-step FileFits file_text bytes (λ f. (Unit {0} × Is h f) × (f.table ≡ table)) after_table r1 (λ f. f.roots) (Are IsU64 h.roots) words_text after_roots known1
+          (λ f fits k. refl) (λ f fits k. are_roots h f fits k.0.1) (words_free h.roots) roots r2 fr er
+
+      pub short_log : EndsWithin (Are IsU32 h.dirty) numbers_text r2 → FaultOf bytes fault.Short
+      short_log w = short (Left-short FileFits file_text bytes (λ f. ((Unit {0} × Is h f) × (f.table ≡ table)) × (f.roots ≡ roots)) after_roots r2 (λ f. f.log) (Are IsU32 h.dirty) numbers_text after_log known2
+          (λ f fits k. refl) (λ f fits k. are_log h f fits k.0.0.1) w)
+
+      module _ (log : List ℕ) (r3 : List ℕ) (fl : Are IsU32 h.dirty log) (el : r2 ≡ numbers_text log ++ r3) where
+        known3 : Left FileFits file_text bytes (λ f. (((Unit {0} × Is h f) × (f.table ≡ table)) × (f.roots ≡ roots)) × (f.log ≡ log)) after_log r3
+        known3 = Left-step FileFits file_text bytes (λ f. ((Unit {0} × Is h f) × (f.table ≡ table)) × (f.roots ≡ roots)) after_roots r2 (λ f. f.log) (Are IsU32 h.dirty) numbers_text after_log known2
+            (λ f fits k. refl) (λ f fits k. are_log h f fits k.0.0.1) (numbers_free h.dirty) log r3 fl el
+
+        pub short_sets : EndsWithin (Are SetFits h.n) sets_text r3 → FaultOf bytes fault.Short
+        short_sets w = short (Left-short FileFits file_text bytes (λ f. (((Unit {0} × Is h f) × (f.table ≡ table)) × (f.roots ≡ roots)) × (f.log ≡ log)) after_log r3 (λ f. f.sets) (Are SetFits h.n) sets_text after_sets known3
+            (λ f fits k. refl) (λ f fits k. are_sets h f fits k.0.0.0.1) w)
+
+        module _ (sets : List (List ℕ)) (r4 : List ℕ) (fs : Are SetFits h.n sets) (es : r3 ≡ sets_text sets ++ r4) where
+          known4 : Left FileFits file_text bytes (λ f. ((((Unit {0} × Is h f) × (f.table ≡ table)) × (f.roots ≡ roots)) × (f.log ≡ log)) × (f.sets ≡ sets)) after_sets r4
+          known4 = Left-step FileFits file_text bytes (λ f. (((Unit {0} × Is h f) × (f.table ≡ table)) × (f.roots ≡ roots)) × (f.log ≡ log)) after_log r3 (λ f. f.sets) (Are SetFits h.n) sets_text after_sets known3
+              (λ f fits k. refl) (λ f fits k. are_sets h f fits k.0.0.0.1) (Are-free SetFits set_text set_free h.n) sets r4 fs es
+
+          are_words : (f : File) → FileFits f → f.table ≡ table → Are IsU64 (total table) f.words
+          are_words f fits is = subst (λ t. Are IsU64 (total t) f.words) is fits.words
+
+          -- the words aren't all there
+          pub short_words : length r4 < 8 * total table → FaultOf bytes fault.Short
+          short_words lt = short (Left-short FileFits file_text bytes (λ f. ((((Unit {0} × Is h f) × (f.table ≡ table)) × (f.roots ≡ roots)) × (f.log ≡ log)) × (f.sets ≡ sets)) after_sets r4
+              (λ f. f.words) (Are IsU64 (total table)) words_text (λ f. []) known4
+              (λ f fits k. sym (append-nil (words_text f.words))) (λ f fits k. are_words f fits k.0.0.0.1) (words_short (total table) r4 lt))
+
+          file : File
+          file = plain_file h table roots log sets r4
+
+          header : heading_of (plain_file h table roots log sets r4) ≡ h
+          header = λ t. record { w = h.w; k = h.k; n = h.n; roots = fr.how_many t; dirty = fl.how_many t; current = h.current }
+
+          fits : IsBytes r4 → FileFits (plain_file h table roots log sets r4)
+          fits b = record {
+            heading = subst HeadingFits (sym header) hf;
+            limits = subst IsGoodHeading (sym header) good;
+            table = ft;
+            roots = fr.each;
+            log = fl.each;
+            sets = fs;
+            words = words_of-are (total table) r4 b;
+          }
+
+          pub words_are_bytes : IsBytes bytes → IsBytes r4
+          words_are_bytes b =
+              suffix r3 (sets_text sets) r4 es (suffix r2 (numbers_text log) r3 el (suffix r1 (words_text roots) r2 er (suffix rest (table_text table) r1 et
+              (suffix (heading_text h ++ rest) (heading_text h) rest refl (suffix bytes magic (heading_text h ++ rest) e b)))))
+
+          module _ (b : IsBytes r4) (le : 8 * total table ≤ length r4) where
+            text : bytes ≡ file_text (plain_file h table roots log sets r4) ++ drop (8 * total table) r4
+            text =
+                let tail : List ℕ = drop (8 * total table) r4 in
+                let ws : List ℕ = words_text (words_of (total table) r4) in
+                let e4 : r4 ≡ ws ++ tail = words_of-text (total table) r4 le b in
+                e ∙ (λ t. magic ++ (heading_text (sym header t) ++ rest))
+                ∙ ap (λ l. magic ++ (heading_text (heading_of (plain_file h table roots log sets r4)) ++ l))
+                (et ∙ ap (λ l. table_text table ++ l) (er ∙ ap (λ l. words_text roots ++ l) (el ∙ ap (λ l. numbers_text log ++ l) (es ∙ ap (λ l. sets_text sets ++ l) e4))))
+                ∙ (simp append_assoc)
+
+            pub trailing : 8 * total table < length r4 → FaultOf bytes fault.Trailing
+            trailing lt = (plain_file h table roots log sets r4, drop (8 * total table) r4, fits b, text, omega (arith, lt, length-drop (8 * total table) r4))
+
+            pub plain_is : length r4 ≡ 8 * total table → PlainIs bytes h table roots log sets r4
+            plain_is whole =
+                let none : drop (8 * total table) r4 ≡ [] = drop_all (8 * total table) r4 (omega (arith, whole)) in
+                record {
+                  good = good;
+                  root_count = fr.how_many;
+                  fits = fits b;
+                  text = text ∙ ap (λ l. file_text (plain_file h table roots log sets r4) ++ l) none ∙ append-nil (file_text (plain_file h table roots log sets r4));
+                  whole = whole;
+                  are_bytes = b;
+                }

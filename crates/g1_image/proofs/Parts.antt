@@ -1,0 +1,32 @@
+-- The parts of a file: none begins another.
+use Rattle.std.proofs.Common.{◌≡◌, ℕ, List, ◌++◌, length, refl, sym, ◌∙◌, append_assoc}
+use Rattle.g1_image.specs.Text.{u32, entry_text, set_text, numbers_text, heading_text}
+use Rattle.g1_image.specs.Reading.{IsU32}
+use Rattle.g1_image.specs.Faults.{EntryFits, SetFits, HeadingFits}
+use Rattle.g1_image.proofs.Numbers.{u32_once}
+use Rattle.g1_image.proofs.PrefixFree.{IsPrefixFree, Are-free}
+use Rattle.g1_image.specs.declared.cursor.Heading.{Heading}
+
+pub entry_free : IsPrefixFree EntryFits entry_text
+entry_free x y s t fx fy e =
+    let one = u32_once x.kind y.kind (u32 x.top ++ s) (u32 y.top ++ t) fx.0 fy.0 (sym (append_assoc (u32 x.kind) (u32 x.top) s) ∙ e ∙ append_assoc (u32 y.kind) (u32 y.top) t) in
+    let two = u32_once x.top y.top s t fx.1 fy.1 one.1 in
+    ((λ i. record { kind = one.0 i; top = two.0 i }), two.1)
+
+pub set_free : IsPrefixFree SetFits set_text
+set_free x y s t fx fy e =
+    let one = u32_once (length x) (length y) (numbers_text x ++ s) (numbers_text y ++ t) fx.0 fy.0
+    (sym (append_assoc (u32 (length x)) (numbers_text x) s) ∙ e ∙ append_assoc (u32 (length y)) (numbers_text y) t) in
+    Are-free IsU32 u32 (λ a b p q fa fb d. u32_once a b p q fa fb d) (length y) x y s t (record { how_many = one.0; each = fx.1 }) (record { how_many = refl; each = fy.1 }) one.1
+
+pub heading_free : IsPrefixFree HeadingFits heading_text
+heading_free x y s t fx fy e =
+    let flat : (z : Heading) (r : List ℕ) → heading_text z ++ r ≡ u32 z.w ++ (u32 z.k ++ (u32 z.n ++ (u32 z.roots ++ (u32 z.dirty ++ (u32 z.current ++ r))))) =
+    λ z r. simp append_assoc in
+    let a = u32_once x.w y.w _ _ fx.w fy.w (sym (flat x s) ∙ e ∙ flat y t) in
+    let b = u32_once x.k y.k _ _ fx.k fy.k a.1 in
+    let c = u32_once x.n y.n _ _ fx.n fy.n b.1 in
+    let d = u32_once x.roots y.roots _ _ fx.roots fy.roots c.1 in
+    let f = u32_once x.dirty y.dirty _ _ fx.dirty fy.dirty d.1 in
+    let g = u32_once x.current y.current _ _ fx.current fy.current f.1 in
+    ((λ i. record { w = a.0 i; k = b.0 i; n = c.0 i; roots = d.0 i; dirty = f.0 i; current = g.0 i }), g.1)

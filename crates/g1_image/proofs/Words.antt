@@ -1,0 +1,110 @@
+-- Words of 64 bits in bytes, and the words of regions.
+use Rattle.std.proofs.Common.{◌≡◌, ◌≤◌, ◌<◌, ℕ, zero, suc, ◌+◌, ◌-◌, ◌*◌, ◌^◌, List, [], ◌∷◌, ◌++◌, length, take, drop, replicate, arith, refl, sym, ap, ◌∙◌, append_assoc, length-append, length-drop, get_or-drop, slice_index_or, add-one, drop-cons, min}
+use Rattle.std.proofs.lemmas.List.{drop-drop}
+use Rattle.std.proofs.lemmas.List.Sums.{sum_by-append}
+use Rattle.g1_image.specs.Text.{Entry, u64, words_text, read_word, words_of, total}
+use Rattle.g1_image.specs.Reading.{IsU64, Are, IsBytes, EndsWithin}
+use Rattle.g1_image.specs.Image.{all_words}
+use Rattle.g1_image.proofs.Numbers.{u64_read, u64-length}
+use Rattle.byteorder.specs.Endian.{little_number}
+use Rattle.byteorder.specs.Numbers.{little_from-take, little_from-lt}
+
+pub read_word-is : (bytes front : List ℕ) (x : ℕ) → front ≡ take 8 bytes → x ≡ little_number 8 front → x ≡ read_word bytes
+unfolding read_word
+read_word-is bytes front x f e = e ∙ ap (λ l. little_number 8 l) f ∙ little_from-take 0 8 8 bytes (omega arith)
+
+pub read_word-fits : (bytes : List ℕ) → IsBytes bytes → read_word bytes < 2 ^ 64
+unfolding read_word
+read_word-fits bytes fits = little_from-lt 0 8 bytes fits
+
+read_word-text : (bytes : List ℕ) → 8 ≤ length bytes → IsBytes bytes → bytes ≡ u64 (read_word bytes) ++ drop 8 bytes
+read_word-text bytes le fits = (u64_read bytes (take 8 bytes) (drop 8 bytes) (read_word bytes) le fits refl refl (is bytes)).1 where
+  is : (bytes : List ℕ) → read_word bytes ≡ little_number 8 (take 8 bytes)
+  is bytes = sym (read_word-is bytes (take 8 bytes) (little_number 8 (take 8 bytes)) refl refl)
+
+bytes-drop : (k : ℕ) (bytes : List ℕ) → IsBytes bytes → IsBytes (drop k bytes)
+bytes-drop k bytes fits i = rw (get_or-drop k bytes i 0) (fits (k + i))
+
+pub words_of-text : (n : ℕ) (bytes : List ℕ) → 8 * n ≤ length bytes → IsBytes bytes → bytes ≡ words_text (words_of n bytes) ++ drop (8 * n) bytes
+words_of-text zero bytes le fits = refl
+words_of-text (suc n) bytes le fits =
+    let rest : drop 8 bytes ≡ words_text (words_of n (drop 8 bytes)) ++ drop (8 * n) (drop 8 bytes) =
+    words_of-text n (drop 8 bytes) (omega (arith, length-drop 8 bytes)) (bytes-drop 8 bytes fits) in
+    let same : drop (8 * n) (drop 8 bytes) ≡ drop (8 * suc n) bytes = drop-drop (8 * n) 8 bytes ∙ ap (λ k. drop k bytes) (let e : 8 + 8 * n ≡ 8 * suc n = omega arith in e) in
+    read_word-text bytes (omega arith) fits ∙ ap (λ l. u64 (read_word bytes) ++ l) (rest ∙ ap (λ l. words_text (words_of n (drop 8 bytes)) ++ l) same)
+    ∙ sym (append_assoc (u64 (read_word bytes)) (words_text (words_of n (drop 8 bytes))) (drop (8 * suc n) bytes))
+
+pub length-words_of : (n : ℕ) (bytes : List ℕ) → length (words_of n bytes) ≡ n
+length-words_of zero bytes = refl
+length-words_of (suc n) bytes = omega (arith, length-words_of n (drop 8 bytes))
+
+words_of-each : (n : ℕ) (bytes : List ℕ) → IsBytes bytes → (k d : ℕ) → k < length (words_of n bytes) → IsU64 (slice_index_or (words_of n bytes) k d)
+words_of-each zero bytes fits k d lt = absurd (omega arith)
+words_of-each (suc n) bytes fits zero d lt = read_word-fits bytes fits
+words_of-each (suc n) bytes fits (suc k) d lt = words_of-each n (drop 8 bytes) (bytes-drop 8 bytes fits) k d (omega arith)
+
+pub words_of-are : (n : ℕ) (bytes : List ℕ) → IsBytes bytes → Are IsU64 n (words_of n bytes)
+words_of-are n bytes fits = record { how_many = length-words_of n bytes; each = words_of-each n bytes fits }
+
+pub length-words_text : (ws : List ℕ) → length (words_text ws) ≡ 8 * length ws
+length-words_text [] = refl
+length-words_text (x ∷ ws) = omega (arith, length-append (u64 x) (words_text ws), u64-length x, length-words_text ws)
+
+-- fewer bytes don't begin with the text of so many words
+pub words_short : (n : ℕ) (bytes : List ℕ) → length bytes < 8 * n → EndsWithin (Are IsU64 n) words_text bytes
+words_short n bytes lt ws rest a e = omega (arith, a.how_many, ap length e, length-append (words_text ws) rest, length-words_text ws)
+
+pub take-words_of : (m n : ℕ) (b : List ℕ) → m ≤ n → take m (words_of n b) ≡ words_of m b
+take-words_of zero n b le = refl
+take-words_of (suc m) zero b le = absurd (omega arith)
+take-words_of (suc m) (suc n) b le = ap (λ l. read_word b ∷ l) (take-words_of m n (drop 8 b) (omega arith))
+
+pub drop-words_of : (m n s : ℕ) (b : List ℕ) → n ≡ m + s → drop m (words_of n b) ≡ words_of s (drop (8 * m) b)
+drop-words_of zero n s b e = let same : n ≡ s = omega arith in ap (λ k. words_of k b) same
+drop-words_of (suc m) zero s b e = absurd (omega arith)
+drop-words_of (suc m) (suc n) s b e =
+    drop-words_of m n s (drop 8 b) (omega arith) ∙ ap (λ l. words_of s l) (drop-drop (8 * m) 8 b ∙ ap (λ k. drop k b) (let e : 8 + 8 * m ≡ 8 * suc m = omega arith in e))
+
+-- one more word
+pub push_step : (out all rest after : List ℕ) (count i x : ℕ) → i < count → out ++ words_of (count - i) rest ≡ all → after ≡ drop 8 rest → x ≡ read_word rest →
+    (out ++ x ∷ []) ++ words_of (count - (i + 1)) after ≡ all
+push_step out all rest after count i x lt e a r =
+    let s : count - i ≡ suc (count - (i + 1)) = omega arith in
+    append_assoc out (x ∷ []) (words_of (count - (i + 1)) after) ∙ (λ t. out ++ r t ∷ words_of (count - (i + 1)) (a t)) ∙ ap (λ k. out ++ words_of k rest) (sym s) ∙ e
+
+pub total-cons : (e : Entry) (es : List Entry) → total (e ∷ es) ≡ e.top + total es
+total-cons e es = omega (arith, sum_by-append (λ (e : Entry). e.top) (e ∷ []) es)
+
+-- one more region
+pub laid_front : (w : ℕ) (e : Entry) (es : List Entry) (rest : List ℕ) →
+    all_words w (e ∷ es) (words_of (total (e ∷ es)) rest) ≡ words_of (min e.top w) rest ++ (replicate (w - e.top) 0 ++ all_words w es (words_of (total es) (drop (8 * e.top) rest)))
+laid_front w e es rest =
+    let some : take (min e.top w) (words_of (total (e ∷ es)) rest) ≡ words_of (min e.top w) rest = take-words_of (min e.top w) (total (e ∷ es)) rest (omega (arith, total-cons e es)) in
+    let others : drop e.top (words_of (total (e ∷ es)) rest) ≡ words_of (total es) (drop (8 * e.top) rest) = drop-words_of e.top (total (e ∷ es)) (total es) rest (total-cons e es) in
+    λ t. some t ++ (replicate (w - e.top) 0 ++ all_words w es (others t))
+
+pub laid_step : (w i : ℕ) (table : List Entry) (d : Entry) (out read padded rest after all : List ℕ) (used : ℕ) → i < length table →
+    used ≡ min (slice_index_or table i d).top w → length rest ≡ 8 * total (drop i table) →
+    out ++ all_words w (drop i table) (words_of (total (drop i table)) rest) ≡ all →
+    read ≡ out ++ words_of used rest → padded ≡ read ++ replicate (w - used) 0 → after ≡ drop (8 * (slice_index_or table i d).top) rest →
+    (length after ≡ 8 * total (drop (i + 1) table)) × (padded ++ all_words w (drop (i + 1) table) (words_of (total (drop (i + 1) table)) after) ≡ all)
+laid_step w i table d out read padded rest after all used lt u len come r p a =
+    let e : Entry = slice_index_or table i d in
+    let es : List Entry = drop (i + 1) table in
+    let split : drop i table ≡ e ∷ es = drop-cons table i d lt ∙ ap (λ k. e ∷ drop k table) (sym (add-one i)) in
+    let sum : total (drop i table) ≡ e.top + total es = ap total split ∙ total-cons e es in
+    let pad : w - used ≡ w - e.top = omega (arith, u) in
+    let tail : List ℕ = all_words w es (words_of (total es) after) in
+    let front : all_words w (drop i table) (words_of (total (drop i table)) rest) ≡ words_of used rest ++ (replicate (w - used) 0 ++ tail) =
+    ap (λ l. all_words w l (words_of (total l) rest)) split ∙ laid_front w e es rest
+    ∙ (λ t. words_of (sym u t) rest ++ (replicate (sym pad t) 0 ++ all_words w es (words_of (total es) (sym a t)))) in (
+      omega (arith, ap length a, length-drop (8 * e.top) rest, sum),
+      ap (λ l. l ++ tail) p ∙ append_assoc read (replicate (w - used) 0) tail ∙ ap (λ l. l ++ (replicate (w - used) 0 ++ tail)) r
+          ∙ append_assoc out (words_of used rest) (replicate (w - used) 0 ++ tail) ∙ ap (λ l. out ++ l) (sym front) ∙ come,
+    )
+
+pub total-fits : (w : ℕ) (table : List Entry) (i : ℕ) (d : Entry) → i < length table → (slice_index_or table i d).top ≤ total (drop i table)
+total-fits w table i d lt =
+    let split : drop i table ≡ slice_index_or table i d ∷ drop (suc i) table = drop-cons table i d lt in
+    let sum : total (drop i table) ≡ (slice_index_or table i d).top + total (drop (suc i) table) = ap total split ∙ total-cons (slice_index_or table i d) (drop (suc i) table) in
+    omega (arith, sum)

@@ -1,0 +1,30 @@
+use Rattle.std.proofs.Common.{◌≡◌, ◌+◌, ◌*◌, ◌^◌, slice_index, sym, ap, ◌∙◌, refl, subst, below_more}
+use Rattle.g1_words.specs.Heap.{region, start}
+use Rattle.g1_words.specs.Valid.{IsShaped}
+use Rattle.g1_words.specs.declared.object.Object.{Object}
+use Rattle.g1_words.specs.declared.region.Kind.TheVariants.{HumongousFirst}
+use Rattle.g1_image.specs.Draft.{Latest}
+use Rattle.g1_image.proofs.Runs.{Latest-first, Latest-other}
+use Rattle.g1_image.proofs.shape.shaped.Goals as goal
+use Rattle.g1_image.proofs.shape.shaped.Goals.{in-HumongousFirst, in_default}
+
+pub loop-r-preserved : goal.loop-r-preserved
+loop-r-preserved c =
+    let h = c.args.draft.now in
+    let r = c.loop-r.r in
+    let good : IsShaped h r = c.if-not-region_shaped.ensures.0 refl in
+    let width : c.region_words-region_words.result ≡ h.geometry.w = cc in (
+      elim c.match-region.branch [
+        | in-HumongousFirst w ↦
+            let q : Object = w.header-size.result in
+            let place : w.from.result * c.region_words-region_words.result ≡ start h r = λ t. w.from.ensures t * width t in
+            let kind : (region h r).kind ≡ HumongousFirst = ap (λ q. q.kind) (sym c.region.ensures) ∙ w.in-HumongousFirst.is in
+            let word : slice_index h.words (start h r) ≡ q.size * 2 ^ 32 + q.refs = sym (λ t. slice_index (w.words.ensures.same t) (place t)) ∙ w.header-size.ensures.word in
+            let l : Latest h (r + 1) r q.size = Latest-first h r q (w.header-size.ensures.at ∙ place) word w.header-size.ensures.refs w.header-size.ensures.size good kind in
+            subst (λ x. Latest h (r + 1) x c.match-region.size) (sym w.first-is) (subst (λ x. Latest h (r + 1) r x) (sym w.size-is) l)
+        | in_default w ↦
+            let l : Latest h (r + 1) c.loop-r.first c.loop-r.size = Latest-other h r c.loop-r.first c.loop-r.size c.loop-r.invariant.0 (λ k. w.in_default.not-HumongousFirst (ap (λ q. q.kind) c.region.ensures ∙ k)) in
+            subst (λ x. Latest h (r + 1) x c.match-region.size) (sym w.first-is) (subst (λ x. Latest h (r + 1) c.loop-r.first x) (sym w.size-is) l)
+      ],
+      below_more _ _ c.loop-r.invariant.1 good,
+    )

@@ -1,0 +1,134 @@
+-- The fault of bytes that are no image's text: that of the first stage of reading that finds one.
+use Rattle.std.specs.Prelude.{◌≡◌, ◌≢◌, ◌≤◌, ◌<◌, ℕ, ◌*◌, ◌^◌, ◌⊎◌, List, [], ◌++◌, length, slice_index, slice_index_or, All}
+use Rattle.g1_words.specs.Geometry.{IsWithinLimits}
+use Rattle.g1_words.specs.Valid.{IsShaped, AllShaped, IsReference, HasObject, IsSlotOf}
+use Rattle.g1_image.specs.Text.{File, Entry, magic, heading_text, heading_of, file_text, total}
+use Rattle.g1_words.specs.Heap.{Heap}
+use Rattle.g1_image.specs.Reading.{Are, IsU32, IsU64, EndsWithin}
+use Rattle.g1_image.specs.Image.{heap_of, IsUsedCard, IsSetOf}
+use Rattle.g1_words.specs.declared.object.Object.{Object}
+use Rattle.g1_words.specs.declared.fault.Fault.{Fault}
+use Rattle.g1_words.specs.declared.fault.Fault.TheVariants as fault
+use Rattle.g1_words.specs.declared.fault.Place.TheVariants as place
+use Rattle.g1_words.specs.declared.fault.Stand.TheVariants as stand
+use Rattle.g1_image.specs.declared.cursor.Heading.{Heading}
+
+-- each number of the heading has 32 bits
+pub record HeadingFits (h : Heading) : Type 0 where
+  pub w : h.w < 2 ^ 32
+  pub k : h.k < 2 ^ 32
+  pub n : h.n < 2 ^ 32
+  pub roots : h.roots < 2 ^ 32
+  pub dirty : h.dirty < 2 ^ 32
+  pub current : h.current < 2 ^ 32
+
+-- the sizes, the roots and the current region are within the limits
+pub record IsGoodHeading (h : Heading) : Type 0 where
+  pub sizes : IsWithinLimits h.w h.k h.n
+  pub roots : h.roots ≤ 65536
+  pub current : h.current ≤ h.n
+
+-- both numbers of the entry have 32 bits
+abbrev pub EntryFits : Entry → Type 0
+EntryFits e = (e.kind < 2 ^ 32) × (e.top < 2 ^ 32)
+
+-- the count and the cards of the set have 32 bits
+abbrev pub SetFits : List ℕ → Type 0
+SetFits cards = (length cards < 2 ^ 32) × All IsU32 cards
+
+-- every number of the file has the bits that its text gives it, and there are as many as are announced
+pub record FileFits (f : File) : Type 0 where
+  pub heading : HeadingFits (heading_of f)
+  pub limits : IsGoodHeading (heading_of f)
+  pub table : Are EntryFits f.n f.table
+  pub roots : All IsU64 f.roots
+  pub log : All IsU32 f.log
+  pub sets : Are SetFits f.n f.sets
+  pub words : Are IsU64 (total f.table) f.words
+
+-- the first of the numbers below an end of which P doesn't hold
+pub record IsFirstBreach (P : ℕ → Type 0) (end at : ℕ) : Type 0 where
+  pub within : at < end
+  pub breach : P at → ⊥
+  pub before : (q : ℕ) → q < at → P q
+
+-- the bytes begin with the magic
+abbrev pub StartsWithMagic : List ℕ → Type 0
+StartsWithMagic bytes = (rest : List ℕ) × (bytes ≡ magic ++ rest)
+
+-- the region's kind has a meaning
+abbrev pub IsKnown : List Entry → ℕ → Type 0
+IsKnown es r = (slice_index_or es r (record { kind = 0; top = 0 })).kind ≤ 3
+
+-- the kind of region r is one of the four
+abbrev pub KindKnown : File → ℕ → Type 0
+KindKnown f r = IsKnown f.table r
+
+-- every kind is one of the four
+abbrev pub KindsKnown : File → Type 0
+KindsKnown f = (r : ℕ) → r < f.n → KindKnown f r
+
+-- every region keeps the rules of its kind
+abbrev pub Shaped : File → Type 0
+Shaped f = AllShaped (heap_of f)
+
+-- root i is null or names an object
+abbrev pub RootGood : File → ℕ → Type 0
+RootGood f i = IsReference (heap_of f) (slice_index f.roots i)
+
+-- every root is null or names an object
+abbrev pub RootsGood : File → Type 0
+RootsGood f = (i : ℕ) → i < length f.roots → RootGood f i
+
+-- if the address is a slot's, the slot is null or names an object
+abbrev pub IsGoodSlot : Heap → ℕ → Type 0
+IsGoodSlot h p = (o : Object) → HasObject h o → IsSlotOf o p → IsReference h (slice_index h.words p)
+
+abbrev pub SlotGood : File → ℕ → Type 0
+SlotGood f p = IsGoodSlot (heap_of f) p
+
+-- every slot is null or names an object
+abbrev pub SlotsGood : File → Type 0
+SlotsGood f = (p : ℕ) → p < f.n * f.w → SlotGood f p
+
+-- the log's card at this place stands in a used region, and not earlier in the log
+abbrev pub IsGoodLogged : Heap → List ℕ → ℕ → Type 0
+IsGoodLogged h log i = IsUsedCard h (slice_index log i) × ((j : ℕ) → j < i → slice_index log j ≢ slice_index log i)
+
+abbrev pub LogGood : File → ℕ → Type 0
+LogGood f i = IsGoodLogged (heap_of f) f.log i
+
+-- every card of the log is good
+abbrev pub LogsGood : File → Type 0
+LogsGood f = (i : ℕ) → i < length f.log → LogGood f i
+
+-- region r's remembered set is one that it may have
+abbrev pub SetGood : File → ℕ → Type 0
+SetGood f r = IsSetOf (heap_of f) r (slice_index_or f.sets r [])
+
+-- the fault that a file has which is read whole
+abbrev pub FileFault : File → Fault → Type 0
+FileFault f (fault.Kind r) = IsFirstBreach (KindKnown f) f.n r
+FileFault f (fault.Shape r) = KindsKnown f × IsFirstBreach (IsShaped (heap_of f)) f.n r
+FileFault f (fault.Reference (place.Root i)) = KindsKnown f × Shaped f × IsFirstBreach (RootGood f) (length f.roots) i
+FileFault f (fault.Reference (place.Slot p)) = KindsKnown f × Shaped f × RootsGood f × IsFirstBreach (SlotGood f) (f.n * f.w) p
+FileFault f (fault.Card (stand.Dirty i)) = KindsKnown f × Shaped f × RootsGood f × SlotsGood f × IsFirstBreach (LogGood f) (length f.log) i
+FileFault f (fault.Card (stand.Region r)) = KindsKnown f × Shaped f × RootsGood f × SlotsGood f × LogsGood f × IsFirstBreach (SetGood f) f.n r
+FileFault _ _ = ⊥
+
+-- THE FAULT of bytes
+abbrev pub FaultOf : List ℕ → Fault → Type 0
+-- one of the first bytes that are there isn't the magic's
+FaultOf bytes fault.Magic = (i : ℕ) × (i < 8) × (i < length bytes) × (slice_index bytes i ≢ slice_index magic i)
+-- the magic is good, and a heading that is there is within the limits, but no whole file begins the bytes
+FaultOf bytes fault.Short =
+    ((rest : List ℕ) × (magic ≡ bytes ++ rest) × (0 < length rest))
+    ⊎ ((rest : List ℕ) × (bytes ≡ magic ++ rest) × (length rest < 24))
+    ⊎ ((h : Heading) × (rest : List ℕ) × HeadingFits h × IsGoodHeading h × (bytes ≡ magic ++ (heading_text h ++ rest)) × EndsWithin FileFits file_text bytes)
+FaultOf bytes fault.Geometry = (h : Heading) × (rest : List ℕ) × HeadingFits h × (bytes ≡ magic ++ (heading_text h ++ rest)) × (IsGoodHeading h → ⊥)
+FaultOf bytes fault.Trailing = (f : File) × (rest : List ℕ) × FileFits f × (bytes ≡ file_text f ++ rest) × (0 < length rest)
+FaultOf bytes e = (f : File) × FileFits f × (bytes ≡ file_text f) × FileFault f e
+
+-- what a reader of the bytes may answer: their fault, or that memory is wanted
+abbrev pub MayFail : List ℕ → Fault → Type 0
+MayFail bytes e = (e ≡ fault.Memory) ⊎ FaultOf bytes e

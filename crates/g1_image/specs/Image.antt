@@ -1,0 +1,111 @@
+-- An image: a heap, each region's remembered set, the dirty log. Its text.
+use Rattle.std.specs.Prelude.{◌≡◌, ◌≢◌, ◌<◌, ℕ, ◌-◌, ◌*◌, ◌/◌, ◌^◌, List, [], ◌∷◌, ◌++◌, length, map, take, drop, replicate, slice_index_or, All, AllPairs, Some, None, unwrap_or, if◌then◌else◌, nat_lt, min}
+use Rattle.std.specs.List.Sorted.{IsStrictlyIncreasing}
+use Rattle.g1_words.specs.Heap.{Heap, region, region_with}
+use Rattle.g1_words.specs.Valid.{IsValid}
+use Rattle.g1_image.specs.Text.{File, Entry, file_text}
+use Rattle.g1_words.specs.declared.region.Region.{Region}
+use Rattle.g1_words.specs.declared.region.Kind.{Kind}
+use Rattle.g1_words.specs.declared.region.Kind.TheVariants.{Free, Ordinary, HumongousFirst, Continuation}
+
+-- a heap, the remembered set of each region, and the dirty log
+pub record Image : Type 0 where
+  pub heap : Heap
+  pub sets : List (List ℕ)
+  pub log : List ℕ
+
+-- the region that a card lies in
+abbrev pub region_of_card : Heap → ℕ → ℕ
+region_of_card h c = c * h.geometry.k / h.geometry.w
+
+-- the card is one of the heap's, in a region that isn't free
+pub record IsUsedCard (h : Heap) (c : ℕ) : Type 0 where
+  pub in_heap : c * h.geometry.k < h.geometry.n * h.geometry.w
+  pub used : (region h (region_of_card h c)).kind ≢ Free
+
+-- regions of this kind may have a remembered set that is not empty
+abbrev pub MayHoldCards : Kind → Type 0
+MayHoldCards Ordinary = Unit {0}
+MayHoldCards HumongousFirst = Unit {0}
+MayHoldCards _ = ⊥
+
+-- a remembered set that region r may have
+pub record IsSetOf (h : Heap) (r : ℕ) (cards : List ℕ) : Type 0 where
+  pub rising : IsStrictlyIncreasing cards
+  pub elsewhere : All (λ c. IsUsedCard h c × (region_of_card h c ≢ r)) cards
+  pub count : length cards < 2 ^ 32
+  pub owner : 0 < length cards → MayHoldCards (region h r).kind
+
+-- a dirty log that the heap may have
+pub record IsLog (h : Heap) (cards : List ℕ) : Type 0 where
+  pub used : All (IsUsedCard h) cards
+  pub distinct : AllPairs (λ c d. c ≢ d) cards
+  pub count : length cards < 2 ^ 32
+
+-- the remembered set of a region
+abbrev pub set_of : Image → ℕ → List ℕ
+set_of i r = slice_index_or i.sets r []
+
+-- the rules of an image
+pub record IsImage (i : Image) : Type 0 where
+  pub heap : IsValid i.heap
+  pub one_each : length i.sets ≡ i.heap.geometry.n
+  pub sets : (r : ℕ) → r < i.heap.geometry.n → IsSetOf i.heap r (set_of i r)
+  pub log : IsLog i.heap i.log
+
+-- the number that stands for a kind in a file
+abbrev pub kind_number : Kind → ℕ
+kind_number Free = 0
+kind_number Ordinary = 1
+kind_number HumongousFirst = 2
+kind_number Continuation = 3
+
+-- a region's entry of the table
+abbrev pub entry_of : Region → Entry
+entry_of q = record { kind = kind_number q.kind; top = q.top }
+
+-- the used words, of one region after the other
+abbrev pub used_words : ℕ → List Region → List ℕ → List ℕ
+used_words w [] words = []
+used_words w (q ∷ qs) words = take q.top words ++ used_words w qs (drop w words)
+
+-- what stands in an image's file
+abbrev pub file_of : Image → File
+file_of i = record {
+  w = i.heap.geometry.w;
+  k = i.heap.geometry.k;
+  n = i.heap.geometry.n;
+  current = unwrap_or i.heap.current i.heap.geometry.n;
+  table = map entry_of i.heap.regions;
+  roots = i.heap.roots;
+  log = i.log;
+  sets = i.sets;
+  words = used_words i.heap.geometry.w i.heap.regions i.heap.words;
+}
+
+-- THE RELATION: the bytes are the image's text
+abbrev pub IsTextOf : List ℕ → Image → Type 0
+IsTextOf bytes i = IsImage i × (bytes ≡ file_text (file_of i))
+
+-- The same, read from a file that need not be an image's.
+abbrev pub kind_of : ℕ → Kind
+kind_of x = if nat_lt x 2 then (if nat_lt x 1 then Free else Ordinary) else (if nat_lt x 3 then HumongousFirst else Continuation)
+
+-- the regions' words, each region's used words first and zeros after them
+abbrev pub all_words : ℕ → List Entry → List ℕ → List ℕ
+all_words w [] words = []
+all_words w (e ∷ es) words = take (min e.top w) words ++ (replicate (w - e.top) 0 ++ all_words w es (drop e.top words))
+
+-- what an entry of the table tells of its region
+abbrev pub region_of_entry : Entry → Region
+region_of_entry e = region_with (kind_of e.kind) e.top
+
+-- the heap that a file tells
+abbrev pub heap_of : File → Heap
+heap_of f = record {
+  geometry = record { w = f.w; k = f.k; n = f.n };
+  words = all_words f.w f.table f.words;
+  regions = map region_of_entry f.table;
+  roots = f.roots;
+  current = if nat_lt f.current f.n then Some f.current else None;
+}

@@ -1,0 +1,80 @@
+-- The laws that public functions of this crate prove.
+use Rattle.std.specs.Prelude.{◌≡◌, ◌≢◌, ◌↔◌, ◌⊎◌, Bool, IsFalse, flat_map, List, ℕ, ◌+◌, ◌<◌, Contains}
+use Rattle.std.specs.List.{range_with_len}
+use Rattle.std.specs.List.Sorted.{IsStrictlyIncreasing}
+use Rattle.g1_words.specs.declared.object.Object.{Object}
+use Rattle.g1_words.specs.Heap.{Heap, word, region_of, card_of}
+use Rattle.g1_words.specs.Valid.{IsValid}
+use Rattle.g1_words.specs.References.{Ref, refs, root_targets, named}
+use Rattle.g1_words.specs.Survivors.{in_set}
+use Rattle.g1_words.specs.Layout.{HasRoom, forward, kept}
+use Rattle.g1_image.specs.Image.{Image, IsImage, set_of, region_of_card, IsTextOf}
+use Rattle.g1_image.specs.Cards.{cards_where, exact, refined, Covered, uncovered}
+use Rattle.g1_image.specs.Text.{File, file_text}
+use Rattle.g1_image.specs.Faults.{FileFits, FileFault}
+use Rattle.g1_words.specs.declared.fault.Fault.{Fault}
+use Rattle.g1_image.specs.Moved.{IsMoved, Moved}
+use Rattle.g1_image.specs.Graph.{SameGraph}
+
+-- an address lies in the region of its card
+abbrev pub CardsInRegions : Type 0
+CardsInRegions = (h : Heap) (p : ℕ) → IsValid h → region_of_card h (card_of h p) ≡ region_of h p
+
+-- the cards that pass a test stand in rising order: so do the exact and the refined sets
+abbrev pub CardsRise : Type 0
+CardsRise = (h : Heap) (test : ℕ → Bool) → IsStrictlyIncreasing (cards_where h test)
+
+-- the exact set of a region has the cards of those references that lead into it from outside
+abbrev pub ExactSet : Type 0
+ExactSet = (h : Heap) (r c : ℕ) → IsValid h → Contains (exact h r) c
+    ↔ ((e : Ref) × Contains (refs h) e × (region_of h e.target ≡ r) × (region_of h e.slot ≢ r) × (card_of h e.slot ≡ c))
+
+-- the refined set has the remembered cards and those dirty ones that are exact
+abbrev pub RefinedSet : Type 0
+RefinedSet = (i : Image) (r c : ℕ) → IsImage i → r < i.heap.geometry.n → Contains (refined i r) c
+    ↔ (Contains (set_of i r) c ⊎ (Contains i.log c × Contains (exact i.heap r) c))
+
+-- the reference stays in its region, or its slot's card is remembered or dirty
+abbrev pub HasCover : Image → Ref → Type 0
+HasCover i e =
+    (region_of i.heap e.slot ≡ region_of i.heap e.target)
+    ⊎ (Contains (set_of i (region_of i.heap e.target)) (card_of i.heap e.slot) ⊎ Contains i.log (card_of i.heap e.slot))
+
+-- an image is covered where each reference is
+abbrev pub CoveredImage : Type 0
+CoveredImage = (i : Image) → Covered i ↔ ((e : Ref) → Contains (refs i.heap) e → HasCover i e)
+
+-- the uncovered slots are those of references without cover
+abbrev pub UncoveredSlots : Type 0
+UncoveredSlots = (i : Image) (p : ℕ) → Contains (uncovered i) p ↔ ((e : Ref) × Contains (refs i.heap) e × (e.slot ≡ p) × (HasCover i e → ⊥))
+
+-- the uncovered slots stand in rising order: the first is the lowest
+abbrev pub UncoveredRise : Type 0
+UncoveredRise = (i : Image) → IsValid i.heap → IsStrictlyIncreasing (uncovered i)
+
+-- an image and a set have one image after
+abbrev pub OneImageAfter : Type 0
+OneImageAfter = (i : Image) (set : List ℕ) (j k : Image) → Moved i set j → Moved i set k → j ≡ k
+
+-- whoever reads from the roots finds the same graph after a pause
+abbrev pub GraphStays : Type 0
+GraphStays = (i : Image) (set l : List ℕ) (j : Image) → IsValid i.heap → HasRoom i.heap set l → IsMoved i set l j → SameGraph i.heap j.heap
+
+-- no root and no slot of a kept object, dead or not, leads into the set
+abbrev pub NothingIntoSet : Type 0
+NothingIntoSet = (i : Image) (set l : List ℕ) (j : Image) → IsValid i.heap → HasRoom i.heap set l → IsMoved i set l j
+    → ((b : ℕ) → Contains (root_targets j.heap) b → IsFalse (in_set i.heap set b))
+    × ((o : Object) (b : ℕ) → Contains (kept i.heap set l) o
+    → Contains (flat_map (λ p. named (word j.heap p)) (range_with_len (forward i.heap l o.at + 1) o.refs)) b → IsFalse (in_set i.heap set b))
+
+-- bytes are the text of one file at most
+abbrev pub OneFile : Type 0
+OneFile = (bytes : List ℕ) (f g : File) → FileFits f → FileFits g → bytes ≡ file_text f → bytes ≡ file_text g → f ≡ g
+
+-- an image has one text
+abbrev pub OneText : Type 0
+OneText = (i : Image) (a b : List ℕ) → IsTextOf a i → IsTextOf b i → a ≡ b
+
+-- a whole file has one fault at most
+abbrev pub OneFileFault : Type 0
+OneFileFault = (f : File) (e d : Fault) → FileFault f e → FileFault f d → e ≡ d

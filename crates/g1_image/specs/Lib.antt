@@ -1,0 +1,15 @@
+pub mod Text
+pub mod Reading
+pub mod Image
+pub mod Faults
+pub mod Plain
+pub mod Draft
+pub mod Marks
+pub mod Judged
+pub mod Cards
+pub mod Copy
+pub mod Moved
+pub mod Graph
+pub mod Made
+pub mod After
+pub mod Laws

@@ -1,0 +1,97 @@
+ghost use Rattle.std.specs.Prelude.{◌≡◌, ◌≤◌, ◌<◌, ◌+◌, ◌*◌, ◌/◌, ◌^◌, ◌⊎◌, ℕ, List, [], All, map, length, slice_index, slice_index_or, IsTrue, ◌↔◌, OnOk, IfOk, IfErr};
+ghost use Rattle.g1_words.specs.Heap.{region};
+ghost use Rattle.g1_image.specs.Image.{IsUsedCard, IsSetOf, MayHoldCards, region_of_card};
+ghost use Rattle.g1_image.specs.Faults.{IsFirstBreach, IsGoodLogged};
+
+use crate::draft::Draft;
+use g1_words::{Fault, Kind, Stand};
+use indexmap::IndexSet;
+use std::alloc::Global;
+
+/// Tells whether a card stands in a used region.
+fn is_used(draft: &Draft, c: u32) -> bool
+    ensures { IsTrue result ↔ IsUsedCard draft.now c }
+{
+    let region_words = draft.geometry().region_words();
+    let at = u64::from(c) * draft.geometry().card_words();
+    if at >= draft.geometry().regions() * region_words {
+        return false;
+    }
+    match draft.region((at / region_words) as u32).kind {
+        Kind::Free => false,
+        _ => true,
+    }
+}
+
+/// The log's cards, or the first that isn't good.
+pub(crate) fn good_log(alloc: Global, draft: &Draft, log: &[u32]) -> Result<IndexSet<u32>, Fault>
+    requires { length log.now < 2 ^ 32 }
+    ensures ok { IfOk result (λ s. (s.keys ≡ log.now) × ((i : ℕ) → i < length log.now → IsGoodLogged draft.now log.now i)) }
+    ensures err { IfErr result (λ e. (e ≡ Fault.Memory) ⊎ ((i : ℕ) × (e ≡ Fault.Card (Stand.Dirty i)) × IsFirstBreach (IsGoodLogged draft.now log.now) (length log.now) i)) }
+{
+    let mut cards = IndexSet::new(alloc);
+    for (i, c) in log.iter().enumerate() {
+        if !is_used(draft, *c) {
+            return Err(Fault::Card(Stand::Dirty(i as u32)));
+        }
+        let (_, added) = cards.insert_full(*c)?;
+        if !added {
+            return Err(Fault::Card(Stand::Dirty(i as u32)));
+        }
+    }
+    Ok(cards)
+}
+
+/// Tells whether a region may have cards.
+fn may_hold(draft: &Draft, r: u32) -> bool
+    requires { r < draft.now.geometry.n }
+    ensures { IsTrue result ↔ MayHoldCards (region draft.now r).kind }
+{
+    match draft.region(r).kind {
+        Kind::Ordinary => true,
+        Kind::HumongousFirst => true,
+        _ => false,
+    }
+}
+
+/// Tells whether a remembered set may be that of a region.
+fn is_set_of(draft: &Draft, r: u32, cards: &[u32]) -> bool
+    requires there { r < draft.now.geometry.n }
+    requires count { length cards.now < 2 ^ 32 }
+    ensures { IsTrue result ↔ IsSetOf draft.now r cards.now }
+{
+    if cards.len() > 0 && !may_hold(draft, r) {
+        return false;
+    }
+    let region_words = draft.geometry().region_words();
+    let card_words = draft.geometry().card_words();
+    for i in 0..cards.len() {
+        let c = cards[i];
+        if !is_used(draft, c) {
+            return false;
+        }
+        if u64::from(c) * card_words / region_words == u64::from(r) {
+            return false;
+        }
+        if i > 0 && cards[i - 1] >= c {
+            return false;
+        }
+    }
+    true
+}
+
+/// Tells the first region whose remembered set isn't good.
+pub(crate) fn good_sets(draft: &Draft, sets: &[Vec<u32>]) -> Result<(), Fault>
+    requires one_each { length sets.now ≡ draft.now.geometry.n }
+    requires counts { All (λ s. length s < 2 ^ 32) (map (λ s. s.items) sets.now) }
+    ensures ok { OnOk result ((r : ℕ) → r < draft.now.geometry.n → IsSetOf draft.now r (slice_index_or (map (λ s. s.items) sets.now) r [])) }
+    ensures err { IfErr result (λ e. (r : ℕ) × (e ≡ Fault.Card (Stand.Region r)) × IsFirstBreach (λ r. IsSetOf draft.now r (slice_index_or (map (λ s. s.items) sets.now) r [])) draft.now.geometry.n r) }
+{
+    let regions = draft.geometry().regions() as u32;
+    for r in 0..regions {
+        if !is_set_of(draft, r, &sets[r as usize]) {
+            return Err(Fault::Card(Stand::Region(r)));
+        }
+    }
+    Ok(())
+}

@@ -1,0 +1,148 @@
+ghost use Rattle.std.specs.Prelude.{◌≡◌, ◌≤◌, ◌<◌, ◌+◌, ◌^◌, ◌++◌, ℕ, List, length, IfSome, IfNone, OnOk, IfOk, IfErr, IsTrue, ◌↔◌};
+ghost use Rattle.g1_image.specs.Text.{u32 as u32_text, heading_text, magic};
+ghost use Rattle.g1_image.specs.Faults.{HeadingFits, IsGoodHeading, FaultOf};
+
+use byteorder::{ByteOrder, LittleEndian};
+use g1_words::{Fault, Geometry};
+use std::marker::Model;
+
+/// The numbers at the head of an image file.
+#[derive(Clone, Copy)]
+pub struct Heading {
+    pub w: u32,
+    pub k: u32,
+    pub n: u32,
+    pub roots: u32,
+    pub dirty: u32,
+    pub current: u32,
+}
+
+/// A region's entry in the table: its kind's number, and how many of its words are used.
+#[derive(Clone, Copy)]
+pub struct Entry {
+    pub kind: u32,
+    pub top: u32,
+}
+
+const MAGIC: [u8; 8] = *b"G1IMAGE1";
+
+/// The bytes that are left to read.
+#[derive(Drop)]
+pub(crate) struct Cursor<'a> {
+    rest: &'a [u8],
+}
+
+impl<'a> Model for Cursor<'a> {
+    ghost use Rattle.std.specs.Prelude.{ℕ, List};
+    ghost use Rattle.g1_image.specs.Reading.{IsBytes};
+
+    ghost Value = { List ℕ };
+
+    ghost view = { λ c. c.rest.now };
+
+    ghost invariant = { λ c. IsBytes c.rest.now };
+}
+
+impl<'a> Cursor<'a> {
+    pub(crate) fn new(bytes: &'a [u8]) -> Cursor<'a>
+        ensures { result ≡ bytes.now }
+    {
+        Cursor { rest: bytes }
+    }
+
+    /// The bytes that are left.
+    pub(crate) fn rest(&self) -> &'a [u8]
+        ensures { result.now ≡ self.now }
+    {
+        self.rest
+    }
+
+    /// How many bytes are left.
+    pub(crate) fn len(&self) -> usize
+        ensures { result ≡ length self.now }
+    {
+        self.rest.len()
+    }
+
+    /// Takes a number of 32 bits.
+    pub(crate) fn number(&mut self) -> u32
+        requires { 4 ≤ length self.old }
+        ensures text { self.old ≡ u32_text result ++ self.new }
+        ensures left { length self.old ≡ 4 + length self.new }
+    {
+        let (front, rest) = self.rest.split_at(4);
+        self.rest = rest;
+        LittleEndian::read_u32(front)
+    }
+
+    /// Takes a heading, where its bytes are there.
+    pub(crate) fn heading(&mut self) -> Option<Heading>
+        ensures found { IfSome result (λ h. HeadingFits h × (self.old ≡ heading_text h ++ self.new)) }
+        ensures short { IfNone result (length self.old < 24) }
+    {
+        if self.len() < 24 {
+            return None;
+        }
+        let w = self.number();
+        let k = self.number();
+        let n = self.number();
+        let roots = self.number();
+        let dirty = self.number();
+        let current = self.number();
+        Some(Heading {
+            w,
+            k,
+            n,
+            roots,
+            dirty,
+            current,
+        })
+    }
+
+    /// Takes the magic, or tells the fault of the bytes.
+    pub(crate) fn magic(&mut self) -> Result<(), Fault>
+        ensures ok { OnOk result (self.old ≡ magic ++ self.new) }
+        ensures err { IfErr result (FaultOf self.old) }
+    {
+        for i in 0..8 {
+            if i >= self.rest.len() {
+                return Err(Fault::Short);
+            }
+            if self.rest[i] != MAGIC[i] {
+                return Err(Fault::Magic);
+            }
+        }
+        let (_, rest) = self.rest.split_at(8);
+        self.rest = rest;
+        Ok(())
+    }
+
+    /// Takes the magic and a heading within the limits, or tells the fault of the bytes.
+    pub(crate) fn opening(&mut self) -> Result<Heading, Fault>
+        ensures ok { IfOk result (λ h. HeadingFits h × IsGoodHeading h × (self.old ≡ magic ++ (heading_text h ++ self.new))) }
+        ensures err { IfErr result (FaultOf self.old) }
+    {
+        match self.magic() {
+            Ok(()) => {}
+            Err(fault) => return Err(fault),
+        }
+        let heading = match self.heading() {
+            Some(heading) => heading,
+            None => return Err(Fault::Short),
+        };
+        if !is_good(&heading) {
+            return Err(Fault::Geometry);
+        }
+        Ok(heading)
+    }
+}
+
+/// Tells whether a heading is within the limits.
+fn is_good(h: &Heading) -> bool
+    ensures { IsTrue result ↔ IsGoodHeading h.now }
+{
+    match Geometry::new(u64::from(h.w), u64::from(h.k), u64::from(h.n)) {
+        Ok(geometry) => geometry.region_words() > 0 && h.roots <= 65_536 && h.current <= h.n,
+        Err(_) => false,
+    }
+}

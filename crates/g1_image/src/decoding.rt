@@ -1,0 +1,125 @@
+ghost use Rattle.std.specs.Prelude.{◌≡◌, ◌≤◌, ◌<◌, ◌+◌, ◌*◌, ◌^◌, ◌⊎◌, ℕ, List, [], map, All, length, OnOk, IfOk, IfErr};
+ghost use Rattle.g1_image.specs.Image.{IsTextOf, heap_of};
+ghost use Rattle.g1_image.specs.Faults.{MayFail, IsGoodHeading, IsKnown, IsFirstBreach};
+ghost use Rattle.g1_image.specs.Text.{total};
+ghost use Rattle.g1_image.specs.Plain.{plain_file};
+ghost use Rattle.g1_image.specs.Judged.{IsGoodHeap, HeapFault};
+
+use crate::cards::{good_log, good_sets};
+use crate::cursor::{Entry, Heading};
+use crate::draft::Draft;
+use crate::image::Image;
+use crate::laid::{laid, regions};
+use crate::plain::{Plain, whole};
+use crate::refs::{good_roots, good_slots, starts};
+use crate::shape::shaped;
+use g1_words::{Fault, Geometry, Heap};
+use std::alloc::Global;
+
+/// Tells the first fault of a heap's regions and references.
+fn judged(alloc: Global, draft: &Draft) -> Result<(), Fault>
+    ensures ok { OnOk result (IsGoodHeap draft.now) }
+    ensures err { IfErr result (λ e. (e ≡ Fault.Memory) ⊎ HeapFault draft.now e) }
+{
+    match shaped(draft) {
+        Ok(()) => {}
+        Err(fault) => return Err(fault),
+    }
+    let marks = match starts(alloc, draft) {
+        Ok(marks) => marks,
+        Err(fault) => return Err(fault),
+    };
+    match good_roots(draft, &marks) {
+        Ok(()) => {}
+        Err(fault) => return Err(fault),
+    }
+    match good_slots(draft, &marks) {
+        Ok(()) => {}
+        Err(fault) => return Err(fault),
+    }
+    Ok(())
+}
+
+/// The heap that a file tells, before it is looked at.
+fn drafted(
+    alloc: Global,
+    h: &Heading,
+    table: &[Entry],
+    roots: Vec<u64>,
+    words: &[u8],
+) -> Result<Draft, Fault>
+    requires good { IsGoodHeading h.now }
+    requires table { length table.now ≡ h.now.n }
+    requires roots { length roots.items ≡ h.now.roots }
+    requires whole { length words.now ≡ 8 * total table.now }
+    ensures ok { IfOk result (λ d. (d ≡ heap_of (plain_file h.now table.now roots.items [] [] words.now)) × ((r : ℕ) → r < h.now.n → IsKnown table.now r)) }
+    ensures err { IfErr result (λ e. (e ≡ Fault.Memory) ⊎ ((r : ℕ) × (e ≡ Fault.Kind r) × IsFirstBreach (IsKnown table.now) h.now.n r)) }
+{
+    let regions = match regions(alloc, table) {
+        Ok(regions) => regions,
+        Err(fault) => return Err(fault),
+    };
+    let words = match laid(alloc, h.w, table, words) {
+        Ok(words) => words,
+        Err(fault) => return Err(fault),
+    };
+    let geometry = match Geometry::new(u64::from(h.w), u64::from(h.k), u64::from(h.n)) {
+        Ok(geometry) => geometry,
+        Err(fault) => return Err(fault),
+    };
+    let current = if h.current < h.n {
+        Some(h.current)
+    } else {
+        None
+    };
+    Ok(Draft {
+        geometry,
+        words,
+        regions,
+        roots,
+        current,
+    })
+}
+
+/// The image whose text the bytes are, or the fault of the first stage that finds one.
+pub fn decode(alloc: Global, bytes: &[u8]) -> Result<Image, Fault>
+    ensures ok { IfOk result (λ i. IsTextOf bytes.now i) }
+    ensures err { IfErr result (MayFail bytes.now) }
+{
+    let plain = match whole(alloc, bytes) {
+        Ok(plain) => plain,
+        Err(fault) => return Err(fault),
+    };
+    let Plain {
+        heading,
+        table,
+        roots,
+        log: cards,
+        sets,
+        words,
+    } = plain;
+    let draft = match drafted(alloc, &heading, &table, roots, words) {
+        Ok(draft) => draft,
+        Err(fault) => return Err(fault),
+    };
+    match judged(alloc, &draft) {
+        Ok(()) => {}
+        Err(fault) => return Err(fault),
+    }
+    let log = match good_log(alloc, &draft, &cards) {
+        Ok(log) => log,
+        Err(fault) => return Err(fault),
+    };
+    match good_sets(&draft, &sets) {
+        Ok(()) => {}
+        Err(fault) => return Err(fault),
+    }
+    let heap = Heap {
+        geometry: draft.geometry,
+        words: draft.words,
+        regions: draft.regions,
+        roots: draft.roots,
+        current: draft.current,
+    };
+    Ok(Image { heap, sets, log })
+}

@@ -1,0 +1,63 @@
+ghost use Rattle.std.specs.Prelude.{◌≡◌, ◌≤◌, ◌<◌, ◌*◌, ◌^◌, ◌++◌, ℕ, List, [], length, map, All, OnOk, IfOk, IfErr};
+ghost use Rattle.g1_image.specs.Text.{table_text, magic};
+ghost use Rattle.g1_image.specs.Image.{kind_number, entry_of, IsTextOf};
+
+use crate::cursor::Heading;
+use crate::image::Image;
+use crate::writing::{push_heading, push_number, push_numbers, push_sets, push_used, push_words};
+use g1_words::{Fault, Kind, Region};
+use std::alloc::Global;
+
+/// The number that stands for a kind in an image file.
+pub fn number_of_kind(kind: Kind) -> u32
+    ensures { result ≡ kind_number kind }
+{
+    match kind {
+        Kind::Free => 0,
+        Kind::Ordinary => 1,
+        Kind::HumongousFirst => 2,
+        Kind::Continuation => 3,
+    }
+}
+
+fn push_table(out: &mut Vec<u8>, regions: &[Region]) -> Result<(), Fault>
+    ensures ok { OnOk result (out.new.items ≡ out.old.items ++ table_text (map entry_of regions.now)) }
+    ensures err { IfErr result (λ e. e ≡ Fault.Memory) }
+{
+    for region in regions {
+        push_number(out, number_of_kind(region.kind))?;
+        push_number(out, region.top)?;
+    }
+    Ok(())
+}
+
+/// The text of an image.
+pub fn encode(alloc: Global, image: &Image) -> Result<Vec<u8>, Fault>
+    ensures ok { IfOk result (λ v. IsTextOf v.items image.now) }
+    ensures err { IfErr result (λ e. e ≡ Fault.Memory) }
+{
+    let heap = image.heap();
+    let geometry = heap.geometry();
+    let log = image.log().as_slice();
+    let heading = Heading {
+        w: geometry.region_words() as u32,
+        k: geometry.card_words() as u32,
+        n: geometry.regions() as u32,
+        roots: heap.roots().len() as u32,
+        dirty: log.len() as u32,
+        current: heap.current().unwrap_or(geometry.regions() as u32),
+    };
+    let mut out = Vec::from_slice(alloc, b"G1IMAGE1")?;
+    push_heading(&mut out, &heading)?;
+    push_table(&mut out, heap.regions())?;
+    push_words(&mut out, heap.roots())?;
+    push_numbers(&mut out, log)?;
+    push_sets(&mut out, image.sets())?;
+    push_used(
+        &mut out,
+        geometry.region_words() as usize,
+        heap.regions(),
+        heap.words(),
+    )?;
+    Ok(out)
+}

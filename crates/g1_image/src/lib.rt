@@ -1,0 +1,26 @@
+//! The image of a region heap, and its text.
+//!
+//! An image is a heap with each region's remembered set and the dirty log. Its text is the magic, a
+//! heading of six numbers, the region table, the roots, the log, the remembered sets and the used
+//! words. `decode` reads forward once: the parts, then the regions' kinds and shapes, the references
+//! and the cards, and tells the fault of the first of these stages that finds one.
+#![tactic(auto)]
+
+mod cards;
+mod cursor;
+mod decoding;
+mod draft;
+mod encoding;
+mod image;
+mod laid;
+mod laws;
+mod plain;
+mod reading;
+mod refs;
+mod shape;
+mod writing;
+
+pub use decoding::decode;
+pub use encoding::encode;
+pub use image::{Image, store, word_at};
+pub use laws::{after, card_sets, cover, one_fault, one_image, one_text, same_graph};

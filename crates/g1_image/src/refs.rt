@@ -1,0 +1,113 @@
+ghost use Rattle.std.specs.Prelude.{◌≡◌, ◌≤◌, ◌<◌, ◌+◌, ◌*◌, ◌^◌, ℕ, List, length, slice_index, replicate, false, IsTrue, ◌↔◌, OnOk, IfOk, IfErr};
+ghost use Rattle.g1_words.specs.Heap.{region};
+ghost use Rattle.g1_words.specs.Valid.{IsShaped, IsReference};
+ghost use Rattle.g1_words.specs.Walk.{Reaches};
+ghost use Rattle.g1_image.specs.Draft.{AllShaped};
+ghost use Rattle.g1_image.specs.Marks.{InRow, Marked, StartsAre};
+ghost use Rattle.g1_image.specs.Faults.{IsFirstBreach, IsGoodSlot};
+
+use crate::draft::{Draft, header};
+use g1_words::{Fault, Kind, Place};
+use std::alloc::Global;
+
+/// Marks the objects that fill the words between two addresses.
+fn mark_row(marks: &mut [bool], words: &[u64], from: u64, to: u64)
+    requires filled { Reaches words.now from to }
+    requires in_words { to ≤ length words.now }
+    requires as_many { length marks.old ≡ length words.now }
+    ensures { Marked (InRow words.now from to) marks.old marks.new }
+{
+    let mut at = from;
+    while at < to {
+        marks[at as usize] = true;
+        at += header(words, at).size;
+    }
+}
+
+/// So many marks that aren't set.
+fn no_marks(alloc: Global, count: u64) -> Result<Vec<bool>, Fault>
+    ensures ok { IfOk result (λ v. v.items ≡ replicate count false) }
+    ensures err { IfErr result (λ e. e ≡ Fault.Memory) }
+{
+    let mut marks = Vec::with_capacity(alloc, count as usize)?;
+    for _i in 0..count {
+        marks.push(false)?;
+    }
+    Ok(marks)
+}
+
+/// Marks the addresses where objects start.
+pub(crate) fn starts(alloc: Global, draft: &Draft) -> Result<Vec<bool>, Fault>
+    requires { AllShaped draft.now draft.now.geometry.n }
+    ensures ok { IfOk result (λ v. StartsAre draft.now v.items) }
+    ensures err { IfErr result (λ e. e ≡ Fault.Memory) }
+{
+    let region_words = draft.geometry().region_words();
+    let regions = draft.geometry().regions() as u32;
+    let mut marks = no_marks(alloc, u64::from(regions) * region_words)?;
+    for r in 0..regions {
+        let region = draft.region(r);
+        let start = u64::from(r) * region_words;
+        match region.kind {
+            Kind::Ordinary => mark_row(
+                &mut marks,
+                draft.words(),
+                start,
+                start + u64::from(region.top),
+            ),
+            Kind::HumongousFirst => marks[start as usize] = true,
+            _ => {}
+        }
+    }
+    Ok(marks)
+}
+
+/// Tells whether a word is null or names an object.
+fn is_reference(draft: &Draft, marks: &[bool], x: u64) -> bool
+    requires { StartsAre draft.now marks.now }
+    ensures { IsTrue result ↔ IsReference draft.now x }
+{
+    if x == 0 {
+        return true;
+    }
+    if x > marks.len() as u64 {
+        return false;
+    }
+    marks[(x - 1) as usize]
+}
+
+/// Tells the first root that names no object.
+pub(crate) fn good_roots(draft: &Draft, marks: &[bool]) -> Result<(), Fault>
+    requires { StartsAre draft.now marks.now }
+    ensures ok { OnOk result ((i : ℕ) → i < length draft.now.roots → IsReference draft.now (slice_index draft.now.roots i)) }
+    ensures err { IfErr result (λ e. (i : ℕ) × (e ≡ Fault.Reference (Place.Root i)) × IsFirstBreach (λ i. IsReference draft.now (slice_index draft.now.roots i)) (length draft.now.roots) i) }
+{
+    for (i, x) in draft.roots().iter().enumerate() {
+        if !is_reference(draft, marks, *x) {
+            return Err(Fault::Reference(Place::Root(i as u32)));
+        }
+    }
+    Ok(())
+}
+
+/// Tells the first slot that names no object.
+pub(crate) fn good_slots(draft: &Draft, marks: &[bool]) -> Result<(), Fault>
+    requires starts { StartsAre draft.now marks.now }
+    requires shaped { AllShaped draft.now draft.now.geometry.n }
+    ensures ok { OnOk result ((p : ℕ) → p < draft.now.geometry.n * draft.now.geometry.w → IsGoodSlot draft.now p) }
+    ensures err { IfErr result (λ e. (p : ℕ) × (e ≡ Fault.Reference (Place.Slot p)) × IsFirstBreach (IsGoodSlot draft.now) (draft.now.geometry.n * draft.now.geometry.w) p) }
+{
+    let words = draft.words();
+    let mut left: u64 = 0;
+    for (p, x) in words.iter().enumerate() {
+        if marks[p] {
+            left = header(words, p as u64).refs;
+        } else if left > 0 {
+            if !is_reference(draft, marks, *x) {
+                return Err(Fault::Reference(Place::Slot(p as u64)));
+            }
+            left -= 1;
+        }
+    }
+    Ok(())
+}

@@ -1,0 +1,190 @@
+ghost use Rattle.std.specs.Prelude.{◌≡◌, ◌≤◌, ◌<◌, ◌+◌, ◌*◌, ◌^◌, ℕ, List, length, slice_index, IsTrue, ◌↔◌, OnOk, IfErr};
+ghost use Rattle.g1_words.specs.Heap.{region};
+ghost use Rattle.g1_words.specs.Valid.{IsShaped, IsShapedBy, IsWholeRun};
+ghost use Rattle.g1_words.specs.declared.region.Kind.TheVariants.{Ordinary, HumongousFirst, Continuation};
+ghost use Rattle.g1_image.specs.Draft.{IsTiled, Latest, AllShaped};
+ghost use Rattle.g1_image.specs.Faults.{IsFirstBreach};
+
+use crate::draft::{Draft, header};
+use g1_words::{Fault, Kind};
+
+/// Tells whether objects that aren't humongous fill the words between two addresses.
+fn is_tiled(words: &[u64], from: u64, to: u64, region_words: u64) -> bool
+    requires order { from ≤ to }
+    requires in_words { to ≤ length words.now }
+    requires sizes { to ≤ 2 ^ 24 }
+    requires width { region_words ≤ 65536 }
+    ensures { IsTrue result ↔ IsTiled words.now from to region_words }
+{
+    let mut at = from;
+    while at < to {
+        let o = header(words, at);
+        if o.refs >= o.size {
+            return false;
+        }
+        if 4 * o.size > 3 * region_words {
+            return false;
+        }
+        if at + o.size > to {
+            return false;
+        }
+        at += o.size;
+    }
+    true
+}
+
+/// Tells whether the regions of a run from region r on are there.
+fn is_run(draft: &Draft, r: u32, size: u64) -> bool
+    requires there { r < draft.now.geometry.n }
+    requires size { size < 2 ^ 32 }
+    ensures { IsTrue result ↔ IsWholeRun draft.now r size }
+{
+    let region_words = draft.geometry().region_words();
+    let regions = draft.geometry().regions();
+    let mut i: u64 = 1;
+    while i * region_words < size {
+        if u64::from(r) + i >= regions {
+            return false;
+        }
+        match draft.region(r + i as u32).kind {
+            Kind::Continuation => {}
+            _ => return false,
+        }
+        i += 1;
+    }
+    true
+}
+
+fn ordinary_shaped(draft: &Draft, r: u32) -> bool
+    requires there { r < draft.now.geometry.n }
+    requires kind { (region draft.now r).kind ≡ Ordinary }
+    ensures { IsTrue result ↔ IsShapedBy Ordinary draft.now r }
+{
+    let region_words = draft.geometry().region_words();
+    let top = u64::from(draft.region(r).top);
+    if top == 0 {
+        return false;
+    }
+    if top > region_words {
+        return false;
+    }
+    let start = u64::from(r) * region_words;
+    is_tiled(draft.words(), start, start + top, region_words)
+}
+
+fn first_shaped(draft: &Draft, r: u32) -> bool
+    requires there { r < draft.now.geometry.n }
+    requires kind { (region draft.now r).kind ≡ HumongousFirst }
+    ensures { IsTrue result ↔ IsShapedBy HumongousFirst draft.now r }
+{
+    let region_words = draft.geometry().region_words();
+    let top = u64::from(draft.region(r).top);
+    let o = header(draft.words(), u64::from(r) * region_words);
+    if o.refs >= o.size {
+        return false;
+    }
+    if 4 * o.size <= 3 * region_words {
+        return false;
+    }
+    let least = if o.size < region_words {
+        o.size
+    } else {
+        region_words
+    };
+    if top != least {
+        return false;
+    }
+    is_run(draft, r, o.size)
+}
+
+fn continued(draft: &Draft, r: u32, first: u32, size: u64) -> bool
+    requires there { r < draft.now.geometry.n }
+    requires latest { Latest draft.now r first size }
+    requires shaped { AllShaped draft.now r }
+    requires kind { (region draft.now r).kind ≡ Continuation }
+    ensures { IsTrue result ↔ IsShapedBy Continuation draft.now r }
+{
+    if size == 0 {
+        return false;
+    }
+    let region_words = draft.geometry().region_words();
+    let top = u64::from(draft.region(r).top);
+    let before = u64::from(r - first) * region_words;
+    if before >= size {
+        return false;
+    }
+    let left = size - before;
+    let least = if left < region_words {
+        left
+    } else {
+        region_words
+    };
+    top == least
+}
+
+/// Tells whether a region keeps the rules of its kind.
+fn kind_shaped(draft: &Draft, r: u32, first: u32, size: u64) -> bool
+    requires there { r < draft.now.geometry.n }
+    requires latest { Latest draft.now r first size }
+    requires shaped { AllShaped draft.now r }
+    ensures { IsTrue result ↔ IsShapedBy (region draft.now r).kind draft.now r }
+{
+    let region = draft.region(r);
+    match region.kind {
+        Kind::Free => region.top == 0,
+        Kind::Ordinary => ordinary_shaped(draft, r),
+        Kind::HumongousFirst => first_shaped(draft, r),
+        Kind::Continuation => continued(draft, r, first, size),
+    }
+}
+
+/// Tells whether a region may be the current one, where it is.
+fn current_shaped(draft: &Draft, r: u32) -> bool
+    requires there { r < draft.now.geometry.n }
+    ensures { IsTrue result ↔ (draft.now.current ≡ Some r → (region draft.now r).kind ≡ Ordinary) }
+{
+    match draft.region(r).kind {
+        Kind::Ordinary => true,
+        _ => match draft.current() {
+            Some(current) => current != r,
+            None => true,
+        },
+    }
+}
+
+/// Tells whether a region keeps the rules.
+fn region_shaped(draft: &Draft, r: u32, first: u32, size: u64) -> bool
+    requires there { r < draft.now.geometry.n }
+    requires latest { Latest draft.now r first size }
+    requires shaped { AllShaped draft.now r }
+    ensures { IsTrue result ↔ IsShaped draft.now r }
+{
+    if !kind_shaped(draft, r, first, size) {
+        return false;
+    }
+    current_shaped(draft, r)
+}
+
+/// Tells the first region that breaks a rule.
+pub(crate) fn shaped(draft: &Draft) -> Result<(), Fault>
+    ensures ok { OnOk result (AllShaped draft.now draft.now.geometry.n) }
+    ensures err { IfErr result (λ e. (r : ℕ) × (e ≡ Fault.Shape r) × IsFirstBreach (IsShaped draft.now) draft.now.geometry.n r) }
+{
+    let region_words = draft.geometry().region_words();
+    let regions = draft.geometry().regions() as u32;
+    let mut first = 0;
+    let mut size = 0;
+    for r in 0..regions {
+        if !region_shaped(draft, r, first, size) {
+            return Err(Fault::Shape(r));
+        }
+        match draft.region(r).kind {
+            Kind::HumongousFirst => {
+                first = r;
+                size = header(draft.words(), u64::from(r) * region_words).size;
+            }
+            _ => {}
+        }
+    }
+    Ok(())
+}

@@ -1,0 +1,20 @@
+use Rattle.std.proofs.Common.{◌≡◌, ◌*◌, ◌+◌, List, map}
+use Rattle.g1_words.specs.Heap.{kind, start, end, objects_in}
+use Rattle.g1_words.specs.Valid.{Tiles}
+use Rattle.g1_words.specs.declared.object.Object.{Object}
+use Rattle.g1_words.specs.declared.region.Kind.TheVariants.{Ordinary}
+use Rattle.g1_words.proofs.Listed.{IfOk-then, ordinary_listed}
+use Rattle.g1_words.proofs.object.objects_in.Goals as goal
+
+pub returns-in-Ordinary-clause-ok : goal.returns-in-Ordinary-clause-ok
+returns-in-Ordinary-clause-ok c =
+    let h = c.args.heap.now in
+    let r = c.args.region in
+    let words = c.words.result.now in
+    let from = c.from.result * c.region_words.result in
+    let to = c.from.result * c.region_words.result + c.from-in-Ordinary.result in
+    let is : kind h r ≡ Ordinary = cc in
+    let at : c.from.result * c.region_words.result ≡ start h r = cc in
+    let until : c.from.result * c.region_words.result + c.from-in-Ordinary.result ≡ end h r = cc in
+    IfOk-then (λ v. (os : List Object) × Tiles words from os to × (v.items ≡ map (λ o. o.at) os)) (λ v. v.items ≡ map (λ o. o.at) (objects_in h r)) c.starts_between.result
+    (λ v. ordinary_listed h r v.items words from to is c.words.ensures at until) c.starts_between.ensures.ok

@@ -1,0 +1,12 @@
+pub mod Fault
+pub mod Geometry
+pub mod Lists
+pub mod Heap
+pub mod Valid
+pub mod Walk
+pub mod References
+pub mod Live
+pub mod Survivors
+pub mod Layout
+pub mod Moves
+pub mod Laws

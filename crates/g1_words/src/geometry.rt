@@ -1,0 +1,83 @@
+ghost use Rattle.std.specs.Prelude.{◌≡◌, ◌≤◌, ◌<◌, ◌*◌, ◌/◌, ◌^◌, ℕ, IfOk, IfErr, IsTrue, ◌↔◌};
+ghost use Rattle.g1_words.specs.Geometry.{IsWithinLimits};
+ghost use Rattle.std.specs.Int.{IsPowerOfTwo};
+
+use crate::fault::Fault;
+use std::marker::Model;
+
+/// The sizes of a heap.
+pub struct Geometry {
+    w: u64,
+    k: u64,
+    n: u64,
+}
+
+/// Tells whether a number is a power of two.
+fn is_power(x: u64) -> bool
+    ensures { IsTrue result ↔ IsPowerOfTwo x }
+{
+    x.is_power_of_two()
+}
+
+impl Model for Geometry {
+    ghost use Rattle.g1_words.specs.Geometry.{Geometry as Sizes, IsWithinLimits};
+
+    ghost Value = { Sizes };
+
+    ghost view = { λ g. record { w = g.w; k = g.k; n = g.n } };
+
+    ghost invariant = { λ g. IsWithinLimits g.w g.k g.n };
+
+    ghost inverse = { λ v. record { w = v.w; k = v.k; n = v.n } };
+}
+
+impl Clone for Geometry {
+    fn clone(&self) -> Result<Self, std::alloc::AllocError> {
+        Ok(*self)
+    }
+}
+
+impl Copy for Geometry {}
+
+impl Geometry {
+    /// A geometry of these sizes, where they are within the limits.
+    pub fn new(w: u64, k: u64, n: u64) -> Result<Geometry, Fault>
+        ensures ok { IfOk result (λ g. (g.w ≡ w) × (g.k ≡ k) × (g.n ≡ n)) }
+        ensures err { IfErr result (λ e. (e ≡ Fault.Geometry) × (IsWithinLimits w k n → ⊥)) }
+    {
+        if !is_power(w) || w < 16 || w > 65_536 {
+            return Err(Fault::Geometry);
+        }
+        if !is_power(k) || k < 4 || k > 64 || k > w {
+            return Err(Fault::Geometry);
+        }
+        if n < 1 || n > 4_096 || n * w > 16_777_216 {
+            return Err(Fault::Geometry);
+        }
+        Ok(Geometry { w, k, n })
+    }
+
+    /// The words of a region.
+    pub fn region_words(&self) -> u64
+        ensures value { result ≡ self.now.w }
+        ensures limits { IsWithinLimits self.now.w self.now.k self.now.n }
+    {
+        self.w
+    }
+
+    /// The words of a card.
+    pub fn card_words(&self) -> u64
+        ensures value { result ≡ self.now.k }
+        ensures limits { IsWithinLimits self.now.w self.now.k self.now.n }
+    {
+        self.k
+    }
+
+    /// The number of regions.
+    pub fn regions(&self) -> u64
+        ensures value { result ≡ self.now.n }
+        ensures limits { IsWithinLimits self.now.w self.now.k self.now.n }
+    {
+        self.n
+    }
+}

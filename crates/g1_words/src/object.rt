@@ -1,0 +1,139 @@
+ghost use Rattle.std.specs.Prelude.{◌≡◌, ◌≤◌, ◌<◌, ◌+◌, ◌*◌, ◌/◌, ◌^◌, ◌-◌, ℕ, List, length, map, Contains, IfSome, IfNone, IfOk, IfErr};
+ghost use Rattle.g1_words.specs.Heap.{object_at, objects_in, objects};
+ghost use Rattle.g1_words.specs.Valid.{IsObject, Tiles};
+ghost use Rattle.g1_words.specs.Walk.{Reaches, StandsBetween};
+ghost use Rattle.g1_words.specs.declared.object.Object.{Object};
+
+use crate::fault::Fault;
+use crate::geometry::Geometry;
+use crate::heap::Heap;
+use crate::region::{Kind, Region};
+use std::alloc::Global;
+
+/// An object: its address, its size in words with the header, its number of references.
+#[derive(Debug, Clone, Copy, PartialEq, Eq)]
+pub struct Object {
+    pub at: u64,
+    pub size: u64,
+    pub refs: u64,
+}
+
+const REFS_RANGE: u64 = 4_294_967_296;
+
+/// The object whose header is the word at an address, if one stands there.
+pub(crate) fn read_header(words: &[u64], at: u64) -> Object
+    requires { at < length words.now }
+    ensures at { result.at ≡ at }
+    ensures only { (o : Object) → o.at ≡ at → IsObject words.now o → o ≡ result }
+{
+    let header = words[at as usize];
+    Object {
+        at,
+        size: header / REFS_RANGE,
+        refs: header % REFS_RANGE,
+    }
+}
+
+/// The object at an address among those that fill the words from one address up to another.
+pub(crate) fn object_between(words: &[u64], from: u64, to: u64, a: u64) -> Option<Object>
+    requires filled { Reaches words.now from to }
+    requires in_words { to ≤ length words.now }
+    ensures found { IfSome result (λ o. (o.at ≡ a) × StandsBetween words.now from to o) }
+    ensures none { IfNone result ((o : Object) → o.at ≡ a → StandsBetween words.now from to o → ⊥) }
+{
+    let mut at = from;
+    while at < a && at < to {
+        at += read_header(words, at).size;
+    }
+    if at == a && at < to {
+        Some(read_header(words, at))
+    } else {
+        None
+    }
+}
+
+/// The region that an address lies in, or would lie in.
+pub fn region_of(geometry: &Geometry, a: u64) -> u64
+    ensures { result ≡ a / geometry.now.w }
+{
+    a / geometry.region_words()
+}
+
+/// The card that an address lies on, or would lie on.
+pub fn card_of(geometry: &Geometry, a: u64) -> u64
+    ensures { result ≡ a / geometry.now.k }
+{
+    a / geometry.card_words()
+}
+
+/// The address of an object's first reference slot, and how many there are.
+pub fn slots_of(object: &Object) -> (u64, u64)
+    requires { object.now.at + 1 < 2 ^ 64 }
+    ensures first { result.0 ≡ object.now.at + 1 }
+    ensures count { result.1 ≡ object.now.refs }
+{
+    (object.at + 1, object.refs)
+}
+
+/// The object that starts at an address.
+pub fn object_at(heap: &Heap, a: u64) -> Option<Object>
+    ensures found { IfSome result (λ o. (o ≡ object_at heap.now a) × Contains (objects heap.now) o) }
+    ensures none { IfNone result (Contains (objects heap.now) (object_at heap.now a) → ⊥) }
+{
+    let geometry = heap.geometry();
+    let number = a / geometry.region_words();
+    if number >= geometry.regions() {
+        return None;
+    }
+    let start = number * geometry.region_words();
+    let region = heap.region(number as u32);
+    match region.kind {
+        Kind::Ordinary => { object_between(heap.words(), start, start + u64::from(region.top), a) }
+        Kind::HumongousFirst => {
+            if a == start {
+                Some(read_header(heap.words(), a))
+            } else {
+                None
+            }
+        }
+        Kind::Free => None,
+        Kind::Continuation => None,
+    }
+}
+
+/// The addresses of the objects that fill the words from one address up to another.
+pub(crate) fn starts_between(
+    alloc: Global,
+    words: &[u64],
+    from: u64,
+    to: u64,
+) -> Result<Vec<u64>, Fault>
+    requires filled { Reaches words.now from to }
+    requires in_words { to ≤ length words.now }
+    ensures ok { IfOk result (λ v. (os : List Object) × Tiles words.now from os to × (v.items ≡ map (λ o. o.at) os)) }
+    ensures memory { IfErr result (λ e. e ≡ Fault.Memory) }
+{
+    let mut starts = Vec::new(alloc);
+    let mut at = from;
+    while at < to {
+        starts.push(at)?;
+        at += read_header(words, at).size;
+    }
+    Ok(starts)
+}
+
+/// The addresses of the objects that start in a region, rising.
+pub fn objects_in(alloc: Global, heap: &Heap, region: u32) -> Result<Vec<u64>, Fault>
+    requires { region < heap.now.geometry.n }
+    ensures ok { IfOk result (λ v. v.items ≡ map (λ o. o.at) (objects_in heap.now region)) }
+    ensures memory { IfErr result (λ e. e ≡ Fault.Memory) }
+{
+    let start = u64::from(region) * heap.geometry().region_words();
+    let Region { kind, top, .. } = heap.region(region);
+    match kind {
+        Kind::Ordinary => starts_between(alloc, heap.words(), start, start + u64::from(top)),
+        Kind::HumongousFirst => Ok(vec![in alloc; start]?),
+        Kind::Free => Ok(Vec::new(alloc)),
+        Kind::Continuation => Ok(Vec::new(alloc)),
+    }
+}
