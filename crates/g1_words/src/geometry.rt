@@ -5,7 +5,8 @@ ghost use Rattle.std.specs.Int.{IsPowerOfTwo};
 use crate::fault::Fault;
 use std::marker::Model;
 
-/// The sizes of a heap.
+/// The sizes of a heap: words a region, words a card, and the number of regions.
+#[derive(Debug, PartialEq, Eq)]
 pub struct Geometry {
     w: u64,
     k: u64,
@@ -40,7 +41,12 @@ impl Clone for Geometry {
 impl Copy for Geometry {}
 
 impl Geometry {
-    /// A geometry of these sizes, where they are within the limits.
+    /// The geometry of `n` regions of `w` words, on which a card has `k` words.
+    ///
+    /// # Errors
+    ///
+    /// `Fault::Geometry` unless `w` is a power of two from 16 to 65,536, `k` one from 4 to 64 and at
+    /// most `w`, and `n` from 1 to 4,096 with at most 2^24 words in all.
     pub fn new(w: u64, k: u64, n: u64) -> Result<Geometry, Fault>
         ensures ok { IfOk result (λ g. (g.w ≡ w) × (g.k ≡ k) × (g.n ≡ n)) }
         ensures err { IfErr result (λ e. (e ≡ Fault.Geometry) × (IsWithinLimits w k n → ⊥)) }

@@ -21,3 +21,6 @@ pub use heap::Heap;
 pub use laws::{apart, computed_objects, computed_references, one_list};
 pub use object::{Object, card_of, object_at, objects_in, region_of, slots_of};
 pub use region::{Kind, Region};
+
+#[cfg(test)]
+mod tests;

@@ -81,7 +81,7 @@ pub fn object_at(heap: &Heap, a: u64) -> Option<Object>
     ensures none { IfNone result (Contains (objects heap.now) (object_at heap.now a) → ⊥) }
 {
     let geometry = heap.geometry();
-    let number = a / geometry.region_words();
+    let number = region_of(&geometry, a);
     if number >= geometry.regions() {
         return None;
     }

@@ -8,40 +8,40 @@ use Rattle.g1_words.proofs.object.object_at.Goals as goal
 pub returns-then-number-regions-clause-none : goal.returns-then-number-regions-clause-none
 returns-then-number-regions-clause-none c =
     let g = c.geometry-geometry.ensures in
-    let e : c.args.a / c.region_words.result ≡ c.args.a / c.args.heap.now.geometry.w = cc in
+    let e : c.region_of-number.result ≡ c.args.a / c.args.heap.now.geometry.w = cc in
     let n : c.regions.result ≡ c.args.heap.now.geometry.n = cc in
-    none_listed c.args.heap.now c.args.a g.valid (none_past c.args.heap.now (c.args.a / c.region_words.result) c.args.a g.valid (omega arith) e)
+    none_listed c.args.heap.now c.args.a g.valid (none_past c.args.heap.now (c.region_of-number.result) c.args.a g.valid (omega arith) e)
 
 pub returns-in-Ordinary-clause-found : goal.returns-in-Ordinary-clause-found
 returns-in-Ordinary-clause-found c =
     let g = c.geometry-geometry.ensures in
     let h = c.args.heap.now in
-    let r = c.args.a / c.region_words.result in
+    let r = c.region_of-number.result in
     let n : c.regions.result ≡ c.args.heap.now.geometry.n = cc in
     let kind : (region h r).kind ≡ Ordinary = cc in
-    let from : c.args.a / c.region_words.result * c.region_words-2.result ≡ start h r = cc in
-    let to : c.args.a / c.region_words.result * c.region_words-2.result + c.from.result ≡ end h r = cc in
-    found_listed h c.args.a c.object_between.result g.valid (ordinary_found h r c.args.a c.words.result.now (c.args.a / c.region_words.result * c.region_words-2.result) (c.args.a / c.region_words.result * c.region_words-2.result + c.from.result)
+    let from : c.region_of-number.result * c.region_words.result ≡ start h r = cc in
+    let to : c.region_of-number.result * c.region_words.result + c.from.result ≡ end h r = cc in
+    found_listed h c.args.a c.object_between.result g.valid (ordinary_found h r c.args.a c.words.result.now (c.region_of-number.result * c.region_words.result) (c.region_of-number.result * c.region_words.result + c.from.result)
     c.object_between.result g.valid (omega arith) kind c.words.ensures from to c.object_between.ensures.found)
 
 pub returns-in-Ordinary-clause-none : goal.returns-in-Ordinary-clause-none
 returns-in-Ordinary-clause-none c =
     let g = c.geometry-geometry.ensures in
     let h = c.args.heap.now in
-    let r = c.args.a / c.region_words.result in
-    let e : c.args.a / c.region_words.result ≡ c.args.a / c.args.heap.now.geometry.w = cc in
+    let r = c.region_of-number.result in
+    let e : c.region_of-number.result ≡ c.args.a / c.args.heap.now.geometry.w = cc in
     let n : c.regions.result ≡ c.args.heap.now.geometry.n = cc in
     let kind : (region h r).kind ≡ Ordinary = cc in
-    let from : c.args.a / c.region_words.result * c.region_words-2.result ≡ start h r = cc in
-    let to : c.args.a / c.region_words.result * c.region_words-2.result + c.from.result ≡ end h r = cc in
-    missing_listed h c.args.a c.object_between.result g.valid (ordinary_none h r c.args.a c.words.result.now (c.args.a / c.region_words.result * c.region_words-2.result) (c.args.a / c.region_words.result * c.region_words-2.result + c.from.result)
+    let from : c.region_of-number.result * c.region_words.result ≡ start h r = cc in
+    let to : c.region_of-number.result * c.region_words.result + c.from.result ≡ end h r = cc in
+    missing_listed h c.args.a c.object_between.result g.valid (ordinary_none h r c.args.a c.words.result.now (c.region_of-number.result * c.region_words.result) (c.region_of-number.result * c.region_words.result + c.from.result)
     c.object_between.result g.valid (omega arith) kind c.words.ensures from to e c.object_between.ensures.none)
 
 pub returns-then-a-start-clause-found : goal.returns-then-a-start-clause-found
 returns-then-a-start-clause-found c =
     let g = c.geometry-geometry.ensures in
     let h = c.args.heap.now in
-    let r = c.args.a / c.region_words.result in
+    let r = c.region_of-number.result in
     let n : c.regions.result ≡ c.args.heap.now.geometry.n = cc in
     let kind : (region h r).kind ≡ HumongousFirst = cc in
     let here : c.args.a ≡ start h r = cc in
@@ -53,18 +53,18 @@ pub returns-else-a-start-clause-none : goal.returns-else-a-start-clause-none
 returns-else-a-start-clause-none c =
     let g = c.geometry-geometry.ensures in
     let h = c.args.heap.now in
-    let r = c.args.a / c.region_words.result in
-    let e : c.args.a / c.region_words.result ≡ c.args.a / c.args.heap.now.geometry.w = cc in
+    let r = c.region_of-number.result in
+    let e : c.region_of-number.result ≡ c.args.a / c.args.heap.now.geometry.w = cc in
     let kind : (region h r).kind ≡ HumongousFirst = cc in
-    let from : c.args.a / c.region_words.result * c.region_words-2.result ≡ start h r = cc in
+    let from : c.region_of-number.result * c.region_words.result ≡ start h r = cc in
     none_listed h c.args.a g.valid (none_of_kind h r c.args.a HumongousFirst g.valid kind e (λ o here s. c.if-a-start.false (sym here ∙ s.0 ∙ sym from)))
 
 pub returns-in-Free-clause-none : goal.returns-in-Free-clause-none
 returns-in-Free-clause-none c =
     let g = c.geometry-geometry.ensures in
     let h = c.args.heap.now in
-    let r = c.args.a / c.region_words.result in
-    let e : c.args.a / c.region_words.result ≡ c.args.a / c.args.heap.now.geometry.w = cc in
+    let r = c.region_of-number.result in
+    let e : c.region_of-number.result ≡ c.args.a / c.args.heap.now.geometry.w = cc in
     let kind : (region h r).kind ≡ Free = cc in
     none_listed h c.args.a g.valid (none_of_kind h r c.args.a Free g.valid kind e (λ o here s. s))
 
@@ -72,7 +72,7 @@ pub returns-in-Continuation-clause-none : goal.returns-in-Continuation-clause-no
 returns-in-Continuation-clause-none c =
     let g = c.geometry-geometry.ensures in
     let h = c.args.heap.now in
-    let r = c.args.a / c.region_words.result in
-    let e : c.args.a / c.region_words.result ≡ c.args.a / c.args.heap.now.geometry.w = cc in
+    let r = c.region_of-number.result in
+    let e : c.region_of-number.result ≡ c.args.a / c.args.heap.now.geometry.w = cc in
     let kind : (region h r).kind ≡ Continuation = cc in
     none_listed h c.args.a g.valid (none_of_kind h r c.args.a Continuation g.valid kind e (λ o here s. s))

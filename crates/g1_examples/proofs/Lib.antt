@@ -1,0 +1,4 @@
+pub mod Closed
+pub mod Sorted
+pub mod Inhabited
+pub mod Humongous

@@ -1,0 +1,56 @@
+//! Worked examples of the definitions.
+//!
+//! Small heaps and images (`specs/Examples.antt`), with what the definitions say of each, proved by
+//! computing: which objects survive and in which order, where they are placed, what is live, and the
+//! whole image after a pause. No code stands between the examples and the definitions.
+#![tactic(auto)]
+
+ghost use Rattle.std.specs.Prelude.{◌≡◌, List, [], ◌∷◌, map};
+ghost use Rattle.g1_words.specs.Valid.{IsValid};
+ghost use Rattle.g1_words.specs.Heap.{objects_in, regions};
+ghost use Rattle.g1_words.specs.Survivors.{Survivors};
+ghost use Rattle.g1_words.specs.Layout.{places, need, laid};
+ghost use Rattle.g1_words.specs.Live.{IsLiveBytes};
+ghost use Rattle.g1_image.specs.Image.{IsImage};
+ghost use Rattle.g1_image.specs.Cards.{refined, uncovered};
+ghost use Rattle.g1_image.specs.Moved.{Moved};
+ghost use Rattle.g1_examples.specs.Examples.{later_root_first, dead_owner, dead_cycle, shared_target, with_a_gap, three_regions, three_regions_image, dead_owner_image, dead_owner_after, shared_target_image, shared_target_after, humongous_owner, humongous_owner_image, humongous_owner_after};
+
+/// Which objects survive, in which order, and where they are placed.
+pub fn searches()
+    ensures later_root_first { Survivors later_root_first (1 ∷ []) (18 ∷ 16 ∷ []) }
+    ensures starts { map (λ o. o.at) (objects_in later_root_first 1) ≡ 16 ∷ 18 ∷ [] }
+    ensures dead_owner { Survivors dead_owner (1 ∷ []) (16 ∷ []) }
+    ensures dead_cycle { Survivors dead_cycle (1 ∷ []) [] }
+    ensures shared_target { Survivors shared_target (1 ∷ []) (21 ∷ 16 ∷ []) }
+    ensures with_a_gap { Survivors with_a_gap (0 ∷ 1 ∷ []) (0 ∷ 16 ∷ 21 ∷ []) }
+    ensures with_a_gap_places { places with_a_gap (0 ∷ 16 ∷ 21 ∷ []) ≡ 32 ∷ 48 ∷ 53 ∷ [] }
+    ensures with_a_gap_need { need with_a_gap (0 ∷ 16 ∷ 21 ∷ []) ≡ 2 }
+    ensures exactly_full { laid 16 0 (12 ∷ 4 ∷ 1 ∷ []) ≡ 0 ∷ 12 ∷ 16 ∷ [] }
+{}
+
+/// What the roots reach, which cards belong to a region, and the image after a pause.
+pub fn pauses()
+    ensures three_regions_live { IsLiveBytes three_regions (16 ∷ 16 ∷ 8 ∷ 0 ∷ 0 ∷ 0 ∷ []) }
+    ensures three_regions_refined { map (refined three_regions_image) (regions three_regions) ≡ [] ∷ [] ∷ (0 ∷ []) ∷ [] ∷ [] ∷ [] ∷ [] }
+    ensures shared_target_live { IsLiveBytes shared_target (0 ∷ 56 ∷ 0 ∷ 0 ∷ []) }
+    ensures humongous_owner_live { IsLiveBytes humongous_owner (320 ∷ 0 ∷ 0 ∷ 16 ∷ 0 ∷ 0 ∷ []) }
+    ensures dead_owner_covered { uncovered dead_owner_image ≡ [] }
+    ensures humongous_owner_covered { uncovered humongous_owner_image ≡ [] }
+    ensures dead_owner_after { Moved dead_owner_image (1 ∷ []) dead_owner_after }
+    ensures shared_target_after { Moved shared_target_image (1 ∷ []) shared_target_after }
+    ensures humongous_owner_after { Moved humongous_owner_image (3 ∷ []) humongous_owner_after }
+{}
+
+/// What the definitions refuse: a cycle that keeps itself, another order, a pause that changes nothing.
+pub fn refused()
+    ensures no_cycle { Survivors dead_cycle (1 ∷ []) (16 ∷ 18 ∷ []) → ⊥ }
+    ensures other_order { Survivors shared_target (1 ∷ []) (16 ∷ 21 ∷ []) → ⊥ }
+    ensures unchanged { Moved dead_owner_image (1 ∷ []) dead_owner_image → ⊥ }
+{}
+
+/// Two of the examples keep all rules, so that the premises of the laws are met by something.
+pub fn kept_rules()
+    ensures dead_owner { IsImage dead_owner_image }
+    ensures humongous_owner { IsValid humongous_owner }
+{}
