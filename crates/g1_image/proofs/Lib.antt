@@ -16,6 +16,8 @@ pub mod Drafts
 pub mod Assembled
 pub mod OneFile
 pub mod OneFault
+pub mod OneVerdict
+pub mod NoFault
 pub mod Determined
 pub mod SameGraphs
 pub mod ObjectsAfter

@@ -1,5 +1,6 @@
 ghost use Rattle.g1_image.specs.After.{ToSpaceObjects, ObjectsAfter, ValidAfter, CoveredAfter, ImageExists, RefsAfter, ExactByRefs, TrackedAfter};
-ghost use Rattle.g1_image.specs.Laws.{CardsInRegions, CardsRise, ExactSet, RefinedSet, CoveredImage, UncoveredSlots, UncoveredRise, OneImageAfter, GraphStays, NothingIntoSet, OneFile, OneText, OneFileFault};
+ghost use Rattle.g1_image.specs.Laws.{CardsInRegions, CardsRise, ExactSet, RefinedSet, CoveredImage, UncoveredSlots, UncoveredRise, OneImageAfter, GraphStays, NothingIntoSet, OneFile, OneText};
+ghost use Rattle.g1_image.specs.Verdict.{OneFault};
 
 /// What the cards of an image tell.
 pub fn card_sets()
@@ -45,7 +46,7 @@ pub fn one_text()
     ensures text { OneText }
 {}
 
-/// A whole file has one fault at most.
+/// Bytes have one fault at most.
 pub fn one_fault()
-    ensures { OneFileFault }
+    ensures one { OneFault }
 {}
