@@ -18,6 +18,10 @@ pub mod OneFile
 pub mod OneFault
 pub mod OneVerdict
 pub mod NoFault
+pub mod Decided
+pub mod DecidedShapes
+pub mod DecidedReferences
+pub mod DecidedCards
 pub mod Determined
 pub mod SameGraphs
 pub mod ObjectsAfter
