@@ -22,6 +22,9 @@ pub mod Decided
 pub mod DecidedShapes
 pub mod DecidedReferences
 pub mod DecidedCards
+pub mod ToldTexts
+pub mod ToldFiles
+pub mod AlwaysOne
 pub mod Determined
 pub mod SameGraphs
 pub mod ObjectsAfter

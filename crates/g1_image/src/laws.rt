@@ -1,6 +1,6 @@
 ghost use Rattle.g1_image.specs.After.{ToSpaceObjects, ObjectsAfter, ValidAfter, CoveredAfter, ImageExists, RefsAfter, ExactByRefs, TrackedAfter};
 ghost use Rattle.g1_image.specs.Laws.{CardsInRegions, CardsRise, ExactSet, RefinedSet, CoveredImage, UncoveredSlots, UncoveredRise, OneImageAfter, GraphStays, NothingIntoSet, OneFile, OneText};
-ghost use Rattle.g1_image.specs.Verdict.{OneFault};
+ghost use Rattle.g1_image.specs.Verdict.{OneFault, AlwaysOne};
 
 /// What the cards of an image tell.
 pub fn card_sets()
@@ -46,7 +46,8 @@ pub fn one_text()
     ensures text { OneText }
 {}
 
-/// Bytes have one fault at most.
+/// Bytes are an image's text or have a fault, and one fault at most.
 pub fn one_fault()
     ensures one { OneFault }
+    ensures always { AlwaysOne }
 {}
