@@ -14,6 +14,7 @@ pub mod Slots
 pub mod Logs
 pub mod Drafts
 pub mod Assembled
+pub mod FileOf
 pub mod OneFile
 pub mod OneFault
 pub mod Determined
