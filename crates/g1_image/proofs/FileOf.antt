@@ -15,8 +15,9 @@ use Rattle.g1_words.proofs.Objects.{object_stands, stands_within, region_in_word
 use Rattle.g1_image.specs.Text.{Entry, total}
 use Rattle.g1_image.specs.Reading.{IsU32, IsU64}
 use Rattle.g1_image.specs.Faults.{EntryFits, SetFits, FileFits}
-use Rattle.g1_image.specs.Image.{Image, IsImage, IsUsedCard, region_of_card, set_of, kind_number, kind_of, entry_of, region_of_entry, used_words, all_words, file_of, heap_of}
+use Rattle.g1_image.specs.Image.{Image, IsImage, IsTextOf, IsUsedCard, region_of_card, set_of, kind_number, kind_of, entry_of, region_of_entry, used_words, all_words, file_of, heap_of}
 use Rattle.g1_image.proofs.Words.{total-cons}
+use Rattle.g1_image.proofs.OneFile.{one_file}
 use Rattle.g1_image.proofs.Drafts.{Bounded, bounded_append, bounded_take}
 
 -- the number of a kind has few bits
@@ -184,3 +185,10 @@ file_fits i image =
         each = λ k d lt. subst IsU64 (sym (get_or_default_zero (used_words i.heap.geometry.w i.heap.regions i.heap.words) k d lt)) (used k);
       };
     }
+
+-- bytes are the text of one image at most
+pub one_image : (bytes : List ℕ) (i j : Image) → IsTextOf bytes i → IsTextOf bytes j → i ≡ j
+one_image bytes i j is it =
+    let file : file_of i ≡ file_of j = one_file bytes (file_of i) (file_of j) (file_fits i is.0) (file_fits j it.0) is.1 it.1 in
+    let heap : i.heap ≡ j.heap = sym (heap_of_file i is.0) ∙ ap heap_of file ∙ heap_of_file j it.0 in
+    λ t. record { heap = heap t; sets = (file t).sets; log = (file t).log }

@@ -14,8 +14,8 @@ pub mod Slots
 pub mod Logs
 pub mod Drafts
 pub mod Assembled
-pub mod FileOf
 pub mod OneFile
+pub mod FileOf
 pub mod OneFault
 pub mod Determined
 pub mod SameGraphs

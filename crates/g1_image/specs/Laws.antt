@@ -71,6 +71,10 @@ NothingIntoSet = (i : Image) (set l : List ℕ) (j : Image) → IsValid i.heap �
 abbrev pub OneFile : Type 0
 OneFile = (bytes : List ℕ) (f g : File) → FileFits f → FileFits g → bytes ≡ file_text f → bytes ≡ file_text g → f ≡ g
 
+-- bytes are the text of one image at most
+abbrev pub OneImage : Type 0
+OneImage = (bytes : List ℕ) (i j : Image) → IsTextOf bytes i → IsTextOf bytes j → i ≡ j
+
 -- an image has one text
 abbrev pub OneText : Type 0
 OneText = (i : Image) (a b : List ℕ) → IsTextOf a i → IsTextOf b i → a ≡ b
