@@ -18,11 +18,11 @@ pub mod OneFile
 pub mod FileOf
 pub mod OneFault
 pub mod Determined
-pub mod SameGraphs
 pub mod ObjectsAfter
 pub mod Covers
 pub mod ToSpace
 pub mod ObjectsOf
+pub mod SameGraphs
 pub mod CopyWords
 pub mod ValidAfter
 pub mod RulesAfter
