@@ -15,6 +15,7 @@ pub mod Logs
 pub mod Drafts
 pub mod Assembled
 pub mod OneFile
+pub mod FileOf
 pub mod OneFault
 pub mod OneVerdict
 pub mod NoFault
@@ -26,11 +27,11 @@ pub mod ToldTexts
 pub mod ToldFiles
 pub mod AlwaysOne
 pub mod Determined
-pub mod SameGraphs
 pub mod ObjectsAfter
 pub mod Covers
 pub mod ToSpace
 pub mod ObjectsOf
+pub mod SameGraphs
 pub mod CopyWords
 pub mod ValidAfter
 pub mod RulesAfter

@@ -14,3 +14,4 @@ pub mod Made
 pub mod After
 pub mod Laws
 pub mod Verdict
+pub mod Worked
