@@ -1,10 +1,9 @@
 -- Bytes are an image's text or have a fault.
-use Rattle.std.proofs.Common.{◌≡◌, ◌≤◌, ◌<◌, ◌*◌, ◌^◌, ℕ, ◌⊎◌, inl, inr, Bool, true, false, List, [], length, slice_index, slice_index_or, map, arith, refl, sym, ap, subst, ◌∙◌}
-use Rattle.std.specs.Prelude.{All, Some, None, IfSome, nat_lt, if◌then◌else◌}
+use Rattle.std.proofs.Common.{◌≡◌, ◌<◌, ◌*◌, ℕ, ◌⊎◌, inl, inr, Bool, true, false, List, [], length, slice_index, slice_index_or, arith, refl, sym, ap, ◌∙◌}
+use Rattle.std.specs.Prelude.{Some, None, IfSome, nat_lt, if◌then◌else◌}
 use Rattle.std.proofs.lemmas.Bool.{cases_lt, le-ltb}
 use Rattle.std.proofs.lemmas.List.{length-map}
 use Rattle.std.proofs.lemmas.Grind.{get_or_default_zero}
-use Rattle.g1_words.specs.Heap.{Heap}
 use Rattle.g1_words.specs.Valid.{IsShaped}
 use Rattle.g1_words.specs.declared.fault.Fault.{Fault}
 use Rattle.g1_words.specs.declared.fault.Fault.TheVariants as fault

@@ -1,13 +1,14 @@
 -- Facts of which it can be told whether they hold.
-use Rattle.std.proofs.Common.{◌≡◌, ◌≤◌, ◌<◌, ℕ, zero, suc, ◌⊎◌, inl, inr, List, [], ◌∷◌, length, slice_index, slice_index_or, arith, refl, sym, subst}
+use Rattle.std.proofs.Common.{◌≡◌, ◌≤◌, ◌<◌, ℕ, zero, suc, ◌⊎◌, inl, inr, List, [], ◌∷◌, length, slice_index, arith, refl, sym, ap, subst, ◌∙◌}
 use Rattle.std.specs.Prelude.{All, Option, Some, None}
 use Rattle.std.proofs.lemmas.Bool.{cases_lt}
 use Rattle.std.proofs.lemmas.Grind.{get_or_default_zero}
 use Rattle.g1_words.specs.declared.region.Kind.{Kind}
-use Rattle.g1_words.specs.declared.region.Kind.TheVariants.{Free, Ordinary, HumongousFirst, Continuation}
 use Rattle.g1_words.proofs.Members.{In}
 use Rattle.g1_image.specs.Faults.{IsFirstBreach}
+use Rattle.g1_image.specs.Image.{kind_number, kind_of}
 use Rattle.g1_image.proofs.Rows.{eq_or}
+use Rattle.g1_image.proofs.FileOf.{kind_there}
 
 -- it holds, or it doesn't
 abbrev pub Decided : Type 0 → Type 0
@@ -52,30 +53,10 @@ pub decided_some : (c : Option ℕ) (r : ℕ) → Decided (c ≡ Some r)
 decided_some None r = inr (λ e. cc)
 decided_some (Some q) r = decided_as (q ≡ r) (Some q ≡ Some r) (λ e. cc) (λ e. cc) (eq_or q r)
 
--- a region's kind
-pub decided_free : (k : Kind) → Decided (k ≡ Free)
-decided_free Free = inl refl
-decided_free Ordinary = inr (λ e. cc)
-decided_free HumongousFirst = inr (λ e. cc)
-decided_free Continuation = inr (λ e. cc)
-
-pub decided_ordinary : (k : Kind) → Decided (k ≡ Ordinary)
-decided_ordinary Free = inr (λ e. cc)
-decided_ordinary Ordinary = inl refl
-decided_ordinary HumongousFirst = inr (λ e. cc)
-decided_ordinary Continuation = inr (λ e. cc)
-
-pub decided_first : (k : Kind) → Decided (k ≡ HumongousFirst)
-decided_first Free = inr (λ e. cc)
-decided_first Ordinary = inr (λ e. cc)
-decided_first HumongousFirst = inl refl
-decided_first Continuation = inr (λ e. cc)
-
-pub decided_continuation : (k : Kind) → Decided (k ≡ Continuation)
-decided_continuation Free = inr (λ e. cc)
-decided_continuation Ordinary = inr (λ e. cc)
-decided_continuation HumongousFirst = inr (λ e. cc)
-decided_continuation Continuation = inl refl
+-- two equal kinds
+pub decided_kind : (k l : Kind) → Decided (k ≡ l)
+decided_kind k l =
+    decided_as (kind_number k ≡ kind_number l) (k ≡ l) (λ e. sym (kind_there k) ∙ ap kind_of e ∙ kind_there l) (λ e. ap kind_number e) (decided_eq (kind_number k) (kind_number l))
 
 -- all numbers below an end keep a rule, or there is a first one that doesn't
 pub first_breach : (P : ℕ → Type 0) → ((r : ℕ) → Decided (P r)) → (end : ℕ) → ((r : ℕ) → r < end → P r) ⊎ ((r : ℕ) × IsFirstBreach P end r)

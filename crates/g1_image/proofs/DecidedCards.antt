@@ -7,7 +7,7 @@ use Rattle.g1_words.specs.declared.region.Kind.TheVariants.{Free, Ordinary, Humo
 use Rattle.g1_words.specs.Heap.{Heap, region}
 use Rattle.g1_image.specs.Image.{IsUsedCard, IsSetOf, MayHoldCards, region_of_card}
 use Rattle.g1_image.specs.Faults.{IsGoodLogged}
-use Rattle.g1_image.proofs.Decided.{Decided, decided_as, decided_both, decided_under, decided_not, decided_lt, decided_eq, decided_free, decided_all, decided_each}
+use Rattle.g1_image.proofs.Decided.{Decided, decided_as, decided_both, decided_under, decided_not, decided_lt, decided_eq, decided_kind, decided_all, decided_each}
 
 module _ (h : Heap) where
   -- a card of a used region
@@ -18,7 +18,7 @@ module _ (h : Heap) where
       (λ u. (u.in_heap, u.used))
       (decided_both (c * h.geometry.k < h.geometry.n * h.geometry.w) ((region h (region_of_card h c)).kind ≢ Free)
       (decided_lt (c * h.geometry.k) (h.geometry.n * h.geometry.w))
-      (decided_not ((region h (region_of_card h c)).kind ≡ Free) (decided_free (region h (region_of_card h c)).kind)))
+      (decided_not ((region h (region_of_card h c)).kind ≡ Free) (decided_kind (region h (region_of_card h c)).kind Free)))
 
   -- a place of the log
   pub decided_logged : (log : List ℕ) (i : ℕ) → Decided (IsGoodLogged h log i)
@@ -47,6 +47,7 @@ module _ (h : Heap) where
   abbrev Elsewhere : ℕ → List ℕ → Type 0
   Elsewhere r cards = All (λ c. IsUsedCard h c × (region_of_card h c ≢ r)) cards
 
+  -- the cards of a list are
   decided_elsewhere : (r : ℕ) (cards : List ℕ) → Decided (Elsewhere r cards)
   decided_elsewhere r cards =
       decided_each (λ c. IsUsedCard h c × (region_of_card h c ≢ r))

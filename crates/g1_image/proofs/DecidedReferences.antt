@@ -1,5 +1,5 @@
 -- Whether a word is null or names an object, and whether a slot does.
-use Rattle.std.proofs.Common.{◌≡◌, ◌≤◌, ◌<◌, ℕ, zero, suc, ◌+◌, ◌⊎◌, inl, inr, slice_index, arith, refl}
+use Rattle.std.proofs.Common.{◌≡◌, ◌≤◌, ◌<◌, ℕ, zero, suc, ◌+◌, inl, inr, slice_index, arith, refl}
 use Rattle.g1_words.specs.declared.object.Object.{Object}
 use Rattle.g1_words.specs.Heap.{Heap, objects}
 use Rattle.g1_words.specs.Valid.{AllShaped, HasObject, IsReference, IsSlotOf}
@@ -9,10 +9,11 @@ use Rattle.g1_image.specs.Faults.{IsGoodSlot}
 use Rattle.g1_image.proofs.Decided.{Decided, decided_as, decided_both, decided_lt, decided_le, decided_eq, decided_member}
 
 module _ (h : Heap) (shaped : AllShaped h) where
-  -- the objects of a heap are those that are computed
+  -- an object of the heap is one of those that are computed
   listed : (o : Object) → HasObject h o → In (objects h) o
   listed o has = In-from_contains (objects h) o (has_contains h o has)
 
+  -- and the other way round
   unlisted : (o : Object) → In (objects h) o → HasObject h o
   unlisted o i = contains_has h o shaped (Contains-from_in (objects h) o i)
 

@@ -1,5 +1,5 @@
 -- Whether a region keeps the rules of its kind.
-use Rattle.std.proofs.Common.{◌≡◌, ◌≤◌, ◌<◌, ℕ, zero, suc, ◌+◌, ◌-◌, ◌*◌, ◌^◌, inl, inr, List, [], ◌∷◌, length, slice_index_or, min, arith, refl, sym, ap, subst, ◌∙◌}
+use Rattle.std.proofs.Common.{◌≡◌, ◌≤◌, ◌<◌, ℕ, zero, suc, ◌+◌, ◌-◌, ◌*◌, ◌^◌, inl, inr, List, [], ◌∷◌, min, arith, refl, sym, ap, subst, ◌∙◌}
 use Rattle.std.specs.Prelude.{All, Some}
 use Rattle.std.proofs.lemmas.Bool.{cases_lt}
 use Rattle.std.proofs.Math.Nat.{mul-le-mul_left}
@@ -7,12 +7,12 @@ use Rattle.g1_words.specs.declared.object.Object.{Object}
 use Rattle.g1_words.specs.declared.region.Kind.{Kind}
 use Rattle.g1_words.specs.declared.region.Kind.TheVariants.{Free, Ordinary, HumongousFirst, Continuation}
 use Rattle.g1_words.specs.Heap.{Heap, region, start, end, object_at}
-use Rattle.g1_words.specs.Valid.{IsObject, Tiles, IsHumongous, IsFirst, HoldsBy, IsWholeRun, IsShapedBy, IsShaped}
+use Rattle.g1_words.specs.Valid.{IsObject, IsHumongous, IsFirst, HoldsBy, IsWholeRun, IsShapedBy, IsShaped}
 use Rattle.g1_words.proofs.Computed.{object_is}
 use Rattle.g1_words.proofs.Tiling.{Tiles-le}
 use Rattle.g1_image.specs.Draft.{IsTiled}
 use Rattle.g1_image.proofs.Tiled.{front}
-use Rattle.g1_image.proofs.Decided.{Decided, decided_as, decided_both, decided_under, decided_lt, decided_le, decided_eq, decided_some, decided_ordinary, decided_first, decided_continuation, decided_all, decided_any}
+use Rattle.g1_image.proofs.Decided.{Decided, decided_as, decided_both, decided_under, decided_lt, decided_le, decided_eq, decided_some, decided_kind, decided_all, decided_any}
 
 -- what holds of one object more
 all_more : (P : Object → Type 0) (o : Object) (os : List Object) → P o → All P os → All P (o ∷ os)
@@ -87,7 +87,7 @@ module _ (h : Heap) where
       decided_as (((region h r).kind ≡ HumongousFirst) × IsObject h.words (object_at h (start h r))) (IsFirst h r (object_at h (start h r)))
       (λ p. record { kind = p.0; at = refl; object = p.1 })
       (λ f. (f.kind, f.object))
-      (decided_both ((region h r).kind ≡ HumongousFirst) (IsObject h.words (object_at h (start h r))) (decided_first (region h r).kind) (decided_object (start h r)))
+      (decided_both ((region h r).kind ≡ HumongousFirst) (IsObject h.words (object_at h (start h r))) (decided_kind (region h r).kind HumongousFirst) (decided_object (start h r)))
 
   module _ (wide : 0 < h.geometry.w) where
     -- a run's region is one of as many as it has words
@@ -98,11 +98,12 @@ module _ (h : Heap) where
     abbrev RunAt : ℕ → ℕ → ℕ → Type 0
     RunAt r size q = 0 < q → q * h.geometry.w < size → (r + q < h.geometry.n) × ((region h (r + q)).kind ≡ Continuation)
 
+    -- a region of a run is there
     decided_run_at : (r size q : ℕ) → Decided (RunAt r size q)
     decided_run_at r size q =
         decided_under (0 < q) (q * h.geometry.w < size → (r + q < h.geometry.n) × ((region h (r + q)).kind ≡ Continuation)) (decided_lt 0 q)
         (decided_under (q * h.geometry.w < size) ((r + q < h.geometry.n) × ((region h (r + q)).kind ≡ Continuation)) (decided_lt (q * h.geometry.w) size)
-        (decided_both (r + q < h.geometry.n) ((region h (r + q)).kind ≡ Continuation) (decided_lt (r + q) h.geometry.n) (decided_continuation (region h (r + q)).kind)))
+        (decided_both (r + q < h.geometry.n) ((region h (r + q)).kind ≡ Continuation) (decided_lt (r + q) h.geometry.n) (decided_kind (region h (r + q)).kind Continuation)))
 
     -- the regions of a run are there
     decided_run : (r size : ℕ) → Decided (IsWholeRun h r size)
@@ -116,6 +117,7 @@ module _ (h : Heap) where
     abbrev FirstRules : ℕ → Object → Type 0
     FirstRules r o = IsHumongous h o × (((region h r).top ≡ min h.geometry.w o.size) × IsWholeRun h r o.size)
 
+    -- the rules for the first region of a humongous object
     decided_first_region : (r : ℕ) → Decided (IsShapedBy HumongousFirst h r)
     decided_first_region r =
         let q : Object = object_at h (start h r) in
@@ -130,6 +132,7 @@ module _ (h : Heap) where
     abbrev Follows : ℕ → ℕ → Object → Type 0
     Follows r first o = ((r - first) * h.geometry.w < o.size) × ((region h r).top ≡ min h.geometry.w (o.size - (r - first) * h.geometry.w))
 
+    -- a region continues the object that starts in another
     decided_follows : (r first : ℕ) → Decided ((o : Object) × IsFirst h first o × Follows r first o)
     decided_follows r first =
         let q : Object = object_at h (start h first) in
@@ -140,6 +143,7 @@ module _ (h : Heap) where
         (decided_both ((r - first) * h.geometry.w < q.size) ((region h r).top ≡ min h.geometry.w (q.size - (r - first) * h.geometry.w))
         (decided_lt ((r - first) * h.geometry.w) q.size) (decided_eq (region h r).top (min h.geometry.w (q.size - (r - first) * h.geometry.w)))))
 
+    -- the rules for a continuation
     decided_later_region : (r : ℕ) → Decided (IsShapedBy Continuation h r)
     decided_later_region r =
         decided_as ((first : ℕ) × (first < r) × ((o : Object) × IsFirst h first o × Follows r first o)) (IsShapedBy Continuation h r)
@@ -147,11 +151,12 @@ module _ (h : Heap) where
         (λ s. (s.0, s.3, (s.1, s.2, (s.4, s.5))))
         (decided_any (λ first. (o : Object) × IsFirst h first o × Follows r first o) (decided_follows r) r)
 
-    decided_kind : (k : Kind) (r : ℕ) → (region h r).kind ≡ k → Decided (IsShapedBy k h r)
-    decided_kind Free r e = decided_eq (region h r).top 0
-    decided_kind Ordinary r e = decided_row r e
-    decided_kind HumongousFirst r e = decided_first_region r
-    decided_kind Continuation r e = decided_later_region r
+    -- the rules for a region of a kind
+    decided_by_kind : (k : Kind) (r : ℕ) → (region h r).kind ≡ k → Decided (IsShapedBy k h r)
+    decided_by_kind Free r e = decided_eq (region h r).top 0
+    decided_by_kind Ordinary r e = decided_row r e
+    decided_by_kind HumongousFirst r e = decided_first_region r
+    decided_by_kind Continuation r e = decided_later_region r
 
     -- the rules of a region
     pub decided_shaped : (r : ℕ) → Decided (IsShaped h r)
@@ -159,5 +164,5 @@ module _ (h : Heap) where
         decided_as (IsShapedBy (region h r).kind h r × (h.current ≡ Some r → (region h r).kind ≡ Ordinary)) (IsShaped h r)
         (λ p. record { by_kind = p.0; current = p.1 })
         (λ s. (s.by_kind, s.current))
-        (decided_both (IsShapedBy (region h r).kind h r) (h.current ≡ Some r → (region h r).kind ≡ Ordinary) (decided_kind (region h r).kind r refl)
-        (decided_under (h.current ≡ Some r) ((region h r).kind ≡ Ordinary) (decided_some h.current r) (decided_ordinary (region h r).kind)))
+        (decided_both (IsShapedBy (region h r).kind h r) (h.current ≡ Some r → (region h r).kind ≡ Ordinary) (decided_by_kind (region h r).kind r refl)
+        (decided_under (h.current ≡ Some r) ((region h r).kind ≡ Ordinary) (decided_some h.current r) (decided_kind (region h r).kind Ordinary)))

@@ -28,7 +28,7 @@ kind_fits HumongousFirst = omega arith
 kind_fits Continuation = omega arith
 
 -- the number of a kind tells the kind
-kind_there : (k : Kind) → kind_of (kind_number k) ≡ k
+pub kind_there : (k : Kind) → kind_of (kind_number k) ≡ k
 kind_there Free = refl
 kind_there Ordinary = refl
 kind_there HumongousFirst = refl

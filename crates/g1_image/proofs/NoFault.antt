@@ -1,7 +1,5 @@
 -- An image's text has no fault.
-use Rattle.std.proofs.Common.{◌≡◌, ◌≢◌, ◌≤◌, ◌<◌, ℕ, zero, suc, ◌*◌, List, [], ◌∷◌, length, slice_index, slice_index_or, map, arith, refl, sym, ap, subst, ◌∙◌}
-use Rattle.std.specs.Prelude.{All}
-use Rattle.std.proofs.lemmas.Grind.{get_or_default_zero}
+use Rattle.std.proofs.Common.{◌≡◌, ◌≤◌, ◌<◌, ℕ, zero, suc, List, [], ◌∷◌, length, slice_index, slice_index_or, map, arith, sym, subst}
 use Rattle.g1_words.specs.Heap.{Heap}
 use Rattle.g1_words.specs.Valid.{IsValid, AllShaped, IsReference}
 use Rattle.g1_words.specs.declared.region.Region.{Region}
@@ -11,10 +9,11 @@ use Rattle.g1_words.specs.declared.fault.Fault.{Fault}
 use Rattle.g1_words.specs.declared.fault.Fault.TheVariants as fault
 use Rattle.g1_words.specs.declared.fault.Place.TheVariants as place
 use Rattle.g1_words.specs.declared.fault.Stand.TheVariants as stand
-use Rattle.g1_image.specs.Text.{File, Entry}
+use Rattle.g1_image.specs.Text.{File}
 use Rattle.g1_image.specs.Image.{Image, IsImage, IsLog, IsSetOf, IsTextOf, heap_of, file_of, kind_number, entry_of}
 use Rattle.g1_image.specs.Judged.{IsGoodRoot}
-use Rattle.g1_image.specs.Faults.{FileFits, FileFault, FaultOf, IsKnown, KindsKnown, Shaped, RootsGood, SlotsGood, LogsGood, SetGood, IsGoodSlot, IsGoodLogged}
+use Rattle.g1_image.specs.Faults.{FileFault, FaultOf, IsKnown, KindsKnown, Shaped, RootsGood, SlotsGood, LogsGood, SetGood, IsGoodSlot, IsGoodLogged}
+use Rattle.g1_image.proofs.FileOf.{file_fits, heap_of_file}
 use Rattle.g1_image.proofs.OneVerdict.{fault_of_whole}
 
 -- a file that keeps the rules of every stage
@@ -73,6 +72,5 @@ file_good i g e = record {
 }
 
 -- an image's text has no fault
-pub no_fault : ((i : Image) → IsImage i → FileFits (file_of i)) → ((i : Image) → IsImage i → heap_of (file_of i) ≡ i.heap) →
-    (bytes : List ℕ) (i : Image) (e : Fault) → IsTextOf bytes i → FaultOf bytes e → ⊥
-no_fault fits heap bytes i e t x = good_file (file_of i) e (file_good i t.0 (heap i t.0)) (fault_of_whole bytes (file_of i) e (fits i t.0) t.1 x)
+pub no_fault : (bytes : List ℕ) (i : Image) (e : Fault) → IsTextOf bytes i → FaultOf bytes e → ⊥
+no_fault bytes i e t x = good_file (file_of i) e (file_good i t.0 (heap_of_file i t.0)) (fault_of_whole bytes (file_of i) e (file_fits i t.0) t.1 x)

@@ -1,5 +1,5 @@
 -- Bytes have one fault at most, and those of a whole file no fault but the file's.
-use Rattle.std.proofs.Common.{◌≡◌, ◌<◌, ◌+◌, ℕ, ◌⊎◌, inl, inr, List, [], ◌++◌, length, slice_index, arith, refl, sym, ap, subst, ◌∙◌, append_assoc, length-append}
+use Rattle.std.proofs.Common.{◌≡◌, ◌<◌, ℕ, ◌⊎◌, inl, inr, List, [], ◌++◌, length, slice_index, arith, refl, sym, ap, subst, ◌∙◌, append_assoc, length-append}
 use Rattle.std.proofs.lemmas.List.{append-nil, append_cancel_left, get_or_append_left}
 use Rattle.g1_words.specs.declared.fault.Fault.{Fault}
 use Rattle.g1_words.specs.declared.fault.Fault.TheVariants as fault
@@ -131,6 +131,7 @@ Cases bytes e =
     ⊎ (((e ≡ fault.Trailing) × FaultOf bytes fault.Trailing)
     ⊎ Whole bytes e)))
 
+-- which of them it is
 cases_of : (bytes : List ℕ) (e : Fault) → FaultOf bytes e → Cases bytes e
 cases_of bytes fault.Magic x = inl (refl, x)
 cases_of bytes fault.Short x = inr (inl (refl, x))

@@ -1,5 +1,5 @@
 -- Of bytes it can be told whether they are a whole file's text, and else which fault they have.
-use Rattle.std.proofs.Common.{◌≡◌, ◌<◌, ◌≤◌, ◌+◌, ◌*◌, ◌^◌, ℕ, ◌⊎◌, inl, inr, List, [], ◌∷◌, ◌++◌, length, take, drop, slice_index, arith, refl, sym, ap, ◌∙◌, append_assoc, length-append, length-drop}
+use Rattle.std.proofs.Common.{◌≡◌, ◌<◌, ◌≤◌, ◌+◌, ◌*◌, ◌^◌, ℕ, ◌⊎◌, inl, inr, List, ◌++◌, length, take, drop, slice_index, arith, refl, sym, ap, ◌∙◌, append_assoc, length-drop}
 use Rattle.std.specs.Int.{IsPowerOfTwo}
 use Rattle.std.specs.Int.Count.{ones}
 use Rattle.std.proofs.lemmas.Bool.{cases_lt}
@@ -10,13 +10,13 @@ use Rattle.g1_words.specs.declared.fault.Fault.{Fault}
 use Rattle.g1_words.specs.declared.fault.Fault.TheVariants as fault
 use Rattle.g1_image.specs.declared.cursor.Heading.{Heading}
 use Rattle.g1_image.specs.Text.{Entry, u32, u64, magic, heading_text, table_text, words_text, numbers_text, sets_text, entry_text, set_text, total}
-use Rattle.g1_image.specs.Reading.{Are, IsU32, IsU64, IsBytes}
+use Rattle.g1_image.specs.Reading.{IsU64, IsBytes}
 use Rattle.g1_image.specs.Faults.{HeadingFits, IsGoodHeading, EntryFits, SetFits, FaultOf}
 use Rattle.g1_image.specs.Plain.{PlainIs}
 use Rattle.g1_image.proofs.Numbers.{u32_read, u64_once}
 use Rattle.g1_image.proofs.Parts.{entry_free, set_free}
 use Rattle.g1_image.proofs.Used.{agree}
-use Rattle.g1_image.proofs.Files.{suffix, short_table, short_roots, short_log, short_sets, short_words, words_are_bytes, trailing, plain_is}
+use Rattle.g1_image.proofs.Files.{suffix, short_table, short_roots, short_log, short_sets, short_words, trailing, plain_is}
 use Rattle.g1_image.proofs.Decided.{Decided, decided_as, decided_both, decided_under, decided_lt, decided_le, decided_eq, first_breach}
 use Rattle.g1_image.proofs.ToldTexts.{told_u64, told_many, told_numbers, told_entry, told_set}
 
@@ -60,7 +60,7 @@ decided_heading h =
     (decided_both (IsWithinLimits h.w h.k h.n) ((h.roots ≤ 65536) × (h.current ≤ h.n)) (decided_limits h.w h.k h.n)
     (decided_both (h.roots ≤ 65536) (h.current ≤ h.n) (decided_le h.roots 65536) (decided_le h.current h.n)))
 
--- the number of 32 bits at the front of enough bytes
+-- a number of 32 bits, and the bytes behind it
 record Number (bytes : List ℕ) : Type 0 where
   x : ℕ
   rest : List ℕ
@@ -69,6 +69,7 @@ record Number (bytes : List ℕ) : Type 0 where
   left : length bytes ≡ 4 + length rest
   are_bytes : IsBytes rest
 
+-- the number at the front of enough bytes
 number : (bytes : List ℕ) → IsBytes bytes → 4 ≤ length bytes → Number bytes
 number bytes b le =
     let r = u32_read bytes (take 4 bytes) (drop 4 bytes) (little_number 4 (take 4 bytes)) le b refl refl refl in

@@ -1,5 +1,5 @@
 -- Of bytes it can be told whether they begin with a text of some kind.
-use Rattle.std.proofs.Common.{◌≡◌, ◌<◌, ◌≤◌, ◌^◌, ℕ, zero, suc, ◌⊎◌, inl, inr, List, [], ◌∷◌, ◌++◌, length, take, drop, slice_index_or, arith, refl, sym, ap, ◌∙◌, append_assoc}
+use Rattle.std.proofs.Common.{◌≡◌, ◌<◌, ◌^◌, ℕ, zero, suc, ◌⊎◌, inl, inr, List, [], ◌∷◌, ◌++◌, length, take, drop, slice_index_or, arith, refl, sym, ap, ◌∙◌, append_assoc}
 use Rattle.std.specs.Prelude.{flat_map}
 use Rattle.std.proofs.lemmas.Bool.{cases_lt}
 use Rattle.std.proofs.lemmas.List.{append-nil}
@@ -41,11 +41,12 @@ told_u64 bytes b = elim (cases_lt (length bytes) 8) [
 ]
 
 module _ {Y : Type 0} (fits : Y → Type 0) (text : Y → List ℕ) (free : IsPrefixFree fits text) (told : (bytes : List ℕ) → IsBytes bytes → Told fits text bytes) where
-  -- one more in front
+  -- each of them, and one more in front, fits
   each_more : (y : Y) (ys : List Y) → fits y → ((k : ℕ) (d : Y) → k < length ys → fits (slice_index_or ys k d)) → (k : ℕ) (d : Y) → k < length (y ∷ ys) → fits (slice_index_or (y ∷ ys) k d)
   each_more y ys f each zero d lt = f
   each_more y ys f each (suc k) d lt = each k d (omega (arith, lt))
 
+  -- one more of so many
   are_more : (n : ℕ) (y : Y) (ys : List Y) → fits y → Are fits n ys → Are fits (suc n) (y ∷ ys)
   are_more n y ys f a = record { how_many = omega (arith, a.how_many); each = each_more y ys f a.each }
 
