@@ -1,5 +1,10 @@
+ghost use Rattle.std.specs.Prelude.{◌≡◌};
+ghost use Rattle.g1_image.specs.Text.{file_text};
+ghost use Rattle.g1_image.specs.Image.{file_of};
+ghost use Rattle.g1_image.specs.Worked.{one_object, one_object_text, one_object_moves, one_object_moves_text, dead_slot, dead_slot_text, dead_slot_keeps_its_target, dead_slot_keeps_its_target_text};
 ghost use Rattle.g1_image.specs.After.{ToSpaceObjects, ObjectsAfter, ValidAfter, CoveredAfter, ImageExists, RefsAfter, ExactByRefs, TrackedAfter};
-ghost use Rattle.g1_image.specs.Laws.{CardsInRegions, CardsRise, ExactSet, RefinedSet, CoveredImage, UncoveredSlots, UncoveredRise, OneImageAfter, GraphStays, NothingIntoSet, OneFile, OneText, OneFileFault};
+ghost use Rattle.g1_image.specs.Laws.{CardsInRegions, CardsRise, ExactSet, RefinedSet, CoveredImage, UncoveredSlots, UncoveredRise, OneImageAfter, GraphStays, NothingIntoSet, OneFile, OneImage, OneText};
+ghost use Rattle.g1_image.specs.Verdict.{OneFault, NoFaultOfText, AlwaysOne};
 
 /// What the cards of an image tell.
 pub fn card_sets()
@@ -39,13 +44,24 @@ pub fn after()
     ensures tracked { TrackedAfter }
 {}
 
-/// The bytes are the text of one file at most, and an image has one text.
+/// Bytes are the text of one file and of one image at most, and an image has one text.
 pub fn one_text()
     ensures file { OneFile }
+    ensures image { OneImage }
     ensures text { OneText }
 {}
 
-/// A whole file has one fault at most.
+/// Bytes are an image's text or have a fault, never both, and one fault at most.
 pub fn one_fault()
-    ensures { OneFileFault }
+    ensures one { OneFault }
+    ensures none_of_text { NoFaultOfText }
+    ensures always { AlwaysOne }
+{}
+
+/// The texts of four small images, before and after a pause, byte by byte.
+pub fn worked_texts()
+    ensures one_object { file_text (file_of one_object) ≡ one_object_text }
+    ensures one_object_moves { file_text (file_of one_object_moves) ≡ one_object_moves_text }
+    ensures dead_slot { file_text (file_of dead_slot) ≡ dead_slot_text }
+    ensures dead_slot_keeps_its_target { file_text (file_of dead_slot_keeps_its_target) ≡ dead_slot_keeps_its_target_text }
 {}
