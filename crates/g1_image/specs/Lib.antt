@@ -14,4 +14,3 @@ pub mod Made
 pub mod After
 pub mod Laws
 pub mod Verdict
-pub mod Worked

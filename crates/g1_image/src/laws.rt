@@ -1,7 +1,3 @@
-ghost use Rattle.std.specs.Prelude.{◌≡◌};
-ghost use Rattle.g1_image.specs.Text.{file_text};
-ghost use Rattle.g1_image.specs.Image.{file_of};
-ghost use Rattle.g1_image.specs.Worked.{one_object, one_object_text, one_object_moves, one_object_moves_text, dead_slot, dead_slot_text, dead_slot_keeps_its_target, dead_slot_keeps_its_target_text};
 ghost use Rattle.g1_image.specs.After.{ToSpaceObjects, ObjectsAfter, ValidAfter, CoveredAfter, ImageExists, RefsAfter, ExactByRefs, TrackedAfter};
 ghost use Rattle.g1_image.specs.Laws.{CardsInRegions, CardsRise, ExactSet, RefinedSet, CoveredImage, UncoveredSlots, UncoveredRise, OneImageAfter, GraphStays, NothingIntoSet, OneFile, OneImage, OneText};
 ghost use Rattle.g1_image.specs.Verdict.{OneFault, NoFaultOfText, AlwaysOne};
@@ -56,12 +52,4 @@ pub fn one_fault()
     ensures one { OneFault }
     ensures none_of_text { NoFaultOfText }
     ensures always { AlwaysOne }
-{}
-
-/// The texts of four small images, before and after a pause, byte by byte.
-pub fn worked_texts()
-    ensures one_object { file_text (file_of one_object) ≡ one_object_text }
-    ensures one_object_moves { file_text (file_of one_object_moves) ≡ one_object_moves_text }
-    ensures dead_slot { file_text (file_of dead_slot) ≡ dead_slot_text }
-    ensures dead_slot_keeps_its_target { file_text (file_of dead_slot_keeps_its_target) ≡ dead_slot_keeps_its_target_text }
 {}

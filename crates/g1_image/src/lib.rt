@@ -23,4 +23,4 @@ mod writing;
 pub use decoding::decode;
 pub use encoding::encode;
 pub use image::Image;
-pub use laws::{after, card_sets, cover, one_fault, one_image, one_text, same_graph, worked_texts};
+pub use laws::{after, card_sets, cover, one_fault, one_image, one_text, same_graph};
