@@ -6,6 +6,7 @@ pub mod Sequence
 pub mod Parts
 pub mod Words
 pub mod Files
+pub mod Written
 pub mod Tests
 pub mod Tiled
 pub mod Runs

@@ -1,6 +1,10 @@
-use Rattle.std.proofs.Common.{◌≡◌}
+use Rattle.std.proofs.Common.{◌≡◌, ◌++◌, length, map, ◌∙◌}
 use Rattle.g1_words.proofs.Objects.{tops_fit}
+use Rattle.g1_image.specs.declared.cursor.Heading.{Heading}
+use Rattle.g1_image.specs.Text.{heading_of, heading_text, table_text, words_text, numbers_text, sets_text}
+use Rattle.g1_image.specs.Image.{file_of, entry_of, used_words}
 use Rattle.g1_image.proofs.Images.{counts_fit}
+use Rattle.g1_image.proofs.Written.{file_written}
 use Rattle.g1_image.proofs.encoding.encode.Goals as goal
 
 pub push_sets-requires : goal.push_sets-requires
@@ -11,3 +15,32 @@ push_used-requires-clause-tops c =
     let h = c.heap-heap.result.now in
     let width : c.region_words-2.result ≡ h.geometry.w = cc in
     rw (width, c.regions-4.ensures) (tops_fit h c.geometry-geometry.ensures.valid)
+
+pub returns-clause-ok : goal.returns-clause-ok
+returns-clause-ok c =
+    let i = c.args.image.now in
+    let heading : Heading = record {
+      w = c.region_words.result;
+      k = c.card_words.result;
+      n = c.regions.result;
+      roots = length c.roots.result.now;
+      dirty = length c.as_slice-log.result.now;
+      current = c.unwrap_or.result;
+    } in
+    let log : c.as_slice-log.result.now ≡ i.log = c.as_slice-log.ensures.keys ∙ c.log.ensures in
+    let first : heading ≡ heading_of (file_of i) = cc in
+    let table : c.regions-3.result.now ≡ i.heap.regions = cc in
+    let roots : c.roots-2.result.now ≡ i.heap.roots = cc in
+    let width : c.region_words-2.result ≡ i.heap.geometry.w = cc in
+    let regions : c.regions-4.result.now ≡ i.heap.regions = cc in
+    let words : c.words.result.now ≡ i.heap.words = cc in (
+      c.heap-heap.ensures.valid,
+      file_written (file_of i) c.in_ok-out.out.items c.push_heading.new.out.items c.push_table.new.out.items c.push_words.new.out.items c.push_numbers.new.out.items c.push_sets.new.out.items c.push_used.new.out.items
+          c.in_ok-out.ensures.items
+          (c.in_ok-push_heading.ensures.ok ∙ (λ t. c.in_ok-out.out.items ++ heading_text (first t)))
+          (c.in_ok-push_table.ensures.ok ∙ (λ t. c.push_heading.new.out.items ++ table_text (map entry_of (table t))))
+          (c.in_ok-push_words.ensures.ok ∙ (λ t. c.push_table.new.out.items ++ words_text (roots t)))
+          (c.in_ok-push_numbers.ensures.ok ∙ (λ t. c.push_words.new.out.items ++ numbers_text (log t)))
+          (c.in_ok-push_sets.ensures.ok ∙ (λ t. c.push_numbers.new.out.items ++ sets_text (c.sets.ensures t)))
+          (c.in_ok-push_used.ensures.ok ∙ (λ t. c.push_sets.new.out.items ++ words_text (used_words (width t) (regions t) (words t)))),
+    )

@@ -1,4 +1,4 @@
-use Rattle.std.proofs.Common.{◌≡◌, ◌+◌, ◌*◌, ◌^◌, slice_index, sym, ap, ◌∙◌, refl, subst, below_more}
+use Rattle.std.proofs.Common.{◌≡◌, arith, true, false, ◌+◌, ◌*◌, ◌^◌, slice_index, sym, ap, ◌∙◌, refl, subst, below_more}
 use Rattle.g1_words.specs.Heap.{region, start}
 use Rattle.g1_words.specs.Valid.{IsShaped}
 use Rattle.g1_words.specs.declared.object.Object.{Object}
@@ -27,4 +27,12 @@ loop-r-preserved c =
             subst (λ x. Latest h (r + 1) x c.match-region.size) (sym w.first-is) (subst (λ x. Latest h (r + 1) c.loop-r.first x) (sym w.size-is) l)
       ],
       below_more _ _ c.loop-r.invariant.1 good,
+    )
+
+pub returns-then-not-region_shaped-clause-err : goal.returns-then-not-region_shaped-clause-err
+returns-then-not-region_shaped-clause-err c =
+    let n : c.regions-regions.result ≡ c.args.draft.now.geometry.n = cc in (
+      c.loop-r.r,
+      refl,
+      record { within = omega (arith, c.loop-r-test.true, n); breach = λ s. let e : false ≡ true = c.if-not-region_shaped.ensures.1 s in cc; before = c.loop-r.invariant.1 },
     )
