@@ -26,6 +26,8 @@ mod gather;
 mod merge;
 mod rule;
 mod task;
+#[cfg(test)]
+mod tests;
 mod worker;
 
 pub use dealer::{DealSeat, Dealer, shares};
