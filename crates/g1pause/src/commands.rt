@@ -8,8 +8,10 @@ use std::io::{ErrorKind, Read, Write};
 use std::thread::Threads;
 
 /// Runs the program on the words after its name, and gives its exit status: 0, or that of the
-/// refusal which is then told on `errors`. The reader is read to its end, but not before the words
-/// were found to be a request; the writer is written once, and not at all where there is a refusal.
+/// refusal, which is then told on `errors`.
+///
+/// The reader is read to its end, but only once the words were found to be a request. The writer gets
+/// the whole answer by one call, and nothing where there is none.
 pub fn program<R: Read, W: Write, E: Write>(
     _rt: &(impl Threads + Sync),
     alloc: Global,

@@ -1,13 +1,15 @@
 //! Garbage-First evacuation pauses on heap images: the program.
 //!
 //! The words after the program's name are read into a request, the whole of standard input into an
-//! image, and the answer is built in memory and written at once. What stops this on the way is told
-//! on standard error, and nothing is then on standard output.
+//! image, and the answer is built in memory and written at once. A refusal is told on standard error,
+//! and then nothing is on standard output, unless the refusal is that writing there failed.
 #![tactic(auto)]
 
 mod commands;
 mod options;
 mod show;
+#[cfg(test)]
+mod tests;
 
 use crate::commands::{program, refuse};
 use crate::options::Refusal;
