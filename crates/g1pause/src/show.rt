@@ -23,12 +23,11 @@ fn heading(alloc: Global, image: &Image) -> Result<String, AllocError> {
     );
     let roots = heap.roots().len();
     let dirty = image.log().len();
-    match heap.current() {
-        Some(current) => {
-            format!(in alloc; "heap {w} {k} {n} roots {roots} dirty {dirty} current {current}\n")
-        }
-        None => format!(in alloc; "heap {w} {k} {n} roots {roots} dirty {dirty} current none\n"),
-    }
+    let current = match heap.current() {
+        Some(region) => region.to_string(alloc)?,
+        None => String::from_str(alloc, "none")?,
+    };
+    format!(in alloc; "heap {w} {k} {n} roots {roots} dirty {dirty} current {current}\n")
 }
 
 // The lines of the regions from one number up to another.

@@ -164,21 +164,19 @@ fn run<R: Read, W: Write>(
     Ok((status, errors))
 }
 
-// A run on these bytes ends with the status, and writes these texts.
-fn expect<T: Threads + Abort + Sync>(
+fn expect_answer<T: Threads + Abort + Sync>(
     rt: &T,
     alloc: Global,
     line: &str,
     bytes: &[u8],
-    status: u8,
-    texts: (&[u8], &[u8]),
+    answer: &[u8],
 ) -> Result<(), AllocError> {
     let mut reader = bytes;
     let mut out = Vec::new(alloc);
-    let (ended, errors) = run(rt, alloc, line, &mut reader, &mut out)?;
-    assert_eq!(rt; ended, status, "{line} of {bytes:?}");
-    assert_eq!(rt; out.as_slice(), texts.0, "{line} of {bytes:?}");
-    assert_eq!(rt; errors.as_slice(), texts.1, "{line} of {bytes:?}");
+    let (status, errors) = run(rt, alloc, line, &mut reader, &mut out)?;
+    assert_eq!(rt; status, 0, "{line} of {bytes:?}");
+    assert_eq!(rt; out.as_slice(), answer, "{line} of {bytes:?}");
+    assert!(rt; errors.is_empty(), "{line} of {bytes:?}");
     Ok(())
 }
 
@@ -189,8 +187,15 @@ fn expect_fault<T: Threads + Abort + Sync>(
     fault: &str,
 ) -> Result<(), AllocError> {
     let told = format!(in alloc; "g1pause: fault {fault}\n")?;
-    expect(rt, alloc, "show", bytes, 3, (b"", told.as_bytes()))?;
-    expect(rt, alloc, "show --repack", bytes, 3, (b"", told.as_bytes()))
+    for line in ["show", "show --repack"] {
+        let mut reader = bytes;
+        let mut out = Vec::new(alloc);
+        let (status, errors) = run(rt, alloc, line, &mut reader, &mut out)?;
+        assert_eq!(rt; status, 3, "{line} of {bytes:?}");
+        assert!(rt; out.is_empty(), "{line} of {bytes:?}");
+        assert_eq!(rt; errors.as_slice(), told.as_bytes(), "{line} of {bytes:?}");
+    }
+    Ok(())
 }
 
 #[test]
@@ -219,14 +224,7 @@ fn shows_tables(rt: HostRuntime) -> Result<(), Fail> {
         (HUMONGOUS, humongous),
     ] {
         let image = image_of(alloc, tokens)?;
-        expect(
-            &rt,
-            alloc,
-            "show",
-            image.as_slice(),
-            0,
-            (table.as_bytes(), b""),
-        )?;
+        expect_answer(&rt, alloc, "show", image.as_slice(), table.as_bytes())?;
     }
     Ok(())
 }
@@ -243,13 +241,12 @@ fn packs_again_byte_for_byte(rt: HostRuntime) -> Result<(), Fail> {
         HUMONGOUS,
     ] {
         let image = image_of(alloc, tokens)?;
-        expect(
+        expect_answer(
             &rt,
             alloc,
             "show --repack",
             image.as_slice(),
-            0,
-            (image.as_slice(), b""),
+            image.as_slice(),
         )?;
     }
     Ok(())
@@ -287,14 +284,12 @@ fn a_changed_byte_is_refused_or_kept(rt: HostRuntime) -> Result<(), Fail> {
             let (status, errors) = run(&rt, alloc, "show --repack", &mut reader, &mut out)?;
             let kept = out.as_slice() == image.as_slice() && errors.is_empty();
             let refused = out.is_empty() && errors.starts_with(b"g1pause: fault ");
-            assert!(rt;
-                if status == 0 {
-                    kept
-                } else {
-                    status == 3 && refused
-                },
-                "{byte} at {at}"
-            );
+            let expected = if status == 0 {
+                kept
+            } else {
+                status == 3 && refused
+            };
+            assert!(rt; expected, "{byte} at {at}");
         }
         image[at] = was;
     }
