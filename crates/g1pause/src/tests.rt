@@ -1,0 +1,424 @@
+use crate::commands::program;
+use std::alloc::{AllocError, Global};
+use std::io;
+use std::io::{ErrorKind, Read, Write};
+use std::process::Abort;
+use std::test::Fail;
+use std::thread::Threads;
+
+// Images without their magic: N is a number of 4 bytes, =N a word, S/R the header of an object of
+// S words with R references, and 0*N stands for N words that are 0.
+static ONE_OBJECT: &str = "16 4 4 1 0 4  0 0 1 4 0 0 0 0  =17  0 0 0 0  4/1 =0 =7 =9";
+
+static ONE_OBJECT_MOVED: &str = "16 4 4 1 0 4  1 4 0 0 0 0 0 0  =1  0 0 0 0  4/1 =0 =7 =9";
+
+static DEAD_OWNER: &str = "16 4 4 0 0 4  1 2 1 3 0 0 0 0  0 1 0 0 0  2/1 =17 3/0 =1 =2";
+
+static DEAD_OWNER_MOVED: &str = "16 4 4 0 0 4  1 2 0 0 1 3 0 0  0 0 1 0 0  2/1 =33 3/0 =1 =2";
+
+static DIRTY: &str = "16 4 4 1 1 0  1 2 0 0 0 0 0 0  =1  0  0 0 0 0  2/1 =0";
+
+static HUMONGOUS: &str =
+    "16 4 6 1 0 6  2 16 3 16 3 8 1 2 0 0 0 0  =1  0 0 0 1 4 0 0  40/20 0*16 =49 0*22 2/0 =4";
+
+// Malformed images, and what is told of each.
+static MALFORMED: [(&str, &str); 25] = [
+    (
+        "24 4 4 1 0 4  0 0 1 4 0 0 0 0  =17  0 0 0 0  4/1 =0 =7 =9",
+        "2: geometry",
+    ),
+    (
+        "16 32 4 1 0 4  0 0 1 4 0 0 0 0  =17  0 0 0 0  4/1 =0 =7 =9",
+        "2: geometry",
+    ),
+    (
+        "65536 64 257 1 0 4  0 0 1 4 0 0 0 0  =17  0 0 0 0  4/1 =0 =7 =9",
+        "2: geometry",
+    ),
+    (
+        "65536 64 256 1 0 4  0 0 1 4 0 0 0 0  =17  0 0 0 0  4/1 =0 =7 =9",
+        "3: short",
+    ),
+    ("16 4 4 0 4294967295 4", "3: short"),
+    (
+        "16 4 4 0 0 4  1 2 1 3 0 0 0 0  0 1 0 0 4294967295  2/1 =17 3/0 =1 =2",
+        "3: short",
+    ),
+    (
+        "16 4 4 1 0 4  0 0 1 4 4 0 0 0  =17  0 0 0 0  4/1 =0 =7 =9",
+        "5: kind of region 2",
+    ),
+    (
+        "16 4 4 0 0 4  1 13 0 0 0 0 0 0  0 0 0 0  13/0 0*12",
+        "6: shape of region 0",
+    ),
+    (
+        "16 4 4 0 0 4  2 12 0 0 0 0 0 0  0 0 0 0  12/0 0*11",
+        "6: shape of region 0",
+    ),
+    (
+        "16 4 4 0 0 4  2 16 2 16 0 0 0 0  0 0 0 0  40/0 0*15 40/0 0*15",
+        "6: shape of region 0",
+    ),
+    (
+        "16 4 2 0 0 2  2 16 3 16  0 0  40/0 0*31",
+        "6: shape of region 0",
+    ),
+    (
+        "16 4 4 0 0 4  2 16 3 16 3 8 3 4  0 0 0 0  40/0 0*43",
+        "6: shape of region 3",
+    ),
+    (
+        "16 4 2 0 0 2  1 2 3 4  0 0  2/0 0*5",
+        "6: shape of region 1",
+    ),
+    (
+        "16 4 4 0 0 4  2 16 0 0 0 0 0 0  0 0 0 0  4294967295/0 0*15",
+        "6: shape of region 0",
+    ),
+    (
+        "16 4 4 1 0 4  0 0 1 4 0 0 0 0  =18  0 0 0 0  4/1 =0 =7 =9",
+        "7: reference in root 0",
+    ),
+    (
+        "16 4 6 1 0 6  2 16 3 16 3 8 1 2 0 0 0 0  =17  0 0 0 1 4 0 0  40/20 0*16 =49 0*22 2/0 =4",
+        "7: reference in root 0",
+    ),
+    (
+        "16 4 4 0 0 4  1 2 1 3 0 0 0 0  0 1 0 0 0  2/1 =18 3/0 =1 =2",
+        "7: reference in slot 1",
+    ),
+    (
+        "16 4 4 0 0 4  1 2 1 3 0 0 0 0  0 1 0 0 0  2/1 =65 3/0 =1 =2",
+        "7: reference in slot 1",
+    ),
+    (
+        "16 4 4 0 0 4  1 2 1 3 0 0 0 0  0 1 0 0 0  2/1 =18446744073709551615 3/0 =1 =2",
+        "7: reference in slot 1",
+    ),
+    (
+        "16 4 4 2 2 4  1 6 1 7 0 0 0 0  =22 =17  0 0  0 2 0 1 0 0  4/1 =22 =1 =2 2/1 =22 5/3 =22 =22 =22 =1 2/0 =8",
+        "8: card in log place 1",
+    ),
+    (
+        "16 4 4 2 0 4  1 6 1 7 0 0 0 0  =22 =17  0 2 1 0 0 0  4/1 =22 =1 =2 2/1 =22 5/3 =22 =22 =22 =1 2/0 =8",
+        "8: card of region 1",
+    ),
+    (
+        "16 4 4 2 0 4  1 6 1 7 0 0 0 0  =22 =17  0 2 0 0 0 0  4/1 =22 =1 =2 2/1 =22 5/3 =22 =22 =22 =1 2/0 =8",
+        "8: card of region 1",
+    ),
+    (
+        "16 4 4 2 0 4  1 6 1 7 0 0 0 0  =22 =17  0 2 0 16 0 0  4/1 =22 =1 =2 2/1 =22 5/3 =22 =22 =22 =1 2/0 =8",
+        "8: card of region 1",
+    ),
+    (
+        "16 4 4 2 0 4  1 6 1 7 0 0 0 0  =22 =17  0 2 0 12 0 0  4/1 =22 =1 =2 2/1 =22 5/3 =22 =22 =22 =1 2/0 =8",
+        "8: card of region 1",
+    ),
+    (
+        "16 4 4 2 0 4  1 6 1 7 0 0 0 0  =22 =17  0 2 0 4 0 0  4/1 =22 =1 =2 2/1 =22 5/3 =22 =22 =22 =1 2/0 =8",
+        "8: card of region 1",
+    ),
+];
+
+fn push_token(image: &mut Vec<u8>, token: &str) -> Result<(), Fail> {
+    if let Some((_zero, count)) = token.split_once('*') {
+        for _ in 0..count.parse::<u32>()? {
+            image.extend_from_slice(&[0; 8])?;
+        }
+    } else if let Some((size, refs)) = token.split_once('/') {
+        image.extend_from_slice(&refs.parse::<u32>()?.to_le_bytes())?;
+        image.extend_from_slice(&size.parse::<u32>()?.to_le_bytes())?;
+    } else if let Some(word) = token.strip_prefix('=') {
+        image.extend_from_slice(&word.parse::<u64>()?.to_le_bytes())?;
+    } else {
+        image.extend_from_slice(&token.parse::<u32>()?.to_le_bytes())?;
+    }
+    Ok(())
+}
+
+fn image_of(alloc: Global, tokens: &str) -> Result<Vec<u8>, Fail> {
+    let mut image = Vec::from_slice(alloc, b"G1IMAGE1")?;
+    for token in tokens.split_ascii_whitespace() {
+        push_token(&mut image, token)?;
+    }
+    Ok(image)
+}
+
+// Runs the program on words that are separated by spaces, and gives its status and what it wrote to
+// standard error.
+fn run<R: Read, W: Write>(
+    rt: &(impl Threads + Sync),
+    alloc: Global,
+    line: &str,
+    reader: &mut R,
+    writer: &mut W,
+) -> Result<(u8, Vec<u8>), AllocError> {
+    let mut words = Vec::new(alloc);
+    for word in line.split_ascii_whitespace() {
+        words.push(String::from_str(alloc, word)?)?;
+    }
+    let mut errors = Vec::new(alloc);
+    let status = program(rt, alloc, words.as_slice(), reader, writer, &mut errors);
+    Ok((status, errors))
+}
+
+fn expect_answer<T: Threads + Abort + Sync>(
+    rt: &T,
+    alloc: Global,
+    line: &str,
+    bytes: &[u8],
+    answer: &[u8],
+) -> Result<(), AllocError> {
+    let mut reader = bytes;
+    let mut out = Vec::new(alloc);
+    let (status, errors) = run(rt, alloc, line, &mut reader, &mut out)?;
+    assert_eq!(rt; status, 0, "{line} of {bytes:?}");
+    assert_eq!(rt; out.as_slice(), answer, "{line} of {bytes:?}");
+    assert!(rt; errors.is_empty(), "{line} of {bytes:?}");
+    Ok(())
+}
+
+fn expect_fault<T: Threads + Abort + Sync>(
+    rt: &T,
+    alloc: Global,
+    bytes: &[u8],
+    fault: &str,
+) -> Result<(), AllocError> {
+    let told = format!(in alloc; "g1pause: fault {fault}\n")?;
+    for line in ["show", "show --repack"] {
+        let mut reader = bytes;
+        let mut out = Vec::new(alloc);
+        let (status, errors) = run(rt, alloc, line, &mut reader, &mut out)?;
+        assert_eq!(rt; status, 3, "{line} of {bytes:?}");
+        assert!(rt; out.is_empty(), "{line} of {bytes:?}");
+        assert_eq!(rt; errors.as_slice(), told.as_bytes(), "{line} of {bytes:?}");
+    }
+    Ok(())
+}
+
+#[test]
+fn shows_tables(rt: HostRuntime) -> Result<(), Fail> {
+    let alloc = rt.alloc();
+    let one_object = "heap 16 4 4 roots 1 dirty 0 current none\n\
+        region 0 free top 0 objects 0 cards 0\n\
+        region 1 ordinary top 4 objects 1 cards 0\n\
+        region 2 free top 0 objects 0 cards 0\n\
+        region 3 free top 0 objects 0 cards 0\n";
+    let dirty = "heap 16 4 4 roots 1 dirty 1 current 0\n\
+        region 0 ordinary top 2 objects 1 cards 0\n\
+        region 1 free top 0 objects 0 cards 0\n\
+        region 2 free top 0 objects 0 cards 0\n\
+        region 3 free top 0 objects 0 cards 0\n";
+    let humongous = "heap 16 4 6 roots 1 dirty 0 current none\n\
+        region 0 humongous top 16 objects 1 cards 0\n\
+        region 1 continuation top 16 objects 0 cards 0\n\
+        region 2 continuation top 8 objects 0 cards 0\n\
+        region 3 ordinary top 2 objects 1 cards 1\n\
+        region 4 free top 0 objects 0 cards 0\n\
+        region 5 free top 0 objects 0 cards 0\n";
+    for (tokens, table) in [
+        (ONE_OBJECT, one_object),
+        (DIRTY, dirty),
+        (HUMONGOUS, humongous),
+    ] {
+        let image = image_of(alloc, tokens)?;
+        expect_answer(&rt, alloc, "show", image.as_slice(), table.as_bytes())?;
+    }
+    Ok(())
+}
+
+#[test]
+fn packs_again_byte_for_byte(rt: HostRuntime) -> Result<(), Fail> {
+    let alloc = rt.alloc();
+    for tokens in [
+        ONE_OBJECT,
+        ONE_OBJECT_MOVED,
+        DEAD_OWNER,
+        DEAD_OWNER_MOVED,
+        DIRTY,
+        HUMONGOUS,
+    ] {
+        let image = image_of(alloc, tokens)?;
+        expect_answer(
+            &rt,
+            alloc,
+            "show --repack",
+            image.as_slice(),
+            image.as_slice(),
+        )?;
+    }
+    Ok(())
+}
+
+#[test]
+fn names_the_first_fault(rt: HostRuntime) -> Result<(), Fail> {
+    let alloc = rt.alloc();
+    for (tokens, fault) in MALFORMED {
+        let image = image_of(alloc, tokens)?;
+        expect_fault(&rt, alloc, image.as_slice(), fault)?;
+    }
+    expect_fault(&rt, alloc, b"H", "1: magic")?;
+    for tokens in [ONE_OBJECT, DEAD_OWNER] {
+        let mut image = image_of(alloc, tokens)?;
+        for cut in 0..image.len() {
+            expect_fault(&rt, alloc, &image[..cut], "3: short")?;
+        }
+        image.push(0)?;
+        expect_fault(&rt, alloc, image.as_slice(), "4: trailing")?;
+    }
+    Ok(())
+}
+
+#[test]
+fn a_changed_byte_is_refused_or_kept(rt: HostRuntime) -> Result<(), Fail> {
+    let alloc = rt.alloc();
+    let mut image = image_of(alloc, DEAD_OWNER)?;
+    for at in 0..image.len() {
+        let was = image[at];
+        for byte in 0..=255u8 {
+            image[at] = byte;
+            let mut reader = image.as_slice();
+            let mut out = Vec::new(alloc);
+            let (status, errors) = run(&rt, alloc, "show --repack", &mut reader, &mut out)?;
+            let kept = out.as_slice() == image.as_slice() && errors.is_empty();
+            let refused = out.is_empty() && errors.starts_with(b"g1pause: fault ");
+            let expected = if status == 0 {
+                kept
+            } else {
+                status == 3 && refused
+            };
+            assert!(rt; expected, "{byte} at {at}");
+        }
+        image[at] = was;
+    }
+    Ok(())
+}
+
+// Gives or takes a byte a call, and fails once it has been called `left` times.
+#[derive(Drop)]
+struct Failing {
+    bytes: Vec<u8>,
+    left: usize,
+}
+
+impl Failing {
+    fn turn(&mut self) -> io::Result<()> {
+        if self.left == 0 {
+            return Err(io::Error::from(ErrorKind::Other));
+        }
+        self.left -= 1;
+        Ok(())
+    }
+}
+
+impl Read for Failing {
+    fn read(&mut self, buf: &mut [u8]) -> io::Result<usize> {
+        self.turn()?;
+        if self.bytes.is_empty() || buf.is_empty() {
+            return Ok(0);
+        }
+        buf[0] = self.bytes.remove(0);
+        Ok(1)
+    }
+}
+
+impl Write for Failing {
+    fn write(&mut self, buf: &[u8]) -> io::Result<usize> {
+        self.turn()?;
+        let taken = buf.len().min(1);
+        self.bytes.extend_from_slice(&buf[..taken])?;
+        Ok(taken)
+    }
+
+    fn flush(&mut self) -> io::Result<()> {
+        self.turn()
+    }
+}
+
+#[test]
+fn devices_fail_at_each_byte(rt: HostRuntime) -> Result<(), Fail> {
+    let alloc = rt.alloc();
+    let image = image_of(alloc, ONE_OBJECT)?;
+    // The last call finds the end of the input, or flushes the output.
+    let calls = image.len() + 1;
+    for left in 0..=calls {
+        let status = if left < calls { 6 } else { 0 };
+        let mut reader = Failing {
+            bytes: image.clone()?,
+            left,
+        };
+        let mut out = Vec::new(alloc);
+        let (ended, errors) = run(&rt, alloc, "show --repack", &mut reader, &mut out)?;
+        let told = if left < calls {
+            "g1pause: fault 14: input\n"
+        } else {
+            ""
+        };
+        assert_eq!(rt; ended, status, "{left}");
+        assert_eq!(rt; out.is_empty(), left < calls, "{left}");
+        assert_eq!(rt; errors.as_slice(), told.as_bytes(), "{left}");
+
+        let mut reader = image.as_slice();
+        let mut writer = Failing {
+            bytes: Vec::new(alloc),
+            left,
+        };
+        let (ended, errors) = run(&rt, alloc, "show --repack", &mut reader, &mut writer)?;
+        let told = if left < calls {
+            "g1pause: fault 14: output\n"
+        } else {
+            ""
+        };
+        assert_eq!(rt; ended, status, "{left}");
+        assert_eq!(rt;
+            writer.bytes.as_slice(),
+            &image[..left.min(image.len())],
+            "{left}"
+        );
+        assert_eq!(rt; errors.as_slice(), told.as_bytes(), "{left}");
+    }
+    Ok(())
+}
+
+#[test]
+fn usage_faults_come_before_the_input(rt: HostRuntime) -> Result<(), Fail> {
+    let alloc = rt.alloc();
+    let refused = [
+        "",
+        "frob",
+        "check",
+        "live",
+        "choose --budget 1",
+        "pause 1",
+        "run",
+        "show 1",
+        "show --repack=1",
+        "show --repack --repack",
+        "show --workers 1",
+        "show --chunk 1",
+        "--version",
+    ];
+    for line in refused {
+        let mut reader = Failing {
+            bytes: Vec::new(alloc),
+            left: 0,
+        };
+        let mut out = Vec::new(alloc);
+        let (status, errors) = run(&rt, alloc, line, &mut reader, &mut out)?;
+        assert_eq!(rt; status, 2, "{line}");
+        assert!(rt; out.is_empty() && errors.starts_with(b"error: "), "{line}");
+    }
+    for line in ["--help", "-h", "help", "show --help", "help show"] {
+        let mut reader = Failing {
+            bytes: Vec::new(alloc),
+            left: 0,
+        };
+        let mut out = Vec::new(alloc);
+        let (status, errors) = run(&rt, alloc, line, &mut reader, &mut out)?;
+        assert_eq!(rt; status, 0, "{line}");
+        assert!(rt; !out.is_empty() && errors.is_empty(), "{line}");
+    }
+    Ok(())
+}
