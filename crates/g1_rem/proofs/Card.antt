@@ -13,13 +13,14 @@ use Rattle.g1_words.proofs.Members.{In, In-from_contains, Contains-from_in, In-a
 use Rattle.g1_words.proofs.Tiling.{Tiles-le, Tiles-append, Tiles-stands, same_object}
 use Rattle.g1_words.proofs.Objects.{StandsIn, object_stands, object_place, div_between, region_in_words}
 use Rattle.g1_words.proofs.Computed.{holds_are, contains_has, has_contains, in_region_has, range_above, range_below}
-use Rattle.g1_words.proofs.Sound.{has_is}
+use Rattle.g1_words.proofs.Sound.{has_is, stands_object}
+use Rattle.g1_words.proofs.Bounds.{cards_in_region}
 use Rattle.g1_rem.specs.Starts.{Covers, IsOver, card_count}
 use Rattle.g1_rem.specs.Slots.{slots_on, all_slots, is_between}
 use Rattle.g1_rem.specs.Marks.{Chain}
 use Rattle.g1_rem.proofs.Rising.{Rises, Rises-weaken, Rises-filter, Rises-one}
 use Rattle.g1_rem.proofs.Order.{Chain-apart, Chain-above, Chain-tiles, Chain-slots, objects_chain, object_fits}
-use Rattle.g1_rem.proofs.Marks.{cards_in_region, cards_fill}
+use Rattle.g1_rem.proofs.Marks.{cards_fill}
 use Rattle.g1_rem.proofs.Scan.{between_is, is_between_there, Tiles-one}
 
 pub slot_in : (o : Object) (p : ℕ) → In (slots o) p → (o.at < p) × (p ≤ o.at + o.refs)
@@ -57,7 +58,7 @@ module _ (h : Heap) (valid : IsValid h) where
     -- the card ends no later than its region
     card_within : (r : ℕ) → lo < start h r + h.geometry.w → hi ≤ start h r + h.geometry.w
     card_within r lt =
-        let m = cards_in_region h valid in
+        let m = cards_in_region h.geometry.w h.geometry.k h.geometry.n valid.limits in
         let e : start h r + h.geometry.w ≡ (r * m.0 + m.0) * h.geometry.k = omega (arith, ap (λ x. r * x + x) m.1) in
         elim (cases_lt c (r * m.0 + m.0)) [
           | inl less ↦ (let ge : c + 1 ≤ r * m.0 + m.0 = omega (arith, less) in omega (arith, mul-le-mul_right h.geometry.k ge, e, at, until))
@@ -225,15 +226,9 @@ module _ (h : Heap) (valid : IsValid h) where
           ]
       alone_by Continuation o p not e s t i sl le lt = absurd t
 
-      object_there : (k : Kind) (r : ℕ) (o : Object) → StandsIn k h r o → IsObject h.words o
-      object_there Free r o t = absurd t
-      object_there Ordinary r o t = t.object
-      object_there HumongousFirst r o t = t.1
-      object_there Continuation r o t = absurd t
-
       pub alone_on : kind h (a / h.geometry.w) ≢ Ordinary → Reaches h.words a (a + (object_at h a).size) × ((os : List Object) → Tiles h.words a os (a + (object_at h a).size) → filter (is_between lo hi) (flat_map slots os) ≡ slots_on h c)
       alone_on not =
-          let it : IsObject h.words (object_at h a) = object_there (kind h (a / h.geometry.w)) (a / h.geometry.w) (object_at h a) here.1 in
+          let it : IsObject h.words (object_at h a) = stands_object (kind h (a / h.geometry.w)) h (a / h.geometry.w) (object_at h a) here.1 in
           let row : Tiles h.words a (object_at h a ∷ []) (a + (object_at h a).size) = (refl, it, refl) in
           ((object_at h a ∷ [], row),
           λ os u.

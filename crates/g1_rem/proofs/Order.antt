@@ -1,19 +1,16 @@
 -- The objects of a heap come one after another.
-use Rattle.std.proofs.Common.{◌≡◌, ◌≤◌, ◌<◌, ℕ, zero, suc, ◌+◌, ◌-◌, ◌*◌, ◌/◌, ◌%◌, ◌⊎◌, inl, inr, List, [], ◌∷◌, ◌++◌, flat_map, Contains, arith, refl, sym, ap, subst, ◌∙◌, div-add-mod'}
-use Rattle.std.specs.List.{range_with_len}
-use Rattle.std.proofs.lemmas.Bool.{cases_lt}
-use Rattle.std.proofs.Math.Nat.{mul-le-mul_left}
+use Rattle.std.proofs.Common.{◌≡◌, ◌≤◌, ◌<◌, ℕ, ◌+◌, ◌*◌, inl, inr, List, [], ◌∷◌, ◌++◌, flat_map, Contains, arith, refl, sym, ap, subst}
 use Rattle.g1_words.specs.declared.object.Object.{Object}
-use Rattle.g1_words.specs.declared.region.Kind.{Kind}
-use Rattle.g1_words.specs.declared.region.Kind.TheVariants.{Free, Ordinary, HumongousFirst, Continuation}
-use Rattle.g1_words.specs.Heap.{Heap, region, kind, top, start, end, regions, objects, objects_in, object_at, slots}
-use Rattle.g1_words.specs.Valid.{IsObject, Tiles, IsFirst, HoldsBy, HasObject, IsShapedBy, IsWholeRun, IsValid}
-use Rattle.g1_words.proofs.Members.{In, In-from_contains, Contains-from_in, In-append_cases, flat_map_cases}
-use Rattle.g1_words.proofs.Tiling.{Tiles-le, same_object}
-use Rattle.g1_words.proofs.Objects.{StandsIn, object_stands}
-use Rattle.g1_words.proofs.Computed.{holds_computed, contains_has, range_above, range_below}
+use Rattle.g1_words.specs.Heap.{Heap, objects, slots}
+use Rattle.g1_words.specs.Valid.{Tiles, IsValid}
+use Rattle.g1_words.proofs.Members.{In, Contains-from_in}
+use Rattle.g1_words.proofs.Ordered.{Ordered, Ordered-from_pairs}
+use Rattle.g1_words.proofs.Rising.{IsBefore, objects_apart}
+use Rattle.g1_words.proofs.Bounds.{object_within}
+use Rattle.g1_words.proofs.Computed.{contains_has, range_above, range_below}
+use Rattle.g1_words.proofs.Sound.{sound}
 use Rattle.g1_rem.specs.Marks.{Chain}
-use Rattle.g1_rem.proofs.Rising.{Rises, Rises-weaken, Rises-above, Rises-append, Rises-range}
+use Rattle.g1_rem.proofs.Rising.{Rises, Rises-weaken, Rises-append, Rises-range}
 
 pub Chain-weaken : (lo hi : ℕ) (os : List Object) → lo ≤ hi → Chain hi os → Chain lo os
 Chain-weaken lo hi [] le c = tt
@@ -52,84 +49,19 @@ Chain-slots lo (o ∷ os) c =
     (omega (arith, c.0))
     (λ p i. let b = slots_below o p i in omega (arith, b.1, c.1))
 
+-- objects each of which ends before all later ones begin
+Chain-from_ordered : (lo : ℕ) (os : List Object) → Ordered IsBefore os → ((o : Object) → In os o → (lo ≤ o.at) × (o.refs < o.size)) → Chain lo os
+Chain-from_ordered lo [] ordered each = tt
+Chain-from_ordered lo (o ∷ os) ordered each =
+    ((each o (inl refl)).0, (each o (inl refl)).1, Chain-from_ordered (o.at + o.size) os ordered.1 (λ q i. (ordered.0 q i, (each q (inr i)).1)))
+
 module _ (h : Heap) (valid : IsValid h) where
-  -- the regions below an address, from one region on, are all continuations
-  abbrev Clear : ℕ → ℕ → Type 0
-  Clear lo r = (q : ℕ) → r ≤ q → q < h.geometry.n → start h q < lo → kind h q ≡ Continuation
-
-  abbrev Step : ℕ → ℕ → List Object → Type 0
-  Step lo r rest = (up : ℕ) → Clear up (r + 1) → Chain up rest
-
-  next_clear : (lo r : ℕ) → Clear lo r → Clear lo (r + 1)
-  next_clear lo r clear q le lt b = clear q (omega (arith, le)) lt b
-
-  at_start : (k : Kind) (lo r : ℕ) → Clear lo r → r < h.geometry.n → kind h r ≡ k → (k ≡ Continuation → ⊥) → lo ≤ start h r
-  at_start k lo r clear lt e never = elim (cases_lt (start h r) lo) [
-    | inl b ↦ absurd (never (sym e ∙ clear r (omega arith) lt b))
-    | inr ge ↦ ge
-  ]
-
-  end_clear : (r up : ℕ) → up ≤ start h r + h.geometry.w → Clear up (r + 1)
-  end_clear r up le q ge lt b = absurd (omega (arith, le, b, mul-le-mul_left h.geometry.w ge))
-
-  run_clear : (r size : ℕ) → IsWholeRun h r size → Clear (start h r + size) (r + 1)
-  run_clear r size run q ge lt b =
-      let same : r + (q - r) ≡ q = omega (arith, ge) in
-      let whole : (r + (q - r)) * h.geometry.w < r * h.geometry.w + size = subst (λ x. x * h.geometry.w < r * h.geometry.w + size) (sym same) b in
-      subst (λ x. kind h x ≡ Continuation) same (run (q - r) (omega (arith, ge)) (omega (arith, whole))).1
-
-  chain_step : (k : Kind) (lo r : ℕ) (os rest : List Object) → kind h r ≡ k → r < h.geometry.n → IsShapedBy k h r → HoldsBy k h r os → Clear lo r → Step lo r rest → Chain lo (os ++ rest)
-  chain_step Free lo r os rest e lt s t clear f = subst (λ l. Chain lo (l ++ rest)) (sym t) (f lo (next_clear lo r clear))
-  chain_step Ordinary lo r os rest e lt s t clear f =
-      Chain-weaken lo (start h r) (os ++ rest) (at_start Ordinary lo r clear lt e (λ x. cc))
-      (Chain-tiles h.words (start h r) os (end h r) rest t (f (end h r) (end_clear r (end h r) (omega (arith, s.1)))))
-  chain_step HumongousFirst lo r os rest e lt s t clear f =
-      let o : Object = t.0 in
-      let first : IsFirst h r o = t.1 in
-      let same : s.0 ≡ o = same_object h.words s.0 o s.1.object first.object (s.1.at ∙ sym first.at) in
-      let run : IsWholeRun h r o.size = subst (λ q. IsWholeRun h r q.size) same s.4 in
-      let begin : lo ≤ start h r = at_start HumongousFirst lo r clear lt e (λ x. cc) in
-      let more : Chain (start h r + o.size) rest = f (start h r + o.size) (run_clear r o.size run) in
-      subst (λ l. Chain lo (l ++ rest)) (sym t.2) (omega (arith, begin, first.at), first.object.refs_fit, subst (λ x. Chain (x + o.size) rest) (sym first.at) more)
-  chain_step Continuation lo r os rest e lt s t clear f = subst (λ l. Chain lo (l ++ rest)) (sym t) (f lo (next_clear lo r clear))
-
-  chain_from : (m r lo : ℕ) → r + m ≡ h.geometry.n → Clear lo r → Chain lo (flat_map (objects_in h) (range_with_len r m))
-  chain_from zero r lo e clear = tt
-  chain_from (suc m) r lo e clear =
-      let lt : r < h.geometry.n = omega (arith, e) in
-      chain_step (kind h r) lo r (objects_in h r) (flat_map (objects_in h) (range_with_len (r + 1) m)) refl lt (valid.shaped r lt).by_kind (holds_computed h r valid.shaped lt) clear
-      (λ up c. chain_from m (r + 1) up (omega (arith, e)) c)
-
+  -- the objects of a heap come one after another
   pub objects_chain : Chain 0 (objects h)
-  objects_chain = chain_from h.geometry.n 0 0 (omega arith) (λ q ge lt b. absurd (omega (arith, b)))
+  objects_chain =
+      Chain-from_ordered 0 (objects h) (Ordered-from_pairs IsBefore (objects h) (objects_apart h valid))
+      (λ o i. (omega arith, (sound h valid).slots_fit o (Contains-from_in (objects h) o i)))
 
-  run_fits : (r size : ℕ) → r < h.geometry.n → 0 < size → IsWholeRun h r size → start h r + size ≤ h.geometry.n * h.geometry.w
-  run_fits r size lt some run =
-      let w : ℕ = h.geometry.w in
-      let i : ℕ = (size - 1) / w in
-      let wide : 0 < w = omega (arith, valid.limits.w_least) in
-      let whole : i * w + (size - 1) % w ≡ size - 1 = div-add-mod' (size - 1) w in
-      let left : (size - 1) % w < w = mod_below (size - 1) w wide in
-      let inside : r + i < h.geometry.n = elim (cases_lt 0 i) [ inl more ↦ (run i more (omega (arith, whole))).0 | inr none ↦ omega (arith, none, lt) ] in
-      let ge : r + i + 1 ≤ h.geometry.n = omega (arith, inside) in
-      omega (arith, whole, left, mul-le-mul_left w ge)
-    where
-      mod_below : (a w : ℕ) → 0 < w → a % w < w
-      mod_below a w lt = omega arith
-
-  fits_by : (k : Kind) (r : ℕ) (o : Object) → r < h.geometry.n → IsShapedBy k h r → StandsIn k h r o → o.at + o.size ≤ h.geometry.n * h.geometry.w
-  fits_by Free r o lt s t = absurd t
-  fits_by Ordinary r o lt s t =
-      let ge : r + 1 ≤ h.geometry.n = omega (arith, lt) in
-      omega (arith, Tiles-le h.words (o.at + o.size) t.after.0 (end h r) t.after.1, s.1, mul-le-mul_left h.geometry.w ge)
-  fits_by HumongousFirst r o lt s t =
-      let same : s.0 ≡ o = same_object h.words s.0 o s.1.object t.1 (s.1.at ∙ sym t.0) in
-      let run : IsWholeRun h r o.size = subst (λ q. IsWholeRun h r q.size) same s.4 in
-      let k = run_fits r o.size lt (omega (arith, t.1.refs_fit)) run in
-      omega (arith, k, t.0)
-  fits_by Continuation r o lt s t = absurd t
-
+  -- each ends within the words
   pub object_fits : (o : Object) → Contains (objects h) o → o.at + o.size ≤ h.geometry.n * h.geometry.w
-  object_fits o c =
-      let s = object_stands h o (o.at / h.geometry.w) valid (contains_has h o valid.shaped c) refl in
-      fits_by (kind h (o.at / h.geometry.w)) (o.at / h.geometry.w) o s.0 (valid.shaped (o.at / h.geometry.w) s.0).by_kind s.1
+  object_fits o c = object_within h valid o (contains_has h o valid.shaped c)

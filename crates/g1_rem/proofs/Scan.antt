@@ -16,6 +16,7 @@ use Rattle.g1_words.proofs.Computed.{In-range, range_above, range_below, Tiles-l
 use Rattle.g1_rem.specs.Slots.{is_between}
 use Rattle.g1_rem.specs.Marks.{Chain}
 use Rattle.g1_rem.proofs.Rising.{Rises, Rises-range, Rises-filter, Rises-one, Rises-above}
+use Rattle.g1_rem.proofs.Lists.{filter_none, filter-append}
 use Rattle.g1_rem.proofs.Order.{Chain-tiles, Chain-slots}
 
 pub between_is : (lo hi p : ℕ) → lo ≤ p → p < hi → is_between lo hi p ≡ true
@@ -23,19 +24,6 @@ between_is lo hi p le lt = rw (le-leb lo p le, lt-ltb p hi lt) refl
 
 pub is_between_there : (lo hi p : ℕ) → is_between lo hi p ≡ true → (lo ≤ p) × (p < hi)
 is_between_there lo hi p e = let b = and_true (nat_le lo p) (nat_lt p hi) e in (leb-true lo p b.0, ltb-true p hi b.1)
-
--- a filter that nothing passes
-pub filter_none : (p : ℕ → Bool) (xs : List ℕ) → ((x : ℕ) → In xs x → p x ≡ true → ⊥) → filter p xs ≡ []
-filter_none p xs never = none (filter p xs) (λ x i. let m = filter_member p xs x i in never x m.0 m.1) where
-  none : (ys : List ℕ) → ((x : ℕ) → In ys x → ⊥) → ys ≡ []
-  none [] h = refl
-  none (y ∷ ys) h = absurd (h y (inl refl))
-
-pub filter-append : (p : ℕ → Bool) (xs ys : List ℕ) → filter p (xs ++ ys) ≡ filter p xs ++ filter p ys
-filter-append p [] ys = refl
-filter-append p (x ∷ xs) ys =
-    let more : filter p (xs ++ ys) ≡ filter p xs ++ filter p ys = filter-append p xs ys in
-    elim (p x) as (λ b. cond b (x ∷ filter p (xs ++ ys)) (filter p (xs ++ ys)) ≡ cond b (x ∷ filter p xs) (filter p xs) ++ filter p ys) [ true ↦ ap (λ l. x ∷ l) more | false ↦ more ]
 
 -- one object's slots between two addresses
 pub slots_range : (at refs lo hi first last : ℕ) → first ≡ max (at + 1) lo → last ≡ min (at + 1 + refs) hi → range_with_len first (last - first) ≡ filter (is_between lo hi) (range_with_len (at + 1) refs)

@@ -8,12 +8,11 @@ ghost use Rattle.g1_words.specs.Walk.{Reaches};
 ghost use Rattle.g1_rem.specs.Starts.{IsStartsOf, card_count};
 ghost use Rattle.g1_rem.specs.Slots.{slots_on, is_between};
 
+use crate::header::REFS_RANGE;
 use crate::starts::Starts;
 use g1_words::{Heap, Kind};
 use smallvec::SmallVec;
 use std::alloc::Global;
-
-const REFS_RANGE: u64 = 4_294_967_296;
 
 /// Adds the numbers from one on and below another.
 fn push_range(out: &mut SmallVec<u64, 64>, from: u64, to: u64)

@@ -2,6 +2,7 @@ ghost use Rattle.std.specs.Prelude.{◌≡◌, ◌≤◌, ◌<◌, ◌+◌, ◌*
 ghost use Rattle.g1_rem.specs.Starts.{IsStartsOf};
 ghost use Rattle.g1_rem.specs.Marks.{IsMarkedTo, Told, objects_from};
 
+use crate::header::REFS_RANGE;
 use g1_words::objects_in;
 use g1_words::{Fault, Heap};
 use std::alloc::Global;
@@ -20,8 +21,6 @@ impl Model for Starts {
 
     ghost view = { λ s. s.firsts.items };
 }
-
-const REFS_RANGE: u64 = 4_294_967_296;
 
 /// Writes a value for each further card whose first word is below an address.
 fn mark(firsts: &mut Vec<Option<u32>>, k: u64, until: u64, value: Option<u32>) -> Result<(), Fault>
