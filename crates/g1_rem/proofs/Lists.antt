@@ -1,5 +1,5 @@
 -- Lists: filters, maps, and two lists place by place.
-use Rattle.std.proofs.Common.{◌≡◌, ◌<◌, ℕ, zero, suc, ◌+◌, Bool, true, false, cond, List, [], ◌∷◌, ◌++◌, length, get_or, map, filter, inl, inr, arith, refl, ap, eqb, eqb-true}
+use Rattle.std.proofs.Common.{◌≡◌, ◌<◌, ℕ, zero, suc, ◌+◌, Bool, true, false, cond, List, [], ◌∷◌, ◌++◌, length, get_or, map, filter, inl, inr, arith, refl, sym, ap, eqb, eqb-true}
 use Rattle.std.specs.List.{AllZip}
 use Rattle.g1_words.proofs.Members.{In, filter_member}
 
@@ -8,6 +8,12 @@ eqb_false x y never = go (eqb x y) refl where
   go : (b : Bool) → eqb x y ≡ b → b ≡ false
   go true e = absurd (never (eqb-true x y e))
   go false e = refl
+
+-- two tests that follow from one another are one
+pub same_test : (a b : Bool) → (a ≡ true → b ≡ true) → (b ≡ true → a ≡ true) → a ≡ b
+same_test true b f g = sym (f refl)
+same_test false true f g = g refl
+same_test false false f g = refl
 
 -- a filter that nothing passes
 pub filter_none : (p : ℕ → Bool) (xs : List ℕ) → ((x : ℕ) → In xs x → p x ≡ true → ⊥) → filter p xs ≡ []

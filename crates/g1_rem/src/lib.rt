@@ -19,12 +19,15 @@ mod cover;
 mod header;
 mod laws;
 mod leads;
+mod merging;
+mod refining;
 mod slots;
 mod starts;
 mod tracked;
 
 pub use cover::verify;
 pub use laws::exact_cards;
+pub use refining::refine;
 pub use slots::slots_on;
 pub use starts::Starts;
 pub use tracked::{Tracked, image};
