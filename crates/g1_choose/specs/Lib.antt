@@ -1,0 +1,4 @@
+pub mod Cost
+pub mod Choice
+pub mod Candidate
+pub mod Named
