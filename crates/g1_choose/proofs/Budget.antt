@@ -8,7 +8,7 @@ use Rattle.g1_words.specs.Heap.{Heap}
 use Rattle.g1_choose.specs.declared.candidate.Candidate.{Candidate}
 use Rattle.g1_choose.specs.declared.parameters.Cost.{Cost}
 use Rattle.g1_choose.specs.Choice.{cost_of, pause_cost, IsLongest}
-use Rattle.g1_choose.specs.Candidate.{IsTrueOf, IsPaid}
+use Rattle.g1_choose.specs.Candidate.{TellsRegion, IsPaid}
 
 sum_front : {A : Type 0} (f : A → ℕ) (xs : List A) (i j : ℕ) → i ≤ j → sum_by f (take i xs) ≤ sum_by f (take j xs)
 sum_front f xs zero j le = omega arith
@@ -37,20 +37,20 @@ module _ (c : Cost) (h : Heap) (sets : List (List ℕ)) (lives : List ℕ) where
       }
 
   -- the costs of a beginning, as the candidates tell them
-  told_costs : (m : ℕ) (xs : List Candidate) → All (IsTrueOf c h sets lives) xs → map (cost_of c h sets lives) (take m (map (λ x. x.region) xs)) ≡ map (λ x. x.cost) (take m xs)
+  told_costs : (m : ℕ) (xs : List Candidate) → All (TellsRegion c h sets lives) xs → map (cost_of c h sets lives) (take m (map (λ x. x.region) xs)) ≡ map (λ x. x.cost) (take m xs)
   told_costs zero xs t = refl
   told_costs (suc m) [] t = refl
   told_costs (suc m) (x ∷ xs) t =
-      let first : x.cost ≡ cost_of c h sets lives x.region = (All-head (IsTrueOf c h sets lives) x xs t).cost in
-      let rest = told_costs m xs (All-tail (IsTrueOf c h sets lives) x xs t) in
+      let first : x.cost ≡ cost_of c h sets lives x.region = (All-head (TellsRegion c h sets lives) x xs t).cost in
+      let rest = told_costs m xs (All-tail (TellsRegion c h sets lives) x xs t) in
       λ i. sym first i ∷ rest i
 
-  pub pause_cost-told : (d m : ℕ) (xs : List Candidate) → All (IsTrueOf c h sets lives) xs
+  pub pause_cost-told : (d m : ℕ) (xs : List Candidate) → All (TellsRegion c h sets lives) xs
       → pause_cost c h sets lives d (take m (map (λ x. x.region) xs)) ≡ c.fixed + c.dirty * d + sum_by (λ x. x.cost) (take m xs)
   pause_cost-told d m xs t = ap (λ s. c.fixed + c.dirty * d + s) (ap sum (told_costs m xs t) ∙ sum-map (λ (x : Candidate). x.cost) (take m xs))
 
   -- the longest beginning, as the candidates tell it
-  pub longest_from_paid : (d budget fixed m : ℕ) (xs : List Candidate) → All (IsTrueOf c h sets lives) xs → fixed ≡ c.fixed + c.dirty * d → IsPaid xs fixed budget m
+  pub longest_from_paid : (d budget fixed m : ℕ) (xs : List Candidate) → All (TellsRegion c h sets lives) xs → fixed ≡ c.fixed + c.dirty * d → IsPaid xs fixed budget m
       → IsLongest c h sets lives d budget (map (λ x. x.region) xs) m
   longest_from_paid d budget fixed m xs t e p =
       let count = length-map xs (λ (x : Candidate). x.region) in

@@ -4,7 +4,7 @@ use Rattle.std.specs.List.{range_with_len}
 use Rattle.std.proofs.lemmas.List.{map-append, append-nil}
 use Rattle.std.proofs.lemmas.List.Elements.{filter-append}
 use Rattle.g1_choose.specs.declared.candidate.Candidate.{Candidate}
-use Rattle.g1_choose.proofs.Efficiency.{false_from}
+use Rattle.g1_choose.proofs.Ratios.{false_from}
 
 range_more : (a n : ℕ) → range_with_len a (suc n) ≡ range_with_len a n ++ (a + n) ∷ []
 range_more a zero = ap (λ x. x ∷ []) (omega arith)

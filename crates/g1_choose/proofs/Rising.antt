@@ -1,5 +1,5 @@
 -- A set of regions, by number.
-use Rattle.std.proofs.Common.{◌≡◌, ◌≢◌, ℕ, zero, suc, ◌<◌, ◌≤◌, inl, inr, List, [], ◌∷◌, filter, take, length, get_or, AllPairs, IsTrue, sym, subst, arith}
+use Rattle.std.proofs.Common.{◌≡◌, ◌≢◌, ℕ, zero, suc, ◌<◌, ◌≤◌, inl, inr, List, [], ◌∷◌, filter, take, get_or, AllPairs, IsTrue, sym, subst, arith}
 use Rattle.std.proofs.lemmas.Bool.{cases_order}
 use Rattle.std.specs.List.Sorted.{IsPermutation, IsSorted}
 use Rattle.std.specs.Ordering.{nat_cmp}
@@ -11,25 +11,30 @@ use Rattle.g1_words.proofs.Ordered.{Ordered, Ordered-from_pairs, pairs_from_orde
 use Rattle.g1_words.proofs.Rising.{Ordered-filter, Ordered-range}
 use Rattle.g1_choose.specs.declared.parameters.Cost.{Cost}
 use Rattle.g1_choose.specs.Choice.{cost_of, garbage, candidates, is_candidate, comes_before, IsOrder}
-use Rattle.g1_choose.proofs.Efficiency.{before, one_way}
+use Rattle.g1_choose.proofs.Ratios.{before, one_way}
 use Rattle.g1_choose.proofs.Sorting.{apart_permuted}
 
--- regions in any order, each once, when they are sorted
-pub risen : (h : Heap) (xs ys : List ℕ) → IsPermutation xs ys → IsSorted nat_cmp ys → AllPairs (λ r q. r ≢ q) xs → ((r : ℕ) → In xs r → In (regions h) r) → ys ≡ filter (has xs) (regions h)
-risen h xs ys p s apart within =
-    let Below : ℕ → ℕ → Type 0 = λ r q. r < q in
-    let up = IsNonDecreasingBy-from_sort (λ x. x) ys s in
-    let differ = apart_permuted xs ys p apart in
-    same_order Below (λ r q a b. omega arith) ys (filter (has xs) (regions h))
-    (Ordered-from_pairs Below ys (λ i j d lt len. strictly i j d lt len (up i j d (omega arith) len) (differ i j d lt len)))
-    (Ordered-filter Below (has xs) (regions h) (Ordered-range 0 h.geometry.n))
+-- regions in any order, each once, when they rise
+pub rising_is : (h : Heap) (xs ys : List ℕ) → IsPermutation xs ys → Ordered (λ r q. r < q) ys → ((r : ℕ) → In xs r → In (regions h) r) → ys ≡ filter (has xs) (regions h)
+rising_is h xs ys p o within =
+    same_order (λ r q. r < q) (λ r q a b. omega arith) ys (filter (has xs) (regions h)) o
+    (Ordered-filter (λ r q. r < q) (has xs) (regions h) (Ordered-range 0 h.geometry.n))
     (λ r k.
     let i = In-from_contains xs r (Contains-permutation ys xs r (IsPermutation-sym xs ys p) (Contains-from_in ys r k)) in
     In-filter (has xs) (regions h) r (within r i) (has_from_in xs r i))
     (λ r k. In-from_contains ys r (Contains-permutation xs ys r p (Contains-from_in xs r (in_from_has xs r (filter_member (has xs) (regions h) r k).1))))
+
+-- and when they are sorted
+pub risen : (h : Heap) (xs ys : List ℕ) → IsPermutation xs ys → IsSorted nat_cmp ys → AllPairs (λ r q. r ≢ q) xs → ((r : ℕ) → In xs r → In (regions h) r) → ys ≡ filter (has xs) (regions h)
+risen h xs ys p s apart within =
+    let up = IsNonDecreasingBy-from_sort (λ x. x) ys s in
+    let differ = apart_permuted xs ys p apart in
+    rising_is h xs ys p
+    (Ordered-from_pairs (λ r q. r < q) ys (λ i j d lt len. strictly i j d (up i j d (omega arith) len) (differ i j d lt len)))
+    within
   where
-    strictly : (i j d : ℕ) → i < j → j < length ys → get_or ys i d ≤ get_or ys j d → get_or ys i d ≢ get_or ys j d → get_or ys i d < get_or ys j d
-    strictly i j d lt len le ne = elim (cases_order (get_or ys i d) (get_or ys j d)) [
+    strictly : (i j d : ℕ) → get_or ys i d ≤ get_or ys j d → get_or ys i d ≢ get_or ys j d → get_or ys i d < get_or ys j d
+    strictly i j d le ne = elim (cases_order (get_or ys i d) (get_or ys j d)) [
       | inl e ↦ absurd (ne e)
       | inr o ↦ elim o [ inl l ↦ l | inr g ↦ absurd (omega arith) ]
     ]

@@ -16,8 +16,8 @@ use Rattle.g1_words.proofs.Rising.{Ordered-filter, Ordered-map, Ordered-range}
 use Rattle.g1_choose.specs.declared.candidate.Candidate.{Candidate}
 use Rattle.g1_choose.specs.declared.parameters.Cost.{Cost}
 use Rattle.g1_choose.specs.Choice.{is_candidate, candidates, comes_before}
-use Rattle.g1_choose.specs.Candidate.{goes_first, IsTrueOf, AreInOrder}
-use Rattle.g1_choose.proofs.Efficiency.{is_before, before, is_before-true, not_before, not_before_chain, is_before-false, false_from, one_way, one_of_two}
+use Rattle.g1_choose.specs.Candidate.{goes_first, TellsRegion, IsCandidateOrder}
+use Rattle.g1_choose.proofs.Ratios.{is_before, before, is_before-true, not_before, not_before_chain, is_before-false, false_from, one_way, one_of_two}
 
 -- efficiency is an order in which any two candidates compare
 pub efficiency_order : IsStrictWeakOrder goes_first
@@ -49,7 +49,7 @@ all_in : {A : Type 0} (P : A → Type 0) (xs : List A) (x : A) → All P xs → 
 all_in P xs x all i = let k = Contains-from_in xs x i in subst P k.2 (all k.0 x k.1)
 
 -- numbers kept by a test stand apart
-apart_by_number : (p : ℕ → Bool) (n : ℕ) → AllPairs (λ r q. r ≢ q) (filter p (range_with_len 0 n))
+pub apart_by_number : (p : ℕ → Bool) (n : ℕ) → AllPairs (λ r q. r ≢ q) (filter p (range_with_len 0 n))
 apart_by_number p n i j d lt len e =
     let k = pairs_from_ordered (λ x y. x < y) (filter p (range_with_len 0 n)) (Ordered-filter (λ x y. x < y) p (range_with_len 0 n) (Ordered-range 0 n)) i j d lt len in
     omega (arith, k, e)
@@ -72,27 +72,27 @@ apart_regions ys apart i j d lt len e =
     (get_or-map region ys i d d.region (omega arith) ∙ e ∙ sym (get_or-map region ys j d d.region len))
 
 module _ (c : Cost) (h : Heap) (sets : List (List ℕ)) (lives : List ℕ) where
-  by_region : (xs : List Candidate) → All (IsTrueOf c h sets lives) xs → Ordered (λ x y. IsTrue (goes_first x y)) xs → Ordered (λ x y. IsTrue (comes_before c h sets lives x.region y.region)) xs
+  by_region : (xs : List Candidate) → All (TellsRegion c h sets lives) xs → Ordered (λ x y. IsTrue (goes_first x y)) xs → Ordered (λ x y. IsTrue (comes_before c h sets lives x.region y.region)) xs
   by_region [] t o = tt
   by_region (x ∷ xs) t o = (
     (λ y i.
-        let a = all_in (IsTrueOf c h sets lives) (x ∷ xs) x t (inl refl) in
-        let b = all_in (IsTrueOf c h sets lives) (x ∷ xs) y t (inr i) in
+        let a = all_in (TellsRegion c h sets lives) (x ∷ xs) x t (inl refl) in
+        let b = all_in (TellsRegion c h sets lives) (x ∷ xs) y t (inr i) in
         let same : goes_first x y ≡ comes_before c h sets lives x.region y.region = λ i. is_before (a.cost i) (a.garbage i) x.region (b.cost i) (b.garbage i) y.region in
         subst IsTrue same (o.0 y i)),
-    by_region xs (All-tail (IsTrueOf c h sets lives) x xs t) o.1,
+    by_region xs (All-tail (TellsRegion c h sets lives) x xs t) o.1,
   )
 
   -- the candidates, sorted by efficiency
-  pub in_order : (xs ys : List Candidate) → map (λ x. x.region) xs ≡ candidates c h sets lives → All (IsTrueOf c h sets lives) xs
-      → IsPermutation xs ys → IsSortedBy goes_first ys → AreInOrder c h sets lives ys
+  pub in_order : (xs ys : List Candidate) → map (λ x. x.region) xs ≡ candidates c h sets lives → All (TellsRegion c h sets lives) xs
+      → IsPermutation xs ys → IsSortedBy goes_first ys → IsCandidateOrder c h sets lives ys
   in_order xs ys e t p s =
       let region : Candidate → ℕ = λ x. x.region in
       let R : ℕ → ℕ → Type 0 = λ r q. IsTrue (comes_before c h sets lives r q) in
       let moved : IsPermutation (map region xs) (map region ys) = IsPermutation-map region xs ys p in
       let numbers : AllPairs (λ r q. r ≢ q) (map region xs) = subst (AllPairs (λ r q. r ≢ q)) (sym e) (apart_by_number (is_candidate c h sets lives) h.geometry.n) in
       let apart = apart_permuted (map region xs) (map region ys) moved numbers in
-      let told : All (IsTrueOf c h sets lives) ys = All-permutation (IsTrueOf c h sets lives) xs ys p t in
+      let told : All (TellsRegion c h sets lives) ys = All-permutation (TellsRegion c h sets lives) xs ys p t in
       let pairs = strictly ys s (apart_regions ys apart) in
       record {
         order = record {
@@ -102,5 +102,5 @@ module _ (c : Cost) (h : Heap) (sets : List (List ℕ)) (lives : List ℕ) where
           );
           sorted = pairs_from_ordered R (map region ys) (Ordered-map R region ys (by_region ys told (Ordered-from_pairs (λ x y. IsTrue (goes_first x y)) ys pairs)));
         };
-        true_of = told;
+        tells = told;
       }

@@ -14,14 +14,14 @@ goes_first a b =
 -- by the regions' remembered sets and live bytes
 module _ (c : Cost) (h : Heap) (sets : List (List ℕ)) (lives : List ℕ) where
   -- the candidate has its region's cost and garbage
-  pub record IsTrueOf (x : Candidate) : Type 0 where
+  pub record TellsRegion (x : Candidate) : Type 0 where
     pub cost : x.cost ≡ cost_of c h sets lives x.region
     pub garbage : x.garbage ≡ garbage c h sets lives x.region
 
   -- all candidates in their order, each with its cost and garbage
-  pub record AreInOrder (xs : List Candidate) : Type 0 where
+  pub record IsCandidateOrder (xs : List Candidate) : Type 0 where
     pub order : IsOrder c h sets lives (map (λ x. x.region) xs)
-    pub true_of : All IsTrueOf xs
+    pub tells : All TellsRegion xs
 
 -- the first m candidates are the longest beginning that the budget pays, where this much is spent in any case
 pub record IsPaid (order : List Candidate) (fixed budget m : ℕ) : Type 0 where

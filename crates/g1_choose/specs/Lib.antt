@@ -2,3 +2,4 @@ pub mod Cost
 pub mod Choice
 pub mod Candidate
 pub mod Named
+pub mod Laws

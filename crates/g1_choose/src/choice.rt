@@ -2,7 +2,7 @@ ghost use Rattle.std.specs.Prelude.{◌≡◌, ◌<◌, ◌^◌, ℕ, length, ma
 ghost use Rattle.g1_words.specs.Valid.{IsValid};
 ghost use Rattle.g1_choose.specs.Cost.{IsCost};
 ghost use Rattle.g1_choose.specs.Choice.{MayBeLive, is_candidate, candidates, IsChosen};
-ghost use Rattle.g1_choose.specs.Candidate.{IsTrueOf, AreInOrder, IsPaid};
+ghost use Rattle.g1_choose.specs.Candidate.{TellsRegion, IsCandidateOrder, IsPaid};
 
 use crate::candidate::Candidate;
 use crate::parameters::Cost;
@@ -25,7 +25,7 @@ fn candidate(
     requires valid { IsValid heap.now }
     ensures same { IfSome result (λ x. x.region ≡ region) }
     ensures found { IfSome result (λ x. IsTrue (is_candidate parameters.now heap.now (map (λ s. s.items) sets.now) live.now region)) }
-    ensures true_of { IfSome result (IsTrueOf parameters.now heap.now (map (λ s. s.items) sets.now) live.now) }
+    ensures tells { IfSome result (TellsRegion parameters.now heap.now (map (λ s. s.items) sets.now) live.now) }
     ensures none { IfNone result (IsTrue (is_candidate parameters.now heap.now (map (λ s. s.items) sets.now) live.now region) → ⊥) }
 {
     let Region {
@@ -60,7 +60,7 @@ fn candidates(
     requires sets { length sets.now ≡ heap.now.geometry.n }
     requires live_bytes { MayBeLive heap.now live.now }
     ensures all { IfOk result (λ v. map (λ x. x.region) v.items ≡ candidates parameters.now heap.now (map (λ s. s.items) sets.now) live.now) }
-    ensures true_of { IfOk result (λ v. All (IsTrueOf parameters.now heap.now (map (λ s. s.items) sets.now) live.now) v.items) }
+    ensures tells { IfOk result (λ v. All (TellsRegion parameters.now heap.now (map (λ s. s.items) sets.now) live.now) v.items) }
     ensures memory { IfErr result (λ e. e ≡ Fault.Memory) }
 {
     let mut candidates = Vec::new(alloc);
@@ -88,7 +88,7 @@ pub fn order(
     requires parameters { IsCost parameters.now }
     requires sets { length sets.now ≡ heap.now.geometry.n }
     requires live_bytes { MayBeLive heap.now live.now }
-    ensures ok { IfOk result (λ v. AreInOrder parameters.now heap.now (map (λ s. s.items) sets.now) live.now v.items) }
+    ensures ok { IfOk result (λ v. IsCandidateOrder parameters.now heap.now (map (λ s. s.items) sets.now) live.now v.items) }
     ensures memory { IfErr result (λ e. e ≡ Fault.Memory) }
 {
     let mut candidates = candidates(alloc, heap, sets, live, parameters)?;

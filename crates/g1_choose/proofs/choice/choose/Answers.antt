@@ -26,7 +26,7 @@ returns-clause-ok c =
       order = numbers;
       is_order = in_order.order;
       taken = m;
-      longest = longest_from_paid parameters heap sets live c.args.d c.args.budget c.total.result m order in_order.true_of (omega (arith, c.total.ensures)) paid;
+      longest = longest_from_paid parameters heap sets live c.args.d c.args.budget c.total.result m order in_order.tells (omega (arith, c.total.ensures)) paid;
       rising = risen heap (take m numbers) c.sort_unstable.new.self.items moved c.sort_unstable.ensures.sorted
           (order_apart parameters heap sets live numbers m in_order.order)
           (λ r i. order_within parameters heap sets live numbers m r in_order.order i);
