@@ -93,3 +93,13 @@ humongous_owner_image = image humongous_owner ([] ∷ [] ∷ [] ∷ (4 ∷ []) �
 abbrev pub humongous_owner_after : Image
 humongous_owner_after = image (heap16 ((head 40 20 ∷ replicate 16 0) ++ ((65 ∷ replicate 46 0) ++ (head 2 0 ∷ 4 ∷ replicate 30 0))) (first 16 ∷ more 16 ∷ more 8 ∷ free_region ∷ ordinary 2 ∷ free_region ∷ []) (1 ∷ []) 6)
     ([] ∷ [] ∷ [] ∷ [] ∷ (4 ∷ []) ∷ [] ∷ []) []
+
+-- one object, which a root names
+abbrev pub one_object : Image
+one_object = image (heap16 (replicate 16 0 ++ filled 48 (head 4 1 ∷ 0 ∷ 7 ∷ 9 ∷ [])) (free_region ∷ ordinary 4 ∷ free_region ∷ free_region ∷ []) (17 ∷ []) 4)
+    ([] ∷ [] ∷ [] ∷ [] ∷ []) []
+
+-- after the pause that evacuates region 1
+abbrev pub one_object_after : Image
+one_object_after = image (heap16 (filled 64 (head 4 1 ∷ 0 ∷ 7 ∷ 9 ∷ [])) (ordinary 4 ∷ free_region ∷ free_region ∷ free_region ∷ []) (1 ∷ []) 4)
+    ([] ∷ [] ∷ [] ∷ [] ∷ []) []

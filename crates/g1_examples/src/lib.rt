@@ -11,10 +11,12 @@ ghost use Rattle.g1_words.specs.Heap.{objects_in, regions};
 ghost use Rattle.g1_words.specs.Survivors.{Survivors};
 ghost use Rattle.g1_words.specs.Layout.{places, need, laid};
 ghost use Rattle.g1_words.specs.Live.{IsLiveBytes};
-ghost use Rattle.g1_image.specs.Image.{IsImage};
+ghost use Rattle.g1_image.specs.Image.{IsImage, file_of};
+ghost use Rattle.g1_image.specs.Text.{file_text};
 ghost use Rattle.g1_image.specs.Cards.{refined, uncovered};
 ghost use Rattle.g1_image.specs.Moved.{Moved};
-ghost use Rattle.g1_examples.specs.Examples.{later_root_first, dead_owner, dead_cycle, shared_target, with_a_gap, three_regions, three_regions_image, dead_owner_image, dead_owner_after, shared_target_image, shared_target_after, humongous_owner, humongous_owner_image, humongous_owner_after};
+ghost use Rattle.g1_examples.specs.Examples.{later_root_first, dead_owner, dead_cycle, shared_target, with_a_gap, one_object, one_object_after, three_regions, three_regions_image, dead_owner_image, dead_owner_after, shared_target_image, shared_target_after, humongous_owner, humongous_owner_image, humongous_owner_after};
+ghost use Rattle.g1_examples.specs.Texts.{one_object_text, one_object_after_text, dead_owner_text, dead_owner_after_text};
 
 /// Which objects survive, in which order, and where they are placed.
 pub fn searches()
@@ -37,6 +39,7 @@ pub fn pauses()
     ensures humongous_owner_live { IsLiveBytes humongous_owner (320 ∷ 0 ∷ 0 ∷ 16 ∷ 0 ∷ 0 ∷ []) }
     ensures dead_owner_covered { uncovered dead_owner_image ≡ [] }
     ensures humongous_owner_covered { uncovered humongous_owner_image ≡ [] }
+    ensures one_object_after { Moved one_object (1 ∷ []) one_object_after }
     ensures dead_owner_after { Moved dead_owner_image (1 ∷ []) dead_owner_after }
     ensures shared_target_after { Moved shared_target_image (1 ∷ []) shared_target_after }
     ensures humongous_owner_after { Moved humongous_owner_image (3 ∷ []) humongous_owner_after }
@@ -53,4 +56,12 @@ pub fn refused()
 pub fn kept_rules()
     ensures dead_owner { IsImage dead_owner_image }
     ensures humongous_owner { IsValid humongous_owner }
+{}
+
+/// The texts of four images, before and after a pause, byte by byte.
+pub fn texts()
+    ensures one_object { file_text (file_of one_object) ≡ one_object_text }
+    ensures one_object_after { file_text (file_of one_object_after) ≡ one_object_after_text }
+    ensures dead_owner { file_text (file_of dead_owner_image) ≡ dead_owner_text }
+    ensures dead_owner_after { file_text (file_of dead_owner_after) ≡ dead_owner_after_text }
 {}

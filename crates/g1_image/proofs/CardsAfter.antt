@@ -2,7 +2,7 @@
 use Rattle.std.proofs.Common.{◌≡◌, ◌≢◌, ℕ, suc, ◌+◌, ◌-◌, ◌*◌, ◌/◌, ◌^◌, ◌<◌, ◌≤◌, ◌⊎◌, inl, inr, Bool, true, false, cond, not, ◌&&◌, ◌||◌, List, [], ◌∷◌, length, get_or, filter, flat_map, Contains, refl, sym, ◌∙◌, ap, subst, arith, eqb, eqb-true, eq-eqb, lit<}
 use Rattle.std.specs.List.{range_with_len}
 use Rattle.std.specs.List.Sorted.{IsStrictlyIncreasing}
-use Rattle.std.proofs.lemmas.Bool.{cases_lt, false≢true}
+use Rattle.std.proofs.lemmas.Bool.{cases_Bool, cases_lt, false≢true}
 use Rattle.std.proofs.lemmas.List.{get_or_past, get_or_default}
 use Rattle.std.proofs.lemmas.List.FromFn.{get_or-map-range_with_len, length-map-range_with_len, length-range_with_len}
 use Rattle.std.proofs.Math.Nat.{div-le_self, div-mul-le_self, mul-le-mul_right}
@@ -10,7 +10,6 @@ use Rattle.g1_image.proofs.Covers.{cards_rise}
 use Rattle.g1_image.proofs.CoveredAfter.{covered_after}
 use Rattle.g1_image.proofs.ObjectsOf.{used_not_to_space}
 use Rattle.g1_image.proofs.RulesAfter.{valid_after}
-use Rattle.g1_image.proofs.SameGraphs.{bool_cases}
 use Rattle.g1_image.proofs.ValidAfter.{other_shape, sound_before}
 use Rattle.g1_image.specs.Cards.{IsTracked, cards_where, exact, is_exact, is_refined, leads_into}
 use Rattle.g1_image.specs.Image.{Image, IsImage, IsLog, IsSetOf, IsUsedCard, MayHoldCards, region_of_card, set_of}
@@ -161,9 +160,9 @@ module _ (i : Image) (set l : List ℕ) (j : Image) (valid : IsBuilt i.heap) (or
   ]
 
   right_in : (r c : ℕ) → r < i.heap.geometry.n → In (set_of j r) c → Right r c
-  right_in r c lt m = elim (bool_cases (has set r)) [
+  right_in r c lt m = elim (cases_Bool (has set r)) [
     | inl t ↦ absurd (subst (λ xs. In xs c) (rem_set r lt t) m)
-    | inr a ↦ elim (bool_cases (has (to_space i.heap l) r)) [
+    | inr a ↦ elim (cases_Bool (has (to_space i.heap l) r)) [
       | inl t ↦
           let f = filter_member (is_exact j.heap r) (range_with_len 0 (j.heap.geometry.n * j.heap.geometry.w / j.heap.geometry.k)) c (subst (λ xs. In xs c) (rem_goal r lt a t) m) in
           let b = range_bounds 0 (j.heap.geometry.n * j.heap.geometry.w / j.heap.geometry.k) c f.0 in
@@ -181,9 +180,9 @@ module _ (i : Image) (set l : List ℕ) (j : Image) (valid : IsBuilt i.heap) (or
   ]
 
   rising_after : (r : ℕ) → r < i.heap.geometry.n → IsStrictlyIncreasing (set_of j r)
-  rising_after r lt = elim (bool_cases (has set r)) [
+  rising_after r lt = elim (cases_Bool (has set r)) [
     | inl t ↦ subst IsStrictlyIncreasing (sym (rem_set r lt t)) (λ k less. absurd (omega (arith, less)))
-    | inr a ↦ elim (bool_cases (has (to_space i.heap l) r)) [
+    | inr a ↦ elim (cases_Bool (has (to_space i.heap l) r)) [
       | inl t ↦ subst IsStrictlyIncreasing (sym (rem_goal r lt a t)) (cards_rise j.heap (is_exact j.heap r))
       | inr b ↦ subst IsStrictlyIncreasing (sym (rem_other r lt a b)) (cards_rise i.heap (test r))
     ]
@@ -198,9 +197,9 @@ module _ (i : Image) (set l : List ℕ) (j : Image) (valid : IsBuilt i.heap) (or
       omega arith
 
   few_after : (r : ℕ) → r < i.heap.geometry.n → length (set_of j r) < 2 ^ 32
-  few_after r lt = elim (bool_cases (has set r)) [
+  few_after r lt = elim (cases_Bool (has set r)) [
     | inl t ↦ subst (λ xs. length xs < 2 ^ 32) (sym (rem_set r lt t)) (lit< tt)
-    | inr a ↦ elim (bool_cases (has (to_space i.heap l) r)) [
+    | inr a ↦ elim (cases_Bool (has (to_space i.heap l) r)) [
       | inl t ↦ subst (λ xs. length xs < 2 ^ 32) (sym (rem_goal r lt a t)) (few j.heap v (is_exact j.heap r))
       | inr b ↦ subst (λ xs. length xs < 2 ^ 32) (sym (rem_other r lt a b)) (few i.heap valid (test r))
     ]

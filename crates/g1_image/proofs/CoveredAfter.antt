@@ -1,10 +1,9 @@
 -- The image after is covered.
 use Rattle.std.proofs.Common.{◌≡◌, ℕ, suc, ◌+◌, ◌*◌, ◌/◌, ◌<◌, ◌≤◌, ◌⊎◌, inl, inr, Bool, true, false, cond, not, ◌&&◌, ◌||◌, List, [], ◌∷◌, length, get_or, map, filter, flat_map, refl, sym, ◌∙◌, ap, subst, arith, eqb, eq-eqb}
 use Rattle.std.specs.List.{range_with_len, list_any}
-use Rattle.std.proofs.lemmas.Bool.{false≢true}
+use Rattle.std.proofs.lemmas.Bool.{cases_Bool, false≢true}
 use Rattle.std.proofs.lemmas.List.FromFn.{get_or-map-range_with_len}
 use Rattle.g1_image.proofs.RulesAfter.{RefAfter, before_kept, ref_after}
-use Rattle.g1_image.proofs.SameGraphs.{bool_cases}
 use Rattle.g1_image.proofs.ToSpace.{goal_in_to_space, goal_is_free, goal_not_in_set}
 use Rattle.g1_image.proofs.ValidAfter.{kept_refs, moved_below, outside_word, sound_before, survivor_word}
 use Rattle.g1_image.specs.Cards.{Covered, cards_where, exact, is_covered, is_exact, is_refined, leads_into}
@@ -47,7 +46,7 @@ and_both a b e f = (λ t. e t && f t)
 
 -- every reference of a covered image is covered
 pub covered_each : (i : Image) → Covered i → (e : Ref) → In (refs i.heap) e → is_covered i e ≡ true
-covered_each i c e h = elim (bool_cases (is_covered i e)) [
+covered_each i c e h = elim (cases_Bool (is_covered i e)) [
   | inl t ↦ t
   | inr f ↦ absurd (subst (λ xs. In xs e.slot) c (In-map (λ (x : Ref). x.slot) (filter (λ e. not (is_covered i e)) (refs i.heap)) e (In-filter (λ (e : Ref). not (is_covered i e)) (refs i.heap) e h (ap not f))))
 ]
@@ -157,12 +156,12 @@ module _ (i : Image) (set l : List ℕ) (j : Image) (valid : IsBuilt i.heap) (or
     ]
 
     in_new_rem : has (new_set i set l j.heap to) card ≡ true
-    in_new_rem = elim (bool_cases (has (to_space i.heap l) to)) [
+    in_new_rem = elim (cases_Bool (has (to_space i.heap l) to)) [
       | inl t ↦ (λ q. has (cond (to_region.1 q) [] (cond (t q) (exact j.heap to) (cards_where i.heap (λ c. (is_refined i to c && not (card_in i.heap set c)) || (card_in i.heap (to_space i.heap l) c && is_exact j.heap to c))))) card) ∙ has_exact
       | inr f ↦
           (λ q. has (cond (to_region.1 q) [] (cond (f q) (exact j.heap to) (cards_where i.heap (λ c. (is_refined i to c && not (card_in i.heap set c)) || (card_in i.heap (to_space i.heap l) c && is_exact j.heap to c))))) card)
           ∙ has_where (λ c. (is_refined i to c && not (card_in i.heap set c)) || (card_in i.heap (to_space i.heap l) c && is_exact j.heap to c))
-          (elim (bool_cases (has (to_space i.heap l) from)) [
+          (elim (cases_Bool (has (to_space i.heap l) from)) [
             | inl t ↦ or_right (is_refined i to card && not (card_in i.heap set card)) (card_in i.heap (to_space i.heap l) card && is_exact j.heap to card)
                 (and_both (card_in i.heap (to_space i.heap l) card) (is_exact j.heap to card) (ap (has (to_space i.heap l)) card_from ∙ t) exact_after)
             | inr g ↦ or_left (is_refined i to card && not (card_in i.heap set card)) (card_in i.heap (to_space i.heap l) card && is_exact j.heap to card)
@@ -184,7 +183,7 @@ module _ (i : Image) (set l : List ℕ) (j : Image) (valid : IsBuilt i.heap) (or
       let k : e.slot / j.heap.geometry.k ≡ e.slot / i.heap.geometry.k = ap (λ y. e.slot / y) (ap (λ (g : Geometry). g.k) moved.geometry) in
       (λ q. (eqb (s q) (t q) || has (set_of j (t q)) (k q)) || has j.log (k q))
       ∙ or_left (eqb (e.slot / i.heap.geometry.w) (e.target / i.heap.geometry.w) || has (set_of j (e.target / i.heap.geometry.w)) (e.slot / i.heap.geometry.k)) (has j.log (e.slot / i.heap.geometry.k))
-      (elim (bool_cases (eqb (e.slot / i.heap.geometry.w) (e.target / i.heap.geometry.w))) [
+      (elim (cases_Bool (eqb (e.slot / i.heap.geometry.w) (e.target / i.heap.geometry.w))) [
         | inl a ↦ or_left (eqb (e.slot / i.heap.geometry.w) (e.target / i.heap.geometry.w)) (has (set_of j (e.target / i.heap.geometry.w)) (e.slot / i.heap.geometry.k)) a
         | inr a ↦ or_right (eqb (e.slot / i.heap.geometry.w) (e.target / i.heap.geometry.w)) (has (set_of j (e.target / i.heap.geometry.w)) (e.slot / i.heap.geometry.k)) (in_rem_after c e here a)
       ])

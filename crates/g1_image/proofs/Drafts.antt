@@ -26,12 +26,12 @@ length-laid w es bytes = length-all_words w es (words_of (total es) bytes) (omeg
 abbrev pub Bounded : List ℕ → Type 0
 Bounded xs = (i : ℕ) → slice_index xs i < 2 ^ 64
 
-bounded_append : (xs ys : List ℕ) → Bounded xs → Bounded ys → Bounded (xs ++ ys)
+pub bounded_append : (xs ys : List ℕ) → Bounded xs → Bounded ys → Bounded (xs ++ ys)
 bounded_append [] ys bx b i = b i
 bounded_append (x ∷ xs) ys bx b zero = bx 0
 bounded_append (x ∷ xs) ys bx b (suc i) = bounded_append xs ys (λ k. bx (suc k)) b i
 
-bounded_take : (n : ℕ) (xs : List ℕ) → Bounded xs → Bounded (take n xs)
+pub bounded_take : (n : ℕ) (xs : List ℕ) → Bounded xs → Bounded (take n xs)
 bounded_take zero xs b i = omega arith
 bounded_take (suc n) [] b i = omega arith
 bounded_take (suc n) (x ∷ xs) b zero = b 0

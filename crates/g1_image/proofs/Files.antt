@@ -57,7 +57,7 @@ pub words_as : (table : List Entry) (f : File) → FileFits f → f.table ≡ ta
 words_as table f fits is = subst (λ t. Are IsU64 (total t) f.words) is fits.words
 
 -- what follows in bytes is bytes
-suffix : (bytes xs ys : List ℕ) → bytes ≡ xs ++ ys → IsBytes bytes → IsBytes ys
+pub suffix : (bytes xs ys : List ℕ) → bytes ≡ xs ++ ys → IsBytes bytes → IsBytes ys
 suffix bytes xs ys e b = of xs ys (subst IsBytes e b) where
   of : (xs ys : List ℕ) → IsBytes (xs ++ ys) → IsBytes ys
   of [] ys b = b

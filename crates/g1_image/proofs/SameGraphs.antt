@@ -1,7 +1,7 @@
 -- After a pause the roots read the same graph, and nothing leads into the set.
 use Rattle.std.proofs.Common.{◌≡◌, ℕ, zero, suc, ◌+◌, ◌-◌, ◌<◌, ◌≤◌, ◌⊎◌, inl, inr, Bool, true, false, not, ◌&&◌, List, [], ◌∷◌, ◌++◌, length, get_or, map, filter, flat_map, Contains, refl, sym, ◌∙◌, ap, subst, arith, add-zero}
 use Rattle.std.specs.List.{range_with_len}
-use Rattle.std.proofs.lemmas.Bool.{false≢true}
+use Rattle.std.proofs.lemmas.Bool.{cases_Bool, false≢true}
 use Rattle.std.proofs.lemmas.List.{map-append, length-map, get_or-map, get_or_append_left}
 use Rattle.std.proofs.lemmas.List.FromFn.{get_or-map-range_with_len, length-map-range_with_len}
 use Rattle.g1_words.specs.declared.region.Kind.TheVariants.{Free, Ordinary}
@@ -11,6 +11,7 @@ use Rattle.g1_words.specs.References.{Ref, refs, refs_at, named, root_targets, t
 use Rattle.g1_words.specs.Live.{Reached, seed, child, Live}
 use Rattle.g1_words.specs.Survivors.{in_set, seeds, children, Survivors, AllOrdinary}
 use Rattle.g1_words.specs.Layout.{need, free_regions, forward, kept}
+use Rattle.g1_words.specs.Moves.{moved_object}
 use Rattle.g1_image.specs.Image.{Image}
 use Rattle.g1_image.specs.Copy.{renamed, words_at, renamed_words, IsCopy}
 use Rattle.g1_image.specs.Moved.{IsMoved}
@@ -19,11 +20,9 @@ use Rattle.g1_words.proofs.Sound.{IsSound}
 use Rattle.g1_words.proofs.Members.{In, In-from_contains, Contains-from_in, In-append_left, In-append_right, In-append_cases, In-flat_map, flat_map_cases, In-map, map_cases, In-filter, filter_member, in_from_has}
 use Rattle.g1_words.proofs.OneToOne.{target_in_refs, kept_object, forward_one_to_one, survivor_to_free, outside_stays}
 use Rattle.g1_image.proofs.Determined.{word_from_copy}
+use Rattle.g1_image.proofs.ToSpace.{object_copied}
+use Rattle.g1_image.proofs.ObjectsOf.{kept_is_object, kept_is_after}
 use Rattle.g1_words.specs.declared.object.Object.{Object}
-
-pub bool_cases : (b : Bool) → (b ≡ true) ⊎ (b ≡ false)
-bool_cases true = inl refl
-bool_cases false = inr refl
 
 module _ (h : Heap) (set l : List ℕ) (sound : IsSound h) (ordinary : AllOrdinary h set) (survivors : Survivors h set l) where
   live_object : (a : ℕ) → Live h a → Contains (objects h) (object_at h a)
@@ -39,7 +38,7 @@ module _ (h : Heap) (set l : List ℕ) (sound : IsSound h) (ordinary : AllOrdina
       let e : Ref = record { slot = p.0; target = b } in
       let here : In (refs_at h p.0) e = In-map (λ a. record { slot = p.0; target = a }) (named (word h p.0)) b p.2 in
       let er : In (refs h) e = In-flat_map (λ o. flat_map (refs_at h) (slots o)) (objects h) o e (In-from_contains (objects h) o co) (In-flat_map (refs_at h) (slots o) p.0 e p.1 here) in
-      let away : in_set h set p.0 ≡ false = elim (bool_cases (in_set h set p.0)) [
+      let away : in_set h set p.0 ≡ false = elim (cases_Bool (in_set h set p.0)) [
         | inr f ↦ f
         | inl t ↦
             let k : kind h (region_of h p.0) ≡ Ordinary = ordinary (region_of h p.0) (Contains-from_in set (region_of h p.0) (in_from_has set (region_of h p.0) t)) in
@@ -65,14 +64,14 @@ module _ (h : Heap) (set l : List ℕ) (sound : IsSound h) (ordinary : AllOrdina
       seed (Contains-from_in (seeds h set) a (In-append_left (filter (in_set h set) (root_targets h)) (map (λ e. e.target) (filter (λ e. in_set h set e.target && not (in_set h set e.slot)) (refs h))) a
       (In-filter (in_set h set) (root_targets h) a (In-from_contains (root_targets h) a c) t)))
   live_found b (child {a = a} r c) t =
-      elim (bool_cases (in_set h set a)) [
+      elim (cases_Bool (in_set h set a)) [
         | inl ina ↦ child (live_found a r ina) (Contains-from_in (children h set a) b (In-filter (in_set h set) (targets h a) b (In-from_contains (targets h a) b c) t))
         | inr out ↦ seed (named_from_outside (object_at h a) b (live_object a r) out (In-from_contains (targets h a) b c) t)
       ]
 
   pub live_kept : (a : ℕ) → Live h a → Contains (kept h set l) (object_at h a)
   live_kept a r =
-      Contains-from_in (kept h set l) (object_at h a) (elim (bool_cases (in_set h set a)) [
+      Contains-from_in (kept h set l) (object_at h a) (elim (cases_Bool (in_set h set a)) [
         | inl t ↦ In-append_right (filter (λ o. not (in_set h set o.at)) (objects h)) (map (object_at h) l) (object_at h a) (In-map (object_at h) l a (In-from_contains l a ((survivors.reached a).1 (live_found a r t))))
         | inr f ↦ In-append_left (filter (λ o. not (in_set h set o.at)) (objects h)) (map (object_at h) l) (object_at h a)
             (In-filter (λ (o : Object). not (in_set h set o.at)) (objects h) (object_at h a) (In-from_contains (objects h) (object_at h a) (live_object a r)) (ap not f))
@@ -102,9 +101,9 @@ module _ (h : Heap) (set l : List ℕ) (sound : IsSound h) (ordinary : AllOrdina
     -- a new address is none in the set
     pub away_from_set : (b : ℕ) → (in_set h set b ≡ true → In l b) → in_set h set (forward h l b) ≡ false
     away_from_set b f =
-        elim (bool_cases (in_set h set b)) [
+        elim (cases_Bool (in_set h set b)) [
           | inr out ↦ ap (in_set h set) (outside_stays h set l sound ordinary survivors room b out) ∙ out
-          | inl t ↦ elim (bool_cases (in_set h set (forward h l b))) [
+          | inl t ↦ elim (cases_Bool (in_set h set (forward h l b))) [
             | inr out ↦ out
             | inl u ↦
                 let one : kind h (region_of h (forward h l b)) ≡ Ordinary = ordinary (region_of h (forward h l b)) (Contains-from_in set (region_of h (forward h l b)) (in_from_has set (region_of h (forward h l b)) u)) in
@@ -112,16 +111,6 @@ module _ (h : Heap) (set l : List ℕ) (sound : IsSound h) (ordinary : AllOrdina
                 let clash : Ordinary ≡ Free = sym one ∙ none in cc
           ]
         ]
-
-    -- the graph read from the roots is the same
-    pub same_graph : (i j : Image) → i.heap ≡ h → IsMoved i set l j → SameGraph h j.heap
-    same_graph i j e m =
-        record {
-          rename = forward h l;
-          one_to_one = λ a b ra rb q. forward_one_to_one h set l sound ordinary survivors room (object_at h a) (object_at h b) (live_kept a ra) (live_kept b rb) q;
-          roots = subst (λ (k : Heap). j.heap.roots ≡ map (renamed (forward k l)) k.roots) e m.roots;
-          copies = λ a r. (subst (λ (k : Heap). (o : Object) → Contains (kept k set l) o → IsCopy (forward k l) k j.heap o) e m.copies) (object_at h a) (live_kept a r);
-        }
 
 -- ---- what the slots of a moved object name
 
@@ -182,3 +171,24 @@ module _ (i : Image) (set l : List ℕ) (j : Image) (sound : IsSound i.heap) (or
       let away : in_set i.heap set (f m.0) ≡ false = away_from_set i.heap set l sound ordinary survivors room m.0
       (λ t. named_survives i.heap set l sound ordinary survivors o m.0 (In-from_contains (kept i.heap set l) o co) m.1 t) in
       subst (λ x. in_set i.heap set x ≡ false) m.2 away
+
+  -- what the roots reach stands where it was moved
+  live_stands : (a : ℕ) → Live i.heap a → Contains (objects j.heap) (object_at j.heap (forward i.heap l a))
+  live_stands a r =
+      let k : In (kept i.heap set l) (object_at i.heap a) = In-from_contains (kept i.heap set l) (object_at i.heap a) (live_kept i.heap set l sound ordinary survivors a r) in
+      let e : object_at j.heap (forward i.heap l a) ≡ moved_object (forward i.heap l) (object_at i.heap a) =
+      object_copied i set l j sound ordinary survivors room moved (object_at i.heap a) k (kept_is_object i.heap set l sound ordinary survivors room (object_at i.heap a) k) refl in
+      let there : Contains (objects j.heap) (moved_object (forward i.heap l) (object_at i.heap a)) =
+      Contains-from_in (objects j.heap) (moved_object (forward i.heap l) (object_at i.heap a)) (kept_is_after i set l j sound ordinary survivors room moved (object_at i.heap a) k) in
+      subst (λ (o : Object). Contains (objects j.heap) o) (sym e) there
+
+  -- the graph read from the roots is the same
+  pub same_graph : SameGraph i.heap j.heap
+  same_graph = record {
+    rename = forward i.heap l;
+    one_to_one = λ a b ra rb q. forward_one_to_one i.heap set l sound ordinary survivors room (object_at i.heap a) (object_at i.heap b)
+        (live_kept i.heap set l sound ordinary survivors a ra) (live_kept i.heap set l sound ordinary survivors b rb) q;
+    roots = moved.roots;
+    stands = live_stands;
+    copies = λ a r. moved.copies (object_at i.heap a) (live_kept i.heap set l sound ordinary survivors a r);
+  }

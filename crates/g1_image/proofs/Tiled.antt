@@ -16,7 +16,7 @@ pub Checked-start : (words : List ℕ) (from to w : ℕ) → from ≤ to → Che
 Checked-start words from to w le = record { order = le; passed = ([], refl, λ d i lt. absurd (omega arith)); ahead = λ t. t }
 
 -- what stands at the front
-front : (words : List ℕ) (from to w : ℕ) → IsTiled words from to w → from < to →
+pub front : (words : List ℕ) (from to w : ℕ) → IsTiled words from to w → from < to →
     (o : Object) × (o.at ≡ from) × IsObject words o × (4 * o.size ≤ 3 * w) × IsTiled words (from + o.size) to w
 front words from to w (os, t, small) lt = of os t small where
   of : (os : List Object) → Tiles words from os to → All (λ o. 4 * o.size ≤ 3 * w) os →

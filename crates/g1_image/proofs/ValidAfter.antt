@@ -1,12 +1,12 @@
 -- The image after keeps the rules of a valid heap.
 use Rattle.std.proofs.Common.{◌≡◌, ◌≢◌, ℕ, suc, ◌+◌, ◌-◌, ◌*◌, ◌/◌, ◌%◌, ◌^◌, ◌<◌, ◌≤◌, ◌⊎◌, inl, inr, true, false, List, length, get_or, filter, flat_map, min, Contains, refl, sym, ◌∙◌, ap, subst, arith, eqb, add-zero}
-use Rattle.std.proofs.lemmas.Bool.{cases_lt, false≢true}
+use Rattle.std.proofs.lemmas.Bool.{cases_Bool, cases_lt, false≢true}
 use Rattle.std.proofs.lemmas.Nat.{div-mul-add}
 use Rattle.std.proofs.Math.Nat.{mul-le-mul_right}
 use Rattle.std.proofs.Common.{div-add-mod', mod-lt, eq-eqb}
 use Rattle.g1_image.proofs.ObjectsAfter.{header_stays, objects_stay, region_after}
 use Rattle.g1_image.proofs.ObjectsOf.{kept_is_after, kept_is_object, kept_outside, region_cases, survivor_region, used_not_to_space}
-use Rattle.g1_image.proofs.SameGraphs.{bool_cases, live_found, named_survives}
+use Rattle.g1_image.proofs.SameGraphs.{live_found, named_survives}
 use Rattle.g1_image.proofs.ToSpace.{goal_is_free, goal_kind, goal_top, object_copied, survivor_kept, survivor_object, to_space_objects, to_space_tiled}
 use Rattle.g1_image.specs.Image.{Image}
 use Rattle.g1_image.specs.Moved.{IsMoved}
@@ -55,7 +55,7 @@ module _ (i : Image) (set l : List ℕ) (j : Image) (valid : IsBuilt i.heap) (or
         u.0,
         u.1,
         u.2,
-        elim (bool_cases (has set (region_of i.heap (k.at + m)))) [
+        elim (cases_Bool (has set (region_of i.heap (k.at + m)))) [
           | inr f ↦ f
           | inl t ↦
               let one : kind i.heap (region_of i.heap (k.at + m)) ≡ Ordinary = ordinary (region_of i.heap (k.at + m)) (Contains-from_in set (region_of i.heap (k.at + m)) (in_from_has set (region_of i.heap (k.at + m)) t)) in
@@ -80,7 +80,7 @@ module _ (i : Image) (set l : List ℕ) (j : Image) (valid : IsBuilt i.heap) (or
   pub humongous_shape : (r : ℕ) → r < i.heap.geometry.n → kind i.heap r ≢ Free → kind i.heap r ≢ Ordinary → (kind j.heap r ≡ kind i.heap r) × (top j.heap r ≡ top i.heap r)
   humongous_shape r lt a b =
       other_shape r lt
-      (elim (bool_cases (has set r)) [ inr f ↦ f | inl t ↦ absurd (b (ordinary r (Contains-from_in set r (in_from_has set r t)))) ])
+      (elim (cases_Bool (has set r)) [ inr f ↦ f | inl t ↦ absurd (b (ordinary r (Contains-from_in set r (in_from_has set r t)))) ])
       (used_not_to_space i.heap set l sound_before ordinary survivors room r a)
 
   -- an object outside the set stays as it is
@@ -96,7 +96,7 @@ module _ (i : Image) (set l : List ℕ) (j : Image) (valid : IsBuilt i.heap) (or
       let k : In (objects_in i.heap r) o = run_object i.heap (w_pos i.heap valid) r two first in
       let c : Contains (objects i.heap) o = Contains-from_in (objects i.heap) o (In-flat_map (objects_in i.heap) (regions i.heap) r o (In-range 0 i.heap.geometry.n r (omega arith) (omega arith)) k) in
       let at : region_of i.heap o.at ≡ r = home_region i.heap valid r o (stands i.heap valid r o k) in
-      let out : has set r ≡ false = elim (bool_cases (has set r)) [ inr f ↦ f | inl t ↦ let clash : Ordinary ≡ HumongousFirst = sym (ordinary r (Contains-from_in set r (in_from_has set r t))) ∙ two in cc ] in
+      let out : has set r ≡ false = elim (cases_Bool (has set r)) [ inr f ↦ f | inl t ↦ let clash : Ordinary ≡ HumongousFirst = sym (ordinary r (Contains-from_in set r (in_from_has set r t))) ∙ two in cc ] in
       ap (λ y. object_at j.heap (r * y)) (ap (λ (g : Geometry). g.w) moved.geometry) ∙ object_stays o c (ap (has set) at ∙ out)
 
   other_by : (r : ℕ) (k : Kind) → r < i.heap.geometry.n → has set r ≡ false → has (to_space i.heap l) r ≡ false → kind i.heap r ≡ k → IsBuiltBy i.heap r k → IsBuiltBy j.heap r k
@@ -217,7 +217,7 @@ module _ (i : Image) (set l : List ℕ) (j : Image) (valid : IsBuilt i.heap) (or
   ]
 
   kept_if : (b : ℕ) → Contains (objects i.heap) (object_at i.heap b) → (in_set i.heap set b ≡ true → In l b) → In (kept i.heap set l) (object_at i.heap b)
-  kept_if b c f = elim (bool_cases (in_set i.heap set b)) [
+  kept_if b c f = elim (cases_Bool (in_set i.heap set b)) [
     | inl t ↦ survivor_kept i set l j sound_before ordinary survivors room moved b (f t)
     | inr o ↦ kept_outside i set l j sound_before ordinary survivors room moved (object_at i.heap b) (In-from_contains (objects i.heap) (object_at i.heap b) c) o
   ]

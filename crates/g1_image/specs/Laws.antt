@@ -11,8 +11,7 @@ use Rattle.g1_words.specs.Layout.{HasRoom, forward, kept}
 use Rattle.g1_image.specs.Image.{Image, IsImage, set_of, region_of_card, IsTextOf}
 use Rattle.g1_image.specs.Cards.{cards_where, exact, refined, Covered, uncovered}
 use Rattle.g1_image.specs.Text.{File, file_text}
-use Rattle.g1_image.specs.Faults.{FileFits, FileFault}
-use Rattle.g1_words.specs.declared.fault.Fault.{Fault}
+use Rattle.g1_image.specs.Faults.{FileFits}
 use Rattle.g1_image.specs.Moved.{IsMoved, Moved}
 use Rattle.g1_image.specs.Graph.{SameGraph}
 
@@ -71,10 +70,10 @@ NothingIntoSet = (i : Image) (set l : List ℕ) (j : Image) → IsValid i.heap �
 abbrev pub OneFile : Type 0
 OneFile = (bytes : List ℕ) (f g : File) → FileFits f → FileFits g → bytes ≡ file_text f → bytes ≡ file_text g → f ≡ g
 
+-- bytes are the text of one image at most
+abbrev pub OneImage : Type 0
+OneImage = (bytes : List ℕ) (i j : Image) → IsTextOf bytes i → IsTextOf bytes j → i ≡ j
+
 -- an image has one text
 abbrev pub OneText : Type 0
 OneText = (i : Image) (a b : List ℕ) → IsTextOf a i → IsTextOf b i → a ≡ b
-
--- a whole file has one fault at most
-abbrev pub OneFileFault : Type 0
-OneFileFault = (f : File) (e d : Fault) → FileFault f e → FileFault f d → e ≡ d

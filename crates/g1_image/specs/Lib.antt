@@ -13,3 +13,4 @@ pub mod Graph
 pub mod Made
 pub mod After
 pub mod Laws
+pub mod Verdict

@@ -1,5 +1,6 @@
 ghost use Rattle.g1_image.specs.After.{ToSpaceObjects, ObjectsAfter, ValidAfter, CoveredAfter, ImageExists, RefsAfter, ExactByRefs, TrackedAfter};
-ghost use Rattle.g1_image.specs.Laws.{CardsInRegions, CardsRise, ExactSet, RefinedSet, CoveredImage, UncoveredSlots, UncoveredRise, OneImageAfter, GraphStays, NothingIntoSet, OneFile, OneText, OneFileFault};
+ghost use Rattle.g1_image.specs.Laws.{CardsInRegions, CardsRise, ExactSet, RefinedSet, CoveredImage, UncoveredSlots, UncoveredRise, OneImageAfter, GraphStays, NothingIntoSet, OneFile, OneImage, OneText};
+ghost use Rattle.g1_image.specs.Verdict.{OneFault, NoFaultOfText, AlwaysOne};
 
 /// What the cards of an image tell.
 pub fn card_sets()
@@ -39,13 +40,16 @@ pub fn after()
     ensures tracked { TrackedAfter }
 {}
 
-/// The bytes are the text of one file at most, and an image has one text.
+/// Bytes are the text of one file and of one image at most, and an image has one text.
 pub fn one_text()
     ensures file { OneFile }
+    ensures image { OneImage }
     ensures text { OneText }
 {}
 
-/// A whole file has one fault at most.
+/// Bytes are an image's text or have a fault, never both, and one fault at most.
 pub fn one_fault()
-    ensures { OneFileFault }
+    ensures one { OneFault }
+    ensures none_of_text { NoFaultOfText }
+    ensures always { AlwaysOne }
 {}

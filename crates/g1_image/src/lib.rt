@@ -22,5 +22,5 @@ mod writing;
 
 pub use decoding::decode;
 pub use encoding::encode;
-pub use image::{Image, store, word_at};
+pub use image::Image;
 pub use laws::{after, card_sets, cover, one_fault, one_image, one_text, same_graph};

@@ -4,7 +4,7 @@ use Rattle.g1_words.specs.Survivors.{seeds, children}
 use Rattle.g1_words.specs.Layout.{forward, kept}
 use Rattle.g1_image.specs.Copy.{IsCopy}
 use Rattle.g1_image.specs.Moved.{IsMoved}
-use Rattle.g1_examples.specs.Examples.{dead_owner, shared_target, three_regions, dead_owner_image, dead_owner_after, shared_target_image, shared_target_after, humongous_owner, humongous_owner_image, humongous_owner_after}
+use Rattle.g1_examples.specs.Examples.{one_object, one_object_after, dead_owner, shared_target, three_regions, dead_owner_image, dead_owner_after, shared_target_image, shared_target_after, humongous_owner, humongous_owner_image, humongous_owner_after}
 use Rattle.g1_words.proofs.Members.{In-from_contains}
 use Rattle.g1_words.proofs.Unique.{search_ends}
 use Rattle.g1_examples.proofs.Closed.{live_by_search, each_member, cleared_by_test}
@@ -73,3 +73,19 @@ returns-clause-humongous_owner_after c = (48 ∷ [], search_ends (seeds humongou
 
 pub returns-clause-humongous_owner_live : goal.returns-clause-humongous_owner_live
 returns-clause-humongous_owner_live c = live_by_search humongous_owner 2 (320 ∷ 0 ∷ 0 ∷ 16 ∷ 0 ∷ 0 ∷ []) refl refl
+
+after1 : IsMoved one_object (1 ∷ []) (16 ∷ []) one_object_after
+after1 = record {
+  geometry = refl;
+  size = refl;
+  copies = λ o h. each_member (IsCopy (forward one_object.heap (16 ∷ [])) one_object.heap one_object_after.heap) (kept one_object.heap (1 ∷ []) (16 ∷ [])) (refl, tt) o (In-from_contains (kept one_object.heap (1 ∷ []) (16 ∷ [])) o h);
+  cleared = cleared_by_test one_object_after.heap (forward one_object.heap (16 ∷ [])) (kept one_object.heap (1 ∷ []) (16 ∷ [])) refl;
+  table = refl;
+  roots = refl;
+  sets = refl;
+  log = refl;
+  current = refl;
+}
+
+pub returns-clause-one_object_after : goal.returns-clause-one_object_after
+returns-clause-one_object_after c = (16 ∷ [], search_ends (seeds one_object.heap (1 ∷ [])) (children one_object.heap (1 ∷ [])) 1 refl, after1)

@@ -1,0 +1,99 @@
+-- Bytes are an image's text or have a fault.
+use Rattle.std.proofs.Common.{◌≡◌, ◌<◌, ◌*◌, ℕ, ◌⊎◌, inl, inr, Bool, true, false, List, [], length, slice_index, slice_index_or, arith, refl, sym, ap, ◌∙◌}
+use Rattle.std.specs.Prelude.{Some, None, IfSome, nat_lt, if◌then◌else◌}
+use Rattle.std.proofs.lemmas.Bool.{cases_lt, le-ltb}
+use Rattle.std.proofs.lemmas.List.{length-map}
+use Rattle.std.proofs.lemmas.Grind.{get_or_default_zero}
+use Rattle.g1_words.specs.Valid.{IsShaped}
+use Rattle.g1_words.specs.declared.fault.Fault.{Fault}
+use Rattle.g1_words.specs.declared.fault.Fault.TheVariants as fault
+use Rattle.g1_words.specs.declared.fault.Place.TheVariants as place
+use Rattle.g1_words.specs.declared.fault.Stand.TheVariants as stand
+use Rattle.g1_image.specs.declared.cursor.Heading.{Heading}
+use Rattle.g1_image.specs.Text.{File, Entry, file_text, words_of, total}
+use Rattle.g1_image.specs.Reading.{IsBytes}
+use Rattle.g1_image.specs.Image.{Image, IsTextOf, heap_of, all_words, region_of_entry}
+use Rattle.g1_image.specs.Draft.{IsDraft}
+use Rattle.g1_image.specs.Judged.{IsGoodHeap}
+use Rattle.g1_image.specs.Plain.{plain_file, PlainIs}
+use Rattle.g1_image.specs.Faults.{FileFits, FileFault, FaultOf, KindKnown, RootGood, SlotGood, LogGood, SetGood}
+use Rattle.g1_image.proofs.Drafts.{length-laid, bounded_laid}
+use Rattle.g1_image.proofs.Assembled.{is_image, file_again}
+use Rattle.g1_image.proofs.NoFault.{IsGoodFile}
+use Rattle.g1_image.proofs.Decided.{decided_le, first_breach}
+use Rattle.g1_image.proofs.DecidedShapes.{decided_shaped}
+use Rattle.g1_image.proofs.DecidedReferences.{decided_reference, decided_good_slot}
+use Rattle.g1_image.proofs.DecidedCards.{decided_logged, decided_set}
+use Rattle.g1_image.proofs.ToldFiles.{AnyFault, told_file}
+
+-- a file keeps the rules of every stage, or has a fault
+judged : (f : File) → FileFits f → IsGoodFile f ⊎ ((e : Fault) × FileFault f e)
+judged f fits =
+    let wide : 0 < f.w = omega (arith, fits.limits.sizes.w_least) in
+    elim (first_breach (KindKnown f) (λ r. decided_le (slice_index_or f.table r (record { kind = 0; top = 0 })).kind 3) f.n) [
+      | inr b ↦ inr (fault.Kind b.0, b.1)
+      | inl kinds ↦ elim (first_breach (IsShaped (heap_of f)) (decided_shaped (heap_of f) wide) f.n) [
+        | inr b ↦ inr (fault.Shape b.0, (kinds, b.1))
+        | inl shaped ↦ elim (first_breach (RootGood f) (λ i. decided_reference (heap_of f) shaped (slice_index f.roots i)) (length f.roots)) [
+          | inr b ↦ inr (fault.Reference (place.Root b.0), (kinds, shaped, b.1))
+          | inl roots ↦ elim (first_breach (SlotGood f) (decided_good_slot (heap_of f) shaped) (f.n * f.w)) [
+            | inr b ↦ inr (fault.Reference (place.Slot b.0), (kinds, shaped, roots, b.1))
+            | inl slots ↦ elim (first_breach (LogGood f) (decided_logged (heap_of f) f.log) (length f.log)) [
+              | inr b ↦ inr (fault.Card (stand.Dirty b.0), (kinds, shaped, roots, slots, b.1))
+              | inl log ↦ elim (first_breach (SetGood f) (λ r. decided_set (heap_of f) r (slice_index_or f.sets r [])) f.n) [
+                | inr b ↦ inr (fault.Card (stand.Region b.0), (kinds, shaped, roots, slots, log, b.1))
+                | inl sets ↦ inl (record { kinds = kinds; shaped = shaped; roots = roots; slots = slots; log = log; sets = sets })
+              ]
+            ]
+          ]
+        ]
+      ]
+    ]
+
+-- the fault of a whole file is its bytes'
+file_fault : (bytes : List ℕ) (f : File) (e : Fault) → FileFits f → bytes ≡ file_text f → FileFault f e → FaultOf bytes e
+file_fault bytes f fault.Magic fits text x = absurd x
+file_fault bytes f fault.Short fits text x = absurd x
+file_fault bytes f fault.Geometry fits text x = absurd x
+file_fault bytes f fault.Trailing fits text x = absurd x
+file_fault bytes f e fits text x = (f, fits, text, x)
+
+-- a current region is one of the regions
+current_in : (c n : ℕ) → IfSome (if nat_lt c n then Some c else None) (λ r. r < n)
+current_in c n = by (nat_lt c n) refl where
+  by : (b : Bool) → nat_lt c n ≡ b → IfSome (if b then Some c else None) (λ r. r < n)
+  by false e = tt
+  by true e = elim (cases_lt c n) [
+    | inl lt ↦ lt
+    | inr ge ↦ (let clash : true ≡ false = sym e ∙ le-ltb c n ge in cc)
+  ]
+
+module _ (bytes : List ℕ) (h : Heading) (table : List Entry) (roots log : List ℕ) (sets : List (List ℕ)) (words : List ℕ) (p : PlainIs bytes h table roots log sets words) where
+  -- the heap of a whole file, its regions and references aside
+  draft : IsDraft (heap_of (plain_file h table roots log sets words))
+  draft = record {
+    limits = p.good.sizes;
+    word_count = length-laid h.w table words ∙ ap (λ n. n * h.w) p.fits.table.how_many;
+    word_fits = λ i d lt. rw (get_or_default_zero (all_words h.w table (words_of (total table) words)) i d lt) (bounded_laid h.w table words p.are_bytes i);
+    region_count = length-map table region_of_entry ∙ p.fits.table.how_many;
+    root_count = omega (arith, p.root_count, p.good.roots);
+    current_in = current_in h.current h.n;
+  }
+
+  -- the image of a file that keeps all rules
+  image_of : IsGoodFile (plain_file h table roots log sets words) → (i : Image) × IsTextOf bytes i
+  image_of g =
+      let f : File = plain_file h table roots log sets words in
+      let good : IsGoodHeap (heap_of f) = record { shaped = g.shaped; roots = g.roots; slots = g.slots } in
+      let i : Image = record { heap = heap_of f; sets = sets; log = log } in
+      (i, (is_image f p.fits draft good g.log g.sets, p.text ∙ ap file_text (sym (file_again f p.fits good g.kinds))))
+
+  -- a whole file is an image's, or its bytes have a fault
+  told_plain : ((i : Image) × IsTextOf bytes i) ⊎ AnyFault bytes
+  told_plain =
+      let f : File = plain_file h table roots log sets words in
+      elim (judged f p.fits) [ inl g ↦ inl (image_of g) | inr x ↦ inr (x.0, file_fault bytes f x.0 p.fits p.text x.1) ]
+
+-- bytes are an image's text or have a fault
+pub always_one : (bytes : List ℕ) → IsBytes bytes → ((i : Image) × IsTextOf bytes i) ⊎ ((e : Fault) × FaultOf bytes e)
+always_one bytes b = elim (told_file bytes b) [ inr e ↦ inr e | inl p ↦ told_plain bytes p.0 p.1 p.2 p.3 p.4 p.5 p.6 ]

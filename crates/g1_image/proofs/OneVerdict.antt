@@ -1,0 +1,184 @@
+-- Bytes have one fault at most, and those of a whole file no fault but the file's.
+use Rattle.std.proofs.Common.{◌≡◌, ◌<◌, ℕ, ◌⊎◌, inl, inr, List, [], ◌++◌, length, slice_index, arith, refl, sym, ap, subst, ◌∙◌, append_assoc, length-append}
+use Rattle.std.proofs.lemmas.List.{append-nil, append_cancel_left, get_or_append_left}
+use Rattle.g1_words.specs.declared.fault.Fault.{Fault}
+use Rattle.g1_words.specs.declared.fault.Fault.TheVariants as fault
+use Rattle.g1_image.specs.declared.cursor.Heading.{Heading}
+use Rattle.g1_image.specs.Text.{File, u32, magic, heading_text, heading_of, body_text, file_text}
+use Rattle.g1_image.specs.Faults.{HeadingFits, IsGoodHeading, FileFits, FileFault, FaultOf}
+use Rattle.g1_image.proofs.Parts.{heading_free}
+use Rattle.g1_image.proofs.OneFile.{file_free, one_file}
+use Rattle.g1_image.proofs.OneFault.{one_file_fault}
+use Rattle.byteorder.specs.Numbers.{length-bytes_low_first}
+
+-- the bytes that are there agree with the magic
+abbrev Agrees : List ℕ → Type 0
+Agrees bytes = (i : ℕ) → i < 8 → i < length bytes → slice_index bytes i ≡ slice_index magic i
+
+-- the bytes begin with the text of a file
+abbrev Begins : List ℕ → Type 0
+Begins bytes = (f : File) × (rest : List ℕ) × FileFits f × (bytes ≡ file_text f ++ rest)
+
+-- bytes that begin with the magic agree with it
+agrees_long : (bytes rest : List ℕ) → bytes ≡ magic ++ rest → Agrees bytes
+agrees_long bytes rest e i lt _ = ap (λ l. slice_index l i) e ∙ get_or_append_left magic rest 0 i lt
+
+-- and so do bytes that begin the magic
+agrees_start : (bytes rest : List ℕ) → magic ≡ bytes ++ rest → Agrees bytes
+agrees_start bytes rest e i _ lt = sym (ap (λ l. slice_index l i) e ∙ get_or_append_left bytes rest 0 i lt)
+
+-- a file's text by its front
+front_of : (f : File) (rest : List ℕ) → file_text f ++ rest ≡ magic ++ (heading_text (heading_of f) ++ (body_text f ++ rest))
+front_of f rest =
+    append_assoc magic (heading_text (heading_of f) ++ body_text f) rest
+    ∙ ap (λ l. magic ++ l) (append_assoc (heading_text (heading_of f)) (body_text f) rest)
+
+-- a whole file begins its bytes
+begins_whole : (bytes : List ℕ) (f : File) → FileFits f → bytes ≡ file_text f → Begins bytes
+begins_whole bytes f fits e = (f, [], fits, e ∙ sym (append-nil (file_text f)))
+
+-- a file with bytes behind it begins them
+begins_trailing : (bytes : List ℕ) → FaultOf bytes fault.Trailing → Begins bytes
+begins_trailing bytes t = (t.0, t.1, t.2, t.3)
+
+-- where a file begins the bytes, they agree with the magic
+agrees_begins : (bytes : List ℕ) → Begins bytes → Agrees bytes
+agrees_begins bytes b = agrees_long bytes (heading_text (heading_of b.0) ++ (body_text b.0 ++ b.1)) (b.3 ∙ front_of b.0 b.1)
+
+-- where the heading isn't good, they do
+agrees_geometry : (bytes : List ℕ) → FaultOf bytes fault.Geometry → Agrees bytes
+agrees_geometry bytes g = agrees_long bytes (heading_text g.0 ++ g.1) g.3
+
+-- where the bytes are too short, they do
+agrees_short : (bytes : List ℕ) → FaultOf bytes fault.Short → Agrees bytes
+agrees_short bytes (inl s) = agrees_start bytes s.0 s.1
+agrees_short bytes (inr (inl s)) = agrees_long bytes s.0 s.1
+agrees_short bytes (inr (inr s)) = agrees_long bytes (heading_text s.0 ++ s.1) s.4
+
+-- four bytes
+length-u32 : (x : ℕ) → length (u32 x) ≡ 4
+unfolding u32
+length-u32 x = length-bytes_low_first 0 4 x
+
+-- a heading has 24 bytes
+length-heading_text : (h : Heading) → length (heading_text h) ≡ 24
+length-heading_text h = omega (
+  arith,
+  length-append (u32 h.w) (u32 h.k ++ (u32 h.n ++ (u32 h.roots ++ (u32 h.dirty ++ u32 h.current)))),
+  length-append (u32 h.k) (u32 h.n ++ (u32 h.roots ++ (u32 h.dirty ++ u32 h.current))),
+  length-append (u32 h.n) (u32 h.roots ++ (u32 h.dirty ++ u32 h.current)),
+  length-append (u32 h.roots) (u32 h.dirty ++ u32 h.current),
+  length-append (u32 h.dirty) (u32 h.current),
+  length-u32 h.w,
+  length-u32 h.k,
+  length-u32 h.n,
+  length-u32 h.roots,
+  length-u32 h.dirty,
+  length-u32 h.current,
+)
+
+-- bytes that have a heading aren't a part of the magic
+too_few : (bytes rest after : List ℕ) (h : Heading) → magic ≡ bytes ++ rest → 0 < length rest → bytes ≡ magic ++ (heading_text h ++ after) → ⊥
+too_few bytes rest after h e some d = omega (arith, ap length e, length-append bytes rest, some, ap length d, length-append magic (heading_text h ++ after))
+
+-- nor are the bytes behind the magic too few
+too_few_left : (bytes rest after : List ℕ) (h : Heading) → bytes ≡ magic ++ rest → length rest < 24 → bytes ≡ magic ++ (heading_text h ++ after) → ⊥
+too_few_left bytes rest after h e lt d =
+    let same : rest ≡ heading_text h ++ after = append_cancel_left magic rest (heading_text h ++ after) (sym e ∙ d) in
+    omega (arith, ap length same, length-append (heading_text h) after, length-heading_text h, lt)
+
+-- bytes have one heading at most
+one_heading : (bytes s t : List ℕ) (h g : Heading) → HeadingFits h → HeadingFits g → bytes ≡ magic ++ (heading_text h ++ s) → bytes ≡ magic ++ (heading_text g ++ t) → h ≡ g
+one_heading bytes s t h g fh fg e d = (heading_free h g s t fh fg (append_cancel_left magic (heading_text h ++ s) (heading_text g ++ t) (sym e ∙ d))).0
+
+-- a byte that differs from the magic's leaves no other fault
+magic_clash : (bytes : List ℕ) → FaultOf bytes fault.Magic → Agrees bytes → ⊥
+magic_clash bytes m agrees = m.3 (agrees m.0 m.1 m.2)
+
+-- bytes that are too short have no heading past the limits
+short_geometry : (bytes : List ℕ) → FaultOf bytes fault.Short → FaultOf bytes fault.Geometry → ⊥
+short_geometry bytes (inl s) g = too_few bytes s.0 g.1 g.0 s.1 s.2 g.3
+short_geometry bytes (inr (inl s)) g = too_few_left bytes s.0 g.1 g.0 s.1 s.2 g.3
+short_geometry bytes (inr (inr s)) g = g.4 (subst IsGoodHeading (one_heading bytes s.1 g.1 s.0 g.0 s.2 g.2 s.4 g.3) s.3)
+
+-- bytes that are too short don't begin with a file
+short_begins : (bytes : List ℕ) → FaultOf bytes fault.Short → Begins bytes → ⊥
+short_begins bytes (inl s) b = too_few bytes s.0 (body_text b.0 ++ b.1) (heading_of b.0) s.1 s.2 (b.3 ∙ front_of b.0 b.1)
+short_begins bytes (inr (inl s)) b = too_few_left bytes s.0 (body_text b.0 ++ b.1) (heading_of b.0) s.1 s.2 (b.3 ∙ front_of b.0 b.1)
+short_begins bytes (inr (inr s)) b = s.5 b.0 b.1 b.2 b.3
+
+-- nor do bytes with a heading past the limits
+geometry_begins : (bytes : List ℕ) → FaultOf bytes fault.Geometry → Begins bytes → ⊥
+geometry_begins bytes g b =
+    g.4 (subst IsGoodHeading (one_heading bytes (body_text b.0 ++ b.1) g.1 (heading_of b.0) g.0 b.2.heading g.2 (b.3 ∙ front_of b.0 b.1) g.3) b.2.limits)
+
+-- a whole file has no bytes behind it
+trailing_whole : (bytes : List ℕ) (f : File) → FaultOf bytes fault.Trailing → FileFits f → bytes ≡ file_text f → ⊥
+trailing_whole bytes f t fits e =
+    let one = file_free t.0 f t.1 [] t.2 fits (sym t.3 ∙ e ∙ sym (append-nil (file_text f))) in
+    omega (arith, ap length one.1, t.4)
+
+-- a file that is read whole has the fault
+abbrev Whole : List ℕ → Fault → Type 0
+Whole bytes e = (f : File) × FileFits f × (bytes ≡ file_text f) × FileFault f e
+
+-- a fault is one of the four of a text that can't be read, or a whole file's
+abbrev Cases : List ℕ → Fault → Type 0
+Cases bytes e =
+    ((e ≡ fault.Magic) × FaultOf bytes fault.Magic)
+    ⊎ (((e ≡ fault.Short) × FaultOf bytes fault.Short)
+    ⊎ (((e ≡ fault.Geometry) × FaultOf bytes fault.Geometry)
+    ⊎ (((e ≡ fault.Trailing) × FaultOf bytes fault.Trailing)
+    ⊎ Whole bytes e)))
+
+-- which of them it is
+cases_of : (bytes : List ℕ) (e : Fault) → FaultOf bytes e → Cases bytes e
+cases_of bytes fault.Magic x = inl (refl, x)
+cases_of bytes fault.Short x = inr (inl (refl, x))
+cases_of bytes fault.Geometry x = inr (inr (inl (refl, x)))
+cases_of bytes fault.Trailing x = inr (inr (inr (inl (refl, x))))
+cases_of bytes e x = inr (inr (inr (inr x)))
+
+-- each two of the cases are one, or exclude each other
+same_case : (bytes : List ℕ) (e d : Fault) → Cases bytes e → Cases bytes d → e ≡ d
+same_case bytes e d (inl x) (inl y) = x.0 ∙ sym y.0
+same_case bytes e d (inl x) (inr (inl y)) = absurd (magic_clash bytes x.1 (agrees_short bytes y.1))
+same_case bytes e d (inl x) (inr (inr (inl y))) = absurd (magic_clash bytes x.1 (agrees_geometry bytes y.1))
+same_case bytes e d (inl x) (inr (inr (inr (inl y)))) = absurd (magic_clash bytes x.1 (agrees_begins bytes (begins_trailing bytes y.1)))
+same_case bytes e d (inl x) (inr (inr (inr (inr y)))) = absurd (magic_clash bytes x.1 (agrees_begins bytes (begins_whole bytes y.0 y.1 y.2)))
+same_case bytes e d (inr (inl x)) (inl y) = absurd (magic_clash bytes y.1 (agrees_short bytes x.1))
+same_case bytes e d (inr (inl x)) (inr (inl y)) = x.0 ∙ sym y.0
+same_case bytes e d (inr (inl x)) (inr (inr (inl y))) = absurd (short_geometry bytes x.1 y.1)
+same_case bytes e d (inr (inl x)) (inr (inr (inr (inl y)))) = absurd (short_begins bytes x.1 (begins_trailing bytes y.1))
+same_case bytes e d (inr (inl x)) (inr (inr (inr (inr y)))) = absurd (short_begins bytes x.1 (begins_whole bytes y.0 y.1 y.2))
+same_case bytes e d (inr (inr (inl x))) (inl y) = absurd (magic_clash bytes y.1 (agrees_geometry bytes x.1))
+same_case bytes e d (inr (inr (inl x))) (inr (inl y)) = absurd (short_geometry bytes y.1 x.1)
+same_case bytes e d (inr (inr (inl x))) (inr (inr (inl y))) = x.0 ∙ sym y.0
+same_case bytes e d (inr (inr (inl x))) (inr (inr (inr (inl y)))) = absurd (geometry_begins bytes x.1 (begins_trailing bytes y.1))
+same_case bytes e d (inr (inr (inl x))) (inr (inr (inr (inr y)))) = absurd (geometry_begins bytes x.1 (begins_whole bytes y.0 y.1 y.2))
+same_case bytes e d (inr (inr (inr (inl x)))) (inl y) = absurd (magic_clash bytes y.1 (agrees_begins bytes (begins_trailing bytes x.1)))
+same_case bytes e d (inr (inr (inr (inl x)))) (inr (inl y)) = absurd (short_begins bytes y.1 (begins_trailing bytes x.1))
+same_case bytes e d (inr (inr (inr (inl x)))) (inr (inr (inl y))) = absurd (geometry_begins bytes y.1 (begins_trailing bytes x.1))
+same_case bytes e d (inr (inr (inr (inl x)))) (inr (inr (inr (inl y)))) = x.0 ∙ sym y.0
+same_case bytes e d (inr (inr (inr (inl x)))) (inr (inr (inr (inr y)))) = absurd (trailing_whole bytes y.0 x.1 y.1 y.2)
+same_case bytes e d (inr (inr (inr (inr x)))) (inl y) = absurd (magic_clash bytes y.1 (agrees_begins bytes (begins_whole bytes x.0 x.1 x.2)))
+same_case bytes e d (inr (inr (inr (inr x)))) (inr (inl y)) = absurd (short_begins bytes y.1 (begins_whole bytes x.0 x.1 x.2))
+same_case bytes e d (inr (inr (inr (inr x)))) (inr (inr (inl y))) = absurd (geometry_begins bytes y.1 (begins_whole bytes x.0 x.1 x.2))
+same_case bytes e d (inr (inr (inr (inr x)))) (inr (inr (inr (inl y)))) = absurd (trailing_whole bytes x.0 y.1 x.1 x.2)
+same_case bytes e d (inr (inr (inr (inr x)))) (inr (inr (inr (inr y)))) =
+    let same : y.0 ≡ x.0 = one_file bytes y.0 x.0 y.1 x.1 y.2 x.2 in
+    one_file_fault x.0 e d x.3 (subst (λ f. FileFault f d) same y.3)
+
+-- bytes have one fault at most
+pub one_fault : (bytes : List ℕ) (e d : Fault) → FaultOf bytes e → FaultOf bytes d → e ≡ d
+one_fault bytes e d x y = same_case bytes e d (cases_of bytes e x) (cases_of bytes d y)
+
+-- a fault of a whole file's bytes is the file's own
+pub fault_of_whole : (bytes : List ℕ) (f : File) (e : Fault) → FileFits f → bytes ≡ file_text f → FaultOf bytes e → FileFault f e
+fault_of_whole bytes f e fits text x = elim (cases_of bytes e x) [
+  | inl m ↦ absurd (magic_clash bytes m.1 (agrees_begins bytes (begins_whole bytes f fits text)))
+  | inr (inl s) ↦ absurd (short_begins bytes s.1 (begins_whole bytes f fits text))
+  | inr (inr (inl g)) ↦ absurd (geometry_begins bytes g.1 (begins_whole bytes f fits text))
+  | inr (inr (inr (inl t))) ↦ absurd (trailing_whole bytes f t.1 fits text)
+  | inr (inr (inr (inr w))) ↦ subst (λ f. FileFault f e) (one_file bytes w.0 f w.1 fits w.2 text) w.3
+]
