@@ -25,3 +25,6 @@ pub use laws::{accepted_or_bad, bought, efficiency, live_within_used, one_choice
 pub use named::given;
 pub use parameters::Cost;
 pub use pricing::{cost, total};
+
+#[cfg(test)]
+mod tests;
