@@ -2,3 +2,4 @@ pub mod Closed
 pub mod Sorted
 pub mod Inhabited
 pub mod Humongous
+pub mod Bought

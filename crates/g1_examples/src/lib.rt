@@ -5,6 +5,8 @@
 //! whole image after a pause. No code stands between the examples and the definitions.
 #![tactic(auto)]
 
+mod choosing;
+
 ghost use Rattle.std.specs.Prelude.{◌≡◌, List, [], ◌∷◌, map};
 ghost use Rattle.g1_words.specs.Valid.{IsValid};
 ghost use Rattle.g1_words.specs.Heap.{objects_in, regions};
@@ -17,6 +19,8 @@ ghost use Rattle.g1_image.specs.Cards.{refined, uncovered};
 ghost use Rattle.g1_image.specs.Moved.{Moved};
 ghost use Rattle.g1_examples.specs.Examples.{later_root_first, dead_owner, dead_cycle, shared_target, with_a_gap, one_object, one_object_after, three_regions, three_regions_image, dead_owner_image, dead_owner_after, shared_target_image, shared_target_after, humongous_owner, humongous_owner_image, humongous_owner_after};
 ghost use Rattle.g1_examples.specs.Texts.{one_object_text, one_object_after_text, dead_owner_text, dead_owner_after_text};
+
+pub use choosing::{choices, named_lists, refused_choices};
 
 /// Which objects survive, in which order, and where they are placed.
 pub fn searches()
@@ -65,3 +69,6 @@ pub fn texts()
     ensures dead_owner { file_text (file_of dead_owner_image) ≡ dead_owner_text }
     ensures dead_owner_after { file_text (file_of dead_owner_after) ≡ dead_owner_after_text }
 {}
+
+#[cfg(test)]
+mod tests;

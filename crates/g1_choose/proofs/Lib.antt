@@ -1,0 +1,10 @@
+pub mod Ratios
+pub mod Bounds
+pub mod Filtered
+pub mod Sorting
+pub mod Budget
+pub mod Rising
+pub mod Naming
+pub mod Insertion
+pub mod OneChoice
+pub mod LiveWithin

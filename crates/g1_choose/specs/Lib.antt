@@ -1,0 +1,5 @@
+pub mod Cost
+pub mod Choice
+pub mod Candidate
+pub mod Named
+pub mod Laws

@@ -1,0 +1,30 @@
+//! Which regions a pause collects: those that give most garbage for their cost, as far as a budget
+//! goes (Detlefs, Flood, Heller, Printezis, "Garbage-First Garbage Collection", 2004).
+//!
+//! 1. `cost` tells what collecting one region costs: so much for each card of its remembered set,
+//!    and so much for each byte that is still live in it. `total` adds what the pause costs in any
+//!    case, and so much for each dirty card.
+//! 2. `order` lists the candidates, the ordinary regions with garbage, by efficiency: garbage for
+//!    the cost. Two candidates are compared by products, never by a quotient that is rounded; where
+//!    they are equal, the lower region comes first.
+//! 3. `choose` takes the longest beginning of that order whose total is within the budget. A region
+//!    that doesn't fit ends the choice, also where a later one would fit.
+//! 4. `given` takes a list of regions that the caller names.
+#![tactic(auto)]
+
+mod candidate;
+mod choice;
+mod laws;
+mod named;
+mod parameters;
+mod pricing;
+
+pub use candidate::Candidate;
+pub use choice::{choose, order};
+pub use laws::{accepted_or_bad, bought, efficiency, live_within_used, one_choice};
+pub use named::given;
+pub use parameters::Cost;
+pub use pricing::{cost, total};
+
+#[cfg(test)]
+mod tests;

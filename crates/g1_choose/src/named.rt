@@ -1,0 +1,49 @@
+ghost use Rattle.std.specs.Prelude.{◌≡◌, ◌<◌, ◌⊎◌, ℕ, length, filter, slice_index, IsTrue, ◌↔◌, OnOk, IfOk, IfErr};
+ghost use Rattle.g1_words.specs.Heap.{regions, kind};
+ghost use Rattle.g1_words.specs.declared.region.Kind.TheVariants.{Ordinary};
+ghost use Rattle.g1_words.specs.Lists.{has};
+ghost use Rattle.g1_choose.specs.Named.{AreDistinctOrdinary, IsBadAt, IsFirstBad};
+
+use g1_words::{Fault, Heap, Kind};
+use std::alloc::Global;
+
+/// Refuses a list with a region that can't be taken.
+fn check(alloc: Global, heap: &Heap, list: &[u32]) -> Result<(), Fault>
+    ensures ok { OnOk result ((i : ℕ) → i < length list.now → IsBadAt heap.now list.now i → ⊥) }
+    ensures err { IfErr result (λ e. (e ≡ Fault.Memory) ⊎ ((i : ℕ) × IsFirstBad heap.now list.now i × (e ≡ Fault.Set (slice_index list.now i)))) }
+{
+    let mut named = vec![in alloc; false; heap.geometry().regions() as usize]?;
+    for region in list {
+        let place = *region as usize;
+        if place >= named.len() || named[place] || !is_ordinary(heap, *region) {
+            return Err(Fault::Set(*region));
+        }
+        named[place] = true;
+    }
+    Ok(())
+}
+
+/// Tells whether a region is an ordinary one.
+fn is_ordinary(heap: &Heap, region: u32) -> bool
+    requires { region < heap.now.geometry.n }
+    ensures { IsTrue result ↔ (kind heap.now region ≡ Ordinary) }
+{
+    matches!(heap.region(region).kind, Kind::Ordinary)
+}
+
+/// The regions of the list, rising.
+///
+/// # Errors
+///
+/// `Fault::Set` of the first region of the list that is out of range, isn't ordinary, or stands
+/// earlier in the list; else `Fault::Memory` alone.
+pub fn given(alloc: Global, heap: &Heap, list: &[u32]) -> Result<Vec<u32>, Fault>
+    ensures rising { IfOk result (λ v. v.items ≡ filter (has list.now) (regions heap.now)) }
+    ensures accepted { OnOk result (AreDistinctOrdinary heap.now list.now) }
+    ensures err { IfErr result (λ e. (e ≡ Fault.Memory) ⊎ ((i : ℕ) × IsFirstBad heap.now list.now i × (e ≡ Fault.Set (slice_index list.now i)))) }
+{
+    check(alloc, heap, list)?;
+    let mut set = list.to_vec(alloc)?;
+    set.sort_unstable();
+    Ok(set)
+}

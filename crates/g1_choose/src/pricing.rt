@@ -1,0 +1,23 @@
+ghost use Rattle.std.specs.Prelude.{◌≡◌, ◌<◌, ◌^◌};
+ghost use Rattle.g1_choose.specs.Cost.{IsCost, cost, total};
+
+use crate::parameters::Cost;
+
+/// The cost of a region with so many remembered cards and so many live bytes.
+pub fn cost(parameters: &Cost, rs_size: u64, live: u64) -> u128
+    requires { IsCost parameters.now }
+    ensures value { result ≡ cost parameters.now rs_size live }
+    ensures fits { result < 2 ^ 97 }
+{
+    u128::from(parameters.card) * u128::from(rs_size)
+        + u128::from(parameters.byte) * u128::from(live)
+}
+
+/// The cost of a pause with `d` dirty cards that collects regions of these costs.
+pub fn total(parameters: &Cost, d: u64, costs: &[u128]) -> u128
+    requires { total parameters.now d costs.now < 2 ^ 128 }
+    ensures { result ≡ total parameters.now d costs.now }
+{
+    let regions: u128 = costs.iter().sum();
+    u128::from(parameters.fixed) + u128::from(parameters.dirty) * u128::from(d) + regions
+}
