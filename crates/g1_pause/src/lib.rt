@@ -1,0 +1,13 @@
+//! The evacuation pause of a Garbage-First collector (Detlefs, Flood, Heller, Printezis,
+//! "Garbage-First Garbage Collection", 2004), over heap images.
+//!
+//! What stands so far is how a pause is asked for: how many workers share it and how many items they
+//! draw at once, what its parts cost, and which regions it is to collect. The pause itself is not
+//! built yet.
+#![tactic(auto)]
+
+mod settings;
+#[cfg(test)]
+mod tests;
+
+pub use settings::{Choice, Settings};
