@@ -1,0 +1,6 @@
+pub mod Lists
+pub mod Laying
+pub mod Forwarding
+pub mod Positions
+pub mod Running
+pub mod Conditions

@@ -1,0 +1,30 @@
+use Rattle.std.proofs.Common.{◌≡◌, ◌*◌, ◌/◌, ◌<◌, ◌≤◌, All, Contains, length, subst, sym, ap, ◌∙◌, arith}
+use Rattle.g1_words.specs.Layout.{free_regions, need}
+use Rattle.g1_layout.proofs.Conditions.{can_lay, set_in_heap}
+use Rattle.g1_layout.proofs.Running.{count_places}
+use Rattle.g1_layout.proofs.placing.place.Goals as goal
+
+pub need-need-requires : goal.need-need-requires
+need-need-requires c = can_lay c.args.heap.now c.args.set.now c.args.survivors.now c.geometry-geometry.ensures.valid c.requires
+
+pub places-requires-clause-fits : goal.places-requires-clause-fits
+places-requires-clause-fits c = can_lay c.args.heap.now c.args.set.now c.args.survivors.now c.geometry-geometry.ensures.valid c.requires
+
+pub runs-requires-clause-fits : goal.runs-requires-clause-fits
+runs-requires-clause-fits c = can_lay c.args.heap.now c.args.set.now c.args.survivors.now c.geometry-geometry.ensures.valid c.requires
+
+pub new-requires-clause-in_heap : goal.new-requires-clause-in_heap
+new-requires-clause-in_heap c =
+    subst (λ g. All (λ r. r < g.n) c.args.set.now) (sym c.geometry-geometry.ensures.same) (set_in_heap c.args.heap.now c.args.set.now c.args.survivors.now c.geometry-geometry.ensures.valid c.requires)
+
+pub new-requires-clause-in_set : goal.new-requires-clause-in_set
+new-requires-clause-in_set c =
+    subst (λ g. All (λ a. Contains c.args.set.now (a / g.w)) c.args.survivors.now) (sym c.geometry-geometry.ensures.same) c.requires.in_set
+
+pub new-requires-clause-one_each : goal.new-requires-clause-one_each
+new-requires-clause-one_each c =
+    let h = c.args.heap.now in
+    let l = c.args.survivors.now in
+    let valid = c.geometry-geometry.ensures.valid in
+    let room : need h l ≤ length (free_regions h) = omega (arith, c.if-need-free.false, c.need-need.ensures, c.free_count-free.ensures) in
+    ap length (c.deref-4.ensures.value ∙ c.in_ok-places.ensures.ok) ∙ count_places h l (omega (arith, valid.limits.w_least)) (can_lay h c.args.set.now l valid c.requires) room

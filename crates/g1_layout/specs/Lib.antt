@@ -1,0 +1,4 @@
+pub mod Placed
+pub mod Words
+pub mod Forwards
+pub mod Plan

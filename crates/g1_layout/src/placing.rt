@@ -1,0 +1,117 @@
+ghost use Rattle.std.specs.Prelude.{◌≡◌, ◌≤◌, ◌<◌, ◌+◌, ◌*◌, ◌^◌, ℕ, length, slice_index, IfOk, IfErr};
+ghost use Rattle.g1_words.specs.Layout.{need, free_regions, to_space as to_space_of, places as places_of};
+ghost use Rattle.g1_layout.specs.Placed.{CanLay, CanPlace};
+ghost use Rattle.g1_layout.specs.Plan.{laid_before, run_at, runs, plan_of};
+
+use crate::plan::{Plan, Run};
+use crate::row::{free_count, free_regions, need, next_fit, size_at};
+use crate::table::Table;
+use g1_words::{Fault, Heap, region_of};
+use std::alloc::Global;
+
+/// The survivors' new addresses.
+fn places(
+    alloc: Global,
+    heap: &Heap,
+    to_space: &[u32],
+    survivors: &[u64],
+) -> Result<Vec<u64>, Fault>
+    requires fits { CanLay heap.now survivors.now }
+    requires regions { to_space.now ≡ to_space_of heap.now survivors.now }
+    requires room { need heap.now survivors.now ≤ length (free_regions heap.now) }
+    ensures ok { IfOk result (λ v. v.items ≡ places_of heap.now survivors.now) }
+    ensures memory { IfErr result (λ e. e ≡ Fault.Memory) }
+{
+    let region_words = heap.geometry().region_words();
+    let mut places = Vec::with_capacity(alloc, survivors.len())?;
+    let mut end: u64 = 0;
+    for a in survivors {
+        let size = size_at(heap, *a);
+        let at = next_fit(region_words, end, size);
+        let region = u64::from(to_space[(at / region_words) as usize]);
+        places.push(region * region_words + at % region_words)?;
+        end = at + size;
+    }
+    Ok(places)
+}
+
+/// The run of a region of to-space, whose first survivor has this index.
+fn run_from(heap: &Heap, survivors: &[u64], places: &[u64], region: u32, from: usize) -> Run
+    requires fits { CanLay heap.now survivors.now }
+    requires placed { places.now ≡ places_of heap.now survivors.now }
+    requires room { need heap.now survivors.now ≤ length (free_regions heap.now) }
+    ensures { (t : ℕ) → t < need heap.now survivors.now → region ≡ slice_index (free_regions heap.now) t → from ≡ laid_before heap.now survivors.now t → result ≡ run_at heap.now survivors.now t }
+{
+    let geometry = heap.geometry();
+    let start = u64::from(region) * geometry.region_words();
+    let mut to = from;
+    let mut end: u64 = 0;
+    while to < places.len() && region_of(&geometry, places[to]) == u64::from(region) {
+        end = places[to] + size_at(heap, survivors[to]) - start;
+        to += 1;
+    }
+    Run {
+        region,
+        from,
+        to,
+        end,
+    }
+}
+
+/// The runs of the regions of to-space.
+fn runs(
+    alloc: Global,
+    heap: &Heap,
+    to_space: &[u32],
+    survivors: &[u64],
+    places: &[u64],
+) -> Result<Vec<Run>, Fault>
+    requires fits { CanLay heap.now survivors.now }
+    requires regions { to_space.now ≡ to_space_of heap.now survivors.now }
+    requires placed { places.now ≡ places_of heap.now survivors.now }
+    requires room { need heap.now survivors.now ≤ length (free_regions heap.now) }
+    ensures ok { IfOk result (λ v. v.items ≡ runs heap.now survivors.now) }
+    ensures memory { IfErr result (λ e. e ≡ Fault.Memory) }
+{
+    let mut runs = Vec::with_capacity(alloc, to_space.len())?;
+    let mut from: usize = 0;
+    for region in to_space {
+        let run = run_from(heap, survivors, places, *region, from);
+        from = run.to;
+        runs.push(run)?;
+    }
+    Ok(runs)
+}
+
+/// Where the survivors of a set of regions go, in time linear in the survivors, the regions and the
+/// words of the set.
+///
+/// # Errors
+///
+/// `Fault::Room` where the survivors need more regions than are free, before any memory was taken.
+pub fn place(alloc: Global, heap: &Heap, set: &[u32], survivors: &[u64]) -> Result<Plan, Fault>
+    requires { CanPlace heap.now set.now survivors.now }
+    ensures plan { IfOk result (λ p. p ≡ plan_of heap.now set.now survivors.now) }
+    ensures room { length (free_regions heap.now) < need heap.now survivors.now → result ≡ Err (Fault.Room (need heap.now survivors.now) (length (free_regions heap.now))) }
+    ensures memory { need heap.now survivors.now ≤ length (free_regions heap.now) → IfErr result (λ e. e ≡ Fault.Memory) }
+{
+    let geometry = heap.geometry();
+    let need = need(heap, survivors);
+    let free = free_count(heap);
+    if need > free {
+        return Err(Fault::Room { need, free });
+    }
+    let mut to_space = free_regions(alloc, heap)?;
+    to_space.truncate(need as usize);
+    let places = places(alloc, heap, &to_space, survivors)?;
+    let runs = runs(alloc, heap, &to_space, survivors, &places)?;
+    let table = Table::new(alloc, &geometry, set, survivors, &places)?;
+    Ok(Plan {
+        set: set.to_vec(alloc)?,
+        survivors: survivors.to_vec(alloc)?,
+        places,
+        to_space,
+        runs,
+        table,
+    })
+}

@@ -1,0 +1,91 @@
+ghost use Rattle.std.specs.Prelude.{◌≡◌, ◌*◌, length};
+ghost use Rattle.g1_words.specs.Layout.{moved_to};
+
+use crate::table::Table;
+use std::marker::Model;
+
+/// The survivors that stand in one region of to-space.
+#[derive(Debug, Clone, Copy, PartialEq, Eq)]
+pub struct Run {
+    /// The region's number.
+    pub region: u32,
+    /// The index of the first of these survivors in the list of all.
+    pub from: usize,
+    /// The index after the last of them.
+    pub to: usize,
+    /// Where the last of them ends, in words from the region's start.
+    pub end: u64,
+}
+
+/// Where the survivors of a set of regions go.
+#[derive(Drop)]
+pub struct Plan {
+    pub(crate) set: Vec<u32>,
+    pub(crate) survivors: Vec<u64>,
+    pub(crate) places: Vec<u64>,
+    pub(crate) to_space: Vec<u32>,
+    pub(crate) runs: Vec<Run>,
+    pub(crate) table: Table,
+}
+
+impl Model for Plan {
+    ghost use Rattle.g1_layout.specs.Plan.{Plan as PlanOf};
+    ghost use Rattle.g1_layout.specs.Forwards.{Forwards};
+
+    ghost Value = { PlanOf };
+
+    ghost view = { λ p. record { set = p.set.items; survivors = p.survivors.items; places = p.places.items; to_space = p.to_space.items; runs = p.runs.items } };
+
+    ghost invariant = { λ p. Forwards p.table p.survivors.items p.places.items };
+}
+
+impl Plan {
+    /// The regions of the set, rising.
+    pub fn set(&self) -> &[u32]
+        ensures { result.now ≡ self.now.set }
+    {
+        &self.set
+    }
+
+    /// The survivors' addresses, in the order in which they are found.
+    pub fn survivors(&self) -> &[u64]
+        ensures { result.now ≡ self.now.survivors }
+    {
+        &self.survivors
+    }
+
+    /// The survivors' new addresses, in the same order.
+    pub fn places(&self) -> &[u64]
+        ensures { result.now ≡ self.now.places }
+    {
+        &self.places
+    }
+
+    /// The regions that survivors are placed in, rising.
+    pub fn to_space(&self) -> &[u32]
+        ensures { result.now ≡ self.now.to_space }
+    {
+        &self.to_space
+    }
+
+    /// A run for each region of to-space, in the same order.
+    pub fn runs(&self) -> &[Run]
+        ensures { result.now ≡ self.now.runs }
+    {
+        &self.runs
+    }
+
+    /// The number of regions of to-space.
+    pub fn need(&self) -> u64
+        ensures { result ≡ length self.now.to_space }
+    {
+        self.to_space.len() as u64
+    }
+
+    /// The new address of what stands at an address: a survivor's place, and any other address itself.
+    pub fn forward(&self, a: u64) -> u64
+        ensures { result ≡ moved_to self.now.survivors self.now.places a }
+    {
+        self.table.get(a)
+    }
+}
