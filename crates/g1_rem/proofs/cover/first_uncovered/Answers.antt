@@ -1,0 +1,18 @@
+use Rattle.std.proofs.Common.{◌≡◌, ◌≤◌, ℕ, ap, ◌∙◌}
+use Rattle.std.specs.Prelude.{Some, Ok, Err, Contains}
+use Rattle.g1_words.proofs.Listed.{IfOk-then}
+use Rattle.g1_words.specs.Heap.{Heap}
+use Rattle.g1_image.specs.Cards.{uncovered}
+use Rattle.g1_image.proofs.Covers.{uncovered_rise}
+use Rattle.g1_rem.specs.Cover.{IsFirstOf}
+use Rattle.g1_rem.proofs.Places.{ready_start, first_least}
+use Rattle.g1_rem.proofs.cover.first_uncovered.Goals as goal
+
+pub first_of-requires : goal.first_of-requires
+first_of-requires c =
+    let n = c.regions-regions.ensures.value ∙ ap (λ g. g.n) c.geometry.ensures.same ∙ ap (λ (h : Heap). h.geometry.n) c.heap.ensures.same in
+    ready_start c.args.image.now c.deref_mut.result.now c.regions-regions.result c.heap.ensures.valid.heap (c.deref_mut.ensures.value ∙ c.in_ok-places.ensures.items_if_clones_equal (λ y same. same)) n
+
+pub returns-clause-lowest : goal.returns-clause-lowest
+returns-clause-lowest c =
+    IfOk-then (IsFirstOf (uncovered c.args.image.now)) (λ found. (p q : ℕ) → found ≡ Some p → Contains (uncovered c.args.image.now) q → p ≤ q) c.first_of.result (λ found first. first_least (uncovered c.args.image.now) found (uncovered_rise c.args.image.now c.heap.ensures.valid.heap) first) c.first_of.ensures.ok

@@ -1,0 +1,47 @@
+use Rattle.std.proofs.Common.{◌≡◌, ◌<◌, ◌+◌, ◌++◌, ◌∷◌, [], ◌∙◌, ℕ, List, true, length, slice_index, slice_index_or, get_or, take, map, All, Contains, arith, refl, ap, sym, subst}
+use Rattle.std.specs.Prelude.{Some, None}
+use Rattle.std.proofs.Math.ListN.{set}
+use Rattle.std.proofs.lemmas.List.{take_more, map-set, get_or_default, length-map}
+use Rattle.g1_words.specs.Valid.{IsReference}
+use Rattle.g1_rem.specs.Leads.{IsLedInto}
+use Rattle.g1_rem.specs.Entering.{IsGrown, with_card, enters}
+use Rattle.g1_rem.proofs.Lists.{get_or_map}
+use Rattle.g1_rem.proofs.Entering.{grown_start, grown_pass, grown_push}
+use Rattle.g1_rem.proofs.refining.add_card.Goals as goal
+use Rattle.g1_rem.proofs.refining.add_card.Goals.{In-loop-p, in-Some+in_ok-push_once, in_default}
+
+-- the slot at hand can be read
+good : (c : In-loop-p) → (slice_index c.args.slots.now c.loop-p.p-index < length c.args.heap.now.words) × IsReference c.args.heap.now (slice_index c.args.heap.now.words (slice_index c.args.slots.now c.loop-p.p-index))
+good c = c.requires.slots (slice_index c.args.slots.now c.loop-p.p-index) (c.loop-p.p-index, c.loop-p-test.true, get_or_default c.args.slots.now c.loop-p.p-index (slice_index c.args.slots.now c.loop-p.p-index) 0 c.loop-p-test.true)
+
+pub led_into-requires-clause-slot : goal.led_into-requires-clause-slot
+led_into-requires-clause-slot c = (good (goal.at.led_into-requires-clause-slot c).In-loop-p).0
+
+pub led_into-requires-clause-reference : goal.led_into-requires-clause-reference
+led_into-requires-clause-reference c = (good (goal.at.led_into-requires-clause-reference c).In-loop-p).1
+
+pub loop-p-preserved : goal.loop-p-preserved
+loop-p-preserved c =
+    let h = c.args.heap.now in
+    let p = slice_index c.args.slots.now c.loop-p.p-index in
+    let ps = take c.loop-p.p-index c.args.slots.now in
+    let more : take (c.loop-p.p-index + 1) c.args.slots.now ≡ take c.loop-p.p-index c.args.slots.now ++ slice_index c.args.slots.now c.loop-p.p-index ∷ [] =
+        take_more c.args.slots.now c.loop-p.p-index 0 c.loop-p-test.true in
+    subst (λ l. IsGrown c.args.heap.now c.args.card l (map (λ s. s.items) c.args.entering.now) (map (λ s. s.items) c.match-led_into.entering)) (sym more)
+    (elim c.match-led_into.branch [
+      | in-Some+in_ok-push_once w ↦ (
+          let r = w.in-Some.region in
+          let lt : w.in-Some.region < c.args.heap.now.geometry.n = w.in-Some.ensures.4 in
+          let in_old : w.in-Some.region < length (map (λ s. s.items) c.args.entering.now) = omega (arith, lt, c.requires.one_each, length-map c.args.entering.now (λ s. s.items)) in
+          let in_now : w.in-Some.region < length c.loop-p.entering = omega (arith, lt, c.requires.one_each, c.loop-p.auto.entering) in
+          let before = slice_index_or (map (λ s. s.items) c.args.entering.now) r [] in
+          let read = sym (get_or_map (λ s. s.items) c.loop-p.entering r w.index-entering-region.result [] in_now) ∙ c.loop-p.invariant.each r in_old in
+          let pushed = w.in_ok-push_once.ensures.ok before (enters h r ps) (c.requires.below r lt) read in
+          let same = ap (map (λ s. s.items)) w.entering-is ∙ map-set (λ s. s.items) c.loop-p.entering r w.push_once.new.cards in
+          subst (IsGrown c.args.heap.now c.args.card (take c.loop-p.p-index c.args.slots.now ++ slice_index c.args.slots.now c.loop-p.p-index ∷ []) (map (λ s. s.items) c.args.entering.now)) (sym same)
+              (grown_push h c.args.card p r ps w.push_once.new.cards.items (map (λ s. s.items) c.args.entering.now) (map (λ s. s.items) c.loop-p.entering) c.loop-p.invariant w.in-Some.ensures in_old pushed))
+      | in_default w ↦ (
+          let none = subst (IsLedInto c.args.heap.now (slice_index c.args.slots.now c.loop-p.p-index)) w.in_default.is c.led_into.ensures in
+          subst (λ l. IsGrown c.args.heap.now c.args.card (take c.loop-p.p-index c.args.slots.now ++ slice_index c.args.slots.now c.loop-p.p-index ∷ []) (map (λ s. s.items) c.args.entering.now) (map (λ s. s.items) l)) (sym w.entering-is)
+              (grown_pass h c.args.card p ps (map (λ s. s.items) c.args.entering.now) (map (λ s. s.items) c.loop-p.entering) c.loop-p.invariant none))
+    ])

@@ -1,0 +1,32 @@
+use Rattle.std.proofs.Common.{◌≡◌, ◌≢◌, ◌<◌, ◌∙◌, ◌++◌, List, ℕ, length, take, drop, All, AllPairs, arith, ap, sym, subst}
+use Rattle.std.specs.List.Sorted.{IsStrictlyIncreasing, IsPermutation}
+use Rattle.g1_words.specs.Lists.{has}
+use Rattle.g1_rem.specs.Starts.{card_count}
+use Rattle.g1_rem.proofs.Entering.{lent_back, sorted_rising, sorted_same, sorted_inside}
+use Rattle.g1_rem.proofs.refining.dirty_cards.Given.{Over}
+use Rattle.g1_rem.proofs.refining.dirty_cards.Goals as goal
+use Rattle.g1_rem.proofs.refining.dirty_cards.Goals.{After-par_sort_unstable}
+
+-- the vector has what the sort made of the log
+sorted : (g : Over) (c : After-par_sort_unstable g) → take c.in_ok-cards.cards.len (c.par_sort_unstable.new.s ++ drop (length c.par_sort_unstable.new.s) c.in_ok-cards.cards.items) ≡ c.par_sort_unstable.new.s
+sorted g c = lent_back c.in_ok-cards.cards.len c.deref_mut.result.now c.par_sort_unstable.new.s c.in_ok-cards.cards.items c.deref_mut.ensures.value c.par_sort_unstable.ensures.len c.deref_mut.ensures.len
+
+moved : (g : Over) (c : After-par_sort_unstable g) → IsPermutation c.args.image.now.log c.par_sort_unstable.new.s
+moved g c =
+    let same = c.deref_mut.ensures.value ∙ c.in_ok-cards.ensures.items ∙ c.as_slice.ensures.keys ∙ c.log.ensures in
+    subst (λ l. IsPermutation l c.par_sort_unstable.new.s) same c.par_sort_unstable.ensures.permutation
+
+pub returns-clause-rising : goal.returns-clause-rising
+returns-clause-rising g c =
+    let b = (goal.at.returns-clause-rising g c).After-par_sort_unstable in
+    subst IsStrictlyIncreasing (sym (sorted g b)) (sorted_rising c.args.image.now.log c.par_sort_unstable.new.s (moved g b) c.requires.log.distinct c.par_sort_unstable.ensures.sorted)
+
+pub returns-clause-same : goal.returns-clause-same
+returns-clause-same g c = λ x.
+    let b = (goal.at.returns-clause-same g c).After-par_sort_unstable in
+    ap (λ l. has l x) (sorted g b) ∙ sorted_same c.args.image.now.log c.par_sort_unstable.new.s (moved g b) x
+
+pub returns-clause-inside : goal.returns-clause-inside
+returns-clause-inside g c =
+    let b = (goal.at.returns-clause-inside g c).After-par_sort_unstable in
+    subst (All (λ c'. c' < card_count c.args.image.now.heap)) (sym (sorted g b)) (sorted_inside c.args.image.now.log c.par_sort_unstable.new.s (moved g b) c.args.image.now.heap c.requires.heap c.requires.log.used)

@@ -1,0 +1,19 @@
+use Rattle.std.proofs.Common.{◌≡◌, ◌∙◌, ap, sym, subst}
+use Rattle.std.specs.List.Sorted.{IsStrictlyIncreasing}
+use Rattle.g1_image.specs.Image.{set_of}
+use Rattle.g1_rem.proofs.Bare.{set_read}
+use Rattle.g1_rem.proofs.Entering.{refined_answer}
+use Rattle.g1_rem.proofs.refining.refined_set.Goals as goal
+use Rattle.g1_rem.proofs.refining.refined_set.Goals.{After-deref}
+
+the_set : (c : After-deref) → c.deref.result.now ≡ set_of c.args.image.now c.args.region
+the_set c = c.deref.ensures.value ∙ set_read (λ s. s.items) c.args.image.now c.sets.result.now c.args.region c.index-sets-region.result c.heap-heap.ensures.valid c.sets.ensures c.requires.region c.index-sets-region.is
+
+pub merged-requires-clause-left : goal.merged-requires-clause-left
+merged-requires-clause-left c =
+    subst IsStrictlyIncreasing (sym (the_set (goal.at.merged-requires-clause-left c).After-deref)) (c.heap-heap.ensures.valid.sets c.args.region c.requires.region).rising
+
+pub returns : goal.returns
+returns c =
+    refined_answer c.args.image.now c.args.region c.deref.result.now c.args.entering.now c.merged.result c.heap-heap.ensures.valid c.requires.region (the_set (goal.at.returns c).After-deref) c.requires.entering
+    c.merged.ensures.ok c.merged.ensures.memory

@@ -1,0 +1,26 @@
+use Rattle.std.proofs.Common.{arith, ap, sym, refl, subst, ◌∙◌, ◌≡◌, ◌≤◌, ◌<◌, ◌+◌, ◌*◌, ◌/◌, ◌^◌, ℕ, List, length, []}
+use Rattle.std.specs.Prelude.{Some, None}
+use Rattle.g1_words.specs.Geometry.{Geometry}
+use Rattle.g1_rem.specs.Marks.{IsMarkedTo, Told, objects_from}
+use Rattle.g1_rem.proofs.Marks.{told_start, told_all, all_left}
+use Rattle.g1_rem.proofs.starts.Starts.build.Goals as goal
+
+pub loop-region-init : goal.loop-region-init
+loop-region-init c =
+    let h = c.args.heap.now in
+    let none : c.new-firsts.result.items ≡ [] = c.new-firsts.ensures.items in
+    rw c.new-firsts.ensures.items (subst (λ l. Told c.args.heap.now l []) (sym (all_left h c.geometry-geometry.ensures.valid)) (told_start h c.geometry-geometry.ensures.valid), omega arith)
+
+pub returns-clause-ok : goal.returns-clause-ok
+returns-clause-ok c =
+    let h = c.args.heap.now in
+    let same : c.geometry-geometry.result ≡ c.args.heap.now.geometry = c.geometry-geometry.ensures.same in
+    let k : c.card_words.result ≡ c.args.heap.now.geometry.k = c.card_words.ensures.value ∙ ap (λ g. g.k) same in
+    let n : c.regions.result ≡ c.args.heap.now.geometry.n = c.regions.ensures.value ∙ ap (λ g. g.n) same in
+    let w : c.region_words.result ≡ c.args.heap.now.geometry.w = c.region_words.ensures.value ∙ ap (λ g. g.w) same in
+    let size : c.regions.result * c.region_words.result ≡ c.args.heap.now.geometry.n * c.args.heap.now.geometry.w = ap (λ x. x * c.region_words.result) n ∙ ap (λ x. c.args.heap.now.geometry.n * x) w in
+    let m : IsMarkedTo c.loop-region.firsts.items c.mark.new.firsts.items c.args.heap.now.geometry.k (c.args.heap.now.geometry.n * c.args.heap.now.geometry.w) None =
+        subst (λ x. IsMarkedTo c.loop-region.firsts.items c.mark.new.firsts.items x (c.args.heap.now.geometry.n * c.args.heap.now.geometry.w) None) k
+        (subst (λ x. IsMarkedTo c.loop-region.firsts.items c.mark.new.firsts.items c.card_words.result x None) size c.in_ok-mark.ensures.marked) in
+    let end : c.regions-region-end.result ≡ c.args.heap.now.geometry.n = c.regions-region-end.ensures.value ∙ ap (λ g. g.n) same in
+    told_all h c.geometry-geometry.ensures.valid c.loop-region.region (omega (arith, end, c.loop-region-test.false)) c.loop-region.firsts.items c.mark.new.firsts.items c.loop-region.invariant.0 m

@@ -1,0 +1,127 @@
+ghost use Rattle.std.specs.Prelude.{◌≡◌, ◌≤◌, ◌<◌, ◌⊎◌, ◌+◌, ◌-◌, ℕ, List, ◌∷◌, None, Some, length, filter, slice_index, Contains, IfOk, IfErr};
+ghost use Rattle.std.specs.List.{range_with_len};
+ghost use Rattle.g1_words.specs.Valid.{IsReference};
+ghost use Rattle.g1_image.specs.Cards.{uncovered};
+ghost use Rattle.g1_rem.specs.Marks.{objects_from};
+ghost use Rattle.g1_rem.specs.Cover.{is_bare, bare_in, IsFirstOf};
+ghost use Rattle.g1_rem.specs.Places.{IsBehind, AreBehind, AreReadyFor};
+
+use crate::header::REFS_RANGE;
+use crate::leads::led_into;
+use crate::tracked::Tracked;
+use g1_image::Image;
+use g1_words::{Fault, card_of, objects_in};
+use std::alloc::Global;
+use std::thread::Threads;
+
+/// The place of a rising list's first card, from a place on, that isn't below one.
+fn place_of(set: &[u32], from: usize, card: u32) -> usize
+    requires { IsBehind set.now from card }
+    ensures behind { IsBehind set.now result card }
+    ensures next { result < length set.now → card ≤ slice_index set.now result }
+{
+    let mut place = from;
+    'cards: while place < set.len() && set[place] < card {
+        place += 1;
+    }
+    place
+}
+
+/// Tells whether a slot isn't covered. The places in the remembered sets move on with the slots.
+fn is_uncovered(image: &Image, places: &mut [usize], p: u64) -> bool
+    requires slot { p < length image.now.heap.words }
+    requires reference { IsReference image.now.heap (slice_index image.now.heap.words p) }
+    requires behind { AreBehind image.now places.old p }
+    ensures uncovered { result ≡ is_bare image.now p }
+    ensures behind { AreBehind image.now places.new p }
+{
+    let heap = image.heap();
+    match led_into(heap, p) {
+        None => false,
+        Some(region) => {
+            let card = card_of(&heap.geometry(), p) as u32;
+            let set = &image.sets()[region as usize];
+            let place = place_of(set, places[region as usize], card);
+            places[region as usize] = place;
+            if place < set.len() && set[place] == card {
+                return false;
+            }
+            !image.log().contains(&card)
+        }
+    }
+}
+
+/// The first slot from one address on and below another that isn't covered.
+fn first_between(image: &Image, places: &mut [usize], from: u64, to: u64) -> Option<u64>
+    requires order { from ≤ to }
+    requires slots { to ≤ length image.now.heap.words }
+    requires references { (p : ℕ) → from ≤ p → p < to → IsReference image.now.heap (slice_index image.now.heap.words p) }
+    requires behind { AreBehind image.now places.old from }
+    ensures first { IsFirstOf (filter (is_bare image.now) (range_with_len from (to - from))) result }
+    ensures behind { AreBehind image.now places.new to }
+{
+    for p in from..to {
+        if is_uncovered(image, places, p) {
+            return Some(p);
+        }
+    }
+    None
+}
+
+/// The first slot of a region's objects that isn't covered.
+fn first_in(alloc: Global, image: &Image, places: &mut [usize], region: u32) -> Result<Option<u64>, Fault>
+    requires region { region < image.now.heap.geometry.n }
+    requires ready { AreReadyFor image.now places.old (objects_from image.now.heap region) }
+    ensures ok { IfOk result (IsFirstOf (bare_in image.now region)) }
+    ensures ready { IfOk result (λ found. found ≡ None → AreReadyFor image.now places.new (objects_from image.now.heap (region + 1))) }
+    ensures memory { IfErr result (λ e. e ≡ Fault.Memory) }
+{
+    let heap = image.heap();
+    let starts = objects_in(alloc, heap, region)?;
+    'objects: for at in &starts {
+        let refs = heap.words()[*at as usize] % REFS_RANGE;
+        if let Some(p) = first_between(image, places, *at + 1, *at + 1 + refs) {
+            return Ok(Some(p));
+        }
+    }
+    Ok(None)
+}
+
+/// The lowest slot that isn't covered, with a place in each remembered set.
+fn first_of(alloc: Global, image: &Image, places: &mut [usize]) -> Result<Option<u64>, Fault>
+    requires { AreReadyFor image.now places.old (objects_from image.now.heap 0) }
+    ensures ok { IfOk result (IsFirstOf (uncovered image.now)) }
+    ensures memory { IfErr result (λ e. e ≡ Fault.Memory) }
+{
+    for region in 0..image.heap().geometry().regions() as u32 {
+        if let Some(p) = first_in(alloc, image, places, region)? {
+            return Ok(Some(p));
+        }
+    }
+    Ok(None)
+}
+
+/// The lowest slot that isn't covered.
+fn first_uncovered(alloc: Global, image: &Image) -> Result<Option<u64>, Fault>
+    ensures ok { IfOk result (IsFirstOf (uncovered image.now)) }
+    ensures lowest { IfOk result (λ found. (p q : ℕ) → found ≡ Some p → Contains (uncovered image.now) q → p ≤ q) }
+    ensures memory { IfErr result (λ e. e ≡ Fault.Memory) }
+{
+    let regions = image.heap().geometry().regions() as usize;
+    let mut places = vec![in alloc; 0usize; regions]?;
+    first_of(alloc, image, &mut places)
+}
+
+/// The image as a covered one, or the image as it was with the lowest slot that isn't covered.
+pub fn verify(rt: &(impl Threads + Sync), alloc: Global, image: Image) -> Result<Tracked, (Image, Fault)>
+    ensures ok { IfOk result (λ t. t ≡ image) }
+    ensures same { IfErr result (λ e. e.0 ≡ image) }
+    ensures fault { IfErr result (λ e. (e.1 ≡ Fault.Memory) ⊎ ((p : ℕ) × (rest : List ℕ) × (uncovered image ≡ p ∷ rest) × (e.1 ≡ Fault.Uncovered p))) }
+    ensures lowest { IfErr result (λ e. (p q : ℕ) → e.1 ≡ Fault.Uncovered p → Contains (uncovered image) q → p ≤ q) }
+{
+    match first_uncovered(alloc, &image) {
+        Err(fault) => Err((image, fault)),
+        Ok(Some(p)) => Err((image, Fault::Uncovered(p))),
+        Ok(None) => Ok(Tracked { image }),
+    }
+}

@@ -1,0 +1,33 @@
+//! Remembered sets of a region heap: which slots lie on a card, whether every reference between
+//! regions is covered, and which cards lead into a region.
+//!
+//! 1. `Starts` tells for each card the object over its first word, wherever that object began: on an
+//!    earlier card, or in an earlier region of a humongous object's run.
+//! 2. `slots_on` walks from there over the objects that reach the card, and gives the slots whose own
+//!    address lies on it.
+//! 3. `verify` asks every slot by rising address. One that leads into another region has its card in
+//!    that region's remembered set or in the dirty log; else the lowest such slot is the fault. What
+//!    passes is a `Tracked` image, whose type keeps this from then on.
+//! 4. `refine` looks at the dirty cards alone: it adds to each region's remembered set those that
+//!    hold a slot of another region that names an object in it.
+//!
+//! The sets and the log are those of Detlefs, Flood, Heller, Printezis, "Garbage-First Garbage
+//! Collection", 2004.
+#![tactic(auto)]
+
+mod cover;
+mod header;
+mod laws;
+mod leads;
+mod merging;
+mod refining;
+mod slots;
+mod starts;
+mod tracked;
+
+pub use cover::verify;
+pub use laws::exact_cards;
+pub use refining::refine;
+pub use slots::slots_on;
+pub use starts::Starts;
+pub use tracked::{Tracked, image};

@@ -1,0 +1,153 @@
+ghost use Rattle.std.specs.Prelude.{◌≡◌, ◌<◌, ℕ, List, [], length, map, replicate, All, Bool, Contains, slice_index, slice_index_or, true, OnOk, IfOk, IfErr};
+ghost use Rattle.std.specs.List.Sorted.{IsStrictlyIncreasing};
+ghost use Rattle.g1_words.specs.Heap.{regions};
+ghost use Rattle.g1_words.specs.Lists.{has};
+ghost use Rattle.g1_words.specs.Valid.{IsReference, IsValid};
+ghost use Rattle.g1_image.specs.Cards.{refined};
+ghost use Rattle.g1_image.specs.Image.{IsImage};
+ghost use Rattle.g1_rem.specs.Starts.{IsStartsOf, card_count};
+ghost use Rattle.g1_rem.specs.Entering.{with_card, IsGrown, AreEntering, IsRefining, AreRefining, IsRefinedSet};
+
+use crate::leads::led_into;
+use crate::merging::merged;
+use crate::slots::slots_on;
+use crate::starts::Starts;
+use crate::tracked::{Tracked, image};
+use g1_image::Image;
+use g1_words::{Fault, Heap};
+use rayon::prelude::*;
+use std::alloc::Global;
+use std::thread::Threads;
+
+/// A region's set takes microseconds to copy: a thread of its own pays from some tens of regions on.
+const LEAST_PIECE: usize = 64;
+
+/// The dirty cards, rising.
+fn dirty_cards(rt: &(impl Threads + Sync), alloc: Global, image: &Image) -> Result<Vec<u32>, Fault>
+    requires { IsImage image.now }
+    ensures rising { IfOk result (λ v. IsStrictlyIncreasing v.items) }
+    ensures same { IfOk result (λ v. (c : ℕ) → has v.items c ≡ has image.now.log c) }
+    ensures inside { IfOk result (λ v. All (λ c. c < card_count image.now.heap) v.items) }
+    ensures memory { IfErr result (λ e. e ≡ Fault.Memory) }
+{
+    let mut cards = Vec::from_slice(alloc, image.log().as_slice())?;
+    par_sort_unstable(rt, &mut cards);
+    Ok(cards)
+}
+
+/// Adds a card to a list that ends below it, unless the card stands there already.
+fn push_once(cards: &mut Vec<u32>, card: u32) -> Result<(), Fault>
+    ensures ok { OnOk result ((before : List ℕ) (b : Bool) → All (λ c. c < card) before → cards.old.items ≡ with_card before card b → cards.new.items ≡ with_card before card true) }
+    ensures memory { IfErr result (λ e. e ≡ Fault.Memory) }
+{
+    let count = cards.len();
+    if count > 0 && cards[count - 1] == card {
+        return Ok(());
+    }
+    cards.push(card)?;
+    Ok(())
+}
+
+/// Adds a card to the list of each region that a slot on it leads into.
+fn add_card(heap: &Heap, slots: &[u64], card: u32, entering: &mut [Vec<u32>]) -> Result<(), Fault>
+    requires slots { (p : ℕ) → Contains slots.now p → (p < length heap.now.words) × IsReference heap.now (slice_index heap.now.words p) }
+    requires one_each { length entering.old ≡ heap.now.geometry.n }
+    requires below { (r : ℕ) → r < heap.now.geometry.n → All (λ c. c < card) (slice_index_or (map (λ s. s.items) entering.old) r []) }
+    ensures ok { OnOk result (IsGrown heap.now card slots.now (map (λ s. s.items) entering.old) (map (λ s. s.items) entering.new)) }
+    ensures memory { IfErr result (λ e. e ≡ Fault.Memory) }
+{
+    for p in slots {
+        if let Some(region) = led_into(heap, *p) {
+            push_once(&mut entering[region as usize], card)?;
+        }
+    }
+    Ok(())
+}
+
+/// Adds the dirty cards to the lists of the regions that they lead into.
+fn add_cards(alloc: Global, heap: &Heap, starts: &Starts, dirty: &[u32], entering: &mut [Vec<u32>]) -> Result<(), Fault>
+    requires heap { IsValid heap.now }
+    requires starts { IsStartsOf heap.now starts.now }
+    requires rising { IsStrictlyIncreasing dirty.now }
+    requires inside { All (λ c. c < card_count heap.now) dirty.now }
+    requires none { map (λ s. s.items) entering.old ≡ replicate heap.now.geometry.n [] }
+    ensures ok { OnOk result (AreEntering heap.now dirty.now (map (λ s. s.items) entering.new)) }
+    ensures memory { IfErr result (λ e. e ≡ Fault.Memory) }
+{
+    for card in dirty {
+        let slots = slots_on(alloc, heap, starts, *card);
+        add_card(heap, slots.as_slice(), *card, entering)?;
+    }
+    Ok(())
+}
+
+/// An empty list of cards for each region.
+fn no_cards(alloc: Global, regions: u64) -> Result<Vec<Vec<u32>>, Fault>
+    ensures ok { IfOk result (λ v. map (λ s. s.items) v.items ≡ replicate regions []) }
+    ensures memory { IfErr result (λ e. e ≡ Fault.Memory) }
+{
+    let mut sets: Vec<Vec<u32>> = Vec::new(alloc);
+    for _i in 0..regions {
+        sets.push(Vec::new(alloc))?;
+    }
+    Ok(sets)
+}
+
+/// For each region the dirty cards, rising, that hold a slot which leads into it.
+fn entering_cards(rt: &(impl Threads + Sync), alloc: Global, image: &Image, starts: &Starts) -> Result<Vec<Vec<u32>>, Fault>
+    requires { IsStartsOf image.now.heap starts.now }
+    ensures ok { IfOk result (λ v. AreRefining image.now (map (λ s. s.items) v.items)) }
+    ensures memory { IfErr result (λ e. e ≡ Fault.Memory) }
+{
+    let heap = image.heap();
+    let dirty = dirty_cards(rt, alloc, image)?;
+    let mut entering = no_cards(alloc, heap.geometry().regions())?;
+    add_cards(alloc, heap, starts, &dirty, &mut entering)?;
+    Ok(entering)
+}
+
+/// A region's remembered set with the dirty cards that lead into the region.
+fn refined_set(alloc: Global, image: &Image, region: u32, entering: &[u32]) -> Result<Vec<u32>, Fault>
+    requires region { region < image.now.heap.geometry.n }
+    requires entering { IsRefining image.now region entering.now }
+    ensures { IsRefinedSet image.now region result }
+{
+    let heap = image.heap();
+    merged(alloc, &image.sets()[region as usize], entering)
+}
+
+/// Each region's remembered set with the dirty cards that lead into the region.
+fn refined_sets(rt: &(impl Threads + Sync), alloc: Global, image: &Image, entering: &[Vec<u32>]) -> Result<Vec<Vec<u32>>, Fault>
+    requires { AreRefining image.now (map (λ s. s.items) entering.now) }
+    ensures ok { IfOk result (λ v. map (λ s. s.items) v.items ≡ map (refined image.now) (regions image.now.heap)) }
+    ensures memory { IfErr result (λ e. e ≡ Fault.Memory) }
+{
+    let count = image.heap().geometry().regions() as u32;
+    (0..count)
+        .into_par_iter()
+        .with_min_len(LEAST_PIECE)
+        .map(
+            |region: u32| -> Result<Vec<u32>, Fault>
+                requires { (region < image.now.heap.geometry.n) × AreRefining image.now (map (λ s. s.items) entering.now) }
+                ensures { IsRefinedSet image.entry.now region result }
+            { refined_set(alloc, image, region, &entering[region as usize]) },
+        )
+        .collect::<Result<Vec<Vec<u32>>, Fault>>(rt, alloc)?
+}
+
+/// The refined remembered set of each region: its remembered set with those dirty cards that hold a
+/// slot of another region which names an object in it. The log stays as it is.
+///
+/// Looks at the slots on the dirty cards alone, beside copying the sets.
+///
+/// # Errors
+/// `Fault::Memory` where a growth was refused.
+pub fn refine(rt: &(impl Threads + Sync), alloc: Global, tracked: &Tracked, starts: &Starts) -> Result<Vec<Vec<u32>>, Fault>
+    requires { IsStartsOf tracked.now.heap starts.now }
+    ensures ok { IfOk result (λ v. map (λ s. s.items) v.items ≡ map (refined tracked.now) (regions tracked.now.heap)) }
+    ensures memory { IfErr result (λ e. e ≡ Fault.Memory) }
+{
+    let image = image(tracked);
+    let entering = entering_cards(rt, alloc, image, starts)?;
+    refined_sets(rt, alloc, image, &entering)
+}

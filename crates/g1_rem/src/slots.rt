@@ -1,0 +1,68 @@
+ghost use Rattle.std.specs.Prelude.{◌≡◌, ◌≤◌, ◌<◌, ◌+◌, ◌-◌, ◌*◌, ◌++◌, List, length, filter, flat_map};
+ghost use Rattle.std.specs.List.{range_with_len};
+ghost use Rattle.smallvec.specs.SmallVec.{HasRoomFor};
+ghost use Rattle.g1_words.specs.declared.object.Object.{Object};
+ghost use Rattle.g1_words.specs.Heap.{slots};
+ghost use Rattle.g1_words.specs.Valid.{Tiles};
+ghost use Rattle.g1_words.specs.Walk.{Reaches};
+ghost use Rattle.g1_rem.specs.Starts.{IsStartsOf, card_count};
+ghost use Rattle.g1_rem.specs.Slots.{slots_on, is_between};
+
+use crate::header::REFS_RANGE;
+use crate::starts::Starts;
+use g1_words::{Heap, Kind};
+use smallvec::SmallVec;
+use std::alloc::Global;
+
+/// Adds the numbers from one on and below another.
+fn push_range(out: &mut SmallVec<u64, 64>, from: u64, to: u64)
+    requires { HasRoomFor out.old (to - from) }
+    ensures items { out.new.items ≡ out.old.items ++ range_with_len from (to - from) }
+    ensures capacity { out.new.capacity ≡ out.old.capacity }
+{
+    for p in from..to {
+        out.push_reserved(p);
+    }
+}
+
+/// The slots between two addresses, of the objects that fill the words between two others.
+fn slots_between(alloc: Global, words: &[u64], from: u64, to: u64, lo: u64, hi: u64) -> SmallVec<u64, 64>
+    requires filled { Reaches words.now from to }
+    requires in_words { to ≤ length words.now }
+    requires few { hi ≤ lo + 64 }
+    ensures { (os : List Object) → Tiles words.now from os to → result.items ≡ filter (is_between lo hi) (flat_map slots os) }
+{
+    let mut out = SmallVec::new(alloc);
+    let mut at = from;
+    'objects: while at < to && at < hi {
+        let header = words[at as usize];
+        let first = (at + 1).max(lo);
+        let last = (at + 1 + header % REFS_RANGE).min(hi);
+        push_range(&mut out, first, last);
+        at += header / REFS_RANGE;
+    }
+    out
+}
+
+/// The reference slots whose own address lies on a card, rising.
+pub fn slots_on(alloc: Global, heap: &Heap, starts: &Starts, card: u32) -> SmallVec<u64, 64>
+    requires starts { IsStartsOf heap.now starts.now }
+    requires card { card < card_count heap.now }
+    ensures { result.items ≡ slots_on heap.now card }
+{
+    let geometry = heap.geometry();
+    let lo = u64::from(card) * geometry.card_words();
+    match starts.first(card) {
+        None => SmallVec::new(alloc),
+        Some(first) => {
+            let at = u64::from(first);
+            let number = at / geometry.region_words();
+            let region = heap.region(number as u32);
+            let end = match region.kind {
+                Kind::Ordinary => number * geometry.region_words() + u64::from(region.top),
+                _ => at + heap.words()[at as usize] / REFS_RANGE,
+            };
+            slots_between(alloc, heap.words(), at, end, lo, lo + geometry.card_words())
+        }
+    }
+}

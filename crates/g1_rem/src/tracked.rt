@@ -1,0 +1,30 @@
+ghost use Rattle.std.specs.Prelude.{◌≡◌};
+ghost use Rattle.g1_image.specs.Cards.{Covered};
+
+use g1_image::Image;
+use std::marker::Model;
+
+/// An image of which every reference is covered.
+#[derive(Drop)]
+pub struct Tracked {
+    pub image: Image,
+}
+
+impl Model for Tracked {
+    ghost use Rattle.g1_image.specs.Image.{Image as ImageOf};
+    ghost use Rattle.g1_image.specs.Cards.{Covered};
+
+    ghost Value = { ImageOf };
+
+    ghost view = { λ t. t.image };
+
+    ghost invariant = { λ t. Covered t.image };
+}
+
+/// The image.
+pub fn image(tracked: &Tracked) -> &Image
+    ensures same { result.now ≡ tracked.now }
+    ensures covered { Covered tracked.now }
+{
+    &tracked.image
+}
