@@ -1,0 +1,10 @@
+pub mod Counts
+pub mod Steps
+pub mod Known
+pub mod Running
+pub mod Hiring
+pub mod InTurn
+pub mod Merging
+pub mod Gathering
+pub mod Whole
+pub mod Client

@@ -1,0 +1,5 @@
+pub mod Dealer
+pub mod Rule
+pub mod Each
+pub mod Worker
+pub mod Merge

@@ -1,0 +1,170 @@
+ghost use Rattle.std.specs.Prelude.{◌≡◌, ◌<◌, ◌≤◌, ◌^◌, [], IfOk, IfErr, vec_len, All, ℕ};
+ghost use Rattle.g1_work.specs.Dealer.{IsSeatOf};
+ghost use Rattle.g1_work.specs.Each.{IsEachRun, IsFaultOf};
+ghost use Rattle.g1_work.specs.Worker.{IsFresh, IsDone, IsHired, AreBack};
+
+use crate::dealer::{DealSeat, Dealer};
+use crate::gate::{Gate, Part};
+use crate::gather::gather;
+use crate::merge::in_order;
+use crate::task::Task;
+use crate::worker::{Gathered, Worked, Worker};
+use g1_words::Fault;
+use std::alloc::{AllocError, Global};
+use std::collections::VecDeque;
+use std::thread;
+use std::thread::Threads;
+
+// Draws chunks and runs the task on each, until none is left.
+fn work<T: Task, G: Gate>(
+    alloc: Global,
+    dealer: &Dealer,
+    task: &T,
+    gate: &G,
+    worker: Worker<T::State>,
+) -> Result<Worked<T::State, T::Out>, Fault>
+    requires { IsFresh (T.ready task.now) dealer.now worker }
+    ensures ok { IfOk result (IsDone (T.runs task.now) dealer.now worker) }
+    ensures err { IfErr result (IsFaultOf (T.may_fail task.now) dealer.now.chunks) }
+{
+    let Worker {
+        mut seat,
+        mut state,
+    } = worker;
+    let mut outs = VecDeque::new(alloc);
+    while let Some(chunk) = dealer.take(&mut seat) {
+        gate.at(Part::Deal, chunk);
+        let out = task.run(&mut state, chunk)?;
+        outs.push_back((chunk, out))?;
+    }
+    Ok(Worked { seat, state, outs })
+}
+
+// A worker for each state, from the last to the first. The first state's worker keeps the shares
+// that are left.
+fn hire<S: Drop>(
+    alloc: Global,
+    dealer: &Dealer,
+    mut seat: DealSeat,
+    mut states: Vec<S>,
+) -> Result<Vec<Worker<S>>, AllocError>
+    requires count { (0 < vec_len states) × (vec_len states ≤ 64) }
+    requires seat { IsSeatOf dealer.now seat × (seat.shares ≡ 64) × (seat.draws ≡ []) }
+    ensures { IfOk result (λ v. IsHired dealer.now states.items v.items) }
+{
+    let mut workers = Vec::new(alloc);
+    while states.len() > 1 {
+        let Some(state) = states.pop() else {
+            unreachable!()
+        };
+        let theirs = dealer.split(&mut seat);
+        workers.push(Worker {
+            seat: theirs,
+            state,
+        })?;
+    }
+    let Some(state) = states.pop() else {
+        unreachable!()
+    };
+    workers.push(Worker { seat, state })?;
+    Ok(workers)
+}
+
+// Each worker in turn, on the thread that asked.
+fn run_in_turn<T: Task, G: Gate>(
+    alloc: Global,
+    dealer: &Dealer,
+    task: &T,
+    gate: &G,
+    workers: Vec<Worker<T::State>>,
+) -> Result<Vec<Result<Worked<T::State, T::Out>, Fault>>, AllocError>
+    requires { All (IsFresh (T.ready task.now) dealer.now) workers.items }
+    ensures { IfOk result (λ v. AreBack (T.runs task.now) (T.may_fail task.now) dealer.now workers.items v.items) }
+{
+    let mut results = Vec::new(alloc);
+    for worker in workers {
+        let result = work(alloc, dealer, task, gate, worker);
+        results.push(result)?;
+    }
+    Ok(results)
+}
+
+// Each worker in a thread of its own where one can be made, and else on the thread that asked.
+fn run_by_threads<R: Threads + Sync, T: Task + Sync, G: Gate + Sync>(
+    rt: &R,
+    alloc: Global,
+    dealer: &Dealer,
+    task: &T,
+    gate: &G,
+    workers: Vec<Worker<T::State>>,
+) -> Result<Vec<Result<Worked<T::State, T::Out>, Fault>>, AllocError>
+    requires { All (IsFresh (T.ready task.now) dealer.now) workers.items }
+    ensures { IfOk result (λ v. AreBack (T.runs task.now) (T.may_fail task.now) dealer.now workers.items v.items) }
+{
+    thread::map_vec(
+        rt,
+        workers,
+        &|worker: Worker<T::State>| -> Result<Worked<T::State, T::Out>, Fault>
+            requires { IsFresh (T.ready task.now) dealer.now worker }
+            ensures ok { IfOk result (IsDone (T.runs task.entry.now) dealer.entry.now worker) }
+            ensures err { IfErr result (IsFaultOf (T.may_fail task.entry.now) dealer.entry.now.chunks) }
+        { work(alloc, dealer, task, gate, worker) },
+    )
+}
+
+// A thread costs more than a chunk, so with at most one chunk none is started.
+fn run_all<R: Threads + Sync, T: Task + Sync, G: Gate + Sync>(
+    rt: &R,
+    alloc: Global,
+    dealer: &Dealer,
+    task: &T,
+    gate: &G,
+    workers: Vec<Worker<T::State>>,
+    chunks: u64,
+) -> Result<Vec<Result<Worked<T::State, T::Out>, Fault>>, AllocError>
+    requires { All (IsFresh (T.ready task.now) dealer.now) workers.items }
+    ensures { IfOk result (λ v. AreBack (T.runs task.now) (T.may_fail task.now) dealer.now workers.items v.items) }
+{
+    if chunks <= 1 {
+        run_in_turn(alloc, dealer, task, gate, workers)
+    } else {
+        run_by_threads(rt, alloc, dealer, task, gate, workers)
+    }
+}
+
+/// Runs the task once on each chunk below `chunks`, and gives the states and the outs.
+///
+/// There is one worker for each state, 1 to 64. Each draws chunks until none is left, and before
+/// each run tells the gate of the chunk as `Deal`. The states come back in their order, each as the
+/// chunks that its worker drew, in rising order, made it; the outs are in the order of the chunks.
+/// A worker for which no thread can be had does its part on the thread that asked. With at most one
+/// chunk no thread is started.
+///
+/// # Errors
+/// `Memory`, or a fault that the task states for one of the chunks. The states are given up.
+pub fn each_chunk<R: Threads + Sync, T: Task + Sync, G: Gate + Sync>(
+    rt: &R,
+    alloc: Global,
+    states: Vec<T::State>,
+    chunks: u64,
+    task: &T,
+    gate: &G,
+) -> Result<(Vec<T::State>, Vec<T::Out>), Fault>
+    requires chunks { chunks < 2 ^ 32 }
+    requires workers { (0 < vec_len states) × (vec_len states ≤ 64) }
+    requires ready { All (λ s. (chunk : ℕ) → chunk < chunks → T.ready task.now s chunk) states.items }
+    ensures ok { IfOk result (λ r. IsEachRun (T.runs task.now) chunks states.items r.0.items r.1.items) }
+    ensures err { IfErr result (IsFaultOf (T.may_fail task.now) chunks) }
+{
+    let (dealer, seat) = Dealer::new(alloc, chunks)?;
+    let workers = hire(alloc, &dealer, seat, states)?;
+    let results = run_all(rt, alloc, &dealer, task, gate, workers, chunks)?;
+    let Gathered {
+        seat,
+        states,
+        parts,
+    } = gather(alloc, &dealer, results)?;
+    dealer.close(seat);
+    let outs = in_order(alloc, parts, chunks)?;
+    Ok((states, outs))
+}

@@ -1,0 +1,22 @@
+/// The part of the work that a gate is told of.
+#[derive(Clone, Copy, Debug, PartialEq, Eq)]
+pub enum Part {
+    /// Chunks that workers draw, by their numbers.
+    Deal,
+    /// Runs of regions that workers fill, by their numbers.
+    Fill,
+}
+
+/// A watcher for tests. It is told of each piece of work before it is done, by the thread that
+/// does it, and changes no answer.
+pub trait Gate {
+    fn at(&self, part: Part, number: u64);
+}
+
+/// The gate that does nothing.
+#[derive(Clone, Copy)]
+pub struct Open;
+
+impl Gate for Open {
+    fn at(&self, _part: Part, _number: u64) {}
+}

@@ -1,0 +1,36 @@
+//! Work that is cut into chunks, and the workers that draw them.
+//!
+//! The tasks of a pause are claimed by its threads, and each task is done by one thread (Detlefs,
+//! Flood, Heller, Printezis, "Garbage-First Garbage Collection", 2004). Here the tasks are the
+//! numbers below a count of chunks, and the claim is one step on one shared word, the cursor:
+//!
+//! 1. A dealer is made with the cursor at 0, and with one seat that has 64 shares. A thread needs
+//!    a seat of its own; a seat that has several shares can be split.
+//! 2. To draw, a thread adds one to the cursor by a single `fetch_add`. What it finds is its
+//!    number, or, from the count of chunks on, tells that every number has been drawn. Nothing is
+//!    tried again, nothing waits, and no memory is taken.
+//! 3. One load of the cursor tells how many numbers have been drawn.
+//! 4. Seats are joined again. The seat of all 64 shares has drawn each number once where it knows
+//!    that all are drawn, and closing the dealer with it gives the cursor.
+//! 5. `each_chunk` runs a task so: a worker for each state draws chunks until none is left, and
+//!    keeps what each gave. Then each chunk's out is put at its place.
+//!
+//! What holds of the cursor between any two steps is one definition, `Dealing` of `specs/Rule`.
+//! What a seat has drawn stands in the proofs alone: the list takes no bytes.
+#![tactic(auto)]
+
+mod dealer;
+mod each;
+mod gate;
+mod gather;
+mod merge;
+mod rule;
+mod task;
+#[cfg(test)]
+mod tests;
+mod worker;
+
+pub use dealer::{DealSeat, Dealer, shares};
+pub use each::each_chunk;
+pub use gate::{Gate, Open, Part};
+pub use task::Task;
