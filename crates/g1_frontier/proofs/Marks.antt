@@ -1,12 +1,11 @@
 -- What was found, and the marks that tell it.
-use Rattle.std.proofs.Common.{◌≡◌, ◌≢◌, ℕ, zero, suc, ◌+◌, ◌<◌, ◌≤◌, ◌⊎◌, inl, inr, Bool, true, false, cond, not, ◌||◌, List, [], ◌∷◌, ◌++◌, filter, length, get_or, set, sym, refl, ap, ◌∙◌, subst, arith, eqb, eqb-true, eq-eqb, append_assoc, length-append, append-nil, true≢false, get_or-set_same, get_or-set_other, ⊎_elim, replicate}
-use Rattle.std.specs.List.{All, flat_map, list_any}
-use Rattle.std.proofs.lemmas.List.Elements.{All-append, All-cons, All-nil, filter-append}
+use Rattle.std.proofs.Common.{◌≡◌, ℕ, zero, suc, ◌+◌, ◌<◌, ◌≤◌, inl, inr, Bool, true, false, cond, not, List, [], ◌∷◌, ◌++◌, filter, length, get_or, set, sym, refl, ap, ◌∙◌, subst, arith, eqb, eqb-true, append_assoc, length-append, append-nil, true≢false, get_or-set_same, get_or-set_other, ⊎_elim, replicate}
+use Rattle.std.proofs.lemmas.List.Elements.{All-append, All-cons, All-nil}
 use native.Mathlib.Decide.{ℕ_discrete}
 use Rattle.g1_words.specs.Lists.{has}
 use Rattle.g1_words.specs.Survivors.{firsts}
 use Rattle.g1_frontier.specs.Search.{IsSeen, marked}
-use Rattle.g1_words.proofs.Members.{In, In-append_left, In-append_right, In-append_cases, has_from_in, in_from_has, filter_member}
+use Rattle.g1_words.proofs.Members.{In, In-append_left, In-append_right, In-append_cases, has_from_in, in_from_has}
 use Rattle.g1_words.proofs.Firsts.{In-firsts, firsts_member, Distinct, Distinct-firsts, firsts-append, filter-same}
 
 bool_same : (a b : Bool) → (a ≡ true → b ≡ true) → (b ≡ true → a ≡ true) → a ≡ b

@@ -1,14 +1,13 @@
 -- What items name, slot by slot.
 use Rattle.std.proofs.Common.{◌≡◌, ◌≤◌, ◌<◌, ℕ, zero, suc, ◌+◌, ◌-◌, ◌*◌, ◌%◌, ◌^◌, inl, inr, Bool, true, false, cond, List, [], ◌∷◌, ◌++◌, length, get_or, take, filter, flat_map, Contains, arith, refl, sym, ap, subst, ◌∙◌, append_assoc, append-nil}
-use Rattle.std.specs.List.{range_with_len, All}
-use Rattle.std.proofs.lemmas.List.{take_more, flat_map_more}
+use Rattle.std.specs.List.{range_with_len}
 use Rattle.std.proofs.lemmas.Grind.{flat_map-append}
 use Rattle.g1_words.specs.Heap.{Heap, word, objects, object_at, slots}
 use Rattle.g1_words.specs.References.{named}
 use Rattle.g1_words.specs.Valid.{IsValid}
 use Rattle.g1_words.proofs.Bounds.{object_within}
-use Rattle.g1_words.proofs.Computed.{contains_has, range_below, range_above}
-use Rattle.g1_words.proofs.Members.{In, In-from_contains, Contains-from_in, filter_member, flat_map_cases}
+use Rattle.g1_words.proofs.Computed.{contains_has, range_below}
+use Rattle.g1_words.proofs.Members.{In, Contains-from_in, filter_member, flat_map_cases}
 use Rattle.g1_words.proofs.Sound.{sound}
 use Rattle.g1_rem.specs.Slots.{all_slots, slots_on}
 use Rattle.g1_frontier.proofs.Seeds.{filter_append}

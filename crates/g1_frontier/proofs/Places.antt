@@ -1,5 +1,5 @@
 -- Where regions and addresses stand in the window.
-use Rattle.std.proofs.Common.{◌≡◌, ◌≢◌, ◌≤◌, ◌<◌, ℕ, zero, suc, ◌+◌, ◌*◌, ◌/◌, ◌%◌, inl, inr, Bool, true, false, List, [], ◌∷◌, ◌++◌, length, get_or, set, take, slice_index, slice_index_or, Contains, arith, refl, sym, ap, subst, ◌∙◌, get_or-set_same, get_or-set_other, div-add-mod', length-set, length-append, replicate}
+use Rattle.std.proofs.Common.{◌≡◌, ◌≢◌, ◌≤◌, ◌<◌, ℕ, zero, suc, ◌+◌, ◌*◌, ◌/◌, ◌%◌, inl, inr, Bool, true, false, List, [], ◌∷◌, ◌++◌, length, get_or, set, slice_index, slice_index_or, arith, refl, sym, ap, subst, ◌∙◌, get_or-set_same, get_or-set_other, div-add-mod', length-set, length-append, replicate}
 use Rattle.std.specs.Prelude.{Option, Some, None}
 use Rattle.std.specs.List.{All}
 use Rattle.std.proofs.Math.Nat.{mod-lt, mul-le-mul_right}
@@ -90,8 +90,8 @@ no_position window r o s e = same_bool (has window r) (λ t. (subst (StandsAt wi
 -- a region past the heap's isn't in the window
 pub past_regions : (n : ℕ) (window : List ℕ) (r : ℕ) → All (λ x. x < n) window → n ≤ r → has window r ≡ false
 past_regions n window r below ge = same_bool (has window r) (λ t.
-  let c = Contains-from_in window r (in_from_has window r t) in
-  let k = below c.0 r c.1 in omega (arith, ge, k, c.2))
+    let c = Contains-from_in window r (in_from_has window r t) in
+    let k = below c.0 r c.1 in omega (arith, ge, k, c.2))
 
 stands_some : (window : List ℕ) (r : ℕ) (o : Option ℕ) → StandsAt window r o → In window r → (position o < length window) × (slice_index window (position o) ≡ r)
 stands_some window r None s i = absurd (s (Contains-from_in window r i))

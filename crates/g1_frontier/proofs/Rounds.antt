@@ -1,9 +1,8 @@
 -- What the items of a list name, put together.
-use Rattle.std.proofs.Common.{◌≡◌, ℕ, zero, suc, ◌+◌, ◌-◌, ◌*◌, ◌/◌, ◌%◌, ◌<◌, ◌≤◌, List, [], ◌∷◌, ◌++◌, map, length, get_or, take, drop, sym, refl, ap, ◌∙◌, subst, arith, append_assoc, append-nil, lt_of_not-le}
-use Rattle.std.specs.List.{All, flat_map}
+use Rattle.std.proofs.Common.{◌≡◌, ℕ, zero, suc, ◌+◌, ◌-◌, ◌*◌, ◌/◌, ◌<◌, ◌≤◌, List, [], ◌∷◌, ◌++◌, length, get_or, take, drop, sym, refl, ap, ◌∙◌, subst, arith, lt_of_not-le}
+use Rattle.std.specs.List.{flat_map}
 use Rattle.std.proofs.lemmas.List.{take_more, flat_map_more, drop-drop}
 use Rattle.std.proofs.lemmas.List.Concat.{flat_map-append}
-use Rattle.std.proofs.lemmas.List.Elements.{All-append, All-cons, All-nil}
 use Rattle.std.proofs.lemmas.Nat.{div-add-mod'}
 use Rattle.std.proofs.Math.Nat.{mod-lt, mul-le-mul_right, mul-le-mul_left}
 use native.Mathlib.Decide.{dec_le}
@@ -31,7 +30,7 @@ pub outs_from : {A O : Type 0} (items : O → List ℕ) (f : A → List ℕ) (si
 outs_from items f size xs [] k le h = ap (flat_map f) (sym (drop_all xs (k * size) (omega (arith, le))))
 outs_from {A} {O} items f size xs (o ∷ os) k le h =
     let rest : flat_map items os ≡ flat_map f (drop ((k + 1) * size) xs) = outs_from items f size xs os (k + 1) (omega (arith, le))
-        (λ j d lt. let e : k + suc j ≡ (k + 1) + j = omega arith in h (suc j) d (omega arith) ∙ ap (λ n. flat_map f (piece size n xs)) e) in
+    (λ j d lt. let e : k + suc j ≡ (k + 1) + j = omega arith in h (suc j) d (omega arith) ∙ ap (λ n. flat_map f (piece size n xs)) e) in
     let here : items o ≡ flat_map f (piece size k xs) = h 0 o (omega arith) ∙ ap (λ n. flat_map f (piece size n xs)) (let e : k + 0 ≡ k = omega arith in e) in
     let split : take size (drop (k * size) xs) ++ drop size (drop (k * size) xs) ≡ drop (k * size) xs = take_drop size (drop (k * size) xs) in
     let next : drop size (drop (k * size) xs) ≡ drop ((k + 1) * size) xs = drop-drop size (k * size) xs ∙ ap (λ n. drop n xs) (let e : k * size + size ≡ (k + 1) * size = omega arith in e) in

@@ -1,11 +1,11 @@
 -- What belongs together in a search, and what is read from it.
-use Rattle.std.proofs.Common.{◌≡◌, ◌≤◌, ◌<◌, ℕ, zero, suc, ◌+◌, ◌*◌, ◌/◌, ◌^◌, inl, inr, Bool, true, false, List, [], ◌∷◌, ◌++◌, length, get_or, map, filter, flat_map, Contains, arith, refl, sym, ap, subst, ◌∙◌, length-append}
+use Rattle.std.proofs.Common.{◌≡◌, ◌≤◌, ◌<◌, ℕ, zero, suc, ◌+◌, ◌*◌, ◌^◌, inl, inr, true, List, [], ◌∷◌, length, get_or, map, flat_map, arith, refl, sym, ap, subst, ◌∙◌, length-append}
 use Rattle.std.specs.List.{All}
 use Rattle.std.proofs.lemmas.List.{length-map}
 use Rattle.std.proofs.lemmas.List.Elements.{All-append}
 use Rattle.std.proofs.lemmas.List.Kept.{AllPairs-from_increasing}
 use Rattle.std.proofs.Math.Nat.{mul-le-mul_right, div-le_self}
-use Rattle.g1_words.specs.Heap.{Heap, objects, object_at}
+use Rattle.g1_words.specs.Heap.{Heap}
 use Rattle.g1_words.specs.Live.{Reached}
 use Rattle.g1_words.specs.Survivors.{in_set, seeds, children}
 use Rattle.g1_words.specs.Valid.{IsValid}
@@ -59,8 +59,8 @@ names_inside h window (Object b) = all_from_in (λ a. in_set h window a ≡ true
 pub all_inside : (h : Heap) (window : List ℕ) (items : List Item) (named : List ℕ) → named ≡ flat_map (names h window) items → All (λ a. in_set h window a ≡ true) named
 all_inside h window items named e =
     subst (All (λ a. in_set h window a ≡ true)) (sym e) (all_from_in (λ a. in_set h window a ≡ true) (flat_map (names h window) items) (λ a k.
-      let m = flat_map_cases (names h window) items a k in
-      all_in (λ a. in_set h window a ≡ true) (names h window m.0) a (names_inside h window m.0) m.2))
+    let m = flat_map_cases (names h window) items a k in
+    all_in (λ a. in_set h window a ≡ true) (names h window m.0) a (names_inside h window m.0) m.2))
 
 -- ---- counts
 
@@ -109,7 +109,7 @@ module _ (h : Heap) (valid : IsValid h) (cards : List ℕ) (rising : AreCards h 
   pub first_few : length (first_items h.roots cards) < 2 ^ 32
   first_few =
       let len : length (first_items h.roots cards) ≡ length h.roots + length cards =
-          length-append (map Root h.roots) (map Card cards) ∙ (let a : length (map Root h.roots) ≡ length h.roots = length-map h.roots Root in let b : length (map Card cards) ≡ length cards = length-map cards Card in λ i. a i + b i) in
+      length-append (map Root h.roots) (map Card cards) ∙ (let a : length (map Root h.roots) ≡ length h.roots = length-map h.roots Root in let b : length (map Card cards) ≡ length cards = length-map cards Card in λ i. a i + b i) in
       let few = rising_few (card_count h) cards rising in
       let most = div-le_self (h.geometry.n * h.geometry.w) h.geometry.k in
       omega (arith, len, few, most, valid.root_count, valid.limits.words_most)

@@ -1,5 +1,5 @@
 -- What the first items name in the window are the seeds.
-use Rattle.std.proofs.Common.{◌≡◌, ◌≤◌, ◌<◌, ℕ, zero, suc, ◌+◌, ◌*◌, ◌/◌, ◌⊎◌, inl, inr, Bool, true, false, not, cond, ◌&&◌, List, [], ◌∷◌, ◌++◌, map, filter, flat_map, Contains, AllPairs, arith, refl, sym, ap, subst, ◌∙◌, append-nil, eqb, eqb-true, eq-eqb}
+use Rattle.std.proofs.Common.{◌≡◌, ◌≤◌, ◌<◌, ℕ, zero, suc, ◌+◌, ◌*◌, ◌/◌, inl, inr, Bool, true, false, not, cond, ◌&&◌, List, [], ◌∷◌, ◌++◌, map, filter, flat_map, Contains, arith, refl, sym, ap, subst, ◌∙◌, eqb, eqb-true, eq-eqb}
 use Rattle.std.proofs.lemmas.Nat.{le-div}
 use Rattle.std.proofs.Math.Nat.{div-mul-le_self}
 use Rattle.std.proofs.lemmas.Bool.{cases_lt, false≢true}
@@ -18,8 +18,7 @@ use Rattle.g1_rem.specs.Slots.{all_slots, slots_on}
 use Rattle.g1_rem.proofs.Rising.{Rises, Rises-above}
 use Rattle.g1_rem.proofs.Card.{all_rise}
 use Rattle.g1_rem.proofs.Bare.{flat_twice}
-use Rattle.g1_frontier.specs.declared.item.Item.{Item}
-use Rattle.g1_frontier.specs.declared.item.Item.TheVariants.{Root, Card, Object}
+use Rattle.g1_frontier.specs.declared.item.Item.TheVariants.{Root, Card}
 use Rattle.g1_frontier.specs.Window.{AreCards, AreOutside, LeadIn}
 use Rattle.g1_frontier.specs.Items.{names, first_items}
 
@@ -93,17 +92,17 @@ module _ (h : Heap) (window cards : List ℕ) (valid : IsValid h) (rising : AreC
   card_slots =
       same_order (λ x y. x < y) (λ x y l m. omega (arith, l, m)) (flat_map (slots_on h) cards) (filter on_cards (all_slots h))
       (Ordered-flat_map (λ x y. x < y) (λ x y. x < y) (slots_on h) cards (Ordered-from_pairs (λ x y. x < y) cards (AllPairs-from_increasing cards rising.rise))
-        (λ c i. Ordered-filter (λ x y. x < y) (λ p. eqb (card_of h p) c) (all_slots h) slots_ordered)
-        (λ c d p q i j lt a b. apart c d p q lt a b))
+      (λ c i. Ordered-filter (λ x y. x < y) (λ p. eqb (card_of h p) c) (all_slots h) slots_ordered)
+      (λ c d p q i j lt a b. apart c d p q lt a b))
       (Ordered-filter (λ x y. x < y) on_cards (all_slots h) slots_ordered)
       (λ p i.
-        let m = flat_map_cases (slots_on h) cards p i in
-        let o = on_card m.0 p m.2 in
-        In-filter on_cards (all_slots h) p o.0 (has_from_in cards (card_of h p) (subst (In cards) (sym o.1) m.1)))
+      let m = flat_map_cases (slots_on h) cards p i in
+      let o = on_card m.0 p m.2 in
+      In-filter on_cards (all_slots h) p o.0 (has_from_in cards (card_of h p) (subst (In cards) (sym o.1) m.1)))
       (λ p i.
-        let m = filter_member on_cards (all_slots h) p i in
-        In-flat_map (slots_on h) cards (card_of h p) p (in_from_has cards (card_of h p) m.1)
-        (In-filter (λ q. eqb (card_of h q) (card_of h p)) (all_slots h) p m.0 (eq-eqb (card_of h p) (card_of h p) refl)))
+      let m = filter_member on_cards (all_slots h) p i in
+      In-flat_map (slots_on h) cards (card_of h p) p (in_from_has cards (card_of h p) m.1)
+      (In-filter (λ q. eqb (card_of h q) (card_of h p)) (all_slots h) p m.0 (eq-eqb (card_of h p) (card_of h p) refl)))
 
   abbrev crosses : Ref → Bool
   crosses e = in_set h window e.target && not (in_set h window e.slot)

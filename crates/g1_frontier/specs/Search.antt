@@ -1,5 +1,5 @@
 -- What was found, and the marks that tell it.
-use Rattle.std.specs.Prelude.{◌≡◌, ◌<◌, ℕ, ◌+◌, Bool, true, false, cond, List, [], ◌∷◌, length, slice_index_or}
+use Rattle.std.specs.Prelude.{◌≡◌, ℕ, ◌+◌, Bool, true, false, cond, List, [], ◌∷◌, length, slice_index_or}
 use Rattle.std.specs.List.{All}
 use Rattle.g1_words.specs.Lists.{has}
 use Rattle.g1_words.specs.Survivors.{firsts}

@@ -12,7 +12,12 @@ use std::alloc::{AllocError, Global};
 use std::thread::Threads;
 
 // Adds what the items name in the window, in order.
-fn push_all(alloc: Global, scope: &Scope, items: &[Item], out: &mut Vec<u64>) -> Result<(), AllocError>
+fn push_all(
+    alloc: Global,
+    scope: &Scope,
+    items: &[Item],
+    out: &mut Vec<u64>,
+) -> Result<(), AllocError>
     requires scope { IsScope scope.now }
     requires items { All (IsItem scope.now.heap.now) items.now }
     ensures { OnOk result (out.new.items ≡ out.old.items ++ flat_map (names_in scope.now) items.now) }
@@ -34,6 +39,7 @@ struct Round<'a> {
 
 impl<'a> Task for Round<'a> {
     type State = ();
+
     type Out = Vec<u64>;
 
     ghost use Rattle.std.specs.Prelude.{◌≡◌, ◌<◌, ◌≤◌, ◌^◌, ◌*◌, ◌++◌, ℕ, List, IfOk, IfErr, OnOk, length};

@@ -25,7 +25,11 @@ pub struct Scope<'a> {
 }
 
 /// For each of so many regions, where it stands in the window.
-pub(crate) fn positions(alloc: Global, regions: u64, window: &[u32]) -> Result<Vec<Option<u32>>, AllocError>
+pub(crate) fn positions(
+    alloc: Global,
+    regions: u64,
+    window: &[u32],
+) -> Result<Vec<Option<u32>>, AllocError>
     requires regions { regions ≤ 4096 }
     requires window { All (λ r. r < regions) window.now }
     requires few { length window.now ≤ regions }
@@ -117,7 +121,12 @@ impl<'a> Scope<'a> {
     }
 
     /// Adds what an item names in the window, in order.
-    pub fn push_names(&self, alloc: Global, item: Item, out: &mut Vec<u64>) -> Result<(), AllocError>
+    pub fn push_names(
+        &self,
+        alloc: Global,
+        item: Item,
+        out: &mut Vec<u64>,
+    ) -> Result<(), AllocError>
         requires scope { IsScope self.now }
         requires item { IsItem self.now.heap.now item }
         ensures { OnOk result (out.new.items ≡ out.old.items ++ names_in self.now item) }

@@ -14,7 +14,12 @@ pub fn unmarked(alloc: Global, places: u64) -> Result<Vec<bool>, AllocError>
 }
 
 // Puts an address of the window behind those that were found, unless it is there.
-fn note(scope: &Scope, seen: &mut Vec<bool>, found: &mut Vec<u64>, address: u64) -> Result<(), AllocError>
+fn note(
+    scope: &Scope,
+    seen: &mut Vec<bool>,
+    found: &mut Vec<u64>,
+    address: u64,
+) -> Result<(), AllocError>
     requires scope { IsScope scope.now }
     requires seen { HasSeen scope.now seen.old.items found.old.items }
     requires inside { inside scope.now address ≡ true }
@@ -33,7 +38,12 @@ fn note(scope: &Scope, seen: &mut Vec<bool>, found: &mut Vec<u64>, address: u64)
 }
 
 // Puts each address behind those that were found, unless it is there.
-fn note_each(scope: &Scope, seen: &mut Vec<bool>, found: &mut Vec<u64>, addresses: &[u64]) -> Result<(), AllocError>
+fn note_each(
+    scope: &Scope,
+    seen: &mut Vec<bool>,
+    found: &mut Vec<u64>,
+    addresses: &[u64],
+) -> Result<(), AllocError>
     requires scope { IsScope scope.now }
     requires seen { HasSeen scope.now seen.old.items found.old.items }
     requires inside { All (λ a. inside scope.now a ≡ true) addresses.now }

@@ -31,7 +31,10 @@ fn first_items(alloc: Global, roots: &[u64], cards: &[u32]) -> Result<Vec<Item>,
 fn objects(alloc: Global, addresses: &[u64]) -> Result<Vec<Item>, AllocError>
     ensures { IfOk result (λ v. v.items ≡ map Object addresses.now) }
 {
-    addresses.iter().map(|address| Item::Object(*address)).collect(alloc)
+    addresses
+        .iter()
+        .map(|address| Item::Object(*address))
+        .collect(alloc)
 }
 
 // What the first items lead to, in the order in which it is found.

@@ -1,4 +1,4 @@
-use Rattle.std.proofs.Common.{rules, arith, ◌≡◌, ◌<◌, ◌≤◌, ◌+◌, ◌-◌, ◌*◌, ◌/◌, ℕ, List, Vec, Global, length, subst, sym, ap, flat_map}
+use Rattle.std.proofs.Common.{arith, ◌≡◌, ◌≤◌, ◌*◌, ℕ, List, length, subst, sym, flat_map}
 use Rattle.g1_work.proofs.Client.{each_out}
 use Rattle.g1_frontier.specs.Items.{piece}
 use Rattle.g1_frontier.specs.Scope.{names_in}

@@ -1,4 +1,4 @@
-use Rattle.std.proofs.Common.{ap, sym, subst, true, ◌+◌, ◌≡◌, ◌∙◌, take, get_or, [], ◌∷◌, ◌++◌, List, ℕ, Vec, Global}
+use Rattle.std.proofs.Common.{ap, sym, subst, true, ◌+◌, ◌≡◌, ◌∙◌, take, [], ◌∷◌, ◌++◌, ℕ, Vec, Global}
 use Rattle.std.specs.List.{All, flat_map}
 use Rattle.std.proofs.lemmas.List.{take_more, flat_map_more}
 use Rattle.g1_words.specs.Survivors.{firsts}

@@ -3,7 +3,6 @@ use Rattle.std.specs.List.{All}
 use Rattle.g1_words.specs.Survivors.{Survivors, seeds, children}
 use Rattle.g1_words.proofs.Listed.{IfOk-then}
 use Rattle.g1_words.proofs.Unique.{breadth_first_unique}
-use Rattle.g1_frontier.specs.declared.item.Item.{Item}
 use Rattle.g1_frontier.specs.Items.{IsItem, names, first_items}
 use Rattle.g1_frontier.proofs.Scopes.{rising_few, first_are_items, first_few}
 use Rattle.g1_frontier.proofs.Seeds.{seeds_named}

@@ -32,9 +32,9 @@ returns-in-Some-clause-found c =
     let width : c.region_words-width.result ≡ s.heap.now.geometry.w = c.region_words-width.ensures.value ∙ ap (λ g. g.w) same in
     let lt : c.args.address / s.heap.now.geometry.w < s.heap.now.geometry.n = omega (arith, c.if-region-regions.false, region, count) in
     let spot : get_or s.positions.items (c.args.address / s.heap.now.geometry.w) None ≡ Some c.in-Some.position =
-        read s.positions.items c.region_of-region.result (c.args.address / s.heap.now.geometry.w) c.index.result.now (Some c.in-Some.position) None region (omega (arith, lt, c.requires.scope.positions.one_each)) c.index.ensures c.in-Some.is in
+    read s.positions.items c.region_of-region.result (c.args.address / s.heap.now.geometry.w) c.index.result.now (Some c.in-Some.position) None region (omega (arith, lt, c.requires.scope.positions.one_each)) c.index.ensures c.in-Some.is in
     let h = has_position s.window.now (c.args.address / s.heap.now.geometry.w) c.in-Some.position (get_or s.positions.items (c.args.address / s.heap.now.geometry.w) None) (c.requires.scope.positions.each (c.args.address / s.heap.now.geometry.w) lt) spot in
     let start : c.from.result ≡ position (get_or s.positions.items (c.args.address / s.heap.now.geometry.w) None) = c.from.ensures ∙ sym (ap position spot) in
     let there : c.from.result * c.region_words-width.result + c.args.address % c.region_words-width.result ≡ position (get_or s.positions.items (c.args.address / s.heap.now.geometry.w) None) * s.heap.now.geometry.w + c.args.address % s.heap.now.geometry.w =
-        (λ i. start i * width i + c.args.address % width i) in
+    (λ i. start i * width i + c.args.address % width i) in
     (h.0, there, subst (λ x. x < length s.window.now * s.heap.now.geometry.w) (sym there) (below s c.requires.scope c.args.address h.0))

@@ -1,9 +1,8 @@
-use Rattle.std.proofs.Common.{arith, ◌≡◌, ◌<◌, ◌+◌, ◌∙◌, ◌++◌, ap, sym, subst, length, get_or, take, filter, flat_map, []}
+use Rattle.std.proofs.Common.{arith, ◌∙◌, ◌++◌, ap, sym, subst, length, get_or, take, filter, flat_map}
 use Rattle.std.proofs.lemmas.List.{take_more}
 use Rattle.g1_words.specs.Heap.{word}
 use Rattle.g1_words.specs.References.{named}
 use Rattle.g1_words.proofs.Members.{In}
-use Rattle.g1_rem.specs.Slots.{slots_on}
 use Rattle.g1_frontier.specs.Scope.{inside}
 use Rattle.g1_frontier.proofs.Names.{slot_in_words, slot_more}
 use Rattle.g1_frontier.proofs.Scopes.{In-get}

@@ -1,4 +1,4 @@
-use Rattle.std.proofs.Common.{arith, ℕ, ◌≡◌, ◌<◌, ◌≤◌, ◌+◌, ◌-◌, ◌%◌, ◌^◌, ◌∙◌, ◌++◌, ap, sym, subst, length, get_or, filter, flat_map}
+use Rattle.std.proofs.Common.{arith, ℕ, ◌≡◌, ◌+◌, ◌-◌, ◌%◌, ◌^◌, ◌∙◌, ◌++◌, ap, length, get_or, filter, flat_map}
 use Rattle.std.specs.List.{range_with_len}
 use Rattle.g1_words.specs.Heap.{word}
 use Rattle.g1_words.specs.References.{named}
