@@ -1,0 +1,7 @@
+pub mod Marks
+pub mod Turns
+pub mod Rounds
+pub mod Places
+pub mod Scopes
+pub mod Seeds
+pub mod Names

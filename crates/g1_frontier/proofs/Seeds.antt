@@ -1,0 +1,168 @@
+-- What the first items name in the window are the seeds.
+use Rattle.std.proofs.Common.{◌≡◌, ◌≤◌, ◌<◌, ℕ, zero, suc, ◌+◌, ◌*◌, ◌/◌, inl, inr, Bool, true, false, not, cond, ◌&&◌, List, [], ◌∷◌, ◌++◌, map, filter, flat_map, Contains, arith, refl, sym, ap, subst, ◌∙◌, eqb, eqb-true, eq-eqb}
+use Rattle.std.proofs.lemmas.Nat.{le-div}
+use Rattle.std.proofs.Math.Nat.{div-mul-le_self}
+use Rattle.std.proofs.lemmas.Bool.{cases_lt, false≢true}
+use Rattle.std.proofs.lemmas.Grind.{flat_map-append}
+use Rattle.std.proofs.lemmas.List.Kept.{AllPairs-from_increasing}
+use Rattle.g1_words.specs.Heap.{Heap, word, card_of, objects}
+use Rattle.g1_words.specs.Lists.{has}
+use Rattle.g1_words.specs.References.{Ref, named, refs_at, refs, root_targets}
+use Rattle.g1_words.specs.Survivors.{in_set, seeds}
+use Rattle.g1_words.specs.Valid.{IsValid}
+use Rattle.g1_words.proofs.Bounds.{cards_in_region, card_in_region}
+use Rattle.g1_words.proofs.Members.{In, In-from_contains, Contains-from_in, In-map, In-flat_map, In-filter, filter_member, flat_map_cases, has_from_in, in_from_has}
+use Rattle.g1_words.proofs.Ordered.{Ordered, Ordered-from_pairs, same_order}
+use Rattle.g1_words.proofs.Rising.{Ordered-flat_map, Ordered-filter}
+use Rattle.g1_rem.specs.Slots.{all_slots, slots_on}
+use Rattle.g1_rem.proofs.Rising.{Rises, Rises-above}
+use Rattle.g1_rem.proofs.Card.{all_rise}
+use Rattle.g1_rem.proofs.Bare.{flat_twice}
+use Rattle.g1_frontier.specs.declared.item.Item.TheVariants.{Root, Card}
+use Rattle.g1_frontier.specs.Window.{AreCards, AreOutside, LeadIn}
+use Rattle.g1_frontier.specs.Items.{names, first_items}
+
+-- ---- lists of lists
+
+pub filter_append : {A : Type 0} (p : A → Bool) (xs ys : List A) → filter p (xs ++ ys) ≡ filter p xs ++ filter p ys
+filter_append p [] ys = refl
+filter_append p (x ∷ xs) ys =
+    let more : filter p (xs ++ ys) ≡ filter p xs ++ filter p ys = filter_append p xs ys in
+    elim (p x) as (λ b. cond b (x ∷ filter p (xs ++ ys)) (filter p (xs ++ ys)) ≡ cond b (x ∷ filter p xs) (filter p xs) ++ filter p ys) [ true ↦ ap (λ l. x ∷ l) more | false ↦ more ]
+
+pub filter_flat : {A B : Type 0} (p : B → Bool) (f : A → List B) (xs : List A) → filter p (flat_map f xs) ≡ flat_map (λ x. filter p (f x)) xs
+filter_flat p f [] = refl
+filter_flat p f (x ∷ xs) = filter_append p (f x) (flat_map f xs) ∙ ap (λ l. filter p (f x) ++ l) (filter_flat p f xs)
+
+map_append : {A B : Type 0} (g : A → B) (xs ys : List A) → map g (xs ++ ys) ≡ map g xs ++ map g ys
+map_append g [] ys = refl
+map_append g (x ∷ xs) ys = ap (λ l. g x ∷ l) (map_append g xs ys)
+
+map_flat : {A B C : Type 0} (g : B → C) (f : A → List B) (xs : List A) → map g (flat_map f xs) ≡ flat_map (λ x. map g (f x)) xs
+map_flat g f [] = refl
+map_flat g f (x ∷ xs) = map_append g (f x) (flat_map f xs) ∙ ap (λ l. map g (f x) ++ l) (map_flat g f xs)
+
+pub flat_of_map : {A B C : Type 0} (f : B → List C) (g : A → B) (xs : List A) → flat_map f (map g xs) ≡ flat_map (λ x. f (g x)) xs
+flat_of_map f g [] = refl
+flat_of_map f g (x ∷ xs) = ap (λ l. f (g x) ++ l) (flat_of_map f g xs)
+
+flat_of_flat : {A B C : Type 0} (f : B → List C) (g : A → List B) (xs : List A) → flat_map (λ x. flat_map f (g x)) xs ≡ flat_map f (flat_map g xs)
+flat_of_flat f g [] = refl
+flat_of_flat f g (x ∷ xs) = ap (λ l. flat_map f (g x) ++ l) (flat_of_flat f g xs) ∙ sym (flat_map-append f (g x) (flat_map g xs))
+
+flat_of_filter : {A B : Type 0} (f : A → List B) (p : A → Bool) (xs : List A) → flat_map f (filter p xs) ≡ flat_map (λ x. cond (p x) (f x) []) xs
+flat_of_filter f p [] = refl
+flat_of_filter {A} f p (x ∷ xs) =
+    let more : flat_map f (filter p xs) ≡ flat_map (λ x. cond (p x) (f x) []) xs = flat_of_filter f p xs in
+    elim (p x) as (λ b. flat_map f (cond b (x ∷ filter p xs) (filter p xs)) ≡ cond b (f x) [] ++ flat_map (λ x. cond (p x) (f x) []) xs) [ true ↦ ap (λ l. f x ++ l) more | false ↦ more ]
+
+-- two functions that agree on a list's members
+pub flat_same : {A B : Type 0} (f g : A → List B) (xs : List A) → ((x : A) → In xs x → f x ≡ g x) → flat_map f xs ≡ flat_map g xs
+flat_same f g [] h = refl
+flat_same f g (x ∷ xs) h = λ i. h x (inl refl) i ++ flat_same f g xs (λ y k. h y (inr k)) i
+
+-- ---- lists in order
+
+Rises-ordered : (lo : ℕ) (xs : List ℕ) → Rises lo xs → Ordered (λ x y. x < y) xs
+Rises-ordered lo [] r = tt
+Rises-ordered lo (x ∷ xs) r = ((λ y i. let k = Rises-above (x + 1) xs y r.1 i in omega (arith, k)), Rises-ordered (x + 1) xs r.1)
+
+module _ (h : Heap) (window cards : List ℕ) (valid : IsValid h) (rising : AreCards h cards) (outside : AreOutside h window cards) (lead_in : LeadIn h window cards) where
+  -- what a slot names in the window
+  abbrev inner : ℕ → List ℕ
+  inner p = filter (in_set h window) (named (word h p))
+
+  abbrev on_cards : ℕ → Bool
+  on_cards p = has cards (card_of h p)
+
+  slots_ordered : Ordered (λ x y. x < y) (all_slots h)
+  slots_ordered = Rises-ordered 0 (all_slots h) (all_rise h valid)
+
+  on_card : (c p : ℕ) → In (slots_on h c) p → In (all_slots h) p × (card_of h p ≡ c)
+  on_card c p i = let m = filter_member (λ p. eqb (card_of h p) c) (all_slots h) p i in (m.0, eqb-true (card_of h p) c m.1)
+
+  apart : (c d p q : ℕ) → c < d → In (slots_on h c) p → In (slots_on h d) q → p < q
+  apart c d p q lt i j = elim (cases_lt p q) [
+    | inl less ↦ less
+    | inr ge ↦ let k : q / h.geometry.k ≤ p / h.geometry.k = le-div (q / h.geometry.k) p h.geometry.k (omega (arith, valid.limits.k_least)) (omega (arith, div-mul-le_self q h.geometry.k, ge)) in absurd (omega (arith, k, lt, (on_card c p i).1, (on_card d q j).1))
+  ]
+
+  -- the cards' slots are those that lie on one of the cards
+  card_slots : flat_map (slots_on h) cards ≡ filter on_cards (all_slots h)
+  card_slots =
+      same_order (λ x y. x < y) (λ x y l m. omega (arith, l, m)) (flat_map (slots_on h) cards) (filter on_cards (all_slots h))
+      (Ordered-flat_map (λ x y. x < y) (λ x y. x < y) (slots_on h) cards (Ordered-from_pairs (λ x y. x < y) cards (AllPairs-from_increasing cards rising.rise))
+      (λ c i. Ordered-filter (λ x y. x < y) (λ p. eqb (card_of h p) c) (all_slots h) slots_ordered)
+      (λ c d p q i j lt a b. apart c d p q lt a b))
+      (Ordered-filter (λ x y. x < y) on_cards (all_slots h) slots_ordered)
+      (λ p i.
+      let m = flat_map_cases (slots_on h) cards p i in
+      let o = on_card m.0 p m.2 in
+      In-filter on_cards (all_slots h) p o.0 (has_from_in cards (card_of h p) (subst (In cards) (sym o.1) m.1)))
+      (λ p i.
+      let m = filter_member on_cards (all_slots h) p i in
+      In-flat_map (slots_on h) cards (card_of h p) p (in_from_has cards (card_of h p) m.1)
+      (In-filter (λ q. eqb (card_of h q) (card_of h p)) (all_slots h) p m.0 (eq-eqb (card_of h p) (card_of h p) refl)))
+
+  abbrev crosses : Ref → Bool
+  crosses e = in_set h window e.target && not (in_set h window e.slot)
+
+  -- a card lies in the region of its slots
+  on_window : (p : ℕ) → has cards (card_of h p) ≡ true → in_set h window p ≡ false
+  on_window p t =
+      let l = valid.limits in
+      let m = cards_in_region h.geometry.w h.geometry.k h.geometry.n l in
+      let e : p / h.geometry.k * h.geometry.k / h.geometry.w ≡ p / h.geometry.w = card_in_region h.geometry.w h.geometry.k m.0 p (omega (arith, l.k_least)) m.1 in
+      ap (has window) (sym e) ∙ outside (card_of h p) (Contains-from_in cards (card_of h p) (in_from_has cards (card_of h p) t))
+
+  ref_there : (p a : ℕ) → In (all_slots h) p → word h p ≡ suc a → Contains (refs h) (record { slot = p; target = a })
+  ref_there p a i e =
+      let r : Ref = record { slot = p; target = a } in
+      let k : In (named (word h p)) a = subst (λ x. In (named x) a) (sym e) (inl refl) in
+      let j : In (flat_map (refs_at h) (all_slots h)) r = In-flat_map (refs_at h) (all_slots h) p r i (In-map (λ a. record { slot = p; target = a }) (named (word h p)) a k) in
+      Contains-from_in (refs h) r (subst (λ l. In l r) (sym (flat_twice h (objects h))) j)
+
+  -- a slot that names an object in the window lies on a card where it lies outside
+  tells : (p a : ℕ) (b o : Bool) → has cards (card_of h p) ≡ b → in_set h window p ≡ o → In (all_slots h) p → word h p ≡ suc a → in_set h window a ≡ true → b ≡ not o
+  tells p a true true e f i w t = absurd (false≢true (sym (on_window p e) ∙ f))
+  tells p a true false e f i w t = refl
+  tells p a false true e f i w t = refl
+  tells p a false false e f i w t =
+      let c : Contains cards (card_of h p) = lead_in (record { slot = p; target = a }) (ref_there p a i w) t f in
+      absurd (false≢true (sym e ∙ has_from_in cards (card_of h p) (In-from_contains cards (card_of h p) c)))
+
+  by_slot_in : (p a : ℕ) (b o t : Bool) → (t ≡ true → b ≡ not o) → cond b (cond t (a ∷ []) []) [] ≡ map (λ (e : Ref). e.target) (cond (t && not o) (record { slot = p; target = a } ∷ []) [])
+  by_slot_in p a b o true f = ap (λ c. cond c (a ∷ []) []) (f refl) ∙ last (not o)
+    where
+      last : (c : Bool) → cond c (a ∷ []) [] ≡ map (λ (e : Ref). e.target) (cond c (record { slot = p; target = a } ∷ []) [])
+      last true = refl
+      last false = refl
+  by_slot_in p a true o false f = refl
+  by_slot_in p a false o false f = refl
+
+  by_slot_at : (p x : ℕ) → In (all_slots h) p → word h p ≡ x
+      → cond (on_cards p) (filter (in_set h window) (named x)) [] ≡ map (λ (e : Ref). e.target) (filter crosses (map (λ a. record { slot = p; target = a }) (named x)))
+  by_slot_at p zero i e = empty (on_cards p) []
+    where
+      empty : (b : Bool) → ((xs : List ℕ) → cond b xs xs ≡ xs)
+      empty true xs = refl
+      empty false xs = refl
+  by_slot_at p (suc a) i e = by_slot_in p a (on_cards p) (in_set h window p) (in_set h window a) (tells p a (on_cards p) (in_set h window p) refl refl i e)
+
+  by_cards : flat_map (names h window) (map Card cards) ≡ map (λ (e : Ref). e.target) (filter crosses (refs h))
+  by_cards =
+      flat_of_map (names h window) Card cards
+      ∙ flat_same (λ c. names h window (Card c)) (λ c. flat_map inner (slots_on h c)) cards (λ c i. filter_flat (in_set h window) (λ p. named (word h p)) (slots_on h c))
+      ∙ flat_of_flat inner (slots_on h) cards
+      ∙ ap (flat_map inner) card_slots
+      ∙ flat_of_filter inner on_cards (all_slots h)
+      ∙ flat_same (λ p. cond (on_cards p) (inner p) []) (λ p. map (λ (e : Ref). e.target) (filter crosses (refs_at h p))) (all_slots h) (λ p i. by_slot_at p (word h p) i refl)
+      ∙ sym (map_flat (λ (e : Ref). e.target) (λ p. filter crosses (refs_at h p)) (all_slots h))
+      ∙ ap (map (λ (e : Ref). e.target)) (sym (filter_flat crosses (refs_at h) (all_slots h)) ∙ ap (filter crosses) (sym (flat_twice h (objects h))))
+
+  by_roots : flat_map (names h window) (map Root h.roots) ≡ filter (in_set h window) (root_targets h)
+  by_roots = flat_of_map (names h window) Root h.roots ∙ sym (filter_flat (in_set h window) named h.roots)
+
+  -- what the roots and the cards name in the window are the seeds
+  pub seeds_named : flat_map (names h window) (first_items h.roots cards) ≡ seeds h window
+  seeds_named = flat_map-append (names h window) (map Root h.roots) (map Card cards) ∙ (λ i. by_roots i ++ by_cards i)

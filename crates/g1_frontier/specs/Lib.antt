@@ -1,0 +1,4 @@
+pub mod Window
+pub mod Items
+pub mod Search
+pub mod Scope

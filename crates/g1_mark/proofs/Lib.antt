@@ -1,0 +1,4 @@
+pub mod Used
+pub mod Reaching
+pub mod Sums
+pub mod Counting

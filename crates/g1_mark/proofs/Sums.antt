@@ -1,0 +1,104 @@
+-- Sizes of objects, added up.
+use Rattle.std.proofs.Common.{◌≡◌, ◌≢◌, ◌≤◌, ◌<◌, ℕ, zero, suc, ◌+◌, ◌*◌, inl, inr, Bool, true, false, cond, not, ◌||◌, List, [], ◌∷◌, ◌++◌, filter, flat_map, sum_by, arith, refl, sym, ap, subst, ◌∙◌, eqb, eqb-true, eq-eqb}
+use Rattle.std.proofs.lemmas.List.Sums.{sum_by-cons}
+use Rattle.g1_words.specs.declared.object.Object.{Object}
+use Rattle.g1_words.specs.Lists.{has}
+use Rattle.g1_words.proofs.Members.{In, In-append_left, In-append_right, in_from_has}
+use Rattle.g1_words.proofs.Ordered.{Ordered}
+use Rattle.g1_words.proofs.Rising.{IsBefore}
+
+abbrev pub sizes : List Object → ℕ
+sizes os = sum_by (λ o. o.size) os
+
+-- a part of a list in order
+ordered_left : {A : Type 0} (R : A → A → Type 0) (xs ys : List A) → Ordered R (xs ++ ys) → Ordered R xs
+ordered_left R [] ys o = tt
+ordered_left R (x ∷ xs) ys o = ((λ y i. o.0 y (In-append_left xs ys y i)), ordered_left R xs ys o.1)
+
+ordered_right : {A : Type 0} (R : A → A → Type 0) (xs ys : List A) → Ordered R (xs ++ ys) → Ordered R ys
+ordered_right R [] ys o = o
+ordered_right R (x ∷ xs) ys o = ordered_right R xs ys o.1
+
+pub ordered_part : {A B : Type 0} (R : B → B → Type 0) (f : A → List B) (xs : List A) (x : A) → Ordered R (flat_map f xs) → In xs x → Ordered R (f x)
+ordered_part R f [] x o i = absurd i
+ordered_part R f (y ∷ xs) x o (inl e) = subst (λ z. Ordered R (f z)) e (ordered_left R (f y) (flat_map f xs) o)
+ordered_part R f (y ∷ xs) x o (inr i) = ordered_part R f xs x (ordered_right R (f y) (flat_map f xs) o) i
+
+size_kept : (o : Object) (os : List Object) (b : Bool) → sizes (cond b (o ∷ os) os) ≡ cond b o.size 0 + sizes os
+size_kept o os true = sum_by-cons (λ (q : Object). q.size) o os
+size_kept o os false = omega arith
+
+-- objects one after another take no more words than there are
+pub sizes_fit : (p : Object → Bool) (lo bound : ℕ) (os : List Object) → Ordered IsBefore os → ((o : Object) → In os o → lo ≤ o.at) → ((o : Object) → In os o → o.at + o.size ≤ bound) → lo ≤ bound → lo + sizes (filter p os) ≤ bound
+sizes_fit p lo bound [] ord low high le = omega (arith, le)
+sizes_fit p lo bound (o ∷ os) ord low high le =
+    let rest = sizes_fit p (o.at + o.size) bound os ord.1 (λ q i. ord.0 q i) (λ q i. high q (inr i)) (high o (inl refl)) in
+    let first = low o (inl refl) in
+    let kept = size_kept o (filter p os) (p o) in
+    let few : cond (p o) o.size 0 ≤ o.size = at_most (p o) o.size in
+    omega (arith, rest, first, kept, few)
+  where
+    at_most : (b : Bool) (n : ℕ) → cond b n 0 ≤ n
+    at_most true n = omega arith
+    at_most false n = omega arith
+
+-- one address more
+has_more : (v : List ℕ) (a x : ℕ) → has (v ++ a ∷ []) x ≡ (has v x || eqb x a)
+has_more [] a x = or_false (eqb x a)
+  where
+    or_false : (b : Bool) → (b || false) ≡ b
+    or_false true = refl
+    or_false false = refl
+has_more (y ∷ v) a x = ap (λ b. eqb x y || b) (has_more v a x) ∙ or_assoc (eqb x y) (has v x) (eqb x a)
+  where
+    or_assoc : (b c d : Bool) → (b || (c || d)) ≡ ((b || c) || d)
+    or_assoc true c d = refl
+    or_assoc false c d = refl
+
+one_of : (v : List ℕ) (a n x : ℕ) (b c : Bool) → (In v a → ⊥) → has v x ≡ b → eqb x a ≡ c → cond (b || c) n 0 ≡ cond b n 0 + cond c n 0
+one_of v a n x true true d e f = absurd (d (subst (In v) (eqb-true x a f) (in_from_has v x e)))
+one_of v a n x true false d e f = omega arith
+one_of v a n x false true d e f = omega arith
+one_of v a n x false false d e f = omega arith
+
+pub sizes_more : (v : List ℕ) (a : ℕ) (os : List Object) → (In v a → ⊥)
+    → sizes (filter (λ o. has (v ++ a ∷ []) o.at) os) ≡ sizes (filter (λ o. has v o.at) os) + sizes (filter (λ o. eqb o.at a) os)
+sizes_more v a [] d = omega arith
+sizes_more v a (o ∷ os) d =
+    let rest = sizes_more v a os d in
+    let both = size_kept o (filter (λ o. has (v ++ a ∷ []) o.at) os) (has (v ++ a ∷ []) o.at) in
+    let left = size_kept o (filter (λ o. has v o.at) os) (has v o.at) in
+    let right = size_kept o (filter (λ o. eqb o.at a) os) (eqb o.at a) in
+    let here : cond (has (v ++ a ∷ []) o.at) o.size 0 ≡ cond (has v o.at) o.size 0 + cond (eqb o.at a) o.size 0 =
+        ap (λ b. cond b o.size 0) (has_more v a o.at) ∙ one_of v a o.size o.at (has v o.at) (eqb o.at a) d refl refl in
+    omega (arith, rest, both, left, right, here)
+
+-- no object at an address
+pub sizes_none : (a : ℕ) (os : List Object) → ((o : Object) → In os o → o.at ≢ a) → sizes (filter (λ o. eqb o.at a) os) ≡ 0
+sizes_none a [] h = refl
+sizes_none a (o ∷ os) h = at (eqb o.at a) refl (sizes_none a os (λ q i. h q (inr i)))
+  where
+    at : (b : Bool) → eqb o.at a ≡ b → sizes (filter (λ o. eqb o.at a) os) ≡ 0 → sizes (cond b (o ∷ filter (λ o. eqb o.at a) os) (filter (λ o. eqb o.at a) os)) ≡ 0
+    at true e rest = absurd (h o (inl refl) (eqb-true o.at a e))
+    at false e rest = rest
+
+-- the one object at an address
+pub sizes_one : (q : Object) (os : List Object) → Ordered IsBefore os → ((o : Object) → In os o → 0 < o.size) → In os q → sizes (filter (λ o. eqb o.at q.at) os) ≡ q.size
+sizes_one q [] ord some i = absurd i
+sizes_one q (o ∷ os) ord some (inl e) =
+    let none : sizes (filter (λ o. eqb o.at q.at) os) ≡ 0 = sizes_none q.at os (λ p j. λ f. let b : o.at + o.size ≤ p.at = ord.0 p j in let s = some o (inl refl) in let z : o.at ≡ q.at = ap (λ (x : Object). x.at) e in absurd (omega (arith, b, s, z, f))) in
+    let kept = size_kept o (filter (λ o. eqb o.at q.at) os) (eqb o.at q.at) in
+    let yes_here : cond (eqb o.at q.at) o.size 0 ≡ o.size = ap (λ b. cond b o.size 0) (eq-eqb o.at q.at (ap (λ (x : Object). x.at) e)) in
+    let same : o.size ≡ q.size = ap (λ (x : Object). x.size) e in
+    omega (arith, none, kept, yes_here, same)
+sizes_one q (o ∷ os) ord some (inr i) =
+    let rest = sizes_one q os ord.1 (λ p j. some p (inr j)) i in
+    let kept = size_kept o (filter (λ o. eqb o.at q.at) os) (eqb o.at q.at) in
+    let before : o.at + o.size ≤ q.at = ord.0 q i in
+    let s = some o (inl refl) in
+    let not_here : cond (eqb o.at q.at) o.size 0 ≡ 0 = at (eqb o.at q.at) refl (λ e. omega (arith, before, s, e)) in
+    omega (arith, rest, kept, not_here)
+  where
+    at : (b : Bool) → eqb o.at q.at ≡ b → (o.at ≡ q.at → ⊥) → cond b o.size 0 ≡ 0
+    at true e d = absurd (d (eqb-true o.at q.at e))
+    at false e d = refl

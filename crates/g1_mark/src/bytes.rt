@@ -1,0 +1,59 @@
+ghost use Rattle.std.specs.Prelude.{◌≡◌, ◌≤◌, not, map, replicate, Contains, IfOk};
+ghost use Rattle.std.specs.List.{All};
+ghost use Rattle.g1_words.specs.Heap.{is_free, object_at, objects, regions};
+ghost use Rattle.g1_words.specs.Lists.{has};
+ghost use Rattle.g1_words.specs.Live.{bytes_where};
+ghost use Rattle.g1_words.specs.Survivors.{firsts};
+ghost use Rattle.g1_words.specs.Valid.{IsValid};
+ghost use Rattle.g1_mark.specs.Marked.{used};
+
+use g1_words::{Heap, Kind, region_of};
+use std::alloc::{AllocError, Global};
+
+/// A header word is the object's size in words times this, plus its number of references.
+const REFS_RANGE: u64 = 4_294_967_296;
+
+fn is_used(kind: Kind) -> bool
+    ensures { result ≡ not (is_free kind) }
+{
+    match kind {
+        Kind::Free => false,
+        _ => true,
+    }
+}
+
+/// The regions that aren't free, rising.
+pub fn used_regions(alloc: Global, heap: &Heap) -> Result<Vec<u32>, AllocError>
+    ensures used { IfOk result (λ v. v.items ≡ used heap.now) }
+    ensures valid { IsValid heap.now }
+{
+    let mut used = Vec::new(alloc);
+    for region in 0..heap.geometry().regions() as u32 {
+        if is_used(heap.region(region).kind) {
+            used.push(region)?;
+        }
+    }
+    Ok(used)
+}
+
+fn zeros(alloc: Global, count: u64) -> Result<Vec<u64>, AllocError>
+    ensures { IfOk result (λ v. v.items ≡ replicate count 0) }
+{
+    vec![in alloc; 0u64; count as usize]
+}
+
+/// For each region, the bytes of its objects among those at some addresses.
+pub fn bytes_at(alloc: Global, heap: &Heap, addresses: &[u64]) -> Result<Vec<u64>, AllocError>
+    requires objects { All (λ a. Contains (objects heap.now) (object_at heap.now a)) addresses.now }
+    requires once { addresses.now ≡ firsts addresses.now }
+    ensures { IfOk result (λ v. v.items ≡ map (bytes_where heap.now (has addresses.now)) (regions heap.now)) }
+{
+    let geometry = heap.geometry();
+    let words = heap.words();
+    let mut bytes = zeros(alloc, geometry.regions())?;
+    for address in addresses {
+        let region = region_of(&geometry, *address) as usize;
+        bytes[region] += 8 * (words[*address as usize] / REFS_RANGE);
+    }
+    Ok(bytes)
+}

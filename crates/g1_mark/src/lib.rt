@@ -1,0 +1,11 @@
+//! Live bytes: how much of each region the roots reach.
+//!
+//! 1. The window of the search is every region that isn't free, so that no slot is outside of it
+//!    and no card is needed. Its survivors are then all that the roots reach.
+//! 2. Each live object's bytes are added to those of the region in which it starts.
+#![tactic(auto)]
+
+mod bytes;
+mod live;
+
+pub use live::live_bytes;

@@ -1,0 +1,41 @@
+ghost use Rattle.std.specs.Prelude.{◌≡◌, ◌<◌, ◌≤◌, ℕ, List, IfOk, IfErr};
+ghost use Rattle.g1_words.specs.declared.fault.Fault.TheVariants.{Memory};
+ghost use Rattle.g1_words.specs.Live.{IsLiveBytes};
+ghost use Rattle.g1_rem.specs.Starts.{IsStartsOf};
+
+use crate::bytes::{bytes_at, used_regions};
+use g1_frontier::discover;
+use g1_rem::Starts;
+use g1_words::{Fault, Heap};
+use g1_work::Gate;
+use std::alloc::Global;
+use std::thread::Threads;
+
+/// The live bytes of each region, by number: 8 for each word of its objects that the roots reach.
+/// All bytes of a humongous object count in its first region.
+///
+/// The answer is the same for all `workers` (1 to 64) and `chunk` sizes (1 to 65,536 items).
+///
+/// # Errors
+/// `Memory`.
+pub fn live_bytes<R: Threads + Sync, G: Gate + Sync>(
+    rt: &R,
+    alloc: Global,
+    heap: &Heap,
+    starts: &Starts,
+    workers: u64,
+    chunk: u64,
+    gate: &G,
+) -> Result<Vec<u64>, Fault>
+    requires starts { IsStartsOf heap.now starts.now }
+    requires workers { (0 < workers) × (workers ≤ 64) }
+    requires chunk { (0 < chunk) × (chunk ≤ 65536) }
+    ensures ok { IfOk result (λ v. IsLiveBytes heap.now v.items) }
+    ensures only { IfOk result (λ v. (l : List ℕ) → IsLiveBytes heap.now l → l ≡ v.items) }
+    ensures memory { IfErr result (λ e. e ≡ Memory) }
+{
+    let window = used_regions(alloc, heap)?;
+    let cards: [u32; 0] = [];
+    let live = discover(rt, alloc, heap, starts, window.as_slice(), &cards, workers, chunk, gate)?;
+    Ok(bytes_at(alloc, heap, live.as_slice())?)
+}
