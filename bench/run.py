@@ -1,0 +1,84 @@
+#!/usr/bin/env python3
+"""Times `show` and `show --repack` on large images, beside `cat` on the same bytes: run.py [--program FILE] [--rounds R]
+
+Makes two images in a temporary folder, one after the other, and runs the three commands in turn, R times (7 if not
+given), first into a file and then into a pipe that another process empties. It prints, for each command, the best
+and the median wall seconds, megabytes of the image a second and the processor's seconds (both by the median), the
+greatest memory, and these as multiples of what `cat` took and of the image.
+"""
+import argparse, filecmp, os, pathlib, statistics, subprocess, sys, tempfile, time
+
+HERE = pathlib.Path(__file__).resolve().parent
+MB = 1_000_000
+
+
+def run(words, source, stdout):
+    """Wall seconds, processor seconds and bytes of memory of one run."""
+    with open(source, "rb") as stdin:
+        begin = time.perf_counter()
+        process = subprocess.Popen(words, stdin=stdin, stdout=stdout)
+        _pid, status, usage = os.wait4(process.pid, 0)
+        seconds = time.perf_counter() - begin
+    process.returncode = os.waitstatus_to_exitcode(status)
+    if process.returncode != 0:
+        sys.exit(f"{words} ended with {process.returncode}")
+    return seconds, usage.ru_utime + usage.ru_stime, 1024 * usage.ru_maxrss
+
+
+def run_to_file(name, words, image):
+    target = image.with_suffix(".out")
+    with open(target, "wb") as stdout:
+        measured = run(words, image, stdout)
+    if name != "show" and not filecmp.cmp(image, target, shallow=False):
+        sys.exit(f"{name} did not give the image back")
+    target.unlink()
+    return measured
+
+
+def run_to_pipe(_name, words, image):
+    sink = subprocess.Popen(["cat"], stdin=subprocess.PIPE, stdout=subprocess.DEVNULL)
+    measured = run(words, image, sink.stdin)
+    sink.stdin.close()
+    sink.wait()
+    return measured
+
+
+def measure(program, image, rounds, run_to):
+    commands = {"cat": ["cat"], "show": [program, "show"], "show --repack": [program, "show", "--repack"]}
+    runs = {name: [] for name in commands}
+    for _ in range(rounds):
+        for name, words in commands.items():
+            runs[name].append(run_to(name, words, image))
+    return runs
+
+
+def report(title, runs, size):
+    print(f"{title:14}{'best s':>8}{'/ cat':>7}{'median s':>10}{'/ cat':>7}{'MB/s':>7}{'cpu s':>7}{'/ cat':>7}{'MB':>6}{'/ image':>9}")
+    base = None
+    for name, each in runs.items():
+        walls, cpus, memories = zip(*each)
+        best, middle, cpu = min(walls), statistics.median(walls), statistics.median(cpus)
+        base = base or (best, middle, cpu)
+        print(f"{name:14}{best:8.3f}{best / base[0]:7.1f}{middle:10.3f}{middle / base[1]:7.1f}{size / MB / middle:7.0f}"
+              f"{cpu:7.2f}{cpu / base[2]:7.1f}{max(memories) / MB:6.0f}{max(memories) / size:9.2f}")
+
+
+def main():
+    parser = argparse.ArgumentParser(description=__doc__, formatter_class=argparse.RawDescriptionHelpFormatter)
+    parser.add_argument("--program", default=str(HERE.parent / "crates" / "g1pause" / "out" / "g1pause"), metavar="FILE")
+    parser.add_argument("--rounds", type=int, default=7, metavar="R")
+    parser.add_argument("--seed", default="1", metavar="S")
+    options = parser.parse_args()
+    with tempfile.TemporaryDirectory() as folder:
+        for region_words in (65536, 4096):
+            image = pathlib.Path(folder) / "large.img"
+            subprocess.run([sys.executable, str(HERE / "images.py"), str(region_words), str(image),
+                            "--seed", options.seed], check=True, stdout=subprocess.DEVNULL)
+            size = image.stat().st_size
+            print(f"Regions of {region_words} words, {size / MB:.1f} MB")
+            report("into a file", measure(options.program, image, options.rounds, run_to_file), size)
+            report("into a pipe", measure(options.program, image, options.rounds, run_to_pipe), size)
+
+
+if __name__ == "__main__":
+    main()
