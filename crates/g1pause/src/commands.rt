@@ -1,26 +1,29 @@
 //! What the program does with a request.
-use crate::options::{Refusal, Request, parse};
+use crate::listing::{candidates, live_lines};
+use crate::options::{Refusal, Request, Sharing, parse};
 use crate::show::table;
+use g1_choose::Cost;
 use g1_image::{Image, decode, encode};
+use g1_pause::{Choice, Settings};
+use g1_rem::{Tracked, verify};
 use g1_words::{Device, Fault};
 use std::alloc::Global;
 use std::io::{ErrorKind, Read, Write};
 use std::thread::Threads;
 
 /// Runs the program on the words after its name, and gives its exit status: 0, or that of the
-/// refusal, which is then told on `errors`.
-///
-/// The reader is read to its end, but only once the words were found to be a request. The writer gets
-/// the whole answer by one call, and nothing where there is none.
-pub fn program<R: Read, W: Write, E: Write>(
-    _rt: &(impl Threads + Sync),
+/// refusal which is then told on `errors`. The reader is read to its end, but not before the words
+/// were found to be a request with numbers in their ranges; the writer is written once, and not at
+/// all where there is a refusal.
+pub fn program<T: Threads + Sync, R: Read, W: Write, E: Write>(
+    rt: &T,
     alloc: Global,
     words: &[String],
     reader: &mut R,
     writer: &mut W,
     errors: &mut E,
 ) -> u8 {
-    let told = match answer(alloc, words, reader) {
+    let told = match answer(rt, alloc, words, reader) {
         Ok(text) => deliver(text.as_slice(), writer),
         Err(refusal) => Err(refusal),
     };
@@ -63,25 +66,85 @@ fn status(fault: &Fault) -> u8 {
     }
 }
 
-fn answer<R: Read>(alloc: Global, words: &[String], reader: &mut R) -> Result<Vec<u8>, Refusal> {
+fn answer<T: Threads + Sync, R: Read>(
+    rt: &T,
+    alloc: Global,
+    words: &[String],
+    reader: &mut R,
+) -> Result<Vec<u8>, Refusal> {
     match parse(alloc, words)? {
         Request::Help(text) => Ok(text.into_bytes()),
-        Request::Show { repack } => Ok(show(alloc, repack, reader)?),
+        Request::Show { sharing, repack } => {
+            let settings = shared(sharing)?;
+            Ok(show(rt, alloc, &settings, repack, reader)?)
+        }
+        Request::Check => Ok(check(rt, alloc, reader)?),
+        Request::Live(sharing) => {
+            let settings = shared(sharing)?;
+            let image = read_image(alloc, reader)?;
+            Ok(live_lines(rt, alloc, &settings, image.heap())?.into_bytes())
+        }
+        Request::Choose {
+            sharing: Sharing { workers, chunk },
+            cost,
+            budget,
+        } => {
+            let settings = Settings::new(workers, chunk, cost, Choice::Budget(budget))?;
+            let tracked = read_tracked(rt, alloc, reader)?;
+            Ok(candidates(rt, alloc, &settings, budget, &tracked)?.into_bytes())
+        }
     }
 }
 
-fn show<R: Read>(alloc: Global, repack: bool, reader: &mut R) -> Result<Vec<u8>, Fault> {
+// The settings of a command that has no costs and no choice.
+fn shared(sharing: Sharing) -> Result<Settings, Fault> {
+    let free = Cost {
+        fixed: 0,
+        dirty: 0,
+        card: 0,
+        byte: 0,
+    };
+    Settings::new(sharing.workers, sharing.chunk, free, Choice::Budget(0))
+}
+
+fn show<T: Threads + Sync, R: Read>(
+    rt: &T,
+    alloc: Global,
+    settings: &Settings,
+    repack: bool,
+    reader: &mut R,
+) -> Result<Vec<u8>, Fault> {
     let image = read_image(alloc, reader)?;
     if repack {
         encode(alloc, &image)
     } else {
-        Ok(table(alloc, &image)?.into_bytes())
+        Ok(table(rt, alloc, settings, &image)?.into_bytes())
     }
+}
+
+fn check<T: Threads + Sync, R: Read>(
+    rt: &T,
+    alloc: Global,
+    reader: &mut R,
+) -> Result<Vec<u8>, Fault> {
+    read_tracked(rt, alloc, reader)?;
+    Ok(Vec::from_slice(alloc, b"covered\n")?)
 }
 
 fn read_image<R: Read>(alloc: Global, reader: &mut R) -> Result<Image, Fault> {
     let bytes = read_all(alloc, reader)?;
     decode(alloc, bytes.as_slice())
+}
+
+fn read_tracked<T: Threads + Sync, R: Read>(
+    rt: &T,
+    alloc: Global,
+    reader: &mut R,
+) -> Result<Tracked, Fault> {
+    match verify(rt, alloc, read_image(alloc, reader)?) {
+        Ok(tracked) => Ok(tracked),
+        Err((_, fault)) => Err(fault),
+    }
 }
 
 fn read_all<R: Read>(alloc: Global, reader: &mut R) -> Result<Vec<u8>, Fault> {

@@ -6,6 +6,7 @@
 #![tactic(auto)]
 
 mod commands;
+mod listing;
 mod options;
 mod show;
 #[cfg(test)]

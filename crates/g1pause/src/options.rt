@@ -1,16 +1,35 @@
 //! The command line.
 use clap::error::ErrorKind;
-use clap::{Arg, ArgAction, Command, Error};
+use clap::{Arg, ArgAction, ArgMatches, Command, Error};
+use g1_choose::Cost;
 use g1_words::Fault;
 use std::alloc::{AllocError, Global};
 
-/// What the words ask for.
+/// What the words ask for. Numbers are whole, and may be out of their ranges.
 #[derive(Debug, Drop)]
 pub enum Request {
     /// This text, which tells how the program is used.
     Help(String),
     /// The table of an image, or its text where it is to be packed again.
-    Show { repack: bool },
+    Show { sharing: Sharing, repack: bool },
+    /// Whether every reference into another region is covered.
+    Check,
+    /// The live bytes of each region.
+    Live(Sharing),
+    /// The candidates, and which of them the budget buys.
+    Choose {
+        sharing: Sharing,
+        cost: Cost,
+        budget: u64,
+    },
+}
+
+/// How workers share the work.
+#[derive(Debug, Clone, Copy, PartialEq, Eq)]
+pub struct Sharing {
+    pub workers: u64,
+    /// How many items a worker draws at once.
+    pub chunk: u64,
 }
 
 /// Why a request is not answered.
@@ -33,20 +52,109 @@ impl From<AllocError> for Refusal {
     }
 }
 
-fn command<'a>(alloc: Global) -> Result<Command<'a>, AllocError> {
+fn option<'a>(alloc: Global, id: &'a str, default: &'a str, help: &'a str) -> Arg<'a> {
+    Arg::new(alloc, id)
+        .long(id)
+        .value_name("N")
+        .default_value(default)
+        .action(ArgAction::Set)
+        .help(help)
+}
+
+fn shared<'a>(alloc: Global, name: &'a str) -> Result<Command<'a>, AllocError> {
+    Command::new(alloc, name)
+        .arg(option(alloc, "workers", "1", "How many workers share the work, 1 to 64"))?
+        .arg(option(alloc, "chunk", "64", "How many items a worker draws at once"))
+}
+
+fn show<'a>(alloc: Global) -> Result<Command<'a>, AllocError> {
     let repack = Arg::new(alloc, "repack")
         .long("repack")
         .action(ArgAction::SetTrue)
         .help("Writes the image's text in place of the table");
-    let show = Command::new(alloc, "show")
+    shared(alloc, "show")?
         .about("Prints the regions of the image on standard input")
-        .arg(repack)?;
+        .arg(repack)
+}
+
+fn choose<'a>(alloc: Global) -> Result<Command<'a>, AllocError> {
+    let budget = Arg::new(alloc, "budget")
+        .long("budget")
+        .value_name("N")
+        .action(ArgAction::Set)
+        .required(true)
+        .help("What the pause may cost in all");
+    shared(alloc, "choose")?
+        .about("Prints the candidates in order, and which of them the budget buys")
+        .arg(option(alloc, "fixed", "0", "What a pause costs in any case"))?
+        .arg(option(alloc, "dirty", "1", "What a dirty card costs"))?
+        .arg(option(alloc, "card", "1", "What a remembered card costs"))?
+        .arg(option(alloc, "byte", "1", "What a live byte costs"))?
+        .arg(budget)
+}
+
+fn command<'a>(alloc: Global) -> Result<Command<'a>, AllocError> {
+    let check = Command::new(alloc, "check")
+        .about("Tells whether every reference into another region is covered");
+    let live = shared(alloc, "live")?.about("Prints the live bytes of each region");
     Command::new(alloc, "g1pause")
         .no_binary_name(true)
         .bin_name("g1pause")?
         .about("Runs Garbage-First evacuation pauses on heap images")
         .subcommand_required(true)
-        .subcommand(show)
+        .subcommand(show(alloc)?)?
+        .subcommand(check)?
+        .subcommand(live)?
+        .subcommand(choose(alloc)?)
+}
+
+// A whole number in decimal digits alone.
+fn whole(text: &str) -> Option<u64> {
+    if !text.bytes().all(|b| b.is_ascii_digit()) {
+        return None;
+    }
+    text.parse::<u64>().ok()
+}
+
+// The value of an option that has one. clap would take a sign.
+fn number<'a>(
+    alloc: Global,
+    command: &mut Command<'a>,
+    matches: &ArgMatches<'a>,
+    id: &str,
+) -> Result<u64, Error> {
+    let text = matches.get_str(id).unwrap_or("");
+    match whole(text) {
+        Some(value) => Ok(value),
+        None => {
+            let message = format!(in alloc; "invalid value '{text}' for '--{id}': not a whole number below 2^64")?;
+            Err(command.error(ErrorKind::ValueValidation, message.as_str())?)
+        }
+    }
+}
+
+fn sharing_of<'a>(
+    alloc: Global,
+    command: &mut Command<'a>,
+    matches: &ArgMatches<'a>,
+) -> Result<Sharing, Error> {
+    Ok(Sharing {
+        workers: number(alloc, command, matches, "workers")?,
+        chunk: number(alloc, command, matches, "chunk")?,
+    })
+}
+
+fn cost<'a>(
+    alloc: Global,
+    command: &mut Command<'a>,
+    matches: &ArgMatches<'a>,
+) -> Result<Cost, Error> {
+    Ok(Cost {
+        fixed: number(alloc, command, matches, "fixed")?,
+        dirty: number(alloc, command, matches, "dirty")?,
+        card: number(alloc, command, matches, "card")?,
+        byte: number(alloc, command, matches, "byte")?,
+    })
 }
 
 fn requested(alloc: Global, words: &[String]) -> Result<Request, Error> {
@@ -54,7 +162,15 @@ fn requested(alloc: Global, words: &[String]) -> Result<Request, Error> {
     let matches = command.try_get_matches_from_mut(words)?;
     match matches.subcommand() {
         Some(("show", show)) => Ok(Request::Show {
+            sharing: sharing_of(alloc, &mut command, show)?,
             repack: show.get_flag("repack"),
+        }),
+        Some(("check", _)) => Ok(Request::Check),
+        Some(("live", live)) => Ok(Request::Live(sharing_of(alloc, &mut command, live)?)),
+        Some(("choose", choose)) => Ok(Request::Choose {
+            sharing: sharing_of(alloc, &mut command, choose)?,
+            cost: cost(alloc, &mut command, choose)?,
+            budget: number(alloc, &mut command, choose, "budget")?,
         }),
         _ => Err(command.error(ErrorKind::MissingSubcommand, "a command is required")?),
     }

@@ -1,16 +1,63 @@
 //! The table of an image: a line with its numbers, and a line for each region.
-ghost use Rattle.std.specs.Prelude.{◌≤◌};
+ghost use Rattle.std.specs.Prelude.{◌≡◌, ◌≤◌, ◌<◌, ◌*◌, ℕ};
 
 use g1_image::Image;
+use g1_pause::Settings;
 use g1_words::{Fault, Kind, Region, objects_in};
+use g1_work::{Open, Task, each_chunk};
 use std::alloc::{AllocError, Global};
+use std::thread::Threads;
 
-/// The table of an image.
-pub fn table(alloc: Global, image: &Image) -> Result<String, Fault> {
-    let regions = image.heap().geometry().regions() as u32;
+/// The table of an image. The workers draw chunks of its regions.
+pub fn table<T: Threads + Sync>(
+    rt: &T,
+    alloc: Global,
+    settings: &Settings,
+    image: &Image,
+) -> Result<String, Fault> {
+    let regions = image.heap().geometry().regions();
+    let rows = Rows {
+        image,
+        chunk: settings.chunk(),
+        alloc,
+    };
+    let workers = vec![in alloc; (); settings.workers() as usize]?;
+    let chunks = regions.div_ceil(rows.chunk);
+    let (_, outs) = each_chunk(rt, alloc, workers, chunks, &rows, &Open)?;
     let mut text = heading(alloc, image)?;
-    text.push_str(rows(alloc, image, 0, regions)?.as_str())?;
+    for out in &outs {
+        text.push_str(out.as_str())?;
+    }
     Ok(text)
+}
+
+// The regions' lines, by chunks of so many regions.
+#[derive(Drop)]
+struct Rows<'a> {
+    image: &'a Image,
+    chunk: u64,
+    alloc: Global,
+}
+
+impl<'a> Task for Rows<'a> {
+    type State = ();
+
+    type Out = String;
+
+    ghost use Rattle.std.specs.Prelude.{◌≡◌, ◌≤◌, ◌<◌, ◌*◌, ℕ, ⊤};
+
+    ghost ready = { λ s _ k. (k * s.chunk < s.image.now.heap.geometry.n) × (s.chunk ≤ 65536) };
+
+    ghost runs = { λ _ _ _ _ _. ⊤ };
+
+    ghost may_fail = { λ _ _ _. ⊤ };
+
+    fn run(&self, _state: &mut (), chunk: u64) -> Result<String, Fault> {
+        let regions = self.image.heap().geometry().regions();
+        let from = chunk * self.chunk;
+        let to = regions.min(from + self.chunk);
+        lines(self.alloc, self.image, from as u32, to as u32)
+    }
 }
 
 fn heading(alloc: Global, image: &Image) -> Result<String, AllocError> {
@@ -23,15 +70,16 @@ fn heading(alloc: Global, image: &Image) -> Result<String, AllocError> {
     );
     let roots = heap.roots().len();
     let dirty = image.log().len();
-    let current = match heap.current() {
-        Some(region) => region.to_string(alloc)?,
-        None => String::from_str(alloc, "none")?,
-    };
-    format!(in alloc; "heap {w} {k} {n} roots {roots} dirty {dirty} current {current}\n")
+    match heap.current() {
+        Some(current) => {
+            format!(in alloc; "heap {w} {k} {n} roots {roots} dirty {dirty} current {current}\n")
+        }
+        None => format!(in alloc; "heap {w} {k} {n} roots {roots} dirty {dirty} current none\n"),
+    }
 }
 
 // The lines of the regions from one number up to another.
-fn rows(alloc: Global, image: &Image, from: u32, to: u32) -> Result<String, Fault>
+fn lines(alloc: Global, image: &Image, from: u32, to: u32) -> Result<String, Fault>
     requires { to ≤ image.now.heap.geometry.n }
 {
     let heap = image.heap();

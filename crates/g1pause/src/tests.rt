@@ -21,6 +21,14 @@ static DIRTY: &str = "16 4 4 1 1 0  1 2 0 0 0 0 0 0  =1  0  0 0 0 0  2/1 =0";
 static HUMONGOUS: &str =
     "16 4 6 1 0 6  2 16 3 16 3 8 1 2 0 0 0 0  =1  0 0 0 1 4 0 0  40/20 0*16 =49 0*22 2/0 =4";
 
+static UNCOVERED: &str = "16 4 4 0 0 4  1 2 1 3 0 0 0 0  0 0 0 0  2/1 =17 3/0 =1 =2";
+
+static SHARED_TARGETS: &str =
+    "16 4 4 2 0 4  1 6 1 7 0 0 0 0  =22 =17  0 2 0 1 0 0  4/1 =22 =1 =2 2/1 =22 5/3 =22 =22 =22 =1 2/0 =8";
+
+static THREE_REGIONS: &str =
+    "16 4 6 3 0 6  1 4 1 4 1 2 0 0 0 0 0 0  =1 =17 =33  0 0 1 0 0 0 0  2/0 =1 2/0 =1 2/0 =1 2/0 =1 1/0 1/0";
+
 // Malformed images, and what is told of each.
 static MALFORMED: [(&str, &str); 25] = [
     (
@@ -183,17 +191,29 @@ fn expect_answer<T: Threads + Abort + Sync>(
 fn expect_fault<T: Threads + Abort + Sync>(
     rt: &T,
     alloc: Global,
+    line: &str,
     bytes: &[u8],
+    expected: u8,
     fault: &str,
 ) -> Result<(), AllocError> {
     let told = format!(in alloc; "g1pause: fault {fault}\n")?;
+    let mut reader = bytes;
+    let mut out = Vec::new(alloc);
+    let (status, errors) = run(rt, alloc, line, &mut reader, &mut out)?;
+    assert_eq!(rt; status, expected, "{line} of {bytes:?}");
+    assert!(rt; out.is_empty(), "{line} of {bytes:?}");
+    assert_eq!(rt; errors.as_slice(), told.as_bytes(), "{line} of {bytes:?}");
+    Ok(())
+}
+
+fn expect_malformed<T: Threads + Abort + Sync>(
+    rt: &T,
+    alloc: Global,
+    bytes: &[u8],
+    fault: &str,
+) -> Result<(), AllocError> {
     for line in ["show", "show --repack"] {
-        let mut reader = bytes;
-        let mut out = Vec::new(alloc);
-        let (status, errors) = run(rt, alloc, line, &mut reader, &mut out)?;
-        assert_eq!(rt; status, 3, "{line} of {bytes:?}");
-        assert!(rt; out.is_empty(), "{line} of {bytes:?}");
-        assert_eq!(rt; errors.as_slice(), told.as_bytes(), "{line} of {bytes:?}");
+        expect_fault(rt, alloc, line, bytes, 3, fault)?;
     }
     Ok(())
 }
@@ -224,7 +244,50 @@ fn shows_tables(rt: HostRuntime) -> Result<(), Fail> {
         (HUMONGOUS, humongous),
     ] {
         let image = image_of(alloc, tokens)?;
-        expect_answer(&rt, alloc, "show", image.as_slice(), table.as_bytes())?;
+        for line in ["show", "show --workers 3 --chunk 1", "show --workers 64 --chunk 65536"] {
+            expect_answer(&rt, alloc, line, image.as_slice(), table.as_bytes())?;
+        }
+    }
+    Ok(())
+}
+
+#[test]
+fn tells_cover_and_live_bytes(rt: HostRuntime) -> Result<(), Fail> {
+    let alloc = rt.alloc();
+    let shared = "region 0 live 0\nregion 1 live 56\nregion 2 live 0\nregion 3 live 0\n";
+    let humongous = "region 0 live 320\nregion 1 live 0\nregion 2 live 0\n\
+        region 3 live 16\nregion 4 live 0\nregion 5 live 0\n";
+    for (tokens, lines) in [(SHARED_TARGETS, shared), (HUMONGOUS, humongous)] {
+        let image = image_of(alloc, tokens)?;
+        expect_answer(&rt, alloc, "check", image.as_slice(), b"covered\n")?;
+        for line in ["live", "live --workers 8 --chunk 1"] {
+            expect_answer(&rt, alloc, line, image.as_slice(), lines.as_bytes())?;
+        }
+    }
+    let image = image_of(alloc, UNCOVERED)?;
+    for line in ["check", "choose --budget 0"] {
+        expect_fault(&rt, alloc, line, image.as_slice(), 4, "9: uncovered slot 1")?;
+    }
+    Ok(())
+}
+
+#[test]
+fn lists_what_a_budget_buys(rt: HostRuntime) -> Result<(), Fail> {
+    let alloc = rt.alloc();
+    let image = image_of(alloc, THREE_REGIONS)?;
+    for (line, answer) in [
+        (
+            "choose --fixed 10 --budget 35",
+            "region 0 cost 16 garbage 16 taken\nregion 1 cost 16 garbage 16 left\n\
+            region 2 cost 9 garbage 8 left\ntotal 26\n",
+        ),
+        (
+            "choose --fixed 10 --budget 9",
+            "region 0 cost 16 garbage 16 left\nregion 1 cost 16 garbage 16 left\n\
+            region 2 cost 9 garbage 8 left\ntotal 10\n",
+        ),
+    ] {
+        expect_answer(&rt, alloc, line, image.as_slice(), answer.as_bytes())?;
     }
     Ok(())
 }
@@ -257,16 +320,16 @@ fn names_the_first_fault(rt: HostRuntime) -> Result<(), Fail> {
     let alloc = rt.alloc();
     for (tokens, fault) in MALFORMED {
         let image = image_of(alloc, tokens)?;
-        expect_fault(&rt, alloc, image.as_slice(), fault)?;
+        expect_malformed(&rt, alloc, image.as_slice(), fault)?;
     }
-    expect_fault(&rt, alloc, b"H", "1: magic")?;
+    expect_malformed(&rt, alloc, b"H", "1: magic")?;
     for tokens in [ONE_OBJECT, DEAD_OWNER] {
         let mut image = image_of(alloc, tokens)?;
         for cut in 0..image.len() {
-            expect_fault(&rt, alloc, &image[..cut], "3: short")?;
+            expect_malformed(&rt, alloc, &image[..cut], "3: short")?;
         }
         image.push(0)?;
-        expect_fault(&rt, alloc, image.as_slice(), "4: trailing")?;
+        expect_malformed(&rt, alloc, image.as_slice(), "4: trailing")?;
     }
     Ok(())
 }
@@ -388,16 +451,19 @@ fn usage_faults_come_before_the_input(rt: HostRuntime) -> Result<(), Fail> {
     let refused = [
         "",
         "frob",
-        "check",
-        "live",
-        "choose --budget 1",
+        "choose",
+        "choose --budget 0x1",
         "pause 1",
         "run",
         "show 1",
         "show --repack=1",
         "show --repack --repack",
-        "show --workers 1",
-        "show --chunk 1",
+        "show --workers",
+        "show --workers +1",
+        "show --workers 18446744073709551616",
+        "check --workers 1",
+        "live --budget 1",
+        "live --workers 0 --chunk x",
         "--version",
     ];
     for line in refused {
@@ -419,6 +485,28 @@ fn usage_faults_come_before_the_input(rt: HostRuntime) -> Result<(), Fail> {
         let (status, errors) = run(&rt, alloc, line, &mut reader, &mut out)?;
         assert_eq!(rt; status, 0, "{line}");
         assert!(rt; !out.is_empty() && errors.is_empty(), "{line}");
+    }
+    Ok(())
+}
+
+#[test]
+fn numbers_out_of_range_come_before_the_input(rt: HostRuntime) -> Result<(), Fail> {
+    let alloc = rt.alloc();
+    for (line, told) in [
+        ("show --workers 0", "g1pause: fault 12: setting 1\n"),
+        ("show --workers 65 --chunk 0", "g1pause: fault 12: setting 1\n"),
+        ("live --chunk 65537", "g1pause: fault 12: setting 2\n"),
+        ("choose --card 4294967296 --budget 1", "g1pause: fault 12: setting 3\n"),
+    ] {
+        let mut reader = Failing {
+            bytes: Vec::new(alloc),
+            left: 0,
+        };
+        let mut out = Vec::new(alloc);
+        let (status, errors) = run(&rt, alloc, line, &mut reader, &mut out)?;
+        assert_eq!(rt; status, 2, "{line}");
+        assert!(rt; out.is_empty(), "{line}");
+        assert_eq!(rt; errors.as_slice(), told.as_bytes(), "{line}");
     }
     Ok(())
 }
