@@ -12,13 +12,14 @@ use Rattle.g1_words.specs.Walk.{Reaches}
 use Rattle.g1_words.proofs.Members.{In, In-from_contains, Contains-from_in, In-append_cases, In-append_left, In-append_right, In-filter, filter_member, flat_map_cases, In-flat_map}
 use Rattle.g1_words.proofs.Tiling.{Tiles-le, Tiles-append, Tiles-stands, same_object}
 use Rattle.g1_words.proofs.Objects.{StandsIn, object_stands, object_place, div_between, region_in_words}
-use Rattle.g1_words.proofs.Computed.{holds_are, contains_has, has_contains, in_region_has}
+use Rattle.g1_words.proofs.Computed.{In-range, holds_are, contains_has, has_contains, in_region_has}
 use Rattle.g1_words.proofs.Sound.{has_is, stands_object}
 use Rattle.g1_words.proofs.Bounds.{cards_in_region}
 use Rattle.g1_rem.specs.Starts.{Covers, IsOver}
 use Rattle.g1_rem.specs.Slots.{slots_on, all_slots, is_between}
 use Rattle.g1_rem.specs.Marks.{Chain}
-use Rattle.g1_rem.proofs.Rising.{Rises, Rises-weaken, Rises-filter, Rises-one}
+use Rattle.g1_rem.specs.Laws.{SlotsRise, SlotsOnCard}
+use Rattle.g1_rem.proofs.Rising.{Rises-increasing, Rises, Rises-weaken, Rises-filter, Rises-one}
 use Rattle.g1_rem.proofs.Order.{slot_in, Chain-apart, Chain-above, Chain-tiles, Chain-slots, objects_chain, object_fits}
 use Rattle.g1_rem.proofs.Scan.{between_is, is_between_there, Tiles-one}
 
@@ -278,3 +279,19 @@ over_region h lo a valid over =
       (object_stands h (object_at h a) (a / h.geometry.w) valid (contains_has h (object_at h a) valid.shaped over.0) refl).0,
       omega (arith, fit, c.1, valid.word_count),
     )
+
+-- the slots on a card rise
+pub slots_rise : SlotsRise
+slots_rise h c valid = Rises-increasing 0 (slots_on h c) (Rises-filter (λ p. eqb (card_of h p) c) 0 (all_slots h) (all_rise h valid))
+
+-- and are those that lie on it
+pub slots_on_card : SlotsOnCard
+slots_on_card h c p = (
+  (λ k.
+      let m = filter_member (λ p. eqb (card_of h p) c) (all_slots h) p (In-from_contains (slots_on h c) p k) in
+      let q = flat_map_cases slots (objects h) p m.0 in
+      (q.0, Contains-from_in (objects h) q.0 q.1, slot_in q.0 p q.2, eqb-true (card_of h p) c m.1)),
+  (λ (o, k, s, e).
+      let i : In (slots o) p = In-range (o.at + 1) o.refs p (omega (arith, s.0)) (omega (arith, s.1)) in
+      Contains-from_in (slots_on h c) p (In-filter (λ p. eqb (card_of h p) c) (all_slots h) p (In-flat_map slots (objects h) o p (In-from_contains (objects h) o k) i) (eq-eqb (card_of h p) c e))),
+)
