@@ -1,30 +1,27 @@
 -- The slots on a card are those of the objects from the one over its first word on.
-use Rattle.std.proofs.Common.{◌≡◌, ◌≢◌, ◌≤◌, ◌<◌, ℕ, zero, suc, ◌+◌, ◌-◌, ◌*◌, ◌/◌, ◌%◌, ◌^◌, ◌⊎◌, inl, inr, Bool, true, false, List, [], ◌∷◌, ◌++◌, length, slice_index, filter, flat_map, Contains, arith, refl, sym, ap, subst, ◌∙◌, append-nil, eqb, eqb-true, eq-eqb, div-add-mod'}
+use Rattle.std.proofs.Common.{◌≡◌, ◌≢◌, ◌≤◌, ◌<◌, ℕ, ◌+◌, ◌-◌, ◌*◌, ◌/◌, ◌%◌, inl, inr, List, [], ◌∷◌, ◌++◌, length, filter, flat_map, arith, refl, sym, ap, subst, ◌∙◌, append-nil, eqb, eqb-true, eq-eqb, div-add-mod'}
 use Rattle.std.specs.Prelude.{Option, Some, None}
 use Rattle.std.proofs.lemmas.Bool.{cases_lt}
-use Rattle.std.proofs.Math.Nat.{mul-le-mul_right, mul-le-mul_left, le_of_mul-le-mul_right}
+use Rattle.std.proofs.Math.Nat.{mul-le-mul_right}
 use Rattle.g1_words.specs.declared.object.Object.{Object}
 use Rattle.g1_words.specs.declared.region.Kind.{Kind}
 use Rattle.g1_words.specs.declared.region.Kind.TheVariants.{Free, Ordinary, HumongousFirst, Continuation}
-use Rattle.g1_words.specs.Heap.{Heap, kind, region, start, end, region_of, card_of, objects, objects_in, objects_by, object_at, slots}
-use Rattle.g1_words.specs.Valid.{IsObject, Tiles, IsShapedBy, IsWholeRun, HoldsBy, HasObject, IsValid}
+use Rattle.g1_words.specs.Heap.{Heap, kind, start, end, card_of, objects, objects_in, objects_by, object_at, slots}
+use Rattle.g1_words.specs.Valid.{IsObject, Tiles, IsShapedBy, IsWholeRun, HasObject, IsValid}
 use Rattle.g1_words.specs.Walk.{Reaches}
 use Rattle.g1_words.proofs.Members.{In, In-from_contains, Contains-from_in, In-append_cases, In-append_left, In-append_right, In-filter, filter_member, flat_map_cases, In-flat_map}
 use Rattle.g1_words.proofs.Tiling.{Tiles-le, Tiles-append, Tiles-stands, same_object}
 use Rattle.g1_words.proofs.Objects.{StandsIn, object_stands, object_place, div_between, region_in_words}
-use Rattle.g1_words.proofs.Computed.{holds_are, contains_has, has_contains, in_region_has, range_above, range_below}
+use Rattle.g1_words.proofs.Computed.{In-range, holds_are, contains_has, has_contains, in_region_has}
 use Rattle.g1_words.proofs.Sound.{has_is, stands_object}
 use Rattle.g1_words.proofs.Bounds.{cards_in_region}
-use Rattle.g1_rem.specs.Starts.{Covers, IsOver, card_count}
+use Rattle.g1_rem.specs.Starts.{Covers, IsOver}
 use Rattle.g1_rem.specs.Slots.{slots_on, all_slots, is_between}
 use Rattle.g1_rem.specs.Marks.{Chain}
-use Rattle.g1_rem.proofs.Rising.{Rises, Rises-weaken, Rises-filter, Rises-one}
-use Rattle.g1_rem.proofs.Order.{Chain-apart, Chain-above, Chain-tiles, Chain-slots, objects_chain, object_fits}
-use Rattle.g1_rem.proofs.Marks.{cards_fill}
+use Rattle.g1_rem.specs.Laws.{SlotsRise, SlotsOnCard}
+use Rattle.g1_rem.proofs.Rising.{Rises-increasing, Rises, Rises-weaken, Rises-filter, Rises-one}
+use Rattle.g1_rem.proofs.Order.{slot_in, Chain-apart, Chain-above, Chain-tiles, Chain-slots, objects_chain, object_fits}
 use Rattle.g1_rem.proofs.Scan.{between_is, is_between_there, Tiles-one}
-
-pub slot_in : (o : Object) (p : ℕ) → In (slots o) p → (o.at < p) × (p ≤ o.at + o.refs)
-slot_in o p i = (omega (arith, range_above (o.at + 1) o.refs p i), omega (arith, range_below (o.at + 1) o.refs p i))
 
 -- some object of a row covers each address between its ends
 pub Tiles-cover : (words : List ℕ) (from : ℕ) (os : List Object) (to x : ℕ) → Tiles words from os to → from ≤ x → x < to → (o : Object) × In os o × Covers o x
@@ -35,16 +32,20 @@ Tiles-cover words from (o ∷ os) to x t le lt = elim (cases_lt x (o.at + o.size
 ]
 
 module _ (h : Heap) (valid : IsValid h) where
+  -- all slots of a heap rise
   pub all_rise : Rises 0 (all_slots h)
   all_rise = Chain-slots 0 (objects h) (objects_chain h valid)
 
+  -- a card has words
   k_some : 0 < h.geometry.k
   k_some = omega (arith, valid.limits.k_least)
 
   module _ (c lo hi : ℕ) (at : lo ≡ c * h.geometry.k) (until : hi ≡ lo + h.geometry.k) where
+    -- the addresses of the card lie on it
     pub on_card : (p : ℕ) → lo ≤ p → p < hi → card_of h p ≡ c
     on_card p le lt = div_between p h.geometry.k c (omega (arith, at, le)) (omega (arith, at, until, lt))
 
+    -- and no others do
     pub card_there : (p : ℕ) → card_of h p ≡ c → (lo ≤ p) × (p < hi)
     card_there p e =
         let whole : p / h.geometry.k * h.geometry.k + p % h.geometry.k ≡ p = div-add-mod' p h.geometry.k in
@@ -83,18 +84,23 @@ module _ (h : Heap) (valid : IsValid h) where
         let q = flat_map_cases slots (objects h) p m.0 in
         In-filter (is_between lo hi) (flat_map slots os) p (In-flat_map slots os q.0 p (theirs q.0 p q.1 q.2 b.0 b.1) q.2) (between_is lo hi p b.0 b.1))
 
+    -- an object that is listed is one of the heap's
     has_in : (o : Object) → In (objects h) o → HasObject h o
     has_in o i = contains_has h o valid.shaped (Contains-from_in (objects h) o i)
 
+    -- its slots fit into it
     refs_fit : (o : Object) → In (objects h) o → o.refs < o.size
     refs_fit o i = (Chain-above 0 (objects h) o (objects_chain h valid) i).1
 
+    -- where an object stands
     stands : (o : Object) → In (objects h) o → (r : ℕ) → start h r ≤ o.at → o.at < start h r + h.geometry.w → (r < h.geometry.n) × StandsIn (kind h r) h r o
     stands o i r le lt = object_stands h o r valid (has_in o i) (sym (div_between o.at h.geometry.w r le lt))
 
+    -- the objects of a region are the heap's
     in_region : (r : ℕ) (o : Object) → r < h.geometry.n → In (objects_in h r) o → In (objects h) o
     in_region r o lt i = In-from_contains (objects h) o (has_contains h o (in_region_has h r o valid.shaped lt (Contains-from_in (objects_in h r) o i)))
 
+    -- an ordinary region has one row of objects
     ordinary_row : (r : ℕ) (os : List Object) → kind h r ≡ Ordinary → Tiles h.words (start h r) os (end h r) → os ≡ objects_in h r
     ordinary_row r os e t = holds_are Ordinary h r os t ∙ ap (λ k. objects_by k h r) (sym e)
 
@@ -122,6 +128,7 @@ module _ (h : Heap) (valid : IsValid h) where
     none_by HumongousFirst q o e lt none le i past t = omega (arith, t.0, le, past)
     none_by Continuation q o e lt none le i past t = t
 
+    -- so the card has no slots
     pub none_on : IsOver h lo None → [] ≡ slots_on h c
     none_on none = pieces [] tt (λ o i. absurd i) (λ o p i s le lt.
         let b = slot_in o p s in
@@ -246,9 +253,11 @@ pub record RowOn (h : Heap) (c lo hi a end : ℕ) : Type 0 where
   pub filled : Reaches h.words a end
   pub all : (os : List Object) → Tiles h.words a os end → filter (is_between lo hi) (flat_map slots os) ≡ slots_on h c
 
+-- the same object, at equal addresses
 pub over_at : (h : Heap) (x y : ℕ) (v w : Option ℕ) → x ≡ y → v ≡ w → IsOver h x v → IsOver h y w
 over_at h x y v w e f o = subst (λ z. IsOver h z w) e (subst (λ z. IsOver h x z) f o)
 
+-- the row to the top of an ordinary region
 pub ordinary_row_on : (h : Heap) (c lo hi a : ℕ) → IsValid h → lo ≡ c * h.geometry.k → hi ≡ lo + h.geometry.k → IsOver h lo (Some a) → kind h (a / h.geometry.w) ≡ Ordinary → RowOn h c lo hi a (end h (a / h.geometry.w))
 ordinary_row_on h c lo hi a valid e f over k =
     let r = ordinary_on h valid c lo hi e f a over (a / h.geometry.w) refl k in
@@ -256,11 +265,13 @@ ordinary_row_on h c lo hi a valid e f over k =
     let shaped : IsShapedBy Ordinary h (a / h.geometry.w) = subst (λ k. IsShapedBy k h (a / h.geometry.w)) k (valid.shaped (a / h.geometry.w) s.0).by_kind in
     record { in_words = omega (arith, region_in_words h (a / h.geometry.w) valid s.0, shaped.1); filled = r.0; all = r.1 }
 
+-- the one humongous object
 pub alone_row_on : (h : Heap) (c lo hi a : ℕ) → IsValid h → lo ≡ c * h.geometry.k → hi ≡ lo + h.geometry.k → IsOver h lo (Some a) → kind h (a / h.geometry.w) ≢ Ordinary → RowOn h c lo hi a (a + (object_at h a).size)
 alone_row_on h c lo hi a valid e f over k =
     let r = alone_on h valid c lo hi e f a over k in
     record { in_words = omega (arith, object_fits h valid (object_at h a) over.0, valid.word_count); filled = r.0; all = r.1 }
 
+-- the object over a card lies in one of the regions
 pub over_region : (h : Heap) (lo a : ℕ) → IsValid h → IsOver h lo (Some a) → (a / h.geometry.w < h.geometry.n) × (a < length h.words)
 over_region h lo a valid over =
     let fit = object_fits h valid (object_at h a) over.0 in
@@ -268,3 +279,19 @@ over_region h lo a valid over =
       (object_stands h (object_at h a) (a / h.geometry.w) valid (contains_has h (object_at h a) valid.shaped over.0) refl).0,
       omega (arith, fit, c.1, valid.word_count),
     )
+
+-- the slots on a card rise
+pub slots_rise : SlotsRise
+slots_rise h c valid = Rises-increasing 0 (slots_on h c) (Rises-filter (λ p. eqb (card_of h p) c) 0 (all_slots h) (all_rise h valid))
+
+-- and are those that lie on it
+pub slots_on_card : SlotsOnCard
+slots_on_card h c p = (
+  (λ k.
+      let m = filter_member (λ p. eqb (card_of h p) c) (all_slots h) p (In-from_contains (slots_on h c) p k) in
+      let q = flat_map_cases slots (objects h) p m.0 in
+      (q.0, Contains-from_in (objects h) q.0 q.1, slot_in q.0 p q.2, eqb-true (card_of h p) c m.1)),
+  (λ (o, k, s, e).
+      let i : In (slots o) p = In-range (o.at + 1) o.refs p (omega (arith, s.0)) (omega (arith, s.1)) in
+      Contains-from_in (slots_on h c) p (In-filter (λ p. eqb (card_of h p) c) (all_slots h) p (In-flat_map slots (objects h) o p (In-from_contains (objects h) o k) i) (eq-eqb (card_of h p) c e))),
+)

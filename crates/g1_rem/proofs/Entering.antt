@@ -1,5 +1,5 @@
 -- The dirty cards that lead into each region, card by card and slot by slot.
-use Rattle.std.proofs.Common.{◌≡◌, ◌≢◌, ◌≤◌, ◌<◌, ℕ, zero, suc, ◌+◌, ◌-◌, ◌*◌, ◌/◌, inl, inr, Bool, true, false, not, cond, ◌&&◌, ◌||◌, List, [], ◌∷◌, ◌++◌, length, slice_index, slice_index_or, get_or, replicate, map, take, drop, filter, All, AllPairs, Contains, arith, refl, sym, ap, subst, ◌∙◌, eqb, eqb-true, eq-eqb, append-nil, get_or-set_same, get_or-set_other}
+use Rattle.std.proofs.Common.{◌≡◌, ◌≢◌, ◌≤◌, ◌<◌, ℕ, zero, suc, ◌+◌, ◌-◌, inl, inr, Bool, true, false, not, cond, ◌&&◌, ◌||◌, List, [], ◌∷◌, ◌++◌, length, slice_index, slice_index_or, get_or, replicate, map, take, drop, filter, All, AllPairs, Contains, arith, refl, sym, ap, subst, ◌∙◌, eqb, eqb-true, eq-eqb, append-nil, get_or-set_same, get_or-set_other}
 use Rattle.std.specs.Prelude.{Some, None, Result, Ok, Err, IfOk, IfErr, MatchResult}
 use Rattle.std.specs.Global.{Vec}
 use Rattle.std.proofs.lemmas.List.Kept.{IsStrictlyIncreasing-filter}
@@ -16,14 +16,15 @@ use Rattle.std.proofs.lemmas.Bool.Decides.{Decides-eqb}
 use Rattle.std.proofs.lemmas.List.Sorted.{Contains-permutation, IsPermutation-sym, IsNonDecreasingBy-from_sort}
 use Rattle.std.proofs.lemmas.Map.Keys.{IsDistinct-IsPermutation, IsStrictlyIncreasing-from_distinct}
 use Rattle.std.proofs.lemmas.Map.Made.{IsDistinct-from_AllPairs}
-use Rattle.std.proofs.lemmas.List.{get_or_default, get_or_push, take_all, length-append, length-replicate, get_or-replicate}
+use Rattle.std.proofs.lemmas.List.{get_or_push, take_all, length-append, length-replicate, get_or-replicate}
+use Rattle.std.proofs.lemmas.List.Elements.{filter-append}
 use Rattle.std.proofs.lemmas.List.Folds.{list_any-append}
 use Rattle.std.proofs.Math.Nat.{mul-le-mul_right}
 use Rattle.g1_words.specs.declared.object.Object.{Object}
 use Rattle.g1_words.specs.Heap.{Heap, word, objects, slots, region_of, card_of}
 use Rattle.g1_words.specs.Lists.{has}
 use Rattle.g1_words.specs.Valid.{IsReference, IsValid}
-use Rattle.g1_words.specs.References.{Ref, named, refs_at}
+use Rattle.g1_words.specs.References.{named, refs_at}
 use Rattle.g1_words.proofs.Members.{In, In-from_contains, Contains-from_in, In-filter, filter_member, flat_map_cases, has_from_in, in_from_has, or_true, and_true}
 use Rattle.g1_words.proofs.Indices.{get_or-In}
 use Rattle.g1_words.proofs.Sound.{sound}
@@ -35,8 +36,8 @@ use Rattle.g1_rem.specs.Slots.{slots_on, all_slots}
 use Rattle.g1_rem.specs.Leads.{IsLedInto}
 use Rattle.g1_rem.specs.Entering.{enters, with_card, IsGrown, AreEntering, IsRefining, AreRefining, IsRefinedSet}
 use Rattle.g1_rem.specs.Merging.{IsMerged}
-use Rattle.g1_rem.proofs.Lists.{same_test, eqb_false, filter-append}
-use Rattle.g1_rem.proofs.Rising.{Rises, Rises-range, Rises-filter, Rises-one, increasing-Rises}
+use Rattle.g1_rem.proofs.Lists.{same_test, eqb_false}
+use Rattle.g1_rem.proofs.Rising.{Rises-range, Rises-filter, Rises-one, increasing-Rises}
 use Rattle.g1_rem.proofs.Order.{object_fits}
 use Rattle.g1_rem.proofs.Marks.{cards_fill}
 use Rattle.g1_rem.proofs.Exact.{exact_by_slots}
@@ -56,6 +57,7 @@ leads_none h p r none = by_word (word h p) refl where
       clash true = refl
       clash false = refl
 
+-- a slot that leads into a region counts for that region alone
 leads_some : (h : Heap) (p t r : ℕ) → IsLedInto h p (Some t) → list_any (leads_into h r) (refs_at h p) ≡ eqb t r
 leads_some h p t r (a, named_is, into, out, there) =
     ap (λ x. list_any (leads_into h r) (map (λ a. record { slot = p; target = a }) (named x))) named_is
@@ -71,14 +73,17 @@ leads_some h p t r (a, named_is, into, out, there) =
 enters_more : (h : Heap) (r p : ℕ) (ps : List ℕ) (b : Bool) → list_any (leads_into h r) (refs_at h p) ≡ b → enters h r (ps ++ p ∷ []) ≡ (enters h r ps || (b || false))
 enters_more h r p ps b e = list_any-append (λ p. list_any (leads_into h r) (refs_at h p)) ps (p ∷ []) ∙ ap (λ z. enters h r ps || (z || false)) e
 
+-- one more slot that does not count
 or_none : (b : Bool) → (b || (false || false)) ≡ b
 or_none true = refl
 or_none false = refl
 
+-- one more slot that counts
 or_one : (b : Bool) → (b || (true || false)) ≡ true
 or_one true = refl
 or_one false = refl
 
+-- before the first slot nothing is added
 pub grown_start : (h : Heap) (card : ℕ) (lists : List (List ℕ)) → IsGrown h card [] lists lists
 grown_start h card lists = record { one_each = refl; each = λ r lt. refl }
 
@@ -118,6 +123,7 @@ grown_push h card p t ps items old mid g led lt pushed = record {
 
 -- ---- one card at the end of a list
 
+-- the card stands at the end already
 pub once_there : (before xs : List ℕ) (card : ℕ) (b : Bool) → All (λ c. c < card) before → xs ≡ with_card before card b → 0 < length xs → slice_index xs (length xs - 1) ≡ card → xs ≡ with_card before card true
 once_there before xs card true below e some last = e
 once_there before xs card false below e some last =
@@ -125,6 +131,7 @@ once_there before xs card false below e some last =
     let at = ap (λ l. slice_index l (length xs - 1)) e in
     absurd (omega (arith, lt, at, last))
 
+-- the card is added at the end
 pub once_pushed : (before xs : List ℕ) (card : ℕ) (b : Bool) → xs ≡ with_card before card b → (0 < length xs → slice_index xs (length xs - 1) ≡ card → ⊥) → xs ++ card ∷ [] ≡ with_card before card true
 once_pushed before xs card false e never = ap (λ l. l ++ card ∷ []) e
 once_pushed before xs card true e never =
@@ -134,12 +141,15 @@ once_pushed before xs card true e never =
 
 -- ---- one card
 
+-- what holds of each member holds of all
 all_in : (P : ℕ → Type 0) (xs : List ℕ) → ((x : ℕ) → In xs x → P x) → All P xs
 all_in P xs f = λ k d lt. f (get_or xs k d) (get_or-In xs k d lt)
 
+-- what holds of all holds of a member
 in_all : (P : ℕ → Type 0) (xs : List ℕ) (x : ℕ) → All P xs → In xs x → P x
 in_all P xs x all i = let c = Contains-from_in xs x i in subst P c.2 (all c.0 x c.1)
 
+-- before the first card the lists are empty
 pub entering_start : (h : Heap) (lists : List (List ℕ)) → lists ≡ replicate h.geometry.n [] → AreEntering h [] lists
 entering_start h lists e = record {
   one_each = ap length e ∙ length-replicate h.geometry.n [];
@@ -151,10 +161,12 @@ pub entering_below : (h : Heap) (ds : List ℕ) (lists : List (List ℕ)) (card 
 entering_below h ds lists card a below r lt =
     subst (All (λ c. c < card)) (sym (a.each r lt)) (all_in (λ c. c < card) (filter (is_exact h r) ds) (λ c i. in_all (λ c. c < card) ds c below (filter_member (is_exact h r) ds c i).0))
 
+-- a list with a card, as two lists
 one_card : (before : List ℕ) (card : ℕ) (b : Bool) → with_card before card b ≡ before ++ cond b (card ∷ []) []
 one_card before card true = refl
 one_card before card false = sym (append-nil before)
 
+-- one card more, told by the slots on it
 pub entering_step : (h : Heap) (ds : List ℕ) (card : ℕ) (old new : List (List ℕ)) → AreEntering h ds old → IsGrown h card (slots_on h card) old new → AreEntering h (ds ++ card ∷ []) new
 entering_step h ds card old new a g = record {
   one_each = g.one_each ∙ a.one_each;
@@ -182,6 +194,7 @@ slot_good h card p valid c =
 
 -- ---- the refined set
 
+-- the members of a filter are those that pass
 has_filter : (p : ℕ → Bool) (xs : List ℕ) (x : ℕ) → has (filter p xs) x ≡ (has xs x && p x)
 has_filter p xs x = same_test (has (filter p xs) x) (has xs x && p x)
     (λ e. let m = filter_member p xs x (in_from_has (filter p xs) x e) in both (has xs x) (p x) (has_from_in xs x m.0) m.1)
@@ -198,6 +211,7 @@ card_inside h c valid used = elim (cases_lt c (card_count h)) [
   | inr ge ↦ absurd (omega (arith, used.in_heap, cards_fill h valid, mul-le-mul_right h.geometry.k ge))
 ]
 
+-- a refined card is one of the heap's
 refined_inside : (i : Image) (r c : ℕ) → IsImage i → r < i.heap.geometry.n → is_refined i r c ≡ true → c < card_count i.heap
 refined_inside i r c valid lt e = elim (or_true (has (set_of i r) c) (has i.log c && is_exact i.heap r c) e) [
   | inl f ↦ card_inside i.heap c valid.heap (in_set (Contains-from_in (set_of i r) c (in_from_has (set_of i r) c f)))
@@ -206,6 +220,7 @@ refined_inside i r c valid lt e = elim (or_true (has (set_of i r) c) (has i.log 
   in_set : Contains (set_of i r) c → IsUsedCard i.heap c
   in_set k = in_all (IsUsedCard i.heap) (set_of i r) c (λ j d lt'. ((valid.sets r lt).elsewhere j d lt').0) (In-from_contains (set_of i r) c k)
 
+-- the one rising list with these members is the refined set
 pub refined_is : (i : Image) (r : ℕ) (zs : List ℕ) → IsImage i → r < i.heap.geometry.n → IsStrictlyIncreasing zs → ((c : ℕ) → has zs c ≡ is_refined i r c) → zs ≡ refined i r
 refined_is i r zs valid lt rising members =
     Rises-one 0 0 zs (refined i r) (increasing-Rises zs 0 rising (λ lt'. omega arith))
@@ -227,6 +242,7 @@ lent_back len now new items e same f =
     ap (λ l. take len (new ++ l)) none ∙ ap (take len) (append-nil new) ∙ take_all len new (omega (arith, same, f))
 
 module _ (log sorted : List ℕ) (moved : IsPermutation log sorted) where
+  -- a sorted log rises, since its cards differ
   pub sorted_rising : AllPairs (λ c d. c ≢ d) log → IsSorted nat_cmp sorted → IsStrictlyIncreasing sorted
   sorted_rising distinct s =
       IsStrictlyIncreasing-from_distinct sorted (IsNonDecreasingBy-from_sort (λ x. x) sorted s)
@@ -235,17 +251,20 @@ module _ (log sorted : List ℕ) (moved : IsPermutation log sorted) where
       eqb_flips : (x y : ℕ) → eqb x y ≡ eqb y x
       eqb_flips x y = same_test (eqb x y) (eqb y x) (λ e. eq-eqb y x (sym (eqb-true x y e))) (λ e. eq-eqb x y (sym (eqb-true y x e)))
 
+  -- it has the cards of the log
   pub sorted_same : (c : ℕ) → has sorted c ≡ has log c
   sorted_same c = same_test (has sorted c) (has log c)
       (λ e. has_from_in log c (In-from_contains log c (Contains-permutation sorted log c (IsPermutation-sym log sorted moved) (Contains-from_in sorted c (in_from_has sorted c e)))))
       (λ e. has_from_in sorted c (In-from_contains sorted c (Contains-permutation log sorted c moved (Contains-from_in log c (in_from_has log c e)))))
 
+  -- all of them are the heap's
   pub sorted_inside : (h : Heap) → IsValid h → All (IsUsedCard h) log → All (λ c. c < card_count h) sorted
   sorted_inside h valid used = all_in (λ c. c < card_count h) sorted (λ c i. card_inside h c valid (in_all (IsUsedCard h) log c used
       (In-from_contains log c (Contains-permutation sorted log c (IsPermutation-sym log sorted moved) (Contains-from_in sorted c i)))))
 
 -- ---- all regions
 
+-- the lists that were made are those that refine the sets
 pub refining_all : (i : Image) (dirty : List ℕ) (lists : List (List ℕ)) → IsStrictlyIncreasing dirty → ((c : ℕ) → has dirty c ≡ has i.log c) → AreEntering i.heap dirty lists → AreRefining i lists
 refining_all i dirty lists rising same a = record {
   one_each = a.one_each;
@@ -255,6 +274,7 @@ refining_all i dirty lists rising same a = record {
   });
 }
 
+-- a merged set is the refined one
 pub refined_answer : (i : Image) (r : ℕ) (set entering : List ℕ) (answer : Result (Vec ℕ) Fault) → IsImage i → r < i.heap.geometry.n → set ≡ set_of i r → IsRefining i r entering
     → IfOk answer (λ v. IsMerged set entering v.items) → IfErr answer (λ e. e ≡ Memory) → IsRefinedSet i r answer
 refined_answer i r set entering (Ok v) valid lt e new ok err =
@@ -263,12 +283,14 @@ refined_answer i r set entering (Err fault) valid lt e new ok err = err
 
 -- the answers of all regions, gathered
 module _ (i : Image) where
+  -- where no region wants memory, each has its refined set
   all_ok : (rs : List ℕ) (ys : List (Vec ℕ)) → AllZip (IsRefinedSet i) rs (map (λ y. Ok y) ys) → map (λ s. s.items) ys ≡ map (refined i) rs
   all_ok [] [] z = refl
   all_ok [] (y ∷ ys) z = absurd z
   all_ok (r ∷ rs) [] z = absurd z
   all_ok (r ∷ rs) (y ∷ ys) z = let rest = all_ok rs ys z.1 in λ t. z.0 t ∷ rest t
 
+  -- the only fault is a want of memory
   a_fault : (rs : List ℕ) (xs : List (Result (Vec ℕ) Fault)) (e : Fault) → AllZip (IsRefinedSet i) rs xs → In xs (Err e) → e ≡ Memory
   a_fault rs [] e z k = absurd k
   a_fault [] (x ∷ xs) e z k = absurd z
@@ -276,11 +298,13 @@ module _ (i : Image) where
   a_fault (r ∷ rs) (x ∷ xs) e z (inr k) = a_fault rs xs e z.1 k
 
   module _ (rs : List ℕ) (xs : List (Result (Vec ℕ) Fault)) (z : AllZip (IsRefinedSet i) rs xs) where
+    -- the sets, as they were gathered
     pub gathered_sets : (answer : Result (Vec (Vec ℕ)) Fault) → MatchResult answer (λ v. (ys : List (Vec ℕ)) × (xs ≡ map (λ y. Ok y) ys) × (v.items ≡ ys)) (λ e. Contains xs (Err e))
         → IfOk answer (λ v. map (λ s. s.items) v.items ≡ map (refined i) rs)
     gathered_sets (Ok v) (ys, e, f) = ap (map (λ s. s.items)) f ∙ all_ok rs ys (subst (AllZip (IsRefinedSet i) rs) e z)
     gathered_sets (Err fault) m = tt
 
+    -- the fault, as it was gathered
     pub gathered_fault : (answer : Result (Vec (Vec ℕ)) Fault) → MatchResult answer (λ v. (ys : List (Vec ℕ)) × (xs ≡ map (λ y. Ok y) ys) × (v.items ≡ ys)) (λ e. Contains xs (Err e))
         → IfErr answer (λ e. e ≡ Memory)
     gathered_fault (Ok v) m = tt

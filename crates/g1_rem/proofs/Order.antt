@@ -1,5 +1,5 @@
 -- The objects of a heap come one after another.
-use Rattle.std.proofs.Common.{◌≡◌, ◌≤◌, ◌<◌, ℕ, ◌+◌, ◌*◌, inl, inr, List, [], ◌∷◌, ◌++◌, flat_map, Contains, arith, refl, sym, ap, subst}
+use Rattle.std.proofs.Common.{◌≤◌, ◌<◌, ℕ, ◌+◌, ◌*◌, inl, inr, List, [], ◌∷◌, ◌++◌, flat_map, Contains, arith, refl, sym, ap, subst}
 use Rattle.g1_words.specs.declared.object.Object.{Object}
 use Rattle.g1_words.specs.Heap.{Heap, objects, slots}
 use Rattle.g1_words.specs.Valid.{Tiles, IsValid}
@@ -12,10 +12,12 @@ use Rattle.g1_words.proofs.Sound.{sound}
 use Rattle.g1_rem.specs.Marks.{Chain}
 use Rattle.g1_rem.proofs.Rising.{Rises, Rises-weaken, Rises-append, Rises-range}
 
+-- a chain from an address on is one from an earlier address on
 pub Chain-weaken : (lo hi : ℕ) (os : List Object) → lo ≤ hi → Chain hi os → Chain lo os
 Chain-weaken lo hi [] le c = tt
 Chain-weaken lo hi (o ∷ os) le c = (omega (arith, c.0), c.1, c.2)
 
+-- an object of a chain stands no earlier than the chain
 pub Chain-above : (lo : ℕ) (os : List Object) (q : Object) → Chain lo os → In os q → (lo ≤ q.at) × (q.refs < q.size)
 Chain-above lo [] q c i = absurd i
 Chain-above lo (o ∷ os) q c (inl e) = subst (λ x. (lo ≤ x.at) × (x.refs < x.size)) e (c.0, c.1)
@@ -31,15 +33,17 @@ Chain-apart lo (x ∷ os) o q c (inr i) (inl f) lt =
     let k = Chain-above (x.at + x.size) os o c.2 i in absurd (omega (arith, ap (λ x. x.at) f, k.0, lt))
 Chain-apart lo (x ∷ os) o q c (inr i) (inr j) lt = Chain-apart (x.at + x.size) os o q c.2 i j lt
 
+-- objects end to end, and a chain after them
 pub Chain-tiles : (words : List ℕ) (from : ℕ) (os : List Object) (to : ℕ) (rest : List Object) → Tiles words from os to → Chain to rest → Chain from (os ++ rest)
 Chain-tiles words from [] to rest t c = Chain-weaken from to rest (omega (arith, t)) c
 Chain-tiles words from (o ∷ os) to rest t c =
     (omega (arith, t.0), t.1.refs_fit, subst (λ x. Chain (x + o.size) (os ++ rest)) (sym t.0) (Chain-tiles words (from + o.size) os to rest t.2 c))
 
--- their slots rise
-slots_below : (o : Object) (p : ℕ) → In (slots o) p → (o.at < p) × (p ≤ o.at + o.refs)
-slots_below o p i = (omega (arith, range_above (o.at + 1) o.refs p i), omega (arith, range_below (o.at + 1) o.refs p i))
+-- a slot follows its object's header
+pub slot_in : (o : Object) (p : ℕ) → In (slots o) p → (o.at < p) × (p ≤ o.at + o.refs)
+slot_in o p i = (omega (arith, range_above (o.at + 1) o.refs p i), omega (arith, range_below (o.at + 1) o.refs p i))
 
+-- the slots of a chain rise
 pub Chain-slots : (lo : ℕ) (os : List Object) → Chain lo os → Rises lo (flat_map slots os)
 Chain-slots lo [] c = tt
 Chain-slots lo (o ∷ os) c =
@@ -47,7 +51,7 @@ Chain-slots lo (o ∷ os) c =
     (Rises-weaken lo (o.at + 1) (slots o) (omega (arith, c.0)) (Rises-range (o.at + 1) o.refs))
     (Chain-slots (o.at + o.size) os c.2)
     (omega (arith, c.0))
-    (λ p i. let b = slots_below o p i in omega (arith, b.1, c.1))
+    (λ p i. let b = slot_in o p i in omega (arith, b.1, c.1))
 
 -- objects each of which ends before all later ones begin
 Chain-from_ordered : (lo : ℕ) (os : List Object) → Ordered IsBefore os → ((o : Object) → In os o → (lo ≤ o.at) × (o.refs < o.size)) → Chain lo os

@@ -1,5 +1,5 @@
 -- The places in the remembered sets, which move on with the slots.
-use Rattle.std.proofs.Common.{◌≡◌, ◌≢◌, ◌≤◌, ◌<◌, ℕ, ◌+◌, ◌*◌, ◌/◌, replicate, inl, inr, Bool, true, false, List, [], ◌∷◌, ◌++◌, length, slice_index, get_or, drop, arith, refl, sym, ap, subst, ◌∙◌, get_or-set_same, get_or-set_other}
+use Rattle.std.proofs.Common.{◌≡◌, ◌≢◌, ◌≤◌, ◌<◌, ℕ, ◌+◌, ◌/◌, replicate, inl, inr, true, false, List, ◌∷◌, length, slice_index, get_or, arith, sym, ap, subst, ◌∙◌, get_or-set_same, get_or-set_other}
 use Rattle.std.specs.Prelude.{Option, Some, Contains}
 use Rattle.std.proofs.Math.ListN.{set, length-set}
 use Rattle.std.specs.List.Sorted.{IsStrictlyIncreasing}
@@ -9,10 +9,10 @@ use Rattle.std.proofs.lemmas.List.Kept.{AllPairs-from_increasing}
 use Rattle.std.proofs.lemmas.Nat.{le-div}
 use Rattle.std.proofs.Math.Nat.{div-mul-le_self}
 use Rattle.g1_words.specs.declared.object.Object.{Object}
-use Rattle.g1_words.specs.Heap.{objects, objects_in, card_of}
+use Rattle.g1_words.specs.Heap.{card_of}
 use Rattle.g1_words.specs.Lists.{has}
 use Rattle.g1_words.specs.Valid.{IsValid}
-use Rattle.g1_words.proofs.Members.{In, In-from_contains, Contains-from_in, has_from_in}
+use Rattle.g1_words.proofs.Members.{In-from_contains, Contains-from_in, has_from_in}
 use Rattle.g1_words.proofs.Indices.{not_has}
 use Rattle.g1_image.specs.Image.{Image, set_of}
 use Rattle.g1_rem.specs.Marks.{Chain, objects_from}
@@ -20,12 +20,13 @@ use Rattle.g1_rem.specs.Places.{IsBehind, AreBehind, AreReadyFor}
 use Rattle.g1_rem.specs.Cover.{IsFirstOf}
 use Rattle.g1_rem.proofs.Rising.{Rises-above, increasing-Rises}
 use Rattle.g1_rem.proofs.Order.{objects_chain}
-use Rattle.g1_rem.proofs.Marks.{all_left, left_at, left_start, left_end}
+use Rattle.g1_rem.proofs.Marks.{all_left}
 
 -- a place before which all cards are below one, and its own card not, tells whether that one is in the set
 pub has_here : (xs : List ℕ) (place x : ℕ) → place < length xs → x ≡ get_or xs place x → has xs x ≡ true
 has_here xs place x lt e = has_from_in xs x (In-from_contains xs x (place, lt, sym e))
 
+-- and where its own card is another, the set does not have it
 pub has_not : (xs : List ℕ) (place card : ℕ) → IsStrictlyIncreasing xs → IsBehind xs place card → (place < length xs → card ≤ slice_index xs place)
     → (place < length xs → slice_index xs place ≡ card → ⊥) → has xs card ≡ false
 has_not xs place card rising behind next other = not_has xs card (λ i.
@@ -41,6 +42,7 @@ has_not xs place card rising behind next other = not_has xs card (λ i.
           ])
     ])
 
+-- places behind an address are behind each later one
 pub behind_later : (i : Image) (places : List ℕ) (p q : ℕ) → IsValid i.heap → p ≤ q → AreBehind i places p → AreBehind i places q
 behind_later i places p q valid le b = record {
   one_each = b.one_each;
@@ -92,6 +94,7 @@ ready_next i places later o os p valid r le b = record {
   ahead = r.ahead.2;
 }
 
+-- the places are behind the next object's first slot
 pub ready_at : (i : Image) (places : List ℕ) (o : Object) (os : List Object) → IsValid i.heap → AreReadyFor i places (o ∷ os) → AreBehind i places (o.at + 1)
 ready_at i places o os valid r = behind_later i places r.from (o.at + 1) valid (omega (arith, r.ahead.0)) r.behind
 

@@ -1,27 +1,30 @@
 -- The slots between two addresses, object by object.
-use Rattle.std.proofs.Common.{◌≡◌, ◌≤◌, ◌<◌, ℕ, zero, suc, ◌+◌, ◌-◌, ◌*◌, ◌/◌, ◌%◌, ◌^◌, ◌⊎◌, inl, inr, Bool, true, false, cond, ◌&&◌, List, [], ◌∷◌, ◌++◌, length, slice_index, filter, flat_map, max, min, arith, refl, sym, ap, subst, ◌∙◌, append-nil}
+use Rattle.std.proofs.Common.{◌≡◌, ◌≤◌, ◌<◌, ℕ, zero, suc, ◌+◌, ◌-◌, ◌/◌, ◌%◌, ◌^◌, ◌⊎◌, inl, inr, true, List, [], ◌∷◌, ◌++◌, length, slice_index, filter, flat_map, max, min, arith, refl, sym, ap, subst, ◌∙◌, append-nil}
 use Rattle.std.specs.Prelude.{nat_le, nat_lt}
 use Rattle.std.specs.List.{range_with_len}
-use Rattle.std.proofs.lemmas.Bool.{cases_lt, leb-true, le-leb, ltb-true, lt-ltb}
+use Rattle.std.proofs.lemmas.Bool.{leb-true, le-leb, ltb-true, lt-ltb}
 use Rattle.std.proofs.lemmas.List.{length-append}
+use Rattle.std.proofs.lemmas.List.Elements.{filter-append}
 use Rattle.std.proofs.lemmas.List.FromFn.{length-range_with_len}
 use Rattle.std.proofs.lemmas.Grind.{flat_map-append}
 use Rattle.g1_words.specs.declared.object.Object.{Object}
 use Rattle.g1_words.specs.Heap.{slots}
-use Rattle.g1_words.specs.Valid.{IsObject, Tiles}
+use Rattle.g1_words.specs.Valid.{Tiles}
 use Rattle.g1_words.specs.Walk.{Reaches}
-use Rattle.g1_words.proofs.Members.{In, In-append_cases, In-append_left, In-append_right, In-filter, filter_member, and_true, flat_map_cases}
+use Rattle.g1_words.proofs.Members.{In, In-filter, filter_member, and_true}
 use Rattle.g1_words.proofs.Tiling.{Tiles-le, Tiles-append, Reaches-front, Front, same_object}
 use Rattle.g1_words.proofs.Computed.{In-range, range_above, range_below, Tiles-length}
 use Rattle.g1_rem.specs.Slots.{is_between}
 use Rattle.g1_rem.specs.Marks.{Chain}
-use Rattle.g1_rem.proofs.Rising.{Rises, Rises-range, Rises-filter, Rises-one, Rises-above}
-use Rattle.g1_rem.proofs.Lists.{filter_none, filter-append}
+use Rattle.g1_rem.proofs.Rising.{Rises-range, Rises-filter, Rises-one, Rises-above}
+use Rattle.g1_rem.proofs.Lists.{filter_none}
 use Rattle.g1_rem.proofs.Order.{Chain-tiles, Chain-slots}
 
+-- an address between the two passes
 pub between_is : (lo hi p : ℕ) → lo ≤ p → p < hi → is_between lo hi p ≡ true
 between_is lo hi p le lt = rw (le-leb lo p le, lt-ltb p hi lt) refl
 
+-- what passes lies between the two
 pub is_between_there : (lo hi p : ℕ) → is_between lo hi p ≡ true → (lo ≤ p) × (p < hi)
 is_between_there lo hi p e = let b = and_true (nat_le lo p) (nat_lt p hi) e in (leb-true lo p b.0, ltb-true p hi b.1)
 
@@ -52,6 +55,7 @@ Tiles-one words from (o ∷ os) (q ∷ qs) to t u =
     let rest : os ≡ qs = Tiles-one words (from + o.size) os qs to t.2 (subst (λ x. Tiles words (from + x.size) qs to) (sym e) u.2) in
     ap (λ x. x ∷ os) e ∙ ap (λ l. q ∷ l) rest
 
+-- the slots of a row lie in it
 pub slots_above : (words : List ℕ) (from : ℕ) (os : List Object) (to p : ℕ) → Tiles words from os to → In (flat_map slots os) p → from ≤ p
 slots_above words from os to p t i =
     let c : Chain from (os ++ []) = Chain-tiles words from os to [] t tt in
@@ -66,19 +70,23 @@ pub record Scanned (words : List ℕ) (from to lo hi at : ℕ) (items : List ℕ
   pub found : items ≡ filter (is_between lo hi) (flat_map slots before)
   pub few : length items ≤ at - lo
 
+-- before the first object
 pub scan_start : (words : List ℕ) (from to lo hi : ℕ) → Reaches words from to → Scanned words from to lo hi from []
 scan_start words from to lo hi r = record { before = []; passed = refl; ahead = r; found = refl; few = omega arith }
 
 module _ (words : List ℕ) (from to lo hi at : ℕ) (items : List ℕ) (s : Scanned words from to lo hi at items) (lt : at < to) (header : ℕ) (e : header ≡ slice_index words at) where
+  -- the next object
   pub scan_front : Front words at to
   scan_front = Reaches-front words at to s.ahead lt
 
+  -- its size is the header's
   pub scan_size : (Reaches-front words at to s.ahead lt).first.size ≡ header / 2 ^ 32
   scan_size =
       let f = Reaches-front words at to s.ahead lt in
       let here : slice_index words f.first.at ≡ header = ap (slice_index words) f.at ∙ sym e in
       omega (arith, f.object.header, here, f.object.refs_fit, f.object.size_fits)
 
+  -- its number of slots is the header's
   pub scan_refs : (Reaches-front words at to s.ahead lt).first.refs ≡ header % 2 ^ 32
   scan_refs =
       let f = Reaches-front words at to s.ahead lt in
@@ -91,6 +99,7 @@ module _ (words : List ℕ) (from to lo hi at : ℕ) (items : List ℕ) (s : Sca
       let f = Reaches-front words at to s.ahead lt in
       (omega (arith, scan_size, f.object.refs_fit), omega (arith, scan_size, scan_refs, f.object.refs_fit), omega (arith, scan_size, f.within))
 
+  -- its slots between the two are found
   pub scan_step : (first last : ℕ) (more : List ℕ) → at < hi → first ≡ max (at + 1) lo → last ≡ min (at + 1 + header % 2 ^ 32) hi → more ≡ items ++ range_with_len first (last - first)
       → Scanned words from to lo hi (at + header / 2 ^ 32) more
   scan_step first last more short f l pushed =
@@ -112,6 +121,7 @@ module _ (words : List ℕ) (from to lo hi at : ℕ) (items : List ℕ) (s : Sca
         few = omega (arith, len, s.few, f, l, short, scan_fits.0, scan_fits.1);
       }
 
+-- past the last object, or past the card
 pub scan_end : (words : List ℕ) (from to lo hi at : ℕ) (items : List ℕ) → Scanned words from to lo hi at items → (to ≤ at) ⊎ (hi ≤ at) → (os : List Object) → Tiles words from os to → items ≡ filter (is_between lo hi) (flat_map slots os)
 scan_end words from to lo hi at items s over os t =
     let after : List Object = s.ahead.0 in
@@ -131,12 +141,14 @@ scan_end words from to lo hi at items s over os t =
     empty [] le p i = i
     empty (o ∷ os) le p i = omega (arith, le)
 
+-- a range with the next number
 range_push : (a n : ℕ) → range_with_len a n ++ (a + n) ∷ [] ≡ range_with_len a (suc n)
 range_push a zero = let e : a + 0 ≡ a = omega arith in ap (λ x. x ∷ []) e
 range_push a (suc n) =
     let e : a + suc n ≡ a + 1 + n = omega arith in
     ap (λ x. a ∷ (range_with_len (a + 1) n ++ x ∷ [])) e ∙ ap (λ l. a ∷ l) (range_push (a + 1) n)
 
+-- the same, told by its ends
 pub range_more : (a p : ℕ) → a ≤ p → range_with_len a (p - a) ++ p ∷ [] ≡ range_with_len a (p + 1 - a)
 range_more a p le =
     let e : p ≡ a + (p - a) = omega (arith, le) in

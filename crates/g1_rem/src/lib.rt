@@ -28,7 +28,7 @@ mod tests;
 mod tracked;
 
 pub use cover::verify;
-pub use laws::exact_cards;
+pub use laws::{card_slots, one_table};
 pub use refining::refine;
 pub use slots::slots_on;
 pub use starts::Starts;

@@ -1,9 +1,8 @@
-use Rattle.std.proofs.Common.{arith, ap, sym, subst, refl, ◌≡◌, ◌-◌, ◌+◌, ◌∙◌, filter}
+use Rattle.std.proofs.Common.{ap, sym, subst, ◌-◌, ◌+◌, ◌∙◌, filter}
 use Rattle.std.specs.Prelude.{Some}
 use Rattle.std.specs.List.{range_with_len}
 use Rattle.g1_rem.specs.Cover.{is_bare, IsFirstOf}
-use Rattle.g1_rem.proofs.Bare.{stop_front, pass_front, range_front}
-use Rattle.g1_rem.proofs.Places.{behind_later}
+use Rattle.g1_rem.proofs.Bare.{stop_front, range_front}
 use Rattle.g1_rem.proofs.cover.first_between.Goals as goal
 
 pub returns-then-is_uncovered-clause-first : goal.returns-then-is_uncovered-clause-first

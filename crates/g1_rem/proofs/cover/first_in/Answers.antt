@@ -1,13 +1,11 @@
-use Rattle.std.proofs.Common.{arith, ap, sym, subst, refl, ◌≡◌, ◌≤◌, ◌<◌, ◌+◌, ◌-◌, ◌/◌, ◌%◌, ◌*◌, ◌^◌, ◌∙◌, ◌++◌, length, slice_index, ℕ, List, [], ◌∷◌, map, filter, drop}
-use Rattle.std.specs.Prelude.{Some, None}
+use Rattle.std.proofs.Common.{arith, ap, sym, subst, refl, ◌≡◌, ◌≤◌, ◌+◌, ◌%◌, ◌^◌, ◌∙◌, ◌++◌, length, slice_index, ℕ, List, ◌∷◌, map, drop}
 use Rattle.std.proofs.lemmas.List.{length-map}
 use Rattle.g1_words.specs.Heap.{Heap, word, objects_in}
-use Rattle.g1_image.specs.Image.{Image}
 use Rattle.g1_rem.specs.Marks.{objects_from}
-use Rattle.g1_rem.specs.Cover.{is_bare, bare_in, IsFirstOf}
 use Rattle.g1_rem.specs.Places.{AreBehind, AreReadyFor}
 use Rattle.g1_rem.proofs.Marks.{left_start, left_end}
-use Rattle.g1_rem.proofs.Bare.{NextOf, next_of, refs_good, found_here, none_here, bare_end}
+use Rattle.g1_rem.proofs.Next.{NextOf, next_of}
+use Rattle.g1_rem.proofs.Bare.{refs_good, found_here, none_here, bare_end}
 use Rattle.g1_rem.proofs.Places.{ready_at, ready_next}
 use Rattle.g1_rem.proofs.cover.first_in.Goals as goal
 use Rattle.g1_rem.proofs.cover.first_in.Goals.{In-objects, After-words}

@@ -1,5 +1,4 @@
-use Rattle.std.proofs.Common.{arith, ap, sym, subst, ◌≡◌, ◌≤◌, ◌<◌, ◌+◌, ◌∙◌}
-use Rattle.std.specs.Prelude.{None, Some}
+use Rattle.std.proofs.Common.{arith, ap, subst, ◌≡◌, ◌<◌, ◌∙◌}
 use Rattle.g1_words.specs.Heap.{Heap}
 use Rattle.g1_rem.specs.Cover.{bare_in, IsFirstOf}
 use Rattle.g1_rem.proofs.Bare.{bare_start, bare_first, bare_next, bare_over}

@@ -1,5 +1,5 @@
 use Rattle.std.proofs.Common.{◌≡◌, ◌≤◌, ℕ, ap, ◌∙◌}
-use Rattle.std.specs.Prelude.{Some, Ok, Err, Contains}
+use Rattle.std.specs.Prelude.{Some, Contains}
 use Rattle.g1_words.proofs.Listed.{IfOk-then}
 use Rattle.g1_words.specs.Heap.{Heap}
 use Rattle.g1_image.specs.Cards.{uncovered}

@@ -1,4 +1,4 @@
-use Rattle.std.proofs.Common.{◌≡◌, ◌<◌, ◌≤◌, ◌/◌, ◌∙◌, Bool, true, false, length, slice_index, slice_set, get_or, arith, refl, ap, sym, subst}
+use Rattle.std.proofs.Common.{◌≡◌, ◌<◌, ◌≤◌, ◌/◌, ◌∙◌, Bool, true, false, length, slice_index, slice_set, arith, refl, ap, sym, subst}
 use Rattle.std.specs.Prelude.{Some}
 use Rattle.std.proofs.lemmas.List.{get_or_default}
 use Rattle.std.specs.List.Sorted.{IsStrictlyIncreasing}
@@ -7,7 +7,7 @@ use Rattle.g1_words.specs.Lists.{has}
 use Rattle.g1_image.specs.Image.{set_of}
 use Rattle.g1_rem.specs.Leads.{IsLedInto}
 use Rattle.g1_rem.specs.Places.{IsBehind, AreBehind}
-use Rattle.g1_rem.proofs.Bare.{bare_none, bare_some, set_read}
+use Rattle.g1_rem.proofs.Bare.{bare_some, set_read}
 use Rattle.g1_rem.proofs.Places.{has_here, has_not, behind_set}
 use Rattle.g1_rem.proofs.cover.is_uncovered.Goals as goal
 use Rattle.g1_rem.proofs.cover.is_uncovered.Goals.{After-place_of-place, else-place-len-via-then-place-len+else-index-card, else-place-len-via-else-place-len}

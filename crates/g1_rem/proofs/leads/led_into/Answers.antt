@@ -1,5 +1,4 @@
-use Rattle.std.proofs.Common.{◌≡◌, ◌<◌, ◌-◌, ◌/◌, suc, length, slice_index, arith, refl, ap, sym, ◌∙◌}
-use Rattle.g1_words.specs.Heap.{Heap, word, region_of}
+use Rattle.std.proofs.Common.{◌-◌, ◌/◌, slice_index, arith, refl, ap, ◌∙◌}
 use Rattle.g1_rem.proofs.Bare.{Named, named_word}
 use Rattle.g1_rem.proofs.leads.led_into.Goals as goal
 use Rattle.g1_rem.proofs.leads.led_into.Goals.{After-region_of-target}

@@ -1,12 +1,9 @@
-use Rattle.std.proofs.Common.{◌≡◌, ◌<◌, ◌+◌, ◌++◌, ◌∷◌, [], ◌∙◌, ℕ, List, true, length, slice_index, slice_index_or, get_or, take, map, All, Contains, arith, refl, ap, sym, subst}
-use Rattle.std.specs.Prelude.{Some, None}
-use Rattle.std.proofs.Math.ListN.{set}
-use Rattle.std.proofs.lemmas.List.{take_more, map-set, get_or_default, length-map}
+use Rattle.std.proofs.Common.{◌≡◌, ◌<◌, ◌+◌, ◌++◌, ◌∷◌, [], ◌∙◌, length, slice_index, slice_index_or, take, map, arith, ap, sym, subst}
+use Rattle.std.proofs.lemmas.List.{take_more, map-set, get_or_default, get_or-map, length-map}
 use Rattle.g1_words.specs.Valid.{IsReference}
 use Rattle.g1_rem.specs.Leads.{IsLedInto}
-use Rattle.g1_rem.specs.Entering.{IsGrown, with_card, enters}
-use Rattle.g1_rem.proofs.Lists.{get_or_map}
-use Rattle.g1_rem.proofs.Entering.{grown_start, grown_pass, grown_push}
+use Rattle.g1_rem.specs.Entering.{IsGrown, enters}
+use Rattle.g1_rem.proofs.Entering.{grown_pass, grown_push}
 use Rattle.g1_rem.proofs.refining.add_card.Goals as goal
 use Rattle.g1_rem.proofs.refining.add_card.Goals.{In-loop-p, in-Some+in_ok-push_once, in_default}
 
@@ -35,7 +32,7 @@ loop-p-preserved c =
           let in_old : w.in-Some.region < length (map (λ s. s.items) c.args.entering.now) = omega (arith, lt, c.requires.one_each, length-map c.args.entering.now (λ s. s.items)) in
           let in_now : w.in-Some.region < length c.loop-p.entering = omega (arith, lt, c.requires.one_each, c.loop-p.auto.entering) in
           let before = slice_index_or (map (λ s. s.items) c.args.entering.now) r [] in
-          let read = sym (get_or_map (λ s. s.items) c.loop-p.entering r w.index-entering-region.result [] in_now) ∙ c.loop-p.invariant.each r in_old in
+          let read = sym (get_or-map (λ s. s.items) c.loop-p.entering r w.index-entering-region.result [] in_now) ∙ c.loop-p.invariant.each r in_old in
           let pushed = w.in_ok-push_once.ensures.ok before (enters h r ps) (c.requires.below r lt) read in
           let same = ap (map (λ s. s.items)) w.entering-is ∙ map-set (λ s. s.items) c.loop-p.entering r w.push_once.new.cards in
           subst (IsGrown c.args.heap.now c.args.card (take c.loop-p.p-index c.args.slots.now ++ slice_index c.args.slots.now c.loop-p.p-index ∷ []) (map (λ s. s.items) c.args.entering.now)) (sym same)

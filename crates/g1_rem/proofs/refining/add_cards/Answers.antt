@@ -1,8 +1,6 @@
-use Rattle.std.proofs.Common.{◌≡◌, ◌<◌, ◌+◌, ◌++◌, ◌∷◌, [], ◌∙◌, ℕ, List, length, slice_index, get_or, take, map, All, Contains, arith, refl, ap, sym, subst}
+use Rattle.std.proofs.Common.{◌<◌, ◌∙◌, slice_index, take, map, Contains, arith, sym, subst}
 use Rattle.std.proofs.lemmas.List.{take_more, get_or-take, get_or_default, length-take}
 use Rattle.std.proofs.lemmas.List.Kept.{AllPairs-from_increasing}
-use Rattle.g1_words.specs.Valid.{IsValid, IsReference}
-use Rattle.g1_rem.specs.Slots.{slots_on}
 use Rattle.g1_rem.specs.Entering.{AreEntering, IsGrown}
 use Rattle.g1_rem.proofs.Entering.{entering_start, entering_step, entering_below, slot_good}
 use Rattle.g1_rem.proofs.refining.add_cards.Goals as goal

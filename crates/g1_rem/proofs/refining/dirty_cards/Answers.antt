@@ -1,4 +1,4 @@
-use Rattle.std.proofs.Common.{◌≡◌, ◌≢◌, ◌<◌, ◌∙◌, ◌++◌, List, ℕ, length, take, drop, All, AllPairs, arith, ap, sym, subst}
+use Rattle.std.proofs.Common.{◌≡◌, ◌<◌, ◌∙◌, ◌++◌, length, take, drop, All, ap, sym, subst}
 use Rattle.std.specs.List.Sorted.{IsStrictlyIncreasing, IsPermutation}
 use Rattle.g1_words.specs.Lists.{has}
 use Rattle.g1_rem.specs.Starts.{card_count}

@@ -1,7 +1,5 @@
-use Rattle.std.proofs.Common.{◌≡◌, ◌++◌, ◌∙◌, ap, sym, subst, map, take, drop, length, ℕ, List}
-use Rattle.std.specs.List.Sorted.{IsStrictlyIncreasing}
+use Rattle.std.proofs.Common.{sym, subst, map}
 use Rattle.g1_words.specs.Heap.{Heap}
-use Rattle.g1_words.specs.Lists.{has}
 use Rattle.g1_rem.specs.Entering.{AreEntering, AreRefining}
 use Rattle.g1_rem.proofs.Entering.{lent_back, refining_all}
 use Rattle.g1_rem.proofs.refining.entering_cards.Goals as goal

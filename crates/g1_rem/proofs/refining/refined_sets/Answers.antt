@@ -1,10 +1,8 @@
-use Rattle.std.proofs.Common.{◌≡◌, ℕ, ◌<◌, ◌-◌, ◌+◌, ◌∙◌, List, length, map, ap, arith, sym, subst}
-use Rattle.std.specs.Prelude.{Result, Ok, Err, IfOk}
+use Rattle.std.proofs.Common.{◌≡◌, ◌<◌, ◌-◌, ◌∙◌, ap, arith, subst}
 use Rattle.std.specs.List.{range_with_len, AllZip}
 use Rattle.rayon.specs.Numbers.{nat_range}
 use Rattle.rayon.proofs.ToStd.{nat_range-All}
 use Rattle.g1_words.specs.Heap.{Heap, regions}
-use Rattle.g1_image.specs.Cards.{refined}
 use Rattle.g1_rem.specs.Entering.{IsRefinedSet}
 use Rattle.g1_rem.proofs.Entering.{gathered_sets, gathered_fault}
 use Rattle.g1_rem.proofs.refining.refined_sets.Given.{Over}

@@ -1,4 +1,4 @@
-use Rattle.std.proofs.Common.{arith, ap, sym, subst, refl, ◌≡◌, ◌≢◌, ◌≤◌, ◌<◌, ◌+◌, ◌-◌, ◌/◌, ◌%◌, ◌*◌, ◌^◌, ◌∙◌, length, filter, flat_map, slice_index, slice_index_or, ℕ, List}
+use Rattle.std.proofs.Common.{arith, ap, sym, subst, refl, ◌≡◌, ◌≢◌, ◌+◌, ◌/◌, ◌*◌, ◌^◌, ◌∙◌, length, filter, flat_map, slice_index, slice_index_or, ℕ}
 use Rattle.std.specs.Prelude.{Some, None}
 use Rattle.g1_words.specs.Heap.{kind, object_at, end, slots}
 use Rattle.g1_words.specs.declared.region.Kind.TheVariants.{Ordinary}
@@ -6,7 +6,7 @@ use Rattle.g1_words.specs.Valid.{Tiles}
 use Rattle.g1_words.specs.Walk.{Reaches}
 use Rattle.g1_rem.specs.Starts.{IsOver}
 use Rattle.g1_rem.specs.Slots.{is_between}
-use Rattle.g1_rem.proofs.Card.{none_on, ordinary_on, alone_on, over_at, RowOn, ordinary_row_on, alone_row_on, over_region}
+use Rattle.g1_rem.proofs.Card.{none_on, over_at, RowOn, ordinary_row_on, alone_row_on}
 use Rattle.g1_rem.proofs.slots.slots_on.Goals as goal
 use Rattle.g1_rem.proofs.slots.slots_on.Goals.{in-Ordinary, in_default}
 

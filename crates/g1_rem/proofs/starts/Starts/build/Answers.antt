@@ -1,7 +1,6 @@
-use Rattle.std.proofs.Common.{arith, ap, sym, refl, subst, ◌∙◌, ◌≡◌, ◌≤◌, ◌<◌, ◌+◌, ◌*◌, ◌/◌, ◌^◌, ℕ, List, length, []}
-use Rattle.std.specs.Prelude.{Some, None}
-use Rattle.g1_words.specs.Geometry.{Geometry}
-use Rattle.g1_rem.specs.Marks.{IsMarkedTo, Told, objects_from}
+use Rattle.std.proofs.Common.{arith, ap, sym, subst, ◌∙◌, ◌≡◌, ◌*◌, []}
+use Rattle.std.specs.Prelude.{None}
+use Rattle.g1_rem.specs.Marks.{IsMarkedTo, Told}
 use Rattle.g1_rem.proofs.Marks.{told_start, told_all, all_left}
 use Rattle.g1_rem.proofs.starts.Starts.build.Goals as goal
 
