@@ -54,3 +54,6 @@ pub fn kept_rules()
     ensures dead_owner { IsImage dead_owner_image }
     ensures humongous_owner { IsValid humongous_owner }
 {}
+
+#[cfg(test)]
+mod layout_tests;
