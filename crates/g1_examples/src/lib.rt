@@ -72,3 +72,5 @@ pub fn texts()
 
 #[cfg(test)]
 mod tests;
+#[cfg(test)]
+mod layout_tests;

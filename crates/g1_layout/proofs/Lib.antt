@@ -4,3 +4,4 @@ pub mod Forwarding
 pub mod Positions
 pub mod Running
 pub mod Conditions
+pub mod Stretches

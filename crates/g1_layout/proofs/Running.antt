@@ -89,16 +89,16 @@ length-laid w a [] = refl
 length-laid w a (s ∷ ss) = ap suc (length-laid w (next_fit w a s + s) ss)
 
 module _ (h : Heap) (l : List ℕ) (pos : 0 < h.geometry.w) (can : CanLay h l) (room : need h l ≤ length (free_regions h)) where
-  abbrev row : ℕ → ℕ
+  abbrev pub row : ℕ → ℕ
   row k = get_or (laid h.geometry.w 0 (sizes_of h l)) k 0
 
-  abbrev size : ℕ → ℕ
+  abbrev pub size : ℕ → ℕ
   size k = get_or (sizes_of h l) k 0
 
-  count_row : length (laid h.geometry.w 0 (sizes_of h l)) ≡ length l
+  pub count_row : length (laid h.geometry.w 0 (sizes_of h l)) ≡ length l
   count_row = length-laid h.geometry.w 0 (sizes_of h l) ∙ length-map l (λ a. (object_at h a).size)
 
-  count_sizes : length (sizes_of h l) ≡ length l
+  pub count_sizes : length (sizes_of h l) ≡ length l
   count_sizes = length-map l (λ a. (object_at h a).size)
 
   pub count_places : length (places h l) ≡ length l
@@ -134,7 +134,7 @@ module _ (h : Heap) (l : List ℕ) (pos : 0 < h.geometry.w) (can : CanLay h l) (
       subst (λ (z : ℕ × ℕ). row j + size j ≤ z.0) (get_or-zip qs (sizes_of h l) k (0, 0) (omega arith) (omega arith))
       (subst (λ (z : ℕ × ℕ). z.0 + z.1 ≤ (get_or (zip qs (sizes_of h l)) k (0, 0)).0) (get_or-zip qs (sizes_of h l) j (0, 0) (omega arith) (omega arith)) p)
 
-  rises : Ordered (λ x y. x / h.geometry.w ≤ y / h.geometry.w) (laid h.geometry.w 0 (sizes_of h l))
+  pub rises : Ordered (λ x y. x / h.geometry.w ≤ y / h.geometry.w) (laid h.geometry.w 0 (sizes_of h l))
   rises =
       let qs : List ℕ = laid h.geometry.w 0 (sizes_of h l) in
       let a = count_row in

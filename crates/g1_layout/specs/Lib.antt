@@ -2,3 +2,4 @@ pub mod Placed
 pub mod Words
 pub mod Forwards
 pub mod Plan
+pub mod Laws

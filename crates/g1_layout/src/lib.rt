@@ -13,10 +13,12 @@
 //!    `Plan::forward` answers by one look-up.
 #![tactic(auto)]
 
+mod laws;
 mod placing;
 mod plan;
 mod row;
 mod table;
 
+pub use laws::{placeable, runs_cover, within_regions};
 pub use placing::place;
 pub use plan::{Plan, Run};
