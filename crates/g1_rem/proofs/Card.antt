@@ -73,15 +73,15 @@ module _ (h : Heap) (valid : IsValid h) where
         (Rises-filter (is_between lo hi) 0 (flat_map slots os) rise)
         (Rises-filter (λ p. eqb (card_of h p) c) 0 (all_slots h) all_rise)
         (λ p i.
-          let m = filter_member (is_between lo hi) (flat_map slots os) p i in
-          let b = is_between_there lo hi p m.1 in
-          let q = flat_map_cases slots os p m.0 in
-          In-filter (λ p. eqb (card_of h p) c) (all_slots h) p (In-flat_map slots (objects h) q.0 p (ours q.0 q.1) q.2) (eq-eqb (card_of h p) c (on_card p b.0 b.1)))
+        let m = filter_member (is_between lo hi) (flat_map slots os) p i in
+        let b = is_between_there lo hi p m.1 in
+        let q = flat_map_cases slots os p m.0 in
+        In-filter (λ p. eqb (card_of h p) c) (all_slots h) p (In-flat_map slots (objects h) q.0 p (ours q.0 q.1) q.2) (eq-eqb (card_of h p) c (on_card p b.0 b.1)))
         (λ p i.
-          let m = filter_member (λ p. eqb (card_of h p) c) (all_slots h) p i in
-          let b = card_there p (eqb-true (card_of h p) c m.1) in
-          let q = flat_map_cases slots (objects h) p m.0 in
-          In-filter (is_between lo hi) (flat_map slots os) p (In-flat_map slots os q.0 p (theirs q.0 p q.1 q.2 b.0 b.1) q.2) (between_is lo hi p b.0 b.1))
+        let m = filter_member (λ p. eqb (card_of h p) c) (all_slots h) p i in
+        let b = card_there p (eqb-true (card_of h p) c m.1) in
+        let q = flat_map_cases slots (objects h) p m.0 in
+        In-filter (is_between lo hi) (flat_map slots os) p (In-flat_map slots os q.0 p (theirs q.0 p q.1 q.2 b.0 b.1) q.2) (between_is lo hi p b.0 b.1))
 
     has_in : (o : Object) → In (objects h) o → HasObject h o
     has_in o i = contains_has h o valid.shaped (Contains-from_in (objects h) o i)
@@ -124,17 +124,17 @@ module _ (h : Heap) (valid : IsValid h) where
 
     pub none_on : IsOver h lo None → [] ≡ slots_on h c
     none_on none = pieces [] tt (λ o i. absurd i) (λ o p i s le lt.
-      let b = slot_in o p s in
-      let fit = refs_fit o i in
-      let q : ℕ = lo / h.geometry.w in
-      elim (cases_lt lo o.at) [
-        | inl past ↦ (
-            let r = first_region in
-            let e = card_within (lo / h.geometry.w) r.1 in
-            let st = stands o i (lo / h.geometry.w) (omega (arith, r.0, past)) (omega (arith, e, b.0, lt)) in
-            absurd (none_by (kind h (lo / h.geometry.w)) (lo / h.geometry.w) o refl st.0 none r.0 i past st.1))
-        | inr from ↦ absurd (none o (Contains-from_in (objects h) o i) (record { from = from; to = omega (arith, b.1, fit, le) }))
-      ])
+        let b = slot_in o p s in
+        let fit = refs_fit o i in
+        let q : ℕ = lo / h.geometry.w in
+        elim (cases_lt lo o.at) [
+          | inl past ↦ (
+              let r = first_region in
+              let e = card_within (lo / h.geometry.w) r.1 in
+              let st = stands o i (lo / h.geometry.w) (omega (arith, r.0, past)) (omega (arith, e, b.0, lt)) in
+              absurd (none_by (kind h (lo / h.geometry.w)) (lo / h.geometry.w) o refl st.0 none r.0 i past st.1))
+          | inr from ↦ absurd (none o (Contains-from_in (objects h) o i) (record { from = from; to = omega (arith, b.1, fit, le) }))
+        ])
 
     -- an object is over the card's first word
     module _ (a : ℕ) (over : IsOver h lo (Some a)) where
@@ -171,24 +171,25 @@ module _ (h : Heap) (valid : IsValid h) where
           let pre : List Object = t.before.0 in
           let from : start h r ≤ a = Tiles-le h.words (start h r) pre a t.before.1 in
           let ends : a + (object_at h a).size ≤ end h r = Tiles-le h.words (a + (object_at h a).size) t.after.0 (end h r) t.after.1 in
-          let within : hi ≤ start h r + h.geometry.w = card_within r (omega (arith, ends, s.1, over.1.to)) in
-          ((object_at h a ∷ t.after.0, (refl, t.object, t.after.1)),
-          λ os u.
-            let row : pre ++ os ≡ objects_in h r = ordinary_row r (pre ++ os) e (Tiles-append h.words (start h r) pre a os (end h r) t.before.1 u) in
-            pieces os (one_row os (end h r) u)
-            (λ o i. in_region r o st.0 (subst (λ l. In l o) row (In-append_right pre os o i)))
-            (λ o p i sl le lt.
-              let ge = not_before o p i sl le in
-              let b = slot_in o p sl in
-              let has : HasObject h o = has_in o i in
-              let placed : has.place ≡ r = sym (object_place h o valid has) ∙ div_between o.at h.geometry.w r (omega (arith, from, ge)) (omega (arith, within, b.0, lt)) in
-              let listed : In (objects_in h has.place) o = subst (λ l. In l o) (holds_are (kind h has.place) h has.place has.others has.holds) (In-from_contains has.others o has.one_of) in
-              let there : In (pre ++ os) o = subst (λ l. In l o) (sym row) (subst (λ x. In (objects_in h x) o) placed listed) in
-              elim (In-append_cases pre os o there) [
-                | inl j ↦ (let q = Tiles-stands h.words (start h r) pre a o t.before.1 (Contains-from_in pre o j) in
-                    absurd (omega (arith, Tiles-le h.words (o.at + o.size) q.after.0 a q.after.1, ge, refs_fit o i)))
-                | inr j ↦ j
-              ]))
+          let within : hi ≤ start h r + h.geometry.w = card_within r (omega (arith, ends, s.1, over.1.to)) in (
+            (object_at h a ∷ t.after.0, (refl, t.object, t.after.1)),
+            λ os u.
+                let row : pre ++ os ≡ objects_in h r = ordinary_row r (pre ++ os) e (Tiles-append h.words (start h r) pre a os (end h r) t.before.1 u) in
+                pieces os (one_row os (end h r) u)
+                (λ o i. in_region r o st.0 (subst (λ l. In l o) row (In-append_right pre os o i)))
+                (λ o p i sl le lt.
+                let ge = not_before o p i sl le in
+                let b = slot_in o p sl in
+                let has : HasObject h o = has_in o i in
+                let placed : has.place ≡ r = sym (object_place h o valid has) ∙ div_between o.at h.geometry.w r (omega (arith, from, ge)) (omega (arith, within, b.0, lt)) in
+                let listed : In (objects_in h has.place) o = subst (λ l. In l o) (holds_are (kind h has.place) h has.place has.others has.holds) (In-from_contains has.others o has.one_of) in
+                let there : In (pre ++ os) o = subst (λ l. In l o) (sym row) (subst (λ x. In (objects_in h x) o) placed listed) in
+                elim (In-append_cases pre os o there) [
+                  | inl j ↦ (let q = Tiles-stands h.words (start h r) pre a o t.before.1 (Contains-from_in pre o j) in
+                      absurd (omega (arith, Tiles-le h.words (o.at + o.size) q.after.0 a q.after.1, ge, refs_fit o i)))
+                  | inr j ↦ j
+                ]),
+          )
 
       -- a humongous object stands alone
       alone_by : (k : Kind) (o : Object) (p : ℕ) → k ≢ Ordinary → kind h (a / h.geometry.w) ≡ k → IsShapedBy k h (a / h.geometry.w) → StandsIn k h (a / h.geometry.w) (object_at h a) → In (objects h) o → In (slots o) p → lo ≤ p → p < hi → In (object_at h a ∷ []) o
@@ -229,14 +230,15 @@ module _ (h : Heap) (valid : IsValid h) where
       pub alone_on : kind h (a / h.geometry.w) ≢ Ordinary → Reaches h.words a (a + (object_at h a).size) × ((os : List Object) → Tiles h.words a os (a + (object_at h a).size) → filter (is_between lo hi) (flat_map slots os) ≡ slots_on h c)
       alone_on not =
           let it : IsObject h.words (object_at h a) = stands_object (kind h (a / h.geometry.w)) h (a / h.geometry.w) (object_at h a) here.1 in
-          let row : Tiles h.words a (object_at h a ∷ []) (a + (object_at h a).size) = (refl, it, refl) in
-          ((object_at h a ∷ [], row),
-          λ os u.
-            let same : object_at h a ∷ [] ≡ os = Tiles-one h.words a (object_at h a ∷ []) os (a + (object_at h a).size) row u in
-            subst (λ l. filter (is_between lo hi) (flat_map slots l) ≡ slots_on h c) same
-            (pieces (object_at h a ∷ []) (one_row (object_at h a ∷ []) (a + (object_at h a).size) row)
-            (λ o i. elim i [ inl e ↦ subst (λ z. In (objects h) z) e mine | inr n ↦ absurd n ])
-            (λ o p i sl le lt. alone_by (kind h (a / h.geometry.w)) o p not refl (valid.shaped (a / h.geometry.w) here.0).by_kind here.1 i sl le lt)))
+          let row : Tiles h.words a (object_at h a ∷ []) (a + (object_at h a).size) = (refl, it, refl) in (
+            (object_at h a ∷ [], row),
+            λ os u.
+                let same : object_at h a ∷ [] ≡ os = Tiles-one h.words a (object_at h a ∷ []) os (a + (object_at h a).size) row u in
+                subst (λ l. filter (is_between lo hi) (flat_map slots l) ≡ slots_on h c) same
+                (pieces (object_at h a ∷ []) (one_row (object_at h a ∷ []) (a + (object_at h a).size) row)
+                (λ o i. elim i [ inl e ↦ subst (λ z. In (objects h) z) e mine | inr n ↦ absurd n ])
+                (λ o p i sl le lt. alone_by (kind h (a / h.geometry.w)) o p not refl (valid.shaped (a / h.geometry.w) here.0).by_kind here.1 i sl le lt)),
+          )
 
 -- the words from an object on to an end are filled by objects that have all slots on the card
 pub record RowOn (h : Heap) (c lo hi a end : ℕ) : Type 0 where
@@ -262,6 +264,7 @@ alone_row_on h c lo hi a valid e f over k =
 pub over_region : (h : Heap) (lo a : ℕ) → IsValid h → IsOver h lo (Some a) → (a / h.geometry.w < h.geometry.n) × (a < length h.words)
 over_region h lo a valid over =
     let fit = object_fits h valid (object_at h a) over.0 in
-    let c = Chain-above 0 (objects h) (object_at h a) (objects_chain h valid) (In-from_contains (objects h) (object_at h a) over.0) in
-    ((object_stands h (object_at h a) (a / h.geometry.w) valid (contains_has h (object_at h a) valid.shaped over.0) refl).0,
-     omega (arith, fit, c.1, valid.word_count))
+    let c = Chain-above 0 (objects h) (object_at h a) (objects_chain h valid) (In-from_contains (objects h) (object_at h a) over.0) in (
+      (object_stands h (object_at h a) (a / h.geometry.w) valid (contains_has h (object_at h a) valid.shaped over.0) refl).0,
+      omega (arith, fit, c.1, valid.word_count),
+    )

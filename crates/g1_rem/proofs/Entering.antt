@@ -87,8 +87,8 @@ pub grown_pass : (h : Heap) (card p : ℕ) (ps : List ℕ) (old new : List (List
 grown_pass h card p ps old new g none = record {
   one_each = g.one_each;
   each = λ r lt.
-    let e : enters h r (ps ++ p ∷ []) ≡ enters h r ps = enters_more h r p ps false (leads_none h p r none) ∙ or_none (enters h r ps) in
-    g.each r lt ∙ ap (λ b. with_card (slice_index_or old r []) card b) (sym e);
+      let e : enters h r (ps ++ p ∷ []) ≡ enters h r ps = enters_more h r p ps false (leads_none h p r none) ∙ or_none (enters h r ps) in
+      g.each r lt ∙ ap (λ b. with_card (slice_index_or old r []) card b) (sym e);
 }
 
 -- a slot that leads into a region
@@ -159,9 +159,9 @@ pub entering_step : (h : Heap) (ds : List ℕ) (card : ℕ) (old new : List (Lis
 entering_step h ds card old new a g = record {
   one_each = g.one_each ∙ a.one_each;
   each = λ r lt.
-    g.each r (omega (arith, lt, a.one_each)) ∙ ap (λ l. with_card l card (enters h r (slots_on h card))) (a.each r lt)
-    ∙ ap (λ b. with_card (filter (is_exact h r) ds) card b) (sym (exact_by_slots h r card)) ∙ one_card (filter (is_exact h r) ds) card (is_exact h r card)
-    ∙ sym (filter-append (is_exact h r) ds (card ∷ []));
+      g.each r (omega (arith, lt, a.one_each)) ∙ ap (λ l. with_card l card (enters h r (slots_on h card))) (a.each r lt)
+      ∙ ap (λ b. with_card (filter (is_exact h r) ds) card b) (sym (exact_by_slots h r card)) ∙ one_card (filter (is_exact h r) ds) card (is_exact h r card)
+      ∙ sym (filter-append (is_exact h r) ds (card ∷ []));
 }
 
 -- what the slots on a card hold can be read
@@ -211,11 +211,11 @@ refined_is i r zs valid lt rising members =
     Rises-one 0 0 zs (refined i r) (increasing-Rises zs 0 rising (λ lt'. omega arith))
     (Rises-filter (is_refined i r) 0 (range_with_len 0 (card_count i.heap)) (Rises-range 0 (card_count i.heap)))
     (λ c m.
-      let e : is_refined i r c ≡ true = sym (members c) ∙ has_from_in zs c m in
-      In-filter (is_refined i r) (range_with_len 0 (card_count i.heap)) c (In-range 0 (card_count i.heap) c (omega arith) (omega (arith, refined_inside i r c valid lt e))) e)
+    let e : is_refined i r c ≡ true = sym (members c) ∙ has_from_in zs c m in
+    In-filter (is_refined i r) (range_with_len 0 (card_count i.heap)) c (In-range 0 (card_count i.heap) c (omega arith) (omega (arith, refined_inside i r c valid lt e))) e)
     (λ c m.
-      let e = (filter_member (is_refined i r) (range_with_len 0 (card_count i.heap)) c m).1 in
-      in_from_has zs c (members c ∙ e))
+    let e = (filter_member (is_refined i r) (range_with_len 0 (card_count i.heap)) c m).1 in
+    in_from_has zs c (members c ∙ e))
 
 -- ---- the dirty cards, sorted
 

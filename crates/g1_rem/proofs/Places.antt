@@ -59,13 +59,13 @@ behind_set i places p r place lt b here = record {
   each = λ q lt'. elim (cases_lt q r) [
     | inl below ↦ other q lt' (λ e. omega (arith, e, below))
     | inr from ↦ elim (cases_lt r q) [
-        | inl above ↦ other q lt' (λ e. omega (arith, e, above))
-        | inr to ↦ (
-            let e : r ≡ q = omega (arith, from, to) in
-            let inside : r < length places = omega (arith, lt, b.one_each) in
-            let now : slice_index (set places r place) r ≡ place = get_or-set_same places r place 0 inside in
-            subst (λ z. IsBehind (set_of i z) (slice_index (set places r place) z) (card_of i.heap p)) e (subst (λ z. IsBehind (set_of i r) z (card_of i.heap p)) (sym now) here))
-      ]
+      | inl above ↦ other q lt' (λ e. omega (arith, e, above))
+      | inr to ↦ (
+          let e : r ≡ q = omega (arith, from, to) in
+          let inside : r < length places = omega (arith, lt, b.one_each) in
+          let now : slice_index (set places r place) r ≡ place = get_or-set_same places r place 0 inside in
+          subst (λ z. IsBehind (set_of i z) (slice_index (set places r place) z) (card_of i.heap p)) e (subst (λ z. IsBehind (set_of i r) z (card_of i.heap p)) (sym now) here))
+    ]
   ];
 } where
   other : (q : ℕ) → q < i.heap.geometry.n → q ≢ r → IsBehind (set_of i q) (slice_index (set places r place) q) (card_of i.heap p)
@@ -78,8 +78,8 @@ ready_start i places n valid none e = record {
   behind = record {
     one_each = ap length none ∙ length-replicate n 0 ∙ e;
     each = λ r lt.
-      let zero : slice_index places r ≡ 0 = ap (λ l. slice_index l r) none ∙ get_or-replicate n r 0 0 (omega (arith, lt, e)) in
-      record { within = omega (arith, zero); below = λ k lt'. absurd (omega (arith, zero, lt')) };
+        let zero : slice_index places r ≡ 0 = ap (λ l. slice_index l r) none ∙ get_or-replicate n r 0 0 (omega (arith, lt, e)) in
+        record { within = omega (arith, zero); below = λ k lt'. absurd (omega (arith, zero, lt')) };
   };
   ahead = subst (Chain 0) (sym (all_left i.heap valid)) (objects_chain i.heap valid);
 }

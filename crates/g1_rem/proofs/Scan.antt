@@ -32,15 +32,15 @@ slots_range at refs lo hi first last f l =
     (Rises-range first (last - first))
     (Rises-filter (is_between lo hi) (at + 1) (range_with_len (at + 1) refs) (Rises-range (at + 1) refs))
     (λ p i.
-      let a = range_above first (last - first) p i in
-      let b = range_below first (last - first) p i in
-      In-filter (is_between lo hi) (range_with_len (at + 1) refs) p (In-range (at + 1) refs p (omega (arith, a, f)) (omega (arith, a, b, l))) (between_is lo hi p (omega (arith, a, f)) (omega (arith, a, b, l))))
+    let a = range_above first (last - first) p i in
+    let b = range_below first (last - first) p i in
+    In-filter (is_between lo hi) (range_with_len (at + 1) refs) p (In-range (at + 1) refs p (omega (arith, a, f)) (omega (arith, a, b, l))) (between_is lo hi p (omega (arith, a, f)) (omega (arith, a, b, l))))
     (λ p i.
-      let m = filter_member (is_between lo hi) (range_with_len (at + 1) refs) p i in
-      let a = range_above (at + 1) refs p m.0 in
-      let b = range_below (at + 1) refs p m.0 in
-      let t = is_between_there lo hi p m.1 in
-      In-range first (last - first) p (omega (arith, a, t.0, f)) (omega (arith, a, b, t.0, t.1, f, l)))
+    let m = filter_member (is_between lo hi) (range_with_len (at + 1) refs) p i in
+    let a = range_above (at + 1) refs p m.0 in
+    let b = range_below (at + 1) refs p m.0 in
+    let t = is_between_there lo hi p m.1 in
+    In-range first (last - first) p (omega (arith, a, t.0, f)) (omega (arith, a, b, t.0, t.1, f, l)))
 
 -- two rows between the same addresses are one
 pub Tiles-one : (words : List ℕ) (from : ℕ) (os qs : List Object) (to : ℕ) → Tiles words from os to → Tiles words from qs to → os ≡ qs
@@ -99,10 +99,10 @@ module _ (words : List ℕ) (from to lo hi at : ℕ) (items : List ℕ) (s : Sca
       let size : o.size ≡ header / 2 ^ 32 = scan_size in
       let refs : o.refs ≡ header % 2 ^ 32 = scan_refs in
       let its : range_with_len first (last - first) ≡ filter (is_between lo hi) (slots o) =
-          slots_range at (header % 2 ^ 32) lo hi first last f l ∙ ap (λ x. filter (is_between lo hi) (range_with_len (x + 1) (header % 2 ^ 32))) (sym g.at) ∙ ap (λ x. filter (is_between lo hi) (range_with_len (o.at + 1) x)) (sym refs) in
+      slots_range at (header % 2 ^ 32) lo hi first last f l ∙ ap (λ x. filter (is_between lo hi) (range_with_len (x + 1) (header % 2 ^ 32))) (sym g.at) ∙ ap (λ x. filter (is_between lo hi) (range_with_len (o.at + 1) x)) (sym refs) in
       let len : length more ≡ length items + (last - first) = ap length pushed ∙ length-append items (range_with_len first (last - first)) ∙ ap (λ x. length items + x) (length-range_with_len first (last - first)) in
       let one : flat_map slots (s.before ++ o ∷ []) ≡ flat_map slots s.before ++ slots o =
-          flat_map-append slots s.before (o ∷ []) ∙ ap (λ l. flat_map slots s.before ++ l) (append-nil (slots o)) in
+      flat_map-append slots s.before (o ∷ []) ∙ ap (λ l. flat_map slots s.before ++ l) (append-nil (slots o)) in
       record {
         before = s.before ++ o ∷ [];
         passed = subst (λ x. Tiles words from (s.before ++ o ∷ []) (at + x)) size (Tiles-append words from s.before at (o ∷ []) (at + o.size) s.passed (g.at, g.object, refl));
@@ -117,12 +117,12 @@ scan_end words from to lo hi at items s over os t =
     let after : List Object = s.ahead.0 in
     let whole : os ≡ s.before ++ after = Tiles-one words from os (s.before ++ after) to t (Tiles-append words from s.before at after to s.passed s.ahead.1) in
     let none : filter (is_between lo hi) (flat_map slots after) ≡ [] = filter_none (is_between lo hi) (flat_map slots after) (λ p i b.
-      let above = slots_above words at after to p s.ahead.1 i in
-      let there = is_between_there lo hi p b in
-      elim over [
-        | inl e ↦ (let len = Tiles-length words at after to s.ahead.1 in empty after (omega (arith, e, len)) p i)
-        | inr e ↦ omega (arith, above, there.1, e)
-      ]) in
+    let above = slots_above words at after to p s.ahead.1 i in
+    let there = is_between_there lo hi p b in
+    elim over [
+      | inl e ↦ (let len = Tiles-length words at after to s.ahead.1 in empty after (omega (arith, e, len)) p i)
+      | inr e ↦ omega (arith, above, there.1, e)
+    ]) in
     s.found ∙ sym (append-nil (filter (is_between lo hi) (flat_map slots s.before))) ∙ ap (λ l. filter (is_between lo hi) (flat_map slots s.before) ++ l) (sym none)
     ∙ sym (filter-append (is_between lo hi) (flat_map slots s.before) (flat_map slots after)) ∙ ap (filter (is_between lo hi)) (sym (flat_map-append slots s.before after))
     ∙ ap (λ l. filter (is_between lo hi) (flat_map slots l)) (sym whole)
@@ -133,7 +133,7 @@ scan_end words from to lo hi at items s over os t =
 
 range_push : (a n : ℕ) → range_with_len a n ++ (a + n) ∷ [] ≡ range_with_len a (suc n)
 range_push a zero = let e : a + 0 ≡ a = omega arith in ap (λ x. x ∷ []) e
-range_push a (suc n) = 
+range_push a (suc n) =
     let e : a + suc n ≡ a + 1 + n = omega arith in
     ap (λ x. a ∷ (range_with_len (a + 1) n ++ x ∷ [])) e ∙ ap (λ l. a ∷ l) (range_push (a + 1) n)
 

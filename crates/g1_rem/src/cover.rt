@@ -69,7 +69,12 @@ fn first_between(image: &Image, places: &mut [usize], from: u64, to: u64) -> Opt
 }
 
 /// The first slot of a region's objects that isn't covered.
-fn first_in(alloc: Global, image: &Image, places: &mut [usize], region: u32) -> Result<Option<u64>, Fault>
+fn first_in(
+    alloc: Global,
+    image: &Image,
+    places: &mut [usize],
+    region: u32,
+) -> Result<Option<u64>, Fault>
     requires region { region < image.now.heap.geometry.n }
     requires ready { AreReadyFor image.now places.old (objects_from image.now.heap region) }
     ensures ok { IfOk result (IsFirstOf (bare_in image.now region)) }
@@ -112,8 +117,19 @@ fn first_uncovered(alloc: Global, image: &Image) -> Result<Option<u64>, Fault>
     first_of(alloc, image, &mut places)
 }
 
-/// The image as a covered one, or the image as it was with the lowest slot that isn't covered.
-pub fn verify(rt: &(impl Threads + Sync), alloc: Global, image: Image) -> Result<Tracked, (Image, Fault)>
+/// The image with its cover kept by the type, or the very image again with the fault.
+///
+/// One pass over the slots by rising address: remembered sets rise too, so a place in each of them
+/// moves on with the slots. Linear in the used words, the slots and the cards.
+///
+/// # Errors
+/// `Fault::Uncovered` with the address of the lowest slot that isn't covered, `Fault::Memory` where a
+/// growth was refused.
+pub fn verify(
+    rt: &(impl Threads + Sync),
+    alloc: Global,
+    image: Image,
+) -> Result<Tracked, (Image, Fault)>
     ensures ok { IfOk result (λ t. t ≡ image) }
     ensures same { IfErr result (λ e. e.0 ≡ image) }
     ensures fault { IfErr result (λ e. (e.1 ≡ Fault.Memory) ⊎ ((p : ℕ) × (rest : List ℕ) × (uncovered image ≡ p ∷ rest) × (e.1 ≡ Fault.Uncovered p))) }

@@ -23,6 +23,8 @@ mod merging;
 mod refining;
 mod slots;
 mod starts;
+#[cfg(test)]
+mod tests;
 mod tracked;
 
 pub use cover::verify;

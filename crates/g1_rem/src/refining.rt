@@ -65,7 +65,13 @@ fn add_card(heap: &Heap, slots: &[u64], card: u32, entering: &mut [Vec<u32>]) ->
 }
 
 /// Adds the dirty cards to the lists of the regions that they lead into.
-fn add_cards(alloc: Global, heap: &Heap, starts: &Starts, dirty: &[u32], entering: &mut [Vec<u32>]) -> Result<(), Fault>
+fn add_cards(
+    alloc: Global,
+    heap: &Heap,
+    starts: &Starts,
+    dirty: &[u32],
+    entering: &mut [Vec<u32>],
+) -> Result<(), Fault>
     requires heap { IsValid heap.now }
     requires starts { IsStartsOf heap.now starts.now }
     requires rising { IsStrictlyIncreasing dirty.now }
@@ -94,7 +100,12 @@ fn no_cards(alloc: Global, regions: u64) -> Result<Vec<Vec<u32>>, Fault>
 }
 
 /// For each region the dirty cards, rising, that hold a slot which leads into it.
-fn entering_cards(rt: &(impl Threads + Sync), alloc: Global, image: &Image, starts: &Starts) -> Result<Vec<Vec<u32>>, Fault>
+fn entering_cards(
+    rt: &(impl Threads + Sync),
+    alloc: Global,
+    image: &Image,
+    starts: &Starts,
+) -> Result<Vec<Vec<u32>>, Fault>
     requires { IsStartsOf image.now.heap starts.now }
     ensures ok { IfOk result (λ v. AreRefining image.now (map (λ s. s.items) v.items)) }
     ensures memory { IfErr result (λ e. e ≡ Fault.Memory) }
@@ -107,7 +118,12 @@ fn entering_cards(rt: &(impl Threads + Sync), alloc: Global, image: &Image, star
 }
 
 /// A region's remembered set with the dirty cards that lead into the region.
-fn refined_set(alloc: Global, image: &Image, region: u32, entering: &[u32]) -> Result<Vec<u32>, Fault>
+fn refined_set(
+    alloc: Global,
+    image: &Image,
+    region: u32,
+    entering: &[u32],
+) -> Result<Vec<u32>, Fault>
     requires region { region < image.now.heap.geometry.n }
     requires entering { IsRefining image.now region entering.now }
     ensures { IsRefinedSet image.now region result }
@@ -117,7 +133,12 @@ fn refined_set(alloc: Global, image: &Image, region: u32, entering: &[u32]) -> R
 }
 
 /// Each region's remembered set with the dirty cards that lead into the region.
-fn refined_sets(rt: &(impl Threads + Sync), alloc: Global, image: &Image, entering: &[Vec<u32>]) -> Result<Vec<Vec<u32>>, Fault>
+fn refined_sets(
+    rt: &(impl Threads + Sync),
+    alloc: Global,
+    image: &Image,
+    entering: &[Vec<u32>],
+) -> Result<Vec<Vec<u32>>, Fault>
     requires { AreRefining image.now (map (λ s. s.items) entering.now) }
     ensures ok { IfOk result (λ v. map (λ s. s.items) v.items ≡ map (refined image.now) (regions image.now.heap)) }
     ensures memory { IfErr result (λ e. e ≡ Fault.Memory) }
@@ -142,7 +163,12 @@ fn refined_sets(rt: &(impl Threads + Sync), alloc: Global, image: &Image, enteri
 ///
 /// # Errors
 /// `Fault::Memory` where a growth was refused.
-pub fn refine(rt: &(impl Threads + Sync), alloc: Global, tracked: &Tracked, starts: &Starts) -> Result<Vec<Vec<u32>>, Fault>
+pub fn refine(
+    rt: &(impl Threads + Sync),
+    alloc: Global,
+    tracked: &Tracked,
+    starts: &Starts,
+) -> Result<Vec<Vec<u32>>, Fault>
     requires { IsStartsOf tracked.now.heap starts.now }
     ensures ok { IfOk result (λ v. map (λ s. s.items) v.items ≡ map (refined tracked.now) (regions tracked.now.heap)) }
     ensures memory { IfErr result (λ e. e ≡ Fault.Memory) }

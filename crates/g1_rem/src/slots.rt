@@ -26,7 +26,14 @@ fn push_range(out: &mut SmallVec<u64, 64>, from: u64, to: u64)
 }
 
 /// The slots between two addresses, of the objects that fill the words between two others.
-fn slots_between(alloc: Global, words: &[u64], from: u64, to: u64, lo: u64, hi: u64) -> SmallVec<u64, 64>
+fn slots_between(
+    alloc: Global,
+    words: &[u64],
+    from: u64,
+    to: u64,
+    lo: u64,
+    hi: u64,
+) -> SmallVec<u64, 64>
     requires filled { Reaches words.now from to }
     requires in_words { to ≤ length words.now }
     requires few { hi ≤ lo + 64 }
@@ -44,7 +51,8 @@ fn slots_between(alloc: Global, words: &[u64], from: u64, to: u64, lo: u64, hi: 
     out
 }
 
-/// The reference slots whose own address lies on a card, rising.
+/// The addresses of the reference slots that lie on a card themselves, rising, wherever their object
+/// began. A card has at most 64 words, so the list never grows.
 pub fn slots_on(alloc: Global, heap: &Heap, starts: &Starts, card: u32) -> SmallVec<u64, 64>
     requires starts { IsStartsOf heap.now starts.now }
     requires card { card < card_count heap.now }

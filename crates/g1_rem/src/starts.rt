@@ -3,15 +3,15 @@ ghost use Rattle.g1_rem.specs.Starts.{IsStartsOf};
 ghost use Rattle.g1_rem.specs.Marks.{IsMarkedTo, Told, objects_from};
 
 use crate::header::REFS_RANGE;
-use g1_words::objects_in;
-use g1_words::{Fault, Heap};
+use g1_words::{Fault, Heap, objects_in};
 use std::alloc::Global;
 use std::marker::Model;
 
-/// For each card the object over its first word, if one is there.
+/// For each card of a heap the address of the object over the card's first word, if one is there,
+/// wherever that object began: on an earlier card, or in an earlier region.
 #[derive(Drop)]
 pub struct Starts {
-    pub firsts: Vec<Option<u32>>,
+    pub(crate) firsts: Vec<Option<u32>>,
 }
 
 impl Model for Starts {
@@ -38,7 +38,12 @@ fn mark(firsts: &mut Vec<Option<u32>>, k: u64, until: u64, value: Option<u32>) -
 }
 
 /// Writes the starts of the cards that a region's objects reach.
-fn mark_region(alloc: Global, heap: &Heap, region: u32, firsts: &mut Vec<Option<u32>>) -> Result<(), Fault>
+fn mark_region(
+    alloc: Global,
+    heap: &Heap,
+    region: u32,
+    firsts: &mut Vec<Option<u32>>,
+) -> Result<(), Fault>
     requires region { region < heap.now.geometry.n }
     requires told { Told heap.now (objects_from heap.now region) firsts.old.items }
     requires room { length firsts.old.items * heap.now.geometry.k ≤ 2 ^ 25 }
@@ -57,7 +62,10 @@ fn mark_region(alloc: Global, heap: &Heap, region: u32, firsts: &mut Vec<Option<
 }
 
 impl Starts {
-    /// The starts of a heap.
+    /// The starts of a heap, in one pass over its objects and cards.
+    ///
+    /// # Errors
+    /// `Fault::Memory` where a growth was refused.
     pub fn build(alloc: Global, heap: &Heap) -> Result<Starts, Fault>
         ensures ok { IfOk result (λ s. IsStartsOf heap.now s) }
         ensures memory { IfErr result (λ e. e ≡ Fault.Memory) }
@@ -67,11 +75,16 @@ impl Starts {
         for region in 0..geometry.regions() as u32 {
             mark_region(alloc, heap, region, &mut firsts)?;
         }
-        mark(&mut firsts, geometry.card_words(), geometry.regions() * geometry.region_words(), None)?;
+        mark(
+            &mut firsts,
+            geometry.card_words(),
+            geometry.regions() * geometry.region_words(),
+            None,
+        )?;
         Ok(Starts { firsts })
     }
 
-    /// The address of the object over a card's first word.
+    /// The address of the object over the first word of a card.
     pub fn first(&self, card: u32) -> Option<u32>
         requires { card < length self.now }
         ensures { result ≡ slice_index_or self.now card None }

@@ -4,7 +4,8 @@ ghost use Rattle.g1_image.specs.Cards.{Covered};
 use g1_image::Image;
 use std::marker::Model;
 
-/// An image of which every reference is covered.
+/// An image of which every reference into another region is covered: its slot's card is in that
+/// region's remembered set or in the dirty log.
 #[derive(Drop)]
 pub struct Tracked {
     pub image: Image,
@@ -21,7 +22,7 @@ impl Model for Tracked {
     ghost invariant = { λ t. Covered t.image };
 }
 
-/// The image.
+/// The image that is tracked.
 pub fn image(tracked: &Tracked) -> &Image
     ensures same { result.now ≡ tracked.now }
     ensures covered { Covered tracked.now }

@@ -45,7 +45,7 @@ returns-then-index-card-clause-uncovered c =
     let items = c.index-sets-region.result.items in
     let len : length c.index-sets-region.result.items ≡ length c.deref.result.now = ap length (sym c.deref.ensures.value) in
     let there : has c.index-sets-region.result.items c.card_of.result ≡ true =
-        subst (λ x. has c.index-sets-region.result.items x ≡ true) c.if-index-card.true (has_here c.index-sets-region.result.items c.place_of-place.result c.index.result.now (omega (arith, len, c.if-place-len.true, c.len.ensures, c.deref.ensures.len)) c.index.ensures) in
+    subst (λ x. has c.index-sets-region.result.items x ≡ true) c.if-index-card.true (has_here c.index-sets-region.result.items c.place_of-place.result c.index.result.now (omega (arith, len, c.if-place-len.true, c.len.ensures, c.deref.ensures.len)) c.index.ensures) in
     sym (bare_some c.args.image.now c.args.p c.in-Some.region true (has c.args.image.now.log (card_of c.args.image.now.heap c.args.p)) (led b) (read_has b true there) refl)
 
 pub returns-else-place-len-clause-uncovered : goal.returns-else-place-len-clause-uncovered
@@ -56,15 +56,15 @@ returns-else-place-len-clause-uncovered c =
     let card = c.card_of.result in
     let len : length c.index-sets-region.result.items ≡ length c.deref.result.now = ap length (sym c.deref.ensures.value) in
     let rising : IsStrictlyIncreasing c.index-sets-region.result.items =
-        subst (λ l. IsStrictlyIncreasing l) (sym (the_set b)) (c.heap-heap.ensures.valid.sets c.in-Some.region (led b).4).rising in
+    subst (λ l. IsStrictlyIncreasing l) (sym (the_set b)) (c.heap-heap.ensures.valid.sets c.in-Some.region (led b).4).rising in
     let next : c.place_of-place.result < length c.index-sets-region.result.items → c.card_of.result ≤ slice_index c.index-sets-region.result.items c.place_of-place.result =
-        subst (λ l. c.place_of-place.result < length l → c.card_of.result ≤ slice_index l c.place_of-place.result) c.deref.ensures.value c.place_of-place.ensures.next in
+    subst (λ l. c.place_of-place.result < length l → c.card_of.result ≤ slice_index l c.place_of-place.result) c.deref.ensures.value c.place_of-place.ensures.next in
     let other : c.place_of-place.result < length c.index-sets-region.result.items → slice_index c.index-sets-region.result.items c.place_of-place.result ≡ c.card_of.result → ⊥ =
-        elim c.else-place-len.branch [
-          | else-place-len-via-then-place-len+else-index-card w ↦ (λ lt e. w.if-index-card.false (w.index.ensures ∙ get_or_default items place w.index.result.now 0 lt ∙ e))
-          | else-place-len-via-else-place-len w ↦ (λ lt e. omega (arith, lt, len, w.if-place-len.false, c.len.ensures, c.deref.ensures.len))
-        ] in
+    elim c.else-place-len.branch [
+      | else-place-len-via-then-place-len+else-index-card w ↦ (λ lt e. w.if-index-card.false (w.index.ensures ∙ get_or_default items place w.index.result.now 0 lt ∙ e))
+      | else-place-len-via-else-place-len w ↦ (λ lt e. omega (arith, lt, len, w.if-place-len.false, c.len.ensures, c.deref.ensures.len))
+    ] in
     let none : has c.index-sets-region.result.items c.card_of.result ≡ false = has_not items place card rising (behind b) next other in
     let logged : has c.args.image.now.log (card_of c.args.image.now.heap c.args.p) ≡ c.contains.result =
-        ap (λ x. has c.args.image.now.log x) (sym (the_card b)) ∙ ap (λ l. has l c.card_of.result) (sym c.log.ensures) ∙ sym c.contains.ensures in
+    ap (λ x. has c.args.image.now.log x) (sym (the_card b)) ∙ ap (λ l. has l c.card_of.result) (sym c.log.ensures) ∙ sym c.contains.ensures in
     sym (bare_some c.args.image.now c.args.p c.in-Some.region false c.contains.result (led b) (read_has b false none) logged)

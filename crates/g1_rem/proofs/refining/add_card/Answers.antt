@@ -26,7 +26,7 @@ loop-p-preserved c =
     let p = slice_index c.args.slots.now c.loop-p.p-index in
     let ps = take c.loop-p.p-index c.args.slots.now in
     let more : take (c.loop-p.p-index + 1) c.args.slots.now ≡ take c.loop-p.p-index c.args.slots.now ++ slice_index c.args.slots.now c.loop-p.p-index ∷ [] =
-        take_more c.args.slots.now c.loop-p.p-index 0 c.loop-p-test.true in
+    take_more c.args.slots.now c.loop-p.p-index 0 c.loop-p-test.true in
     subst (λ l. IsGrown c.args.heap.now c.args.card l (map (λ s. s.items) c.args.entering.now) (map (λ s. s.items) c.match-led_into.entering)) (sym more)
     (elim c.match-led_into.branch [
       | in-Some+in_ok-push_once w ↦ (
@@ -39,9 +39,9 @@ loop-p-preserved c =
           let pushed = w.in_ok-push_once.ensures.ok before (enters h r ps) (c.requires.below r lt) read in
           let same = ap (map (λ s. s.items)) w.entering-is ∙ map-set (λ s. s.items) c.loop-p.entering r w.push_once.new.cards in
           subst (IsGrown c.args.heap.now c.args.card (take c.loop-p.p-index c.args.slots.now ++ slice_index c.args.slots.now c.loop-p.p-index ∷ []) (map (λ s. s.items) c.args.entering.now)) (sym same)
-              (grown_push h c.args.card p r ps w.push_once.new.cards.items (map (λ s. s.items) c.args.entering.now) (map (λ s. s.items) c.loop-p.entering) c.loop-p.invariant w.in-Some.ensures in_old pushed))
+          (grown_push h c.args.card p r ps w.push_once.new.cards.items (map (λ s. s.items) c.args.entering.now) (map (λ s. s.items) c.loop-p.entering) c.loop-p.invariant w.in-Some.ensures in_old pushed))
       | in_default w ↦ (
           let none = subst (IsLedInto c.args.heap.now (slice_index c.args.slots.now c.loop-p.p-index)) w.in_default.is c.led_into.ensures in
           subst (λ l. IsGrown c.args.heap.now c.args.card (take c.loop-p.p-index c.args.slots.now ++ slice_index c.args.slots.now c.loop-p.p-index ∷ []) (map (λ s. s.items) c.args.entering.now) (map (λ s. s.items) l)) (sym w.entering-is)
-              (grown_pass h c.args.card p ps (map (λ s. s.items) c.args.entering.now) (map (λ s. s.items) c.loop-p.entering) c.loop-p.invariant none))
+          (grown_pass h c.args.card p ps (map (λ s. s.items) c.args.entering.now) (map (λ s. s.items) c.loop-p.entering) c.loop-p.invariant none))
     ])

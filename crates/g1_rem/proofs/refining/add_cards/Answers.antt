@@ -14,10 +14,10 @@ pub add_card-requires-clause-below : goal.add_card-requires-clause-below
 add_card-requires-clause-below c =
     entering_below c.args.heap.now (take c.loop-card.card-index c.args.dirty.now) (map (λ s. s.items) c.loop-card.entering) (slice_index c.args.dirty.now c.loop-card.card-index) c.loop-card.invariant
     (λ k d lt.
-      let below : k < c.loop-card.card-index = omega (arith, lt, length-take c.loop-card.card-index c.args.dirty.now) in
-      let less = AllPairs-from_increasing c.args.dirty.now c.requires.rising k c.loop-card.card-index 0 below c.loop-card-test.true in
-      let same = get_or-take c.loop-card.card-index c.args.dirty.now k d below ∙ get_or_default c.args.dirty.now k d 0 (omega (arith, below, c.loop-card-test.true)) in
-      omega (arith, less, same))
+    let below : k < c.loop-card.card-index = omega (arith, lt, length-take c.loop-card.card-index c.args.dirty.now) in
+    let less = AllPairs-from_increasing c.args.dirty.now c.requires.rising k c.loop-card.card-index 0 below c.loop-card-test.true in
+    let same = get_or-take c.loop-card.card-index c.args.dirty.now k d below ∙ get_or_default c.args.dirty.now k d 0 (omega (arith, below, c.loop-card-test.true)) in
+    omega (arith, less, same))
 
 pub loop-card-init : goal.loop-card-init
 loop-card-init c = entering_start c.args.heap.now (map (λ s. s.items) c.args.entering.now) c.requires.none
@@ -27,5 +27,5 @@ loop-card-preserved c =
     let more = take_more c.args.dirty.now c.loop-card.card-index 0 c.loop-card-test.true in
     subst (λ l. AreEntering c.args.heap.now l (map (λ s. s.items) c.add_card.new.entering)) (sym more)
     (entering_step c.args.heap.now (take c.loop-card.card-index c.args.dirty.now) (slice_index c.args.dirty.now c.loop-card.card-index) (map (λ s. s.items) c.loop-card.entering) (map (λ s. s.items) c.add_card.new.entering)
-     c.loop-card.invariant
-     (subst (λ l. IsGrown c.args.heap.now (slice_index c.args.dirty.now c.loop-card.card-index) l (map (λ s. s.items) c.loop-card.entering) (map (λ s. s.items) c.add_card.new.entering)) (c.as_slice.ensures ∙ c.slots_on-slots.ensures) c.in_ok-add_card.ensures.ok))
+    c.loop-card.invariant
+    (subst (λ l. IsGrown c.args.heap.now (slice_index c.args.dirty.now c.loop-card.card-index) l (map (λ s. s.items) c.loop-card.entering) (map (λ s. s.items) c.add_card.new.entering)) (c.as_slice.ensures ∙ c.slots_on-slots.ensures) c.in_ok-add_card.ensures.ok))

@@ -12,7 +12,7 @@ returns-clause-ok g c =
     let dirty = c.in_ok-dirty.dirty.items in
     let written = lent_back c.in_ok-entering.entering.len c.deref_mut.result.now new c.in_ok-entering.entering.items c.deref_mut.ensures.value c.add_cards.auto.entering c.deref_mut.ensures.len in
     let told : AreEntering c.args.image.now.heap c.in_ok-dirty.dirty.items (map (λ s. s.items) c.add_cards.new.entering) =
-        subst (λ l. AreEntering c.args.image.now.heap l (map (λ s. s.items) c.add_cards.new.entering)) c.deref.ensures.value
-        (subst (λ (h : Heap). AreEntering h c.deref.result.now (map (λ s. s.items) c.add_cards.new.entering)) c.heap-heap.ensures.same c.in_ok-add_cards.ensures.ok) in
+    subst (λ l. AreEntering c.args.image.now.heap l (map (λ s. s.items) c.add_cards.new.entering)) c.deref.ensures.value
+    (subst (λ (h : Heap). AreEntering h c.deref.result.now (map (λ s. s.items) c.add_cards.new.entering)) c.heap-heap.ensures.same c.in_ok-add_cards.ensures.ok) in
     subst (λ l. AreRefining c.args.image.now (map (λ s. s.items) l)) (sym written)
     (refining_all c.args.image.now dirty (map (λ s. s.items) new) c.in_ok-dirty.ensures.rising c.in_ok-dirty.ensures.same told)

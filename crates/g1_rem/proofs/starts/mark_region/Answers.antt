@@ -55,11 +55,12 @@ objects-preserved c =
     let kk : c.card_words-k.result ≡ c.args.heap.now.geometry.k = c.card_words-k.ensures.value ∙ ap (λ g. g.k) c.geometry.ensures.same in
     let a : IsMarkedTo c.objects.firsts.items c.mark.new.firsts.items c.args.heap.now.geometry.k at None = subst (λ k. IsMarkedTo c.objects.firsts.items c.mark.new.firsts.items k at None) kk c.in_ok-mark.ensures.marked in
     let b : IsMarkedTo c.mark.new.firsts.items c.mark-in-objects.new.firsts.items c.args.heap.now.geometry.k (at + slice_index c.words.result.now at / 2 ^ 32) (Some at) =
-        subst (λ k. IsMarkedTo c.mark.new.firsts.items c.mark-in-objects.new.firsts.items k (at + slice_index c.words.result.now at / 2 ^ 32) (Some at)) kk c.in_ok-mark-2.ensures.marked in
+    subst (λ k. IsMarkedTo c.mark.new.firsts.items c.mark-in-objects.new.firsts.items k (at + slice_index c.words.result.now at / 2 ^ 32) (Some at)) kk c.in_ok-mark-2.ensures.marked in
     let b2 : IsMarkedTo c.mark.new.firsts.items c.mark-in-objects.new.firsts.items c.args.heap.now.geometry.k (at + (object_at c.args.heap.now at).size) (Some at) =
-        subst (λ s. IsMarkedTo c.mark.new.firsts.items c.mark-in-objects.new.firsts.items c.args.heap.now.geometry.k (at + s) (Some at)) w b in
-    (told_next h c.geometry.ensures.valid c.args.region c.objects.at-index at starts e c.objects-test.true refl c.objects.firsts.items c.objects.invariant.0 c.mark.new.firsts.items c.mark-in-objects.new.firsts.items a b2,
-     subst (λ k. length c.mark-in-objects.new.firsts.items * k ≤ 2 ^ 25) kk c.mark-in-objects.ensures.room)
+    subst (λ s. IsMarkedTo c.mark.new.firsts.items c.mark-in-objects.new.firsts.items c.args.heap.now.geometry.k (at + s) (Some at)) w b in (
+      told_next h c.geometry.ensures.valid c.args.region c.objects.at-index at starts e c.objects-test.true refl c.objects.firsts.items c.objects.invariant.0 c.mark.new.firsts.items c.mark-in-objects.new.firsts.items a b2,
+      subst (λ k. length c.mark-in-objects.new.firsts.items * k ≤ 2 ^ 25) kk c.mark-in-objects.ensures.room,
+    )
 
 pub returns-clause-told : goal.returns-clause-told
 returns-clause-told c =

@@ -20,7 +20,7 @@ returns-clause-ok c =
     let w : c.region_words.result ≡ c.args.heap.now.geometry.w = c.region_words.ensures.value ∙ ap (λ g. g.w) same in
     let size : c.regions.result * c.region_words.result ≡ c.args.heap.now.geometry.n * c.args.heap.now.geometry.w = ap (λ x. x * c.region_words.result) n ∙ ap (λ x. c.args.heap.now.geometry.n * x) w in
     let m : IsMarkedTo c.loop-region.firsts.items c.mark.new.firsts.items c.args.heap.now.geometry.k (c.args.heap.now.geometry.n * c.args.heap.now.geometry.w) None =
-        subst (λ x. IsMarkedTo c.loop-region.firsts.items c.mark.new.firsts.items x (c.args.heap.now.geometry.n * c.args.heap.now.geometry.w) None) k
-        (subst (λ x. IsMarkedTo c.loop-region.firsts.items c.mark.new.firsts.items c.card_words.result x None) size c.in_ok-mark.ensures.marked) in
+    subst (λ x. IsMarkedTo c.loop-region.firsts.items c.mark.new.firsts.items x (c.args.heap.now.geometry.n * c.args.heap.now.geometry.w) None) k
+    (subst (λ x. IsMarkedTo c.loop-region.firsts.items c.mark.new.firsts.items c.card_words.result x None) size c.in_ok-mark.ensures.marked) in
     let end : c.regions-region-end.result ≡ c.args.heap.now.geometry.n = c.regions-region-end.ensures.value ∙ ap (λ g. g.n) same in
     told_all h c.geometry-geometry.ensures.valid c.loop-region.region (omega (arith, end, c.loop-region-test.false)) c.loop-region.firsts.items c.mark.new.firsts.items c.loop-region.invariant.0 m

@@ -9,5 +9,5 @@ refined_set-requires c =
     let all = c.requires.1 in
     let there : c.args.region < length c.captures.entering.now = omega (arith, c.requires.0, all.one_each, length-map c.captures.entering.now (λ s. s.items)) in
     let read : c.deref.result.now ≡ slice_index_or (map (λ s. s.items) c.captures.entering.now) c.args.region [] =
-        c.deref.ensures.value ∙ ap (λ s. s.items) c.index-entering-region.is ∙ sym (get_or_map (λ s. s.items) c.captures.entering.now c.args.region c.index-entering-region.result [] there) in
+    c.deref.ensures.value ∙ ap (λ s. s.items) c.index-entering-region.is ∙ sym (get_or_map (λ s. s.items) c.captures.entering.now c.args.region c.index-entering-region.result [] there) in
     record { region = c.requires.0; entering = subst (IsRefining c.captures.image.now c.args.region) (sym read) (all.each c.args.region c.requires.0) }
