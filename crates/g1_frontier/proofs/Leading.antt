@@ -1,8 +1,10 @@
 -- The refined sets of a covered image lead into a window.
-use Rattle.std.proofs.Common.{◌≡◌, ◌≢◌, ◌<◌, ◌↔◌, ◌⊎◌, ℕ, ◌*◌, ◌/◌, inl, inr, Bool, true, false, List, [], ◌∷◌, Contains, arith, refl, sym, ap, subst, ◌∙◌}
+use Rattle.std.proofs.lemmas.List.{length-map}
+use Rattle.std.proofs.lemmas.List.FromFn.{length-range_with_len, get_or-range_with_len}
+use Rattle.std.proofs.Common.{zero, suc, ◌+◌, length, map, get_or, ◌≡◌, ◌≢◌, ◌<◌, ◌↔◌, ◌⊎◌, ℕ, ◌*◌, ◌/◌, inl, inr, Bool, true, false, List, [], ◌∷◌, Contains, arith, refl, sym, ap, subst, ◌∙◌}
 use Rattle.std.proofs.lemmas.Bool.{false≢true}
 use Rattle.std.specs.List.{All}
-use Rattle.g1_words.specs.Heap.{Heap, card_of, region_of}
+use Rattle.g1_words.specs.Heap.{Heap, card_of, region_of, regions}
 use Rattle.g1_words.specs.Lists.{has}
 use Rattle.g1_words.specs.References.{Ref, refs}
 use Rattle.g1_words.specs.Survivors.{in_set}
@@ -80,3 +82,35 @@ refined_leads_in i r good covered lt =
     only : (c : ℕ) → Contains (refined i r) c → In (r ∷ []) (c * i.heap.geometry.k / i.heap.geometry.w) → ⊥
     only c k (inl e) = refined_elsewhere i good r c lt k (sym e)
     only c k (inr e) = e
+
+-- ---- one region's refined set, read from the list of all
+
+get_of_map : {A : Type 0} (f : A → List ℕ) (xs : List A) (n : ℕ) (v : A) (d : List ℕ) → n < length xs → get_or (map f xs) n d ≡ f (get_or xs n v)
+get_of_map f [] n v d lt = absurd (omega (arith, lt))
+get_of_map f (x ∷ xs) zero v d lt = refl
+get_of_map f (x ∷ xs) (suc n) v d lt = get_of_map f xs n v d (omega (arith, lt))
+
+module _ {A : Type 0} (f : A → List ℕ) (t i : Image) (h : Heap) (sets : List A) (same : i ≡ t) (heap : h ≡ i.heap) (all : map f sets ≡ map (refined t) (regions t.heap)) where
+  pub sets_one_each : length sets ≡ h.geometry.n
+  sets_one_each =
+      let a : length (map f sets) ≡ length sets = length-map sets f in
+      let b : length (map (refined t) (regions t.heap)) ≡ t.heap.geometry.n = length-map (regions t.heap) (refined t) ∙ length-range_with_len 0 t.heap.geometry.n in
+      sym a ∙ ap length all ∙ b ∙ ap (λ (j : Image). j.heap.geometry.n) (sym same) ∙ ap (λ (j : Heap). j.geometry.n) (sym heap)
+
+  pub one_leads_in : (r : ℕ) (v : A) (cards : List ℕ) → IsImage i → Covered t → r < h.geometry.n → v ≡ get_or sets r v → cards ≡ f v
+      → AreCards h cards × AreOutside h (r ∷ []) cards × LeadIn h (r ∷ []) cards
+  one_leads_in r v cards good covered lt at its =
+      let low : r < length sets = omega (arith, lt, sets_one_each) in
+      let there : r < t.heap.geometry.n = subst (λ n. r < n) (ap (λ (j : Heap). j.geometry.n) heap ∙ ap (λ (j : Image). j.heap.geometry.n) same) lt in
+      let count : length (regions t.heap) ≡ t.heap.geometry.n = length-range_with_len 0 t.heap.geometry.n in
+      let number : get_or (regions t.heap) r 0 ≡ r = get_or-range_with_len 0 t.heap.geometry.n r 0 there ∙ (let e : 0 + r ≡ r = omega arith in e) in
+      let read : cards ≡ refined t r =
+          its ∙ ap f at ∙ sym (get_of_map f sets r v [] low) ∙ ap (λ l. get_or l r []) all ∙ read_at t (regions t.heap) r (omega (arith, there, count)) ∙ ap (refined t) number in
+      let good' : IsImage t = subst IsImage same good in
+      let k = refined_leads_in t r good' covered there in
+      let to_heap : t.heap ≡ h = ap (λ (j : Image). j.heap) (sym same) ∙ sym heap in
+      subst (λ q. AreCards q cards × AreOutside q (r ∷ []) cards × LeadIn q (r ∷ []) cards) to_heap
+      (subst (λ l. AreCards t.heap l × AreOutside t.heap (r ∷ []) l × LeadIn t.heap (r ∷ []) l) (sym read) k)
+    where
+      read_at : (t : Image) (xs : List ℕ) (r : ℕ) → r < length xs → get_or (map (refined t) xs) r [] ≡ refined t (get_or xs r 0)
+      read_at t xs r lt = get_of_map (refined t) xs r 0 [] lt
