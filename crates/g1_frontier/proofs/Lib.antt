@@ -5,3 +5,4 @@ pub mod Places
 pub mod Scopes
 pub mod Seeds
 pub mod Names
+pub mod Leading

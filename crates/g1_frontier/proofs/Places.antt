@@ -79,7 +79,7 @@ has_position window r i o s e =
     let t : StandsAt window r (Some i) = subst (StandsAt window r) e s in
     (has_from_in window r (subst (In window) t.1 (In-from_contains window (slice_index window i) (i, t.0, get_any window i (slice_index window i) 0 t.0))), t.0)
 
-same_bool : (b : Bool) → (b ≡ true → ⊥) → b ≡ false
+pub same_bool : (b : Bool) → (b ≡ true → ⊥) → b ≡ false
 same_bool true f = absurd (f refl)
 same_bool false f = refl
 

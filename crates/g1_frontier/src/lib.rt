@@ -18,9 +18,14 @@
 #![tactic(auto)]
 
 mod item;
+mod laws;
 mod round;
 mod scope;
 mod seen;
 mod survivors;
 
+pub use laws::refined_sets_lead_in;
 pub use survivors::discover;
+
+#[cfg(test)]
+mod tests;

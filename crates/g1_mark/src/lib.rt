@@ -9,3 +9,6 @@ mod bytes;
 mod live;
 
 pub use live::live_bytes;
+
+#[cfg(test)]
+mod tests;

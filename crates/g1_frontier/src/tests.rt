@@ -1,0 +1,179 @@
+ghost use Rattle.std.specs.Prelude.{◌≡◌, ◌<◌, ◌≤◌};
+
+use crate::discover;
+use g1_image::decode;
+use g1_rem::{Starts, image, refine, verify};
+use g1_words::Fault;
+use g1_work::{Gate, Open, Part};
+use std::alloc::{AllocError, Global};
+use std::sync::atomic::{AtomicBool, Ordering};
+use std::test::Fail;
+use std::thread::Threads;
+
+const MAGIC: [u8; 8] = *b"G1IMAGE1";
+
+/// An object's size in words, as its header holds it.
+const SIZE: u64 = 4_294_967_296;
+
+/// The roots name 18, then 16.
+const TWO_ROOTS: [u32; 22] = [16, 4, 4, 2, 0, 4, 0, 0, 1, 6, 0, 0, 0, 0, 19, 0, 17, 0, 0, 0, 0, 0];
+
+const TWO_ROOTS_WORDS: [u64; 6] = [2 * SIZE, 5, 4 * SIZE, 6, 7, 8];
+
+/// 16 and 18 name one another, and nothing else names them.
+const CYCLE: [u32; 18] = [16, 4, 4, 0, 0, 4, 0, 0, 1, 4, 0, 0, 0, 0, 0, 0, 0, 0];
+
+const CYCLE_WORDS: [u64; 4] = [2 * SIZE + 1, 19, 2 * SIZE + 1, 17];
+
+/// The roots name 21 and 16, two slots outside name 21, and so do all three slots of 16.
+const SHARED: [u32; 24] = [
+    16, 4, 4, 2, 0, 4, 1, 6, 1, 7, 0, 0, 0, 0, 22, 0, 17, 0, 0, 2, 0, 1, 0, 0,
+];
+
+/// Nothing names the object at 1, whose third slot names 16.
+const DEAD_OUTSIDE: [u32; 19] = [16, 4, 4, 0, 0, 4, 1, 6, 1, 2, 0, 0, 0, 0, 0, 1, 1, 0, 0];
+
+const DEAD_OUTSIDE_WORDS: [u64; 8] = [SIZE, 5 * SIZE + 3, 0, 0, 17, 0, 2 * SIZE, 3];
+
+fn shared_words() -> [u64; 13] {
+    [
+        4 * SIZE + 1,
+        22,
+        1,
+        2,
+        2 * SIZE + 1,
+        22,
+        5 * SIZE + 3,
+        22,
+        22,
+        22,
+        1,
+        2 * SIZE,
+        8,
+    ]
+}
+
+/// The text with these numbers and these words.
+fn text_of(alloc: Global, numbers: &[u32], words: &[u64]) -> Result<Vec<u8>, AllocError> {
+    let mut bytes = Vec::from_slice(alloc, &MAGIC)?;
+    for number in numbers {
+        bytes.extend_from_slice(&number.to_le_bytes())?;
+    }
+    for word in words {
+        bytes.extend_from_slice(&word.to_le_bytes())?;
+    }
+    Ok(bytes)
+}
+
+/// The survivors of region 1 of a text's image, by the cards of its refined set.
+fn survivors<R: Threads + Sync, G: Gate + Sync>(
+    rt: &R,
+    alloc: Global,
+    text: &[u8],
+    workers: u64,
+    chunk: u64,
+    gate: &G,
+) -> Result<Vec<u64>, Fault>
+    requires workers { (0 < workers) × (workers ≤ 64) }
+    requires chunk { (0 < chunk) × (chunk ≤ 65536) }
+{
+    let tracked = match verify(rt, alloc, decode(alloc, text)?) {
+        Ok(tracked) => tracked,
+        Err((_, fault)) => return Err(fault),
+    };
+    let heap = image(&tracked).heap();
+    if heap.geometry().regions() < 2 {
+        return Err(Fault::Set(1));
+    }
+    let starts = Starts::build(alloc, heap)?;
+    let sets = refine(rt, alloc, &tracked, &starts)?;
+    let window: [u32; 1] = [1];
+    discover(rt, alloc, heap, &starts, &window, sets[1].as_slice(), workers, chunk, gate)
+}
+
+/// Tells whether these are the survivors, for few and many workers and for small and large chunks.
+fn are_survivors<R: Threads + Sync>(
+    rt: &R,
+    alloc: Global,
+    numbers: &[u32],
+    words: &[u64],
+    expected: &[u64],
+) -> Result<bool, Fault> {
+    let text = text_of(alloc, numbers, words)?;
+    let one = survivors(rt, alloc, &text, 1, 1, &Open)?;
+    let one_large = survivors(rt, alloc, &text, 1, 65_536, &Open)?;
+    let eight = survivors(rt, alloc, &text, 8, 1, &Open)?;
+    let eight_large = survivors(rt, alloc, &text, 8, 65_536, &Open)?;
+    let equal = one == one_large && one == eight && one == eight_large;
+    Ok(equal && one.as_slice() == expected)
+}
+
+#[test]
+fn targets_of_roots_come_by_root_number(rt: HostRuntime) -> Result<(), Fail> {
+    assert!(rt; are_survivors(&rt, rt.alloc(), &TWO_ROOTS, &TWO_ROOTS_WORDS, &[18, 16])?);
+    Ok(())
+}
+
+#[test]
+fn a_cycle_that_keeps_itself_is_not_found(rt: HostRuntime) -> Result<(), Fail> {
+    assert!(rt; are_survivors(&rt, rt.alloc(), &CYCLE, &CYCLE_WORDS, &[])?);
+    Ok(())
+}
+
+#[test]
+fn an_object_that_many_name_is_found_once(rt: HostRuntime) -> Result<(), Fail> {
+    assert!(rt; are_survivors(&rt, rt.alloc(), &SHARED, &shared_words(), &[21, 16])?);
+    Ok(())
+}
+
+#[test]
+fn a_dead_outside_slot_keeps_its_target(rt: HostRuntime) -> Result<(), Fail> {
+    assert!(rt; are_survivors(&rt, rt.alloc(), &DEAD_OUTSIDE, &DEAD_OUTSIDE_WORDS, &[16])?);
+    Ok(())
+}
+
+/// A gate whose calls for the chunks 0 and 1 look for one another.
+#[derive(Drop)]
+struct Meeting {
+    zero: AtomicBool,
+    one: AtomicBool,
+    missed: AtomicBool,
+}
+
+const TURNS: u64 = 200_000_000;
+
+fn waits_for(flag: &AtomicBool) -> bool {
+    for _ in 0..TURNS {
+        if flag.load(Ordering::SeqCst) {
+            return true;
+        }
+    }
+    false
+}
+
+impl Gate for Meeting {
+    fn at(&self, _part: Part, number: u64) {
+        let (mine, theirs) = match number {
+            0 => (&self.zero, &self.one),
+            1 => (&self.one, &self.zero),
+            _ => return,
+        };
+        mine.store(true, Ordering::SeqCst);
+        if !waits_for(theirs) {
+            self.missed.store(true, Ordering::SeqCst);
+        }
+    }
+}
+
+#[test]
+fn together(rt: HostRuntime) -> Result<(), Fail> {
+    let gate = Meeting {
+        zero: AtomicBool::new(false),
+        one: AtomicBool::new(false),
+        missed: AtomicBool::new(false),
+    };
+    let text = text_of(rt.alloc(), &SHARED, &shared_words())?;
+    assert_eq!(rt; survivors(&rt, rt.alloc(), &text, 2, 1, &gate)?.as_slice(), [21, 16].as_slice());
+    assert!(rt; !gate.missed.load(Ordering::SeqCst));
+    Ok(())
+}
