@@ -250,18 +250,19 @@ fn the_gate_is_told_of_each_chunk_once(rt: HostRuntime) -> Result<(), Fail> {
     Ok(())
 }
 
-// Numbers 0 and 1 look for one another, and number 0 for all.
+// Numbers 0 and 1 look for one another, and number 0 for all. Each number sets a bit.
 #[derive(Drop)]
 struct Meeting {
-    called: [AtomicBool; 8],
+    called: AtomicU64,
     missed: AtomicBool,
 }
 
 const TURNS: u64 = 200_000_000;
 
-fn all_come(called: &[AtomicBool]) -> bool {
+// Whether all of these bits come within the turns.
+fn all_come(called: &AtomicU64, bits: u64) -> bool {
     for _ in 0..TURNS {
-        if called.iter().all(|flag| flag.load(Ordering::SeqCst)) {
+        if called.load(Ordering::SeqCst) & bits == bits {
             return true;
         }
     }
@@ -270,13 +271,12 @@ fn all_come(called: &[AtomicBool]) -> bool {
 
 impl Gate for Meeting {
     fn at(&self, _part: Part, number: u64) {
-        let called = &self.called[..];
-        if let Some(flag) = called.get(number as usize) {
-            flag.store(true, Ordering::SeqCst);
+        if number < 8 {
+            self.called.fetch_or(1 << number, Ordering::SeqCst);
         }
         let met = match number {
-            0 => all_come(&called[1..]),
-            1 => all_come(&called[..1]),
+            0 => all_come(&self.called, 0b1111_1110),
+            1 => all_come(&self.called, 0b0000_0001),
             _ => true,
         };
         if !met {
@@ -288,16 +288,7 @@ impl Gate for Meeting {
 #[test]
 fn together(rt: HostRuntime) -> Result<(), Fail> {
     let gate = Meeting {
-        called: [
-            AtomicBool::new(false),
-            AtomicBool::new(false),
-            AtomicBool::new(false),
-            AtomicBool::new(false),
-            AtomicBool::new(false),
-            AtomicBool::new(false),
-            AtomicBool::new(false),
-            AtomicBool::new(false),
-        ],
+        called: AtomicU64::new(0),
         missed: AtomicBool::new(false),
     };
     let states = vec![in rt.alloc(); 0; 2]?;
