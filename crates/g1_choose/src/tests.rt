@@ -1,4 +1,4 @@
-use crate::{cost, total, Cost};
+use crate::{Cost, cost, total};
 
 #[test]
 fn costs_at_the_limits(rt: HostRuntime) {
@@ -11,7 +11,10 @@ fn costs_at_the_limits(rt: HostRuntime) {
     assert_eq!(rt; cost(&dearest, 0, 0), 0);
     assert_eq!(rt; cost(&dearest, 4_194_304, 524_288), 20_266_198_318_448_640);
     assert_eq!(rt; total(&dearest, 0, &[]), 4_294_967_295);
-    assert_eq!(rt; total(&dearest, 4_194_304, &[7, 20_266_198_318_448_640]), 38_280_601_118_703_622);
+    assert_eq!(rt;
+        total(&dearest, 4_194_304, &[7, 20_266_198_318_448_640]),
+        38_280_601_118_703_622
+    );
 }
 
 #[test]
