@@ -1,5 +1,5 @@
 -- The positions of a set's regions, the addresses of its words, and the table that they make.
-use Rattle.std.proofs.Common.{◌≡◌, ◌≢◌, ◌⊎◌, ℕ, zero, suc, ◌+◌, ◌-◌, ◌*◌, ◌/◌, ◌%◌, ◌^◌, ◌<◌, ◌≤◌, inl, inr, List, [], ◌∷◌, ◌++◌, Option, Some, None, All, AllPairs, Contains, length, get_or, set, replicate, refl, sym, ◌∙◌, ap, subst, arith, length-append, mod-lt, div-add-mod', mod-eq_of_lt}
+use Rattle.std.proofs.Common.{◌≡◌, ◌≢◌, ◌⊎◌, ℕ, zero, suc, ◌+◌, ◌*◌, ◌/◌, ◌%◌, ◌^◌, ◌<◌, ◌≤◌, inl, inr, List, [], ◌++◌, Option, Some, None, All, Contains, length, get_or, set, replicate, refl, sym, ◌∙◌, ap, arith, length-append, mod-lt, div-add-mod', mod-eq_of_lt}
 use Rattle.std.proofs.lemmas.Bool.{cases_lt}
 use Rattle.std.proofs.lemmas.List.{get_or-set_same, get_or-set_other, get_or_append_left, get_or-append-add, get_or_default, get_or-replicate}
 use Rattle.std.proofs.lemmas.List.FromFn.{get_or-range_with_len, length-range_with_len}
@@ -7,7 +7,7 @@ use Rattle.std.proofs.lemmas.List.Kept.{AllPairs-from_increasing}
 use Rattle.std.proofs.Math.Nat.{mul-le-mul_right, mul-add-div_right, mul-add-mod_self_right, div-eq_of_lt}
 use Rattle.std.specs.List.{range_with_len}
 use Rattle.std.specs.List.Sorted.{IsStrictlyIncreasing}
-use Rattle.g1_layout.specs.Words.{ArePositions, AreWords, HasIndex, IsTable, goes_to, index_at, index_of, word_or}
+use Rattle.g1_layout.specs.Words.{ArePositions, AreWords, HasIndex, IsTable, goes_to, index_at, word_or}
 
 -- the first n regions of the set have their positions
 pub record Positioned (rs : List ℕ) (n : ℕ) (positions : List (Option ℕ)) : Type 0 where

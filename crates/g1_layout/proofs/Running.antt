@@ -1,5 +1,5 @@
 -- The survivors that stand in one region are a stretch of the list.
-use Rattle.std.proofs.Common.{◌≡◌, ◌≢◌, ℕ, zero, suc, ◌+◌, ◌-◌, ◌*◌, ◌/◌, ◌%◌, ◌<◌, ◌≤◌, ◌⊎◌, inl, inr, Bool, true, false, cond, List, [], ◌∷◌, length, get_or, map, filter, fold, max, zip, count_by, AllPairs, refl, sym, ◌∙◌, ap, subst, arith, eqb, eqb-true, eq-eqb, ltb, mod-lt, div-add-mod'}
+use Rattle.std.proofs.Common.{◌≡◌, ℕ, zero, suc, ◌+◌, ◌-◌, ◌*◌, ◌/◌, ◌%◌, ◌<◌, ◌≤◌, ◌⊎◌, inl, inr, Bool, true, false, cond, List, [], ◌∷◌, length, get_or, map, filter, fold, max, zip, count_by, refl, sym, ◌∙◌, ap, subst, arith, eqb, eqb-true, eq-eqb, ltb, div-add-mod'}
 use Rattle.std.proofs.lemmas.Bool.{cases_lt, lt-ltb, le-ltb, ltb-true}
 use Rattle.std.proofs.lemmas.List.{get_or-map, length-map, get_or_default}
 use Rattle.std.proofs.lemmas.List.Sums.{count_by-le-length, sum_by-cons}
@@ -7,15 +7,14 @@ use Rattle.std.proofs.lemmas.Nat.{le-div}
 use Rattle.std.proofs.lemmas.Slice.Zip.{get_or-zip, length-zip}
 use Rattle.std.proofs.Math.Nat.{div-mul-le_self}
 use Rattle.g1_words.proofs.Indices.{get_or-In}
-use Rattle.g1_words.proofs.Members.{In, In-filter, In-from_contains, In-map, Contains-from_in, filter_member, map_cases}
-use Rattle.g1_words.proofs.NextFit.{Fitting, distinct_places, free_distinct, next_fit_fits, region_below, region_of_row, offset_of_row, spot_below, spot_fits, spots, spots_apart}
+use Rattle.g1_words.proofs.Members.{In, In-filter, In-map, Contains-from_in, filter_member, map_cases}
+use Rattle.g1_words.proofs.NextFit.{distinct_places, free_distinct, region_below, region_of_row, spot_below, spot_fits, spots, spots_apart}
 use Rattle.g1_words.proofs.Ordered.{Ordered, Ordered-from_pairs, pairs_from_ordered}
 use Rattle.g1_words.specs.Heap.{Heap, object_at, region_of, start}
 use Rattle.g1_words.specs.Layout.{end_in, free_regions, laid, laid_end, need, next_fit, places, row_address, sizes_of}
 use Rattle.g1_layout.proofs.Laying.{all_fitting}
 use Rattle.g1_layout.specs.Placed.{CanLay}
 use Rattle.g1_layout.specs.Plan.{laid_before, run_at}
-use Rattle.g1_layout.specs.declared.plan.Run.{Run}
 
 -- ---- how many numbers of a rising list lie in regions before one
 

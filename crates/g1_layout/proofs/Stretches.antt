@@ -1,8 +1,8 @@
 -- The laws of places and runs.
-use Rattle.std.proofs.Common.{◌≡◌, ◌≢◌, ℕ, zero, suc, ◌+◌, ◌-◌, ◌*◌, ◌/◌, ◌%◌, ◌<◌, ◌≤◌, ◌⊎◌, inl, inr, Bool, true, false, cond, List, [], ◌∷◌, ◌++◌, length, get_or, map, filter, flat_map, take, drop, zip, AllPairs, Contains, refl, sym, ◌∙◌, ap, subst, arith, eqb, eqb-true, eq-eqb, ne_eqb, ltb, mod-lt, div-add-mod'}
+use Rattle.std.proofs.Common.{◌≡◌, ◌≢◌, ℕ, zero, suc, ◌+◌, ◌-◌, ◌*◌, ◌/◌, ◌%◌, ◌<◌, ◌≤◌, ◌⊎◌, inl, inr, Bool, true, false, cond, List, [], ◌∷◌, ◌++◌, length, get_or, map, filter, flat_map, take, drop, zip, AllPairs, Contains, refl, sym, ◌∙◌, ap, subst, arith, eqb, eq-eqb, ne_eqb, ltb, mod-lt, div-add-mod'}
 use Rattle.std.specs.List.{range_with_len, slice_range}
 use Rattle.std.specs.List.Sorted.{IsStrictlyIncreasing}
-use Rattle.std.proofs.lemmas.Bool.{cases_lt, false≢true}
+use Rattle.std.proofs.lemmas.Bool.{cases_lt}
 use Rattle.std.proofs.lemmas.List.{drop-drop, get_or_default}
 use Rattle.std.proofs.lemmas.List.Concat.{flat_map-cons}
 use Rattle.std.proofs.lemmas.List.Folds.{flat_map-map}
@@ -13,15 +13,15 @@ use Rattle.std.proofs.Math.Nat.{mul-le-mul_right}
 use Rattle.std.proofs.Math.Seq.{drop-cons, take-add, take-length}
 use Rattle.g1_words.proofs.Firsts.{Distinct, Distinct-firsts}
 use Rattle.g1_words.proofs.Indices.{In-take}
-use Rattle.g1_words.proofs.Members.{In, In-from_contains, Contains-from_in, in_from_has}
+use Rattle.g1_words.proofs.Members.{In, Contains-from_in, in_from_has}
 use Rattle.g1_words.proofs.NextFit.{offset_of_row}
 use Rattle.g1_words.proofs.OneToOne.{reached_in_set, reached_object}
 use Rattle.g1_words.proofs.Ordered.{Ordered, pairs_from_ordered}
 use Rattle.g1_words.proofs.Rising.{Ordered-filter, Ordered-range}
 use Rattle.g1_words.proofs.Sound.{sound}
 use Rattle.g1_words.specs.Heap.{Heap, is_free, kind, object_at, region_of, regions}
-use Rattle.g1_words.specs.Layout.{forward, free_regions, laid, moved_to, need, places, row_address, sizes_of, to_space}
-use Rattle.g1_words.specs.Survivors.{AllOrdinary, Survivors, children, seeds, firsts}
+use Rattle.g1_words.specs.Layout.{forward, free_regions, laid, moved_to, need, places, sizes_of, to_space}
+use Rattle.g1_words.specs.Survivors.{AllOrdinary, Survivors, children, seeds}
 use Rattle.g1_words.specs.Valid.{IsValid}
 use Rattle.g1_layout.proofs.Conditions.{can_lay}
 use Rattle.g1_layout.proofs.Running.{after_lies, count_places, count_row, count_sizes, fits, in_stretch, laid_before-more, needed, only_region, place_is, place_region, rises, row_apart, size_is, stretch_lies, none_before}

@@ -1,4 +1,4 @@
-use Rattle.std.proofs.Common.{◌≡◌, ◌+◌, ◌*◌, ◌/◌, ◌%◌, ◌<◌, ◌++◌, ◌∷◌, [], length, get_or, ap, subst, sym, ◌∙◌, arith}
+use Rattle.std.proofs.Common.{◌≡◌, ◌+◌, ◌*◌, ◌/◌, ◌%◌, ◌++◌, ◌∷◌, [], length, get_or, ap, subst, sym, ◌∙◌, arith}
 use Rattle.std.proofs.lemmas.List.{length-take-le}
 use Rattle.g1_words.specs.Layout.{free_regions, need, next_fit, to_space}
 use Rattle.g1_layout.proofs.Laying.{Laying-in_need, Placing, Placing-step}

@@ -1,4 +1,4 @@
-use Rattle.std.proofs.Common.{◌≡◌, ◌/◌, length, get_or, ap, sym, ◌∙◌, arith}
+use Rattle.std.proofs.Common.{◌/◌, length, get_or, ap, sym, ◌∙◌, arith}
 use Rattle.g1_layout.proofs.Running.{Running-end, count_places}
 use Rattle.g1_layout.proofs.placing.run_from.Goals as goal
 

@@ -1,4 +1,4 @@
-use Rattle.std.proofs.Common.{◌≡◌, ◌+◌, ℕ, true, false, length, filter, arith, ap, sym, ◌∙◌}
+use Rattle.std.proofs.Common.{◌≡◌, ◌+◌, ℕ, true, false, length, filter, arith, ap, ◌∙◌}
 use Rattle.std.specs.List.{range_with_len}
 use Rattle.g1_words.specs.Heap.{is_free, kind}
 use Rattle.g1_layout.proofs.Lists.{filter_more_no, filter_more_yes, length-snoc}

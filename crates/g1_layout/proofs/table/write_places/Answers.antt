@@ -1,5 +1,4 @@
-use Rattle.std.proofs.Common.{◌≡◌, ◌+◌, ℕ, Some, take, get_or, ap, subst, sym, ◌∙◌}
-use Rattle.g1_words.specs.Layout.{moved_to}
+use Rattle.std.proofs.Common.{◌≡◌, Some, get_or, ap, subst, sym, ◌∙◌}
 use Rattle.g1_layout.specs.Words.{IsTable, index_of, goes_to}
 use Rattle.g1_layout.proofs.Forwarding.{forwards_one_more, table_stays}
 use Rattle.g1_layout.proofs.table.write_places.Goals as goal
