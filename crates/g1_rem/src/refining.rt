@@ -19,7 +19,7 @@ use rayon::prelude::*;
 use std::alloc::Global;
 use std::thread::Threads;
 
-/// A region's set takes microseconds to copy: a thread of its own pays from some tens of regions on.
+/// How many regions are worth a thread of their own: one set alone is a small task.
 const LEAST_PIECE: usize = 64;
 
 /// The dirty cards, rising.
