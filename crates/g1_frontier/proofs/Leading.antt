@@ -50,12 +50,12 @@ pub refined_lead_in : RefinedLeadIn
 refined_lead_in i window cards good covered below are = (
   (λ c k. ((are c).0 k).1),
   (λ e c t f.
-    let h : Heap = i.heap in
-    let there : In window (region_of i.heap e.target) = in_from_has window (region_of i.heap e.target) t in
-    let lt : region_of i.heap e.target < i.heap.geometry.n = all_in (λ r. r < i.heap.geometry.n) window (region_of i.heap e.target) below there in
-    let d : region_of i.heap e.slot ≢ region_of i.heap e.target = λ z. false≢true (sym f ∙ ap (has window) z ∙ t) in
-    let out : in_set i.heap window (card_of i.heap e.slot * i.heap.geometry.k) ≡ false = ap (has window) (card_home i good e.slot) ∙ f in
-    (are (card_of i.heap e.slot)).1 ((region_of i.heap e.target, Contains-from_in window (region_of i.heap e.target) there, on_refined i good covered e c lt d), out)),
+      let h : Heap = i.heap in
+      let there : In window (region_of i.heap e.target) = in_from_has window (region_of i.heap e.target) t in
+      let lt : region_of i.heap e.target < i.heap.geometry.n = all_in (λ r. r < i.heap.geometry.n) window (region_of i.heap e.target) below there in
+      let d : region_of i.heap e.slot ≢ region_of i.heap e.target = λ z. false≢true (sym f ∙ ap (has window) z ∙ t) in
+      let out : in_set i.heap window (card_of i.heap e.slot * i.heap.geometry.k) ≡ false = ap (has window) (card_home i good e.slot) ∙ f in
+      (are (card_of i.heap e.slot)).1 ((region_of i.heap e.target, Contains-from_in window (region_of i.heap e.target) there, on_refined i good covered e c lt d), out)),
 )
 
 pub refined_leads_in : RefinedLeadsIn
@@ -65,8 +65,7 @@ refined_leads_in i r good covered lt =
       (λ k. ((r, Contains-from_in (r ∷ []) r (inl refl), k), same_bool (has (r ∷ []) (c * i.heap.geometry.k / i.heap.geometry.w)) (λ t. only c k (in_from_has (r ∷ []) (c * i.heap.geometry.k / i.heap.geometry.w) t)))),
       (λ k. subst (λ q. Contains (refined i q) c) (single k.0.0 (In-from_contains (r ∷ []) k.0.0 k.0.1)) k.0.2),
     ) in
-    let lead = refined_lead_in i (r ∷ []) (refined i r) good covered (all_from_in (λ q. q < i.heap.geometry.n) (r ∷ []) (λ q k. subst (λ z. z < i.heap.geometry.n) (sym (single q k)) lt)) are in
-    (
+    let lead = refined_lead_in i (r ∷ []) (refined i r) good covered (all_from_in (λ q. q < i.heap.geometry.n) (r ∷ []) (λ q k. subst (λ z. z < i.heap.geometry.n) (sym (single q k)) lt)) are in (
       record {
         rise = cards_rise i.heap (is_refined i r);
         below = all_from_in (λ c. c < card_count i.heap) (refined i r) (λ c k. refined_below i good r c (Contains-from_in (refined i r) c k));
@@ -105,7 +104,7 @@ module _ {A : Type 0} (f : A → List ℕ) (t i : Image) (h : Heap) (sets : List
       let count : length (regions t.heap) ≡ t.heap.geometry.n = length-range_with_len 0 t.heap.geometry.n in
       let number : get_or (regions t.heap) r 0 ≡ r = get_or-range_with_len 0 t.heap.geometry.n r 0 there ∙ (let e : 0 + r ≡ r = omega arith in e) in
       let read : cards ≡ refined t r =
-          its ∙ ap f at ∙ sym (get_of_map f sets r v [] low) ∙ ap (λ l. get_or l r []) all ∙ read_at t (regions t.heap) r (omega (arith, there, count)) ∙ ap (refined t) number in
+      its ∙ ap f at ∙ sym (get_of_map f sets r v [] low) ∙ ap (λ l. get_or l r []) all ∙ read_at t (regions t.heap) r (omega (arith, there, count)) ∙ ap (refined t) number in
       let good' : IsImage t = subst IsImage same good in
       let k = refined_leads_in t r good' covered there in
       let to_heap : t.heap ≡ h = ap (λ (j : Image). j.heap) (sym same) ∙ sym heap in

@@ -16,7 +16,9 @@ const MAGIC: [u8; 8] = *b"G1IMAGE1";
 const SIZE: u64 = 4_294_967_296;
 
 /// The roots name 18, then 16.
-const TWO_ROOTS: [u32; 22] = [16, 4, 4, 2, 0, 4, 0, 0, 1, 6, 0, 0, 0, 0, 19, 0, 17, 0, 0, 0, 0, 0];
+const TWO_ROOTS: [u32; 22] = [
+    16, 4, 4, 2, 0, 4, 0, 0, 1, 6, 0, 0, 0, 0, 19, 0, 17, 0, 0, 0, 0, 0,
+];
 
 const TWO_ROOTS_WORDS: [u64; 6] = [2 * SIZE, 5, 4 * SIZE, 6, 7, 8];
 
@@ -88,7 +90,17 @@ fn survivors<R: Threads + Sync, G: Gate + Sync>(
     let starts = Starts::build(alloc, heap)?;
     let sets = refine(rt, alloc, &tracked, &starts)?;
     let window: [u32; 1] = [1];
-    discover(rt, alloc, heap, &starts, &window, sets[1].as_slice(), workers, chunk, gate)
+    discover(
+        rt,
+        alloc,
+        heap,
+        &starts,
+        &window,
+        sets[1].as_slice(),
+        workers,
+        chunk,
+        gate,
+    )
 }
 
 /// Tells whether these are the survivors, for few and many workers and for small and large chunks.
@@ -173,7 +185,10 @@ fn together(rt: HostRuntime) -> Result<(), Fail> {
         missed: AtomicBool::new(false),
     };
     let text = text_of(rt.alloc(), &SHARED, &shared_words())?;
-    assert_eq!(rt; survivors(&rt, rt.alloc(), &text, 2, 1, &gate)?.as_slice(), [21, 16].as_slice());
+    assert_eq!(rt;
+        survivors(&rt, rt.alloc(), &text, 2, 1, &gate)?.as_slice(),
+        [21, 16].as_slice()
+    );
     assert!(rt; !gate.missed.load(Ordering::SeqCst));
     Ok(())
 }

@@ -1,7 +1,6 @@
 -- The bytes of each region, object by object.
-use Rattle.std.proofs.Common.{◌≡◌, ◌≢◌, ◌≤◌, ◌<◌, ℕ, zero, suc, ◌+◌, ◌*◌, ◌/◌, ◌%◌, ◌^◌, inl, inr, Bool, true, false, List, [], ◌∷◌, ◌++◌, map, filter, flat_map, length, get_or, set, take, drop, slice_index, replicate, Contains, arith, refl, sym, ap, subst, ◌∙◌, eqb, length-set, get_or-set_same, get_or-set_other}
-use Rattle.std.specs.List.{range_with_len, All}
-use Rattle.std.proofs.lemmas.List.{take_more}
+use Rattle.std.proofs.Common.{◌≡◌, ◌≢◌, ◌≤◌, ◌<◌, ℕ, zero, suc, ◌+◌, ◌*◌, ◌/◌, ◌^◌, Bool, List, [], ◌∷◌, ◌++◌, map, filter, flat_map, length, get_or, set, take, drop, slice_index, replicate, Contains, arith, refl, sym, ap, subst, ◌∙◌, eqb, length-set, get_or-set_same, get_or-set_other}
+use Rattle.std.specs.List.{range_with_len}
 use native.Mathlib.Decide.{ℕ_discrete}
 use Rattle.g1_words.specs.declared.object.Object.{Object}
 use Rattle.g1_words.specs.Heap.{Heap, word, regions, region_of, objects, objects_in, object_at}
@@ -116,8 +115,8 @@ module _ (h : Heap) (valid : IsValid h) where
               subst (λ q. slice_index (set bytes region (slice_index bytes region + 8 * size)) q ≡ bytes_where h (has (front ++ a ∷ [])) q) (sym same)
               (get_or-set_same bytes region (slice_index bytes region + 8 * size) 0 (omega (arith, e, region_there, b.one_each))
               ∙ (let k : slice_index bytes region ≡ bytes_where h (has front) region = b.each region (omega (arith, e, region_there)) in
-                 let m : bytes_where h (has (front ++ a ∷ [])) region ≡ bytes_where h (has front) region + 8 * (word h a / 2 ^ 32) = subst (λ q. bytes_where h (has (front ++ a ∷ [])) q ≡ bytes_where h (has front) q + 8 * (word h a / 2 ^ 32)) (sym e) bytes_here in
-                 omega (arith, k, m, f)))
+              let m : bytes_where h (has (front ++ a ∷ [])) region ≡ bytes_where h (has front) region + 8 * (word h a / 2 ^ 32) = subst (λ q. bytes_where h (has (front ++ a ∷ [])) q ≡ bytes_where h (has front) q + 8 * (word h a / 2 ^ 32)) (sym e) bytes_here in
+              omega (arith, k, m, f)))
           | no d ↦ get_or-set_other bytes region r (slice_index bytes region + 8 * size) 0 d ∙ b.each r lt ∙ sym (bytes_else r (λ z. d (z ∙ sym e)))
         ];
       }

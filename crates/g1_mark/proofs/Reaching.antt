@@ -1,5 +1,5 @@
 -- What is reached in the used regions is what the roots reach.
-use Rattle.std.proofs.Common.{◌≡◌, ◌↔◌, ℕ, inl, inr, Bool, true, false, not, ◌&&◌, List, map, filter, flat_map, Contains, refl, sym, ap, subst, ◌∙◌}
+use Rattle.std.proofs.Common.{◌≡◌, ℕ, inl, inr, Bool, true, false, not, ◌&&◌, map, filter, Contains, subst}
 use Rattle.std.proofs.lemmas.Bool.{false≢true}
 use Rattle.g1_words.specs.Heap.{Heap, object_at, objects}
 use Rattle.g1_words.specs.Live.{Reached, seed, child, Live}

@@ -1,9 +1,9 @@
 -- Sizes of objects, added up.
-use Rattle.std.proofs.Common.{◌≡◌, ◌≢◌, ◌≤◌, ◌<◌, ℕ, zero, suc, ◌+◌, ◌*◌, inl, inr, Bool, true, false, cond, not, ◌||◌, List, [], ◌∷◌, ◌++◌, filter, flat_map, sum_by, arith, refl, sym, ap, subst, ◌∙◌, eqb, eqb-true, eq-eqb}
+use Rattle.std.proofs.Common.{◌≡◌, ◌≢◌, ◌≤◌, ◌<◌, ℕ, ◌+◌, inl, inr, Bool, true, false, cond, ◌||◌, List, [], ◌∷◌, ◌++◌, filter, flat_map, sum_by, arith, refl, ap, subst, ◌∙◌, eqb, eqb-true, eq-eqb}
 use Rattle.std.proofs.lemmas.List.Sums.{sum_by-cons}
 use Rattle.g1_words.specs.declared.object.Object.{Object}
 use Rattle.g1_words.specs.Lists.{has}
-use Rattle.g1_words.proofs.Members.{In, In-append_left, In-append_right, in_from_has}
+use Rattle.g1_words.proofs.Members.{In, In-append_left, in_from_has}
 use Rattle.g1_words.proofs.Ordered.{Ordered}
 use Rattle.g1_words.proofs.Rising.{IsBefore}
 
@@ -70,7 +70,7 @@ sizes_more v a (o ∷ os) d =
     let left = size_kept o (filter (λ o. has v o.at) os) (has v o.at) in
     let right = size_kept o (filter (λ o. eqb o.at a) os) (eqb o.at a) in
     let here : cond (has (v ++ a ∷ []) o.at) o.size 0 ≡ cond (has v o.at) o.size 0 + cond (eqb o.at a) o.size 0 =
-        ap (λ b. cond b o.size 0) (has_more v a o.at) ∙ one_of v a o.size o.at (has v o.at) (eqb o.at a) d refl refl in
+    ap (λ b. cond b o.size 0) (has_more v a o.at) ∙ one_of v a o.size o.at (has v o.at) (eqb o.at a) d refl refl in
     omega (arith, rest, both, left, right, here)
 
 -- no object at an address

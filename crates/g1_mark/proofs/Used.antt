@@ -1,7 +1,6 @@
 -- Every object and every slot lies in a used region.
-use Rattle.std.proofs.Common.{◌≡◌, ◌≢◌, ◌≤◌, ◌<◌, ℕ, zero, suc, ◌+◌, ◌-◌, inl, inr, Bool, true, false, cond, not, List, [], ◌∷◌, ◌++◌, filter, flat_map, Contains, arith, refl, sym, ap, subst, ◌∙◌}
+use Rattle.std.proofs.Common.{◌≡◌, ◌≢◌, ◌<◌, ℕ, ◌+◌, ◌-◌, Bool, true, cond, not, List, [], ◌∷◌, ◌++◌, filter, flat_map, Contains, arith, refl, sym, ap, subst, ◌∙◌}
 use Rattle.std.specs.List.{range_with_len, All}
-use Rattle.std.specs.List.Sorted.{IsStrictlyIncreasing}
 use Rattle.std.proofs.lemmas.List.Kept.{IsStrictlyIncreasing-filter}
 use Rattle.g1_words.specs.declared.object.Object.{Object}
 use Rattle.g1_words.specs.declared.region.Kind.{Kind}
@@ -12,10 +11,10 @@ use Rattle.g1_words.specs.References.{Ref, refs, refs_at, named}
 use Rattle.g1_words.specs.Survivors.{in_set}
 use Rattle.g1_words.specs.Valid.{IsValid}
 use Rattle.g1_words.proofs.Computed.{In-range, range_below, range_above}
-use Rattle.g1_words.proofs.Members.{In, In-from_contains, Contains-from_in, In-filter, filter_member, flat_map_cases, map_cases, has_from_in}
+use Rattle.g1_words.proofs.Members.{In, Contains-from_in, In-filter, filter_member, flat_map_cases, map_cases, has_from_in}
 use Rattle.g1_words.proofs.Shapes.{built}
 use Rattle.g1_words.proofs.Sound.{sound}
-use Rattle.g1_words.proofs.Standing.{home, word_used, stands_refs}
+use Rattle.g1_words.proofs.Standing.{home, word_used}
 use Rattle.g1_rem.proofs.Rising.{Rises-range, Rises-increasing}
 use Rattle.g1_frontier.specs.Window.{AreRegions}
 use Rattle.g1_frontier.proofs.Names.{range_more}

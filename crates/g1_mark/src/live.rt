@@ -36,6 +36,16 @@ pub fn live_bytes<R: Threads + Sync, G: Gate + Sync>(
 {
     let window = used_regions(alloc, heap)?;
     let cards: [u32; 0] = [];
-    let live = discover(rt, alloc, heap, starts, window.as_slice(), &cards, workers, chunk, gate)?;
+    let live = discover(
+        rt,
+        alloc,
+        heap,
+        starts,
+        window.as_slice(),
+        &cards,
+        workers,
+        chunk,
+        gate,
+    )?;
     Ok(bytes_at(alloc, heap, live.as_slice())?)
 }

@@ -95,6 +95,14 @@ fn dead_objects_do_not_count(rt: HostRuntime) -> Result<(), Fail> {
 #[test]
 fn a_humongous_object_counts_in_its_first_region(rt: HostRuntime) -> Result<(), Fail> {
     let words = long_object_words(rt.alloc())?;
-    assert!(rt; are_live_bytes(&rt, rt.alloc(), &LONG_OBJECT, words.as_slice(), &[320, 0, 0, 16, 0, 0])?);
+    assert!(rt;
+        are_live_bytes(
+            &rt,
+            rt.alloc(),
+            &LONG_OBJECT,
+            words.as_slice(),
+            &[320, 0, 0, 16, 0, 0]
+        )?
+    );
     Ok(())
 }

@@ -1,9 +1,8 @@
-use Rattle.std.proofs.Common.{arith, ℕ, List, [], ◌∷◌, ◌++◌, ◌≡◌, ◌<◌, ◌≤◌, ◌+◌, ◌*◌, ◌/◌, ◌^◌, ◌∙◌, ap, sym, subst, length, get_or, take, set, Contains}
+use Rattle.std.proofs.Common.{arith, ℕ, List, [], ◌∷◌, ◌++◌, ◌≡◌, ◌<◌, ◌+◌, ◌*◌, ◌/◌, ◌^◌, ◌∙◌, ap, sym, subst, length, get_or, take, set, Contains}
 use Rattle.std.proofs.lemmas.List.{take_more}
 use Rattle.g1_words.specs.Heap.{word, region_of, object_at, objects}
-use Rattle.g1_words.specs.Live.{bytes_where}
 use Rattle.g1_words.specs.Lists.{has}
-use Rattle.g1_frontier.proofs.Scopes.{all_in, In-get, read}
+use Rattle.g1_frontier.proofs.Scopes.{read}
 use Rattle.g1_frontier.proofs.Turns.{take_all}
 use Rattle.g1_mark.specs.Marked.{AreBytesOf}
 use Rattle.g1_mark.proofs.Counting.{zeros, bytes_few, bytes_here, region_there, word_there, counted_more, counted_none, counted_all, not_before}

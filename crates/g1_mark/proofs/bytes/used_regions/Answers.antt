@@ -1,4 +1,4 @@
-use Rattle.std.proofs.Common.{ℕ, Bool, true, false, ◌≡◌, ◌∙◌, ap, sym, not, List, append-nil}
+use Rattle.std.proofs.Common.{ℕ, Bool, true, false, ◌≡◌, ◌∙◌, ap, sym, not, append-nil}
 use Rattle.g1_words.specs.Heap.{kind, is_free}
 use Rattle.g1_mark.proofs.Used.{used_more}
 use Rattle.g1_mark.proofs.bytes.used_regions.Goals.{then-is_used+in_ok-push, else-is_used}

@@ -1,4 +1,4 @@
-use Rattle.std.proofs.Common.{ℕ, List, true, ◌≡◌, ◌∙◌, ap, sym, subst}
+use Rattle.std.proofs.Common.{◌≡◌, ◌∙◌, ap, sym, subst}
 use Rattle.std.specs.List.{All}
 use Rattle.std.proofs.lemmas.Bool.{false≢true}
 use Rattle.g1_words.specs.Heap.{object_at, objects}
