@@ -1,5 +1,9 @@
 //! What the roots reach of each region, and which regions a budget buys, line by line.
-use g1_choose::{Candidate, choose, live_within_used, order, total};
+ghost use Rattle.std.specs.Prelude.{◌≡◌, ◌<◌, length, map, All, IfOk};
+ghost use Rattle.g1_choose.specs.Cost.{IsCost};
+ghost use Rattle.g1_choose.specs.Choice.{MayBeLive, cost_of, IsChosen};
+
+use g1_choose::{Candidate, Cost, bought, choose, cost, live_within_used, order, total};
 use g1_mark::live_bytes;
 use g1_pause::Settings;
 use g1_rem::{Starts, Tracked, image, refine};
@@ -38,20 +42,60 @@ pub fn candidates<T: Threads + Sync>(
     let sets = refine(rt, alloc, tracked, &starts)?;
     let (workers, chunk) = (settings.workers(), settings.chunk());
     let live = live_bytes(rt, alloc, heap, &starts, workers, chunk, &Open)?;
-    let cost = settings.cost();
+    let parameters = settings.cost();
     let dirty = image(tracked).log().len() as u64;
     live_within_used();
-    let order = order(alloc, heap, &sets, &live, &cost)?;
-    let set = choose(alloc, heap, dirty, &sets, &live, &cost, budget)?;
-    let mut costs = Vec::new(alloc);
+    let order = order(alloc, heap, &sets, &live, &parameters)?;
+    let set = choose(alloc, heap, dirty, &sets, &live, &parameters, budget)?;
+    let total = total_of(alloc, heap, dirty, &sets, &live, &parameters, budget, &set)?;
     // What is chosen is the beginning of the order.
-    for candidate in order.iter().take(set.len()) {
-        costs.push(candidate.cost)?;
-    }
     let mut text = lines(alloc, &order, set.len())?;
-    let total = total(&cost, dirty, &costs);
     writeln!(text, "total {total}")?;
     Ok(text)
+}
+
+// What a pause costs that collects what the budget buys.
+fn total_of(
+    alloc: Global,
+    heap: &Heap,
+    dirty: u64,
+    sets: &[Vec<u32>],
+    live: &[u64],
+    parameters: &Cost,
+    budget: u64,
+    set: &[u32],
+) -> Result<u128, AllocError>
+    requires parameters { IsCost parameters.now }
+    requires sets { length sets.now ≡ heap.now.geometry.n }
+    requires live_bytes { MayBeLive heap.now live.now }
+    requires chosen { IsChosen parameters.now heap.now (map (λ s. s.items) sets.now) live.now dirty budget set.now }
+{
+    bought();
+    let costs = costs_of(alloc, heap, sets, live, parameters, set)?;
+    Ok(total(parameters, dirty, &costs))
+}
+
+// What each of the regions costs.
+fn costs_of(
+    alloc: Global,
+    heap: &Heap,
+    sets: &[Vec<u32>],
+    live: &[u64],
+    parameters: &Cost,
+    set: &[u32],
+) -> Result<Vec<u128>, AllocError>
+    requires parameters { IsCost parameters.now }
+    requires sets { length sets.now ≡ heap.now.geometry.n }
+    requires live_bytes { MayBeLive heap.now live.now }
+    requires regions { All (λ r. r < heap.now.geometry.n) set.now }
+    ensures { IfOk result (λ v. v.items ≡ map (cost_of parameters.now heap.now (map (λ s. s.items) sets.now) live.now) set.now) }
+{
+    let mut costs = Vec::new(alloc);
+    for region in set {
+        let place = *region as usize;
+        costs.push(cost(parameters, sets[place].len() as u64, live[place]))?;
+    }
+    Ok(costs)
 }
 
 fn lines(alloc: Global, order: &[Candidate], taken: usize) -> Result<String, AllocError> {
