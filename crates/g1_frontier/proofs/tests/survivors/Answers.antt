@@ -1,4 +1,4 @@
-use Rattle.std.proofs.Common.{arith, ap, ◌≡◌, ◌<◌, ◌∙◌, ℕ, Vec, Global}
+use Rattle.std.proofs.Common.{arith, ap, ◌<◌, ℕ, Vec, Global}
 use Rattle.g1_frontier.proofs.Leading.{sets_one_each, one_leads_in}
 use Rattle.g1_frontier.proofs.tests.survivors.Goals as goal
 
