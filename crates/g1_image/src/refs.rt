@@ -29,11 +29,7 @@ fn no_marks(alloc: Global, count: u64) -> Result<Vec<bool>, Fault>
     ensures ok { IfOk result (λ v. v.items ≡ replicate count false) }
     ensures err { IfErr result (λ e. e ≡ Fault.Memory) }
 {
-    let mut marks = Vec::with_capacity(alloc, count as usize)?;
-    for _i in 0..count {
-        marks.push(false)?;
-    }
-    Ok(marks)
+    Ok(vec![in alloc; false; count as usize]?)
 }
 
 /// Marks the addresses where objects start.
