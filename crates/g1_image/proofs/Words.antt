@@ -1,13 +1,13 @@
 -- Words of 64 bits in bytes, and the words of regions.
-use Rattle.std.proofs.Common.{◌≡◌, ◌≤◌, ◌<◌, ℕ, zero, suc, ◌+◌, ◌-◌, ◌*◌, ◌^◌, List, [], ◌∷◌, ◌++◌, length, take, drop, replicate, arith, refl, sym, ap, ◌∙◌, append_assoc, length-append, length-drop, get_or-drop, slice_index, slice_index_or, add-one, drop-cons, min}
+use Rattle.std.proofs.Common.{◌≡◌, ◌≤◌, ◌<◌, ℕ, zero, suc, ◌+◌, ◌-◌, ◌*◌, ◌^◌, List, [], ◌∷◌, ◌++◌, length, take, drop, replicate, arith, refl, sym, ap, ◌∙◌, append_assoc, length-append, length-drop, get_or-drop, slice_index, slice_index_or, add-one, drop-cons, min, flat_map}
 use Rattle.std.proofs.lemmas.List.{append-nil, drop-drop, drop-take, drop_all, take_at}
 use borrow.Rule.Slice.PartMut.{put_mid, post_of}
 use Rattle.std.proofs.lemmas.List.Sums.{sum_by-append}
-use Rattle.g1_image.specs.Text.{Entry, u64, words_text, read_word, words_of, total}
+use Rattle.g1_image.specs.Text.{Entry, u32, u64, words_text, numbers_text, read_word, words_of, total}
 use Rattle.g1_image.specs.Reading.{IsU64, Are, IsBytes, EndsWithin}
 use Rattle.g1_image.specs.Image.{all_words}
 use Rattle.g1_image.proofs.Numbers.{u64_read, u64-length}
-use Rattle.byteorder.specs.Endian.{little_number}
+use Rattle.byteorder.specs.Endian.{little_number, little_bytes}
 use Rattle.byteorder.specs.Numbers.{little_from-take, little_from-lt}
 
 pub read_word-is : (bytes front : List ℕ) (x : ℕ) → front ≡ take 8 bytes → x ≡ little_number 8 front → x ≡ read_word bytes
@@ -96,6 +96,15 @@ tail_written s n len old items d dst a e f many l m =
     let back : post_of s (length d - s) d ≡ [] = drop_all (length d - s) (drop s d) (omega (arith, length-drop s d)) in
     let whole : put_mid s (length d - s) d dst ≡ old ++ dst = (λ t. front t ++ (dst ++ back t)) ∙ ap (λ x. old ++ x) (append-nil dst) in
     take_at (put_mid s (length d - s) d dst) (drop (length (put_mid s (length d - s) d dst)) items) len (omega (arith, ap length whole, length-append old dst, a, l, m)) ∙ whole
+
+-- what a writer of many numbers writes
+pub words_text-is : (xs : List ℕ) → flat_map (little_bytes 8) xs ≡ words_text xs
+unfolding u64
+words_text-is xs = refl
+
+pub numbers_text-is : (xs : List ℕ) → flat_map (little_bytes 4) xs ≡ numbers_text xs
+unfolding u32
+numbers_text-is xs = refl
 
 pub total-cons : (e : Entry) (es : List Entry) → total (e ∷ es) ≡ e.top + total es
 total-cons e es = omega (arith, sum_by-append (λ (e : Entry). e.top) (e ∷ []) es)

@@ -1,4 +1,4 @@
-use Rattle.std.proofs.Common.{arith, ◌≡◌, ◌++◌, replicate, ap, ◌∙◌, min, slice_index_or}
+use Rattle.std.proofs.Common.{arith, ◌≡◌, min, slice_index_or}
 use Rattle.g1_image.specs.Text.{Entry, words_of, total}
 use Rattle.g1_image.specs.Image.{all_words}
 use Rattle.g1_image.proofs.Words.{laid_step}
