@@ -1,12 +1,13 @@
 -- Words of 64 bits in bytes, and the words of regions.
-use Rattle.std.proofs.Common.{◌≡◌, ◌≤◌, ◌<◌, ℕ, zero, suc, ◌+◌, ◌-◌, ◌*◌, ◌^◌, List, [], ◌∷◌, ◌++◌, length, take, drop, replicate, arith, refl, sym, ap, ◌∙◌, append_assoc, length-append, length-drop, get_or-drop, slice_index_or, add-one, drop-cons, min}
-use Rattle.std.proofs.lemmas.List.{drop-drop}
+use Rattle.std.proofs.Common.{◌≡◌, ◌≤◌, ◌<◌, ℕ, zero, suc, ◌+◌, ◌-◌, ◌*◌, ◌^◌, List, [], ◌∷◌, ◌++◌, length, take, drop, replicate, arith, refl, sym, ap, ◌∙◌, append_assoc, length-append, length-drop, get_or-drop, slice_index, slice_index_or, add-one, drop-cons, min, flat_map}
+use Rattle.std.proofs.lemmas.List.{append-nil, drop-drop, drop-take, drop_all, take_at}
+use borrow.Rule.Slice.PartMut.{put_mid, post_of}
 use Rattle.std.proofs.lemmas.List.Sums.{sum_by-append}
-use Rattle.g1_image.specs.Text.{Entry, u64, words_text, read_word, words_of, total}
+use Rattle.g1_image.specs.Text.{Entry, u32, u64, words_text, numbers_text, read_word, words_of, total}
 use Rattle.g1_image.specs.Reading.{IsU64, Are, IsBytes, EndsWithin}
 use Rattle.g1_image.specs.Image.{all_words}
 use Rattle.g1_image.proofs.Numbers.{u64_read, u64-length}
-use Rattle.byteorder.specs.Endian.{little_number}
+use Rattle.byteorder.specs.Endian.{little_number, little_bytes}
 use Rattle.byteorder.specs.Numbers.{little_from-take, little_from-lt}
 
 pub read_word-is : (bytes front : List ℕ) (x : ℕ) → front ≡ take 8 bytes → x ≡ little_number 8 front → x ≡ read_word bytes
@@ -65,12 +66,45 @@ drop-words_of (suc m) zero s b e = absurd (omega arith)
 drop-words_of (suc m) (suc n) s b e =
     drop-words_of m n s (drop 8 b) (omega arith) ∙ ap (λ l. words_of s l) (drop-drop (8 * m) 8 b ∙ ap (λ k. drop k b) (let e : 8 + 8 * m ≡ 8 * suc m = omega arith in e))
 
--- one more word
-pub push_step : (out all rest after : List ℕ) (count i x : ℕ) → i < count → out ++ words_of (count - i) rest ≡ all → after ≡ drop 8 rest → x ≡ read_word rest →
-    (out ++ x ∷ []) ++ words_of (count - (i + 1)) after ≡ all
-push_step out all rest after count i x lt e a r =
-    let s : count - i ≡ suc (count - (i + 1)) = omega arith in
-    append_assoc out (x ∷ []) (words_of (count - (i + 1)) after) ∙ (λ t. out ++ r t ∷ words_of (count - (i + 1)) (a t)) ∙ ap (λ k. out ++ words_of k rest) (sym s) ∙ e
+-- words read all at once
+pub read_words-is : (n : ℕ) (bytes dst : List ℕ) → length dst ≡ n → ((k : ℕ) → k < length dst → slice_index dst k ≡ little_number 8 (drop (8 * k) bytes)) → dst ≡ words_of n bytes
+unfolding read_word
+read_words-is zero bytes [] e r = refl
+read_words-is zero bytes (x ∷ dst) e r = absurd (omega (arith, e))
+read_words-is (suc n) bytes [] e r = absurd (omega (arith, e))
+read_words-is (suc n) bytes (x ∷ dst) e r =
+    let first : x ≡ little_number 8 bytes = r 0 (omega arith) in
+    let past : (k : ℕ) → drop (8 * k) (drop 8 bytes) ≡ drop (8 * suc k) bytes =
+    λ k. drop-drop (8 * k) 8 bytes ∙ ap (λ k. drop k bytes) (let e : 8 + 8 * k ≡ 8 * suc k = omega arith in e) in
+    let rest : dst ≡ words_of n (drop 8 bytes) =
+    read_words-is n (drop 8 bytes) dst (omega (arith, e)) (λ k lt. r (suc k) (omega (arith, lt)) ∙ ap (λ l. little_number 8 l) (sym (past k))) in
+    λ t. first t ∷ rest t
+
+pub words_of-take : (n : ℕ) (b : List ℕ) → words_of n (take (8 * n) b) ≡ words_of n b
+unfolding read_word
+words_of-take zero b = refl
+words_of-take (suc n) b =
+    let first : little_number 8 (take (8 * suc n) b) ≡ little_number 8 b = little_from-take 0 8 (8 * suc n) b (omega arith) in
+    let rest : drop 8 (take (8 * suc n) b) ≡ take (8 * n) (drop 8 b) = ap (λ k. drop 8 (take k b)) (let e : 8 * suc n ≡ 8 + 8 * n = omega arith in e) ∙ drop-take 8 (8 * n) b in
+    (λ t. first t ∷ words_of n (rest t)) ∙ ap (λ l. read_word b ∷ l) (words_of-take n (drop 8 b))
+
+-- words written over the end of a list
+pub tail_written : (s n len : ℕ) (old items d dst : List ℕ) → s ≡ length old → items ≡ old ++ replicate n 0 → d ≡ items → length d ≡ s + n → len ≡ s + n → length dst ≡ n →
+    take len (put_mid s (length d - s) d dst ++ drop (length (put_mid s (length d - s) d dst)) items) ≡ old ++ dst
+tail_written s n len old items d dst a e f many l m =
+    let front : take s d ≡ old = ap (λ x. take s x) (f ∙ e) ∙ take_at old (replicate n 0) s (sym a) in
+    let back : post_of s (length d - s) d ≡ [] = drop_all (length d - s) (drop s d) (omega (arith, length-drop s d)) in
+    let whole : put_mid s (length d - s) d dst ≡ old ++ dst = (λ t. front t ++ (dst ++ back t)) ∙ ap (λ x. old ++ x) (append-nil dst) in
+    take_at (put_mid s (length d - s) d dst) (drop (length (put_mid s (length d - s) d dst)) items) len (omega (arith, ap length whole, length-append old dst, a, l, m)) ∙ whole
+
+-- what a writer of many numbers writes
+pub words_text-is : (xs : List ℕ) → flat_map (little_bytes 8) xs ≡ words_text xs
+unfolding u64
+words_text-is xs = refl
+
+pub numbers_text-is : (xs : List ℕ) → flat_map (little_bytes 4) xs ≡ numbers_text xs
+unfolding u32
+numbers_text-is xs = refl
 
 pub total-cons : (e : Entry) (es : List Entry) → total (e ∷ es) ≡ e.top + total es
 total-cons e es = omega (arith, sum_by-append (λ (e : Entry). e.top) (e ∷ []) es)

@@ -1,4 +1,4 @@
-ghost use Rattle.std.specs.Prelude.{◌≡◌, ◌≤◌, ◌<◌, ◌+◌, ◌*◌, ◌^◌, ℕ, List, length, slice_index, replicate, false, IsTrue, ◌↔◌, OnOk, IfOk, IfErr};
+ghost use Rattle.std.specs.Prelude.{◌≡◌, ◌≤◌, ◌<◌, ◌+◌, ◌*◌, ◌^◌, ℕ, List, length, slice_index, replicate, false, IsTrue, ◌↔◌, OnOk, IfOk, IfErr, IfSome, IfNone};
 ghost use Rattle.g1_words.specs.Heap.{region};
 ghost use Rattle.g1_words.specs.Valid.{IsShaped, IsReference};
 ghost use Rattle.g1_words.specs.Walk.{Reaches};
@@ -29,11 +29,7 @@ fn no_marks(alloc: Global, count: u64) -> Result<Vec<bool>, Fault>
     ensures ok { IfOk result (λ v. v.items ≡ replicate count false) }
     ensures err { IfErr result (λ e. e ≡ Fault.Memory) }
 {
-    let mut marks = Vec::with_capacity(alloc, count as usize)?;
-    for _i in 0..count {
-        marks.push(false)?;
-    }
-    Ok(marks)
+    Ok(vec![in alloc; false; count as usize]?)
 }
 
 /// Marks the addresses where objects start.
@@ -90,6 +86,20 @@ pub(crate) fn good_roots(draft: &Draft, marks: &[bool]) -> Result<(), Fault>
     Ok(())
 }
 
+/// Tells the first of some words that names no object.
+fn first_stray(draft: &Draft, marks: &[bool], words: &[u64]) -> Option<usize>
+    requires { StartsAre draft.now marks.now }
+    ensures found { IfSome result (λ i. IsFirstBreach (λ i. IsReference draft.now (slice_index words.now i)) (length words.now) i) }
+    ensures none { IfNone result ((i : ℕ) → i < length words.now → IsReference draft.now (slice_index words.now i)) }
+{
+    for (i, x) in words.iter().enumerate() {
+        if !is_reference(draft, marks, *x) {
+            return Some(i);
+        }
+    }
+    None
+}
+
 /// Tells the first slot that names no object.
 pub(crate) fn good_slots(draft: &Draft, marks: &[bool]) -> Result<(), Fault>
     requires starts { StartsAre draft.now marks.now }
@@ -98,15 +108,18 @@ pub(crate) fn good_slots(draft: &Draft, marks: &[bool]) -> Result<(), Fault>
     ensures err { IfErr result (λ e. (p : ℕ) × (e ≡ Fault.Reference (Place.Slot p)) × IsFirstBreach (IsGoodSlot draft.now) (draft.now.geometry.n * draft.now.geometry.w) p) }
 {
     let words = draft.words();
-    let mut left: u64 = 0;
-    for (p, x) in words.iter().enumerate() {
-        if marks[p] {
-            left = header(words, p as u64).refs;
-        } else if left > 0 {
-            if !is_reference(draft, marks, *x) {
-                return Err(Fault::Reference(Place::Slot(p as u64)));
+    let mut at = 0;
+    while at < words.len() {
+        if marks[at] {
+            let o = header(words, at as u64);
+            let first = at + 1;
+            let slots = &words[first..first + o.refs as usize];
+            if let Some(i) = first_stray(draft, marks, slots) {
+                return Err(Fault::Reference(Place::Slot((first + i) as u64)));
             }
-            left -= 1;
+            at += o.size as usize;
+        } else {
+            at += 1;
         }
     }
     Ok(())

@@ -1,4 +1,4 @@
-use Rattle.std.proofs.Common.{arith, ◌≡◌, ◌++◌, replicate, ap, ◌∙◌, min, slice_index_or}
+use Rattle.std.proofs.Common.{arith, ◌≡◌, min, slice_index_or}
 use Rattle.g1_image.specs.Text.{Entry, words_of, total}
 use Rattle.g1_image.specs.Image.{all_words}
 use Rattle.g1_image.proofs.Words.{laid_step}
@@ -13,5 +13,4 @@ loop-e-preserved c =
     elim c.if-e-w.branch [ then-e-w w ↦ omega (arith, w.used-is, w.if-e-w.true) | else-e-w w ↦ omega (arith, w.used-is, w.if-e-w.false) ] in
     laid_step c.args.w c.loop-e.e-index table none c.loop-e.out.items c.push_read.new.out.items c.push_zeros.new.out.items c.loop-e.rest.now c.split_at.result.1.now
     (all_words c.args.w table (words_of (total table) c.args.bytes.now)) c.if-e-w.used c.loop-e-test.true used c.loop-e.invariant.0 c.loop-e.invariant.1
-    (c.in_ok-push_read.ensures.ok ∙ ap (λ k. c.loop-e.out.items ++ words_of k c.loop-e.rest.now) c.from.ensures)
-    (c.in_ok-push_zeros.ensures.ok ∙ ap (λ k. c.push_read.new.out.items ++ replicate k 0) c.from-in-loop-e.ensures) c.split_at.ensures.back
+    c.in_ok-push_read.ensures.ok c.in_ok-push_zeros.ensures.ok c.split_at.ensures.back

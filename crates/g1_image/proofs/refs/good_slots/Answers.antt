@@ -1,45 +1,75 @@
-use Rattle.std.proofs.Common.{arith, ◌≡◌, ◌<◌, ◌+◌, length, slice_index, slice_index_or, refl, sym, ap, subst, ◌∙◌, false, true}
+use Rattle.std.proofs.Common.{arith, ◌≡◌, ◌≤◌, ◌<◌, ◌+◌, ◌*◌, ◌^◌, ℕ, List, length, slice_index, refl, sym, ap, subst, ◌∙◌, false, true}
+use Rattle.std.specs.List.{between}
+use Rattle.std.proofs.lemmas.List.Edits.{length-between, get_or-between}
 use Rattle.g1_words.specs.Valid.{IsReference}
 use Rattle.g1_image.specs.Marks.{StartsAt}
-use Rattle.g1_image.proofs.Slots.{Scanned, at_object, at_slot, at_data, bad_slot}
+use Rattle.g1_image.proofs.Slots.{SlotsBelow-end, SlotsBelow-none, SlotsBelow-object, object_fits, slot_breach}
 use Rattle.g1_image.proofs.refs.good_slots.Goals as goal
-use Rattle.g1_image.proofs.refs.good_slots.Goals.{then-marks-p, else-marks-p+then-left-gt0+else-not-is_reference, else-marks-p+else-left-gt0}
 
-pub bounds-marks-p : goal.bounds-marks-p
-bounds-marks-p c = omega (arith, c.requires.starts.count, c.words-words.ensures.draft.word_count, ap length c.words-words.ensures.same, c.loop-p-test.true)
+slot_is : (ws words : List ℕ) (from n i : ℕ) → ws ≡ words → i < n → slice_index (between from (from + n) ws) i ≡ slice_index words (from + i)
+slot_is ws words from n i e lt = get_or-between ws from (from + n) i 0 (omega (arith, lt)) ∙ ap (λ l. slice_index l (from + i)) e
 
-pub returns-then-not-is_reference-clause-err : goal.returns-then-not-is_reference-clause-err
-returns-then-not-is_reference-clause-err c =
+slot_count : (ws : List ℕ) (from n : ℕ) → from + n ≤ length ws → length (between from (from + n) ws) ≡ n
+slot_count ws from n le = omega (arith, length-between ws from (from + n) le)
+
+pub slice_bounds-slots-end : goal.slice_bounds-slots-end
+slice_bounds-slots-end c =
     let h = c.args.draft.now in
-    let p = c.loop-p.p in
-    let bad : IsReference h (slice_index h.words p) → ⊥ = λ r. let e : false ≡ true = c.if-not-is_reference.ensures.1 (subst (λ ws. IsReference h (slice_index ws p)) (sym c.words-words.ensures.same) r) in cc in (
-      p,
+    let some : 0 < h.geometry.w = omega (arith, c.words-words.ensures.draft.limits.w_least) in
+    let word : slice_index h.words c.loop-at.at ≡ c.header-o.result.size * 2 ^ 32 + c.header-o.result.refs = ap (λ ws. slice_index ws c.loop-at.at) (sym c.words-words.ensures.same) ∙ c.header-o.ensures.word in
+    let fits = object_fits h c.loop-at.at c.header-o.result some c.requires.shaped (c.requires.starts.each.sound c.loop-at.at c.if-marks-at.true) word c.header-o.ensures.refs c.header-o.ensures.size in
+    omega (arith, fits.0, fits.1, c.words-words.ensures.draft.word_count, ap length c.words-words.ensures.same)
+
+pub returns-in-Some-clause-err : goal.returns-in-Some-clause-err
+returns-in-Some-clause-err c =
+    let h = c.args.draft.now in
+    let ws = c.words-words.result.now in
+    let at = c.loop-at.at in
+    let q = c.header-o.result in
+    let i = c.in-Some.i in
+    let some : 0 < h.geometry.w = omega (arith, c.words-words.ensures.draft.limits.w_least) in
+    let word : slice_index h.words at ≡ q.size * 2 ^ 32 + q.refs = ap (λ ws. slice_index ws at) (sym c.words-words.ensures.same) ∙ c.header-o.ensures.word in
+    let start : StartsAt h at = c.requires.starts.each.sound at c.if-marks-at.true in
+    let fits = object_fits h at q some c.requires.shaped start word c.header-o.ensures.refs c.header-o.ensures.size in
+    let count : length (between (at + 1) (at + 1 + q.refs) ws) ≡ q.refs =
+    slot_count ws (at + 1) q.refs (omega (arith, fits.0, fits.1, c.words-words.ensures.draft.word_count, ap length c.words-words.ensures.same)) in
+    let first = c.in-Some.ensures.found in
+    let lt : i < q.refs = omega (arith, first.within, count) in (
+      at + 1 + i,
       refl,
-      record {
-        within = omega (arith, c.words-words.ensures.draft.word_count, ap length c.words-words.ensures.same, c.loop-p-test.true);
-        breach = bad_slot h p c.loop-p.left (omega (arith, c.words-words.ensures.draft.limits.w_least)) c.requires.shaped c.loop-p.invariant c.if-left-gt0.true bad;
-        before = c.loop-p.invariant.good;
-      },
+      slot_breach h at q some c.requires.shaped start word c.header-o.ensures.refs c.header-o.ensures.size c.loop-at.invariant i lt
+          (λ r. first.breach (subst (λ x. IsReference h x) (sym (slot_is ws h.words (at + 1) q.refs i c.words-words.ensures.same lt)) r))
+          (λ k less. subst (λ x. IsReference h x) (slot_is ws h.words (at + 1) q.refs k c.words-words.ensures.same (omega (arith, less, lt))) (first.before k less)),
     )
 
-pub loop-p-preserved : goal.loop-p-preserved
-loop-p-preserved c =
+pub loop-at-smaller-then-marks-at : goal.loop-at-smaller-then-marks-at
+loop-at-smaller-then-marks-at c =
     let h = c.args.draft.now in
-    let p = c.loop-p.p in
     let some : 0 < h.geometry.w = omega (arith, c.words-words.ensures.draft.limits.w_least) in
-    let off : slice_index_or c.args.marks.now p false ≡ false → StartsAt h p → ⊥ = λ m s. let e : false ≡ true = sym m ∙ c.requires.starts.each.whole p s in cc in
-    elim c.if-marks-p.branch [
-      | then-marks-p w ↦
-          subst (λ x. Scanned h (p + 1) x) (sym w.left-is)
-          (at_object h p c.loop-p.left some c.requires.shaped c.loop-p.invariant w.header-left.result (ap (λ ws. slice_index ws p) (sym c.words-words.ensures.same) ∙ w.header-left.ensures.word)
-          w.header-left.ensures.refs w.header-left.ensures.size (c.requires.starts.each.sound p w.if-marks-p.true))
-      | else-marks-p+then-left-gt0+else-not-is_reference w ↦
-          subst (λ x. Scanned h (p + 1) x) (sym w.left-is)
-          (at_slot h p c.loop-p.left some c.requires.shaped c.loop-p.invariant (off w.if-marks-p.false) w.if-left-gt0.true
-          (subst (λ ws. IsReference h (slice_index ws p)) c.words-words.ensures.same (w.if-not-is_reference.ensures.0 refl)))
-      | else-marks-p+else-left-gt0 w ↦
-          subst (λ x. Scanned h (p + 1) x) (sym w.left-is) (at_data h p c.loop-p.left some c.requires.shaped c.loop-p.invariant (off w.if-marks-p.false) w.if-left-gt0.false)
-    ]
+    let word : slice_index h.words c.loop-at.at ≡ c.header-o.result.size * 2 ^ 32 + c.header-o.result.refs = ap (λ ws. slice_index ws c.loop-at.at) (sym c.words-words.ensures.same) ∙ c.header-o.ensures.word in
+    let fits = object_fits h c.loop-at.at c.header-o.result some c.requires.shaped (c.requires.starts.each.sound c.loop-at.at c.if-marks-at.true) word c.header-o.ensures.refs c.header-o.ensures.size in
+    omega (arith, fits.0, c.loop-at-test.true)
+
+pub loop-at-preserved-then-marks-at : goal.loop-at-preserved-then-marks-at
+loop-at-preserved-then-marks-at c =
+    let h = c.args.draft.now in
+    let ws = c.words-words.result.now in
+    let at = c.loop-at.at in
+    let q = c.header-o.result in
+    let some : 0 < h.geometry.w = omega (arith, c.words-words.ensures.draft.limits.w_least) in
+    let word : slice_index h.words at ≡ q.size * 2 ^ 32 + q.refs = ap (λ ws. slice_index ws at) (sym c.words-words.ensures.same) ∙ c.header-o.ensures.word in
+    let start : StartsAt h at = c.requires.starts.each.sound at c.if-marks-at.true in
+    let fits = object_fits h at q some c.requires.shaped start word c.header-o.ensures.refs c.header-o.ensures.size in
+    let count : length (between (at + 1) (at + 1 + q.refs) ws) ≡ q.refs =
+    slot_count ws (at + 1) q.refs (omega (arith, fits.0, fits.1, c.words-words.ensures.draft.word_count, ap length c.words-words.ensures.same)) in
+    SlotsBelow-object h at q some c.requires.shaped start word c.header-o.ensures.refs c.header-o.ensures.size c.loop-at.invariant
+    (λ i lt. subst (λ x. IsReference h x) (slot_is ws h.words (at + 1) q.refs i c.words-words.ensures.same lt) (c.in_default.ensures.none i (omega (arith, count, lt))))
+
+pub loop-at-preserved : goal.loop-at-preserved
+loop-at-preserved c =
+    let none : StartsAt c.args.draft.now c.loop-at.at → ⊥ = λ s. let e : false ≡ true = sym c.if-marks-at.false ∙ c.requires.starts.each.whole c.loop-at.at s in cc in
+    SlotsBelow-none c.args.draft.now c.loop-at.at c.loop-at.invariant none
 
 pub returns-clause-ok : goal.returns-clause-ok
-returns-clause-ok c = λ p lt. c.loop-p.invariant.good p (omega (arith, c.loop-p-test.false, c.words-words.ensures.draft.word_count, ap length c.words-words.ensures.same, lt))
+returns-clause-ok c = λ p lt.
+    SlotsBelow-end c.args.draft.now c.loop-at.at p c.loop-at.invariant (omega (arith, c.loop-at-test.false, c.words-words.ensures.draft.word_count, ap length c.words-words.ensures.same, lt))
