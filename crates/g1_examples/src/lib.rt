@@ -71,6 +71,6 @@ pub fn texts()
 {}
 
 #[cfg(test)]
-mod tests;
-#[cfg(test)]
 mod layout_tests;
+#[cfg(test)]
+mod tests;

@@ -1,4 +1,4 @@
-use crate::{card_of, region_of, slots_of, Device, Fault, Geometry, Object, Place, Stand};
+use crate::{Device, Fault, Geometry, Object, Place, Stand, card_of, region_of, slots_of};
 use std::test::Fail;
 
 #[test]
@@ -33,7 +33,12 @@ fn each_fault_has_its_number_and_its_text(rt: HostRuntime) -> Result<(), Fail> {
 
 #[test]
 fn sizes_at_the_limits(rt: HostRuntime) {
-    for (w, k, n) in [(16, 4, 1), (16, 16, 4_096), (65_536, 64, 256), (4_096, 64, 4_096)] {
+    for (w, k, n) in [
+        (16, 4, 1),
+        (16, 16, 4_096),
+        (65_536, 64, 256),
+        (4_096, 64, 4_096),
+    ] {
         assert!(rt; Geometry::new(w, k, n).is_ok(), "{w} {k} {n}");
     }
     let refused = [
@@ -48,14 +53,23 @@ fn sizes_at_the_limits(rt: HostRuntime) {
         (65_536, 64, 257),
     ];
     for (w, k, n) in refused {
-        assert!(rt; Geometry::new(w, k, n) == Err(Fault::Geometry), "{w} {k} {n}");
+        assert!(rt;
+            Geometry::new(w, k, n) == Err(Fault::Geometry),
+            "{w} {k} {n}"
+        );
     }
 }
 
 #[test]
 fn addresses_by_division(rt: HostRuntime) -> Result<(), Fail> {
     let geometry = Geometry::new(16, 4, 4)?;
-    for (address, region, card) in [(0, 0, 0), (15, 0, 3), (16, 1, 4), (63, 3, 15), (640, 40, 160)] {
+    for (address, region, card) in [
+        (0, 0, 0),
+        (15, 0, 3),
+        (16, 1, 4),
+        (63, 3, 15),
+        (640, 40, 160),
+    ] {
         assert_eq!(rt; region_of(&geometry, address), region);
         assert_eq!(rt; card_of(&geometry, address), card);
     }

@@ -11,7 +11,10 @@ pub enum Request {
     /// This text, which tells how the program is used.
     Help(String),
     /// The table of an image, or its text where it is to be packed again.
-    Show { sharing: Sharing, repack: bool },
+    Show {
+        sharing: Sharing,
+        repack: bool,
+    },
     /// Whether every reference into another region is covered.
     Check,
     /// The live bytes of each region.
@@ -63,8 +66,18 @@ fn option<'a>(alloc: Global, id: &'a str, default: &'a str, help: &'a str) -> Ar
 
 fn shared<'a>(alloc: Global, name: &'a str) -> Result<Command<'a>, AllocError> {
     Command::new(alloc, name)
-        .arg(option(alloc, "workers", "1", "How many workers share the work, 1 to 64"))?
-        .arg(option(alloc, "chunk", "64", "How many items a worker draws at once"))
+        .arg(option(
+            alloc,
+            "workers",
+            "1",
+            "How many workers share the work, 1 to 64",
+        ))?
+        .arg(option(
+            alloc,
+            "chunk",
+            "64",
+            "How many items a worker draws at once",
+        ))
 }
 
 fn show<'a>(alloc: Global) -> Result<Command<'a>, AllocError> {
@@ -94,8 +107,9 @@ fn choose<'a>(alloc: Global) -> Result<Command<'a>, AllocError> {
 }
 
 fn command<'a>(alloc: Global) -> Result<Command<'a>, AllocError> {
-    let check = Command::new(alloc, "check")
-        .about("Tells whether every reference into another region is covered");
+    let check = Command::new(alloc, "check").about(
+        "Tells whether every reference into another region is covered",
+    );
     let live = shared(alloc, "live")?.about("Prints the live bytes of each region");
     Command::new(alloc, "g1pause")
         .no_binary_name(true)
@@ -127,7 +141,9 @@ fn number<'a>(
     match whole(text) {
         Some(value) => Ok(value),
         None => {
-            let message = format!(in alloc; "invalid value '{text}' for '--{id}': not a whole number below 2^64")?;
+            let message = format!(in alloc;
+                "invalid value '{text}' for '--{id}': not a whole number below 2^64"
+            )?;
             Err(command.error(ErrorKind::ValueValidation, message.as_str())?)
         }
     }

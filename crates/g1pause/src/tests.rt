@@ -244,7 +244,11 @@ fn shows_tables(rt: HostRuntime) -> Result<(), Fail> {
         (HUMONGOUS, humongous),
     ] {
         let image = image_of(alloc, tokens)?;
-        for line in ["show", "show --workers 3 --chunk 1", "show --workers 64 --chunk 65536"] {
+        for line in [
+            "show",
+            "show --workers 3 --chunk 1",
+            "show --workers 64 --chunk 65536",
+        ] {
             expect_answer(&rt, alloc, line, image.as_slice(), table.as_bytes())?;
         }
     }
@@ -494,9 +498,15 @@ fn numbers_out_of_range_come_before_the_input(rt: HostRuntime) -> Result<(), Fai
     let alloc = rt.alloc();
     for (line, told) in [
         ("show --workers 0", "g1pause: fault 12: setting 1\n"),
-        ("show --workers 65 --chunk 0", "g1pause: fault 12: setting 1\n"),
+        (
+            "show --workers 65 --chunk 0",
+            "g1pause: fault 12: setting 1\n",
+        ),
         ("live --chunk 65537", "g1pause: fault 12: setting 2\n"),
-        ("choose --card 4294967296 --budget 1", "g1pause: fault 12: setting 3\n"),
+        (
+            "choose --card 4294967296 --budget 1",
+            "g1pause: fault 12: setting 3\n",
+        ),
     ] {
         let mut reader = Failing {
             bytes: Vec::new(alloc),
