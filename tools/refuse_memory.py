@@ -1,8 +1,7 @@
 #!/usr/bin/env python3
 """refuse_memory.py BINARY [IMAGE ..]
 
-Runs the built program on each image (default: examples/*.img) as `show` and as `show --repack` while
-requests for memory are refused: every request, all from the Nth on, and the Nth alone, for N from 1
+Runs each of the built program's commands on each image (default: examples/*.img) while requests for memory are refused: every request, all from the Nth on, and the Nth alone, for N from 1
 until a run meets no refusal. Each run has to answer what the program answers with ample memory, or
 `g1pause: fault 13: memory` with status 6 and nothing on standard output. Each image is also tried cut
 short by a byte, where the fault found before memory was needed may come, but never an image.
@@ -65,6 +64,7 @@ void *aligned_alloc(size_t align, size_t size) {
 """
 MEMORY = (b"", b"g1pause: fault 13: memory\n", 6)
 ENDLESS = 1 << 40
+COMMANDS = ["show", "show --repack", "check", "live", "choose --budget 35"]
 
 
 def built(folder):
@@ -117,8 +117,8 @@ def main():
         sweep = Sweep(pathlib.Path(room))
         for image in images:
             data = image.read_bytes()
-            for words in (["show"], ["show", "--repack"]):
-                sweep.sweep(f"{image.name} {' '.join(words)}", [binary, *words], data)
+            for line in COMMANDS:
+                sweep.sweep(f"{image.name} {line}", [binary, *line.split()], data)
             sweep.sweep(f"{image.name} cut", [binary, "show"], data[:-1])
     print(f"{sweep.passed} passed, {sweep.failed} failed")
     return 1 if sweep.failed or not sweep.passed else 0
