@@ -1,8 +1,9 @@
 #!/usr/bin/env python3
 """refuse_memory.py BINARY [IMAGE ..]
 
-Runs each of the built program's commands on each image (default: examples/*.img) while requests for memory are refused: every request, all from the Nth on, and the Nth alone, for N from 1
-until a run meets no refusal. Each run has to answer what the program answers with ample memory, or
+Runs each of the built program's commands on each image (default: examples/*.img) while requests for
+memory are refused: every request, all from the Nth on, and the Nth alone, for N from 1 until a run
+meets no refusal. Each run has to answer what the program answers with ample memory, or
 `g1pause: fault 13: memory` with status 6 and nothing on standard output. Each image is also tried cut
 short by a byte, where the fault found before memory was needed may come, but never an image.
 It needs a C compiler for the small library that stands before malloc. The last line is
