@@ -1,7 +1,7 @@
 #!/usr/bin/env python3
-"""Times `show` and `show --repack` on large images, beside `cat` on the same bytes: run.py [--program FILE] [--rounds R]
+"""Times the program's commands on large images, beside `cat` on the same bytes: run.py [--program FILE] [--rounds R]
 
-Makes two images in a temporary folder, one after the other, and runs the three commands in turn, R times (7 if not
+Makes two images in a temporary folder, one after the other, and runs the commands in turn, R times (7 if not
 given), first into a file and then into a pipe that another process empties. It prints, for each command, the best
 and the median wall seconds, megabytes of the image a second and the processor's seconds (both by the median), the
 greatest memory, and these as multiples of what `cat` took and of the image.
@@ -29,7 +29,7 @@ def run_to_file(name, words, image):
     target = image.with_suffix(".out")
     with open(target, "wb") as stdout:
         measured = run(words, image, stdout)
-    if name != "show" and not filecmp.cmp(image, target, shallow=False):
+    if name in ("cat", "show --repack") and not filecmp.cmp(image, target, shallow=False):
         sys.exit(f"{name} did not give the image back")
     target.unlink()
     return measured
@@ -43,8 +43,11 @@ def run_to_pipe(_name, words, image):
     return measured
 
 
+LINES = ["show", "show --workers 4", "show --repack", "check", "live", "live --workers 4", "choose --budget 100000000"]
+
+
 def measure(program, image, rounds, run_to):
-    commands = {"cat": ["cat"], "show": [program, "show"], "show --repack": [program, "show", "--repack"]}
+    commands = {"cat": ["cat"]} | {line: [program, *line.split()] for line in LINES}
     runs = {name: [] for name in commands}
     for _ in range(rounds):
         for name, words in commands.items():
@@ -53,13 +56,13 @@ def measure(program, image, rounds, run_to):
 
 
 def report(title, runs, size):
-    print(f"{title:14}{'best s':>8}{'/ cat':>7}{'median s':>10}{'/ cat':>7}{'MB/s':>7}{'cpu s':>7}{'/ cat':>7}{'MB':>6}{'/ image':>9}")
+    print(f"{title:27}{'best s':>8}{'/ cat':>7}{'median s':>10}{'/ cat':>7}{'MB/s':>7}{'cpu s':>7}{'/ cat':>7}{'MB':>6}{'/ image':>9}")
     base = None
     for name, each in runs.items():
         walls, cpus, memories = zip(*each)
         best, middle, cpu = min(walls), statistics.median(walls), statistics.median(cpus)
         base = base or (best, middle, cpu)
-        print(f"{name:14}{best:8.3f}{best / base[0]:7.1f}{middle:10.3f}{middle / base[1]:7.1f}{size / MB / middle:7.0f}"
+        print(f"{name:27}{best:8.3f}{best / base[0]:7.1f}{middle:10.3f}{middle / base[1]:7.1f}{size / MB / middle:7.0f}"
               f"{cpu:7.2f}{cpu / base[2]:7.1f}{max(memories) / MB:6.0f}{max(memories) / size:9.2f}")
 
 
