@@ -29,6 +29,7 @@ mod tracked;
 
 pub use cover::verify;
 pub use laws::{card_slots, one_table};
+pub use merging::merged;
 pub use refining::refine;
 pub use slots::slots_on;
 pub use starts::Starts;

@@ -1,0 +1,24 @@
+-- The laws that public functions of this crate prove.
+use Rattle.std.specs.Prelude.{◌≡◌, ℕ, List, map}
+use Rattle.std.specs.List.Sorted.{IsStrictlyIncreasing}
+use Rattle.g1_words.specs.Heap.{regions}
+use Rattle.g1_words.specs.Survivors.{AllOrdinary, Survivors}
+use Rattle.g1_words.specs.Layout.{HasRoom, to_space}
+use Rattle.g1_image.specs.Image.{Image, IsImage}
+use Rattle.g1_image.specs.Cards.{Covered, refined}
+use Rattle.g1_image.specs.Made.{heap_after}
+use Rattle.g1_words.specs.Valid.{IsValid}
+use Rattle.g1_copy.specs.Cards.{cards_into}
+use Rattle.g1_copy.specs.Gathered.{to_space_words}
+use Rattle.g1_copy.specs.Patches.{all_patches, patches_on}
+use Rattle.g1_copy.specs.Slices.{words_after}
+
+-- the slots on the cards of the refined sets that name a survivor are all slots outside the set that do
+abbrev pub RefinedFindPatches : Type 0
+RefinedFindPatches = (i : Image) (set l : List ℕ) → IsImage i → Covered i → IsStrictlyIncreasing set → AllOrdinary i.heap set → Survivors i.heap set l
+    → patches_on i.heap l (cards_into i.heap (map (refined i) (regions i.heap)) set) ≡ all_patches i.heap set l
+
+-- the words of to-space gathered, the patches and the cleared regions make the words of the heap after
+abbrev pub WrittenInPlace : Type 0
+WrittenInPlace = (i : Image) (set l : List ℕ) → IsValid i.heap → HasRoom i.heap set l
+    → words_after i.heap.geometry.w set (to_space i.heap l) (to_space_words i.heap l) (all_patches i.heap set l) i.heap.words ≡ (heap_after i.heap set l).words

@@ -1,0 +1,19 @@
+-- Slots of kept regions that name survivors, with their new words.
+use Rattle.std.specs.Prelude.{ℕ, suc, not, ◌&&◌, List, map, filter}
+use Rattle.g1_words.specs.Heap.{Heap, card_of}
+use Rattle.g1_words.specs.Lists.{has}
+use Rattle.g1_words.specs.References.{Ref, refs}
+use Rattle.g1_words.specs.Survivors.{in_set}
+use Rattle.g1_words.specs.Layout.{forward}
+
+-- a reference's slot with the slot's word after its target moved
+abbrev pub patch : Heap → List ℕ → Ref → ℕ × ℕ
+patch h l e = (e.slot, suc (forward h l e.target))
+
+-- the slots on these cards that name a survivor, by address
+abbrev pub patches_on : Heap → List ℕ → List ℕ → List (ℕ × ℕ)
+patches_on h l cards = map (patch h l) (filter (λ e. has cards (card_of h e.slot) && has l e.target) (refs h))
+
+-- the slots outside the set that name a survivor, by address
+abbrev pub all_patches : Heap → List ℕ → List ℕ → List (ℕ × ℕ)
+all_patches h set l = map (patch h l) (filter (λ e. not (in_set h set e.slot) && has l e.target) (refs h))

@@ -1,0 +1,46 @@
+ghost use Rattle.std.specs.Prelude.{ℕ, List, ◌<◌, ◌≤◌};
+ghost use Rattle.g1_image.specs.Moved.{IsMoved};
+ghost use Rattle.g1_copy.specs.Prepared.{IsMadeFor};
+
+use crate::preparing::Prepared;
+use g1_image::{Image, after};
+use g1_rem::Tracked;
+use g1_words::Heap;
+use g1_work::Gate;
+use std::thread::Threads;
+
+/// The image after the pause, from what was made ready for it. Takes no memory and refuses nothing.
+pub fn commit<R: Threads + Sync, G: Gate + Sync>(
+    rt: &R,
+    workers: u64,
+    tracked: Tracked,
+    prepared: Prepared,
+    gate: &G,
+) -> Tracked
+    requires workers { (0 < workers) × (workers ≤ 64) }
+    requires made { (set : List ℕ) × (l : List ℕ) × IsMadeFor prepared tracked set l }
+    ensures moved { (set l : List ℕ) → IsMadeFor prepared tracked set l → IsMoved tracked set l result }
+{
+    after();
+    let Tracked { image } = tracked;
+    let Image {
+        heap,
+        sets,
+        mut log,
+    } = image;
+    log.clear();
+    let heap = Heap {
+        geometry: heap.geometry,
+        words: prepared.words,
+        regions: prepared.regions,
+        roots: prepared.roots,
+        current: None,
+    };
+    Tracked {
+        image: Image {
+            heap,
+            sets: prepared.sets,
+            log,
+        },
+    }
+}

@@ -1,0 +1,26 @@
+//! The copy of an evacuation pause (Detlefs, Flood, Heller, Printezis, "Garbage-First Garbage
+//! Collection", 2004), with every new address known before a word is written.
+//!
+//! 1. `cards_into` lists the cards that lead into the collection set.
+//! 2. `gather` makes the words of to-space: each survivor at its place, its references renamed.
+//! 3. `patches` lists the slots outside the set that name a survivor, with their new words.
+//! 4. `new_rem` makes the remembered sets of the image after the pause.
+//! 5. `prepare` joins these. It takes all memory; nothing of the image was changed until then.
+//! 6. `commit` puts what was prepared in place. It takes no memory and refuses nothing.
+#![tactic(auto)]
+
+mod committing;
+mod copied;
+mod entering;
+mod gathering;
+mod linking;
+mod patching;
+mod preparing;
+mod sets;
+
+pub use committing::commit;
+pub use entering::cards_into;
+pub use gathering::gather;
+pub use patching::patches;
+pub use preparing::{Prepared, prepare};
+pub use sets::new_rem;
