@@ -43,7 +43,8 @@ def run_to_pipe(_name, words, image):
     return measured
 
 
-LINES = ["show", "show --workers 4", "show --repack", "check", "live", "live --workers 4", "choose --budget 100000000"]
+LINES = ["show", "show --workers 4", "show --repack", "check", "live", "live --workers 4", "choose --budget 100000000",
+         "pause", "pause --budget BUDGET", "pause --workers 4 --budget BUDGET"]
 
 
 def measure(program, image, rounds, run_to):

@@ -65,7 +65,7 @@ void *aligned_alloc(size_t align, size_t size) {
 """
 MEMORY = (b"", b"g1pause: fault 13: memory\n", 6)
 ENDLESS = 1 << 40
-COMMANDS = ["show", "show --repack", "check", "live", "choose --budget 35"]
+COMMANDS = ["show", "show --repack", "check", "live", "choose --budget 35", "pause --budget 35", "pause 1"]
 
 
 def built(folder):
