@@ -1,1 +1,3 @@
 pub mod TrackedAfter
+pub mod SetsLinks
+pub mod SetsJoined
