@@ -1,1 +1,2 @@
 pub mod TrackedAfter
+pub mod GatheringWords
