@@ -1,2 +1,3 @@
 pub mod TrackedAfter
+pub mod GatheringWords
 pub mod LinkingCards
