@@ -1,3 +1,4 @@
 pub mod TrackedAfter
 pub mod GatheringWords
 pub mod LinkingCards
+pub mod CopiedSlots
