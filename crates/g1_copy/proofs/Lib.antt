@@ -1,3 +1,6 @@
 pub mod TrackedAfter
+pub mod GatheringWords
+pub mod LinkingCards
+pub mod CopiedSlots
 pub mod SetsLinks
 pub mod SetsJoined
