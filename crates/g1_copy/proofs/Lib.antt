@@ -4,3 +4,4 @@ pub mod LinkingCards
 pub mod CopiedSlots
 pub mod SetsLinks
 pub mod SetsJoined
+pub mod SetsPaused
