@@ -38,6 +38,14 @@ use Rattle.g1_copy.proofs.SetsJoined.{are_sources, new_sets_are}
 abbrev pub AreThere : Heap → List (ℕ × ℕ) → Type 0
 AreThere h xs = All (λ x. (x.0 < h.geometry.n * h.geometry.w) × (0 < x.1) × (x.1 ≤ h.geometry.n * h.geometry.w)) xs
 
+-- the copied slots, as they are lent
+pub copies_lent : (h j : Heap) (l : List ℕ) (lent items : List (ℕ × ℕ)) → h ≡ j → lent ≡ items → items ≡ copied_slots h l → lent ≡ copied_slots j l
+copies_lent h j l lent items same e f = e ∙ f ∙ ap (λ x. copied_slots x l) same
+
+-- the lists of cards, as they are lent
+pub cards_lent : (h : Heap) (xs : List (ℕ × ℕ)) (lent items : List (Vec ℕ)) → lent ≡ items → map (λ s. s.items) items ≡ cards_by_region h xs → map (λ s. s.items) lent ≡ cards_by_region h xs
+cards_lent h xs lent items e f = ap (map (λ s. s.items)) e ∙ f
+
 -- ---- the patches
 
 module _ (h : Heap) (set l : List ℕ) (valid : IsValid h) (can : CanPlace h set l) (room : need h l ≤ length (free_regions h)) where

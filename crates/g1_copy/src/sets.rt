@@ -26,7 +26,7 @@ use std::thread::Threads;
 const LEAST_PIECE: usize = 64;
 
 /// What a pause does with a region.
-#[derive(Debug, Clone, Copy, PartialEq, Eq)]
+#[derive(Clone, Copy)]
 enum Fate {
     /// It is of the set, and free afterwards.
     Freed,
@@ -81,9 +81,8 @@ fn kept_cards(alloc: Global, heap: &Heap, fates: &[Fate], cards: &[u32]) -> Resu
     let mut kept = Vec::new(alloc);
     for card in cards {
         let region = u64::from(*card) * geometry.card_words() / geometry.region_words();
-        match fates[region as usize] {
-            Fate::Freed => {}
-            _ => kept.push(*card)?,
+        if !matches!(fates[region as usize], Fate::Freed) {
+            kept.push(*card)?;
         }
     }
     Ok(kept)
