@@ -1,12 +1,12 @@
 -- Lists of cards put together, region by region.
-use Rattle.std.proofs.Common.{◌≡◌, ◌≢◌, ℕ, zero, suc, ◌+◌, ◌*◌, ◌/◌, ◌<◌, ◌≤◌, ◌⊎◌, inl, inr, Bool, true, false, cond, not, ◌&&◌, ◌||◌, List, [], ◌∷◌, ◌++◌, length, get_or, set, map, filter, All, Contains, refl, sym, ◌∙◌, ap, subst, arith, eqb, eqb-true, eq-eqb, get_or-set_same, get_or-set_other}
+use Rattle.std.proofs.Common.{◌≡◌, ℕ, zero, suc, ◌+◌, ◌*◌, ◌/◌, ◌<◌, ◌≤◌, inl, inr, Bool, true, false, cond, not, ◌&&◌, ◌||◌, List, [], ◌∷◌, ◌++◌, length, get_or, set, map, filter, All, Contains, refl, sym, ◌∙◌, ap, subst, arith, eqb, eqb-true, eq-eqb, get_or-set_same, get_or-set_other}
 use Rattle.std.specs.Prelude.{Result, Ok, Err, IfOk, IfErr, MatchResult}
 use Rattle.std.specs.Global.{Vec}
-use Rattle.std.specs.List.{range_with_len, list_any, AllZip}
+use Rattle.std.specs.List.{range_with_len, AllZip}
 use Rattle.std.specs.List.Sorted.{IsStrictlyIncreasing}
 use Rattle.std.proofs.Math.ListN.{length-set}
 use Rattle.std.proofs.Math.Nat.{div-lt_iff_lt-mul, div-mul-le_self, mul-le-mul_right}
-use Rattle.std.proofs.lemmas.Bool.{cases_Bool, false≢true}
+use Rattle.std.proofs.lemmas.Bool.{false≢true}
 use Rattle.std.proofs.lemmas.List.{ext_get_or, get_or-map}
 use Rattle.std.proofs.lemmas.List.Folds.{list_any-append}
 use Rattle.std.proofs.lemmas.List.FromFn.{get_or-map-range_with_len, length-map-range_with_len}
@@ -16,7 +16,7 @@ use Rattle.g1_words.specs.Heap.{Heap, regions}
 use Rattle.g1_words.specs.Lists.{has}
 use Rattle.g1_words.specs.Survivors.{AllOrdinary, Survivors}
 use Rattle.g1_words.specs.Layout.{free_regions, need, to_space}
-use Rattle.g1_words.proofs.Members.{In, In-from_contains, Contains-from_in, In-filter, filter_member, in_from_has, has_from_in, or_true, and_true}
+use Rattle.g1_words.proofs.Members.{In, In-from_contains, In-filter, filter_member, in_from_has, has_from_in, or_true}
 use Rattle.g1_words.proofs.Indices.{get_or-In, range_bounds}
 use Rattle.g1_words.proofs.Shapes.{IsBuilt}
 use Rattle.g1_words.proofs.Standing.{card_positive, width_positive}
@@ -29,7 +29,7 @@ use Rattle.g1_rem.specs.Merging.{IsMerged}
 use Rattle.g1_rem.proofs.Rising.{Rises-range, Rises-filter, Rises-one, increasing-Rises}
 use Rattle.g1_copy.specs.Links.{is_linked, cards_by_region, copied_slots}
 use Rattle.g1_copy.specs.Patches.{all_patches}
-use Rattle.g1_copy.specs.Sets.{fate_at, fate_of, IsMarkedFrom, AreFates, is_left, stays, IsJoined, cards_at, AreSources, IsJoinedAt, AreJoined}
+use Rattle.g1_copy.specs.Sets.{fate_at, IsMarkedFrom, AreFates, is_left, stays, IsJoined, cards_at, AreSources, IsJoinedAt, AreJoined}
 use Rattle.g1_copy.specs.declared.sets.Fate.{Fate}
 use Rattle.g1_copy.specs.declared.sets.Fate.TheVariants.{Freed, Filled, Kept}
 use Rattle.g1_copy.proofs.SetsLinks.{to_space_cards, copied_cards}

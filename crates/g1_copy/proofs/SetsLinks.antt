@@ -1,6 +1,6 @@
 -- The patches and the copied slots are the references of the heap after the pause that lead into to-space or lie in it.
-use Rattle.std.proofs.Common.{◌≡◌, ◌≢◌, ℕ, zero, suc, ◌+◌, ◌-◌, ◌*◌, ◌/◌, ◌<◌, ◌≤◌, ◌⊎◌, inl, inr, Bool, true, false, not, ◌&&◌, ◌||◌, List, length, get_or, map, filter, flat_map, Contains, refl, sym, ◌∙◌, ap, subst, arith, eqb, eqb-true, eq-eqb, ne_eqb}
-use Rattle.std.specs.List.{range_with_len, list_any}
+use Rattle.std.proofs.Common.{◌≡◌, ℕ, zero, suc, ◌+◌, ◌-◌, ◌<◌, ◌≤◌, ◌⊎◌, inl, inr, Bool, true, false, not, ◌&&◌, ◌||◌, List, length, filter, flat_map, refl, sym, ◌∙◌, ap, subst, arith, eqb, eqb-true, ne_eqb}
+use Rattle.std.specs.List.{range_with_len}
 use Rattle.std.proofs.lemmas.Bool.{cases_Bool, false≢true}
 use Rattle.g1_words.specs.declared.object.Object.{Object}
 use Rattle.g1_words.specs.declared.region.Kind.TheVariants.{Ordinary, HumongousFirst}
@@ -16,12 +16,12 @@ use Rattle.g1_words.proofs.Sound.{IsSound}
 use Rattle.g1_words.proofs.Shapes.{IsBuilt}
 use Rattle.g1_words.proofs.Standing.{home, home_region, ordinary_word, built_is_sound, card_positive}
 use Rattle.g1_words.proofs.Bounds.{card_in_region, cards_in_region}
-use Rattle.g1_words.proofs.OneToOne.{kept_cases, outside_stays, survivor_in_set}
+use Rattle.g1_words.proofs.OneToOne.{kept_cases, outside_stays}
 use Rattle.g1_image.specs.Image.{Image, region_of_card}
 use Rattle.g1_image.specs.Cards.{leads_into, is_exact}
 use Rattle.g1_image.specs.Copy.{renamed}
 use Rattle.g1_image.specs.Moved.{IsMoved, card_in}
-use Rattle.g1_image.specs.Made.{heap_after, image_after}
+use Rattle.g1_image.specs.Made.{image_after}
 use Rattle.g1_image.specs.After.{IsMovedRef}
 use Rattle.g1_image.proofs.ObjectsOf.{kept_outside, used_not_to_space}
 use Rattle.g1_image.proofs.ToSpace.{goal_in_to_space, goal_is_free, survivor_kept}

@@ -1,5 +1,5 @@
 -- The sets that are put together in a pause, from its plan.
-use Rattle.std.proofs.Common.{◌≡◌, ℕ, suc, ◌+◌, ◌*◌, ◌<◌, ◌≤◌, List, length, get_or, map, filter, not, ◌&&◌, All, Contains, sym, ◌∙◌, ap, subst, arith}
+use Rattle.std.proofs.Common.{◌≡◌, ℕ, suc, ◌+◌, ◌*◌, ◌<◌, ◌≤◌, List, length, get_or, map, filter, not, ◌&&◌, All, sym, ◌∙◌, ap, subst, arith}
 use Rattle.std.specs.Prelude.{Result, Ok, Err, IfOk}
 use Rattle.std.specs.Global.{Vec}
 use Rattle.std.specs.List.Sorted.{IsStrictlyIncreasing}
@@ -7,13 +7,13 @@ use Rattle.g1_words.specs.declared.fault.Fault.{Fault}
 use Rattle.g1_words.specs.Heap.{Heap, object_at, objects, regions}
 use Rattle.g1_words.specs.Lists.{has}
 use Rattle.g1_words.specs.References.{Ref, refs}
-use Rattle.g1_words.specs.Survivors.{AllOrdinary, in_set}
+use Rattle.g1_words.specs.Survivors.{in_set}
 use Rattle.g1_words.specs.Layout.{forward, free_regions, need, to_space}
 use Rattle.g1_words.specs.Valid.{IsValid}
 use Rattle.g1_words.proofs.Bounds.{object_within}
 use Rattle.g1_words.proofs.Computed.{contains_has}
 use Rattle.g1_words.proofs.Indices.{get_or-In, is_free_region, taken_in}
-use Rattle.g1_words.proofs.Members.{In, In-from_contains, Contains-from_in, filter_member, map_cases}
+use Rattle.g1_words.proofs.Members.{In, Contains-from_in, filter_member, map_cases}
 use Rattle.g1_words.proofs.Ordered.{pairs_from_ordered}
 use Rattle.g1_words.proofs.Rising.{Ordered-filter, Ordered-map, refs_ordered}
 use Rattle.g1_words.proofs.Shapes.{built}

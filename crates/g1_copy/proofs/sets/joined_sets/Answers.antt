@@ -2,7 +2,6 @@ use Rattle.std.proofs.Common.{◌≡◌, ◌<◌, ◌-◌, ◌∙◌, ap, arith,
 use Rattle.std.specs.List.{range_with_len, AllZip}
 use Rattle.rayon.specs.Numbers.{nat_range}
 use Rattle.rayon.proofs.ToStd.{nat_range-All}
-use Rattle.g1_words.specs.Heap.{Heap, regions}
 use Rattle.g1_copy.specs.Sets.{IsJoinedAt}
 use Rattle.g1_copy.proofs.SetsJoined.{gathered_sets, gathered_fault}
 use Rattle.g1_copy.proofs.sets.joined_sets.Given.{Over}

@@ -1,4 +1,4 @@
-use Rattle.std.proofs.Common.{length, get_or, take, slice_set, subst, sym, ap, ◌∙◌, arith}
+use Rattle.std.proofs.Common.{get_or, take, slice_set, subst, sym}
 use Rattle.std.proofs.lemmas.List.{take_all, take_more}
 use Rattle.g1_copy.specs.Sets.{IsMarkedFrom}
 use Rattle.g1_copy.proofs.SetsJoined.{marked_start, marked_step}
