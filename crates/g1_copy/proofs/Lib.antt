@@ -1,1 +1,7 @@
 pub mod TrackedAfter
+pub mod GatheringWords
+pub mod LinkingCards
+pub mod CopiedSlots
+pub mod SetsLinks
+pub mod SetsJoined
+pub mod SetsPaused

@@ -1,12 +1,15 @@
 -- The laws that public functions of this crate prove.
-use Rattle.std.specs.Prelude.{◌≡◌, ℕ, List, map}
+use Rattle.std.specs.Prelude.{◌≡◌, ◌&&◌, ◌||◌, ℕ, List, map, IsTrue}
 use Rattle.std.specs.List.Sorted.{IsStrictlyIncreasing}
-use Rattle.g1_words.specs.Heap.{regions}
+use Rattle.g1_words.specs.Heap.{Heap, regions}
 use Rattle.g1_words.specs.Survivors.{AllOrdinary, Survivors}
 use Rattle.g1_words.specs.Layout.{HasRoom, to_space}
 use Rattle.g1_image.specs.Image.{Image, IsImage}
-use Rattle.g1_image.specs.Cards.{Covered, refined}
+use Rattle.g1_image.specs.Cards.{Covered, is_exact, refined}
 use Rattle.g1_image.specs.Made.{heap_after}
+use Rattle.g1_image.specs.Moved.{card_in}
+use Rattle.g1_words.specs.Lists.{has}
+use Rattle.g1_copy.specs.Links.{is_linked, copied_slots}
 use Rattle.g1_words.specs.Valid.{IsValid}
 use Rattle.g1_copy.specs.Cards.{cards_into}
 use Rattle.g1_copy.specs.Gathered.{to_space_words}
@@ -22,3 +25,13 @@ RefinedFindPatches = (i : Image) (set l : List ℕ) → IsImage i → Covered i 
 abbrev pub WrittenInPlace : Type 0
 WrittenInPlace = (i : Image) (set l : List ℕ) → IsValid i.heap → HasRoom i.heap set l
     → words_after i.heap.geometry.w set (to_space i.heap l) (to_space_words i.heap l) (all_patches i.heap set l) i.heap.words ≡ (heap_after i.heap set l).words
+
+-- the cards that are exact for a region of to-space after the pause are those of the patches and the copied slots that lead into it
+abbrev pub CardsOfToSpace : Type 0
+CardsOfToSpace = (h : Heap) (set l : List ℕ) → IsValid h → HasRoom h set l → (r c : ℕ) → IsTrue (has (to_space h l) r)
+    → is_exact (heap_after h set l) r c ≡ (is_linked h (all_patches h set l) r c || is_linked h (copied_slots h l) r c)
+
+-- the to-space cards that are exact for a region after the pause are those of the copied slots that lead into it
+abbrev pub CardsInToSpace : Type 0
+CardsInToSpace = (h : Heap) (set l : List ℕ) → IsValid h → HasRoom h set l → (r c : ℕ)
+    → (card_in h (to_space h l) c && is_exact (heap_after h set l) r c) ≡ is_linked h (copied_slots h l) r c

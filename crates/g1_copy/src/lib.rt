@@ -23,4 +23,4 @@ pub use entering::cards_into;
 pub use gathering::gather;
 pub use patching::patches;
 pub use preparing::{Prepared, prepare};
-pub use sets::new_rem;
+pub use sets::{cards_after, new_rem};

@@ -1,17 +1,153 @@
-ghost use Rattle.std.specs.Prelude.{◌≡◌, map, IfOk, IfErr};
+ghost use Rattle.std.specs.Prelude.{◌≡◌, ◌<◌, ℕ, List, [], length, map, not, filter, replicate, slice_index_or, All, IfOk, IfErr};
+ghost use Rattle.std.specs.List.Sorted.{IsStrictlyIncreasing};
 ghost use Rattle.g1_words.specs.Heap.{regions};
+ghost use Rattle.g1_words.specs.Layout.{to_space};
 ghost use Rattle.g1_image.specs.Cards.{refined};
+ghost use Rattle.g1_image.specs.Image.{region_of_card};
 ghost use Rattle.g1_image.specs.Moved.{new_set};
 ghost use Rattle.g1_image.specs.Made.{heap_after};
 ghost use Rattle.g1_copy.specs.Plans.{IsPauseOf};
 ghost use Rattle.g1_copy.specs.Gathered.{to_space_words};
 ghost use Rattle.g1_copy.specs.Patches.{all_patches};
+ghost use Rattle.g1_copy.specs.Sets.{AreFates, IsMarkedFrom, stays, IsJoined, AreSources, AreJoined, IsJoinedAt};
+ghost use Rattle.g1_copy.specs.declared.sets.Fate.TheVariants.{Freed, Filled, Kept};
+ghost use Rattle.g1_copy.specs.Laws.{CardsOfToSpace, CardsInToSpace};
 
+use crate::copied::copied_slots;
+use crate::linking::cards_by_region;
 use g1_layout::Plan;
-use g1_rem::Tracked;
-use g1_words::Fault;
+use g1_rem::{Tracked, image, merged};
+use g1_words::{Fault, Heap};
+use rayon::prelude::*;
 use std::alloc::Global;
 use std::thread::Threads;
+
+/// How many regions are worth a thread of their own: one set alone is a small task.
+const LEAST_PIECE: usize = 64;
+
+/// What a pause does with a region.
+#[derive(Clone, Copy)]
+enum Fate {
+    /// It is of the set, and free afterwards.
+    Freed,
+    /// Survivors are placed in it.
+    Filled,
+    /// Its objects stay.
+    Kept,
+}
+
+/// So many regions that are kept.
+fn all_kept(alloc: Global, regions: u64) -> Result<Vec<Fate>, Fault>
+    ensures ok { IfOk result (λ v. v.items ≡ replicate regions Kept) }
+    ensures memory { IfErr result (λ e. e ≡ Fault.Memory) }
+{
+    let mut fates = Vec::with_capacity(alloc, regions as usize)?;
+    for _region in 0..regions {
+        fates.push(Fate::Kept)?;
+    }
+    Ok(fates)
+}
+
+/// Writes a fate for some regions.
+fn mark(fates: &mut [Fate], members: &[u32], fate: Fate)
+    requires { All (λ r. r < length fates.old) members.now }
+    ensures { IsMarkedFrom fates.old members.now fate fates.new }
+{
+    for region in members {
+        fates[*region as usize] = fate;
+    }
+}
+
+/// The fate of each region.
+fn fates(alloc: Global, heap: &Heap, set: &[u32], to_space: &[u32]) -> Result<Vec<Fate>, Fault>
+    requires set { All (λ r. r < heap.now.geometry.n) set.now }
+    requires to_space { All (λ r. r < heap.now.geometry.n) to_space.now }
+    ensures ok { IfOk result (λ v. AreFates heap.now set.now to_space.now v.items) }
+    ensures memory { IfErr result (λ e. e ≡ Fault.Memory) }
+{
+    let mut fates = all_kept(alloc, heap.geometry().regions())?;
+    mark(&mut fates, to_space, Fate::Filled);
+    mark(&mut fates, set, Fate::Freed);
+    Ok(fates)
+}
+
+/// Those of some cards that don't lie in a freed region.
+fn kept_cards(alloc: Global, heap: &Heap, fates: &[Fate], cards: &[u32]) -> Result<Vec<u32>, Fault>
+    requires cards { All (λ c. region_of_card heap.now c < length fates.now) cards.now }
+    ensures ok { IfOk result (λ v. v.items ≡ filter (stays heap.now fates.now) cards.now) }
+    ensures memory { IfErr result (λ e. e ≡ Fault.Memory) }
+{
+    let geometry = heap.geometry();
+    let mut kept = Vec::new(alloc);
+    for card in cards {
+        let region = u64::from(*card) * geometry.card_words() / geometry.region_words();
+        if !matches!(fates[region as usize], Fate::Freed) {
+            kept.push(*card)?;
+        }
+    }
+    Ok(kept)
+}
+
+/// A region's remembered set after the pause, of its refined set, the cards of outer slots and those
+/// of copied slots.
+fn joined(
+    alloc: Global,
+    heap: &Heap,
+    fates: &[Fate],
+    fate: Fate,
+    refined: &[u32],
+    outer: &[u32],
+    inner: &[u32],
+) -> Result<Vec<u32>, Fault>
+    requires cards { All (λ c. region_of_card heap.now c < length fates.now) refined.now }
+    requires refined { IsStrictlyIncreasing refined.now }
+    requires outer { IsStrictlyIncreasing outer.now }
+    requires inner { IsStrictlyIncreasing inner.now }
+    ensures ok { IfOk result (λ v. IsJoined heap.now fates.now fate refined.now outer.now inner.now v.items) }
+    ensures memory { IfErr result (λ e. e ≡ Fault.Memory) }
+{
+    match fate {
+        Fate::Freed => Ok(Vec::new(alloc)),
+        Fate::Filled => merged(alloc, outer, inner),
+        Fate::Kept => {
+            let kept = kept_cards(alloc, heap, fates, refined)?;
+            merged(alloc, &kept, inner)
+        }
+    }
+}
+
+/// The remembered sets after the pause, of the refined sets, the cards of outer slots and those of
+/// copied slots, one list of each a region.
+fn joined_sets(
+    rt: &(impl Threads + Sync),
+    alloc: Global,
+    heap: &Heap,
+    fates: &[Fate],
+    sets: &[Vec<u32>],
+    outer: &[Vec<u32>],
+    inner: &[Vec<u32>],
+) -> Result<Vec<Vec<u32>>, Fault>
+    requires { AreSources heap.now fates.now (map (λ s. s.items) sets.now) (map (λ s. s.items) outer.now) (map (λ s. s.items) inner.now) }
+    ensures ok { IfOk result (λ v. AreJoined heap.now fates.now (map (λ s. s.items) sets.now) (map (λ s. s.items) outer.now) (map (λ s. s.items) inner.now) (map (λ s. s.items) v.items)) }
+    ensures memory { IfErr result (λ e. e ≡ Fault.Memory) }
+{
+    let count = heap.geometry().regions() as u32;
+    (0..count)
+        .into_par_iter()
+        .with_min_len(LEAST_PIECE)
+        .map(
+            |region: u32| -> Result<Vec<u32>, Fault>
+                requires { (region < heap.now.geometry.n) × AreSources heap.now fates.now (map (λ s. s.items) sets.now) (map (λ s. s.items) outer.now) (map (λ s. s.items) inner.now) }
+                ensures { IsJoinedAt heap.entry.now fates.entry.now (map (λ s. s.items) sets.entry.now) (map (λ s. s.items) outer.entry.now) (map (λ s. s.items) inner.entry.now) region result }
+            {
+                let at = region as usize;
+                joined(
+                    alloc, heap, fates, fates[at], &sets[at], &outer[at], &inner[at],
+                )
+            },
+        )
+        .collect::<Result<Vec<Vec<u32>>, Fault>>(rt, alloc)?
+}
 
 /// The remembered sets after the pause, one a region: of a region of the set none; of one of
 /// to-space the cards of slots elsewhere that now name an object in it; of any other its refined set
@@ -40,5 +176,16 @@ pub fn new_rem(
     ensures ok { IfOk result (λ v. map (λ s. s.items) v.items ≡ map (new_set tracked.now set.now plan.now.survivors (heap_after tracked.now.heap set.now plan.now.survivors)) (regions tracked.now.heap)) }
     ensures memory { IfErr result (λ e. e ≡ Fault.Memory) }
 {
-    Err(Fault::Memory)
+    let heap = image(tracked).heap();
+    let outer = cards_by_region(alloc, heap, patches)?;
+    let copies = copied_slots(alloc, heap, plan, gathered)?;
+    let inner = cards_by_region(alloc, heap, &copies)?;
+    let fates = fates(alloc, heap, set, plan.to_space())?;
+    joined_sets(rt, alloc, heap, &fates, sets, &outer, &inner)
 }
+
+/// Which slots the exact cards of the heap after a pause come from.
+pub fn cards_after()
+    ensures of_to_space { CardsOfToSpace }
+    ensures in_to_space { CardsInToSpace }
+{}

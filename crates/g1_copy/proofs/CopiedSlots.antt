@@ -1,0 +1,155 @@
+-- The slots of the survivors at their places.
+use Rattle.std.proofs.Common.{◌≡◌, ◌≢◌, ◌≤◌, ◌<◌, ℕ, zero, suc, ◌+◌, ◌*◌, ◌/◌, ◌%◌, inl, inr, Bool, true, false, not, List, [], ◌∷◌, length, get_or, slice_index, map, filter, flat_map, All, AllPairs, Contains, arith, refl, sym, ap, subst, ◌∙◌, eqb, div-add-mod'}
+use Rattle.std.specs.List.{range_with_len}
+use Rattle.std.specs.List.Sorted.{IsStrictlyIncreasing}
+use Rattle.std.proofs.lemmas.List.{get_or_default}
+use Rattle.std.proofs.Math.Nat.{mul-le-mul_right}
+use Rattle.g1_words.specs.declared.object.Object.{Object}
+use Rattle.g1_words.specs.Heap.{Heap, object_at, objects, region_of, word}
+use Rattle.g1_words.specs.Layout.{forward, free_regions, need, places, to_space}
+use Rattle.g1_words.specs.Lists.{has}
+use Rattle.g1_words.specs.Valid.{HasObject, IsReference, IsValid}
+use Rattle.g1_words.proofs.Bounds.{object_within}
+use Rattle.g1_words.proofs.Computed.{contains_has, has_contains}
+use Rattle.g1_words.proofs.Indices.{get_or-In, is_free_region, range_bounds, taken_in}
+use Rattle.g1_words.proofs.Members.{In, In-from_contains, Contains-from_in, filter_member, flat_map_cases, has_from_in, in_from_has, map_cases}
+use Rattle.g1_words.proofs.OneToOne.{moved_stays}
+use Rattle.g1_words.proofs.Ordered.{Ordered, Ordered-from_pairs, pairs_from_ordered}
+use Rattle.g1_words.proofs.Rising.{Ordered-filter, Ordered-flat_map, Ordered-map, Ordered-range}
+use Rattle.g1_words.proofs.Sound.{sound}
+use Rattle.g1_image.specs.Copy.{renamed}
+use Rattle.g1_layout.proofs.Stretches.{within_region}
+use Rattle.g1_layout.specs.Placed.{CanPlace}
+use Rattle.g1_copy.proofs.GatheringWords.{forward_at, places_apart}
+use Rattle.g1_copy.specs.Links.{copied_slots, moved_slots}
+
+module _ (h : Heap) (set l : List ℕ) (valid : IsValid h) (can : CanPlace h set l) (room : need h l ≤ length (free_regions h)) where
+  -- a survivor is an object of the heap
+  pub survivor_has : (a : ℕ) → In l a → HasObject h (object_at h a)
+  survivor_has a i =
+      let c = Contains-from_in l a i in
+      contains_has h (object_at h a) valid.shaped (subst (λ x. Contains (objects h) (object_at h x)) c.2 (can.objects c.0 a c.1))
+
+  -- its slots are among its words
+  pub survivor_slots : (a : ℕ) → In l a → (object_at h a).refs < (object_at h a).size
+  survivor_slots a i =
+      let c = Contains-from_in l a i in
+      (sound h valid).slots_fit (object_at h a) (subst (λ x. Contains (objects h) (object_at h x)) c.2 (can.objects c.0 a c.1))
+
+  -- the survivors, one after another at their places
+  abbrev Before : ℕ → ℕ → Type 0
+  Before a b = forward h l a + (object_at h a).size ≤ forward h l b
+
+  before_at : (j k : ℕ) → j < k → k < length l → Before (get_or l j 0) (get_or l k 0)
+  before_at j k less lt =
+      let p = places_apart h set l valid can room j k less lt in
+      let fj = forward_at h set l valid can room j (omega (arith, less, lt)) in
+      let fk = forward_at h set l valid can room k lt in
+      omega (arith, p, fj, fk)
+
+  survivors_ordered : Ordered Before l
+  survivors_ordered = Ordered-from_pairs Before l (λ j k d less lt.
+      let ej : get_or l j 0 ≡ get_or l j d = get_or_default l j 0 d (omega (arith, less, lt)) in
+      let ek : get_or l k 0 ≡ get_or l k d = get_or_default l k 0 d lt in
+      subst (Before (get_or l j d)) ek (subst (λ a. Before a (get_or l k 0)) ej (before_at j k less lt)))
+
+  -- ---- the slots of one survivor
+
+  -- a slot of a survivor that isn't null, at its place
+  pub record IsMovedSlot (a : ℕ) (x : ℕ × ℕ) : Type 0 where
+    pub offset : ℕ
+    pub first : 1 ≤ offset
+    pub last : offset ≤ (object_at h a).refs
+    pub some : word h (a + offset) ≢ 0
+    pub is : (forward h l a + offset, renamed (forward h l) (word h (a + offset))) ≡ x
+
+  not_null : (x : ℕ) → not (eqb x 0) ≡ true → x ≢ 0
+  not_null zero e = λ z. let f : false ≡ true = e in cc
+  not_null (suc x) e = λ z. omega (arith, z)
+
+  pub moved_slot : (a : ℕ) (x : ℕ × ℕ) → In (moved_slots h l a) x → IsMovedSlot a x
+  moved_slot a x i =
+      let m = map_cases (λ k. (forward h l a + k, renamed (forward h l) (word h (a + k)))) (filter (λ k. not (eqb (word h (a + k)) 0)) (range_with_len 1 (object_at h a).refs)) x i in
+      let f = filter_member (λ k. not (eqb (word h (a + k)) 0)) (range_with_len 1 (object_at h a).refs) m.0 m.1 in
+      let b = range_bounds 1 (object_at h a).refs m.0 f.0 in
+      record { offset = m.0; first = b.0; last = omega (arith, b.1); some = not_null (word h (a + m.0)) f.1; is = m.2 }
+
+  -- ---- the slots rise
+
+  abbrev SlotBefore : ℕ × ℕ → ℕ × ℕ → Type 0
+  SlotBefore x y = x.0 < y.0
+
+  moved_ordered : (a : ℕ) → Ordered SlotBefore (moved_slots h l a)
+  moved_ordered a =
+      Ordered-map SlotBefore (λ k. (forward h l a + k, renamed (forward h l) (word h (a + k)))) (filter (λ k. not (eqb (word h (a + k)) 0)) (range_with_len 1 (object_at h a).refs))
+      (Ordered-filter (λ x y. forward h l a + x < forward h l a + y) (λ k. not (eqb (word h (a + k)) 0)) (range_with_len 1 (object_at h a).refs)
+      (further (range_with_len 1 (object_at h a).refs) (Ordered-range 1 (object_at h a).refs)))
+    where
+      further : (xs : List ℕ) → Ordered (λ x y. x < y) xs → Ordered (λ x y. forward h l a + x < forward h l a + y) xs
+      further [] o = tt
+      further (x ∷ xs) o = ((λ y i. omega (arith, o.0 y i)), further xs o.1)
+
+  copied_ordered : Ordered SlotBefore (copied_slots h l)
+  copied_ordered =
+      Ordered-flat_map Before SlotBefore (moved_slots h l) l survivors_ordered (λ a i. moved_ordered a)
+      (λ a b x y i j before p q.
+      let s = moved_slot a x p in
+      let t = moved_slot b y q in
+      let e : forward h l a + s.offset ≡ x.0 = ap (λ (z : ℕ × ℕ). z.0) s.is in
+      let f : forward h l b + t.offset ≡ y.0 = ap (λ (z : ℕ × ℕ). z.0) t.is in
+      omega (arith, before, e, f, s.last, t.first, survivor_slots a i))
+
+  -- the slots of the survivors rise
+  pub copied_rise : IsStrictlyIncreasing (map (λ x. x.0) (copied_slots h l))
+  copied_rise = λ k lt. pairs_from_ordered (λ x y. x < y) (map (λ x. x.0) (copied_slots h l))
+      (Ordered-map (λ x y. x < y) (λ x. x.0) (copied_slots h l) copied_ordered) k (k + 1) 0 (omega arith) lt
+
+  -- ---- the slots and what they name are there
+
+  -- a survivor's place and its last word lie in the heap
+  pub place_within : (a : ℕ) → In l a → forward h l a + (object_at h a).size ≤ h.geometry.n * h.geometry.w
+  place_within a i =
+      let r : ℕ = region_of h (forward h l a) in
+      let w = within_region h set l valid can room a (Contains-from_in l a i) in
+      let free = is_free_region h r (taken_in (need h l) (free_regions h) r (In-from_contains (to_space h l) r w.0)) in
+      let parts : forward h l a / h.geometry.w * h.geometry.w + forward h l a % h.geometry.w ≡ forward h l a = div-add-mod' (forward h l a) h.geometry.w in
+      let rows : (r + 1) * h.geometry.w ≤ h.geometry.n * h.geometry.w = mul-le-mul_right h.geometry.w (omega (arith, free.1)) in
+      omega (arith, w.1, parts, rows)
+
+  -- what stands at an address goes to an address of the heap
+  pub forward_below : (o : Object) → HasObject h o → forward h l o.at < h.geometry.n * h.geometry.w
+  forward_below o there = go (has l o.at) refl where
+    go : (b : Bool) → has l o.at ≡ b → forward h l o.at < h.geometry.n * h.geometry.w
+    go true e =
+        let i = in_from_has l o.at e in
+        let p = place_within o.at i in
+        let s = survivor_slots o.at i in
+        omega (arith, p, s)
+    go false e =
+        let stays : forward h l o.at ≡ o.at = moved_stays l (places h l) o.at (λ i. let t = has_from_in l o.at i in cc) in
+        let ends = object_within h valid o there in
+        let s = (sound h valid).slots_fit o (has_contains h o there) in
+        omega (arith, stays, ends, s)
+
+  copied_there_at : (x : ℕ × ℕ) → In (copied_slots h l) x → (x.0 < h.geometry.n * h.geometry.w) × (0 < x.1) × (x.1 ≤ h.geometry.n * h.geometry.w)
+  copied_there_at x i =
+      let m = flat_map_cases (moved_slots h l) l x i in
+      let a : ℕ = m.0 in
+      let s = moved_slot a x m.2 in
+      let at : forward h l a + s.offset ≡ x.0 = ap (λ (z : ℕ × ℕ). z.0) s.is in
+      let names : renamed (forward h l) (word h (a + s.offset)) ≡ x.1 = ap (λ (z : ℕ × ℕ). z.1) s.is in
+      let here : x.0 < h.geometry.n * h.geometry.w = omega (arith, at, s.last, survivor_slots a m.1, place_within a m.1) in
+      elim (valid.slots (object_at h a) (a + s.offset) (survivor_has a m.1) (omega (arith, s.first), omega (arith, s.last))) [
+        | inl null ↦ absurd (s.some null)
+        | inr (o, there, e) ↦
+            let to : renamed (forward h l) (word h (a + s.offset)) ≡ suc (forward h l o.at) = ap (renamed (forward h l)) (e ∙ one_more o.at) in
+            let below = forward_below o there in
+            (here, omega (arith, names, to), omega (arith, names, to, below))
+      ]
+    where
+      one_more : (n : ℕ) → n + 1 ≡ suc n
+      one_more n = omega arith
+
+  -- the slots lie in the heap, and name addresses of it
+  pub copied_there : All (λ x. (x.0 < h.geometry.n * h.geometry.w) × (0 < x.1) × (x.1 ≤ h.geometry.n * h.geometry.w)) (copied_slots h l)
+  copied_there = λ k d lt. copied_there_at (get_or (copied_slots h l) k d) (get_or-In (copied_slots h l) k d lt)
