@@ -1,3 +1,4 @@
+pub mod CardMarks
 pub mod Moves
 pub mod OnCards
 pub mod TrackedAfter
