@@ -112,7 +112,7 @@ pub filtered_pass : (p : ℕ → Bool) (n : ℕ) → p n ≡ false → filter p 
 filtered_pass p n e = ap (filter p) (range_more n) ∙ filter-append p (range_with_len 0 n) (n ∷ []) ∙ ap (λ l. filter p (range_with_len 0 n) ++ l) (rw e refl) ∙ append-nil (filter p (range_with_len 0 n))
 
 -- tests that the members don't tell apart
-filter_same_in : (p q : ℕ → Bool) (xs : List ℕ) → ((x : ℕ) → In xs x → p x ≡ q x) → filter p xs ≡ filter q xs
+pub filter_same_in : {A : Type 0} (p q : A → Bool) (xs : List A) → ((x : A) → In xs x → p x ≡ q x) → filter p xs ≡ filter q xs
 filter_same_in p q [] f = refl
 filter_same_in p q (x ∷ xs) f = rw (f x (inl refl), filter_same_in p q xs (λ y i. f y (inr i))) refl
 
