@@ -1,1 +1,6 @@
 pub mod TrackedAfter
+pub mod InPlaceSlices
+pub mod InPlaceCovers
+pub mod InPlaceWriting
+pub mod InPlace
+pub mod PreparedWords

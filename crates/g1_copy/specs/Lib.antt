@@ -4,5 +4,6 @@ pub mod Patches
 pub mod Links
 pub mod Cards
 pub mod Slices
+pub mod Rewriting
 pub mod Prepared
 pub mod Laws

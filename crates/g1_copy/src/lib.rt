@@ -13,14 +13,17 @@ mod committing;
 mod copied;
 mod entering;
 mod gathering;
+mod laws;
 mod linking;
 mod patching;
 mod preparing;
+mod rewriting;
 mod sets;
 
 pub use committing::commit;
 pub use entering::cards_into;
 pub use gathering::gather;
+pub use laws::written_in_place;
 pub use patching::patches;
 pub use preparing::{Prepared, prepare};
 pub use sets::new_rem;
