@@ -9,3 +9,8 @@ pub mod CopiedSlots
 pub mod SetsLinks
 pub mod SetsJoined
 pub mod SetsPaused
+pub mod InPlaceSlices
+pub mod InPlaceCovers
+pub mod InPlaceWriting
+pub mod InPlace
+pub mod PreparedWords

@@ -1,4 +1,4 @@
-ghost use Rattle.g1_copy.specs.Laws.{CardsLeadIn, CardsStandOutside, RefinedFindPatches};
+ghost use Rattle.g1_copy.specs.Laws.{CardsLeadIn, CardsStandOutside, RefinedFindPatches, WrittenInPlace};
 
 /// What the cards that lead into a set are, and that they meet what `patches` asks.
 pub fn cards_lead_in()
@@ -9,4 +9,9 @@ pub fn cards_lead_in()
 /// The patches of these cards are all that there are.
 pub fn all_patches()
     ensures { RefinedFindPatches }
+{}
+
+/// The words of to-space, the patches and the cleared regions make the words of the heap after.
+pub fn written_in_place()
+    ensures { WrittenInPlace }
 {}

@@ -17,12 +17,13 @@ mod laws;
 mod linking;
 mod patching;
 mod preparing;
+mod rewriting;
 mod sets;
 
 pub use committing::commit;
 pub use entering::cards_into;
 pub use gathering::gather;
-pub use laws::{all_patches, cards_lead_in};
+pub use laws::{all_patches, cards_lead_in, written_in_place};
 pub use patching::patches;
 pub use preparing::{Prepared, prepare};
 pub use sets::{cards_after, new_rem};

@@ -1,0 +1,135 @@
+-- Lists by slices of one width: what stands in a slice, and which patches reach it.
+use Rattle.std.proofs.Common.{◌≡◌, ℕ, zero, suc, ◌+◌, ◌-◌, ◌*◌, ◌<◌, ◌≤◌, ◌⊎◌, inl, inr, Bool, true, false, cond, not, List, [], ◌∷◌, ◌++◌, Some, None, length, get_or, take, drop, set, position, flat_map, refl, sym, ◌∙◌, ap, ap₂, subst, arith, leb, ltb, leb-true, le-leb, lt-ltb, le-ltb, eqb, eq-eqb, ne_eqb, length-drop, length-append}
+use Rattle.std.specs.List.{range_with_len, position_or_len}
+use Rattle.std.proofs.lemmas.Bool.{cases_lt, false≢true}
+use Rattle.std.proofs.Math.Nat.{mul-le-mul_right, zero-mul, suc-mul, add-mul}
+use Rattle.std.proofs.Math.Seq.{drop-append_seam, take-append_seam}
+use Rattle.std.proofs.lemmas.List.{get_or-take, get_or-drop, get_or-set_same, get_or-set_other, length-set, length-take-le, take-append-drop, nil_from_length, drop-drop}
+use Rattle.g1_words.proofs.Firsts.{Distinct}
+use Rattle.g1_words.proofs.Indices.{get_or-In, taken_in}
+use Rattle.g1_words.proofs.Members.{In}
+use Rattle.g1_copy.specs.Slices.{patched, slice_of}
+
+-- a list by its slices
+
+pub slice_next : (w k : ℕ) (xs : List ℕ) → slice_of w k (drop w xs) ≡ slice_of w (k + 1) xs
+slice_next w k xs =
+    let e : w + k * w ≡ (k + 1) * w = omega (arith, add-mul k 1 w) in
+    ap (take w) (drop-drop (k * w) w xs ∙ ap (λ (i : ℕ). drop i xs) e)
+
+pub slices_from : (f : ℕ → List ℕ) (w n a : ℕ) (xs : List ℕ) → length xs ≡ n * w → ((k : ℕ) → k < n → slice_of w k xs ≡ f (a + k)) → xs ≡ flat_map f (range_with_len a n)
+slices_from f w zero a xs l h = nil_from_length xs (l ∙ zero-mul w)
+slices_from f w (suc n) a xs l h =
+    let size : suc n * w ≡ n * w + w = suc-mul n w in
+    let none : a + 0 ≡ a = omega arith in
+    let first : take w xs ≡ f a = ap (λ (i : ℕ). take w (drop i xs)) (sym (zero-mul w)) ∙ (h 0 (omega arith) ∙ ap f none) in
+    let rest : drop w xs ≡ flat_map f (range_with_len (a + 1) n) =
+    slices_from f w n (a + 1) (drop w xs) (omega (arith, length-drop w xs, l, size))
+    (λ k lt. let next : a + (k + 1) ≡ a + 1 + k = omega arith in slice_next w k xs ∙ (h (k + 1) (omega arith) ∙ ap f next)) in
+    sym (take-append-drop w xs) ∙ ap₂ ◌++◌ first rest
+
+pub next_slice : (w r n : ℕ) → r < n → r * w + w ≤ n * w
+next_slice w r n lt = let k : suc r * w ≤ n * w = mul-le-mul_right w (omega arith) in omega arith
+
+pub length-slice_of : (w r n : ℕ) (xs : List ℕ) → length xs ≡ n * w → r < n → length (slice_of w r xs) ≡ w
+length-slice_of w r n xs l lt = let k = next_slice w r n lt in length-take-le w (drop (r * w) xs) (omega (arith, length-drop (r * w) xs))
+
+pub get_or-slice_of : (w r m : ℕ) (xs : List ℕ) → m < w → get_or (slice_of w r xs) m 0 ≡ get_or xs (r * w + m) 0
+get_or-slice_of w r m xs lt = get_or-take w (drop (r * w) xs) m 0 lt ∙ get_or-drop (r * w) xs m 0
+
+-- positions
+
+pub position_found : (xs : List ℕ) (t : ℕ) → Distinct xs → t < length xs → position_or_len (λ d. eqb d (get_or xs t 0)) xs ≡ t
+position_found [] t d lt = absurd (omega arith)
+position_found (x ∷ xs) zero d lt = let e : eqb x x ≡ true = eq-eqb x x refl in λ q. cond (not (e q)) (1 + position_or_len (λ d. eqb d x) xs) 0
+position_found (x ∷ xs) (suc t) d lt =
+    let y : ℕ = get_or xs t 0 in
+    let e : eqb x y ≡ false = ne_eqb x y (λ g. d.0 (subst (λ z. In xs z) (sym g) (get_or-In xs t 0 (omega arith)))) in
+    let k = position_found xs t d.1 (omega arith) in
+    (λ q. cond (not (e q)) (1 + position_or_len (λ d. eqb d y) xs) 0) ∙ omega arith
+
+pub position_missed : (xs : List ℕ) (r : ℕ) → (In xs r → ⊥) → position_or_len (λ d. eqb d r) xs ≡ length xs
+position_missed [] r f = refl
+position_missed (x ∷ xs) r f =
+    let e : eqb x r ≡ false = ne_eqb x r (λ g. f (inl g)) in
+    let k = position_missed xs r (λ m. f (inr m)) in
+    (λ q. cond (not (e q)) (1 + position_or_len (λ d. eqb d r) xs) 0) ∙ omega arith
+
+pub is_position : (xs : List ℕ) (t : ℕ) → Distinct xs → t < length xs → position (λ d. eqb d (get_or xs t 0)) xs ≡ Some t
+is_position xs t d lt =
+    let e = position_found xs t d lt in
+    let b : ltb t (length xs) ≡ true = lt-ltb t (length xs) lt in
+    (λ q. cond (ltb (e q) (length xs)) (Some (e q)) None) ∙ (λ q. cond (b q) (Some t) None)
+
+pub no_position : (xs : List ℕ) (r : ℕ) → (In xs r → ⊥) → position (λ d. eqb d r) xs ≡ None
+no_position xs r f =
+    let e = position_missed xs r f in
+    let b : ltb (length xs) (length xs) ≡ false = le-ltb (length xs) (length xs) (omega arith) in
+    (λ q. cond (ltb (e q) (length xs)) (Some (e q)) None) ∙ (λ q. cond (b q) (Some (length xs)) None)
+
+-- patches
+
+pub patched_at : (p v base k x : ℕ) (xs : List ℕ) (ps : List (ℕ × ℕ)) (b : Bool) → leb base p ≡ b → k < length xs → (p ≡ base + k → v ≡ x)
+    → (get_or xs k 0 ≡ x) ⊎ In ((p, v) ∷ ps) (base + k, x)
+    → (get_or (cond b (set xs (p - base) v) xs) k 0 ≡ x) ⊎ In ps (base + k, x)
+patched_at p v base k x xs ps b e lt f (inr (inr m)) = inr m
+patched_at p v base k x xs ps true e lt f (inr (inl m)) =
+    let a : p ≡ base + k = ap (λ (z : ℕ × ℕ). z.0) m in
+    let c : p - base ≡ k = omega arith in
+    inl ((λ q. get_or (set xs (c q) v) k 0) ∙ get_or-set_same xs k v 0 lt ∙ f a)
+patched_at p v base k x xs ps false e lt f (inr (inl m)) =
+    let a : p ≡ base + k = ap (λ (z : ℕ × ℕ). z.0) m in
+    absurd (false≢true (sym e ∙ le-leb base p (omega arith)))
+patched_at p v base k x xs ps false e lt f (inl g) = inl g
+patched_at p v base k x xs ps true e lt f (inl g) =
+    let le : base ≤ p = leb-true base p e in
+    elim (cases_lt (p - base) k) [
+      | inl a ↦ inl (get_or-set_other xs (p - base) k v 0 (λ z. absurd (omega arith)) ∙ g)
+      | inr a ↦ elim (cases_lt k (p - base)) [
+        | inl b ↦ inl (get_or-set_other xs (p - base) k v 0 (λ z. absurd (omega arith)) ∙ g)
+        | inr b ↦ let c : p - base ≡ k = omega arith in inl ((λ q. get_or (set xs (c q) v) k 0) ∙ get_or-set_same xs k v 0 lt ∙ f (omega arith))
+      ]
+    ]
+
+pub length_at : (p v base : ℕ) (xs : List ℕ) (b : Bool) → length (cond b (set xs (p - base) v) xs) ≡ length xs
+length_at p v base xs true = length-set xs (p - base) v
+length_at p v base xs false = refl
+
+pub length-patched : (ps : List (ℕ × ℕ)) (base : ℕ) (xs : List ℕ) → length (patched ps base xs) ≡ length xs
+length-patched [] base xs = refl
+length-patched (x ∷ ps) base xs = length-patched ps base (cond (leb base x.0) (set xs (x.0 - base) x.1) xs) ∙ length_at x.0 x.1 base xs (leb base x.0)
+
+-- the word at k: where each patch there writes x, and there is one or x stands there
+pub patched_is : (ps : List (ℕ × ℕ)) (base k x : ℕ) (xs : List ℕ) → k < length xs → ((v : ℕ) → In ps (base + k, v) → v ≡ x) → (get_or xs k 0 ≡ x) ⊎ In ps (base + k, x) → get_or (patched ps base xs) k 0 ≡ x
+patched_is [] base k x xs lt f (inl e) = e
+patched_is [] base k x xs lt f (inr m) = absurd m
+patched_is (y ∷ ps) base k x xs lt f d =
+    let l = length_at y.0 y.1 base xs (leb base y.0) in
+    patched_is ps base k x (cond (leb base y.0) (set xs (y.0 - base) y.1) xs) (omega arith) (λ v m. f v (inr m))
+    (patched_at y.0 y.1 base k x xs ps (leb base y.0) refl lt (λ e. f y.1 (inl (λ q. (e q, y.1)))) d)
+
+-- slice t of lists of one width, one after another, is the t-th
+pub flat_slice : (f : ℕ → List ℕ) (w : ℕ) → ((r : ℕ) → length (f r) ≡ w) → (xs : List ℕ) (t : ℕ) → t < length xs → slice_of w t (flat_map f xs) ≡ f (get_or xs t 0)
+flat_slice f w size [] t lt = absurd (omega arith)
+flat_slice f w size (x ∷ xs) zero lt =
+    ap (λ (i : ℕ). take w (drop i (f x ++ flat_map f xs))) (zero-mul w)
+    ∙ ap (λ (i : ℕ). take i (f x ++ flat_map f xs)) (sym (size x))
+    ∙ take-append_seam (f x) (flat_map f xs)
+flat_slice f w size (x ∷ xs) (suc t) lt =
+    let rest : drop w (f x ++ flat_map f xs) ≡ flat_map f xs = ap (λ (i : ℕ). drop i (f x ++ flat_map f xs)) (sym (size x)) ∙ drop-append_seam (f x) (flat_map f xs) in
+    let next : t + 1 ≡ suc t = omega arith in
+    ap (λ (i : ℕ). slice_of w i (f x ++ flat_map f xs)) (sym next) ∙ sym (slice_next w t (f x ++ flat_map f xs)) ∙ ap (slice_of w t) rest ∙ flat_slice f w size xs t (omega arith)
+
+pub flat_length : (f : ℕ → List ℕ) (w : ℕ) → ((r : ℕ) → length (f r) ≡ w) → (xs : List ℕ) → length (flat_map f xs) ≡ length xs * w
+flat_length f w size [] = sym (zero-mul w)
+flat_length f w size (x ∷ xs) =
+    let both : length (f x ++ flat_map f xs) ≡ length (f x) + length (flat_map f xs) = length-append (f x) (flat_map f xs) in
+    let one : length (f x) ≡ w = size x in
+    let rest : length (flat_map f xs) ≡ length xs * w = flat_length f w size xs in
+    let more : suc (length xs) * w ≡ length xs * w + w = suc-mul (length xs) w in
+    omega arith
+
+pub Distinct-take : {A : Type 0} (n : ℕ) (xs : List A) → Distinct xs → Distinct (take n xs)
+Distinct-take zero xs d = tt
+Distinct-take (suc n) [] d = tt
+Distinct-take (suc n) (x ∷ xs) d = ((λ m. d.0 (taken_in n xs x m)), Distinct-take n xs d.1)
