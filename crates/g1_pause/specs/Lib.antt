@@ -1,1 +1,5 @@
 pub mod Settings
+pub mod Answer
+pub mod Follows
+pub mod Report
+pub mod Laws

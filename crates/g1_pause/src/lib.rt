@@ -6,8 +6,14 @@
 //! built yet.
 #![tactic(auto)]
 
+mod evacuating;
+mod report;
 mod settings;
 #[cfg(test)]
 mod tests;
+mod whole;
 
+pub use evacuating::evacuate;
+pub use report::Report;
 pub use settings::{Choice, Settings};
+pub use whole::pause_bytes;
