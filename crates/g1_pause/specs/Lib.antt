@@ -3,3 +3,4 @@ pub mod Answer
 pub mod Follows
 pub mod Report
 pub mod Laws
+pub mod Streams
