@@ -1,5 +1,5 @@
 -- No answer to bytes is a device's fault, so a run that is refused gives what it may.
-use Rattle.std.proofs.Common.{◌≡◌, ℕ, ◌⊎◌, inl, inr, Bool, List, Option, Some, None, IfSome, Result, Err, refl, sym, ap, ◌∙◌, subst}
+use Rattle.std.proofs.Common.{◌≡◌, ℕ, ◌⊎◌, inl, inr, Bool, List, Option, Some, None, IfSome, Err, refl, sym, ap, ◌∙◌, subst}
 use Rattle.std.proofs.KnownBytes.{Keeps-refl}
 use Rattle.g1_words.specs.declared.fault.Fault.{Fault}
 use Rattle.g1_words.specs.declared.fault.Fault.TheVariants as fault
@@ -9,7 +9,7 @@ use Rattle.g1_image.specs.Image.{Image}
 use Rattle.g1_choose.specs.declared.parameters.Cost.{Cost}
 use Rattle.g1_pause.specs.declared.settings.Choice.{Choice}
 use Rattle.g1_pause.specs.Answer.{IsEvacuated, IsAnswer, unread, refused}
-use Rattle.g1_pause.specs.Streams.{RunGives, WritesNoFault, input_mark, output_mark}
+use Rattle.g1_pause.specs.Streams.{RunGives, input_mark, output_mark}
 
 -- the pause of an image names no device
 evacuated : (cost : Cost) (choice : Choice) (i : Image) (d : Device) → IsEvacuated cost choice i (Err (fault.Device d)) → ⊥

@@ -1,5 +1,5 @@
 -- Bytes that are read and written a part at a time.
-use Rattle.std.proofs.Common.{◌≡◌, ℕ, ◌+◌, ◌-◌, ◌≤◌, List, ◌++◌, Option, Some, None, length, take, drop, ap, sym, ◌∙◌, arith, append_assoc, length-drop, length-take, subst, min}
+use Rattle.std.proofs.Common.{◌≡◌, ℕ, ◌+◌, ◌-◌, ◌≤◌, List, ◌++◌, Option, Some, None, length, take, drop, ap, sym, ◌∙◌, arith, append_assoc, length-take, subst}
 use Rattle.std.proofs.lemmas.List.{take-take, take-append-le, length-take-le}
 use Rattle.std.proofs.Math.Seq.{take-add, take-append-add}
 use Rattle.std.proofs.KnownBytes.{Consumes-trans}
@@ -16,11 +16,11 @@ appends_part (Some x) (Some y) (Some z) xs at n h p q =
     let whole : take at xs ++ take n (drop at xs) ≡ take (at + n) xs = sym (take-add at n xs) in
     q ∙ (ap (λ (s : List ℕ). y ++ s) part ∙ (ap (λ (s : List ℕ). s ++ take n (drop at xs)) p ∙ (append_assoc x (take at xs) (take n (drop at xs)) ∙ ap (λ (s : List ℕ). x ++ s) whole)))
 
--- a list that is cut or filled up further on keeps its front
-pub front_kept : (xs ys : List ℕ) (at more : ℕ) → at ≤ length xs → take at (take (at + more) xs ++ ys) ≡ take at xs
-front_kept xs ys at more within =
+-- a list that was cut or filled up further on has kept its front
+pub front_kept : (xs ys zs : List ℕ) (at more : ℕ) → ys ≡ take (at + more) xs ++ zs → at ≤ length xs → take at ys ≡ take at xs
+front_kept xs ys zs at more p within =
     let enough : at ≤ length (take (at + more) xs) = omega (arith, within, length-take (at + more) xs) in
-    take-append-le at (take (at + more) xs) ys enough ∙ take-take at (at + more) xs (omega arith)
+    ap (take at) p ∙ (take-append-le at (take (at + more) xs) zs enough ∙ take-take at (at + more) xs (omega arith))
 
 -- what was read into xs up to a place, and n bytes more that were read behind it into d, whose front is that of xs
 pub read_part : (a b c : Option (List ℕ)) (xs d buf post : List ℕ) (at n : ℕ) → at ≤ length d → n ≤ length buf → take at d ≡ take at xs → Consumes a b (take at xs) → Consumes b c (take n buf)

@@ -1,4 +1,4 @@
-use Rattle.std.proofs.Common.{rules, ◌≡◌, ℕ, ◌≤◌, ◌-◌, ◌+◌, List, ◌++◌, length, take, vec_len, ap, sym, subst, ◌∙◌, arith}
+use Rattle.std.proofs.Common.{rules, ◌≡◌, ◌≤◌, ◌-◌, ◌+◌, ◌++◌, length, take, ap, sym, subst, ◌∙◌}
 use Rattle.std.specs.Io.KnownBytes.{Consumes}
 use Rattle.std.specs.Vec.{with_items}
 use Rattle.std.proofs.lemmas.List.{with_items_is, places}
@@ -17,7 +17,7 @@ loop-filled-preserved g c =
     let post = post_of at (length d - at) d in
     let here : at ≤ length xs = search (rules, places) in
     let kept : take at c.if-filled-len.all.items ≡ take at xs = elim c.if-filled-len.branch [
-      then-filled-len+in_ok-resize w ↦ ap (λ v. take at v.items) w.all-is ∙ (ap (take at) w.in_ok-resize.ensures.items ∙ front_kept xs _ at 65536 here)
+      then-filled-len+in_ok-resize w ↦ ap (λ v. take at v.items) w.all-is ∙ front_kept xs w.resize.new.self.items _ at 65536 w.in_ok-resize.ensures.items here
       | else-filled-len w ↦ ap (λ v. take at v.items) w.all-is ] in
     let within : at ≤ length d = search (rules, places) in
     let some : n ≤ length buf = c.in_ok-n.ensures.bound in

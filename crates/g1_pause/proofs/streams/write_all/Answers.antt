@@ -1,4 +1,4 @@
-use Rattle.std.proofs.Common.{◌≤◌, ◌-◌, length, take, drop, arith, ◌∙◌, length-take-le, length-drop}
+use Rattle.std.proofs.Common.{◌≤◌, ◌-◌, length, drop, arith, ◌∙◌, length-take-le, length-drop}
 use Rattle.g1_pause.proofs.Pieces.{appends_part}
 use Rattle.g1_pause.proofs.streams.write_all.Goals as goal
 
