@@ -1,1 +1,6 @@
 pub mod Settings
+pub mod Answer
+pub mod Follows
+pub mod Report
+pub mod Laws
+pub mod Streams

@@ -6,8 +6,22 @@
 //! built yet.
 #![tactic(auto)]
 
+mod evacuating;
+mod report;
+mod running;
 mod settings;
+mod streams;
 #[cfg(test)]
 mod tests;
+#[cfg(test)]
+mod tests_streams;
+mod whole;
+mod wraps;
 
+pub use evacuating::evacuate;
+pub use report::Report;
+pub use running::pause_run;
 pub use settings::{Choice, Settings};
+pub use streams::{Sink, Source, read_to_end, write_all};
+pub use whole::pause_bytes;
+pub use wraps::{FromReader, ToWriter};

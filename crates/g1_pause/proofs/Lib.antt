@@ -1,0 +1,2 @@
+mod NoDevice
+mod Pieces

@@ -1,0 +1,17 @@
+use Rattle.std.proofs.Common.{◌∙◌}
+use Rattle.g1_pause.proofs.NoDevice.{run_refused, refusal_leaves_input, refusal_leaves_output}
+use Rattle.g1_pause.proofs.running.pause_run.Goals as goal
+
+pub returns-clause-answer : goal.returns-clause-answer
+returns-clause-answer g c =
+    run_refused c.args.settings.now.cost c.args.settings.now.choice (g.I.Source.left c.args.reader.now) c.in_ok-bytes.bytes.items c.as_slice.result.now (g.O.Sink.written c.args.writer.now)
+    c.in-Err.fault c.as_slice.ensures.value c.in_ok-bytes.ensures.bytes c.in-Err.ensures.fault
+
+pub returns-clause-input : goal.returns-clause-input
+returns-clause-input g c =
+    c.in_ok-bytes.ensures.marks
+    ∙ refusal_leaves_input c.args.settings.now.cost c.args.settings.now.choice c.as_slice.result.now (g.I.Source.failed c.args.reader.now) c.in-Err.fault c.in-Err.ensures.fault
+
+pub returns-clause-output : goal.returns-clause-output
+returns-clause-output g c =
+    refusal_leaves_output c.args.settings.now.cost c.args.settings.now.choice c.as_slice.result.now (g.O.Sink.failed c.args.writer.now) c.in-Err.fault c.in-Err.ensures.fault

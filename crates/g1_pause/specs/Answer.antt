@@ -1,0 +1,42 @@
+-- What a pause answers.
+use Rattle.std.specs.Prelude.{◌≡◌, ℕ, List, ◌∷◌, ◌≤◌, ◌<◌, map, filter, length, slice_index, Result, Ok, Err, Vec}
+use Rattle.std.specs.Global.{Global}
+use Rattle.g1_words.specs.declared.fault.Fault.{Fault}
+use Rattle.g1_words.specs.declared.fault.Fault.TheVariants.{Uncovered, Set, Room}
+use Rattle.g1_words.specs.Heap.{regions}
+use Rattle.g1_words.specs.Lists.{has}
+use Rattle.g1_words.specs.Survivors.{Survivors}
+use Rattle.g1_words.specs.Live.{IsLiveBytes}
+use Rattle.g1_words.specs.Layout.{need, free_regions}
+use Rattle.g1_image.specs.Image.{Image, IsTextOf}
+use Rattle.g1_image.specs.Faults.{FaultOf}
+use Rattle.g1_image.specs.Cards.{refined, uncovered, Covered}
+use Rattle.g1_image.specs.Moved.{IsMoved}
+use Rattle.g1_choose.specs.declared.parameters.Cost.{Cost}
+use Rattle.g1_choose.specs.Choice.{IsChosen}
+use Rattle.g1_choose.specs.Named.{AreDistinctOrdinary, IsFirstBad}
+use Rattle.g1_pause.specs.declared.settings.Choice.{Choice}
+use Rattle.g1_pause.specs.declared.settings.Choice.TheVariants.{Budget, Given}
+
+-- the collection set, rising: what the budget buys by the refined sets and the live bytes, or the regions that are named
+abbrev pub IsSetFor : Cost → Image → Choice → List ℕ → Type 0
+IsSetFor cost i (Budget b) set =
+    (lives : List ℕ) × IsLiveBytes i.heap lives
+    × IsChosen cost i.heap (map (refined i) (regions i.heap)) lives (length i.log) b set
+IsSetFor cost i (Given list) set = AreDistinctOrdinary i.heap list.items × (set ≡ filter (has list.items) (regions i.heap))
+
+-- what the pause of an image gives: the first region of the list that can't be taken, or that the free regions have no room for the survivors, or the image after
+pub data IsEvacuated (cost : Cost) (choice : Choice) (i : Image) : Result Image Fault → Type 0 where
+  bad_set : (list : Vec ℕ Global) (k : ℕ) → choice ≡ Given list → IsFirstBad i.heap list.items k → IsEvacuated cost choice i (Err (Set (slice_index list.items k)))
+  no_room : (set l : List ℕ) → IsSetFor cost i choice set → Survivors i.heap set l → length (free_regions i.heap) < need i.heap l
+      → IsEvacuated cost choice i (Err (Room (need i.heap l) (length (free_regions i.heap))))
+  done : (set l : List ℕ) {j : Image} → IsSetFor cost i choice set → Survivors i.heap set l → need i.heap l ≤ length (free_regions i.heap)
+      → IsMoved i set l j → IsEvacuated cost choice i (Ok j)
+
+-- THE ANSWER to bytes: the fault of bytes that are no image's text, else that of the lowest slot without cover, else what
+-- the pause of the image gives, an image as its text
+pub data IsAnswer (cost : Cost) (choice : Choice) (bytes : List ℕ) : Result (List ℕ) Fault → Type 0 where
+  unread : {f : Fault} → FaultOf bytes f → IsAnswer cost choice bytes (Err f)
+  not_covered : {i : Image} {p : ℕ} {ps : List ℕ} → IsTextOf bytes i → uncovered i ≡ p ∷ ps → IsAnswer cost choice bytes (Err (Uncovered p))
+  refused : {i : Image} {f : Fault} → IsTextOf bytes i → Covered i → IsEvacuated cost choice i (Err f) → IsAnswer cost choice bytes (Err f)
+  written : {i j : Image} {out : List ℕ} → IsTextOf bytes i → Covered i → IsEvacuated cost choice i (Ok j) → IsTextOf out j → IsAnswer cost choice bytes (Ok out)

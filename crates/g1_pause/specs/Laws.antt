@@ -1,0 +1,34 @@
+-- The laws that public functions of this crate prove.
+use Rattle.std.specs.Prelude.{◌≡◌, ℕ, List, Result, Ok}
+use Rattle.g1_words.specs.declared.fault.Fault.{Fault}
+use Rattle.g1_image.specs.Image.{Image}
+use Rattle.g1_image.specs.Cards.{IsTracked}
+use Rattle.g1_image.specs.Reading.{IsBytes}
+use Rattle.g1_choose.specs.declared.parameters.Cost.{Cost}
+use Rattle.g1_pause.specs.declared.settings.Choice.{Choice}
+use Rattle.g1_pause.specs.Answer.{IsSetFor, IsEvacuated, IsAnswer}
+use Rattle.g1_pause.specs.Follows.{Follows, TextFollows}
+
+-- a choice has one set
+abbrev pub OneSetFor : Type 0
+OneSetFor = (cost : Cost) (i : Image) (choice : Choice) (s t : List ℕ) → IsSetFor cost i choice s → IsSetFor cost i choice t → s ≡ t
+
+-- the pause of an image gives one thing
+abbrev pub OneEvacuation : Type 0
+OneEvacuation = (cost : Cost) (i : Image) (choice : Choice) (x y : Result Image Fault) → IsTracked i → IsEvacuated cost choice i x → IsEvacuated cost choice i y → x ≡ y
+
+-- bytes have one answer
+abbrev pub OneAnswer : Type 0
+OneAnswer = (cost : Cost) (choice : Choice) (bytes : List ℕ) (x y : Result (List ℕ) Fault) → IsAnswer cost choice bytes x → IsAnswer cost choice bytes y → x ≡ y
+
+-- and always have one
+abbrev pub AnswerExists : Type 0
+AnswerExists = (cost : Cost) (choice : Choice) (bytes : List ℕ) → IsBytes bytes → (x : Result (List ℕ) Fault) × IsAnswer cost choice bytes x
+
+-- the image that a pause gives follows from the image before
+abbrev pub EvacuationFollows : Type 0
+EvacuationFollows = (cost : Cost) (choice : Choice) (i j : Image) → IsTracked i → IsEvacuated cost choice i (Ok j) → Follows cost choice i j
+
+-- and so do the texts
+abbrev pub AnswerFollows : Type 0
+AnswerFollows = (cost : Cost) (choice : Choice) (bytes out : List ℕ) → IsAnswer cost choice bytes (Ok out) → TextFollows cost choice bytes out

@@ -1,0 +1,46 @@
+-- What sources and sinks of bytes say of their bytes and marks, and what a whole run over them gives.
+use Rattle.std.specs.Prelude.{◌≡◌, ℕ, ◌<◌, Bool, true, List, length, take, Option, Result, Ok, Err, ⊤}
+use Rattle.std.specs.Io.KnownBytes.{Appends, Keeps}
+use Rattle.g1_words.specs.declared.fault.Fault.{Fault}
+use Rattle.g1_words.specs.declared.fault.Fault.TheVariants.{Memory, Device}
+use Rattle.g1_words.specs.declared.fault.Device.TheVariants.{Input, Output}
+use Rattle.g1_choose.specs.declared.parameters.Cost.{Cost}
+use Rattle.g1_pause.specs.declared.settings.Choice.{Choice}
+use Rattle.g1_pause.specs.Answer.{IsAnswer}
+
+-- the mark after a call: an error makes it true, any other answer leaves it as it was
+abbrev pub marked : {X : Type 0} → Bool → Result X Fault → Bool
+marked mark (Ok x) = mark
+marked mark (Err e) = true
+
+-- a read to the end fails for want of memory, the mark as before, or by a call that failed; the marks are those before and after
+abbrev pub ReadFails : Bool → Bool → Fault → Type 0
+ReadFails old new Memory = new ≡ old
+ReadFails old new (Device Input) = new ≡ true
+ReadFails _ _ _ = ⊥
+
+-- the source's mark after a run: a run that tells of the input has marked it, any other leaves it as it was
+abbrev pub input_mark : {X : Type 0} → Bool → Result X Fault → Bool
+input_mark mark (Err (Device Input)) = true
+input_mark mark _ = mark
+
+-- the sink's mark after a run: a run that tells of the output has marked it, any other leaves it as it was
+abbrev pub output_mark : {X : Type 0} → Bool → Result X Fault → Bool
+output_mark mark (Err (Device Output)) = true
+output_mark mark _ = mark
+
+-- a run that is refused wrote nothing, but where the output failed; the bytes written are those before and after
+abbrev pub WritesNoFault : {X : Type 0} → Option (List ℕ) → Option (List ℕ) → Result X Fault → Type 0
+WritesNoFault old new (Ok x) = ⊤
+WritesNoFault old new (Err (Device Output)) = ⊤
+WritesNoFault old new (Err e) = Keeps old new
+
+-- WHAT A RUN GIVES, by the bytes xs that were left to read, and those written before and after: the answer to xs stands
+-- appended; or the output failed, and a beginning of that answer stands; or the input failed or memory was wanted, and nothing
+-- was written; or xs is refused, and nothing was written
+abbrev pub RunGives : Cost → Choice → List ℕ → Option (List ℕ) → Option (List ℕ) → Result (Unit {0}) Fault → Type 0
+RunGives cost choice xs old new (Ok u) = (ys : List ℕ) × IsAnswer cost choice xs (Ok ys) × Appends old new ys
+RunGives cost choice xs old new (Err (Device Output)) = (ys : List ℕ) × (k : ℕ) × IsAnswer cost choice xs (Ok ys) × (k < length ys) × Appends old new (take k ys)
+RunGives cost choice xs old new (Err (Device Input)) = Keeps old new
+RunGives cost choice xs old new (Err Memory) = Keeps old new
+RunGives cost choice xs old new (Err e) = Keeps old new × IsAnswer cost choice xs (Err e)

@@ -1,0 +1,107 @@
+//! The readers and writers of std as sources and sinks.
+ghost use Rattle.std.specs.Prelude.{◌≡◌, false, IfErr};
+ghost use Rattle.std.specs.Io.KnownBytes.{Keeps};
+ghost use Rattle.g1_pause.specs.Streams.{marked};
+
+use crate::streams::{Sink, Source};
+use g1_words::{Device, Fault};
+use std::io::{Read, Write};
+
+/// A reader as a source.
+#[derive(Drop)]
+pub struct FromReader<R> {
+    inner: R,
+    failed: bool,
+}
+
+impl<R: Read> FromReader<R> {
+    /// The source of a reader's bytes; no call of it has failed.
+    pub fn new(inner: R) -> FromReader<R>
+        ensures left { ⟦<FromReader<R> as Source>⟧.left result ≡ R.remaining inner }
+        ensures mark { ⟦<FromReader<R> as Source>⟧.failed result ≡ false }
+    {
+        FromReader {
+            inner,
+            failed: false,
+        }
+    }
+}
+
+impl<R: Read> Source for FromReader<R> {
+    ghost left = { λ s. R.remaining s.inner };
+
+    ghost failed = { λ s. s.failed };
+
+    fn read(&mut self, buf: &mut [u8]) -> Result<usize, Fault> {
+        match self.inner.read(buf) {
+            Ok(n) => Ok(n),
+            Err(_) => {
+                self.failed = true;
+                Err(Fault::Device(Device::Input))
+            }
+        }
+    }
+}
+
+/// A writer as a sink.
+#[derive(Drop)]
+pub struct ToWriter<W> {
+    inner: W,
+    failed: bool,
+}
+
+impl<W: Write> ToWriter<W> {
+    /// The sink into a writer; no call of it has failed.
+    pub fn new(inner: W) -> ToWriter<W>
+        ensures written { ⟦<ToWriter<W> as Sink>⟧.written result ≡ W.contents inner }
+        ensures mark { ⟦<ToWriter<W> as Sink>⟧.failed result ≡ false }
+    {
+        ToWriter {
+            inner,
+            failed: false,
+        }
+    }
+
+    /// Hands on what the writer has kept back.
+    ///
+    /// # Errors
+    ///
+    /// `Fault::Device(Device::Output)` where the writer couldn't.
+    pub fn flush(&mut self) -> Result<(), Fault>
+        ensures written { Keeps (⟦<ToWriter<W> as Sink>⟧.written self.old) (⟦<ToWriter<W> as Sink>⟧.written self.new) }
+        ensures mark { ⟦<ToWriter<W> as Sink>⟧.failed self.new ≡ marked (⟦<ToWriter<W> as Sink>⟧.failed self.old) result }
+        ensures fault { IfErr result (λ e. e ≡ Fault.Device Device.Output) }
+    {
+        match self.inner.flush() {
+            Ok(()) => Ok(()),
+            Err(_) => {
+                self.failed = true;
+                Err(Fault::Device(Device::Output))
+            }
+        }
+    }
+
+    /// The writer itself.
+    pub fn into_inner(self) -> W
+        ensures { W.contents result ≡ ⟦<ToWriter<W> as Sink>⟧.written self }
+    {
+        let ToWriter { inner, failed: _ } = self;
+        inner
+    }
+}
+
+impl<W: Write> Sink for ToWriter<W> {
+    ghost written = { λ s. W.contents s.inner };
+
+    ghost failed = { λ s. s.failed };
+
+    fn write(&mut self, bytes: &[u8]) -> Result<usize, Fault> {
+        match self.inner.write(bytes) {
+            Ok(n) if n > 0 || bytes.is_empty() => Ok(n),
+            _ => {
+                self.failed = true;
+                Err(Fault::Device(Device::Output))
+            }
+        }
+    }
+}
