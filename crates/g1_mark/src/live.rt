@@ -1,7 +1,10 @@
 ghost use Rattle.std.specs.Prelude.{◌≡◌, ◌<◌, ◌≤◌, ℕ, List, IfOk, IfErr};
 ghost use Rattle.g1_words.specs.declared.fault.Fault.TheVariants.{Memory};
 ghost use Rattle.g1_words.specs.Live.{IsLiveBytes};
+ghost use Rattle.g1_words.specs.Survivors.{Survivors};
+ghost use Rattle.g1_words.specs.Valid.{IsValid};
 ghost use Rattle.g1_rem.specs.Starts.{IsStartsOf};
+ghost use Rattle.g1_mark.specs.Marked.{used};
 
 use crate::bytes::{bytes_at, used_regions};
 use g1_frontier::discover;
@@ -10,6 +13,38 @@ use g1_words::{Fault, Heap};
 use g1_work::Gate;
 use std::alloc::Global;
 use std::thread::Threads;
+
+/// The addresses of all objects that the roots reach, in the order in which the search finds them.
+pub fn live_objects<R: Threads + Sync, G: Gate + Sync>(
+    rt: &R,
+    alloc: Global,
+    heap: &Heap,
+    starts: &Starts,
+    workers: u64,
+    chunk: u64,
+    gate: &G,
+) -> Result<Vec<u64>, Fault>
+    requires starts { IsStartsOf heap.now starts.now }
+    requires workers { (0 < workers) × (workers ≤ 64) }
+    requires chunk { (0 < chunk) × (chunk ≤ 65536) }
+    ensures valid { IsValid heap.now }
+    ensures ok { IfOk result (λ v. Survivors heap.now (used heap.now) v.items) }
+    ensures memory { IfErr result (λ e. e ≡ Memory) }
+{
+    let window = used_regions(alloc, heap)?;
+    let cards: [u32; 0] = [];
+    discover(
+        rt,
+        alloc,
+        heap,
+        starts,
+        window.as_slice(),
+        &cards,
+        workers,
+        chunk,
+        gate,
+    )
+}
 
 /// The live bytes of each region, by number: 8 for each word of its objects that the roots reach.
 /// All bytes of a humongous object count in its first region.
@@ -34,18 +69,6 @@ pub fn live_bytes<R: Threads + Sync, G: Gate + Sync>(
     ensures only { IfOk result (λ v. (l : List ℕ) → IsLiveBytes heap.now l → l ≡ v.items) }
     ensures memory { IfErr result (λ e. e ≡ Memory) }
 {
-    let window = used_regions(alloc, heap)?;
-    let cards: [u32; 0] = [];
-    let live = discover(
-        rt,
-        alloc,
-        heap,
-        starts,
-        window.as_slice(),
-        &cards,
-        workers,
-        chunk,
-        gate,
-    )?;
+    let live = live_objects(rt, alloc, heap, starts, workers, chunk, gate)?;
     Ok(bytes_at(alloc, heap, live.as_slice())?)
 }

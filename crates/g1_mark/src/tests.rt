@@ -1,3 +1,4 @@
+use crate::live::live_objects;
 use crate::live_bytes;
 use g1_image::decode;
 use g1_rem::Starts;
@@ -21,6 +22,20 @@ const SHARED: [u32; 24] = [
 const LONG_OBJECT: [u32; 27] = [
     16, 4, 6, 1, 0, 6, 2, 16, 3, 16, 3, 8, 1, 2, 0, 0, 0, 0, 1, 0, 0, 0, 0, 1, 4, 0, 0,
 ];
+
+/// The roots name 0, 16 and 21, objects of 12, 5 and 4 words: the regions 0 and 1 aren't free.
+const GAP: [u32; 24] = [
+    16, 4, 4, 3, 0, 4, 1, 12, 1, 9, 0, 0, 0, 0, 1, 0, 17, 0, 22, 0, 0, 0, 0, 0,
+];
+
+/// The headers of the three objects, whose data words are 0.
+fn gap_words() -> [u64; 21] {
+    let mut words = [0; 21];
+    words[0] = 12 * SIZE;
+    words[12] = 5 * SIZE;
+    words[17] = 4 * SIZE;
+    words
+}
 
 fn shared_words() -> [u64; 13] {
     [
@@ -84,6 +99,32 @@ fn are_live_bytes<R: Threads + Sync>(
     let eight_large = live_bytes(rt, alloc, heap, &starts, 8, 65_536, &Open)?;
     let equal = one == one_large && one == eight && one == eight_large;
     Ok(equal && one.as_slice() == expected)
+}
+
+/// Tells whether these are all live objects, for few and many workers and for small and large chunks.
+fn are_live_objects<R: Threads + Sync>(
+    rt: &R,
+    alloc: Global,
+    numbers: &[u32],
+    words: &[u64],
+    expected: &[u64],
+) -> Result<bool, Fault> {
+    let image = decode(alloc, &text_of(alloc, numbers, words)?)?;
+    let heap = image.heap();
+    let starts = Starts::build(alloc, heap)?;
+    let one = live_objects(rt, alloc, heap, &starts, 1, 1, &Open)?;
+    let one_large = live_objects(rt, alloc, heap, &starts, 1, 65_536, &Open)?;
+    let eight = live_objects(rt, alloc, heap, &starts, 8, 1, &Open)?;
+    let eight_large = live_objects(rt, alloc, heap, &starts, 8, 65_536, &Open)?;
+    let equal = one == one_large && one == eight && one == eight_large;
+    Ok(equal && one.as_slice() == expected)
+}
+
+#[test]
+fn a_window_of_two_regions_is_searched_as_one(rt: HostRuntime) -> Result<(), Fail> {
+    assert!(rt; are_live_objects(&rt, rt.alloc(), &GAP, &gap_words(), &[0, 16, 21])?);
+    assert!(rt; are_live_objects(&rt, rt.alloc(), &SHARED, &shared_words(), &[21, 16])?);
+    Ok(())
 }
 
 #[test]
