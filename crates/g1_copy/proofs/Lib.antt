@@ -1,2 +1,4 @@
 pub mod TrackedAfter
 pub mod GatheringWords
+pub mod GatheringCopies
+pub mod GatheringRuns
