@@ -14,3 +14,5 @@ pub mod InPlaceCovers
 pub mod InPlaceWriting
 pub mod InPlace
 pub mod PreparedWords
+pub mod GatheringCopies
+pub mod GatheringRuns

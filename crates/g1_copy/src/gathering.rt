@@ -1,11 +1,86 @@
-ghost use Rattle.std.specs.Prelude.{◌≡◌, IfOk, IfErr};
+ghost use Rattle.std.specs.Prelude.{◌≡◌, ◌≤◌, ◌<◌, ◌+◌, ◌-◌, ◌*◌, ◌/◌, ◌%◌, ◌^◌, ◌⊎◌, ℕ, length, replicate, slice_index, Contains, IfOk, IfErr};
+ghost use Rattle.g1_words.specs.Heap.{object_at};
+ghost use Rattle.g1_words.specs.Valid.{IsValid};
+ghost use Rattle.g1_words.specs.Layout.{need, free_regions, forward, moved_to};
+ghost use Rattle.g1_image.specs.Copy.{renamed, renamed_words};
+ghost use Rattle.g1_layout.specs.Plan.{run_at};
 ghost use Rattle.g1_copy.specs.Plans.{IsPlanOf};
-ghost use Rattle.g1_copy.specs.Gathered.{to_space_words};
+ghost use Rattle.g1_copy.specs.Gathered.{placed_words, to_space_words};
 
-use g1_layout::Plan;
-use g1_words::{Fault, Heap};
+use g1_layout::{Plan, Run};
+use g1_words::{Fault, Heap, Object};
+use rayon::prelude::*;
 use std::alloc::Global;
 use std::thread::Threads;
+
+/// A header word is the object's size in words times this, plus its number of references.
+const REFS_RANGE: u64 = 4_294_967_296;
+
+/// The object whose header stands at an address.
+fn object(heap: &Heap, a: u64) -> Object
+    requires { a < length heap.now.words }
+    ensures { result ≡ object_at heap.now a }
+{
+    let header = heap.words()[a as usize];
+    Object {
+        at: a,
+        size: header / REFS_RANGE,
+        refs: header % REFS_RANGE,
+    }
+}
+
+/// A reference word after what it names moved: null stays null.
+fn renamed(plan: &Plan, reference: u64) -> u64
+    requires { renamed (moved_to plan.now.survivors plan.now.places) reference < 2 ^ 64 }
+    ensures { result ≡ renamed (moved_to plan.now.survivors plan.now.places) reference }
+{
+    if reference == 0 {
+        0
+    } else {
+        plan.forward(reference - 1) + 1
+    }
+}
+
+/// Renames the references of an object, whose words these are.
+fn rename(plan: &Plan, refs: u64, words: &mut [u64])
+    requires fits { refs < length words.old }
+    requires in_words { (k : ℕ) → 0 < k → k ≤ refs → renamed (moved_to plan.now.survivors plan.now.places) (slice_index words.old k) < 2 ^ 64 }
+    ensures slots { (k : ℕ) → 0 < k → k ≤ refs → slice_index words.new k ≡ renamed (moved_to plan.now.survivors plan.now.places) (slice_index words.old k) }
+    ensures rest { (k : ℕ) → (k ≡ 0) ⊎ (refs < k) → slice_index words.new k ≡ slice_index words.old k }
+{
+    for k in 0..refs as usize {
+        words[k + 1] = renamed(plan, words[k + 1]);
+    }
+}
+
+/// Writes the copy of a survivor: its words, the references renamed.
+fn copy(heap: &Heap, plan: &Plan, object: &Object, copy: &mut [u64])
+    requires heap { IsValid heap.now }
+    requires plan { IsPlanOf heap.now plan.now }
+    requires survivor { Contains plan.now.survivors object.now.at }
+    requires object { object.now ≡ object_at heap.now object.now.at }
+    requires size { length copy.old ≡ object.now.size }
+    ensures { copy.new ≡ renamed_words (forward heap.now plan.now.survivors) heap.now object.now }
+{
+    let from = object.at as usize;
+    copy.copy_from_slice(&heap.words()[from..from + copy.len()]);
+    rename(plan, object.refs, copy);
+}
+
+/// Writes the copies of a run's survivors into its region, whose words are 0.
+fn fill(heap: &Heap, plan: &Plan, run: Run, words: &mut [u64])
+    requires plan { IsPlanOf heap.now plan.now }
+    requires run { (t : ℕ) × (t < need heap.now plan.now.survivors) × (run ≡ run_at heap.now plan.now.survivors t) }
+    requires empty { words.old ≡ replicate heap.now.geometry.w 0 }
+    ensures { words.new ≡ placed_words heap.now plan.now.survivors run.region }
+{
+    let start = u64::from(run.region) * heap.geometry().region_words();
+    for i in run.from..run.to {
+        let object = object(heap, plan.survivors()[i]);
+        let from = (plan.places()[i] - start) as usize;
+        copy(heap, plan, &object, &mut words[from..from + object.size as usize]);
+    }
+}
 
 /// The words of to-space after the pause, its regions one after another: each survivor at its place
 /// with its references renamed, and 0 elsewhere. Linear in these words.
@@ -23,5 +98,19 @@ pub fn gather(
     ensures ok { IfOk result (λ v. v.items ≡ to_space_words heap.now plan.now.survivors) }
     ensures memory { IfErr result (λ e. e ≡ Fault.Memory) }
 {
-    Err(Fault::Memory)
+    let region_words = heap.geometry().region_words() as usize;
+    let runs = plan.runs();
+    let mut words = vec![in alloc; 0u64; runs.len() * region_words]?;
+    par_chunks_mut_for_each(
+        rt,
+        &mut words,
+        region_words,
+        |start: usize, region: &mut [u64]|
+            requires plan { IsPlanOf heap.now plan.now }
+            requires start { (t : ℕ) × (t < need heap.now plan.now.survivors) × (start ≡ t * heap.now.geometry.w) }
+            requires empty { region.old ≡ replicate heap.now.geometry.w 0 }
+            ensures { (t : ℕ) → start ≡ t * heap.entry.now.geometry.w → region.new ≡ placed_words heap.entry.now plan.entry.now.survivors (slice_index (free_regions heap.entry.now) t) }
+        { fill(heap, plan, runs[start / region_words], region) },
+    );
+    Ok(words)
 }
