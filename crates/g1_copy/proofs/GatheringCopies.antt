@@ -1,12 +1,12 @@
 -- How a copy is written: the words of the object first, then each slot's new word.
-use Rattle.std.proofs.Common.{◌≡◌, ℕ, zero, suc, ◌+◌, ◌-◌, ◌*◌, ◌/◌, ◌%◌, ◌^◌, ◌<◌, ◌≤◌, ◌⊎◌, inl, inr, Bool, true, false, List, length, get_or, set, take, drop, Contains, refl, sym, ◌∙◌, ap, subst, arith, div-add-mod', mod-lt}
+use Rattle.std.proofs.Common.{◌≡◌, ℕ, suc, ◌+◌, ◌*◌, ◌/◌, ◌%◌, ◌^◌, ◌<◌, ◌≤◌, ◌⊎◌, inl, inr, Bool, true, false, List, length, get_or, set, take, drop, Contains, refl, sym, ◌∙◌, ap, subst, arith, div-add-mod', mod-lt}
 use Rattle.std.proofs.Math.Nat.{mul-le-mul_right}
 use Rattle.std.proofs.lemmas.Bool.{cases_lt}
-use Rattle.std.proofs.lemmas.List.{ext_get_or, get_or_default, get_or-drop, get_or-take, get_or-set_same, get_or-set_other, length-set}
+use Rattle.std.proofs.lemmas.List.{ext_get_or, get_or-drop, get_or-take, get_or-set_same, get_or-set_other, length-set}
 use Rattle.g1_words.proofs.Bounds.{object_within}
 use Rattle.g1_words.proofs.Computed.{contains_has, has_contains}
 use Rattle.g1_words.proofs.Indices.{is_free_region, taken_in}
-use Rattle.g1_words.proofs.Members.{In, In-from_contains, Contains-from_in, in_from_has, has_from_in}
+use Rattle.g1_words.proofs.Members.{In-from_contains, Contains-from_in, in_from_has, has_from_in}
 use Rattle.g1_words.proofs.OneToOne.{moved_stays}
 use Rattle.g1_words.proofs.Sound.{sound}
 use Rattle.g1_words.specs.Heap.{Heap, object_at, objects, region_of, word}
@@ -18,7 +18,7 @@ use Rattle.g1_image.proofs.CopyWords.{length-renamed_words, renamed_word}
 use Rattle.g1_image.specs.Copy.{renamed, renamed_words}
 use Rattle.g1_layout.proofs.Stretches.{within_region}
 use Rattle.g1_layout.specs.Placed.{CanPlace}
-use Rattle.g1_layout.specs.Plan.{Plan, plan_of}
+use Rattle.g1_layout.specs.Plan.{Plan}
 use Rattle.g1_copy.specs.Plans.{IsPlanOf}
 
 -- the first n slots are renamed, and the other words are as they were

@@ -1,10 +1,11 @@
 -- How a region of to-space is filled: survivor by survivor of its run.
 use Rattle.std.proofs.Common.{◌≡◌, ℕ, ◌+◌, ◌-◌, ◌*◌, ◌/◌, ◌%◌, ◌<◌, ◌≤◌, ◌⊎◌, inl, inr, List, ◌++◌, length, get_or, map, take, drop, replicate, refl, sym, ◌∙◌, ap, subst, arith, length-append, length-drop}
-use Rattle.std.proofs.Math.Nat.{mul-le-mul_right}
+use Rattle.std.proofs.Math.Nat.{mul-div_left, mul-le-mul_right}
 use Rattle.std.proofs.lemmas.Bool.{cases_lt}
 use Rattle.std.proofs.lemmas.List.{ext_get_or, get_or-append_right, get_or-drop, get_or-replicate, get_or-take, get_or_append_left, length-replicate, length-take-le}
 use borrow.Rule.Slice.PartMut.{put_mid}
-use Rattle.g1_words.specs.Heap.{Heap, object_at, region_of, start}
+use Rattle.std.proofs.lemmas.List.FromFn.{get_or-map-range_with_len, length-map-range_with_len}
+use Rattle.g1_words.specs.Heap.{Heap, object_at, start}
 use Rattle.g1_words.specs.Layout.{forward, free_regions, laid, need, places, sizes_of}
 use Rattle.g1_words.specs.Valid.{IsValid}
 use Rattle.g1_image.specs.Copy.{renamed_words}
@@ -19,7 +20,6 @@ use Rattle.g1_copy.specs.Gathered.{placed_words}
 use Rattle.g1_copy.specs.Plans.{IsPlanOf}
 use Rattle.g1_layout.specs.Plan.{Plan}
 use Rattle.g1_layout.specs.declared.plan.Run.{Run}
-use Rattle.g1_words.specs.Layout.{moved_to}
 use Rattle.g1_words.proofs.Indices.{get_or-In}
 use Rattle.g1_words.proofs.Members.{Contains-from_in}
 use Rattle.g1_layout.proofs.Running.{count_places}
@@ -232,3 +232,19 @@ module _ (h : Heap) (p : Plan) (valid : IsValid h) (made : IsPlanOf h p) (u : Ru
       let region : u.region ≡ get_or (free_regions h) t 0 = ap (λ (u : Run). u.region) run.2 in
       Filling-end h p.set l valid made.placeable made.room t run.1 i words (omega arith) (subst (λ n. Filling h l (get_or (free_regions h) t 0) n i words) from (subst (λ r. Filling h l r u.from i words) region f))
       ∙ ap (placed_words h l) (sym region)
+
+-- ---- by the index of a region's first word among the gathered
+
+module _ (h : Heap) (p : Plan) (valid : IsValid h) (made : IsPlanOf h p) where
+  some_width : 0 < h.geometry.w
+  some_width = let k = valid.limits.w_least in omega arith
+
+  -- which region it is
+  pub region_index : (s : ℕ) → ((t : ℕ) × (t < need h p.survivors) × (s ≡ t * h.geometry.w)) → s / h.geometry.w < need h p.survivors
+  region_index s (t, lt, e) = let k : s / h.geometry.w ≡ t = ap (λ x. x / h.geometry.w) e ∙ mul-div_left t some_width in omega arith
+
+  pub count_runs : length p.runs ≡ need h p.survivors
+  count_runs = ap (λ (p : Plan). length p.runs) made.plan ∙ length-map-range_with_len (run_at h p.survivors) 0 (need h p.survivors)
+
+  pub run_read : (t : ℕ) (d : Run) → t < need h p.survivors → get_or p.runs t d ≡ run_at h p.survivors t
+  run_read t d lt = ap (λ (p : Plan). get_or p.runs t d) made.plan ∙ get_or-map-range_with_len (run_at h p.survivors) 0 (need h p.survivors) t t d lt (omega arith)

@@ -16,3 +16,4 @@ pub mod InPlace
 pub mod PreparedWords
 pub mod GatheringCopies
 pub mod GatheringRuns
+pub mod GatheringWhole

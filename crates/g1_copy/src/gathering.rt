@@ -78,8 +78,24 @@ fn fill(heap: &Heap, plan: &Plan, run: Run, words: &mut [u64])
     for i in run.from..run.to {
         let object = object(heap, plan.survivors()[i]);
         let from = (plan.places()[i] - start) as usize;
-        copy(heap, plan, &object, &mut words[from..from + object.size as usize]);
+        copy(
+            heap,
+            plan,
+            &object,
+            &mut words[from..from + object.size as usize],
+        );
     }
+}
+
+/// Fills a region of to-space, which begins at this index of the gathered words.
+fn fill_at(heap: &Heap, plan: &Plan, start: usize, words: &mut [u64])
+    requires plan { IsPlanOf heap.now plan.now }
+    requires start { (t : ℕ) × (t < need heap.now plan.now.survivors) × (start ≡ t * heap.now.geometry.w) }
+    requires empty { words.old ≡ replicate heap.now.geometry.w 0 }
+    ensures { words.new ≡ placed_words heap.now plan.now.survivors (slice_index (free_regions heap.now) (start / heap.now.geometry.w)) }
+{
+    let region = start / heap.geometry().region_words() as usize;
+    fill(heap, plan, plan.runs()[region], words);
 }
 
 /// The words of to-space after the pause, its regions one after another: each survivor at its place
@@ -99,18 +115,15 @@ pub fn gather(
     ensures memory { IfErr result (λ e. e ≡ Fault.Memory) }
 {
     let region_words = heap.geometry().region_words() as usize;
-    let runs = plan.runs();
-    let mut words = vec![in alloc; 0u64; runs.len() * region_words]?;
+    let mut words = vec![in alloc; 0u64; plan.runs().len() * region_words]?;
     par_chunks_mut_for_each(
         rt,
         &mut words,
         region_words,
         |start: usize, region: &mut [u64]|
-            requires plan { IsPlanOf heap.now plan.now }
-            requires start { (t : ℕ) × (t < need heap.now plan.now.survivors) × (start ≡ t * heap.now.geometry.w) }
-            requires empty { region.old ≡ replicate heap.now.geometry.w 0 }
-            ensures { (t : ℕ) → start ≡ t * heap.entry.now.geometry.w → region.new ≡ placed_words heap.entry.now plan.entry.now.survivors (slice_index (free_regions heap.entry.now) t) }
-        { fill(heap, plan, runs[start / region_words], region) },
+            requires { IsPlanOf heap.now plan.now × ((t : ℕ) × (t < need heap.now plan.now.survivors) × (start ≡ t * heap.now.geometry.w)) × (region.old ≡ replicate heap.now.geometry.w 0) }
+            ensures { region.new ≡ placed_words heap.entry.now plan.entry.now.survivors (slice_index (free_regions heap.entry.now) (start / heap.entry.now.geometry.w)) }
+        { fill_at(heap, plan, start, region) },
     );
     Ok(words)
 }

@@ -1,7 +1,7 @@
-use Rattle.std.proofs.Common.{◌≡◌, ℕ, ◌+◌, ◌-◌, ◌≤◌, ◌<◌, ◌^◌, length, slice_index, take, drop, get_or, arith, ap, subst, sym, ◌∙◌}
+use Rattle.std.proofs.Common.{◌≡◌, ℕ, ◌+◌, ◌-◌, ◌<◌, ◌^◌, length, take, drop, get_or, arith, ap, subst, sym, ◌∙◌}
 use Rattle.std.proofs.lemmas.List.{get_or-take, get_or-drop}
 use Rattle.g1_words.specs.Heap.{word}
-use Rattle.g1_words.specs.Layout.{forward, moved_to}
+use Rattle.g1_words.specs.Layout.{moved_to}
 use Rattle.g1_image.specs.Copy.{renamed, renamed_words}
 use Rattle.g1_copy.proofs.GatheringCopies.{places_of_plan, plan_there, renamed_is_copy}
 use Rattle.g1_copy.proofs.gathering.copy.Goals as goal
