@@ -1,6 +1,6 @@
 -- The cards of slots that lead into each region, slot by slot.
 use Rattle.std.proofs.Common.{◌≡◌, ◌≢◌, ◌≤◌, ◌<◌, ℕ, zero, suc, ◌+◌, ◌-◌, ◌*◌, ◌/◌, Bool, true, false, not, cond, ◌&&◌, ◌||◌, List, [], ◌∷◌, ◌++◌, map, filter, replicate, length, get_or, set, take, All, inl, inr, arith, refl, sym, ap, subst, ◌∙◌, eqb, eqb-true, eq-eqb, ne_eqb, append-nil}
-use Rattle.std.specs.List.{range_with_len, list_any}
+use Rattle.std.specs.List.{range_with_len}
 use Rattle.std.specs.List.Sorted.{IsStrictlyIncreasing}
 use Rattle.std.proofs.lemmas.List.{get_or-map, get_or-take, get_or_default, length-map, length-take}
 use Rattle.std.proofs.lemmas.List.Elements.{filter-append}
@@ -11,7 +11,7 @@ use Rattle.std.proofs.Math.Nat.{le-div_iff_mul-le, div-mul-le_self, div-lt_iff_l
 use Rattle.rayon.specs.Shown.{run-append}
 use Rattle.g1_words.specs.Valid.{IsValid}
 use Rattle.g1_words.proofs.Bounds.{card_below, cards_in_region}
-use Rattle.g1_words.specs.Heap.{Heap, card_of, region_of, regions}
+use Rattle.g1_words.specs.Heap.{Heap, card_of, region_of}
 use Rattle.g1_words.proofs.Indices.{get_or-In, range_bounds}
 use Rattle.g1_words.proofs.Members.{In, Contains-from_in, any_member, and_true, or_true, filter_member}
 use Rattle.g1_image.specs.Cards.{cards_where, leads_into}
