@@ -1,5 +1,5 @@
 -- The slots of the survivors at their places.
-use Rattle.std.proofs.Common.{◌≡◌, ◌≢◌, ◌≤◌, ◌<◌, ℕ, zero, suc, ◌+◌, ◌*◌, ◌/◌, ◌%◌, inl, inr, Bool, true, false, not, List, [], ◌∷◌, length, get_or, slice_index, map, filter, flat_map, All, AllPairs, Contains, arith, refl, sym, ap, subst, ◌∙◌, eqb, div-add-mod'}
+use Rattle.std.proofs.Common.{◌≡◌, ◌≢◌, ◌≤◌, ◌<◌, ℕ, zero, suc, ◌+◌, ◌*◌, ◌/◌, ◌%◌, inl, inr, Bool, true, false, not, List, [], ◌∷◌, length, get_or, map, filter, All, Contains, arith, refl, ap, subst, ◌∙◌, eqb, div-add-mod'}
 use Rattle.std.specs.List.{range_with_len}
 use Rattle.std.specs.List.Sorted.{IsStrictlyIncreasing}
 use Rattle.std.proofs.lemmas.List.{get_or_default}
@@ -8,7 +8,7 @@ use Rattle.g1_words.specs.declared.object.Object.{Object}
 use Rattle.g1_words.specs.Heap.{Heap, object_at, objects, region_of, word}
 use Rattle.g1_words.specs.Layout.{forward, free_regions, need, places, to_space}
 use Rattle.g1_words.specs.Lists.{has}
-use Rattle.g1_words.specs.Valid.{HasObject, IsReference, IsValid}
+use Rattle.g1_words.specs.Valid.{HasObject, IsValid}
 use Rattle.g1_words.proofs.Bounds.{object_within}
 use Rattle.g1_words.proofs.Computed.{contains_has, has_contains}
 use Rattle.g1_words.proofs.Indices.{get_or-In, is_free_region, range_bounds, taken_in}

@@ -17,3 +17,4 @@ pub mod PreparedWords
 pub mod GatheringCopies
 pub mod GatheringRuns
 pub mod GatheringWhole
+pub mod CopiedWords

@@ -1,6 +1,6 @@
 -- The cards of slots that lead into each region, slot by slot.
 use Rattle.std.proofs.Common.{◌≡◌, ◌≢◌, ◌≤◌, ◌<◌, ℕ, zero, suc, ◌+◌, ◌-◌, ◌*◌, ◌/◌, Bool, true, false, not, cond, ◌&&◌, ◌||◌, List, [], ◌∷◌, ◌++◌, map, filter, replicate, length, get_or, set, take, All, inl, inr, arith, refl, sym, ap, subst, ◌∙◌, eqb, eqb-true, eq-eqb, ne_eqb, append-nil}
-use Rattle.std.specs.List.{range_with_len, list_any}
+use Rattle.std.specs.List.{range_with_len}
 use Rattle.std.specs.List.Sorted.{IsStrictlyIncreasing}
 use Rattle.std.proofs.lemmas.List.{get_or-map, get_or-take, get_or_default, length-map, length-take}
 use Rattle.std.proofs.lemmas.List.Elements.{filter-append}
@@ -11,7 +11,7 @@ use Rattle.std.proofs.Math.Nat.{le-div_iff_mul-le, div-mul-le_self, div-lt_iff_l
 use Rattle.rayon.specs.Shown.{run-append}
 use Rattle.g1_words.specs.Valid.{IsValid}
 use Rattle.g1_words.proofs.Bounds.{card_below, cards_in_region}
-use Rattle.g1_words.specs.Heap.{Heap, card_of, region_of, regions}
+use Rattle.g1_words.specs.Heap.{Heap, card_of, region_of}
 use Rattle.g1_words.proofs.Indices.{get_or-In, range_bounds}
 use Rattle.g1_words.proofs.Members.{In, Contains-from_in, any_member, and_true, or_true, filter_member}
 use Rattle.g1_image.specs.Cards.{cards_where, leads_into}
@@ -92,24 +92,22 @@ cards_below test c = λ k d lt. omega (arith, range_bounds 0 c (get_or (filter t
 
 -- ---- one slot more
 
+or_false : (b : Bool) → (b || false) ≡ b
+or_false true = refl
+or_false false = refl
+
 module _ (h : Heap) (before : List (ℕ × ℕ)) (p x : ℕ) where
   abbrev after : List (ℕ × ℕ)
   after = before ++ (p, x) ∷ []
 
+  -- a card is linked as before, or by the new slot
   linked_more : (r c : ℕ) → is_linked h after r c ≡ (is_linked h before r c || (leads_into h r (link (p, x)) && eqb (card_of h p) c))
   linked_more r c =
       list_any-append (λ y. leads_into h r (link y) && eqb (card_of h y.0) c) before ((p, x) ∷ []) ∙ ap (λ b. is_linked h before r c || b) (or_false (leads_into h r (link (p, x)) && eqb (card_of h p) c))
-    where
-      or_false : (b : Bool) → (b || false) ≡ b
-      or_false true = refl
-      or_false false = refl
 
   -- a card that the new slot doesn't link to a region
   unlinked : (r c : ℕ) → (leads_into h r (link (p, x)) && eqb (card_of h p) c) ≡ false → is_linked h before r c ≡ is_linked h after r c
-  unlinked r c e = sym (linked_more r c ∙ ap (λ b. is_linked h before r c || b) e ∙ or_false (is_linked h before r c)) where
-    or_false : (b : Bool) → (b || false) ≡ b
-    or_false true = refl
-    or_false false = refl
+  unlinked r c e = sym (linked_more r c ∙ ap (λ b. is_linked h before r c || b) e ∙ or_false (is_linked h before r c))
 
   -- the slot leads into this region alone
   leads_elsewhere : (r : ℕ) → r ≢ region_of h (x - 1) → leads_into h r (link (p, x)) ≡ false
@@ -202,7 +200,7 @@ linked_none h = table_none 0 h.geometry.n ∙ table_same none_at (λ r. cards_wh
 pub list_of : (h : Heap) (xs : List (ℕ × ℕ)) (r : ℕ) → r < h.geometry.n → get_or (cards_by_region h xs) r [] ≡ cards_where h (is_linked h xs r)
 list_of h xs r lt = get_or-map-range_with_len (λ r. cards_where h (is_linked h xs r)) 0 h.geometry.n r r [] lt (omega arith)
 
--- the card of a slot's region's own list, one of the heap's
+-- the card of a slot is one of the heap's
 card_inside : (h : Heap) (p : ℕ) → IsValid h → p < h.geometry.n * h.geometry.w → card_of h p < h.geometry.n * h.geometry.w / h.geometry.k
 card_inside h p valid lt =
     let m = cards_in_region h.geometry.w h.geometry.k h.geometry.n valid.limits in

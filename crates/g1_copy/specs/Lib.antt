@@ -2,6 +2,7 @@ pub mod Plans
 pub mod Gathered
 pub mod Patches
 pub mod Links
+pub mod Filled
 pub mod Cards
 pub mod Slices
 pub mod Sets

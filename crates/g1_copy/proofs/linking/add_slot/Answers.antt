@@ -1,9 +1,8 @@
-use Rattle.std.proofs.Common.{◌≡◌, ◌<◌, ◌≤◌, ◌-◌, ◌*◌, ◌/◌, ◌++◌, ◌∷◌, [], ◌∙◌, ℕ, List, map, length, slice_index_or, All, arith, sym, ap, refl}
+use Rattle.std.proofs.Common.{◌≡◌, ◌-◌, ◌/◌, [], ◌∙◌, map, slice_index_or, arith, sym, ap}
 use Rattle.std.proofs.lemmas.List.{map-set, get_or-map}
 use Rattle.indexmap.proofs.MapLemmas.{OnOk-map}
 use Rattle.g1_words.specs.Geometry.{Geometry}
 use Rattle.g1_words.specs.Heap.{card_of, region_of}
-use Rattle.g1_copy.specs.Links.{cards_by_region}
 use Rattle.g1_copy.proofs.LinkingCards.{pushed_at, stays, target_region}
 use Rattle.g1_copy.proofs.linking.add_slot.Goals as goal
 

@@ -1,4 +1,4 @@
-use Rattle.std.proofs.Common.{◌≡◌, ◌<◌, ◌∙◌, length, map, take, arith, sym, ap}
+use Rattle.std.proofs.Common.{◌∙◌, length, take, sym, ap}
 use Rattle.std.proofs.lemmas.List.{length-map, take_more}
 use Rattle.std.proofs.lemmas.List.FromFn.{length-map-range_with_len}
 use Rattle.g1_copy.specs.Links.{cards_by_region}
