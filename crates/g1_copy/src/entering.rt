@@ -63,6 +63,8 @@ fn left_over(
 /// The cards outside a set of regions that stand in the remembered set of one of them, rising:
 /// these lead into the set. `sets` has one entry a region.
 ///
+/// Linear in the cards of the heap and in the remembered sets of the set's regions.
+///
 /// # Errors
 ///
 /// `Fault::Memory` alone.
