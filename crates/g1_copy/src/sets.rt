@@ -1,7 +1,6 @@
-ghost use Rattle.std.specs.Prelude.{◌≡◌, ◌<◌, ℕ, List, [], length, map, not, filter, replicate, slice_index_or, All, IfOk, IfErr};
+ghost use Rattle.std.specs.Prelude.{◌≡◌, ◌<◌, length, map, filter, replicate, All, IfOk, IfErr};
 ghost use Rattle.std.specs.List.Sorted.{IsStrictlyIncreasing};
 ghost use Rattle.g1_words.specs.Heap.{regions};
-ghost use Rattle.g1_words.specs.Layout.{to_space};
 ghost use Rattle.g1_image.specs.Cards.{refined};
 ghost use Rattle.g1_image.specs.Image.{region_of_card};
 ghost use Rattle.g1_image.specs.Moved.{new_set};
