@@ -10,6 +10,7 @@
 //!    passes is a `Tracked` image, whose type keeps this from then on.
 //! 4. `refine` looks at the dirty cards alone: it adds to each region's remembered set those that
 //!    hold a slot of another region that names an object in it.
+//! 5. `merged` makes one rising list of two, each card once: a set and the cards that join it.
 //!
 //! The sets and the log are those of Detlefs, Flood, Heller, Printezis, "Garbage-First Garbage
 //! Collection", 2004.

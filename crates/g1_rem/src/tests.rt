@@ -2,7 +2,7 @@ ghost use Rattle.std.specs.Prelude.{◌≡◌, IfSome};
 ghost use Rattle.g1_rem.specs.Slots.{slots_on};
 ghost use Rattle.g1_rem.specs.Starts.{IsStartsOf};
 
-use crate::{Starts, image, refine, verify};
+use crate::{Starts, image, merged, refine, verify};
 use g1_image::{Image, decode};
 use g1_words::{Fault, Heap};
 use smallvec::SmallVec;
@@ -211,5 +211,17 @@ fn a_dirty_card_that_leads_nowhere_joins_no_set(rt: HostRuntime) -> Result<(), F
     let (refined, log) = refined_sets(&rt, alloc, &BOTH_LOGGED, &TWO_REGIONS_WORDS)?;
     assert!(rt; are(&refined, &[&[], &[1], &[], &[]]));
     assert_eq!(rt; log, 2);
+    Ok(())
+}
+
+#[test]
+fn two_rising_lists_become_one_with_each_card_once(rt: HostRuntime) -> Result<(), Fail> {
+    let alloc = rt.alloc();
+    let both = merged(alloc, &[1, 4, 9], &[0, 4, 10, 12])?;
+    assert_eq!(rt; both.as_slice(), [0, 1, 4, 9, 10, 12].as_slice());
+    let left = merged(alloc, &[2, 3, 7], &[2])?;
+    assert_eq!(rt; left.as_slice(), [2, 3, 7].as_slice());
+    let right = merged(alloc, &[], &[5, 8])?;
+    assert_eq!(rt; right.as_slice(), [5, 8].as_slice());
     Ok(())
 }
