@@ -28,7 +28,7 @@ pub read_part : (a b c : Option (List ℕ)) (xs d buf post : List ℕ) (at n : �
 read_part a b c xs d buf post at n within some front p q =
     let len : length (take at d) ≡ at = length-take-le at d within in
     let cut : take (at + n) (take at d ++ (buf ++ post)) ≡ take at d ++ take n (buf ++ post) =
-        ap (λ (k : ℕ). take (k + n) (take at d ++ (buf ++ post))) (sym len) ∙ take-append-add (take at d) (buf ++ post) n in
+    ap (λ (k : ℕ). take (k + n) (take at d ++ (buf ++ post))) (sym len) ∙ take-append-add (take at d) (buf ++ post) n in
     let whole : take (at + n) (take at d ++ (buf ++ post)) ≡ take at xs ++ take n buf =
-        cut ∙ (ap (λ (s : List ℕ). take at d ++ s) (take-append-le n buf post some) ∙ ap (λ (s : List ℕ). s ++ take n buf) front) in
+    cut ∙ (ap (λ (s : List ℕ). take at d ++ s) (take-append-le n buf post some) ∙ ap (λ (s : List ℕ). s ++ take n buf) front) in
     subst (Consumes a c) (sym whole) (Consumes-trans a b c (take at xs) (take n buf) p q)

@@ -17,8 +17,9 @@ loop-filled-preserved g c =
     let post = post_of at (length d - at) d in
     let here : at ≤ length xs = search (rules, places) in
     let kept : take at c.if-filled-len.all.items ≡ take at xs = elim c.if-filled-len.branch [
-      then-filled-len+in_ok-resize w ↦ ap (λ v. take at v.items) w.all-is ∙ front_kept xs w.resize.new.self.items _ at 65536 w.in_ok-resize.ensures.items here
-      | else-filled-len w ↦ ap (λ v. take at v.items) w.all-is ] in
+      | then-filled-len+in_ok-resize w ↦ ap (λ v. take at v.items) w.all-is ∙ front_kept xs w.resize.new.self.items _ at 65536 w.in_ok-resize.ensures.items here
+      | else-filled-len w ↦ ap (λ v. take at v.items) w.all-is
+    ] in
     let within : at ≤ length d = search (rules, places) in
     let some : n ≤ length buf = c.in_ok-n.ensures.bound in
     let is : (with_items c.if-filled-len.all (take at d ++ (buf ++ post))).items ≡ take at d ++ (buf ++ post) = with_items_is c.if-filled-len.all (take at d ++ (buf ++ post)) (search (rules, places)) in

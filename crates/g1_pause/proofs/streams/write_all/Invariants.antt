@@ -6,7 +6,7 @@ abbrev pub invariant-loop-at : goal.invariant-loop-at
 invariant-loop-at g l = record {
   part : l.at ≤ length l.bytes;
   bytes : Appends (g.S.Sink.written l.initial.sink) (g.S.Sink.written l.sink) (take l.at l.bytes);
-  mark : g.S.Sink.failed l.sink ≡ g.S.Sink.failed l.initial.sink
+  mark : g.S.Sink.failed l.sink ≡ g.S.Sink.failed l.initial.sink;
 }
 
 abbrev pub decreases-loop-at : goal.decreases-loop-at
