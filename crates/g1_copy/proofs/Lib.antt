@@ -4,3 +4,5 @@ pub mod InPlaceCovers
 pub mod InPlaceWriting
 pub mod InPlace
 pub mod PreparedWords
+pub mod PreparedRegions
+pub mod PreparedPause

@@ -5,5 +5,6 @@ pub mod Links
 pub mod Cards
 pub mod Slices
 pub mod Rewriting
+pub mod Replacing
 pub mod Prepared
 pub mod Laws
