@@ -1,10 +1,10 @@
 -- Words written anew: the patches first, then region after region.
-use Rattle.std.proofs.Common.{◌≡◌, ◌≢◌, ℕ, zero, suc, ◌+◌, ◌-◌, ◌*◌, ◌/◌, ◌<◌, ◌≤◌, ◌⊎◌, inl, inr, Bool, true, false, cond, List, [], ◌∷◌, ◌++◌, None, Some, length, get_or, take, drop, set, replicate, position, flat_map, refl, sym, ◌∙◌, ap, subst, arith, leb, leb-true, le-leb, eqb, length-append, length-drop}
+use Rattle.std.proofs.Common.{◌≡◌, ℕ, zero, suc, ◌+◌, ◌-◌, ◌*◌, ◌/◌, ◌<◌, ◌≤◌, ◌⊎◌, inl, inr, Bool, true, false, cond, List, [], ◌∷◌, ◌++◌, None, Some, length, get_or, take, drop, set, replicate, position, flat_map, refl, sym, ◌∙◌, ap, subst, arith, leb, leb-true, le-leb, eqb, length-append, length-drop}
 use Rattle.std.specs.List.{range_with_len}
 use Rattle.std.proofs.lemmas.Bool.{cases_lt, false≢true}
 use Rattle.std.proofs.lemmas.Nat.{div-mul-add}
 use Rattle.std.proofs.Math.Nat.{mul-div_left}
-use Rattle.std.proofs.lemmas.List.{drop-set-add, drop-set-lt, drop_more, ext_get_or, get_or-append_right, get_or-drop, get_or-replicate, get_or-take, get_or_append_left, get_or_past, length-replicate, length-take-le}
+use Rattle.std.proofs.lemmas.List.{drop-set-add, drop-set-lt, drop_more, ext_get_or, get_or-append_right, get_or-drop, get_or-replicate, get_or-take, get_or_append_left, length-replicate, length-take-le}
 use Rattle.g1_words.proofs.Firsts.{Distinct}
 use Rattle.g1_words.proofs.Indices.{get_or-In}
 use Rattle.g1_words.proofs.Members.{In, has_from_in, in_from_has}

@@ -1,3 +1,7 @@
+pub mod CardMarks
+pub mod LeadingCards
+pub mod Moves
+pub mod OnCards
 pub mod TrackedAfter
 pub mod InPlaceSlices
 pub mod InPlaceCovers

@@ -1,6 +1,5 @@
 -- The table of regions and the roots that are made for a plan.
-use Rattle.std.proofs.Common.{◌≡◌, ◌≢◌, ℕ, zero, suc, ◌+◌, ◌*◌, ◌<◌, ◌≤◌, ◌⊎◌, inl, inr, ◌^◌, Bool, true, false, cond, List, [], ◌∷◌, All, AllPairs, None, length, map, flat_map, get_or, set, refl, sym, ◌∙◌, ap, subst, arith}
-use Rattle.std.specs.List.{range_with_len}
+use Rattle.std.proofs.Common.{◌≡◌, ◌≢◌, ℕ, zero, suc, ◌+◌, ◌<◌, ◌≤◌, inl, inr, ◌^◌, Bool, true, false, cond, List, [], All, AllPairs, length, map, get_or, set, refl, sym, ◌∙◌, ap, subst, arith}
 use Rattle.std.proofs.lemmas.Bool.{cases_lt, false≢true}
 use Rattle.std.proofs.lemmas.List.{ext_get_or, get_or-set_other, get_or-set_same, length-set, length-take-le, get_or-take}
 use Rattle.std.proofs.lemmas.List.FromFn.{get_or-map-range_with_len, length-map-range_with_len}
@@ -18,9 +17,8 @@ use Rattle.g1_words.proofs.Indices.{get_or-In, is_free_region, not_has}
 use Rattle.g1_words.proofs.Members.{Contains-from_in, In, In-flat_map, has_from_in, in_from_has}
 use Rattle.g1_words.proofs.NextFit.{distinct_places, free_distinct}
 use Rattle.g1_words.proofs.Objects.{tops_fit}
-use Rattle.g1_words.proofs.OneToOne.{survivor_fits}
 use Rattle.g1_words.proofs.Shapes.{IsBuilt, built, valid_of}
-use Rattle.g1_words.proofs.Sound.{IsSound, sound}
+use Rattle.g1_words.proofs.Sound.{sound}
 use Rattle.g1_words.specs.Heap.{Heap, free_region, kind, object_at, region, region_with, regions}
 use Rattle.g1_words.specs.Layout.{end_in, forward, free_regions, kept, moved_to, need, places, to_space}
 use Rattle.g1_words.specs.Lists.{has}

@@ -1,4 +1,4 @@
-use Rattle.std.proofs.Common.{◌≡◌, ◌<◌, ◌++◌, All, List, length, take, drop, get_or, sym, ◌∙◌, ap, subst}
+use Rattle.std.proofs.Common.{◌≡◌, ◌<◌, ◌++◌, All, length, take, drop, get_or, sym, ◌∙◌, ap, subst}
 use Rattle.g1_layout.specs.declared.plan.Run.{Run}
 use Rattle.g1_rem.proofs.Entering.{lent_back}
 use Rattle.g1_words.specs.Heap.{region_with}

@@ -1,4 +1,4 @@
-use Rattle.std.proofs.Common.{◌≡◌, ◌++◌, ◌∷◌, [], length, map, take, get_or, refl, sym, ◌∙◌, ap, arith}
+use Rattle.std.proofs.Common.{◌++◌, ◌∷◌, [], map, take, get_or, sym, ◌∙◌, ap, arith}
 use Rattle.std.proofs.lemmas.List.{map-append, take_all, take_more}
 use Rattle.g1_image.specs.Copy.{renamed}
 use Rattle.g1_words.specs.Layout.{moved_to}

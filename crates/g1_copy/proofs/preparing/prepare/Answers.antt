@@ -1,4 +1,4 @@
-use Rattle.std.proofs.Common.{◌≡◌, ◌<◌, All, length, map, sym, ◌∙◌, ap, subst}
+use Rattle.std.proofs.Common.{◌<◌, All, map, sym, ◌∙◌, ap, subst}
 use Rattle.g1_image.specs.Image.{Image, IsImage}
 use Rattle.g1_copy.specs.Patches.{all_patches}
 use Rattle.g1_copy.proofs.PreparedPause.{all_found, into_outside, into_rise, into_there, made_for, sets_count, words_are}
