@@ -67,7 +67,7 @@ fn new_regions(alloc: Global, heap: &Heap, set: &[u32], plan: &Plan) -> Result<V
     ensures ok { IfOk result (λ v. v.items ≡ map (new_region heap.now set.now plan.now.survivors) (regions heap.now)) }
     ensures memory { IfErr result (λ e. e ≡ Fault.Memory) }
 {
-    // tells that the heap is valid
+    // Known of every heap whose geometry was asked: it is valid.
     let _geometry = heap.geometry();
     let mut regions = heap.regions().to_vec(alloc)?;
     clear(&mut regions, set);
@@ -93,7 +93,7 @@ fn new_roots(alloc: Global, heap: &Heap, set: &[u32], plan: &Plan) -> Result<Vec
     ensures ok { IfOk result (λ v. v.items ≡ map (renamed (forward heap.now plan.now.survivors)) heap.now.roots) }
     ensures memory { IfErr result (λ e. e ≡ Fault.Memory) }
 {
-    // tells that the heap is valid
+    // Known of every heap whose geometry was asked: it is valid.
     let _geometry = heap.geometry();
     let mut roots = Vec::with_capacity(alloc, heap.roots().len())?;
     for root in heap.roots() {
