@@ -44,7 +44,7 @@ bool_cases false = inr refl
 not_in : (xs : List ℕ) (r : ℕ) → has xs r ≡ false → In xs r → ⊥
 not_in xs r e m = false≢true (sym e ∙ has_from_in xs r m)
 
-not_true : (b : Bool) → not b ≡ true → b ≡ false
+pub not_true : (b : Bool) → not b ≡ true → b ≡ false
 not_true true e = absurd (false≢true e)
 not_true false e = refl
 

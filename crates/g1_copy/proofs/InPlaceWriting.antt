@@ -1,10 +1,10 @@
 -- Words written anew: the patches first, then region after region.
-use Rattle.std.proofs.Common.{◌≡◌, ◌≢◌, ℕ, zero, suc, ◌+◌, ◌-◌, ◌*◌, ◌/◌, ◌<◌, ◌≤◌, ◌⊎◌, inl, inr, Bool, true, false, cond, List, [], ◌∷◌, ◌++◌, None, Some, length, get_or, take, drop, set, replicate, position, flat_map, refl, sym, ◌∙◌, ap, subst, arith, leb, leb-true, le-leb, eqb, length-append, length-drop}
+use Rattle.std.proofs.Common.{◌≡◌, ℕ, zero, suc, ◌+◌, ◌-◌, ◌*◌, ◌/◌, ◌<◌, ◌≤◌, ◌⊎◌, inl, inr, Bool, true, false, cond, List, [], ◌∷◌, ◌++◌, None, Some, length, get_or, take, drop, set, replicate, position, flat_map, refl, sym, ◌∙◌, ap, subst, arith, leb, leb-true, le-leb, eqb, length-append, length-drop}
 use Rattle.std.specs.List.{range_with_len}
 use Rattle.std.proofs.lemmas.Bool.{cases_lt, false≢true}
 use Rattle.std.proofs.lemmas.Nat.{div-mul-add}
 use Rattle.std.proofs.Math.Nat.{mul-div_left}
-use Rattle.std.proofs.lemmas.List.{drop-set-add, drop-set-lt, drop_more, ext_get_or, get_or-append_right, get_or-drop, get_or-replicate, get_or-take, get_or_append_left, get_or_past, length-replicate, length-take-le}
+use Rattle.std.proofs.lemmas.List.{drop-set-add, drop-set-lt, drop_more, ext_get_or, get_or-append_right, get_or-drop, get_or-replicate, get_or-take, get_or_append_left, length-replicate, length-take-le}
 use Rattle.g1_words.proofs.Firsts.{Distinct}
 use Rattle.g1_words.proofs.Indices.{get_or-In}
 use Rattle.g1_words.proofs.Members.{In, has_from_in, in_from_has}
@@ -97,7 +97,7 @@ module _ (from w : ℕ) (old block new : List ℕ) (wide : length block ≡ w) (
       ∙ get_or-drop (from + w) old (q - from - w) 0
       ∙ ap (λ k. get_or old k 0) whole
 
-eq_or : (a b : ℕ) → (a ≡ b) ⊎ ((a < b) ⊎ (b < a))
+pub eq_or : (a b : ℕ) → (a ≡ b) ⊎ ((a < b) ⊎ (b < a))
 eq_or a b = elim (cases_lt a b) [
   | inl lt ↦ inr (inl lt)
   | inr ge ↦ elim (cases_lt b a) [ inl lt ↦ inr (inr lt) | inr le ↦ inl (omega arith) ]
@@ -147,13 +147,13 @@ Written-end w regions told n old new k e = record {
   size = k.size;
   written = λ t m lt below. k.written t m (omega (arith, e, lt)) below;
   others = λ q f. k.others q (λ t lt low high.
-  let at : q / w ≡ get_or regions t 0 = div_between q w (get_or regions t 0) low high in
-  false≢true (sym f ∙ ap (has regions) at ∙ has_from_in regions (get_or regions t 0) (get_or-In regions t 0 (omega (arith, e, lt)))));
+      let at : q / w ≡ get_or regions t 0 = div_between q w (get_or regions t 0) low high in
+      false≢true (sym f ∙ ap (has regions) at ∙ has_from_in regions (get_or regions t 0) (get_or-In regions t 0 (omega (arith, e, lt)))));
 }
 
 -- the words, region by region
 
-place_of : (xs : List ℕ) (x : ℕ) → In xs x → (t : ℕ) × (t < length xs) × (get_or xs t 0 ≡ x)
+pub place_of : (xs : List ℕ) (x : ℕ) → In xs x → (t : ℕ) × (t < length xs) × (get_or xs t 0 ≡ x)
 place_of [] x m = absurd m
 place_of (y ∷ xs) x (inl e) = (0, omega arith, e)
 place_of (y ∷ xs) x (inr m) = let r = place_of xs x m in (suc r.0, omega (arith, r.1), r.2)

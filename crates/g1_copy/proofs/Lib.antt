@@ -18,3 +18,5 @@ pub mod GatheringCopies
 pub mod GatheringRuns
 pub mod GatheringWhole
 pub mod CopiedWords
+pub mod PreparedRegions
+pub mod PreparedPause

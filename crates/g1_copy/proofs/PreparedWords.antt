@@ -76,8 +76,8 @@ module _ (h : Heap) (set : List ℕ) (p : Plan) (valid : IsValid h) (pause : IsP
   pub gathered_length : length (to_space_words h p.survivors) ≡ length (to_space h p.survivors) * h.geometry.w
   gathered_length =
       flat_length (placed_words h p.survivors) h.geometry.w
-          (λ r. length-map-range_with_len (moved_word (forward h p.survivors) h (map (object_at h) p.survivors)) (start h r) h.geometry.w)
-          (to_space h p.survivors)
+      (λ r. length-map-range_with_len (moved_word (forward h p.survivors) h (map (object_at h) p.survivors)) (start h r) h.geometry.w)
+      (to_space h p.survivors)
 
   -- what the three steps leave
   pub words_made : (width : ℕ) (to gathered xs ys one two zs : List ℕ) (ps : List (ℕ × ℕ)) → width ≡ h.geometry.w → to ≡ to_space h p.survivors → gathered ≡ to_space_words h p.survivors → xs ≡ h.words
@@ -88,5 +88,5 @@ module _ (h : Heap) (set : List ℕ) (p : Plan) (valid : IsValid h) (pause : IsP
       subst (λ v. AreWritten v set (λ t m. 0) (patched ps 0 h.words) one) we (subst (λ vs. AreWritten width set (λ t m. 0) vs one) (ye ∙ ap (patched ps 0) xe) cleared) in
       let f : AreWritten h.geometry.w (to_space h p.survivors) (λ t m. get_or gathered (t * h.geometry.w + m) 0) one zs =
       subst (λ v. AreWritten v (to_space h p.survivors) (λ t m. get_or gathered (t * v + m) 0) one zs) we
-          (subst (λ rs. AreWritten width rs (λ t m. get_or gathered (t * width + m) 0) one zs) te (subst (λ vs. AreWritten width to (λ t m. get_or gathered (t * width + m) 0) vs zs) same filled)) in
+      (subst (λ rs. AreWritten width rs (λ t m. get_or gathered (t * width + m) 0) one zs) te (subst (λ vs. AreWritten width to (λ t m. get_or gathered (t * width + m) 0) vs zs) same filled)) in
       words_rewritten h.geometry.w h.geometry.n set (to_space h p.survivors) gathered ps h.words one zs w_positive valid.word_count once c f (ap length ge ∙ gathered_length)

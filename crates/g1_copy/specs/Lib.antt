@@ -7,5 +7,6 @@ pub mod Cards
 pub mod Slices
 pub mod Sets
 pub mod Rewriting
+pub mod Replacing
 pub mod Prepared
 pub mod Laws

@@ -1,4 +1,4 @@
-use Rattle.std.proofs.Common.{◌≡◌, ◌≤◌, ◌+◌, ◌*◌, length, get_or, replicate, refl, arith}
+use Rattle.std.proofs.Common.{◌≤◌, ◌+◌, ◌*◌, length, get_or, replicate, refl, arith}
 use Rattle.std.proofs.lemmas.List.{get_or-replicate, length-replicate}
 use Rattle.g1_copy.proofs.InPlaceWriting.{Written-end, Written-start, Written-step}
 use Rattle.g1_copy.proofs.rewriting.clear_regions.Goals as goal

@@ -1,8 +1,5 @@
-use Rattle.std.proofs.Common.{◌≡◌, ◌≢◌, ◌≤◌, ◌<◌, ◌+◌, ◌*◌, ◌++◌, All, AllPairs, List, ℕ, length, take, drop, sym, ◌∙◌, ap, subst}
-use Rattle.g1_words.specs.Layout.{to_space}
+use Rattle.std.proofs.Common.{◌≡◌, ◌≤◌, ◌<◌, ◌+◌, ◌*◌, ◌++◌, All, List, ℕ, length, take, drop, sym, ◌∙◌, ap, subst}
 use Rattle.g1_rem.proofs.Entering.{lent_back}
-use Rattle.g1_copy.specs.Slices.{patched}
-use Rattle.g1_copy.proofs.InPlaceSlices.{length-patched}
 use Rattle.g1_copy.proofs.PreparedWords.{gathered_length, patches_inside, set_inside, to_space_distinct, to_space_inside, to_space_is, words_made}
 use Rattle.g1_copy.proofs.rewriting.new_words.Goals as goal
 

@@ -1,4 +1,4 @@
-use Rattle.std.proofs.Common.{◌≡◌, [], length, drop, refl, sym, ◌∙◌, ap, arith}
+use Rattle.std.proofs.Common.{◌≡◌, [], drop, refl, sym, ◌∙◌, ap, arith}
 use Rattle.std.proofs.lemmas.List.{drop_all}
 use Rattle.g1_copy.specs.Slices.{patched}
 use Rattle.g1_copy.proofs.InPlaceWriting.{patched_one}

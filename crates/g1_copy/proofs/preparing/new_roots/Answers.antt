@@ -1,0 +1,30 @@
+use Rattle.std.proofs.Common.{◌++◌, ◌∷◌, [], map, take, get_or, sym, ◌∙◌, ap, arith}
+use Rattle.std.proofs.lemmas.List.{map-append, take_all, take_more}
+use Rattle.g1_image.specs.Copy.{renamed}
+use Rattle.g1_words.specs.Layout.{moved_to}
+use Rattle.g1_copy.proofs.PreparedRegions.{root_fits, roots_made}
+use Rattle.g1_copy.proofs.preparing.new_roots.Goals as goal
+
+pub loop-root-init : goal.loop-root-init
+loop-root-init c = c.in_ok-roots.ensures.items
+
+pub new_root-requires : goal.new_root-requires
+new_root-requires c =
+    root_fits c.args.heap.now c.args.set.now c.args.plan.now c.geometry-geometry.ensures.valid c.requires c.roots-root-items.result.now c.loop-root.root-index 0 c.roots-root-items.ensures c.loop-root-test.true
+
+pub loop-root-preserved : goal.loop-root-preserved
+loop-root-preserved c =
+    let f = renamed (moved_to c.args.plan.now.survivors c.args.plan.now.places) in
+    let xs = c.roots-root-items.result.now in
+    let i = c.loop-root.root-index in
+    c.in_ok-push.ensures.items
+    ∙ (λ q. c.loop-root.invariant q ++ c.new_root.ensures q ∷ [])
+    ∙ sym (map-append f (take i xs) (get_or xs i 0 ∷ []))
+    ∙ ap (map f) (sym (take_more xs i 0 c.loop-root-test.true))
+
+pub returns-clause-ok : goal.returns-clause-ok
+returns-clause-ok c =
+    let xs = c.roots-root-items.result.now in
+    let f = renamed (moved_to c.args.plan.now.survivors c.args.plan.now.places) in
+    roots_made c.args.heap.now c.args.set.now c.args.plan.now c.geometry-geometry.ensures.valid c.requires xs c.loop-root.roots.items c.roots-root-items.ensures
+    (c.loop-root.invariant ∙ ap (map f) (take_all c.loop-root.root-index xs (omega (arith, c.loop-root-test.false))))
