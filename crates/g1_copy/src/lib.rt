@@ -24,3 +24,6 @@ pub use gathering::gather;
 pub use patching::patches;
 pub use preparing::{Prepared, prepare};
 pub use sets::new_rem;
+
+#[cfg(test)]
+mod tests_gather;
