@@ -1,20 +1,21 @@
 //! What the program does with a request.
 use crate::listing::{candidates, live_lines};
-use crate::options::{Refusal, Request, Sharing, parse};
+use crate::options::{Pause, Refusal, Request, Sharing, parse};
 use crate::show::table;
 use g1_choose::Cost;
 use g1_image::{Image, decode, encode};
-use g1_pause::{Choice, Settings};
+use g1_pause::{Choice, FromReader, Settings, ToWriter, pause_run};
 use g1_rem::{Tracked, verify};
 use g1_words::{Device, Fault};
+use g1_work::Open;
 use std::alloc::Global;
 use std::io::{ErrorKind, Read, Write};
 use std::thread::Threads;
 
 /// Runs the program on the words after its name, and gives its exit status: 0, or that of the
 /// refusal which is then told on `errors`. The reader is read to its end, but not before the words
-/// were found to be a request with numbers in their ranges; the writer is written once, and not at
-/// all where there is a refusal.
+/// were found to be a request with numbers in their ranges; the writer is written last, and not at
+/// all where there is a refusal, unless it was the writer that failed.
 pub fn program<T: Threads + Sync, R: Read, W: Write, E: Write>(
     rt: &T,
     alloc: Global,
@@ -23,11 +24,7 @@ pub fn program<T: Threads + Sync, R: Read, W: Write, E: Write>(
     writer: &mut W,
     errors: &mut E,
 ) -> u8 {
-    let told = match answer(rt, alloc, words, reader) {
-        Ok(text) => deliver(text.as_slice(), writer),
-        Err(refusal) => Err(refusal),
-    };
-    match told {
+    match perform(rt, alloc, words, reader, writer) {
         Ok(()) => 0,
         Err(refusal) => refuse(&refusal, errors),
     }
@@ -66,23 +63,23 @@ fn status(fault: &Fault) -> u8 {
     }
 }
 
-fn answer<T: Threads + Sync, R: Read>(
+fn perform<T: Threads + Sync, R: Read, W: Write>(
     rt: &T,
     alloc: Global,
     words: &[String],
     reader: &mut R,
-) -> Result<Vec<u8>, Refusal> {
+    writer: &mut W,
+) -> Result<(), Refusal> {
     match parse(alloc, words)? {
-        Request::Help(text) => Ok(text.into_bytes()),
+        Request::Help(text) => deliver(text.as_bytes(), writer),
         Request::Show { sharing, repack } => {
             let settings = shared(sharing)?;
-            Ok(show(rt, alloc, &settings, repack, reader)?)
+            deliver(&show(rt, alloc, &settings, repack, reader)?, writer)
         }
-        Request::Check => Ok(check(rt, alloc, reader)?),
+        Request::Check => deliver(&check(rt, alloc, reader)?, writer),
         Request::Live(sharing) => {
             let settings = shared(sharing)?;
-            let image = read_image(alloc, reader)?;
-            Ok(live_lines(rt, alloc, &settings, image.heap())?.into_bytes())
+            deliver(&live(rt, alloc, &settings, reader)?, writer)
         }
         Request::Choose {
             sharing: Sharing { workers, chunk },
@@ -90,8 +87,11 @@ fn answer<T: Threads + Sync, R: Read>(
             budget,
         } => {
             let settings = Settings::new(workers, chunk, cost, Choice::Budget(budget))?;
-            let tracked = read_tracked(rt, alloc, reader)?;
-            Ok(candidates(rt, alloc, &settings, budget, &tracked)?.into_bytes())
+            deliver(&choose(rt, alloc, &settings, budget, reader)?, writer)
+        }
+        Request::Pause(pause) => {
+            let settings = chosen(pause)?;
+            Ok(paused(rt, alloc, &settings, reader, writer)?)
         }
     }
 }
@@ -105,6 +105,27 @@ fn shared(sharing: Sharing) -> Result<Settings, Fault> {
         byte: 0,
     };
     Settings::new(sharing.workers, sharing.chunk, free, Choice::Budget(0))
+}
+
+// The settings of a pause. A budget beside regions is looked for last, as its number is the highest.
+fn chosen(pause: Pause) -> Result<Settings, Fault> {
+    let Pause {
+        sharing: Sharing { workers, chunk },
+        cost,
+        budget,
+        regions,
+    } = pause;
+    let beside = !regions.is_empty();
+    match budget {
+        Some(budget) => {
+            let settings = Settings::new(workers, chunk, cost, Choice::Budget(budget))?;
+            if beside {
+                return Err(Fault::Settings(4));
+            }
+            Ok(settings)
+        }
+        None => Settings::new(workers, chunk, cost, Choice::Given(regions)),
+    }
 }
 
 fn show<T: Threads + Sync, R: Read>(
@@ -129,6 +150,40 @@ fn check<T: Threads + Sync, R: Read>(
 ) -> Result<Vec<u8>, Fault> {
     read_tracked(rt, alloc, reader)?;
     Ok(Vec::from_slice(alloc, b"covered\n")?)
+}
+
+fn live<T: Threads + Sync, R: Read>(
+    rt: &T,
+    alloc: Global,
+    settings: &Settings,
+    reader: &mut R,
+) -> Result<Vec<u8>, Fault> {
+    let image = read_image(alloc, reader)?;
+    Ok(live_lines(rt, alloc, settings, image.heap())?.into_bytes())
+}
+
+fn choose<T: Threads + Sync, R: Read>(
+    rt: &T,
+    alloc: Global,
+    settings: &Settings,
+    budget: u64,
+    reader: &mut R,
+) -> Result<Vec<u8>, Fault> {
+    let tracked = read_tracked(rt, alloc, reader)?;
+    Ok(candidates(rt, alloc, settings, budget, &tracked)?.into_bytes())
+}
+
+fn paused<T: Threads + Sync, R: Read, W: Write>(
+    rt: &T,
+    alloc: Global,
+    settings: &Settings,
+    reader: &mut R,
+    writer: &mut W,
+) -> Result<(), Fault> {
+    let mut source = FromReader::new(reader);
+    let mut sink = ToWriter::new(writer);
+    pause_run(rt, alloc, &mut source, &mut sink, settings, &Open)?;
+    sink.flush()
 }
 
 fn read_image<R: Read>(alloc: Global, reader: &mut R) -> Result<Image, Fault> {

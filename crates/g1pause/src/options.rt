@@ -25,6 +25,17 @@ pub enum Request {
         cost: Cost,
         budget: u64,
     },
+    /// The image after a pause.
+    Pause(Pause),
+}
+
+/// A pause that collects what a budget buys, or the regions that are named. Both may stand here.
+#[derive(Debug, Drop)]
+pub struct Pause {
+    pub sharing: Sharing,
+    pub cost: Cost,
+    pub budget: Option<u64>,
+    pub regions: Vec<u32>,
 }
 
 /// How workers share the work.
@@ -90,20 +101,38 @@ fn show<'a>(alloc: Global) -> Result<Command<'a>, AllocError> {
         .arg(repack)
 }
 
-fn choose<'a>(alloc: Global) -> Result<Command<'a>, AllocError> {
-    let budget = Arg::new(alloc, "budget")
-        .long("budget")
-        .value_name("N")
-        .action(ArgAction::Set)
-        .required(true)
-        .help("What the pause may cost in all");
-    shared(alloc, "choose")?
-        .about("Prints the candidates in order, and which of them the budget buys")
+fn costed<'a>(alloc: Global, name: &'a str) -> Result<Command<'a>, AllocError> {
+    shared(alloc, name)?
         .arg(option(alloc, "fixed", "0", "What a pause costs in any case"))?
         .arg(option(alloc, "dirty", "1", "What a dirty card costs"))?
         .arg(option(alloc, "card", "1", "What a remembered card costs"))?
-        .arg(option(alloc, "byte", "1", "What a live byte costs"))?
-        .arg(budget)
+        .arg(option(alloc, "byte", "1", "What a live byte costs"))
+}
+
+fn budget<'a>(alloc: Global) -> Arg<'a> {
+    Arg::new(alloc, "budget")
+        .long("budget")
+        .value_name("N")
+        .action(ArgAction::Set)
+        .help("What the pause may cost in all")
+}
+
+fn choose<'a>(alloc: Global) -> Result<Command<'a>, AllocError> {
+    costed(alloc, "choose")?
+        .about("Prints the candidates in order, and which of them the budget buys")
+        .arg(budget(alloc).required(true))
+}
+
+fn pause_command<'a>(alloc: Global) -> Result<Command<'a>, AllocError> {
+    let regions = Arg::new(alloc, "regions")
+        .value_name("REGION")
+        .num_args(0..)
+        .action(ArgAction::Append)
+        .help("The regions to collect, where there is no budget");
+    costed(alloc, "pause")?
+        .about("Collects regions of the image on standard input, and writes the image after")
+        .arg(budget(alloc))?
+        .arg(regions)
 }
 
 fn command<'a>(alloc: Global) -> Result<Command<'a>, AllocError> {
@@ -119,7 +148,8 @@ fn command<'a>(alloc: Global) -> Result<Command<'a>, AllocError> {
         .subcommand(show(alloc)?)?
         .subcommand(check)?
         .subcommand(live)?
-        .subcommand(choose(alloc)?)
+        .subcommand(choose(alloc)?)?
+        .subcommand(pause_command(alloc)?)
 }
 
 // A whole number in decimal digits alone.
@@ -173,6 +203,58 @@ fn cost<'a>(
     })
 }
 
+// The budget, where there is one.
+fn budget_of<'a>(
+    alloc: Global,
+    command: &mut Command<'a>,
+    matches: &ArgMatches<'a>,
+) -> Result<Option<u64>, Error> {
+    if matches.contains_id("budget") {
+        Ok(Some(number(alloc, command, matches, "budget")?))
+    } else {
+        Ok(None)
+    }
+}
+
+// The number of a region, which need not be one of the image's.
+fn region(text: &str) -> Option<u32> {
+    u32::try_from(whole(text)?).ok()
+}
+
+// The numbers of regions that stand behind the options.
+fn regions_of<'a>(
+    alloc: Global,
+    command: &mut Command<'a>,
+    matches: &ArgMatches<'a>,
+) -> Result<Vec<u32>, Error> {
+    let mut regions = Vec::new(alloc);
+    for text in matches.get_strs("regions").unwrap_or(&[]) {
+        match region(text) {
+            Some(region) => regions.push(region)?,
+            None => {
+                let message = format!(in alloc;
+                    "invalid value '{text}' for '[REGION]...': not a whole number below 2^32"
+                )?;
+                return Err(command.error(ErrorKind::ValueValidation, message.as_str())?);
+            }
+        }
+    }
+    Ok(regions)
+}
+
+fn pause_of<'a>(
+    alloc: Global,
+    command: &mut Command<'a>,
+    matches: &ArgMatches<'a>,
+) -> Result<Request, Error> {
+    Ok(Request::Pause(Pause {
+        sharing: sharing_of(alloc, command, matches)?,
+        cost: cost(alloc, command, matches)?,
+        budget: budget_of(alloc, command, matches)?,
+        regions: regions_of(alloc, command, matches)?,
+    }))
+}
+
 fn requested(alloc: Global, words: &[String]) -> Result<Request, Error> {
     let mut command = command(alloc)?;
     let matches = command.try_get_matches_from_mut(words)?;
@@ -188,6 +270,7 @@ fn requested(alloc: Global, words: &[String]) -> Result<Request, Error> {
             cost: cost(alloc, &mut command, choose)?,
             budget: number(alloc, &mut command, choose, "budget")?,
         }),
+        Some(("pause", pause)) => pause_of(alloc, &mut command, pause),
         _ => Err(command.error(ErrorKind::MissingSubcommand, "a command is required")?),
     }
 }

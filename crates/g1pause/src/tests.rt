@@ -18,6 +18,8 @@ static DEAD_OWNER_MOVED: &str = "16 4 4 0 0 4  1 2 0 0 1 3 0 0  0 0 1 0 0  2/1 =
 
 static DIRTY: &str = "16 4 4 1 1 0  1 2 0 0 0 0 0 0  =1  0  0 0 0 0  2/1 =0";
 
+static DIRTY_PROCESSED: &str = "16 4 4 1 0 4  1 2 0 0 0 0 0 0  =1  0 0 0 0  2/1 =0";
+
 static HUMONGOUS: &str =
     "16 4 6 1 0 6  2 16 3 16 3 8 1 2 0 0 0 0  =1  0 0 0 1 4 0 0  40/20 0*16 =49 0*22 2/0 =4";
 
@@ -26,8 +28,16 @@ static UNCOVERED: &str = "16 4 4 0 0 4  1 2 1 3 0 0 0 0  0 0 0 0  2/1 =17 3/0 =1
 static SHARED_TARGETS: &str =
     "16 4 4 2 0 4  1 6 1 7 0 0 0 0  =22 =17  0 2 0 1 0 0  4/1 =22 =1 =2 2/1 =22 5/3 =22 =22 =22 =1 2/0 =8";
 
+static SHARED_TARGETS_MOVED: &str =
+    "16 4 4 2 0 4  1 6 0 0 1 7 0 0  =33 =35  0 0 2 0 1 0  4/1 =33 =1 =2 2/1 =33 2/0 =8 5/3 =33 =33 =33 =1";
+
+static CROWDED: &str = "16 4 3 2 1 3  1 12 1 5 0 0  =1 =17  0  0 0 0  12/0 0*11 5/0 0*4";
+
 static THREE_REGIONS: &str =
     "16 4 6 3 0 6  1 4 1 4 1 2 0 0 0 0 0 0  =1 =17 =33  0 0 1 0 0 0 0  2/0 =1 2/0 =1 2/0 =1 2/0 =1 1/0 1/0";
+
+static THREE_REGIONS_BOUGHT: &str =
+    "16 4 6 3 0 6  0 0 0 0 1 2 1 4 0 0 0 0  =49 =51 =33  0 0 0 0 0 0  1/0 1/0 2/0 =1 2/0 =1";
 
 // Malformed images, and what is told of each.
 static MALFORMED: [(&str, &str); 25] = [
@@ -297,6 +307,56 @@ fn lists_what_a_budget_buys(rt: HostRuntime) -> Result<(), Fail> {
 }
 
 #[test]
+fn collects_what_is_asked(rt: HostRuntime) -> Result<(), Fail> {
+    let alloc = rt.alloc();
+    for (line, before, after) in [
+        ("pause 1", ONE_OBJECT, ONE_OBJECT_MOVED),
+        (
+            "pause 001 --chunk 1 --workers 8",
+            ONE_OBJECT,
+            ONE_OBJECT_MOVED,
+        ),
+        ("pause", ONE_OBJECT, ONE_OBJECT),
+        ("pause 1", DEAD_OWNER, DEAD_OWNER_MOVED),
+        ("pause", DIRTY, DIRTY_PROCESSED),
+        ("pause --budget 0", DIRTY, DIRTY_PROCESSED),
+        ("pause 1", SHARED_TARGETS, SHARED_TARGETS_MOVED),
+        (
+            "pause --fixed 10 --budget 42",
+            THREE_REGIONS,
+            THREE_REGIONS_BOUGHT,
+        ),
+    ] {
+        let image = image_of(alloc, before)?;
+        let answer = image_of(alloc, after)?;
+        expect_answer(&rt, alloc, line, image.as_slice(), answer.as_slice())?;
+    }
+    Ok(())
+}
+
+#[test]
+fn refuses_what_it_cannot_collect(rt: HostRuntime) -> Result<(), Fail> {
+    let alloc = rt.alloc();
+    let image = image_of(alloc, ONE_OBJECT)?;
+    for (line, fault) in [
+        ("pause 4", "10: set region 4"),
+        ("pause 2", "10: set region 2"),
+        ("pause 1 4294967295", "10: set region 4294967295"),
+        ("pause 1 1", "10: set region 1"),
+    ] {
+        expect_fault(&rt, alloc, line, image.as_slice(), 5, fault)?;
+    }
+    let uncovered = image_of(alloc, UNCOVERED)?;
+    let told = "9: uncovered slot 1";
+    expect_fault(&rt, alloc, "pause 1", uncovered.as_slice(), 4, told)?;
+    let crowded = image_of(alloc, CROWDED)?;
+    let told = "11: room need 2 free 1";
+    expect_fault(&rt, alloc, "pause 0 1", crowded.as_slice(), 5, told)?;
+    expect_fault(&rt, alloc, "pause 1", b"H", 3, "1: magic")?;
+    Ok(())
+}
+
+#[test]
 fn packs_again_byte_for_byte(rt: HostRuntime) -> Result<(), Fail> {
     let alloc = rt.alloc();
     for tokens in [
@@ -404,47 +464,70 @@ impl Write for Failing {
     }
 }
 
-#[test]
-fn devices_fail_at_each_byte(rt: HostRuntime) -> Result<(), Fail> {
-    let alloc = rt.alloc();
-    let image = image_of(alloc, ONE_OBJECT)?;
-    // The last call finds the end of the input, or flushes the output.
+// Fails the reader at each of its calls, of which the last finds the end.
+fn expect_input_faults<T: Threads + Abort + Sync>(
+    rt: &T,
+    alloc: Global,
+    line: &str,
+    image: &[u8],
+) -> Result<(), AllocError> {
     let calls = image.len() + 1;
     for left in 0..=calls {
-        let status = if left < calls { 6 } else { 0 };
+        let (status, told) = if left < calls {
+            (6, "g1pause: fault 14: input\n")
+        } else {
+            (0, "")
+        };
         let mut reader = Failing {
-            bytes: image.clone()?,
+            bytes: Vec::from_slice(alloc, image)?,
             left,
         };
         let mut out = Vec::new(alloc);
-        let (ended, errors) = run(&rt, alloc, "show --repack", &mut reader, &mut out)?;
-        let told = if left < calls {
-            "g1pause: fault 14: input\n"
-        } else {
-            ""
-        };
-        assert_eq!(rt; ended, status, "{left}");
-        assert_eq!(rt; out.is_empty(), left < calls, "{left}");
-        assert_eq!(rt; errors.as_slice(), told.as_bytes(), "{left}");
+        let (ended, errors) = run(rt, alloc, line, &mut reader, &mut out)?;
+        assert_eq!(rt; ended, status, "{line}: {left}");
+        assert_eq!(rt; out.is_empty(), left < calls, "{line}: {left}");
+        assert_eq!(rt; errors.as_slice(), told.as_bytes(), "{line}: {left}");
+    }
+    Ok(())
+}
 
-        let mut reader = image.as_slice();
+// Fails the writer at each of its calls, of which the last flushes.
+fn expect_output_faults<T: Threads + Abort + Sync>(
+    rt: &T,
+    alloc: Global,
+    line: &str,
+    image: &[u8],
+    answer: &[u8],
+) -> Result<(), AllocError> {
+    let calls = answer.len() + 1;
+    for left in 0..=calls {
+        let (status, told) = if left < calls {
+            (6, "g1pause: fault 14: output\n")
+        } else {
+            (0, "")
+        };
+        let mut reader = image;
         let mut writer = Failing {
             bytes: Vec::new(alloc),
             left,
         };
-        let (ended, errors) = run(&rt, alloc, "show --repack", &mut reader, &mut writer)?;
-        let told = if left < calls {
-            "g1pause: fault 14: output\n"
-        } else {
-            ""
-        };
-        assert_eq!(rt; ended, status, "{left}");
-        assert_eq!(rt;
-            writer.bytes.as_slice(),
-            &image[..left.min(image.len())],
-            "{left}"
-        );
-        assert_eq!(rt; errors.as_slice(), told.as_bytes(), "{left}");
+        let (ended, errors) = run(rt, alloc, line, &mut reader, &mut writer)?;
+        assert_eq!(rt; ended, status, "{line}: {left}");
+        let written = &answer[..left.min(answer.len())];
+        assert_eq!(rt; writer.bytes.as_slice(), written, "{line}: {left}");
+        assert_eq!(rt; errors.as_slice(), told.as_bytes(), "{line}: {left}");
+    }
+    Ok(())
+}
+
+#[test]
+fn devices_fail_at_each_byte(rt: HostRuntime) -> Result<(), Fail> {
+    let alloc = rt.alloc();
+    let image = image_of(alloc, ONE_OBJECT)?;
+    for (line, tokens) in [("show --repack", ONE_OBJECT), ("pause 1", ONE_OBJECT_MOVED)] {
+        let answer = image_of(alloc, tokens)?;
+        expect_input_faults(&rt, alloc, line, image.as_slice())?;
+        expect_output_faults(&rt, alloc, line, image.as_slice(), answer.as_slice())?;
     }
     Ok(())
 }
@@ -457,7 +540,13 @@ fn usage_faults_come_before_the_input(rt: HostRuntime) -> Result<(), Fail> {
         "frob",
         "choose",
         "choose --budget 0x1",
-        "pause 1",
+        "pause +1",
+        "pause -1",
+        "pause 1 x",
+        "pause 1 4294967296",
+        "pause --budget",
+        "pause --budget 18446744073709551616",
+        "pause --workers 0 --budget 1 1 +1",
         "run",
         "show 1",
         "show --repack=1",
@@ -480,7 +569,14 @@ fn usage_faults_come_before_the_input(rt: HostRuntime) -> Result<(), Fail> {
         assert_eq!(rt; status, 2, "{line}");
         assert!(rt; out.is_empty() && errors.starts_with(b"error: "), "{line}");
     }
-    for line in ["--help", "-h", "help", "show --help", "help show"] {
+    for line in [
+        "--help",
+        "-h",
+        "help",
+        "show --help",
+        "help show",
+        "pause --help",
+    ] {
         let mut reader = Failing {
             bytes: Vec::new(alloc),
             left: 0,
@@ -507,6 +603,20 @@ fn numbers_out_of_range_come_before_the_input(rt: HostRuntime) -> Result<(), Fai
             "choose --card 4294967296 --budget 1",
             "g1pause: fault 12: setting 3\n",
         ),
+        (
+            "pause --workers 65 --chunk 0",
+            "g1pause: fault 12: setting 1\n",
+        ),
+        (
+            "pause --budget 1 --chunk 0 1",
+            "g1pause: fault 12: setting 2\n",
+        ),
+        (
+            "pause --byte 4294967296 --budget 1 1",
+            "g1pause: fault 12: setting 3\n",
+        ),
+        ("pause --budget 1 1", "g1pause: fault 12: setting 4\n"),
+        ("pause 0 --budget 0", "g1pause: fault 12: setting 4\n"),
     ] {
         let mut reader = Failing {
             bytes: Vec::new(alloc),
