@@ -6,11 +6,8 @@ ghost use Rattle.g1_copy.specs.Links.{copied_slots, moved_slots};
 ghost use Rattle.g1_copy.specs.Filled.{filled_slots};
 
 use g1_layout::{Plan, Run};
-use g1_words::{Fault, Heap};
+use g1_words::{Fault, Heap, REFS_RANGE};
 use std::alloc::Global;
-
-/// A header has the number of references in its low 32 bits.
-const REFS_RANGE: u64 = 4_294_967_296;
 
 /// Adds the slots of an object that aren't null, each with its word. The object's words begin at an
 /// index of those given, and will stand at a place in the heap.

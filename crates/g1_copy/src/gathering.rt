@@ -8,13 +8,10 @@ ghost use Rattle.g1_copy.specs.Plans.{IsPlanOf};
 ghost use Rattle.g1_copy.specs.Gathered.{placed_words, to_space_words};
 
 use g1_layout::{Plan, Run};
-use g1_words::{Fault, Heap, Object};
+use g1_words::{Fault, Heap, Object, REFS_RANGE};
 use rayon::prelude::*;
 use std::alloc::Global;
 use std::thread::Threads;
-
-/// A header word is the object's size in words times this, plus its number of references.
-const REFS_RANGE: u64 = 4_294_967_296;
 
 /// The object whose header stands at an address.
 fn object(heap: &Heap, a: u64) -> Object

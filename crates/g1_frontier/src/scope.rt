@@ -9,11 +9,8 @@ ghost use Rattle.g1_frontier.specs.Window.{AreRegions, ArePositions};
 
 use crate::item::Item;
 use g1_rem::{Starts, slots_on};
-use g1_words::{Heap, region_of};
+use g1_words::{Heap, REFS_RANGE, region_of};
 use std::alloc::{AllocError, Global};
-
-/// A header word is the object's size in words times this, plus its number of references.
-const REFS_RANGE: u64 = 4_294_967_296;
 
 /// A heap, the regions that are searched, and where each region stands among them.
 #[derive(Drop)]

@@ -3,10 +3,8 @@ ghost use Rattle.g1_words.specs.Heap.{is_free, kind, object_at};
 ghost use Rattle.g1_words.specs.Layout.{next_fit, need, free_regions, to_space};
 ghost use Rattle.g1_layout.specs.Placed.{CanLay};
 
-use g1_words::{Fault, Heap, Kind};
+use g1_words::{Fault, Heap, Kind, REFS_RANGE};
 use std::alloc::Global;
-
-const REFS_RANGE: u64 = 4_294_967_296;
 
 /// The size in words of the object at an address.
 pub(crate) fn size_at(heap: &Heap, a: u64) -> u64

@@ -7,11 +7,8 @@ ghost use Rattle.g1_words.specs.Survivors.{firsts};
 ghost use Rattle.g1_words.specs.Valid.{IsValid};
 ghost use Rattle.g1_mark.specs.Marked.{used};
 
-use g1_words::{Heap, Kind, region_of};
+use g1_words::{Heap, Kind, REFS_RANGE, region_of};
 use std::alloc::{AllocError, Global};
-
-/// A header word is the object's size in words times this, plus its number of references.
-const REFS_RANGE: u64 = 4_294_967_296;
 
 fn is_used(kind: Kind) -> bool
     ensures { result ≡ not (is_free kind) }

@@ -6,11 +6,10 @@ ghost use Rattle.g1_rem.specs.Marks.{objects_from};
 ghost use Rattle.g1_rem.specs.Cover.{is_bare, bare_in, IsFirstOf};
 ghost use Rattle.g1_rem.specs.Places.{IsBehind, AreBehind, AreReadyFor};
 
-use crate::header::REFS_RANGE;
 use crate::leads::led_into;
 use crate::tracked::Tracked;
 use g1_image::Image;
-use g1_words::{Fault, card_of, objects_in};
+use g1_words::{Fault, REFS_RANGE, card_of, objects_in};
 use std::alloc::Global;
 use std::thread::Threads;
 

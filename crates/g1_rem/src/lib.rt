@@ -17,7 +17,6 @@
 #![tactic(auto)]
 
 mod cover;
-mod header;
 mod laws;
 mod leads;
 mod merging;

@@ -8,9 +8,8 @@ ghost use Rattle.g1_words.specs.Walk.{Reaches};
 ghost use Rattle.g1_rem.specs.Starts.{IsStartsOf, card_count};
 ghost use Rattle.g1_rem.specs.Slots.{slots_on, is_between};
 
-use crate::header::REFS_RANGE;
 use crate::starts::Starts;
-use g1_words::{Heap, Kind};
+use g1_words::{Heap, Kind, REFS_RANGE};
 use smallvec::SmallVec;
 use std::alloc::Global;
 

@@ -2,8 +2,7 @@ ghost use Rattle.std.specs.Prelude.{◌≡◌, ◌≤◌, ◌<◌, ◌+◌, ◌*
 ghost use Rattle.g1_rem.specs.Starts.{IsStartsOf};
 ghost use Rattle.g1_rem.specs.Marks.{IsMarkedTo, Told, objects_from};
 
-use crate::header::REFS_RANGE;
-use g1_words::{Fault, Heap, objects_in};
+use g1_words::{Fault, Heap, REFS_RANGE, objects_in};
 use std::alloc::Global;
 use std::marker::Model;
 

@@ -19,7 +19,7 @@ pub use fault::{Device, Fault, Place, Stand};
 pub use geometry::Geometry;
 pub use heap::Heap;
 pub use laws::{apart, computed_objects, computed_references, one_list};
-pub use object::{Object, card_of, object_at, objects_in, region_of, slots_of};
+pub use object::{Object, REFS_RANGE, card_of, object_at, objects_in, region_of, slots_of};
 pub use region::{Kind, Region};
 
 #[cfg(test)]

@@ -18,7 +18,8 @@ pub struct Object {
     pub refs: u64,
 }
 
-const REFS_RANGE: u64 = 4_294_967_296;
+/// A header word is the object's size in words times this, plus its number of reference slots.
+pub const REFS_RANGE: u64 = 4_294_967_296;
 
 /// The object whose header is the word at an address, if one stands there.
 pub(crate) fn read_header(words: &[u64], at: u64) -> Object
