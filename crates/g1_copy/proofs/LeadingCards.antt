@@ -1,5 +1,5 @@
 -- The cards that lead into a set, and the patches on them.
-use Rattle.std.proofs.Common.{◌≡◌, ◌≢◌, ◌≤◌, ◌<◌, ℕ, zero, suc, ◌+◌, ◌*◌, ◌/◌, inl, inr, Bool, true, false, not, ◌&&◌, ◌||◌, List, [], ◌∷◌, length, slice_index_or, map, filter, Contains, arith, refl, sym, ap, ◌∙◌}
+use Rattle.std.proofs.Common.{◌≡◌, ◌≢◌, ◌≤◌, ◌<◌, ℕ, zero, suc, ◌*◌, inl, inr, Bool, true, false, not, ◌&&◌, ◌||◌, List, [], ◌∷◌, length, slice_index_or, map, Contains, arith, refl, sym, ap, ◌∙◌}
 use Rattle.std.specs.List.{range_with_len, list_any}
 use Rattle.std.proofs.lemmas.Bool.{cases_lt}
 use Rattle.std.proofs.lemmas.List.FromFn.{get_or-map-range_with_len}
@@ -7,14 +7,14 @@ use Rattle.g1_words.specs.declared.region.Kind.TheVariants.{Free, Ordinary}
 use Rattle.g1_words.specs.Heap.{Heap, card_of, free_region, kind, region, region_of, regions}
 use Rattle.g1_words.specs.Lists.{has}
 use Rattle.g1_words.specs.References.{Ref, refs}
-use Rattle.g1_words.specs.Survivors.{in_set, AllOrdinary, Survivors}
+use Rattle.g1_words.specs.Survivors.{in_set}
 use Rattle.g1_words.specs.Valid.{IsValid}
 use Rattle.g1_words.proofs.Computed.{range_below}
 use Rattle.g1_words.proofs.Indices.{get_or-In, not_has}
 use Rattle.g1_words.proofs.Members.{In, In-from_contains, Contains-from_in, In-filter, filter_member, has_from_in, in_from_has, and_true, any_member}
 use Rattle.g1_words.proofs.OneToOne.{reached_in_set}
-use Rattle.g1_image.specs.Image.{Image, IsImage}
-use Rattle.g1_image.specs.Cards.{Covered, is_refined, refined}
+use Rattle.g1_image.specs.Image.{Image}
+use Rattle.g1_image.specs.Cards.{is_refined, refined}
 use Rattle.g1_image.proofs.Covers.{card_region, cards_rise, covered_tells, exact_tells, refined_tells}
 use Rattle.g1_rem.specs.Starts.{card_count}
 use Rattle.g1_copy.specs.Cards.{cards_into, is_listed}

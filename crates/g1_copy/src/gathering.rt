@@ -27,7 +27,7 @@ fn object(heap: &Heap, a: u64) -> Object
 }
 
 /// A reference word after what it names moved: null stays null.
-fn renamed(plan: &Plan, reference: u64) -> u64
+pub(crate) fn renamed(plan: &Plan, reference: u64) -> u64
     requires { renamed (moved_to plan.now.survivors plan.now.places) reference < 2 ^ 64 }
     ensures { result ≡ renamed (moved_to plan.now.survivors plan.now.places) reference }
 {

@@ -27,7 +27,6 @@ pub use laws::{all_patches, cards_lead_in, written_in_place};
 pub use patching::patches;
 pub use preparing::{Prepared, prepare};
 pub use sets::{cards_after, new_rem};
-pub use sets::new_rem;
 
 #[cfg(test)]
 mod tests_gather;

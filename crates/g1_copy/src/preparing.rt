@@ -12,7 +12,7 @@ ghost use Rattle.g1_copy.specs.Prepared.{IsMadeFor};
 ghost use Rattle.g1_copy.specs.Replacing.{AreReplaced};
 
 use crate::entering::cards_into;
-use crate::gathering::gather;
+use crate::gathering::{gather, renamed};
 use crate::laws::all_patches;
 use crate::patching::patches;
 use crate::rewriting::new_words;
@@ -75,18 +75,6 @@ fn new_regions(alloc: Global, heap: &Heap, set: &[u32], plan: &Plan) -> Result<V
     Ok(regions)
 }
 
-/// A root after what it names moved: null stays null.
-fn new_root(plan: &Plan, root: u64) -> u64
-    requires { renamed (moved_to plan.now.survivors plan.now.places) root < 2 ^ 64 }
-    ensures { result ≡ renamed (moved_to plan.now.survivors plan.now.places) root }
-{
-    if root == 0 {
-        0
-    } else {
-        plan.forward(root - 1) + 1
-    }
-}
-
 /// The roots after the pause.
 fn new_roots(alloc: Global, heap: &Heap, set: &[u32], plan: &Plan) -> Result<Vec<u64>, Fault>
     requires { IsPauseOf heap.now set.now plan.now }
@@ -97,7 +85,7 @@ fn new_roots(alloc: Global, heap: &Heap, set: &[u32], plan: &Plan) -> Result<Vec
     let _geometry = heap.geometry();
     let mut roots = Vec::with_capacity(alloc, heap.roots().len())?;
     for root in heap.roots() {
-        roots.push(new_root(plan, *root))?;
+        roots.push(renamed(plan, *root))?;
     }
     Ok(roots)
 }

@@ -8,8 +8,8 @@ use Rattle.g1_copy.proofs.preparing.new_roots.Goals as goal
 pub loop-root-init : goal.loop-root-init
 loop-root-init c = c.in_ok-roots.ensures.items
 
-pub new_root-requires : goal.new_root-requires
-new_root-requires c =
+pub renamed-requires : goal.renamed-requires
+renamed-requires c =
     root_fits c.args.heap.now c.args.set.now c.args.plan.now c.geometry-geometry.ensures.valid c.requires c.roots-root-items.result.now c.loop-root.root-index 0 c.roots-root-items.ensures c.loop-root-test.true
 
 pub loop-root-preserved : goal.loop-root-preserved
@@ -18,7 +18,7 @@ loop-root-preserved c =
     let xs = c.roots-root-items.result.now in
     let i = c.loop-root.root-index in
     c.in_ok-push.ensures.items
-    ∙ (λ q. c.loop-root.invariant q ++ c.new_root.ensures q ∷ [])
+    ∙ (λ q. c.loop-root.invariant q ++ c.renamed.ensures q ∷ [])
     ∙ sym (map-append f (take i xs) (get_or xs i 0 ∷ []))
     ∙ ap (map f) (sym (take_more xs i 0 c.loop-root-test.true))
 
