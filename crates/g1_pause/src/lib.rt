@@ -7,6 +7,7 @@
 #![tactic(auto)]
 
 mod evacuating;
+mod laws;
 mod report;
 mod settings;
 #[cfg(test)]
@@ -14,6 +15,7 @@ mod tests;
 mod whole;
 
 pub use evacuating::evacuate;
+pub use laws::{one_answer, what_follows};
 pub use report::Report;
 pub use settings::{Choice, Settings};
 pub use whole::pause_bytes;

@@ -1,0 +1,3 @@
+pub mod OneAnswer
+pub mod SetsFor
+pub mod Following
