@@ -1,3 +1,4 @@
 pub mod OneAnswer
 pub mod SetsFor
 pub mod Following
+pub mod Always

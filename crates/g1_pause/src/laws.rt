@@ -12,3 +12,8 @@ pub fn what_follows()
     ensures evacuation { EvacuationFollows }
     ensures answer { AnswerFollows }
 {}
+
+/// Bytes always have an answer, whatever the choice and the cost.
+pub fn always_one()
+    ensures { AnswerExists }
+{}

@@ -15,7 +15,7 @@ mod tests;
 mod whole;
 
 pub use evacuating::evacuate;
-pub use laws::{one_answer, what_follows};
+pub use laws::{always_one, one_answer, what_follows};
 pub use report::Report;
 pub use settings::{Choice, Settings};
 pub use whole::pause_bytes;
