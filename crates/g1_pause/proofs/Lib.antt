@@ -2,3 +2,5 @@ pub mod OneAnswer
 pub mod SetsFor
 pub mod Following
 pub mod Always
+pub mod Counted
+pub mod Refused

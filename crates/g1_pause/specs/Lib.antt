@@ -2,4 +2,5 @@ pub mod Settings
 pub mod Answer
 pub mod Follows
 pub mod Report
+pub mod Planned
 pub mod Laws

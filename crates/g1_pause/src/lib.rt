@@ -6,6 +6,7 @@
 //! built yet.
 #![tactic(auto)]
 
+mod choosing;
 mod evacuating;
 mod laws;
 mod report;
