@@ -1,1 +1,5 @@
+pub mod CardMarks
+pub mod LeadingCards
+pub mod Moves
+pub mod OnCards
 pub mod TrackedAfter

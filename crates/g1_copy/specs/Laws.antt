@@ -1,17 +1,28 @@
 -- The laws that public functions of this crate prove.
-use Rattle.std.specs.Prelude.{◌≡◌, ℕ, List, map}
+use Rattle.std.specs.Prelude.{◌≡◌, ◌<◌, ◌↔◌, ◌*◌, ℕ, false, List, map, All, Contains}
 use Rattle.std.specs.List.Sorted.{IsStrictlyIncreasing}
-use Rattle.g1_words.specs.Heap.{regions}
-use Rattle.g1_words.specs.Survivors.{AllOrdinary, Survivors}
+use Rattle.g1_words.specs.Heap.{Heap, regions}
+use Rattle.g1_words.specs.Survivors.{in_set, AllOrdinary, Survivors}
 use Rattle.g1_words.specs.Layout.{HasRoom, to_space}
 use Rattle.g1_image.specs.Image.{Image, IsImage}
 use Rattle.g1_image.specs.Cards.{Covered, refined}
 use Rattle.g1_image.specs.Made.{heap_after}
 use Rattle.g1_words.specs.Valid.{IsValid}
+use Rattle.g1_rem.specs.Starts.{card_count}
 use Rattle.g1_copy.specs.Cards.{cards_into}
 use Rattle.g1_copy.specs.Gathered.{to_space_words}
 use Rattle.g1_copy.specs.Patches.{all_patches, patches_on}
 use Rattle.g1_copy.specs.Slices.{words_after}
+
+-- the cards that lead into a set are those of its regions' refined sets, without those that lie in the set
+abbrev pub CardsLeadIn : Type 0
+CardsLeadIn = (i : Image) (set : List ℕ) → IsImage i → AllOrdinary i.heap set → (c : ℕ) → Contains (cards_into i.heap (map (refined i) (regions i.heap)) set) c
+    ↔ (((r : ℕ) × Contains set r × Contains (refined i r) c) × (in_set i.heap set (c * i.heap.geometry.k) ≡ false))
+
+-- they rise, each is a card of the heap, and none lies in a region of the set
+abbrev pub CardsStandOutside : Type 0
+CardsStandOutside = (h : Heap) (sets : List (List ℕ)) (set : List ℕ)
+    → IsStrictlyIncreasing (cards_into h sets set) × All (λ c. c < card_count h) (cards_into h sets set) × All (λ c. in_set h set (c * h.geometry.k) ≡ false) (cards_into h sets set)
 
 -- the slots on the cards of the refined sets that name a survivor are all slots outside the set that do
 abbrev pub RefinedFindPatches : Type 0

@@ -1,8 +1,8 @@
 -- Slots of kept regions that name survivors, with their new words.
-use Rattle.std.specs.Prelude.{ℕ, suc, not, ◌&&◌, List, map, filter}
+use Rattle.std.specs.Prelude.{ℕ, suc, not, ◌&&◌, List, map, filter, flat_map}
 use Rattle.g1_words.specs.Heap.{Heap, card_of}
 use Rattle.g1_words.specs.Lists.{has}
-use Rattle.g1_words.specs.References.{Ref, refs}
+use Rattle.g1_words.specs.References.{Ref, refs, refs_at}
 use Rattle.g1_words.specs.Survivors.{in_set}
 use Rattle.g1_words.specs.Layout.{forward}
 
@@ -17,3 +17,11 @@ patches_on h l cards = map (patch h l) (filter (λ e. has cards (card_of h e.slo
 -- the slots outside the set that name a survivor, by address
 abbrev pub all_patches : Heap → List ℕ → List ℕ → List (ℕ × ℕ)
 all_patches h set l = map (patch h l) (filter (λ e. not (in_set h set e.slot) && has l e.target) (refs h))
+
+-- the patch of one slot, if it names a survivor
+abbrev pub patch_at : Heap → List ℕ → ℕ → List (ℕ × ℕ)
+patch_at h l p = map (patch h l) (filter (λ e. has l e.target) (refs_at h p))
+
+-- the patches of slots, in the slots' order
+abbrev pub patches_at : Heap → List ℕ → List ℕ → List (ℕ × ℕ)
+patches_at h l ps = flat_map (patch_at h l) ps

@@ -1,8 +1,64 @@
-ghost use Rattle.std.specs.Prelude.{◌≡◌, ◌<◌, map, length, All, IfOk, IfErr};
-ghost use Rattle.g1_copy.specs.Cards.{cards_into};
+ghost use Rattle.std.specs.Prelude.{◌≡◌, ◌<◌, map, length, replicate, false, All, IfOk, IfErr};
+ghost use Rattle.g1_words.specs.Lists.{has};
+ghost use Rattle.g1_image.specs.Cards.{cards_where};
+ghost use Rattle.g1_rem.specs.Starts.{card_count};
+ghost use Rattle.g1_copy.specs.Cards.{AreMarked, cards_into, is_left, is_listed};
 
 use g1_words::{Fault, Heap};
 use std::alloc::Global;
+
+/// So many marks, none of them set.
+fn unmarked(alloc: Global, count: u64) -> Result<Vec<bool>, Fault>
+    ensures ok { IfOk result (λ v. v.items ≡ replicate count false) }
+    ensures memory { IfErr result (λ e. e ≡ Fault.Memory) }
+{
+    Ok(vec![in alloc; false; count as usize]?)
+}
+
+/// Sets the marks of these numbers. One past the last mark has none.
+fn mark_each(marks: &mut [bool], numbers: &[u32])
+    ensures { AreMarked (has numbers.now) marks.old marks.new }
+{
+    for number in numbers {
+        let place = *number as usize;
+        if place < marks.len() {
+            marks[place] = true;
+        }
+    }
+}
+
+/// Sets the marks of the cards in the remembered sets of these regions.
+fn mark_sets(marks: &mut [bool], sets: &[Vec<u32>], set: &[u32])
+    requires { All (λ r. r < length sets.now) set.now }
+    ensures { AreMarked (is_listed (map (λ s. s.items) sets.now) set.now) marks.old marks.new }
+{
+    for region in set {
+        mark_each(marks, sets[*region as usize].as_slice());
+    }
+}
+
+/// The marked cards whose region isn't marked, rising.
+fn left_over(
+    alloc: Global,
+    heap: &Heap,
+    cards: &[bool],
+    regions: &[bool],
+) -> Result<Vec<u32>, Fault>
+    requires cards { length cards.now ≡ card_count heap.now }
+    requires regions { length regions.now ≡ heap.now.geometry.n }
+    ensures ok { IfOk result (λ v. v.items ≡ cards_where heap.now (is_left heap.now cards.now regions.now)) }
+    ensures memory { IfErr result (λ e. e ≡ Fault.Memory) }
+{
+    let geometry = heap.geometry();
+    let mut left = Vec::new(alloc);
+    for card in 0..cards.len() {
+        let region = card as u64 * geometry.card_words() / geometry.region_words();
+        if cards[card] && !regions[region as usize] {
+            left.push(card as u32)?;
+        }
+    }
+    Ok(left)
+}
 
 /// The cards outside a set of regions that stand in the remembered set of one of them, rising:
 /// these lead into the set. `sets` has one entry a region.
@@ -21,5 +77,11 @@ pub fn cards_into(
     ensures ok { IfOk result (λ v. v.items ≡ cards_into heap.now (map (λ s. s.items) sets.now) set.now) }
     ensures memory { IfErr result (λ e. e ≡ Fault.Memory) }
 {
-    Err(Fault::Memory)
+    let geometry = heap.geometry();
+    let words = geometry.regions() * geometry.region_words();
+    let mut cards = unmarked(alloc, words / geometry.card_words())?;
+    mark_sets(&mut cards, sets, set);
+    let mut regions = unmarked(alloc, geometry.regions())?;
+    mark_each(&mut regions, set);
+    left_over(alloc, heap, &cards, &regions)
 }

@@ -1,15 +1,66 @@
-ghost use Rattle.std.specs.Prelude.{◌≡◌, ◌<◌, ◌*◌, Contains, false, All, IfOk, IfErr};
+ghost use Rattle.std.specs.Prelude.{◌≡◌, ◌<◌, ◌*◌, ◌++◌, length, Contains, false, All, OnOk, IfOk, IfErr};
 ghost use Rattle.std.specs.List.Sorted.{IsStrictlyIncreasing};
 ghost use Rattle.g1_words.specs.Survivors.{in_set};
+ghost use Rattle.g1_words.specs.Valid.{IsValid};
+ghost use Rattle.g1_rem.specs.Slots.{slots_on};
 ghost use Rattle.g1_rem.specs.Starts.{IsStartsOf, card_count};
 ghost use Rattle.g1_copy.specs.Plans.{IsPlanOf};
-ghost use Rattle.g1_copy.specs.Patches.{patches_on};
+ghost use Rattle.g1_copy.specs.Patches.{patch_at, patches_at, patches_on};
 
 use g1_layout::Plan;
-use g1_rem::Starts;
+use g1_rem::{Starts, slots_on};
 use g1_words::{Fault, Heap};
 use std::alloc::Global;
 use std::thread::Threads;
+
+/// Adds a slot with its new word, if it names a survivor.
+fn push_patch(
+    heap: &Heap,
+    plan: &Plan,
+    slot: u64,
+    patches: &mut Vec<(u64, u64)>,
+) -> Result<(), Fault>
+    requires heap { IsValid heap.now }
+    requires plan { IsPlanOf heap.now plan.now }
+    requires slot { slot < length heap.now.words }
+    ensures ok { OnOk result (patches.new.items ≡ patches.old.items ++ patch_at heap.now plan.now.survivors slot) }
+    ensures memory { IfErr result (λ e. e ≡ Fault.Memory) }
+{
+    let word = heap.words()[slot as usize];
+    if word == 0 {
+        return Ok(());
+    }
+    let target = word - 1;
+    let place = plan.forward(target);
+    // Each survivor moves, from an ordinary region to a free one, and nothing else does.
+    if place != target {
+        patches.push((slot, place + 1))?;
+    }
+    Ok(())
+}
+
+/// Adds the slots on a card that name a survivor, each with its new word.
+fn push_card(
+    alloc: Global,
+    heap: &Heap,
+    starts: &Starts,
+    plan: &Plan,
+    card: u32,
+    patches: &mut Vec<(u64, u64)>,
+) -> Result<(), Fault>
+    requires heap { IsValid heap.now }
+    requires starts { IsStartsOf heap.now starts.now }
+    requires plan { IsPlanOf heap.now plan.now }
+    requires card { card < card_count heap.now }
+    ensures ok { OnOk result (patches.new.items ≡ patches.old.items ++ patches_at heap.now plan.now.survivors (slots_on heap.now card)) }
+    ensures memory { IfErr result (λ e. e ≡ Fault.Memory) }
+{
+    let slots = slots_on(alloc, heap, starts, card);
+    for slot in slots.as_slice() {
+        push_patch(heap, plan, *slot, patches)?;
+    }
+    Ok(())
+}
 
 /// The slots on some cards that name a survivor, each with its new word, by slot address. The cards
 /// rise, and none of them lies in a region of the set. Linear in the slots on the cards.
@@ -33,5 +84,11 @@ pub fn patches(
     ensures ok { IfOk result (λ v. v.items ≡ patches_on heap.now plan.now.survivors cards.now) }
     ensures memory { IfErr result (λ e. e ≡ Fault.Memory) }
 {
-    Err(Fault::Memory)
+    // The heap's rules are known from its geometry's contract.
+    heap.geometry();
+    let mut patches = Vec::new(alloc);
+    for card in cards {
+        push_card(alloc, heap, starts, plan, *card, &mut patches)?;
+    }
+    Ok(patches)
 }
