@@ -4,3 +4,5 @@ pub mod Following
 pub mod Always
 pub mod Counted
 pub mod Refused
+pub mod Carried
+pub mod Planning

@@ -11,7 +11,7 @@ use crate::choosing::collection_set;
 use crate::laws::{one_answer, what_follows};
 use crate::report::{Report, report_of};
 use crate::settings::Settings;
-use g1_copy::{Prepared, cards_into, commit, prepare};
+use g1_copy::{Prepared, cards_into, cards_lead_in, commit, prepare};
 use g1_frontier::{discover, refined_sets_lead_in};
 use g1_layout::{place, placeable};
 use g1_rem::{Starts, Tracked, image, refine};
@@ -41,6 +41,7 @@ fn planned<R: Threads + Sync, G: Gate + Sync>(
     let sets = refine(rt, alloc, tracked, &starts)?;
     let set = collection_set(rt, alloc, image, &starts, &sets, settings, gate)?;
     let cards = cards_into(alloc, heap, &sets, &set)?;
+    cards_lead_in();
     refined_sets_lead_in();
     let survivors = discover(rt, alloc, heap, &starts, &set, &cards, workers, chunk, gate)?;
     placeable();
