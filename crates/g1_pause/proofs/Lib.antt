@@ -6,3 +6,4 @@ pub mod Counted
 pub mod Refused
 pub mod Carried
 pub mod Planning
+pub mod Answered

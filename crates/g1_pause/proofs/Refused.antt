@@ -1,5 +1,5 @@
 -- Why a pause is refused.
-use Rattle.std.proofs.Common.{◌≡◌, ℕ, ◌⊎◌, inl, inr, List, Result, Ok, Err, sym, ap, subst}
+use Rattle.std.proofs.Common.{◌≡◌, ℕ, ◌⊎◌, inl, inr, List, Result, Ok, Err, sym, subst}
 use Rattle.std.specs.Prelude.{slice_index, IfErr, Vec}
 use Rattle.std.specs.Global.{Global}
 use Rattle.g1_words.specs.declared.fault.Fault.{Fault}

@@ -66,6 +66,7 @@ pub fn evacuate<R: Threads + Sync, G: Gate + Sync>(
     settings: &Settings,
     gate: &G,
 ) -> Result<(Tracked, Report), (Tracked, Fault)>
+    ensures tracked { IsTracked tracked }
     ensures done { IfOk result (λ x. IsEvacuated settings.now.cost settings.now.choice tracked (Ok x.0)) }
     ensures only { IfOk result (λ x. (y : Result ImageOf FaultOf) → IsEvacuated settings.now.cost settings.now.choice tracked y → y ≡ Ok x.0) }
     ensures follows { IfOk result (λ x. Follows settings.now.cost settings.now.choice tracked x.0) }

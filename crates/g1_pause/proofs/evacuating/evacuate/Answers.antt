@@ -1,4 +1,4 @@
-use Rattle.std.proofs.Common.{◌≡◌, Ok, sym}
+use Rattle.std.proofs.Common.{Ok}
 use Rattle.g1_pause.proofs.Carried.{carried_out}
 use Rattle.g1_pause.proofs.evacuating.evacuate.Goals as goal
 

@@ -1,12 +1,11 @@
-use Rattle.std.proofs.Common.{◌≡◌, ℕ, List, map, Err, refl, sym, ◌∙◌, ap, subst}
+use Rattle.std.proofs.Common.{◌≡◌, map, Err, refl, sym, ◌∙◌, ap, subst}
 use Rattle.std.specs.Prelude.{IfErr, ◌⊎◌}
 use Rattle.std.proofs.lemmas.Result.{err_from_is_err_and}
 use Rattle.g1_words.specs.declared.fault.Fault.{Fault}
 use Rattle.g1_words.specs.declared.fault.Fault.TheVariants.{Memory}
-use Rattle.g1_words.specs.Heap.{Heap, regions}
+use Rattle.g1_words.specs.Heap.{regions}
 use Rattle.g1_image.specs.Image.{Image}
 use Rattle.g1_image.specs.Cards.{Covered, IsTracked, refined}
-use Rattle.g1_layout.specs.Placed.{CanPlace}
 use Rattle.g1_copy.specs.Plans.{IsPauseOf}
 use Rattle.g1_frontier.proofs.Leading.{sets_one_each}
 use Rattle.g1_pause.specs.Answer.{IsEvacuated}
