@@ -1,2 +1,11 @@
 mod NoDevice
 mod Pieces
+pub mod OneAnswer
+pub mod SetsFor
+pub mod Following
+pub mod Always
+pub mod Counted
+pub mod Refused
+pub mod Carried
+pub mod Planning
+pub mod Answered

@@ -1,17 +1,55 @@
 ghost use Rattle.std.specs.Prelude.{◌≡◌, ◌⊎◌, ℕ, Ok, Err, Result, IfOk, IfErr};
 ghost use Rattle.g1_words.specs.declared.fault.Fault.{Fault as FaultOf};
+ghost use Rattle.g1_image.specs.Cards.{IsTracked};
 ghost use Rattle.g1_image.specs.Image.{Image as ImageOf};
 ghost use Rattle.g1_pause.specs.Answer.{IsEvacuated};
 ghost use Rattle.g1_pause.specs.Follows.{Follows};
+ghost use Rattle.g1_pause.specs.Planned.{IsPlanned};
 ghost use Rattle.g1_pause.specs.Report.{IsReport};
 
-use crate::report::Report;
+use crate::choosing::collection_set;
+use crate::laws::{one_answer, what_follows};
+use crate::report::{Report, report_of};
 use crate::settings::Settings;
-use g1_rem::Tracked;
+use g1_copy::{Prepared, cards_into, cards_lead_in, commit, prepare};
+use g1_frontier::{discover, refined_sets_lead_in};
+use g1_layout::{place, placeable};
+use g1_rem::{Starts, Tracked, image, refine};
 use g1_words::Fault;
 use g1_work::Gate;
 use std::alloc::Global;
 use std::thread::Threads;
+
+/// All that the pause writes, made ready, and its report. The image stays as it is, so that a refusal
+/// leaves nothing to undo.
+fn planned<R: Threads + Sync, G: Gate + Sync>(
+    rt: &R,
+    alloc: Global,
+    tracked: &Tracked,
+    settings: &Settings,
+    gate: &G,
+) -> Result<(Prepared, Report), Fault>
+    ensures tracked { IsTracked tracked.now }
+    ensures made { IfOk result (λ x. IsPlanned settings.now.cost settings.now.choice tracked.now x.0) }
+    ensures report { IfOk result (λ x. IsReport settings.now.cost settings.now.choice tracked.now x.1) }
+    ensures refused { IfErr result (λ e. (e ≡ Fault.Memory) ⊎ IsEvacuated settings.now.cost settings.now.choice tracked.now (Err e)) }
+{
+    let image = image(tracked);
+    let heap = image.heap();
+    let (workers, chunk) = (settings.workers(), settings.chunk());
+    let starts = Starts::build(alloc, heap)?;
+    let sets = refine(rt, alloc, tracked, &starts)?;
+    let set = collection_set(rt, alloc, image, &starts, &sets, settings, gate)?;
+    let cards = cards_into(alloc, heap, &sets, &set)?;
+    cards_lead_in();
+    refined_sets_lead_in();
+    let survivors = discover(rt, alloc, heap, &starts, &set, &cards, workers, chunk, gate)?;
+    placeable();
+    let plan = place(alloc, heap, &set, &survivors)?;
+    let prepared = prepare(rt, alloc, tracked, &starts, &sets, &set, &plan)?;
+    let report = report_of(alloc, image, set, &plan)?;
+    Ok((prepared, report))
+}
 
 /// The evacuation pause of a tracked image: the image after, which is tracked too, and a report; or a
 /// refusal, with the very image that was handed in.
@@ -28,6 +66,7 @@ pub fn evacuate<R: Threads + Sync, G: Gate + Sync>(
     settings: &Settings,
     gate: &G,
 ) -> Result<(Tracked, Report), (Tracked, Fault)>
+    ensures tracked { IsTracked tracked }
     ensures done { IfOk result (λ x. IsEvacuated settings.now.cost settings.now.choice tracked (Ok x.0)) }
     ensures only { IfOk result (λ x. (y : Result ImageOf FaultOf) → IsEvacuated settings.now.cost settings.now.choice tracked y → y ≡ Ok x.0) }
     ensures follows { IfOk result (λ x. Follows settings.now.cost settings.now.choice tracked x.0) }
@@ -36,5 +75,13 @@ pub fn evacuate<R: Threads + Sync, G: Gate + Sync>(
     ensures refused { IfErr result (λ e. (e.1 ≡ Fault.Memory) ⊎ IsEvacuated settings.now.cost settings.now.choice tracked (Err e.1)) }
     ensures only_refused { IfErr result (λ e. (e.1 ≡ Fault.Memory) ⊎ ((y : Result ImageOf FaultOf) → IsEvacuated settings.now.cost settings.now.choice tracked y → y ≡ Err e.1)) }
 {
-    Err((tracked, Fault::Memory))
+    one_answer();
+    what_follows();
+    match planned(rt, alloc, &tracked, settings, gate) {
+        Err(fault) => Err((tracked, fault)),
+        Ok((prepared, report)) => {
+            let workers = settings.workers();
+            Ok((commit(rt, workers, tracked, prepared, gate), report))
+        }
+    }
 }

@@ -1,12 +1,26 @@
 //! The evacuation pause of a Garbage-First collector (Detlefs, Flood, Heller, Printezis,
 //! "Garbage-First Garbage Collection", 2004), over heap images.
 //!
-//! What stands so far is how a pause is asked for: how many workers share it and how many items they
-//! draw at once, what its parts cost, and which regions it is to collect. The pause itself is not
-//! built yet.
+//! `pause_bytes` reads an image, sees that every reference is covered, evacuates and writes the image
+//! after. `evacuate` goes by these steps:
+//!
+//! 1. The table of starts and the refined remembered sets are built once, and lent to what follows.
+//! 2. The collection set is what the budget buys by the refined sets and the live bytes, or the
+//!    regions that the caller names.
+//! 3. The cards of those refined sets lead into the set. From the roots and from them its survivors
+//!    are found.
+//! 4. Each survivor gets its place in a free region, or the pause is refused for want of room.
+//! 5. All that the pause writes is made ready, and its report with it. Up to here memory may be
+//!    refused, and the image is as it was.
+//! 6. A commit puts it in place. It takes no memory and refuses nothing.
+//!
+//! The answer is told by the image, the choice and the cost. The workers, the chunk and the gate leave
+//! no trace in it.
 #![tactic(auto)]
 
+mod choosing;
 mod evacuating;
+mod laws;
 mod report;
 mod running;
 mod settings;
@@ -19,6 +33,7 @@ mod whole;
 mod wraps;
 
 pub use evacuating::evacuate;
+pub use laws::{always_one, one_answer, what_follows};
 pub use report::Report;
 pub use running::pause_run;
 pub use settings::{Choice, Settings};

@@ -3,7 +3,11 @@ ghost use Rattle.g1_words.specs.declared.fault.Fault.{Fault as FaultOf};
 ghost use Rattle.g1_pause.specs.Answer.{IsAnswer};
 ghost use Rattle.g1_pause.specs.Follows.{TextFollows};
 
+use crate::evacuating::evacuate;
+use crate::laws::{one_answer, what_follows};
 use crate::settings::Settings;
+use g1_image::{decode, encode};
+use g1_rem::{image, verify};
 use g1_words::Fault;
 use g1_work::Gate;
 use std::alloc::Global;
@@ -30,5 +34,14 @@ pub fn pause_bytes<R: Threads + Sync, G: Gate + Sync>(
     ensures fault { IfErr result (λ e. (e ≡ Fault.Memory) ⊎ IsAnswer settings.now.cost settings.now.choice bytes.now (Err e)) }
     ensures only_fault { IfErr result (λ e. (e ≡ Fault.Memory) ⊎ ((y : Result (List ℕ) FaultOf) → IsAnswer settings.now.cost settings.now.choice bytes.now y → y ≡ Err e)) }
 {
-    Err(Fault::Memory)
+    one_answer();
+    what_follows();
+    let tracked = match verify(rt, alloc, decode(alloc, bytes)?) {
+        Ok(tracked) => tracked,
+        Err((_, fault)) => return Err(fault),
+    };
+    match evacuate(rt, alloc, tracked, settings, gate) {
+        Ok((after, _)) => encode(alloc, image(&after)),
+        Err((_, fault)) => Err(fault),
+    }
 }

@@ -1,0 +1,77 @@
+-- Bytes always have an answer.
+use Rattle.std.proofs.Common.{◌≡◌, ℕ, inl, inr, List, [], ◌∷◌, length, map, filter, Result, Ok, Err, refl}
+use Rattle.std.specs.Prelude.{slice_index}
+use Rattle.std.proofs.lemmas.Bool.{cases_lt}
+use Rattle.g1_words.specs.declared.fault.Fault.{Fault}
+use Rattle.g1_words.specs.declared.fault.Fault.TheVariants.{Set, Room, Uncovered}
+use Rattle.g1_words.specs.Heap.{Heap, regions}
+use Rattle.g1_words.specs.Lists.{has}
+use Rattle.g1_words.specs.Live.{IsLiveBytes, bytes_where}
+use Rattle.g1_words.specs.Layout.{need, free_regions}
+use Rattle.g1_words.specs.Valid.{IsValid}
+use Rattle.g1_image.specs.Image.{Image, IsTextOf, file_of}
+use Rattle.g1_image.specs.Text.{file_text}
+use Rattle.g1_image.specs.Reading.{IsBytes}
+use Rattle.g1_image.specs.Cards.{IsTracked, refined, uncovered}
+use Rattle.g1_image.specs.Made.{image_after}
+use Rattle.g1_choose.specs.declared.parameters.Cost.{Cost}
+use Rattle.g1_mark.specs.Marked.{used}
+use Rattle.g1_pause.specs.declared.settings.Choice.{Choice}
+use Rattle.g1_pause.specs.declared.settings.Choice.TheVariants.{Budget, Given}
+use Rattle.g1_pause.specs.Answer.{IsSetFor, IsEvacuated, bad_set, no_room, done, IsAnswer, unread, not_covered, refused, written}
+use Rattle.g1_words.proofs.Shapes.{built}
+use Rattle.g1_words.proofs.Sound.{sound}
+use Rattle.g1_words.proofs.SurvivorsExist.{survivors_exist}
+use Rattle.g1_image.proofs.AlwaysOne.{always_one}
+use Rattle.g1_image.proofs.Existence.{made_is_moved}
+use Rattle.g1_choose.proofs.Naming.{accepted_or_bad}
+use Rattle.g1_choose.proofs.OneChoice.{set_exists}
+use Rattle.g1_mark.proofs.Counting.{live_counted}
+use Rattle.g1_pause.proofs.Following.{evacuation_follows}
+use Rattle.g1_pause.proofs.SetsFor.{set_ordinary}
+
+-- a heap has live bytes
+live_bytes_exist : (h : Heap) → IsValid h → (lives : List ℕ) × IsLiveBytes h lives
+live_bytes_exist h valid =
+    let e = survivors_exist h (used h) (sound h valid) in
+    (map (bytes_where h (has e.0)) (regions h), live_counted h valid e.0 e.1 (map (bytes_where h (has e.0)) (regions h)) refl)
+
+module _ (cost : Cost) (i : Image) (tracked : IsTracked i) where
+  valid : IsValid i.heap
+  valid = tracked.image.heap
+
+  -- the pause gives something where there is a set
+  with_set : (choice : Choice) (set : List ℕ) → IsSetFor cost i choice set → (x : Result Image Fault) × IsEvacuated cost choice i x
+  with_set choice set s =
+      let e = survivors_exist i.heap set (sound i.heap valid) in
+      elim (cases_lt (length (free_regions i.heap)) (need i.heap e.0)) [
+        | inl lt ↦ (Err (Room (need i.heap e.0) (length (free_regions i.heap))), no_room set e.0 s e.1 lt)
+        | inr le ↦ (Ok (image_after i set e.0), done set e.0 s e.1 le (made_is_moved i set e.0 (built i.heap valid) (set_ordinary cost i choice set s) e.1 le))
+      ]
+
+  evacuation_exists : (choice : Choice) → (x : Result Image Fault) × IsEvacuated cost choice i x
+  evacuation_exists (Budget b) =
+      let lives = live_bytes_exist i.heap valid in
+      let set = set_exists cost i.heap (map (refined i) (regions i.heap)) lives.0 (length i.log) b in
+      with_set (Budget b) set.0 (lives.0, lives.1, set.1)
+  evacuation_exists (Given list) = elim (accepted_or_bad i.heap list.items) [
+    | inl good ↦ with_set (Given list) (filter (has list.items) (regions i.heap)) (good, refl)
+    | inr bad ↦ (Err (Set (slice_index list.items bad.0)), bad_set list bad.0 refl bad.1)
+  ]
+
+module _ (cost : Cost) (choice : Choice) (bytes : List ℕ) where
+  told : (i : Image) → IsTextOf bytes i → uncovered i ≡ [] → (x : Result Image Fault) → IsEvacuated cost choice i x → (y : Result (List ℕ) Fault) × IsAnswer cost choice bytes y
+  told i t c (Err f) e = (Err f, refused t c e)
+  told i t c (Ok j) e =
+      let after = (evacuation_follows cost choice i j (record { image = t.0; covered = c }) e).tracked in
+      (Ok (file_text (file_of j)), written t c e (after.image, refl))
+
+  of_image : (i : Image) → IsTextOf bytes i → (slots : List ℕ) → uncovered i ≡ slots → (y : Result (List ℕ) Fault) × IsAnswer cost choice bytes y
+  of_image i t [] c = let e = evacuation_exists cost i (record { image = t.0; covered = c }) choice in told i t c e.0 e.1
+  of_image i t (p ∷ ps) u = (Err (Uncovered p), not_covered t u)
+
+  pub answer_exists : IsBytes bytes → (y : Result (List ℕ) Fault) × IsAnswer cost choice bytes y
+  answer_exists are = elim (always_one bytes are) [
+    | inl t ↦ of_image t.0 t.1 (uncovered t.0) refl
+    | inr f ↦ (Err f.0, unread f.1)
+  ]

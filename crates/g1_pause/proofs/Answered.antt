@@ -1,0 +1,59 @@
+-- What the steps of a whole pause tell of its answer.
+use Rattle.std.proofs.Common.{◌≡◌, ℕ, ◌⊎◌, inl, inr, List, ◌∷◌, Result, Ok, Err, sym, subst}
+use Rattle.std.specs.Prelude.{IfOk, IfErr, Vec}
+use Rattle.std.specs.Global.{Global}
+use Rattle.g1_words.specs.declared.fault.Fault.{Fault}
+use Rattle.g1_words.specs.declared.fault.Fault.TheVariants.{Memory, Uncovered}
+use Rattle.g1_image.specs.Image.{Image, IsTextOf}
+use Rattle.g1_image.specs.Faults.{MayFail}
+use Rattle.g1_image.specs.Cards.{IsTracked, uncovered}
+use Rattle.g1_choose.specs.declared.parameters.Cost.{Cost}
+use Rattle.g1_pause.specs.declared.settings.Choice.{Choice}
+use Rattle.g1_pause.specs.Answer.{IsEvacuated, IsAnswer, unread, not_covered, refused, written}
+use Rattle.g1_pause.specs.Follows.{TextFollows}
+use Rattle.g1_pause.specs.Laws.{OneAnswer, AnswerFollows}
+
+module _ (cost : Cost) (choice : Choice) (bytes : List ℕ) where
+  -- the fault is the answer, or memory was wanting
+  abbrev pub Told : Fault → Type 0
+  Told e = (e ≡ Memory) ⊎ IsAnswer cost choice bytes (Err e)
+
+  -- the fault is the only answer, or memory was wanting
+  abbrev pub OnlyTold : Fault → Type 0
+  OnlyTold e = (e ≡ Memory) ⊎ ((y : Result (List ℕ) Fault) → IsAnswer cost choice bytes y → y ≡ Err e)
+
+  pub unread_told : (e : Fault) → MayFail bytes e → Told e
+  unread_told e (inl m) = inl m
+  unread_told e (inr f) = inr (unread f)
+
+  pub uncovered_told : (i : Image) (e : Fault) → IsTextOf bytes i → (e ≡ Memory) ⊎ ((p : ℕ) × (rest : List ℕ) × (uncovered i ≡ p ∷ rest) × (e ≡ Uncovered p)) → Told e
+  uncovered_told i e t (inl m) = inl m
+  uncovered_told i e t (inr u) = inr (subst (λ (f : Fault). IsAnswer cost choice bytes (Err f)) (sym u.3) (not_covered t u.2))
+
+  pub refused_told : (i k : Image) (e : Fault) → IsTextOf bytes i → k ≡ i → IsTracked k → (e ≡ Memory) ⊎ IsEvacuated cost choice k (Err e) → Told e
+  refused_told i k e t same tracked (inl m) = inl m
+  refused_told i k e t same tracked (inr r) = inr (refused (subst (IsTextOf bytes) (sym same) t) tracked.covered r)
+
+  pub only_told : OneAnswer → (e : Fault) → Told e → OnlyTold e
+  only_told one e (inl m) = inl m
+  only_told one e (inr a) = inr (λ y b. one cost choice bytes y (Err e) b a)
+
+  -- a fault that came up by way of memory
+  pub memory_told : {X : Type 0} (r : Result X Fault) → IfErr r (λ e. e ≡ Memory) → IfErr r Told × IfErr r OnlyTold
+  memory_told (Ok v) m = (m, m)
+  memory_told (Err e) m = (inl m, inl m)
+
+  -- a text that was written is the answer, the only one, and follows
+  pub written_told : (i k j l : Image) (r : Result (Vec ℕ Global) Fault) → IsTextOf bytes i → k ≡ i → IsTracked k → IsEvacuated cost choice k (Ok j) → l ≡ j
+      → IfOk r (λ v. IsTextOf v.items l) → IfOk r (λ v. IsAnswer cost choice bytes (Ok v.items))
+  written_told i k j l (Err e) t same tracked e' after w = w
+  written_told i k j l (Ok v) t same tracked e after w = written (subst (IsTextOf bytes) (sym same) t) tracked.covered e (subst (IsTextOf v.items) after w)
+
+  pub only_written : OneAnswer → (r : Result (Vec ℕ Global) Fault) → IfOk r (λ v. IsAnswer cost choice bytes (Ok v.items))
+      → IfOk r (λ v. (y : Result (List ℕ) Fault) → IsAnswer cost choice bytes y → y ≡ Ok v.items)
+  only_written one (Err e) a = a
+  only_written one (Ok v) a = λ y b. one cost choice bytes y (Ok v.items) b a
+
+  pub written_follows : AnswerFollows → (r : Result (Vec ℕ Global) Fault) → IfOk r (λ v. IsAnswer cost choice bytes (Ok v.items)) → IfOk r (λ v. TextFollows cost choice bytes v.items)
+  written_follows follows (Err e) a = a
+  written_follows follows (Ok v) a = follows cost choice bytes v.items a

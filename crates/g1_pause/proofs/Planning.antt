@@ -1,0 +1,90 @@
+-- What each step of a pause asks of the steps before it.
+use Rattle.std.proofs.Common.{◌≡◌, ℕ, ◌⊎◌, inl, inr, ◌<◌, ◌≤◌, List, length, map, All, Result, Ok, Err, refl, sym, ◌∙◌, subst}
+use Rattle.std.specs.Prelude.{IfErr}
+use Rattle.std.specs.List.Sorted.{IsStrictlyIncreasing}
+use Rattle.std.proofs.lemmas.Bool.{cases_lt}
+use Rattle.g1_words.specs.declared.fault.Fault.{Fault}
+use Rattle.g1_words.specs.declared.fault.Fault.TheVariants.{Memory, Room}
+use Rattle.g1_words.specs.Heap.{Heap, regions}
+use Rattle.g1_words.specs.Layout.{need, free_regions}
+use Rattle.g1_words.specs.Survivors.{AllOrdinary, Survivors}
+use Rattle.g1_words.specs.Valid.{IsValid}
+use Rattle.g1_image.specs.Image.{Image}
+use Rattle.g1_image.specs.Cards.{IsTracked, refined}
+use Rattle.g1_rem.specs.Starts.{card_count}
+use Rattle.g1_frontier.specs.Laws.{AreRefinedOf, RefinedLeadIn}
+use Rattle.g1_frontier.specs.Window.{AreRegions, AreCards, AreOutside, LeadIn}
+use Rattle.g1_choose.specs.declared.parameters.Cost.{Cost}
+use Rattle.g1_layout.specs.Laws.{SurvivorsPlaceable}
+use Rattle.g1_layout.specs.Placed.{CanPlace}
+use Rattle.g1_layout.specs.Plan.{Plan, plan_of}
+use Rattle.g1_copy.specs.Cards.{cards_into}
+use Rattle.g1_copy.specs.Laws.{CardsLeadIn, CardsStandOutside}
+use Rattle.g1_copy.specs.Plans.{IsPauseOf}
+use Rattle.g1_pause.specs.declared.settings.Choice.{Choice}
+use Rattle.g1_pause.specs.Answer.{IsSetFor, IsEvacuated, no_room}
+use Rattle.g1_pause.proofs.SetsFor.{set_ordinary, set_regions}
+
+-- the cards are cards of the heap, rising
+pub cards_there : (h : Heap) (cards set : List ℕ) (sets : List (List ℕ)) → CardsStandOutside → cards ≡ cards_into h sets set → AreCards h cards
+cards_there h cards set sets outside e =
+    let k = outside h sets set in
+    record { rise = subst IsStrictlyIncreasing (sym e) k.0; below = subst (All (λ c. c < card_count h)) (sym e) k.1 }
+
+module _ (cost : Cost) (choice : Choice) (i : Image) (h : Heap) (heap : h ≡ i.heap) (set : List ℕ) (chosen : IsSetFor cost i choice set) where
+  -- the set is one of regions
+  pub set_there : (xs : List ℕ) → xs ≡ set → AreRegions h xs
+  set_there xs e = subst (λ g. AreRegions g xs) (sym heap) (subst (AreRegions i.heap) (sym e) (set_regions cost i choice set chosen))
+
+  -- the cards lead into the set
+  pub set_leads : (cards xs ys : List ℕ) (sets : List (List ℕ)) → IsTracked i → CardsLeadIn → RefinedLeadIn → cards ≡ cards_into h sets ys → ys ≡ set → xs ≡ set
+      → sets ≡ map (refined i) (regions i.heap) → AreOutside h xs cards × LeadIn h xs cards
+  set_leads cards xs ys sets tracked cards_lead refined_lead e f k s =
+      let same : cards ≡ cards_into i.heap (map (refined i) (regions i.heap)) set = e ∙ (λ t. cards_into (heap t) (s t) (f t)) in
+      let are : AreRefinedOf i set cards = subst (AreRefinedOf i set) (sym same) (cards_lead i set tracked.image (set_ordinary cost i choice set chosen)) in
+      let lead = refined_lead i set cards tracked.image tracked.covered (set_regions cost i choice set chosen).below are in
+      subst (λ g. AreOutside g xs cards × LeadIn g xs cards) (sym heap) (subst (λ zs. AreOutside i.heap zs cards × LeadIn i.heap zs cards) (sym k) lead)
+
+  -- its survivors can be placed
+  pub set_places : (xs ys l m : List ℕ) → IsTracked i → SurvivorsPlaceable → xs ≡ set → ys ≡ set → l ≡ m → Survivors h ys m → CanPlace h xs l
+  set_places xs ys l m tracked placeable e f k found =
+      let valid : IsValid h = subst IsValid (sym heap) tracked.image.heap in
+      let ordinary : AllOrdinary h set = subst (λ g. AllOrdinary g set) (sym heap) (set_ordinary cost i choice set chosen) in
+      let can : CanPlace h set m = placeable h set m valid (set_there set refl).rise ordinary (subst (λ zs. Survivors h zs m) f found) in
+      subst (λ zs. CanPlace h zs l) (sym e) (subst (CanPlace h set) (sym k) can)
+
+  -- where they are not, too few regions are free or memory is wanting
+  pub set_refused : {X : Type 0} (ys l m : List ℕ) (r : Result X Fault) (fault : Fault) → r ≡ Err fault → ys ≡ set → l ≡ m → Survivors h ys m
+      → (length (free_regions h) < need h l → r ≡ Err (Room (need h l) (length (free_regions h))))
+      → (need h l ≤ length (free_regions h) → IfErr r (λ e. e ≡ Memory))
+      → (fault ≡ Memory) ⊎ IsEvacuated cost choice i (Err fault)
+  set_refused {X} ys l m r fault is f k found room memory =
+      elim (cases_lt (length (free_regions h)) (need h l)) [
+        | inr le ↦ inl (subst (λ q. IfErr q (λ e. e ≡ Memory)) is (memory le))
+        | inl lt ↦
+            let same : ◌≡◌ {A = Result X Fault} (Err fault) (Err (Room (need h l) (length (free_regions h)))) = sym is ∙ room lt in
+            let faults : fault ≡ Room (need h l) (length (free_regions h)) = cc in
+            let there : Survivors h set l = subst (λ zs. Survivors h zs l) f (subst (Survivors h ys) (sym k) found) in
+            let here : IsEvacuated cost choice i (Err (Room (need h l) (length (free_regions h)))) =
+            subst (λ g. IsEvacuated cost choice i (Err (Room (need g l) (length (free_regions g))))) (sym heap)
+            (no_room set l chosen (subst (λ g. Survivors g set l) heap there) (subst (λ g. length (free_regions g) < need g l) heap lt)) in
+            inr (subst (λ (z : Fault). IsEvacuated cost choice i (Err z)) (sym faults) here)
+      ]
+
+  -- where they are, the plan is one for the set and its survivors
+  pub set_planned : (xs ys zs l m : List ℕ) (p : Plan) (r : Result Plan Fault) → IsTracked i → SurvivorsPlaceable → xs ≡ set → ys ≡ set → zs ≡ set → l ≡ m → Survivors h ys m
+      → r ≡ Ok p → p ≡ plan_of h xs l → (length (free_regions h) < need h l → r ≡ Err (Room (need h l) (length (free_regions h))))
+      → IsPauseOf i.heap zs p
+  set_planned xs ys zs l m p r tracked placeable e f k n found is plan room =
+      let can : CanPlace h xs l = set_places xs ys l m tracked placeable e f n found in
+      let there : Survivors h zs l = subst (λ us. Survivors h us l) (f ∙ sym k) (subst (Survivors h ys) (sym n) found) in
+      let of_plan : IsPauseOf h zs (plan_of h xs l) = record {
+        made = record { placeable = can; room = within (cases_lt (length (free_regions h)) (need h l)); plan = refl };
+        same = e ∙ sym k;
+        survivors = there;
+      } in
+      subst (λ g. IsPauseOf g zs p) heap (subst (IsPauseOf h zs) (sym plan) of_plan)
+    where
+      within : (length (free_regions h) < need h l) ⊎ (need h l ≤ length (free_regions h)) → need h l ≤ length (free_regions h)
+      within (inr le) = le
+      within (inl lt) = let clash : Ok p ≡ Err (Room (need h l) (length (free_regions h))) = sym is ∙ room lt in cc

@@ -1,0 +1,19 @@
+ghost use Rattle.g1_pause.specs.Laws.{OneSetFor, OneEvacuation, OneAnswer, AnswerExists, EvacuationFollows, AnswerFollows};
+
+/// A choice has one set, a tracked image one pause, and bytes one answer.
+pub fn one_answer()
+    ensures set { OneSetFor }
+    ensures evacuation { OneEvacuation }
+    ensures answer { OneAnswer }
+{}
+
+/// What a pause gives follows from what it was given.
+pub fn what_follows()
+    ensures evacuation { EvacuationFollows }
+    ensures answer { AnswerFollows }
+{}
+
+/// Bytes always have an answer, whatever the choice and the cost.
+pub fn always_one()
+    ensures { AnswerExists }
+{}
