@@ -244,3 +244,20 @@ pub(crate) static SHARED_BACK: [u32; 50] = [
     16, 4, 4, 2, 0, 4, 1, 6, 1, 7, 0, 0, 0, 0, 17, 0, 19, 0, 0, 2, 0, 1, 0, 0, 1, 4, 17, 0, 1, 0,
     2, 0, 1, 2, 17, 0, 0, 2, 8, 0, 3, 5, 17, 0, 17, 0, 17, 0, 1, 0,
 ];
+
+/// The object at 0 names that at 16, which names it back.
+pub(crate) static MUTUAL: [u32; 30] = [
+    16, 4, 4, 0, 0, 4, 1, 2, 1, 3, 0, 0, 0, 0, 1, 4, 1, 0, 0, 0, 1, 2, 17, 0, 1, 3, 1, 0, 7, 0,
+];
+
+/// The object at 0 names that at 32, which names it back.
+pub(crate) static MUTUAL_AFTER: [u32; 30] = [
+    16, 4, 4, 0, 0, 4, 1, 2, 0, 0, 1, 3, 0, 0, 1, 8, 0, 1, 0, 0, 1, 2, 33, 0, 1, 3, 1, 0, 7, 0,
+];
+
+/// The first region's dead object is still there, and the remembered card that is out of date too:
+/// only region 1 was collected.
+pub(crate) static THREE_REGIONS_LATER: [u32; 47] = [
+    16, 4, 6, 3, 0, 6, 1, 4, 0, 0, 1, 2, 1, 2, 0, 0, 0, 0, 1, 0, 49, 0, 33, 0, 0, 0, 1, 0, 0, 0, 0,
+    0, 2, 1, 0, 0, 2, 1, 0, 0, 1, 0, 1, 0, 2, 1, 0,
+];

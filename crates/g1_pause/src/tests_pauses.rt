@@ -277,6 +277,18 @@ fn every_card_of_a_region_leads_to_one_object(rt: HostRuntime) -> Result<(), Fai
 }
 
 #[test]
+fn a_kept_set_gets_the_card_of_a_copy(rt: HostRuntime) -> Result<(), Fail> {
+    assert!(rt; becomes(&rt, rt.alloc(), &MUTUAL, &[1], &MUTUAL_AFTER)?);
+    Ok(())
+}
+
+#[test]
+fn a_card_that_is_out_of_date_stays_with_its_region(rt: HostRuntime) -> Result<(), Fail> {
+    assert!(rt; becomes(&rt, rt.alloc(), &THREE_REGIONS, &[1], &THREE_REGIONS_LATER)?);
+    Ok(())
+}
+
+#[test]
 fn a_pause_follows_a_pause(rt: HostRuntime) -> Result<(), Fail> {
     assert!(rt; becomes(&rt, rt.alloc(), &SHARED_AFTER, &[2], &SHARED_BACK)?);
     assert!(rt; becomes(&rt, rt.alloc(), &SHARED_BACK, &[1], &SHARED_AFTER)?);
