@@ -28,6 +28,10 @@ mod streams;
 #[cfg(test)]
 mod tests;
 #[cfg(test)]
+mod tests_images;
+#[cfg(test)]
+mod tests_pauses;
+#[cfg(test)]
 mod tests_streams;
 mod whole;
 mod wraps;
