@@ -1,2 +1,3 @@
+mod NamedPauses
 mod NoDevice
 mod Pieces
