@@ -1,3 +1,4 @@
+mod NamedPauses
 mod NoDevice
 mod Pieces
 pub mod OneAnswer

@@ -32,6 +32,8 @@ mod tests_images;
 #[cfg(test)]
 mod tests_pauses;
 #[cfg(test)]
+mod tests_pieces;
+#[cfg(test)]
 mod tests_streams;
 mod whole;
 mod wraps;

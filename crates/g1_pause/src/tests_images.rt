@@ -1,5 +1,7 @@
 //! Images of small heaps: the numbers of 32 bits behind the magic, a reference, header or data word
 //! as two. A header is the number of slots, then the size. An address stands as a word one higher.
+ghost use Rattle.std.specs.Prelude.{◌<◌};
+
 use std::alloc::{AllocError, Global};
 
 /// The text with these numbers behind the magic.
