@@ -1,5 +1,5 @@
 -- What each step of the pause of named regions asks of the steps before it.
-use Rattle.std.proofs.Common.{◌≡◌, ℕ, ◌⊎◌, inl, inr, false, ◌<◌, ◌≤◌, ◌*◌, List, length, map, filter, All, Contains, Result, Ok, Err, refl, sym, ◌∙◌, ap, subst, arith}
+use Rattle.std.proofs.Common.{◌≡◌, ℕ, ◌⊎◌, inl, inr, false, ◌<◌, ◌≤◌, ◌*◌, List, length, map, filter, All, Result, Ok, Err, refl, sym, ◌∙◌, ap, subst, arith}
 use Rattle.std.specs.List.Sorted.{IsStrictlyIncreasing}
 use Rattle.std.proofs.lemmas.Bool.{cases_lt}
 use Rattle.std.proofs.lemmas.List.Kept.{IsStrictlyIncreasing-filter}

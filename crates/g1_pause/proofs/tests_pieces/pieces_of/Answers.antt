@@ -1,4 +1,4 @@
-use Rattle.std.proofs.Common.{◌≡◌, ap, subst, ◌∙◌}
+use Rattle.std.proofs.Common.{ap, subst, ◌∙◌}
 use Rattle.g1_words.specs.Survivors.{AllOrdinary}
 use Rattle.g1_image.specs.Image.{Image}
 use Rattle.g1_frontier.specs.Window.{AreRegions}
