@@ -10,8 +10,8 @@ that names one of its region's objects. The same arguments give the same bytes.
 import argparse, array, random, struct, sys
 
 FREE, ORDINARY, FIRST, CONTINUATION = range(4)
-ROOTS = 1000
-DIRTY = 2000
+ROOTS = 1000  # at most; one for each 2^14 words of a small heap
+DIRTY = 2000  # at most; one in 50 of the used cards of a small heap
 
 
 def sizes_and_refs(rng, region_words, count):
@@ -97,12 +97,16 @@ class Heap:
         used = [r for r in range(self.regions) if self.tops[r]]
         owners = [r for r in used if self.objects[r]]
         cards = self.region_words // self.card_words
-        self.log = self.rng.sample([r * cards + c for r in used for c in range(cards)], DIRTY)
+        held = [r * cards + c for r in used for c in range(cards)]
+        self.log = self.rng.sample(held, min(DIRTY, len(held) // 50))
         self.dirty = set(self.log)
-        self.roots = [self.rng.choice(self.objects[self.rng.choice(owners)])[0] + 1 for _ in range(ROOTS)]
+        self.roots = [self.rng.choice(self.objects[self.rng.choice(owners)])[0] + 1 for _ in range(self.root_count())]
         self.roots[::10] = [0] * len(self.roots[::10])
         for region in owners:
             self.link_from(region, owners)
+
+    def root_count(self):
+        return min(ROOTS, max(1, len(self.words) >> 14))
 
     def link_from(self, region, owners):
         near = [at + 1 for at, _refs in self.objects[region]]
@@ -129,7 +133,8 @@ class Heap:
     def write(self, file):
         file.write(b"G1IMAGE1")
         none = self.regions
-        file.write(struct.pack("<6I", self.region_words, self.card_words, self.regions, ROOTS, DIRTY, none))
+        file.write(struct.pack("<6I", self.region_words, self.card_words, self.regions, len(self.roots),
+                               len(self.log), none))
         for kind, top in zip(self.kinds, self.tops):
             file.write(struct.pack("<2I", kind, top))
         write_array(file, array.array("Q", self.roots))

@@ -4,9 +4,13 @@
 Makes two images in a temporary folder, one after the other, and runs the commands in turn, R times (7 if not
 given), first into a file and then into a pipe that another process empties. It prints, for each command, the best
 and the median wall seconds, megabytes of the image a second and the processor's seconds (both by the median), the
-greatest memory, and these as multiples of what `cat` took and of the image.
+greatest memory, and these as multiples of what `cat` took and of the image. BUDGET is what the first candidates
+cost, as many as a third of the heap's regions.
+
+With --growth it times two pauses on eight images of growing size in place of that, and prints by which power of
+the size the best time grows (least squares over the logarithms).
 """
-import argparse, filecmp, os, pathlib, statistics, subprocess, sys, tempfile, time
+import argparse, filecmp, math, os, pathlib, statistics, subprocess, sys, tempfile, time
 
 HERE = pathlib.Path(__file__).resolve().parent
 MB = 1_000_000
@@ -45,10 +49,23 @@ def run_to_pipe(_name, words, image):
 
 LINES = ["show", "show --workers 4", "show --repack", "check", "live", "live --workers 4", "choose --budget 100000000",
          "pause", "pause --budget BUDGET", "pause --workers 4 --budget BUDGET"]
+EVERYTHING = "18446744073709551615"
 
 
-def measure(program, image, rounds, run_to):
-    commands = {"cat": ["cat"]} | {line: [program, *line.split()] for line in LINES}
+def budget_for_a_third(program, image):
+    """What a pause costs that collects the first candidates, as many as a third of the regions."""
+    with open(image, "rb") as stdin:
+        lines = subprocess.run([program, "choose", "--budget", EVERYTHING], stdin=stdin, check=True,
+                               capture_output=True).stdout.decode().splitlines()
+    with open(image, "rb") as stdin:
+        head = stdin.read(28)
+    regions, dirty = int.from_bytes(head[16:20], "little"), int.from_bytes(head[24:28], "little")
+    return dirty + sum(int(line.split()[3]) for line in lines[:-1][:regions // 3])
+
+
+def measure(program, image, rounds, run_to, lines=LINES):
+    budget = str(budget_for_a_third(program, image))
+    commands = {"cat": ["cat"]} | {line: [program, *line.replace("BUDGET", budget).split()] for line in lines}
     runs = {name: [] for name in commands}
     for _ in range(rounds):
         for name, words in commands.items():
@@ -67,13 +84,40 @@ def report(title, runs, size):
               f"{cpu:7.2f}{cpu / base[2]:7.1f}{max(memories) / MB:6.0f}{max(memories) / size:9.2f}")
 
 
+def exponent(sizes, times):
+    xs, ys = [math.log(x) for x in sizes], [math.log(y) for y in times]
+    x, y = statistics.mean(xs), statistics.mean(ys)
+    return sum((a - x) * (b - y) for a, b in zip(xs, ys)) / sum((a - x) ** 2 for a in xs)
+
+
+def growth(options, folder):
+    lines = ["pause", "pause --budget BUDGET"]
+    sizes, best = [], {line: [] for line in lines}
+    for power in range(8):
+        image = folder / "growing.img"
+        subprocess.run([sys.executable, str(HERE / "images.py"), "4096", str(image), "--words", str(1 << (17 + power)),
+                        "--seed", options.seed], check=True, stdout=subprocess.DEVNULL)
+        runs = measure(options.program, image, options.rounds, run_to_pipe, lines)
+        sizes.append(image.stat().st_size)
+        for line in lines:
+            best[line].append(min(seconds for seconds, _, _ in runs[line]))
+        print(f"{sizes[-1] / MB:6.1f} MB  " + "  ".join(f"{line} {best[line][-1]:.4f} s" for line in lines))
+    for line in lines:
+        print(f"{line} grows by the power {exponent(sizes, best[line]):.2f} of the size, "
+              f"{exponent(sizes[3:], best[line][3:]):.2f} over the five largest")
+
+
 def main():
     parser = argparse.ArgumentParser(description=__doc__, formatter_class=argparse.RawDescriptionHelpFormatter)
     parser.add_argument("--program", default=str(HERE.parent / "crates" / "g1pause" / "out" / "g1pause"), metavar="FILE")
     parser.add_argument("--rounds", type=int, default=7, metavar="R")
     parser.add_argument("--seed", default="1", metavar="S")
+    parser.add_argument("--growth", action="store_true")
     options = parser.parse_args()
     with tempfile.TemporaryDirectory() as folder:
+        if options.growth:
+            growth(options, pathlib.Path(folder))
+            return
         for region_words in (65536, 4096):
             image = pathlib.Path(folder) / "large.img"
             subprocess.run([sys.executable, str(HERE / "images.py"), str(region_words), str(image),
