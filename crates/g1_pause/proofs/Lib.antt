@@ -10,3 +10,4 @@ pub mod Refused
 pub mod Carried
 pub mod Planning
 pub mod Answered
+pub mod Asking

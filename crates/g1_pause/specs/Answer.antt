@@ -18,6 +18,12 @@ use Rattle.g1_choose.specs.Named.{AreDistinctOrdinary, IsFirstBad}
 use Rattle.g1_pause.specs.declared.settings.Choice.{Choice}
 use Rattle.g1_pause.specs.declared.settings.Choice.TheVariants.{Budget, Given}
 
+-- two choices ask for the same: one budget, or lists that name the same regions in the same order
+abbrev pub AskTheSame : Choice → Choice → Type 0
+AskTheSame (Budget b) (Budget c) = b ≡ c
+AskTheSame (Given xs) (Given ys) = xs.items ≡ ys.items
+AskTheSame _ _ = ⊥
+
 -- the collection set, rising: what the budget buys by the refined sets and the live bytes, or the regions that are named
 abbrev pub IsSetFor : Cost → Image → Choice → List ℕ → Type 0
 IsSetFor cost i (Budget b) set =

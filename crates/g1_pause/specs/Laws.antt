@@ -6,7 +6,7 @@ use Rattle.g1_image.specs.Cards.{IsTracked}
 use Rattle.g1_image.specs.Reading.{IsBytes}
 use Rattle.g1_choose.specs.declared.parameters.Cost.{Cost}
 use Rattle.g1_pause.specs.declared.settings.Choice.{Choice}
-use Rattle.g1_pause.specs.Answer.{IsSetFor, IsEvacuated, IsAnswer}
+use Rattle.g1_pause.specs.Answer.{AskTheSame, IsSetFor, IsEvacuated, IsAnswer}
 use Rattle.g1_pause.specs.Follows.{Follows, TextFollows}
 
 -- a choice has one set
@@ -21,7 +21,15 @@ OneEvacuation = (cost : Cost) (i : Image) (choice : Choice) (x y : Result Image 
 abbrev pub OneAnswer : Type 0
 OneAnswer = (cost : Cost) (choice : Choice) (bytes : List ℕ) (x y : Result (List ℕ) Fault) → IsAnswer cost choice bytes x → IsAnswer cost choice bytes y → x ≡ y
 
--- and always have one
+-- the pause of an image is told by what a choice asks for
+abbrev pub EvacuationByAsking : Type 0
+EvacuationByAsking = (cost : Cost) (i : Image) (c d : Choice) (x : Result Image Fault) → AskTheSame c d → IsEvacuated cost c i x → IsEvacuated cost d i x
+
+-- and so is the answer to bytes
+abbrev pub AnswerByAsking : Type 0
+AnswerByAsking = (cost : Cost) (c d : Choice) (bytes : List ℕ) (x : Result (List ℕ) Fault) → AskTheSame c d → IsAnswer cost c bytes x → IsAnswer cost d bytes x
+
+-- bytes always have an answer
 abbrev pub AnswerExists : Type 0
 AnswerExists = (cost : Cost) (choice : Choice) (bytes : List ℕ) → IsBytes bytes → (x : Result (List ℕ) Fault) × IsAnswer cost choice bytes x
 

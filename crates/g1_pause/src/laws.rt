@@ -1,10 +1,16 @@
-ghost use Rattle.g1_pause.specs.Laws.{OneSetFor, OneEvacuation, OneAnswer, AnswerExists, EvacuationFollows, AnswerFollows};
+ghost use Rattle.g1_pause.specs.Laws.{OneSetFor, OneEvacuation, OneAnswer, EvacuationByAsking, AnswerByAsking, AnswerExists, EvacuationFollows, AnswerFollows};
 
 /// A choice has one set, a tracked image one pause, and bytes one answer.
 pub fn one_answer()
     ensures set { OneSetFor }
     ensures evacuation { OneEvacuation }
     ensures answer { OneAnswer }
+{}
+
+/// Of a choice only the budget counts, or which regions a list names, in which order.
+pub fn same_choice()
+    ensures evacuation { EvacuationByAsking }
+    ensures answer { AnswerByAsking }
 {}
 
 /// What a pause gives follows from what it was given.

@@ -39,7 +39,7 @@ mod whole;
 mod wraps;
 
 pub use evacuating::evacuate;
-pub use laws::{always_one, one_answer, what_follows};
+pub use laws::{always_one, one_answer, same_choice, what_follows};
 pub use report::Report;
 pub use running::pause_run;
 pub use settings::{Choice, Settings};
