@@ -1,6 +1,5 @@
 -- What each step of the pause of named regions asks of the steps before it.
 use Rattle.std.proofs.Common.{◌≡◌, ℕ, ◌⊎◌, inl, inr, false, ◌<◌, ◌≤◌, ◌*◌, List, length, map, filter, All, Result, Ok, Err, refl, sym, ◌∙◌, ap, subst, arith}
-use Rattle.std.specs.List.Sorted.{IsStrictlyIncreasing}
 use Rattle.std.proofs.lemmas.Bool.{cases_lt}
 use Rattle.std.proofs.lemmas.List.Kept.{IsStrictlyIncreasing-filter}
 use Rattle.g1_words.specs.declared.fault.Fault.{Fault}
@@ -14,10 +13,9 @@ use Rattle.g1_words.proofs.Members.{In, In-from_contains, Contains-from_in, filt
 use Rattle.g1_words.proofs.Computed.{range_below}
 use Rattle.g1_image.specs.Image.{Image, IsImage}
 use Rattle.g1_image.specs.Cards.{Covered, refined}
-use Rattle.g1_rem.specs.Starts.{card_count}
 use Rattle.g1_rem.proofs.Rising.{Rises-range, Rises-increasing}
 use Rattle.g1_frontier.specs.Laws.{AreRefinedOf, RefinedLeadIn}
-use Rattle.g1_frontier.specs.Window.{AreRegions, AreCards, AreOutside, LeadIn}
+use Rattle.g1_frontier.specs.Window.{AreRegions, AreOutside, LeadIn}
 use Rattle.g1_frontier.proofs.Scopes.{all_from_in}
 use Rattle.g1_choose.specs.Named.{AreDistinctOrdinary}
 use Rattle.g1_layout.specs.Laws.{SurvivorsPlaceable}
@@ -27,12 +25,6 @@ use Rattle.g1_copy.specs.Cards.{cards_into}
 use Rattle.g1_copy.specs.Laws.{CardsLeadIn, CardsStandOutside, RefinedFindPatches}
 use Rattle.g1_copy.specs.Patches.{all_patches, patches_on}
 use Rattle.g1_copy.specs.Plans.{IsPauseOf}
-
--- the cards are cards of the heap, rising
-pub cards_there : (h : Heap) (cards set : List ℕ) (sets : List (List ℕ)) → CardsStandOutside → cards ≡ cards_into h sets set → AreCards h cards
-cards_there h cards set sets outside e =
-    let k = outside h sets set in
-    record { rise = subst IsStrictlyIncreasing (sym e) k.0; below = subst (All (λ c. c < card_count h)) (sym e) k.1 }
 
 -- named regions are regions of the heap, rising
 pub named_regions : (h : Heap) (list set : List ℕ) → set ≡ filter (has list) (regions h) → AreRegions h set

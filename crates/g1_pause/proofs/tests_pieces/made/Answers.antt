@@ -1,6 +1,7 @@
 use Rattle.std.proofs.Common.{map, ap, ◌∙◌}
 use Rattle.g1_frontier.proofs.Leading.{sets_one_each}
-use Rattle.g1_pause.proofs.NamedPauses.{cards_there, set_leads, set_places, set_planned, set_outside, set_patched, set_paused}
+use Rattle.g1_pause.proofs.Planning.{cards_there}
+use Rattle.g1_pause.proofs.NamedPauses.{set_leads, set_places, set_planned, set_outside, set_patched, set_paused}
 use Rattle.g1_pause.proofs.tests_pieces.made.Goals as goal
 
 pub cards_into-requires-clause-sets : goal.cards_into-requires-clause-sets
