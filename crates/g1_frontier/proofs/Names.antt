@@ -1,38 +1,15 @@
 -- What items name, slot by slot.
 use Rattle.std.proofs.Common.{◌≡◌, ◌≤◌, ◌<◌, ℕ, zero, suc, ◌+◌, ◌-◌, ◌*◌, ◌%◌, ◌^◌, inl, inr, Bool, true, false, cond, List, [], ◌∷◌, ◌++◌, length, get_or, take, filter, flat_map, Contains, arith, refl, sym, ap, subst, ◌∙◌, append_assoc, append-nil}
 use Rattle.std.specs.List.{range_with_len}
-use Rattle.std.proofs.lemmas.Grind.{flat_map-append}
 use Rattle.g1_words.specs.Heap.{Heap, word, objects, object_at, slots}
-use Rattle.g1_words.specs.References.{named}
 use Rattle.g1_words.specs.Valid.{IsValid}
 use Rattle.g1_words.proofs.Bounds.{object_within}
 use Rattle.g1_words.proofs.Computed.{contains_has, range_below}
 use Rattle.g1_words.proofs.Members.{In, Contains-from_in, filter_member, flat_map_cases}
 use Rattle.g1_words.proofs.Sound.{sound}
 use Rattle.g1_rem.specs.Slots.{all_slots, slots_on}
-use Rattle.g1_frontier.proofs.Seeds.{filter_append}
 
--- a word that is null or names an address
-pub named_null : (test : ℕ → Bool) (x : ℕ) (base out : List ℕ) → x ≡ 0 → out ≡ base → out ≡ base ++ filter test (named x)
-named_null test x base out e f = f ∙ sym (append-nil base) ∙ ap (λ y. base ++ filter test (named y)) (sym e)
-
-pub named_inside : (test : ℕ → Bool) (x a : ℕ) (base out : List ℕ) → x ≡ a + 1 → test a ≡ true → out ≡ base ++ a ∷ [] → out ≡ base ++ filter test (named x)
-named_inside test x a base out e t f =
-    let s : x ≡ suc a = omega (arith, e) in
-    f ∙ ap (λ b. base ++ cond b (a ∷ []) []) (sym t) ∙ ap (λ y. base ++ filter test (named y)) (sym s)
-
-pub named_outside : (test : ℕ → Bool) (x a : ℕ) (base out : List ℕ) → x ≡ a + 1 → test a ≡ false → out ≡ base → out ≡ base ++ filter test (named x)
-named_outside test x a base out e t f =
-    let s : x ≡ suc a = omega (arith, e) in
-    f ∙ sym (append-nil base) ∙ ap (λ b. base ++ cond b (a ∷ []) []) (sym t) ∙ ap (λ y. base ++ filter test (named y)) (sym s)
-
--- one slot more
-pub slot_more : (test : ℕ → Bool) (f : ℕ → List ℕ) (base out more front : List ℕ) (p : ℕ) → out ≡ base ++ filter test (flat_map f front) → more ≡ out ++ filter test (f p) → more ≡ base ++ filter test (flat_map f (front ++ p ∷ []))
-slot_more test f base out more front p e g =
-    g ∙ ap (λ l. l ++ filter test (f p)) e ∙ append_assoc base (filter test (flat_map f front)) (filter test (f p))
-    ∙ ap (λ l. base ++ l) (sym (filter_append test (flat_map f front) (f p)) ∙ ap (filter test) (ap (λ l. flat_map f front ++ l) (sym (append-nil (f p))) ∙ sym (flat_map-append f front (p ∷ []))))
-
-range_push : (a n : ℕ) → range_with_len a n ++ (a + n) ∷ [] ≡ range_with_len a (suc n)
+pub range_push : (a n : ℕ) → range_with_len a n ++ (a + n) ∷ [] ≡ range_with_len a (suc n)
 range_push a zero = let e : a + 0 ≡ a = omega arith in ap (λ x. x ∷ []) e
 range_push a (suc n) =
     let e : a + suc n ≡ a + 1 + n = omega arith in

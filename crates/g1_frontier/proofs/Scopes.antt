@@ -1,25 +1,13 @@
 -- What belongs together in a search, and what is read from it.
-use Rattle.std.proofs.Common.{◌≡◌, ◌≤◌, ◌<◌, ℕ, zero, suc, ◌+◌, ◌*◌, ◌^◌, inl, inr, true, List, [], ◌∷◌, length, get_or, map, flat_map, arith, refl, sym, ap, subst, ◌∙◌, length-append}
+use Rattle.std.proofs.Common.{◌≡◌, ◌≤◌, ◌<◌, ℕ, zero, suc, ◌+◌, ◌*◌, ◌^◌, inl, inr, true, List, [], ◌∷◌, length, get_or, take, drop, map, flat_map, arith, refl, sym, ap, subst, ◌∙◌}
 use Rattle.std.specs.List.{All}
-use Rattle.std.proofs.lemmas.List.{length-map}
-use Rattle.std.proofs.lemmas.List.Elements.{All-append}
 use Rattle.std.proofs.lemmas.List.Kept.{AllPairs-from_increasing}
-use Rattle.std.proofs.Math.Nat.{mul-le-mul_right, div-le_self}
-use Rattle.g1_words.specs.Heap.{Heap}
-use Rattle.g1_words.specs.Live.{Reached}
-use Rattle.g1_words.specs.Survivors.{in_set, seeds, children}
-use Rattle.g1_words.specs.Valid.{IsValid}
+use Rattle.std.proofs.Math.Nat.{mul-le-mul_right}
 use Rattle.g1_words.proofs.Members.{In, In-from_contains, Contains-from_in, In-flat_map, flat_map_cases, filter_member}
-use Rattle.g1_words.proofs.OneToOne.{reached_object}
 use Rattle.g1_words.proofs.Ordered.{Ordered, Ordered-from_pairs}
-use Rattle.g1_words.proofs.Sound.{sound}
-use Rattle.g1_rem.specs.Starts.{card_count}
-use Rattle.g1_frontier.specs.declared.item.Item.{Item}
-use Rattle.g1_frontier.specs.declared.item.Item.TheVariants.{Root, Card, Object}
 use Rattle.g1_frontier.specs.declared.scope.Scope.{Scope}
-use Rattle.g1_frontier.specs.Items.{IsItem, names, first_items}
-use Rattle.g1_frontier.specs.Scope.{IsScope, inside, place_of}
-use Rattle.g1_frontier.specs.Window.{AreRising, AreCards}
+use Rattle.g1_frontier.specs.Scope.{IsScope, inside, place_in}
+use Rattle.g1_frontier.specs.Window.{AreRising}
 use Rattle.g1_frontier.proofs.Places.{place_below, place_apart}
 
 -- ---- reading lists
@@ -49,18 +37,23 @@ all_map P f xs h = all_from_in P (map f xs) (λ y i. let m = Rattle.g1_words.pro
 pub part_all : {A : Type 0} (P : ℕ → Type 0) (f : A → List ℕ) (xs : List A) (x : A) → All P (flat_map f xs) → In xs x → All P (f x)
 part_all P f xs x h i = all_from_in P (f x) (λ y j. all_in P (flat_map f xs) y h (In-flat_map f xs x y i j))
 
--- ---- what is in the window
+-- what holds of lists that were put together holds of each
+pub all_part : {A B : Type 0} (P : B → Type 0) (f : A → List B) (xs : List A) (x : A) → All P (flat_map f xs) → In xs x → All P (f x)
+all_part P f xs x h i = all_from_in P (f x) (λ y j. all_in P (flat_map f xs) y h (In-flat_map f xs x y i j))
 
-pub names_inside : (h : Heap) (window : List ℕ) (i : Item) → All (λ a. in_set h window a ≡ true) (names h window i)
-names_inside h window (Root x) = all_from_in (λ a. in_set h window a ≡ true) (names h window (Root x)) (λ a k. (filter_member (in_set h window) _ a k).1)
-names_inside h window (Card c) = all_from_in (λ a. in_set h window a ≡ true) (names h window (Card c)) (λ a k. (filter_member (in_set h window) _ a k).1)
-names_inside h window (Object b) = all_from_in (λ a. in_set h window a ≡ true) (names h window (Object b)) (λ a k. (filter_member (in_set h window) _ a k).1)
+pub all_some : {A B : Type 0} (P : B → Type 0) (f : A → List B) (xs ys : List A) → ((x : A) → In ys x → In xs x) → All P (flat_map f xs) → All P (flat_map f ys)
+all_some P f xs ys s h = all_from_in P (flat_map f ys) (λ y j. let m = flat_map_cases f ys y j in all_in P (flat_map f xs) y h (In-flat_map f xs m.0 y (s m.0 m.1) m.2))
 
-pub all_inside : (h : Heap) (window : List ℕ) (items : List Item) (named : List ℕ) → named ≡ flat_map (names h window) items → All (λ a. in_set h window a ≡ true) named
-all_inside h window items named e =
-    subst (All (λ a. in_set h window a ≡ true)) (sym e) (all_from_in (λ a. in_set h window a ≡ true) (flat_map (names h window) items) (λ a k.
-    let m = flat_map_cases (names h window) items a k in
-    all_in (λ a. in_set h window a ≡ true) (names h window m.0) a (names_inside h window m.0) m.2))
+pub In-take : {A : Type 0} (n : ℕ) (xs : List A) (x : A) → In (take n xs) x → In xs x
+In-take zero xs x i = absurd i
+In-take (suc n) [] x i = i
+In-take (suc n) (y ∷ ys) x (inl e) = inl e
+In-take (suc n) (y ∷ ys) x (inr i) = inr (In-take n ys x i)
+
+pub In-drop : {A : Type 0} (n : ℕ) (xs : List A) (x : A) → In (drop n xs) x → In xs x
+In-drop zero xs x i = i
+In-drop (suc n) [] x i = i
+In-drop (suc n) (y ∷ ys) x i = inr (In-drop n ys x i)
 
 -- ---- counts
 
@@ -89,27 +82,8 @@ module _ (s : Scope) (ok : IsScope s) where
   pub some_words : 0 < s.heap.now.geometry.w
   some_words = omega (arith, ok.valid.limits.w_least)
 
-  pub below : (a : ℕ) → inside s a ≡ true → place_of s a < length s.window.now * s.heap.now.geometry.w
-  below a t = place_below s.heap.now.geometry.n s.heap.now.geometry.w s.window.now s.positions.items ok.regions.below ok.positions some_words a t
+  pub below : (a : ℕ) → inside s a ≡ true → place_in s a < length s.window.now * s.heap.now.geometry.w
+  below a t = place_below s.heap.now s.window.now some_words a t
 
-  pub apart : (a : ℕ) → inside s a ≡ true → (b : ℕ) → inside s b ≡ true → place_of s b ≡ place_of s a → b ≡ a
-  apart a t b u e = place_apart s.heap.now.geometry.n s.heap.now.geometry.w s.window.now s.positions.items ok.regions.below ok.positions some_words a b t u e
-
-  -- what is reached are objects
-  pub reached_items : (xs : List ℕ) → ((a : ℕ) → In xs a → Reached (seeds s.heap.now s.window.now) (children s.heap.now s.window.now) a) → All (IsItem s.heap.now) (map Object xs)
-  reached_items xs r = all_map (IsItem s.heap.now) Object xs (λ a i. reached_object s.heap.now s.window.now (sound s.heap.now ok.valid) a (r a i))
-
-module _ (h : Heap) (valid : IsValid h) (cards : List ℕ) (rising : AreCards h cards) where
-  pub first_are_items : All (IsItem h) (first_items h.roots cards)
-  first_are_items =
-      All-append (IsItem h) (map Root h.roots) (map Card cards)
-      (all_map (IsItem h) Root h.roots (λ x i. tt))
-      (all_map (IsItem h) Card cards (λ c i. all_in (λ x. x < card_count h) cards c rising.below i))
-
-  pub first_few : length (first_items h.roots cards) < 2 ^ 32
-  first_few =
-      let len : length (first_items h.roots cards) ≡ length h.roots + length cards =
-      length-append (map Root h.roots) (map Card cards) ∙ (let a : length (map Root h.roots) ≡ length h.roots = length-map h.roots Root in let b : length (map Card cards) ≡ length cards = length-map cards Card in λ i. a i + b i) in
-      let few = rising_few (card_count h) cards rising in
-      let most = div-le_self (h.geometry.n * h.geometry.w) h.geometry.k in
-      omega (arith, len, few, most, valid.root_count, valid.limits.words_most)
+  pub apart : (a : ℕ) → inside s a ≡ true → (b : ℕ) → inside s b ≡ true → place_in s b ≡ place_in s a → b ≡ a
+  apart a t b u e = place_apart s.heap.now s.window.now some_words a b t u e

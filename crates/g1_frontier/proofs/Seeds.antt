@@ -7,7 +7,7 @@ use Rattle.std.proofs.lemmas.Grind.{flat_map-append}
 use Rattle.std.proofs.lemmas.List.Kept.{AllPairs-from_increasing}
 use Rattle.g1_words.specs.Heap.{Heap, word, card_of, objects}
 use Rattle.g1_words.specs.Lists.{has}
-use Rattle.g1_words.specs.References.{Ref, named, refs_at, refs, root_targets}
+use Rattle.g1_words.specs.References.{Ref, named, refs_at, refs}
 use Rattle.g1_words.specs.Survivors.{in_set, seeds}
 use Rattle.g1_words.specs.Valid.{IsValid}
 use Rattle.g1_words.proofs.Bounds.{cards_in_region, card_in_region}
@@ -18,9 +18,7 @@ use Rattle.g1_rem.specs.Slots.{all_slots, slots_on}
 use Rattle.g1_rem.proofs.Rising.{Rises, Rises-above}
 use Rattle.g1_rem.proofs.Card.{all_rise}
 use Rattle.g1_rem.proofs.Bare.{flat_twice}
-use Rattle.g1_frontier.specs.declared.item.Item.TheVariants.{Root, Card}
 use Rattle.g1_frontier.specs.Window.{AreCards, AreOutside, LeadIn}
-use Rattle.g1_frontier.specs.Items.{names, first_items}
 
 -- ---- lists of lists
 
@@ -34,11 +32,11 @@ pub filter_flat : {A B : Type 0} (p : B → Bool) (f : A → List B) (xs : List 
 filter_flat p f [] = refl
 filter_flat p f (x ∷ xs) = filter_append p (f x) (flat_map f xs) ∙ ap (λ l. filter p (f x) ++ l) (filter_flat p f xs)
 
-map_append : {A B : Type 0} (g : A → B) (xs ys : List A) → map g (xs ++ ys) ≡ map g xs ++ map g ys
+pub map_append : {A B : Type 0} (g : A → B) (xs ys : List A) → map g (xs ++ ys) ≡ map g xs ++ map g ys
 map_append g [] ys = refl
 map_append g (x ∷ xs) ys = ap (λ l. g x ∷ l) (map_append g xs ys)
 
-map_flat : {A B C : Type 0} (g : B → C) (f : A → List B) (xs : List A) → map g (flat_map f xs) ≡ flat_map (λ x. map g (f x)) xs
+pub map_flat : {A B C : Type 0} (g : B → C) (f : A → List B) (xs : List A) → map g (flat_map f xs) ≡ flat_map (λ x. map g (f x)) xs
 map_flat g f [] = refl
 map_flat g f (x ∷ xs) = map_append g (f x) (flat_map f xs) ∙ ap (λ l. map g (f x) ++ l) (map_flat g f xs)
 
@@ -75,13 +73,13 @@ module _ (h : Heap) (window cards : List ℕ) (valid : IsValid h) (rising : AreC
   abbrev on_cards : ℕ → Bool
   on_cards p = has cards (card_of h p)
 
-  slots_ordered : Ordered (λ x y. x < y) (all_slots h)
+  pub slots_ordered : Ordered (λ x y. x < y) (all_slots h)
   slots_ordered = Rises-ordered 0 (all_slots h) (all_rise h valid)
 
   on_card : (c p : ℕ) → In (slots_on h c) p → In (all_slots h) p × (card_of h p ≡ c)
   on_card c p i = let m = filter_member (λ p. eqb (card_of h p) c) (all_slots h) p i in (m.0, eqb-true (card_of h p) c m.1)
 
-  apart : (c d p q : ℕ) → c < d → In (slots_on h c) p → In (slots_on h d) q → p < q
+  pub apart : (c d p q : ℕ) → c < d → In (slots_on h c) p → In (slots_on h d) q → p < q
   apart c d p q lt i j = elim (cases_lt p q) [
     | inl less ↦ less
     | inr ge ↦ let k : q / h.geometry.k ≤ p / h.geometry.k = le-div (q / h.geometry.k) p h.geometry.k (omega (arith, valid.limits.k_least)) (omega (arith, div-mul-le_self q h.geometry.k, ge)) in absurd (omega (arith, k, lt, (on_card c p i).1, (on_card d q j).1))
@@ -149,10 +147,9 @@ module _ (h : Heap) (window cards : List ℕ) (valid : IsValid h) (rising : AreC
       empty false xs = refl
   by_slot_at p (suc a) i e = by_slot_in p a (on_cards p) (in_set h window p) (in_set h window a) (tells p a (on_cards p) (in_set h window p) refl refl i e)
 
-  by_cards : flat_map (names h window) (map Card cards) ≡ map (λ (e : Ref). e.target) (filter crosses (refs h))
+  by_cards : flat_map (λ c. filter (in_set h window) (flat_map (λ p. named (word h p)) (slots_on h c))) cards ≡ map (λ (e : Ref). e.target) (filter crosses (refs h))
   by_cards =
-      flat_of_map (names h window) Card cards
-      ∙ flat_same (λ c. names h window (Card c)) (λ c. flat_map inner (slots_on h c)) cards (λ c i. filter_flat (in_set h window) (λ p. named (word h p)) (slots_on h c))
+      flat_same (λ c. filter (in_set h window) (flat_map (λ p. named (word h p)) (slots_on h c))) (λ c. flat_map inner (slots_on h c)) cards (λ c i. filter_flat (in_set h window) (λ p. named (word h p)) (slots_on h c))
       ∙ flat_of_flat inner (slots_on h) cards
       ∙ ap (flat_map inner) card_slots
       ∙ flat_of_filter inner on_cards (all_slots h)
@@ -160,9 +157,6 @@ module _ (h : Heap) (window cards : List ℕ) (valid : IsValid h) (rising : AreC
       ∙ sym (map_flat (λ (e : Ref). e.target) (λ p. filter crosses (refs_at h p)) (all_slots h))
       ∙ ap (map (λ (e : Ref). e.target)) (sym (filter_flat crosses (refs_at h) (all_slots h)) ∙ ap (filter crosses) (sym (flat_twice h (objects h))))
 
-  by_roots : flat_map (names h window) (map Root h.roots) ≡ filter (in_set h window) (root_targets h)
-  by_roots = flat_of_map (names h window) Root h.roots ∙ sym (filter_flat (in_set h window) named h.roots)
-
-  -- what the roots and the cards name in the window are the seeds
-  pub seeds_named : flat_map (names h window) (first_items h.roots cards) ≡ seeds h window
-  seeds_named = flat_map-append (names h window) (map Root h.roots) (map Card cards) ∙ (λ i. by_roots i ++ by_cards i)
+  -- what the roots and the slots on the cards name in the window are the seeds
+  pub seeds_named : filter (in_set h window) (flat_map named h.roots) ++ flat_map (λ c. filter (in_set h window) (flat_map (λ p. named (word h p)) (slots_on h c))) cards ≡ seeds h window
+  seeds_named = ap (λ l. filter (in_set h window) (flat_map named h.roots) ++ l) by_cards

@@ -16,11 +16,11 @@ take_all [] (suc n) l = refl
 take_all (y ∷ ys) zero l = absurd (omega arith)
 take_all (y ∷ ys) (suc n) l = ap (λ l. y ∷ l) (take_all ys n (omega arith))
 
-take_front : (xs ys : List ℕ) → take (length xs) (xs ++ ys) ≡ xs
+pub take_front : (xs ys : List ℕ) → take (length xs) (xs ++ ys) ≡ xs
 take_front [] ys = refl
 take_front (x ∷ xs) ys = ap (λ l. x ∷ l) (take_front xs ys)
 
-take_drop : (n : ℕ) (ys : List ℕ) → take n ys ++ drop n ys ≡ ys
+pub take_drop : (n : ℕ) (ys : List ℕ) → take n ys ++ drop n ys ≡ ys
 take_drop zero ys = refl
 take_drop (suc n) [] = refl
 take_drop (suc n) (y ∷ ys) = ap (λ l. y ∷ l) (take_drop n ys)

@@ -1,8 +1,9 @@
--- What a round looks at, and what that names in the window.
-use Rattle.std.specs.Prelude.{ℕ, List, ◌<◌, ◌*◌, ◌++◌, Contains, map, filter, flat_map, take, drop}
-use Rattle.g1_words.specs.Heap.{Heap, word, object_at, objects}
+-- What a round looks at, and what that offers in the window.
+use Rattle.std.specs.Prelude.{◌≡◌, ℕ, List, [], ◌∷◌, ◌<◌, ◌+◌, ◌-◌, ◌*◌, ◌^◌, ◌++◌, false, Contains, length, map, filter, flat_map, take, drop, slice_index}
+use Rattle.std.specs.List.{All, range_with_len}
+use Rattle.g1_words.specs.Heap.{Heap, word, object_at, objects, slots}
 use Rattle.g1_words.specs.References.{named}
-use Rattle.g1_words.specs.Survivors.{in_set, children}
+use Rattle.g1_words.specs.Survivors.{in_set}
 use Rattle.g1_rem.specs.Starts.{card_count}
 use Rattle.g1_rem.specs.Slots.{slots_on}
 use Rattle.g1_frontier.specs.declared.item.Item.{Item}
@@ -10,20 +11,51 @@ use Rattle.g1_frontier.specs.declared.item.Item.TheVariants.{Root, Card, Object}
 
 -- the item is one of the heap's
 abbrev pub IsItem : Heap → Item → Type 0
-IsItem h (Root x) = Unit {0}
-IsItem h (Card c) = c < card_count h
-IsItem h (Object a) = Contains (objects h) (object_at h a)
+IsItem h (Root i) = i < length h.roots
+IsItem h (Card c b) = c < card_count h
+IsItem h (Object a b) = Contains (objects h) (object_at h a)
 
--- what an item names in the window, in order
-abbrev pub names : Heap → List ℕ → Item → List ℕ
-names h window (Root x) = filter (in_set h window) (named x)
-names h window (Card c) = filter (in_set h window) (flat_map (λ p. named (word h p)) (slots_on h c))
-names h window (Object a) = children h window a
+-- the item is no card of a region of the window
+abbrev pub IsOutside : Heap → List ℕ → Item → Type 0
+IsOutside h window (Root i) = Unit {0}
+IsOutside h window (Card c b) = in_set h window (c * h.geometry.k) ≡ false
+IsOutside h window (Object a b) = Unit {0}
 
--- what the search begins with: the roots, by number, then the cards
-abbrev pub first_items : List ℕ → List ℕ → List Item
-first_items roots cards = map Root roots ++ map Card cards
+-- what a reference word names in the window, with this rank: rank and address
+abbrev pub aims : Heap → List ℕ → ℕ → ℕ → List (ℕ × ℕ)
+aims h window rank x = map (λ a. (rank, a)) (filter (in_set h window) (named x))
+
+-- the ranks and addresses that an item offers, in order
+abbrev pub pairs : Heap → List ℕ → Item → List (ℕ × ℕ)
+pairs h window (Root i) = aims h window i (slice_index h.roots i)
+pairs h window (Card c b) = flat_map (λ p. aims h window (b + p) (word h p)) (slots_on h c)
+pairs h window (Object a b) = flat_map (λ p. aims h window (b + (p - (a + 1))) (word h p)) (slots (object_at h a))
+
+-- those of all items
+abbrev pub all_pairs : Heap → List ℕ → List Item → List (ℕ × ℕ)
+all_pairs h window items = flat_map (pairs h window) items
+
+-- the ranks are ones that may be offered
+abbrev pub AreRanks : List (ℕ × ℕ) → Type 0
+AreRanks ps = All (λ q. q.0 < 2 ^ 32) ps
+
+-- the roots, each by its number
+abbrev pub root_items : ℕ → List Item
+root_items roots = map Root (range_with_len 0 roots)
+
+-- what a search begins with: the roots, by number, then the cards, whose ranks stand behind those of the roots
+abbrev pub first_items : ℕ → List ℕ → List Item
+first_items roots cards = root_items roots ++ map (λ c. Card c roots) cards
 
 -- the items of a chunk, where each chunk has so many
 abbrev pub piece : {A : Type 0} → ℕ → ℕ → List A → List A
 piece size k xs = take size (drop (k * size) xs)
+
+-- how many slots the object at an address has
+abbrev pub slot_count : Heap → ℕ → ℕ
+slot_count h a = (object_at h a).refs
+
+-- the objects at some addresses, their slots numbered on from a base
+abbrev pub object_items : Heap → ℕ → List ℕ → List Item
+object_items h base [] = []
+object_items h base (a ∷ rest) = Object a base ∷ object_items h (base + slot_count h a) rest

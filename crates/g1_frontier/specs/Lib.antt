@@ -1,5 +1,7 @@
 pub mod Window
 pub mod Items
-pub mod Search
 pub mod Scope
+pub mod Offering
+pub mod Round
+pub mod Search
 pub mod Laws

@@ -1,5 +1,5 @@
 -- The window: the regions whose objects are searched, and the cards that lead into it.
-use Rattle.std.specs.Prelude.{◌≡◌, ◌<◌, ℕ, ◌+◌, ◌*◌, ◌/◌, ◌%◌, true, false, List, length, slice_index, slice_index_or, Option, Some, None, Contains}
+use Rattle.std.specs.Prelude.{◌≡◌, ◌<◌, ℕ, ◌+◌, ◌*◌, ◌/◌, ◌%◌, true, false, cond, eqb, List, [], ◌∷◌, Contains}
 use Rattle.std.specs.List.{All}
 use Rattle.std.specs.List.Sorted.{IsStrictlyIncreasing}
 use Rattle.g1_words.specs.Heap.{Heap, card_of}
@@ -28,21 +28,11 @@ AreOutside h window cards = (c : ℕ) → Contains cards c → in_set h window (
 abbrev pub LeadIn : Heap → List ℕ → List ℕ → Type 0
 LeadIn h window cards = (e : Ref) → Contains (refs h) e → in_set h window e.target ≡ true → in_set h window e.slot ≡ false → Contains cards (card_of h e.slot)
 
--- the answer tells where a region stands in the window
-abbrev pub StandsAt : List ℕ → ℕ → Option ℕ → Type 0
-StandsAt window r None = Contains window r → ⊥
-StandsAt window r (Some i) = (i < length window) × (slice_index window i ≡ r)
-
--- for each of so many regions, where it stands in the window
-pub record ArePositions (n : ℕ) (window : List ℕ) (positions : List (Option ℕ)) : Type 0 where
-  pub one_each : length positions ≡ n
-  pub each : (r : ℕ) → r < n → StandsAt window r (slice_index_or positions r None)
-
--- a position, and 0 where there is none
-abbrev pub position : Option ℕ → ℕ
-position None = 0
-position (Some i) = i
+-- where a region stands in the window
+abbrev pub position : List ℕ → ℕ → ℕ
+position [] r = 0
+position (x ∷ xs) r = cond (eqb x r) 0 (position xs r + 1)
 
 -- where an address stands among the words of the window, region by region
-abbrev pub place : ℕ → List (Option ℕ) → ℕ → ℕ
-place w positions a = position (slice_index_or positions (a / w) None) * w + a % w
+abbrev pub place : Heap → List ℕ → ℕ → ℕ
+place h window a = position window (a / h.geometry.w) * h.geometry.w + a % h.geometry.w

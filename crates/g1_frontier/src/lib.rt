@@ -3,28 +3,36 @@
 //!
 //! The search is breadth first and goes in rounds (Detlefs, Flood, Heller, Printezis, "Garbage-First
 //! Garbage Collection", 2004, where each worker takes its part of the roots and of the remembered
-//! cards, and copies what they name):
+//! cards, and copies what they name). An object that several slots name is found once, by the slot
+//! of the least rank (Blelloch, Fineman, Gibbons, Shun, "Internally Deterministic Parallel Algorithms
+//! Can Be Fast", 2012):
 //!
-//! 1. The items of the first round are the roots, then the cards that lead into the window.
-//! 2. The workers draw chunks of a round's items. A chunk gives what its items name in the window,
-//!    in order: a root its target, a card the targets of its slots, an object those of its own.
-//! 3. The chunks' lists are read in the order of the chunks. An address that wasn't seen before is
-//!    put behind what was found, and its place in the window is marked.
-//! 4. What a round found is the next round's items, until a round finds nothing.
+//! 1. One claim table serves the whole call. It has a word for each word of the window.
+//! 2. The items of the first round are the roots, then the cards that lead into the window. Every
+//!    slot of an item has a rank: root i has i; a slot on a card the number of roots plus its
+//!    address; slots of objects follow, numbered on in the order in which the objects were found.
+//! 3. The workers draw chunks of a round's items. For each slot that names an object in the window
+//!    they offer its rank at the object's place, and keep rank and address where the offer lowered
+//!    the word.
+//! 4. When all have ended, their lists are merged by rank. An address whose rank is still the word
+//!    is found.
+//! 5. What a round found is the next round's items, until a round finds nothing. Since ranks rise
+//!    over all rounds, a place that has a word keeps it.
 //!
-//! Since the lists are read in the order of the chunks, the answer is the same for all workers and
-//! chunk sizes. One table of marks, a byte for each word of the window, serves the whole call; a
-//! round takes memory in proportion to what it looks at and finds.
+//! So the answer is the same for all workers and chunk sizes. A round takes memory in proportion to
+//! what it looks at and finds.
 #![tactic(auto)]
 
 mod item;
 mod laws;
+mod offering;
 mod round;
 mod scope;
-mod seen;
 mod survivors;
 
+pub use item::Item;
 pub use laws::refined_sets_lead_in;
+pub use round::claim_round;
 pub use survivors::discover;
 
 #[cfg(test)]

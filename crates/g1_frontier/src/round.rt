@@ -1,95 +1,225 @@
-ghost use Rattle.std.specs.Prelude.{◌≡◌, ◌<◌, ◌≤◌, ◌^◌, ◌*◌, ◌++◌, ℕ, List, IfOk, IfErr, OnOk, length};
-ghost use Rattle.std.specs.List.{All, flat_map};
+ghost use Rattle.std.specs.Prelude.{◌≡◌, ◌<◌, ◌≤◌, ◌^◌, ◌*◌, ◌++◌, ◌∷◌, [], ℕ, List, IfOk, IfErr, length, vec_len, map, flat_map, sum_by, OnOk, ◌+◌, IsPermutation, true};
+ghost use Rattle.std.specs.List.{All};
 ghost use Rattle.g1_words.specs.declared.fault.Fault.TheVariants.{Memory};
-ghost use Rattle.g1_frontier.specs.Items.{IsItem, piece};
-ghost use Rattle.g1_frontier.specs.Scope.{IsScope, names_in};
+ghost use Rattle.g1_rem.specs.Starts.{IsStartsOf};
+ghost use Rattle.g1_claim.specs.Claims.{IsSeatOf, IsSettled};
+ghost use Rattle.g1_frontier.specs.Window.{AreRegions, place};
+ghost use Rattle.g1_frontier.specs.Items.{IsItem, IsOutside, all_pairs, AreRanks};
+ghost use Rattle.g1_frontier.specs.Scope.{inside, place_in, all_pairs_in};
+ghost use Rattle.g1_frontier.specs.Offering.{HasPlaces};
+ghost use Rattle.g1_frontier.specs.Round.{Rises, AreAbove, AddsOffers, winners, IsGivenOut, HasTaken, HasOffered, IsMerged};
 
 use crate::item::Item;
+use crate::offering::{Holder, Offers, Round, keep_if};
 use crate::scope::Scope;
-use g1_words::Fault;
-use g1_work::{Gate, Task, each_chunk};
+use g1_claim::{ClaimSeat, Claims, shares};
+use g1_rem::Starts;
+use g1_words::{Fault, Heap};
+use g1_work::{Gate, each_chunk};
+use itertools::Itertools;
 use std::alloc::{AllocError, Global};
 use std::thread::Threads;
 
-// Adds what the items name in the window, in order.
-fn push_all(
+// A seat for each of so many workers. The last one keeps the shares that are left, and what the
+// whole seat offered before.
+fn give_out(
     alloc: Global,
-    scope: &Scope,
-    items: &[Item],
-    out: &mut Vec<u64>,
-) -> Result<(), AllocError>
-    requires scope { IsScope scope.now }
-    requires items { All (IsItem scope.now.heap.now) items.now }
-    ensures { OnOk result (out.new.items ≡ out.old.items ++ flat_map (names_in scope.now) items.now) }
+    claims: &Claims,
+    mut seat: ClaimSeat,
+    count: usize,
+) -> Result<Vec<Holder>, AllocError>
+    requires count { (0 < count) × (count ≤ 64) }
+    requires seat { IsSeatOf claims.now seat × (seat.hand.shares ≡ 64) }
+    ensures { IfOk result (λ v. IsGivenOut claims.now seat count v.items) }
 {
-    for item in items {
-        scope.push_names(alloc, *item, out)?;
+    let mut holders = Vec::with_capacity(alloc, count)?;
+    for _i in 1..count {
+        let theirs = claims.split(&mut seat);
+        holders.push(Holder {
+            seat: theirs,
+            kept: Vec::new(alloc),
+        })?;
+    }
+    holders.push(Holder {
+        seat,
+        kept: Vec::new(alloc),
+    })?;
+    Ok(holders)
+}
+
+// Puts the seats of other workers into one, and what they kept behind what is there.
+fn join_all(
+    claims: &Claims,
+    seat: &mut ClaimSeat,
+    lists: &mut Vec<Vec<(u64, u64)>>,
+    others: Vec<Holder>,
+) -> Result<(), AllocError>
+    requires seat { IsSeatOf claims.now seat.old }
+    requires others { All (λ h. IsSeatOf claims.now h.seat) others.items }
+    ensures seat { IsSeatOf claims.now seat.new }
+    ensures shares { OnOk result (seat.new.hand.shares ≡ seat.old.hand.shares + sum_by (λ h. h.seat.hand.shares) others.items) }
+    ensures offers { OnOk result (seat.new.hand.offers ≡ seat.old.hand.offers ++ flat_map (λ h. h.seat.hand.offers) others.items) }
+    ensures kept { OnOk result (map (λ l. l.items) lists.new.items ≡ map (λ l. l.items) lists.old.items ++ map (λ h. h.kept.items) others.items) }
+{
+    for holder in others {
+        let Holder { seat: theirs, kept } = holder;
+        claims.join(seat, theirs);
+        lists.push(kept)?;
     }
     Ok(())
 }
 
-// The items of a round, by chunks of so many.
-#[derive(Drop)]
-struct Round<'a> {
-    scope: &'a Scope<'a>,
-    items: &'a [Item],
-    chunk: usize,
+// Puts the seats together again, and what each worker kept side by side.
+fn take_in(
     alloc: Global,
+    claims: &Claims,
+    mut holders: Vec<Holder>,
+) -> Result<(ClaimSeat, Vec<Vec<(u64, u64)>>), AllocError>
+    requires some { 0 < vec_len holders }
+    requires seats { All (λ h. IsSeatOf claims.now h.seat) holders.items }
+    ensures { IfOk result (λ r. HasTaken claims.now holders.items r.0 (map (λ l. l.items) r.1.items)) }
+{
+    let Some(last) = holders.pop() else {
+        unreachable!()
+    };
+    let Holder { mut seat, kept } = last;
+    let mut lists = Vec::new(alloc);
+    lists.push(kept)?;
+    join_all(claims, &mut seat, &mut lists, holders)?;
+    // Tells what a seat of all shares knows, also where no other was joined.
+    shares(&seat);
+    Ok((seat, lists))
 }
 
-impl<'a> Task for Round<'a> {
-    type State = ();
-
-    type Out = Vec<u64>;
-
-    ghost use Rattle.std.specs.Prelude.{◌≡◌, ◌<◌, ◌≤◌, ◌^◌, ◌*◌, ◌++◌, ℕ, List, IfOk, IfErr, OnOk, length};
-    ghost use Rattle.std.specs.List.{All, flat_map};
-    ghost use Rattle.g1_words.specs.declared.fault.Fault.TheVariants.{Memory};
-    ghost use Rattle.g1_frontier.specs.Items.{IsItem, piece};
-    ghost use Rattle.g1_frontier.specs.Scope.{IsScope, names_in};
-
-    ghost ready = { λ s _ k. IsScope s.scope.now × All (IsItem s.scope.now.heap.now) s.items.now × (0 < s.chunk) × (k * s.chunk < length s.items.now) × (k < 2 ^ 32) × (s.chunk ≤ 65536) };
-
-    ghost runs = { λ s _ k _ out. out.items ≡ flat_map (names_in s.scope.now) (piece s.chunk k s.items.now) };
-
-    ghost may_fail = { λ _ _ e. e ≡ Memory };
-
-    fn run(&self, _state: &mut (), chunk: u64) -> Result<Vec<u64>, Fault> {
-        let rest = &self.items[chunk as usize * self.chunk..];
-        let items = &rest[..rest.len().min(self.chunk)];
-        let mut out = Vec::new(self.alloc);
-        push_all(self.alloc, self.scope, items, &mut out)?;
-        Ok(out)
-    }
-}
-
-/// What the items name in the window, in order: one list for each chunk of them.
-pub fn targets<R: Threads + Sync, G: Gate + Sync>(
+// Offers what all items name in the window: the whole seat after, and what each worker kept.
+fn offer_all<R: Threads + Sync, G: Gate + Sync>(
     rt: &R,
     alloc: Global,
     scope: &Scope,
+    claims: &Claims,
+    seat: ClaimSeat,
     items: &[Item],
     workers: u64,
     chunk: u64,
     gate: &G,
-) -> Result<Vec<Vec<u64>>, Fault>
-    requires scope { IsScope scope.now }
+) -> Result<(ClaimSeat, Vec<Vec<(u64, u64)>>), Fault>
+    requires places { HasPlaces scope.now claims.now }
+    requires seat { IsSeatOf claims.now seat × (seat.hand.shares ≡ 64) }
     requires items { All (IsItem scope.now.heap.now) items.now }
+    requires ranks { AreRanks (all_pairs_in scope.now items.now) }
+    requires rise { Rises (all_pairs_in scope.now items.now) }
     requires few { length items.now < 2 ^ 32 }
     requires workers { (0 < workers) × (workers ≤ 64) }
     requires chunk { (0 < chunk) × (chunk ≤ 65536) }
-    ensures ok { IfOk result (λ outs. flat_map (λ v. v.items) outs.items ≡ flat_map (names_in scope.now) items.now) }
+    ensures ok { IfOk result (λ r. HasOffered claims.now (place_in scope.now) (all_pairs_in scope.now items.now) seat r.0 (map (λ l. l.items) r.1.items)) }
     ensures memory { IfErr result (λ e. e ≡ Memory) }
 {
     let chunk = chunk as usize;
     let count = (items.len() + chunk - 1) / chunk;
-    let states = vec![in alloc; (); (workers as usize).min(count).max(1)]?;
+    let holders = give_out(alloc, claims, seat, (workers as usize).min(count).max(1))?;
     let round = Round {
-        scope,
+        offers: Offers { scope, claims },
         items,
         chunk,
         alloc,
     };
-    let (_, outs) = each_chunk(rt, alloc, states, count as u64, &round, gate)?;
-    Ok(outs)
+    let (holders, _) = each_chunk(rt, alloc, holders, count as u64, &round, gate)?;
+    Ok(take_in(alloc, claims, holders)?)
+}
+
+// Lists that rise by rank, merged.
+fn merged(alloc: Global, lists: Vec<Vec<(u64, u64)>>) -> Result<Vec<(u64, u64)>, AllocError>
+    requires rise { All (λ l. Rises l.items) lists.items }
+    ensures same { IfOk result (λ v. IsPermutation (flat_map (λ l. l.items) lists.items) v.items) }
+    ensures in_order { IfOk result (λ v. IsMerged v.items) }
+{
+    let pairs = lists.into_iter().kmerge(alloc)?;
+    let merged = pairs.collect(alloc)?;
+    Ok(merged)
+}
+
+// Of the pairs, those whose rank is the word of their place now.
+fn still_there(
+    alloc: Global,
+    scope: &Scope,
+    claims: &Claims,
+    seat: &mut ClaimSeat,
+    pairs: &[(u64, u64)],
+) -> Result<Vec<(u64, u64)>, AllocError>
+    requires places { HasPlaces scope.now claims.now }
+    requires seat { IsSeatOf claims.now seat.old × (seat.old.hand.shares ≡ 64) }
+    requires inside { All (λ q. inside scope.now q.1 ≡ true) pairs.now }
+    ensures seat { IsSeatOf claims.now seat.new × (seat.new.hand.shares ≡ 64) × (seat.new.hand.offers ≡ seat.old.hand.offers) }
+    ensures won { IfOk result (λ v. v.items ≡ winners (place_in scope.now) seat.old.hand.offers pairs.now) }
+{
+    let mut kept = Vec::new(alloc);
+    for pair in pairs {
+        let Some(place) = scope.place(pair.1) else {
+            unreachable!()
+        };
+        let word = claims.least(seat, place);
+        keep_if(&mut kept, word == pair.0, pair.0, pair.1)?;
+    }
+    Ok(kept)
+}
+
+/// One round of claims: offers what the items name in the window, and answers what won.
+///
+/// Each slot of an item that names an object in the window offers the item's rank for it at that
+/// object's place. The answer has the table and the whole seat back, and, by rising rank, the rank
+/// and address of each offer of this round whose rank is now the word of its place. It is the same
+/// for all `workers` (1 to 64) and `chunk` sizes (1 to 65,536 items).
+///
+/// The ranks of all offers rise from item to item, and are above those that the seat offered
+/// before.
+///
+/// # Errors
+/// `Memory`. The table and the seat are then given up.
+pub fn claim_round<R: Threads + Sync, G: Gate + Sync>(
+    rt: &R,
+    alloc: Global,
+    heap: &Heap,
+    starts: &Starts,
+    window: &[u32],
+    claims: Claims,
+    seat: ClaimSeat,
+    items: &[Item],
+    workers: u64,
+    chunk: u64,
+    gate: &G,
+) -> Result<(Claims, ClaimSeat, Vec<(u64, u64)>), Fault>
+    requires starts { IsStartsOf heap.now starts.now }
+    requires window { AreRegions heap.now window.now }
+    requires items { All (IsItem heap.now) items.now }
+    requires outside { All (IsOutside heap.now window.now) items.now }
+    requires few { length items.now < 2 ^ 32 }
+    requires table { IsSeatOf claims seat }
+    requires whole { seat.hand.shares ≡ 64 }
+    requires places { length window.now * heap.now.geometry.w ≤ claims.places }
+    requires rise { Rises (all_pairs heap.now window.now items.now) }
+    requires ranks { AreRanks (all_pairs heap.now window.now items.now) }
+    requires above { AreAbove seat.hand.offers (all_pairs heap.now window.now items.now) }
+    requires workers { (0 < workers) × (workers ≤ 64) }
+    requires chunk { (0 < chunk) × (chunk ≤ 65536) }
+    ensures claims { IfOk result (λ r. r.0 ≡ claims) }
+    ensures table { IfOk result (λ r. IsSeatOf claims r.1) }
+    ensures whole { IfOk result (λ r. r.1.hand.shares ≡ 64) }
+    ensures offers { IfOk result (λ r. AddsOffers (place heap.now window.now) (all_pairs heap.now window.now items.now) seat.hand.offers r.1.hand.offers) }
+    ensures won { IfOk result (λ r. r.2.items ≡ winners (place heap.now window.now) r.1.hand.offers (all_pairs heap.now window.now items.now)) }
+    ensures settled { IfOk result (λ r. IsSettled r.1.hand.offers) }
+    ensures memory { IfErr result (λ e. e ≡ Memory) }
+{
+    // Tells that the heap is valid.
+    heap.geometry();
+    let scope = Scope {
+        heap,
+        starts,
+        window,
+    };
+    let (mut seat, lists) = offer_all(
+        rt, alloc, &scope, &claims, seat, items, workers, chunk, gate,
+    )?;
+    let kept = merged(alloc, lists)?;
+    let won = still_there(alloc, &scope, &claims, &mut seat, kept.as_slice())?;
+    Ok((claims, seat, won))
 }

@@ -1,73 +1,172 @@
-ghost use Rattle.std.specs.Prelude.{◌≡◌, ◌<◌, ◌≤◌, ◌^◌, ◌++◌, ℕ, List, map, flat_map, length, IfOk, IfErr};
+ghost use Rattle.std.specs.Prelude.{◌≡◌, ◌<◌, ◌≤◌, ◌^◌, ◌+◌, ◌*◌, ◌++◌, ℕ, List, map, length, vec_len, sum_by, Contains, IfOk, IfErr, OnOk};
 ghost use Rattle.std.specs.List.{All};
 ghost use Rattle.g1_words.specs.declared.fault.Fault.TheVariants.{Memory};
-ghost use Rattle.g1_words.specs.Survivors.{Survivors, seeds};
+ghost use Rattle.g1_words.specs.Heap.{objects, object_at};
+ghost use Rattle.g1_words.specs.Survivors.{Survivors};
 ghost use Rattle.g1_rem.specs.Starts.{IsStartsOf};
-ghost use Rattle.g1_frontier.specs.declared.item.Item.TheVariants.{Root, Card, Object};
 ghost use Rattle.g1_frontier.specs.Window.{AreRegions, AreCards, AreOutside, LeadIn};
-ghost use Rattle.g1_frontier.specs.Items.{IsItem, first_items};
-ghost use Rattle.g1_frontier.specs.Scope.{IsScope, names_in};
+ghost use Rattle.g1_frontier.specs.Items.{first_items, object_items, slot_count};
+ghost use Rattle.g1_frontier.specs.Search.{IsSearching};
 
 use crate::item::Item;
-use crate::round::targets;
-use crate::scope::{Scope, positions};
-use crate::seen::{note_all, unmarked};
+use crate::round::claim_round;
+use g1_claim::{ClaimSeat, Claims};
 use g1_rem::Starts;
-use g1_words::{Fault, Heap};
+use g1_words::{Fault, Heap, REFS_RANGE};
 use g1_work::Gate;
 use std::alloc::{AllocError, Global};
 use std::thread::Threads;
 
-// The roots, then the cards.
-fn first_items(alloc: Global, roots: &[u64], cards: &[u32]) -> Result<Vec<Item>, AllocError>
-    ensures { IfOk result (λ v. v.items ≡ first_items roots.now cards.now) }
-{
-    let roots = roots.iter().map(|word| Item::Root(*word));
-    let cards = cards.iter().map(|card| Item::Card(*card));
-    roots.chain(cards).collect(alloc)
+// What was found, and from where on it is still to be searched; the table, the seat of all its
+// shares, and the rank from which on none was offered.
+#[derive(Drop)]
+pub struct Search {
+    pub claims: Claims,
+    pub seat: ClaimSeat,
+    pub found: Vec<u64>,
+    pub from: usize,
+    pub next: u64,
 }
 
-// The objects at some addresses.
-fn objects(alloc: Global, addresses: &[u64]) -> Result<Vec<Item>, AllocError>
-    ensures { IfOk result (λ v. v.items ≡ map Object addresses.now) }
+// The roots, by number, then the cards.
+fn first_items(alloc: Global, roots: u64, cards: &[u32]) -> Result<Vec<Item>, AllocError>
+    ensures { IfOk result (λ v. v.items ≡ first_items roots cards.now) }
 {
-    addresses
-        .iter()
-        .map(|address| Item::Object(*address))
-        .collect(alloc)
+    let mut items = Vec::new(alloc);
+    for index in 0..roots {
+        items.push(Item::Root { index })?;
+    }
+    for card in cards {
+        items.push(Item::Card {
+            card: *card,
+            base: roots,
+        })?;
+    }
+    Ok(items)
 }
 
-// What the first items lead to, in the order in which it is found.
-fn found_from<R: Threads + Sync, G: Gate + Sync>(
+// The objects at some addresses, their slots numbered on from a base, and the number after them.
+fn object_items(
+    alloc: Global,
+    heap: &Heap,
+    addresses: &[u64],
+    base: u64,
+) -> Result<(Vec<Item>, u64), AllocError>
+    requires objects { All (λ a. Contains (objects heap.now) (object_at heap.now a)) addresses.now }
+    requires few { base + sum_by (slot_count heap.now) addresses.now < 2 ^ 32 }
+    ensures items { IfOk result (λ r. r.0.items ≡ object_items heap.now base addresses.now) }
+    ensures next { IfOk result (λ r. r.1 ≡ base + sum_by (slot_count heap.now) addresses.now) }
+{
+    // Tells that the heap is valid.
+    heap.geometry();
+    let words = heap.words();
+    let mut next = base;
+    let mut items = Vec::with_capacity(alloc, addresses.len())?;
+    for at in addresses {
+        items.push(Item::Object {
+            at: *at,
+            base: next,
+        })?;
+        next += words[*at as usize] % REFS_RANGE;
+    }
+    Ok((items, next))
+}
+
+// Puts the addresses behind those that were found.
+fn push_addresses(found: &mut Vec<u64>, won: &[(u64, u64)]) -> Result<(), AllocError>
+    ensures { OnOk result (found.new.items ≡ found.old.items ++ map (λ q. q.1) won.now) }
+{
+    for pair in won {
+        found.push(pair.1)?;
+    }
+    Ok(())
+}
+
+// The round of the roots and the cards.
+pub(crate) fn first_round<R: Threads + Sync, G: Gate + Sync>(
     rt: &R,
     alloc: Global,
-    scope: &Scope,
-    first: &[Item],
+    heap: &Heap,
+    starts: &Starts,
+    window: &[u32],
+    cards: &[u32],
     workers: u64,
     chunk: u64,
     gate: &G,
-) -> Result<Vec<u64>, Fault>
-    requires scope { IsScope scope.now }
-    requires items { All (IsItem scope.now.heap.now) first.now }
-    requires few { length first.now < 2 ^ 32 }
-    requires seeds { flat_map (names_in scope.now) first.now ≡ seeds scope.now.heap.now scope.now.window.now }
+) -> Result<Search, Fault>
+    requires starts { IsStartsOf heap.now starts.now }
+    requires window { AreRegions heap.now window.now }
+    requires cards { AreCards heap.now cards.now }
+    requires outside { AreOutside heap.now window.now cards.now }
+    requires lead_in { LeadIn heap.now window.now cards.now }
     requires workers { (0 < workers) × (workers ≤ 64) }
     requires chunk { (0 < chunk) × (chunk ≤ 65536) }
-    ensures ok { IfOk result (λ v. Survivors scope.now.heap.now scope.now.window.now v.items) }
+    ensures ok { IfOk result (IsSearching heap.now window.now) }
     ensures memory { IfErr result (λ e. e ≡ Memory) }
 {
-    let mut seen = unmarked(alloc, scope.places())?;
+    let roots = heap.roots().len() as u64;
+    let places = window.len() as u64 * heap.geometry().region_words();
+    let (claims, seat) = Claims::new(alloc, places)?;
+    let first = first_items(alloc, roots, cards)?;
+    let items = first.as_slice();
+    let (claims, seat, won) = claim_round(
+        rt, alloc, heap, starts, window, claims, seat, items, workers, chunk, gate,
+    )?;
     let mut found = Vec::new(alloc);
-    let named = targets(rt, alloc, scope, first, workers, chunk, gate)?;
-    note_all(scope, &mut seen, &mut found, named.as_slice())?;
-    let mut from = 0;
-    while from < found.len() {
-        let items = objects(alloc, &found[from..])?;
-        let named = targets(rt, alloc, scope, items.as_slice(), workers, chunk, gate)?;
-        from = found.len();
-        note_all(scope, &mut seen, &mut found, named.as_slice())?;
-    }
-    Ok(found)
+    push_addresses(&mut found, won.as_slice())?;
+    Ok(Search {
+        claims,
+        seat,
+        found,
+        from: 0,
+        next: roots + heap.words().len() as u64,
+    })
+}
+
+// The round of the objects that the last one found.
+pub(crate) fn next_round<R: Threads + Sync, G: Gate + Sync>(
+    rt: &R,
+    alloc: Global,
+    heap: &Heap,
+    starts: &Starts,
+    window: &[u32],
+    search: Search,
+    workers: u64,
+    chunk: u64,
+    gate: &G,
+) -> Result<Search, Fault>
+    requires starts { IsStartsOf heap.now starts.now }
+    requires window { AreRegions heap.now window.now }
+    requires search { IsSearching heap.now window.now search }
+    requires workers { (0 < workers) × (workers ≤ 64) }
+    requires chunk { (0 < chunk) × (chunk ≤ 65536) }
+    ensures ok { IfOk result (IsSearching heap.now window.now) }
+    ensures from { IfOk result (λ s. s.from ≡ vec_len search.found) }
+    ensures memory { IfErr result (λ e. e ≡ Memory) }
+{
+    // Tells that the heap is valid.
+    heap.geometry();
+    let Search {
+        claims,
+        seat,
+        mut found,
+        from,
+        next,
+    } = search;
+    let (items, next) = object_items(alloc, heap, &found[from..], next)?;
+    let items = items.as_slice();
+    let (claims, seat, won) = claim_round(
+        rt, alloc, heap, starts, window, claims, seat, items, workers, chunk, gate,
+    )?;
+    let from = found.len();
+    push_addresses(&mut found, won.as_slice())?;
+    Ok(Search {
+        claims,
+        seat,
+        found,
+        from,
+        next,
+    })
 }
 
 /// The survivors of a window of regions: the addresses of the objects in it that are reached from
@@ -104,12 +203,13 @@ pub fn discover<R: Threads + Sync, G: Gate + Sync>(
     ensures only { IfOk result (λ v. (l : List ℕ) → Survivors heap.now window.now l → l ≡ v.items) }
     ensures memory { IfErr result (λ e. e ≡ Memory) }
 {
-    let scope = Scope {
-        heap,
-        starts,
-        window,
-        positions: positions(alloc, heap.geometry().regions(), window)?,
-    };
-    let first = first_items(alloc, heap.roots(), cards)?;
-    found_from(rt, alloc, &scope, first.as_slice(), workers, chunk, gate)
+    // Tells that the heap is valid.
+    heap.geometry();
+    let mut search = first_round(rt, alloc, heap, starts, window, cards, workers, chunk, gate)?;
+    while search.from < search.found.len() {
+        search = next_round(
+            rt, alloc, heap, starts, window, search, workers, chunk, gate,
+        )?;
+    }
+    Ok(search.found)
 }

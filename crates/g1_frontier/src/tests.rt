@@ -1,6 +1,8 @@
 ghost use Rattle.std.specs.Prelude.{◌≡◌, ◌<◌, ◌≤◌};
 
 use crate::discover;
+use crate::survivors::{Search, first_round, next_round};
+use g1_claim::EMPTY;
 use g1_image::decode;
 use g1_rem::{Starts, image, refine, verify};
 use g1_words::Fault;
@@ -190,5 +192,78 @@ fn together(rt: HostRuntime) -> Result<(), Fail> {
         [21, 16].as_slice()
     );
     assert!(rt; !gate.missed.load(Ordering::SeqCst));
+    Ok(())
+}
+
+/// What two rounds over region 1 leave: what the first found, what both found, the rank of the next
+/// round's first slot, and the words of the claim table.
+#[derive(Drop)]
+struct Rounds {
+    first: Vec<u64>,
+    both: Vec<u64>,
+    next: u64,
+    words: Vec<u64>,
+}
+
+fn two_rounds<R: Threads + Sync>(
+    rt: &R,
+    alloc: Global,
+    text: &[u8],
+    workers: u64,
+    chunk: u64,
+) -> Result<Rounds, Fault>
+    requires workers { (0 < workers) × (workers ≤ 64) }
+    requires chunk { (0 < chunk) × (chunk ≤ 65536) }
+{
+    let tracked = match verify(rt, alloc, decode(alloc, text)?) {
+        Ok(tracked) => tracked,
+        Err((_, fault)) => return Err(fault),
+    };
+    let heap = image(&tracked).heap();
+    if heap.geometry().regions() < 2 {
+        return Err(Fault::Set(1));
+    }
+    let starts = Starts::build(alloc, heap)?;
+    let sets = refine(rt, alloc, &tracked, &starts)?;
+    let window: [u32; 1] = [1];
+    let cards = sets[1].as_slice();
+    let search = first_round(
+        rt, alloc, heap, &starts, &window, cards, workers, chunk, &Open,
+    )?;
+    let first = search.found.clone()?;
+    let search = next_round(
+        rt, alloc, heap, &starts, &window, search, workers, chunk, &Open,
+    )?;
+    let Search {
+        claims,
+        seat,
+        found: both,
+        from: _,
+        next,
+    } = search;
+    Ok(Rounds {
+        first,
+        both,
+        next,
+        words: claims.close(seat),
+    })
+}
+
+#[test]
+fn the_least_rank_of_each_place_stays_its_word(rt: HostRuntime) -> Result<(), Fail> {
+    let text = text_of(rt.alloc(), &SHARED, &shared_words())?;
+    let two = two_rounds(&rt, rt.alloc(), &text, 8, 1)?;
+    assert_eq!(rt; two.first.as_slice(), [21, 16].as_slice());
+    assert_eq!(rt; two.both.as_slice(), [21, 16].as_slice());
+    assert_eq!(rt; two.next, 69);
+    assert_eq!(rt; two.words.len(), 16);
+    for (place, word) in two.words.iter().enumerate() {
+        let expected = match place {
+            0 => 1,
+            5 => 0,
+            _ => EMPTY,
+        };
+        assert_eq!(rt; *word, expected);
+    }
     Ok(())
 }

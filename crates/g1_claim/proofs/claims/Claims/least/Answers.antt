@@ -1,0 +1,20 @@
+use Rattle.std.proofs.Common.{◌≡◌, sym, ap, ◌∙◌, arith, subst}
+use Rattle.g1_claim.specs.Claims.{SeatView, TableView, IsWordOf}
+use Rattle.g1_claim.specs.declared.rule.Hand.{Hand}
+use Rattle.g1_claim.proofs.Steps.{looks, found_word}
+use Rattle.g1_claim.proofs.claims.Claims.least.Goals as goal
+
+pub load-requires : goal.load-requires
+load-requires c =
+    let kept = c.self.invariant in
+    let is : c.self.inside.table.shared.table_id ≡ c.args.self.now.id = ap (λ (t : TableView). t.id) c.self.view_is in
+    let size = ap (λ (t : TableView). t.places) c.self.view_is in
+    let mine : c.seat.inside.seat.table_id ≡ c.args.seat.now.table = ap (λ (s : SeatView). s.table) c.seat.view_is in
+    let share = c.seat.invariant in
+    let place = c.requires.place in
+    (mine ∙ c.requires.table ∙ sym is, omega arith, looks _ _ _ _ _ (omega arith) (omega arith))
+
+pub returns-clause-least : goal.returns-clause-least
+returns-clause-least c all =
+    let is = ap (λ (s : SeatView). s.hand) c.seat.view_is in
+    subst (λ (h : Hand). IsWordOf c.args.place c.load.result h.offers) is (found_word c.seat.inside.seat.me.0 c.args.place c.load.result c.load.ensures.2.1 (ap (λ (h : Hand). h.shares) is ∙ all))

@@ -1,0 +1,129 @@
+-- The rule of the claim words, and what each step on one tells.
+use Rattle.std.specs.Prelude.{◌≡◌, ℕ, ◌+◌, ◌-◌, ◌<◌, ◌≤◌, Bool, ltb, min, List, [], ◌∷◌, ◌++◌, length, slice_index, ◌⊎◌}
+use mathlib.Core.Option.{some}
+use lib.ListN.{get_elem?}
+use Rattle.atomic_table.specs.Table.{State, Me, Step}
+use Rattle.g1_claim.specs.declared.rule.Offer.{Offer}
+use Rattle.g1_claim.specs.declared.rule.Sight.{Sight}
+use Rattle.g1_claim.specs.declared.rule.Hand.{Hand}
+use Rattle.g1_claim.specs.Claims.{empty, offer, sight, least_rank, least_value, times_offered, times_won, IsWonOnce, IsSettled}
+
+-- a hand with these parts
+abbrev pub hand : ℕ → List Offer → List Sight → List Sight → Hand
+hand n os ss ks = record { shares = n; offers = os; sights = ss; known = ks }
+
+-- the hand of a new table's seat
+abbrev pub first_hand : Hand
+first_hand = hand 64 [] [] []
+
+-- f of each hand, added up
+abbrev pub total : (Hand → ℕ) → List Hand → ℕ
+total f [] = 0
+total f (v ∷ vs) = f v + total f vs
+
+-- the least f of a hand, or empty
+abbrev pub lowest : (Hand → ℕ) → List Hand → ℕ
+lowest f [] = empty
+lowest f (v ∷ vs) = min (f v) (lowest f vs)
+
+-- how many offers the hands made at the place
+abbrev pub offers_at : ℕ → List Hand → ℕ
+offers_at p vs = total (λ v. times_offered p v.offers) vs
+
+-- how many of the hands' offers of the rank at the place answered true
+abbrev pub wins_of : ℕ → ℕ → List Hand → ℕ
+wins_of p r vs = total (λ v. times_won p r v.offers) vs
+
+-- the least rank that any hand offered at the place, or empty
+abbrev pub least_offered : ℕ → List Hand → ℕ
+least_offered p vs = lowest (λ v. least_rank p v.offers) vs
+
+-- no hand has offered at the place and the word is empty, or the word is the least rank that any hand offered there, and an offer of that rank answered true
+abbrev pub IsWord : ℕ → ℕ → List Hand → Type 0
+IsWord p w vs = (w ≡ least_offered p vs) × (((w ≡ empty) × (offers_at p vs ≡ 0)) ⊎ (wins_of p w vs ≡ 1))
+
+-- each sight is empty or a rank with which some hand's offer there answered true
+abbrev pub AreBacked : List Sight → List Hand → Type 0
+AreBacked [] vs = Unit {0}
+AreBacked (s ∷ ss) vs = ((s.value ≡ empty) ⊎ (wins_of s.place s.value vs ≡ 1)) × AreBacked ss vs
+
+-- a hand that has no share has offered and seen nothing
+abbrev pub IsIdle : Hand → Type 0
+IsIdle v = (v.offers ≡ []) × (v.sights ≡ [])
+
+-- between any two steps, over the hands of all seats that ever were, dropped ones too: together they have 64 shares; each word is the least rank offered at its place, or empty; at no place two offers of one rank answered true; no word is above what a hand knows of it; what a hand saw is empty or an offer that answered true
+pub record Claiming (words : List ℕ) (views : List Hand) : Type 0 where
+  pub shares : total (λ v. v.shares) views ≡ 64
+  pub idle : (k : ℕ) (v : Hand) → get_elem? views k ≡ some v → v.shares ≡ 0 → IsIdle v
+  pub words_least : (p : ℕ) → p < length words → IsWord p (slice_index words p) views
+  pub outside : (p : ℕ) → length words ≤ p → offers_at p views ≡ 0
+  pub once : (p r : ℕ) → wins_of p r views ≤ 1
+  pub floors : (k : ℕ) (v : Hand) → get_elem? views k ≡ some v → (p : ℕ) → p < length words → slice_index words p ≤ least_value p v.known
+  pub backed : (k : ℕ) (v : Hand) → get_elem? views k ≡ some v → AreBacked v.sights views
+
+abbrev pub Shelf : Type 0
+Shelf = State (Unit {0}) Hand
+
+-- a seat: its hand, and no slots
+abbrev pub Sat : Type 0
+Sat = Me (Unit {0}) Hand
+
+-- the rule of a table of so many words
+abbrev pub Claimed : ℕ → Shelf → Type 0
+Claimed n s = (length s.words ≡ n) × Claiming s.words s.views
+
+-- the hand after an offer
+abbrev pub after_offer : Hand → ℕ → ℕ → Bool → Hand
+after_offer v p r b = hand v.shares (v.offers ++ offer p r b ∷ []) v.sights (v.known ++ sight p r ∷ [])
+
+-- the hand after a sight
+abbrev pub after_sight : Hand → ℕ → ℕ → Hand
+after_sight v p a = hand v.shares v.offers (v.sights ++ sight p a ∷ []) (v.known ++ sight p a ∷ [])
+
+-- what is left of a hand that gave a share away
+abbrev pub left_hand : Hand → Hand
+left_hand v = hand (v.shares - 1) v.offers v.sights v.known
+
+-- the hand that takes the share
+abbrev pub right_hand : Hand → Hand
+right_hand v = hand 1 [] [] v.known
+
+-- two hands in one
+abbrev pub both_hands : Hand → Hand → Hand
+both_hands v w = hand (v.shares + w.shares) (v.offers ++ w.offers) (v.sights ++ w.sights) (v.known ++ w.known)
+
+-- what a hand leaves behind that was joined to another
+abbrev pub spent_hand : Hand
+spent_hand = hand 0 [] [] []
+
+-- words and hands between two steps, this hand among them
+abbrev pub Moment : Hand → List ℕ → List Hand → Type 0
+Moment v words views = Claiming words views × ((k : ℕ) × (get_elem? views k ≡ some v))
+
+-- the step found the word n at the place
+abbrev pub Found : Hand → ℕ → ℕ → Type 0
+Found v p n = (words : List ℕ) × (views : List Hand) × Moment v words views × (p < length words) × (slice_index words p ≡ n)
+
+-- an offer of r at the place, by some seat, had answered true
+abbrev pub Won : Hand → ℕ → ℕ → Type 0
+Won v p r = (words : List ℕ) × (views : List Hand) × Moment v words views × (wins_of p r views ≡ 1)
+
+-- some seat had offered r or less at the place, and that offer had answered true
+abbrev pub Beaten : Hand → ℕ → ℕ → Type 0
+Beaten v p r = (n : ℕ) × (n ≤ r) × Won v p n
+
+-- what each step tells of its hand: at no place two of its offers of one rank answered true, and with all shares it has an offer of the least rank of each place that answered true
+abbrev pub IsKnown : Hand → Type 0
+IsKnown v = (v.shares ≤ 64) × IsWonOnce v.offers × (v.shares ≡ 64 → IsSettled v.offers)
+
+-- an offer that found the word `found`
+abbrev pub lowered : Step (Unit {0}) → Sat → ℕ → Sat → Type 0
+lowered st m found m' = (m' ≡ (after_offer m.0 st.word st.first (ltb st.first found), m.1)) × Found m.0 st.word found × IsKnown m'.0
+
+-- a load that found the word `found`
+abbrev pub saw : Step (Unit {0}) → Sat → ℕ → Sat → Type 0
+saw st m found m' = (m' ≡ (after_sight m.0 st.word found, m.1)) × Found m.0 st.word found × IsKnown m'.0
+
+-- a load that changes nothing
+abbrev pub looked : Step (Unit {0}) → Sat → ℕ → Sat → Type 0
+looked st m found m' = (m' ≡ m) × IsKnown m'.0

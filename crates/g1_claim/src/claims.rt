@@ -1,0 +1,194 @@
+ghost use Rattle.std.specs.Prelude.{◌≡◌, ℕ, ◌+◌, ◌-◌, ◌<◌, ◌≤◌, ◌^◌, IfOk, IfErr, IsTrue, IsFalse, ltb, [], vec_len, slice_index, ◌↔◌, ◌⊎◌};
+ghost use Rattle.g1_words.specs.declared.fault.Fault.TheVariants.{Memory};
+ghost use Rattle.g1_claim.specs.Claims.{IsSeatOf, least_rank, least_value, IsWordOf, IsSettled, IsWonOnce};
+ghost use Rattle.g1_claim.specs.Rule.{first_hand, after_offer, after_sight, left_hand, right_hand, both_hands, Found, Won, Beaten};
+
+use crate::rule::{BothHands, Hand, LeastWins, Look, Lower, OneShare, See};
+use atomic_table::{Seat, Table};
+use g1_words::Fault;
+use std::alloc::Global;
+use std::marker::Model;
+
+/// The word of a place where nobody has offered.
+pub const EMPTY: u64 = u64::MAX;
+
+const SHARES: u32 = 64;
+
+/// A table of words that only fall. Threads share it by reference, and each offers with a seat of
+/// its own.
+///
+/// Contracts see which table it is, and how many places it has.
+#[derive(Drop)]
+pub struct Claims {
+    // One word more than places, so that a table of no places can be split too.
+    table: Table<(), Hand, u64, LeastWins, Global>,
+    words: Vec<u64>,
+}
+
+impl Model for Claims {
+    ghost use Rattle.std.specs.Prelude.{◌≡◌, ◌+◌, ◌^◌, ◌≤◌, vec_len};
+    ghost use Rattle.g1_claim.specs.Claims.{TableView};
+
+    ghost Value = { TableView };
+
+    ghost view = { λ c. record { id = c.table.shared.table_id; places = vec_len c.words } };
+
+    ghost invariant = { λ c. (c.table.shared.key ≡ c.table.shared.table_id.words) × (c.table.shared.table_id.words ≡ vec_len c.words + 1) × (c.table.shared.table_id.slots ≡ 0) × (vec_len c.words ≤ 2 ^ 24) };
+}
+
+/// The right of one thread to offer at the places of a table, for some of its 64 shares.
+///
+/// Contracts see its shares, the ranks that it offered with their answers, what it saw by `least`,
+/// and what it knows of the words. These lists take no bytes.
+#[derive(Drop)]
+pub struct ClaimSeat {
+    seat: Seat<(), Hand>,
+    shares: u32,
+}
+
+impl Model for ClaimSeat {
+    ghost use Rattle.std.specs.Prelude.{◌≡◌, ◌<◌, []};
+    ghost use Rattle.g1_claim.specs.Claims.{SeatView};
+    ghost use Rattle.g1_claim.specs.Rule.{IsKnown};
+
+    ghost Value = { SeatView };
+
+    ghost view = { λ s. record { table = s.seat.table_id; hand = s.seat.me.0 } };
+
+    ghost invariant = { λ s. (s.shares ≡ s.seat.me.0.shares) × (0 < s.shares) × (s.seat.me.1 ≡ []) × IsKnown s.seat.me.0 };
+}
+
+impl Claims {
+    /// A table of so many places, all words `EMPTY`, and the seat of all 64 shares.
+    ///
+    /// # Errors
+    /// `Memory`.
+    pub fn new(alloc: Global, places: u64) -> Result<(Claims, ClaimSeat), Fault>
+        requires { places ≤ 2 ^ 24 }
+        ensures places { IfOk result (λ r. r.0.places ≡ places) }
+        ensures seat { IfOk result (λ r. IsSeatOf r.0 r.1) }
+        ensures hand { IfOk result (λ r. r.1.hand ≡ first_hand) }
+        ensures err { IfErr result (λ e. e ≡ Memory) }
+    {
+        let count = places + 1;
+        let mut words = vec![in alloc; EMPTY; count as usize]?;
+        let (table, seat) = Table::of_words(alloc, words.as_slice(), &count)?;
+        let _ = words.pop();
+        let claims = Claims { table, words };
+        let seat = ClaimSeat {
+            seat,
+            shares: SHARES,
+        };
+        Ok((claims, seat))
+    }
+
+    /// Offers a rank at a place. The answer is true exactly where this step lowered the word.
+    ///
+    /// It is one `fetch_min` on the word.
+    pub fn offer(&self, seat: &mut ClaimSeat, place: u64, rank: u64) -> bool
+        requires table { IsSeatOf self.now seat.old }
+        requires place { place < self.now.places }
+        requires rank { rank < 2 ^ 32 }
+        ensures table { IsSeatOf self.now seat.new }
+        ensures offered { seat.new.hand ≡ after_offer seat.old.hand place rank result }
+        ensures lowered { (n : ℕ) × Found seat.old.hand place n × (result ≡ ltb rank n) }
+        ensures below_known { IsTrue result → rank < least_value place seat.old.hand.known }
+        ensures beaten { IsFalse result → Beaten seat.old.hand place rank }
+        ensures least { seat.old.hand.shares ≡ 64 → (IsTrue result ↔ (rank < least_rank place seat.old.hand.offers)) }
+        ensures once { IsWonOnce seat.new.hand.offers }
+        ensures settled { seat.new.hand.shares ≡ 64 → IsSettled seat.new.hand.offers }
+    {
+        let found = self
+            .table
+            .shared
+            .fetch_min::<Lower>(&mut seat.seat, place as usize, rank);
+        rank < found
+    }
+
+    /// The least rank offered at a place so far, by whatever seats, or `EMPTY`.
+    ///
+    /// It is one load of the word.
+    pub fn least(&self, seat: &mut ClaimSeat, place: u64) -> u64
+        requires table { IsSeatOf self.now seat.old }
+        requires place { place < self.now.places }
+        ensures table { IsSeatOf self.now seat.new }
+        ensures seen { seat.new.hand ≡ after_sight seat.old.hand place result }
+        ensures found { Found seat.old.hand place result }
+        ensures won { (result ≡ EMPTY) ⊎ Won seat.old.hand place result }
+        ensures known { result ≤ least_value place seat.old.hand.known }
+        ensures least { seat.old.hand.shares ≡ 64 → IsWordOf place result seat.old.hand.offers }
+        ensures once { IsWonOnce seat.new.hand.offers }
+        ensures settled { seat.new.hand.shares ≡ 64 → IsSettled seat.new.hand.offers }
+    {
+        self.table
+            .shared
+            .load::<See>(&mut seat.seat, place as usize)
+    }
+
+    /// Hands one share to a new seat, which has offered and seen nothing, and knows of the words
+    /// what the old one knows.
+    pub fn split(&self, seat: &mut ClaimSeat) -> ClaimSeat
+        requires table { IsSeatOf self.now seat.old }
+        requires two { 1 < seat.old.hand.shares }
+        ensures table { IsSeatOf self.now seat.new }
+        ensures left { seat.new.hand ≡ left_hand seat.old.hand }
+        ensures other { IsSeatOf self.now result }
+        ensures right { result.hand ≡ right_hand seat.old.hand }
+    {
+        let other = self.table.shared.split_seat::<OneShare>(&mut seat.seat);
+        seat.shares -= 1;
+        ClaimSeat {
+            seat: other,
+            shares: 1,
+        }
+    }
+
+    /// Puts what another seat has into this one: its shares, its offers, its sights, and what it
+    /// knows.
+    pub fn join(&self, seat: &mut ClaimSeat, other: ClaimSeat)
+        requires table { IsSeatOf self.now seat.old }
+        requires other { IsSeatOf self.now other }
+        ensures table { IsSeatOf self.now seat.new }
+        ensures both { seat.new.hand ≡ both_hands seat.old.hand other.hand }
+        ensures most { seat.new.hand.shares ≤ 64 }
+        ensures once { IsWonOnce seat.new.hand.offers }
+        ensures settled { seat.new.hand.shares ≡ 64 → IsSettled seat.new.hand.offers }
+    {
+        let ClaimSeat { seat: hand, shares } = other;
+        self.table
+            .shared
+            .join_seat::<BothHands>(&mut seat.seat, hand);
+        self.table.shared.load::<Look>(&mut seat.seat, 0);
+        seat.shares += shares;
+    }
+
+    /// Ends the claiming, and gives the words: of each place the least rank offered there, or
+    /// `EMPTY`.
+    pub fn close(self, seat: ClaimSeat) -> Vec<u64>
+        requires table { IsSeatOf self seat }
+        requires whole { seat.hand.shares ≡ 64 }
+        ensures places { vec_len result ≡ self.places }
+        ensures words { (p : ℕ) → p < self.places → IsWordOf p (slice_index result.items p) seat.hand.offers }
+        ensures once { IsWonOnce seat.hand.offers }
+    {
+        let Claims { table, mut words } = self;
+        let ClaimSeat { seat, shares: _ } = seat;
+        let closed = table.close_with(seat);
+        for place in 0..words.len() {
+            words[place] = closed.word(place);
+        }
+        closed.free();
+        words
+    }
+}
+
+/// How many of the table's 64 shares the seat has.
+pub fn shares(seat: &ClaimSeat) -> u32
+    ensures shares { result ≡ seat.now.hand.shares }
+    ensures some { 0 < result }
+    ensures most { result ≤ 64 }
+    ensures once { IsWonOnce seat.now.hand.offers }
+    ensures settled { result ≡ 64 → IsSettled seat.now.hand.offers }
+{
+    seat.shares
+}

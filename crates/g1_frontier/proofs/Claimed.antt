@@ -1,0 +1,127 @@
+-- What one round of claims gives.
+use Rattle.std.proofs.Common.{◌≡◌, ◌≢◌, ℕ, ◌+◌, ◌-◌, ◌<◌, ◌≤◌, Bool, true, false, cond, eqb, eq-eqb, eqb-true, List, [], ◌∷◌, map, filter, sym, refl, ap, ◌∙◌, subst, inl, inr, arith, IsPermutation, All, AllPairs, Vec, Global}
+use Rattle.std.specs.List.{flat_map}
+use Rattle.std.proofs.lemmas.List.Sorted.{IsPermutation-sym, IsPermutation-map}
+use Rattle.std.proofs.lemmas.Map.Keys.{IsDistinct-IsPermutation}
+use Rattle.std.proofs.lemmas.Map.Made.{AllPairs-from_IsDistinct, IsDistinct-from_AllPairs}
+use Rattle.std.proofs.lemmas.Bool.Decides.{Decides-eqb}
+use Rattle.g1_claim.specs.declared.rule.Offer.{Offer}
+use Rattle.g1_claim.specs.Claims.{TableView, SeatView}
+use Rattle.g1_words.specs.Heap.{Heap, word, slots, object_at}
+use Rattle.g1_words.specs.References.{named}
+use Rattle.g1_words.specs.Survivors.{in_set}
+use Rattle.g1_words.proofs.Members.{In, In-map, map_cases, flat_map_cases, filter_member}
+use Rattle.g1_words.proofs.Ordered.{Ordered, Ordered-from_pairs, pairs_from_ordered}
+use Rattle.g1_words.proofs.Rising.{Ordered-map}
+use Rattle.g1_rem.specs.Slots.{slots_on}
+use Rattle.g1_frontier.specs.declared.item.Item.{Item}
+use Rattle.g1_frontier.specs.declared.item.Item.TheVariants.{Root, Card, Object}
+use Rattle.g1_frontier.specs.Items.{aims, pairs, all_pairs}
+use Rattle.g1_frontier.specs.Offering.{Try, pair_of, lowered, offer_of}
+use Rattle.g1_frontier.specs.Round.{Rises, AreAbove, bid_of, bid, AddsOffers, winners, HasOffered, IsMerged}
+use Rattle.g1_frontier.proofs.Assembly.{RankLess}
+use Rattle.g1_frontier.proofs.Winning.{RanksDiffer, in_permuted, merged_won}
+use Rattle.g1_frontier.proofs.Merges.{rises_strictly}
+use Rattle.g1_frontier.proofs.Scopes.{all_in, all_from_in}
+
+pub lists_rise : (vs : List (Vec (ℕ × ℕ) Global)) → All Rises (map (λ v. v.items) vs) → All (λ v. Rises v.items) vs
+lists_rise vs h = all_from_in (λ v. Rises v.items) vs (λ v i. all_in Rises (map (λ v. v.items) vs) v.items h (In-map (λ v. v.items) vs v i))
+
+-- ---- what is offered lies in the window
+
+aims_in_window : (h : Heap) (window : List ℕ) (rank x : ℕ) (q : ℕ × ℕ) → In (aims h window rank x) q → in_set h window q.1 ≡ true
+aims_in_window h window rank x q i =
+    let m = map_cases (λ a. (rank, a)) (filter (in_set h window) (named x)) q i in
+    subst (λ (r : ℕ × ℕ). in_set h window r.1 ≡ true) m.2 (filter_member (in_set h window) (named x) m.0 m.1).1
+
+pairs_in_window : (h : Heap) (window : List ℕ) (i : Item) (q : ℕ × ℕ) → In (pairs h window i) q → in_set h window q.1 ≡ true
+pairs_in_window h window (Root n) q i = aims_in_window h window n _ q i
+pairs_in_window h window (Card c b) q i = let m = flat_map_cases (λ p. aims h window (b + p) (word h p)) (slots_on h c) q i in aims_in_window h window (b + m.0) (word h m.0) q m.2
+pairs_in_window h window (Object a b) q i =
+    let m = flat_map_cases (λ p. aims h window (b + (p - (a + 1))) (word h p)) (slots (object_at h a)) q i in
+    aims_in_window h window (b + (m.0 - (a + 1))) (word h m.0) q m.2
+
+pub all_in_window : (h : Heap) (window : List ℕ) (items : List Item) (q : ℕ × ℕ) → In (all_pairs h window items) q → in_set h window q.1 ≡ true
+all_in_window h window items q i = let m = flat_map_cases (pairs h window) items q i in pairs_in_window h window m.0 q m.2
+
+-- ---- ranks that differ
+
+eqb_flips : (x y : ℕ) → eqb x y ≡ eqb y x
+eqb_flips x y = same (eqb x y) (eqb y x) (λ e. eq-eqb y x (sym (eqb-true x y e))) (λ e. eq-eqb x y (sym (eqb-true y x e)))
+  where
+    same : (a b : Bool) → (a ≡ true → b ≡ true) → (b ≡ true → a ≡ true) → a ≡ b
+    same true true f g = refl
+    same false false f g = refl
+    same true false f g = sym (f refl)
+    same false true f g = g refl
+
+Ordered-unmap : {A B : Type 0} (R : B → B → Type 0) (f : A → B) (xs : List A) → Ordered R (map f xs) → Ordered (λ x y. R (f x) (f y)) xs
+Ordered-unmap R f [] o = tt
+Ordered-unmap R f (x ∷ xs) o = ((λ y i. o.0 (f y) (In-map f xs y i)), Ordered-unmap R f xs o.1)
+
+weaken : {A : Type 0} (R S : A → A → Type 0) (xs : List A) → ((x y : A) → R x y → S x y) → Ordered R xs → Ordered S xs
+weaken R S [] h o = tt
+weaken R S (x ∷ xs) h o = ((λ y i. h x y (o.0 y i)), weaken R S xs h o.1)
+
+rank_of : ℕ × ℕ → ℕ
+rank_of q = q.0
+
+-- however they are ordered
+pub differ_permuted : (ps qs : List (ℕ × ℕ)) → IsPermutation ps qs → Ordered RanksDiffer ps → Ordered RanksDiffer qs
+unfolding rank_of
+differ_permuted ps qs p o =
+    let before : AllPairs (λ x y. x ≢ y) (map rank_of ps) = pairs_from_ordered (λ x y. x ≢ y) (map rank_of ps) (Ordered-map (λ x y. x ≢ y) rank_of ps o) in
+    let after : AllPairs (λ x y. x ≢ y) (map rank_of qs) =
+    AllPairs-from_IsDistinct Decides-eqb (map rank_of qs) (IsDistinct-IsPermutation eqb eqb_flips (map rank_of ps) (map rank_of qs) (IsPermutation-map rank_of ps qs p) (IsDistinct-from_AllPairs Decides-eqb (map rank_of ps) before)) in
+    Ordered-unmap (λ x y. x ≢ y) rank_of qs (Ordered-from_pairs (λ x y. x ≢ y) (map rank_of qs) after)
+
+pub rises_differ : (ps : List (ℕ × ℕ)) → Ordered RankLess ps → Ordered RanksDiffer ps
+rises_differ ps o = weaken RankLess RanksDiffer ps (λ x y lt e. omega (arith, lt, e)) o
+
+-- some of what differs differs
+in_some_at : (m : Try) (ms ks : List Try) (q : ℕ × ℕ) → (In (map pair_of ks) q → In (map pair_of ms) q) → (b : Bool) → In (map pair_of (cond b (m ∷ ks) ks)) q → In (map pair_of (m ∷ ms)) q
+in_some_at m ms ks q f true (inl e) = inl e
+in_some_at m ms ks q f true (inr k) = inr (f k)
+in_some_at m ms ks q f false k = inr (f k)
+
+pub in_some : (ms : List Try) (q : ℕ × ℕ) → In (map pair_of (filter lowered ms)) q → In (map pair_of ms) q
+in_some [] q i = i
+in_some (m ∷ ms) q i = in_some_at m ms (filter lowered ms) q (in_some ms q) m.1 i
+
+some_differ : (ms : List Try) → Ordered RanksDiffer (map pair_of ms) → Ordered RanksDiffer (map pair_of (filter lowered ms))
+some_differ [] o = tt
+some_differ (m ∷ ms) o =
+    elim m.1 as (λ b. Ordered RanksDiffer (map pair_of (cond b (m ∷ filter lowered ms) (filter lowered ms)))) [
+      | true ↦ ((λ q i. o.0 q (in_some ms q i)), some_differ ms o.1)
+      | false ↦ some_differ ms o.1
+    ]
+
+-- ---- the round
+
+module _ (t : TableView) (place : ℕ → ℕ) (ps : List (ℕ × ℕ)) (before after : SeatView) (lists : List (List (ℕ × ℕ))) (o : HasOffered t place ps before after lists) where
+  bids : (ms : List Try) → map bid_of (map (offer_of place) ms) ≡ map (bid place) (map pair_of ms)
+  bids [] = refl
+  bids (m ∷ ms) = ap (λ l. (place m.0.1, m.0.0) ∷ l) (bids ms)
+
+  pub adds : (now : List Offer) → now ≡ after.hand.offers → AddsOffers place ps before.hand.offers now
+  adds now e = (
+    map (offer_of place) o.made,
+    subst (λ l. IsPermutation l (map (bid place) ps)) (sym (bids o.made)) (IsPermutation-map (bid place) (map pair_of o.made) ps o.each),
+    e ∙ o.offers,
+  )
+
+  module _ (merged : List (ℕ × ℕ)) (perm : IsPermutation (flat_map (λ l. l) lists) merged) where
+    kept_all : IsPermutation (map pair_of (filter lowered o.made)) merged
+    kept_all = subst (λ l. IsPermutation l merged) o.kept perm
+
+    pub merged_from : (q : ℕ × ℕ) → In merged q → In ps q
+    merged_from q i = in_permuted (map pair_of o.made) ps q o.each (in_some o.made q (in_permuted merged (map pair_of (filter lowered o.made)) q (IsPermutation-sym (map pair_of (filter lowered o.made)) merged kept_all) i))
+
+    pub round_won : Rises ps → AreAbove before.hand.offers ps → IsMerged merged → winners place after.hand.offers merged ≡ winners place after.hand.offers ps
+    round_won rise above in_order =
+        let risen : Ordered RankLess ps = Ordered-from_pairs RankLess ps rise in
+        let differ : Ordered RanksDiffer (map pair_of o.made) = differ_permuted ps (map pair_of o.made) (IsPermutation-sym (map pair_of o.made) ps o.each) (rises_differ ps risen) in
+        let strictly : Ordered RankLess merged =
+        rises_strictly merged (Ordered-from_pairs (λ (q r : ℕ × ℕ). q.0 ≤ r.0) merged in_order) (differ_permuted (map pair_of (filter lowered o.made)) merged kept_all (some_differ o.made differ)) in
+        merged_won place ps merged before.hand.offers after.hand.offers o.made o.offers o.each risen differ
+        (λ a q i j e. let lt = all_in (λ q. a.rank < q.0) ps q (all_in (λ a. All (λ q. a.rank < q.0) ps) before.hand.offers a above i) j in omega (arith, lt, e)) o.settled kept_all strictly

@@ -1,0 +1,72 @@
+-- Offers, one after another.
+use Rattle.std.proofs.Common.{◌≡◌, ℕ, suc, ◌+◌, ◌<◌, Bool, true, false, cond, List, [], ◌∷◌, ◌++◌, map, filter, flat_map, take, get_or, length, sym, refl, ap, ◌∙◌, subst, arith, append_assoc, append-nil}
+use Rattle.std.proofs.lemmas.List.{map-append, take_more, flat_map_more}
+use Rattle.g1_claim.specs.Claims.{offer}
+use Rattle.g1_words.specs.Heap.{Heap}
+use Rattle.g1_words.specs.Survivors.{in_set}
+use Rattle.g1_frontier.specs.declared.offering.Holder.{Holder}
+use Rattle.g1_frontier.specs.Items.{aims}
+use Rattle.g1_frontier.specs.Offering.{pair_of, lowered, offer_of, HasTried}
+use Rattle.g1_frontier.proofs.Seeds.{filter_append}
+
+module _ (place : ℕ → ℕ) where
+  pub tried_none : (h : Holder) → HasTried place [] h h
+  tried_none h = record {
+    made = [];
+    each = refl;
+    offers = sym (append-nil h.seat.hand.offers);
+    kept = sym (append-nil h.kept.items);
+    table = refl;
+    shares = refl;
+  }
+
+  pub tried_append : (ps qs : List (ℕ × ℕ)) (a b c : Holder) → HasTried place ps a b → HasTried place qs b c → HasTried place (ps ++ qs) a c
+  tried_append ps qs a b c x y = record {
+    made = x.made ++ y.made;
+    each = map-append pair_of x.made y.made ∙ (λ i. x.each i ++ y.each i);
+    offers =
+        y.offers ∙ ap (λ os. os ++ map (offer_of place) y.made) x.offers ∙ append_assoc a.seat.hand.offers (map (offer_of place) x.made) (map (offer_of place) y.made)
+        ∙ ap (λ os. a.seat.hand.offers ++ os) (sym (map-append (offer_of place) x.made y.made));
+    kept =
+        y.kept ∙ ap (λ is. is ++ map pair_of (filter lowered y.made)) x.kept ∙ append_assoc a.kept.items (map pair_of (filter lowered x.made)) (map pair_of (filter lowered y.made))
+        ∙ ap (λ is. a.kept.items ++ is) (sym (ap (map pair_of) (filter_append lowered x.made y.made) ∙ map-append pair_of (filter lowered x.made) (filter lowered y.made)));
+    table = y.table ∙ x.table;
+    shares = y.shares ∙ x.shares;
+  }
+
+  -- one offer
+  pub tried_one : (rank a : ℕ) (b : Bool) (h t : Holder) → t.seat.hand.offers ≡ h.seat.hand.offers ++ offer (place a) rank b ∷ [] → t.kept.items ≡ h.kept.items ++ cond b ((rank, a) ∷ []) []
+      → t.seat.table ≡ h.seat.table → t.seat.hand.shares ≡ h.seat.hand.shares → HasTried place ((rank, a) ∷ []) h t
+  tried_one rank a b h t os ks table shares = record {
+    made = ((rank, a), b) ∷ [];
+    each = refl;
+    offers = os;
+    kept = ks ∙ ap (λ l. h.kept.items ++ l) (at b);
+    table = table;
+    shares = shares;
+  }
+    where
+      at : (b : Bool) → cond b ((rank, a) ∷ []) [] ≡ map pair_of (filter lowered (((rank, a), b) ∷ []))
+      at true = refl
+      at false = refl
+
+  -- one more of a list
+  pub tried_more : {A : Type 0} (f : A → List (ℕ × ℕ)) (xs : List A) (n : ℕ) (d : A) (a b c : Holder) → n < length xs → HasTried place (flat_map f (take n xs)) a b → HasTried place (f (get_or xs n d)) b c → HasTried place (flat_map f (take (n + 1) xs)) a c
+  tried_more f xs n d a b c lt x y =
+      subst (λ ps. HasTried place ps a c) (flat_map_more f [] (take n xs) (get_or xs n d) ∙ ap (flat_map f) (sym (take_more xs n d lt)))
+      (tried_append (flat_map f (take n xs)) (f (get_or xs n d)) a b c x y)
+
+-- ---- what a word offers
+
+pub aims_null : (h : Heap) (window : List ℕ) (rank x : ℕ) → x ≡ 0 → aims h window rank x ≡ []
+aims_null h window rank x e = ap (aims h window rank) e
+
+pub aims_outside : (h : Heap) (window : List ℕ) (rank x a : ℕ) → x ≡ a + 1 → in_set h window a ≡ false → aims h window rank x ≡ []
+aims_outside h window rank x a e t =
+    let s : x ≡ suc a = omega (arith, e) in
+    ap (aims h window rank) s ∙ ap (λ b. map (λ a. (rank, a)) (cond b (a ∷ []) [])) t
+
+pub aims_inside : (h : Heap) (window : List ℕ) (rank x a : ℕ) → x ≡ a + 1 → in_set h window a ≡ true → aims h window rank x ≡ (rank, a) ∷ []
+aims_inside h window rank x a e t =
+    let s : x ≡ suc a = omega (arith, e) in
+    ap (aims h window rank) s ∙ ap (λ b. map (λ a. (rank, a)) (cond b (a ∷ []) [])) t

@@ -1,0 +1,51 @@
+use Rattle.std.proofs.Common.{arith, ◌+◌, ◌<◌, ◌∙◌, ◌^◌, ap, sym, subst, ℕ, length, get_or, flat_map}
+use Rattle.g1_words.specs.Heap.{word}
+use Rattle.g1_words.proofs.Members.{In}
+use Rattle.g1_rem.specs.Slots.{slots_on}
+use Rattle.g1_frontier.specs.Items.{AreRanks}
+use Rattle.g1_frontier.specs.Scope.{place_in, aims_in}
+use Rattle.g1_frontier.specs.Offering.{HasTried}
+use Rattle.g1_frontier.proofs.Names.{slot_in_words}
+use Rattle.g1_frontier.proofs.Offerings.{tried_more}
+use Rattle.g1_frontier.proofs.Scopes.{In-get, all_part}
+use Rattle.g1_frontier.proofs.Turns.{take_all}
+use Rattle.g1_frontier.proofs.offering.Offers.offer_card.Goals as goal
+
+pub offset_bounds-words-slot : goal.offset_bounds-words-slot
+offset_bounds-words-slot c =
+    let s = c.args.self.now.scope.now in
+    let listed = c.as_slice-slot-items.ensures ∙ c.slots_on-slots.ensures in
+    let low = slot_in_words s.heap.now c.requires.places.scope.valid c.args.card (get_or c.as_slice-slot-items.result.now c.loop-slot.slot-index 0) (subst (λ l. In l (get_or c.as_slice-slot-items.result.now c.loop-slot.slot-index 0)) listed (In-get c.as_slice-slot-items.result.now c.loop-slot.slot-index 0 c.loop-slot-test.true)) in
+    omega (arith, low, c.requires.places.scope.valid.word_count, c.requires.places.scope.valid.limits.words_most)
+
+pub bounds-words-slot : goal.bounds-words-slot
+bounds-words-slot c =
+    let s = c.args.self.now.scope.now in
+    let listed = c.as_slice-slot-items.ensures ∙ c.slots_on-slots.ensures in
+    let low = slot_in_words s.heap.now c.requires.places.scope.valid c.args.card (get_or c.as_slice-slot-items.result.now c.loop-slot.slot-index 0) (subst (λ l. In l (get_or c.as_slice-slot-items.result.now c.loop-slot.slot-index 0)) listed (In-get c.as_slice-slot-items.result.now c.loop-slot.slot-index 0 c.loop-slot-test.true)) in
+    omega (arith, low, ap length c.words-words.ensures)
+
+pub offer_named-requires-clause-ranks : goal.offer_named-requires-clause-ranks
+offer_named-requires-clause-ranks c =
+    let s = c.args.self.now.scope.now in
+    let xs = c.as_slice-slot-items.result.now in
+    let p : ℕ = get_or xs c.loop-slot.slot-index 0 in
+    let listed = c.as_slice-slot-items.ensures ∙ c.slots_on-slots.ensures in
+    subst (λ l. AreRanks (aims_in s (c.args.base + p) (get_or l p 0))) (sym c.words-words.ensures)
+    (all_part (λ q. q.0 < 2 ^ 32) (λ p. aims_in s (c.args.base + p) (word s.heap.now p)) (slots_on s.heap.now c.args.card) p c.requires.ranks (subst (λ l. In l p) listed (In-get xs c.loop-slot.slot-index 0 c.loop-slot-test.true)))
+
+pub loop-slot-preserved : goal.loop-slot-preserved
+loop-slot-preserved c =
+    let s = c.args.self.now.scope.now in
+    let xs = c.as_slice-slot-items.result.now in
+    let i = c.loop-slot.slot-index in
+    let p : ℕ = get_or xs i 0 in
+    tried_more (place_in s) (λ p. aims_in s (c.args.base + p) (word s.heap.now p)) xs i 0 c.args.holder.now c.loop-slot.holder c.offer_named.new.holder c.loop-slot-test.true c.loop-slot.invariant
+    (subst (λ l. HasTried (place_in s) (aims_in s (c.args.base + p) (get_or l p 0)) c.loop-slot.holder c.offer_named.new.holder) c.words-words.ensures c.in_ok-offer_named.ensures)
+
+pub returns : goal.returns
+returns c =
+    let s = c.args.self.now.scope.now in
+    let xs = c.as_slice-slot-items.result.now in
+    subst (λ l. HasTried (place_in s) (flat_map (λ p. aims_in s (c.args.base + p) (word s.heap.now p)) l) c.args.holder.now c.loop-slot.holder)
+    (take_all xs c.loop-slot.slot-index c.loop-slot-test.false ∙ c.as_slice-slot-items.ensures ∙ c.slots_on-slots.ensures) c.loop-slot.invariant

@@ -1,0 +1,17 @@
+use Rattle.std.proofs.Common.{◌<◌, ◌^◌, get_or}
+use Rattle.g1_frontier.specs.declared.item.Item.TheVariants.{Root}
+use Rattle.g1_frontier.specs.Scope.{place_in, pairs_in}
+use Rattle.g1_frontier.proofs.Offerings.{tried_more}
+use Rattle.g1_frontier.proofs.Scopes.{In-get, all_part}
+use Rattle.g1_frontier.proofs.offering.Offers.offer_items.Goals as goal
+
+pub offer_item-requires-clause-ranks : goal.offer_item-requires-clause-ranks
+offer_item-requires-clause-ranks c =
+    let s = c.args.self.now.scope.now in
+    let xs = c.args.items.now in
+    all_part (λ q. q.0 < 2 ^ 32) (pairs_in s) xs (get_or xs c.loop-item.item-index (Root 0)) c.requires.ranks (In-get xs c.loop-item.item-index (Root 0) c.loop-item-test.true)
+
+pub loop-item-preserved : goal.loop-item-preserved
+loop-item-preserved c =
+    let s = c.args.self.now.scope.now in
+    tried_more (place_in s) (pairs_in s) c.args.items.now c.loop-item.item-index (Root 0) c.args.holder.now c.loop-item.holder c.offer_item.new.holder c.loop-item-test.true c.loop-item.invariant c.in_ok-offer_item.ensures

@@ -1,0 +1,36 @@
+use Rattle.std.proofs.Common.{arith, ap, subst, sym, ◌≡◌, ◌+◌, ◌-◌, ◌++◌, ◌∙◌, ℕ, [], ◌∷◌}
+use Rattle.g1_claim.specs.declared.rule.Hand.{Hand}
+use Rattle.g1_claim.specs.Claims.{offer}
+use Rattle.g1_frontier.specs.declared.offering.Holder.{Holder}
+use Rattle.g1_frontier.specs.Offering.{HasTried}
+use Rattle.g1_frontier.specs.Scope.{place_in}
+use Rattle.g1_frontier.proofs.Offerings.{tried_none, tried_one, aims_null, aims_outside, aims_inside}
+use Rattle.g1_frontier.proofs.offering.Offers.offer_named.Goals as goal
+
+pub returns-in_ok-keep_if-in-Some : goal.returns-in_ok-keep_if-in-Some
+returns-in_ok-keep_if-in-Some c =
+    let s = c.args.self.now.scope.now in
+    let a : ℕ = c.args.word - 1 in
+    let rank : ℕ = c.args.base + c.args.offset in
+    let e : c.args.word ≡ a + 1 = omega (arith, c.if-word-eq0.false) in
+    let f = c.in-Some.ensures.found in
+    let t : Holder = record { seat = c.offer-lowered.new.seat; kept = c.keep_if.new.kept } in
+    subst (λ ps. HasTried (place_in s) ps c.args.holder.now t) (sym (aims_inside s.heap.now s.window.now rank c.args.word a e f.0))
+    (tried_one (place_in s) rank a c.offer-lowered.result c.args.holder.now t
+    (ap (λ (h : Hand). h.offers) c.offer-lowered.ensures.offered ∙ ap (λ p. c.args.holder.now.seat.hand.offers ++ offer p rank c.offer-lowered.result ∷ []) f.1)
+    c.in_ok-keep_if-in-Some.ensures
+    (c.offer-lowered.ensures.table ∙ sym c.requires.seat)
+    (ap (λ (h : Hand). h.shares) c.offer-lowered.ensures.offered))
+
+pub returns-in-None : goal.returns-in-None
+returns-in-None c =
+    let s = c.args.self.now.scope.now in
+    let a : ℕ = c.args.word - 1 in
+    let rank : ℕ = c.args.base + c.args.offset in
+    let e : c.args.word ≡ a + 1 = omega (arith, c.if-word-eq0.false) in
+    subst (λ ps. HasTried (place_in s) ps c.args.holder.now c.args.holder.now) (sym (aims_outside s.heap.now s.window.now rank c.args.word a e c.in-None.ensures.none)) (tried_none (place_in s) c.args.holder.now)
+
+pub returns-then-word-eq0 : goal.returns-then-word-eq0
+returns-then-word-eq0 c =
+    let s = c.args.self.now.scope.now in
+    subst (λ ps. HasTried (place_in s) ps c.args.holder.now c.args.holder.now) (sym (aims_null s.heap.now s.window.now (c.args.base + c.args.offset) c.args.word c.if-word-eq0.true)) (tried_none (place_in s) c.args.holder.now)

@@ -1,0 +1,69 @@
+use Rattle.std.proofs.Common.{arith, ℕ, List, [], ◌≡◌, ◌+◌, ◌-◌, ◌<◌, ◌%◌, ◌^◌, ◌∙◌, ap, sym, subst, length, get_or, flat_map}
+use Rattle.std.specs.List.{range_with_len}
+use Rattle.std.proofs.lemmas.List.{flat_map_more}
+use Rattle.g1_words.specs.Heap.{word, object_at, slots}
+use Rattle.g1_words.proofs.Computed.{In-range}
+use Rattle.g1_words.proofs.Members.{In}
+use Rattle.g1_frontier.specs.Items.{AreRanks}
+use Rattle.g1_frontier.specs.Scope.{place_in, aims_in}
+use Rattle.g1_frontier.specs.Offering.{HasTried}
+use Rattle.g1_frontier.proofs.Names.{object_in_words, range_more}
+use Rattle.g1_frontier.proofs.Offerings.{tried_append}
+use Rattle.g1_frontier.proofs.Scopes.{all_part}
+use Rattle.g1_frontier.proofs.offering.Offers.offer_object.Goals as goal
+
+pub overflow_add-first : goal.overflow_add-first
+overflow_add-first c =
+    let b = object_in_words c.args.self.now.scope.now.heap.now c.requires.places.scope.valid c.args.at c.requires.object in
+    omega (arith, b.0, c.requires.places.scope.valid.word_count, c.requires.places.scope.valid.limits.words_most)
+
+pub offset_bounds-words-at : goal.offset_bounds-words-at
+offset_bounds-words-at c =
+    let b = object_in_words c.args.self.now.scope.now.heap.now c.requires.places.scope.valid c.args.at c.requires.object in
+    omega (arith, b.0, c.requires.places.scope.valid.word_count, c.requires.places.scope.valid.limits.words_most)
+
+pub bounds-words-at : goal.bounds-words-at
+bounds-words-at c =
+    let b = object_in_words c.args.self.now.scope.now.heap.now c.requires.places.scope.valid c.args.at c.requires.object in
+    omega (arith, b.0, ap length c.words-words.ensures)
+
+pub overflow_add-slot-end : goal.overflow_add-slot-end
+overflow_add-slot-end c =
+    let b = object_in_words c.args.self.now.scope.now.heap.now c.requires.places.scope.valid c.args.at c.requires.object in
+    let refs : get_or c.words-words.result.now c.args.at 0 % 2 ^ 32 ≡ word c.args.self.now.scope.now.heap.now c.args.at % 2 ^ 32 = ap (λ l. get_or l c.args.at 0 % 2 ^ 32) c.words-words.ensures in
+    omega (arith, b.1, refs, c.requires.places.scope.valid.word_count, c.requires.places.scope.valid.limits.words_most)
+
+pub bounds-words-slot : goal.bounds-words-slot
+bounds-words-slot c =
+    let b = object_in_words c.args.self.now.scope.now.heap.now c.requires.places.scope.valid c.args.at c.requires.object in
+    let refs : get_or c.words-words.result.now c.args.at 0 % 2 ^ 32 ≡ word c.args.self.now.scope.now.heap.now c.args.at % 2 ^ 32 = ap (λ l. get_or l c.args.at 0 % 2 ^ 32) c.words-words.ensures in
+    omega (arith, b.1, refs, c.loop-slot-test.true, ap length c.words-words.ensures)
+
+pub offer_named-requires-clause-ranks : goal.offer_named-requires-clause-ranks
+offer_named-requires-clause-ranks c =
+    let s = c.args.self.now.scope.now in
+    let p : ℕ = c.loop-slot.slot in
+    let first : ℕ = c.args.at + 1 in
+    let refs : get_or c.words-words.result.now c.args.at 0 % 2 ^ 32 ≡ word s.heap.now c.args.at % 2 ^ 32 = ap (λ l. get_or l c.args.at 0 % 2 ^ 32) c.words-words.ensures in
+    let there : In (slots (object_at s.heap.now c.args.at)) p = In-range first (word s.heap.now c.args.at % 2 ^ 32) p c.loop-slot.auto.slot (omega (arith, refs, c.loop-slot-test.true)) in
+    subst (λ l. AreRanks (aims_in s (c.args.base + (p - first)) (get_or l p 0))) (sym c.words-words.ensures)
+    (all_part (λ q. q.0 < 2 ^ 32) (λ p. aims_in s (c.args.base + (p - first)) (word s.heap.now p)) (slots (object_at s.heap.now c.args.at)) p c.requires.ranks there)
+
+pub loop-slot-preserved : goal.loop-slot-preserved
+loop-slot-preserved c =
+    let s = c.args.self.now.scope.now in
+    let first : ℕ = c.args.at + 1 in
+    let p : ℕ = c.loop-slot.slot in
+    let f : ℕ → List (ℕ × ℕ) = λ p. aims_in s (c.args.base + (p - first)) (word s.heap.now p) in
+    let one : HasTried (place_in s) (f p) c.loop-slot.holder c.offer_named.new.holder = subst (λ l. HasTried (place_in s) (aims_in s (c.args.base + (p - first)) (get_or l p 0)) c.loop-slot.holder c.offer_named.new.holder) c.words-words.ensures c.in_ok-offer_named.ensures in
+    subst (λ ps. HasTried (place_in s) ps c.args.holder.now c.offer_named.new.holder)
+    (flat_map_more f [] (range_with_len first (p - first)) p ∙ ap (flat_map f) (range_more first p c.loop-slot.auto.slot))
+    (tried_append (place_in s) (flat_map f (range_with_len first (p - first))) (f p) c.args.holder.now c.loop-slot.holder c.offer_named.new.holder c.loop-slot.invariant one)
+
+pub returns : goal.returns
+returns c =
+    let s = c.args.self.now.scope.now in
+    let first : ℕ = c.args.at + 1 in
+    let refs : get_or c.words-words.result.now c.args.at 0 % 2 ^ 32 ≡ word s.heap.now c.args.at % 2 ^ 32 = ap (λ l. get_or l c.args.at 0 % 2 ^ 32) c.words-words.ensures in
+    let all : c.loop-slot.slot - first ≡ word s.heap.now c.args.at % 2 ^ 32 = let e = c.loop-slot.auto.slot-end (omega arith) in omega (arith, e, refs, c.loop-slot-test.false) in
+    subst (λ n. HasTried (place_in s) (flat_map (λ p. aims_in s (c.args.base + (p - first)) (word s.heap.now p)) (range_with_len first n)) c.args.holder.now c.loop-slot.holder) all c.loop-slot.invariant

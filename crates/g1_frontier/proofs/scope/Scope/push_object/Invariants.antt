@@ -1,9 +1,0 @@
-use Rattle.std.proofs.Common.{◌≡◌, ◌++◌, ◌-◌, filter, flat_map}
-use Rattle.std.specs.List.{range_with_len}
-use Rattle.g1_words.specs.Heap.{word}
-use Rattle.g1_words.specs.References.{named}
-use Rattle.g1_frontier.specs.Scope.{inside}
-use Rattle.g1_frontier.proofs.scope.Scope.push_object.Given as goal
-
-abbrev pub invariant-loop-slot : goal.invariant-loop-slot
-invariant-loop-slot l = l.out.items ≡ l.initial.out.items ++ filter (inside l.self) (flat_map (λ p. named (word l.self.heap.now p)) (range_with_len l.first (l.slot - l.first)))

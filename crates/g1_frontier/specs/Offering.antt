@@ -1,0 +1,37 @@
+-- What a worker's offers leave in its seat, and what it keeps.
+use Rattle.std.specs.Prelude.{◌≡◌, ℕ, ◌≤◌, ◌*◌, Bool, List, ◌++◌, map, filter, length}
+use Rattle.g1_claim.specs.declared.rule.Offer.{Offer}
+use Rattle.g1_claim.specs.Claims.{TableView, offer}
+use Rattle.g1_frontier.specs.declared.offering.Holder.{Holder}
+use Rattle.g1_frontier.specs.declared.scope.Scope.{Scope}
+use Rattle.g1_frontier.specs.Scope.{IsScope}
+
+-- a rank and an address, and whether the offer answered true
+abbrev pub Try : Type 0
+Try = (ℕ × ℕ) × Bool
+
+-- the rank and the address
+abbrev pub pair_of : Try → ℕ × ℕ
+pair_of t = t.0
+
+-- whether the offer answered true
+abbrev pub lowered : Try → Bool
+lowered t = t.1
+
+-- the offer, at the address's place
+abbrev pub offer_of : (ℕ → ℕ) → Try → Offer
+offer_of place t = offer (place t.0.1) t.0.0 t.1
+
+-- the pairs were offered, each once and in order, and those whose offer answered true were put behind what was kept
+pub record HasTried (place : ℕ → ℕ) (ps : List (ℕ × ℕ)) (before after : Holder) : Type 0 where
+  pub made : List Try
+  pub each : map pair_of made ≡ ps
+  pub offers : after.seat.hand.offers ≡ before.seat.hand.offers ++ map (offer_of place) made
+  pub kept : after.kept.items ≡ before.kept.items ++ map pair_of (filter lowered made)
+  pub table : after.seat.table ≡ before.seat.table
+  pub shares : after.seat.hand.shares ≡ before.seat.hand.shares
+
+-- the table has a place for each word of the window
+pub record HasPlaces (s : Scope) (t : TableView) : Type 0 where
+  pub scope : IsScope s
+  pub places : length s.window.now * s.heap.now.geometry.w ≤ t.places

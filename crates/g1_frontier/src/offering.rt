@@ -1,0 +1,200 @@
+ghost use Rattle.std.specs.Prelude.{◌≡◌, ◌<◌, ◌≤◌, ◌+◌, ◌*◌, ◌^◌, ◌++◌, ◌∷◌, [], ℕ, List, OnOk, IfErr, length, flat_map, slice_index, Contains, cond};
+ghost use Rattle.std.specs.List.{All};
+ghost use Rattle.g1_words.specs.declared.fault.Fault.TheVariants.{Memory};
+ghost use Rattle.g1_words.specs.Heap.{object_at, objects, word, slots};
+ghost use Rattle.g1_rem.specs.Starts.{card_count};
+ghost use Rattle.g1_rem.specs.Slots.{slots_on};
+ghost use Rattle.g1_claim.specs.Claims.{IsSeatOf};
+ghost use Rattle.g1_frontier.specs.Items.{IsItem, AreRanks, piece};
+ghost use Rattle.g1_frontier.specs.Scope.{IsScope, place_in, aims_in, pairs_in, all_pairs_in};
+ghost use Rattle.g1_frontier.specs.Offering.{HasTried};
+
+use crate::item::Item;
+use crate::scope::Scope;
+use g1_claim::{ClaimSeat, Claims};
+use g1_rem::slots_on;
+use g1_words::{Fault, REFS_RANGE};
+use g1_work::Task;
+use std::alloc::{AllocError, Global};
+
+/// A worker's seat, and the ranks and addresses whose offers by it answered true.
+#[derive(Drop)]
+pub struct Holder {
+    pub seat: ClaimSeat,
+    pub kept: Vec<(u64, u64)>,
+}
+
+/// What a worker offers with.
+#[derive(Drop)]
+pub struct Offers<'a> {
+    pub scope: &'a Scope<'a>,
+    pub claims: &'a Claims,
+}
+
+// Keeps a rank and an address, if so told.
+pub(crate) fn keep_if(
+    kept: &mut Vec<(u64, u64)>,
+    lowered: bool,
+    rank: u64,
+    address: u64,
+) -> Result<(), AllocError>
+    ensures { OnOk result (kept.new.items ≡ kept.old.items ++ cond lowered ((rank, address) ∷ []) []) }
+{
+    if lowered {
+        kept.push((rank, address))?;
+    }
+    Ok(())
+}
+
+impl<'a> Offers<'a> {
+    ghost use Rattle.std.specs.Prelude.{◌≡◌, ◌<◌, ◌≤◌, ◌+◌, ◌-◌, ◌*◌, ◌^◌, ◌++◌, ◌∷◌, [], ℕ, List, OnOk, IfErr, length, flat_map, slice_index, Contains};
+    ghost use Rattle.std.specs.List.{All};
+    ghost use Rattle.g1_words.specs.Heap.{object_at, objects, word, slots};
+    ghost use Rattle.g1_rem.specs.Starts.{card_count};
+    ghost use Rattle.g1_rem.specs.Slots.{slots_on};
+    ghost use Rattle.g1_claim.specs.Claims.{IsSeatOf};
+    ghost use Rattle.g1_frontier.specs.Items.{IsItem, AreRanks};
+    ghost use Rattle.g1_frontier.specs.Scope.{IsScope, place_in, aims_in, pairs_in, all_pairs_in};
+    ghost use Rattle.g1_frontier.specs.Offering.{HasTried, HasPlaces};
+
+    // Offers what a reference word names in the window, by the rank `base` plus `offset`. The sum
+    // is made only for an offer: other slots have no rank.
+    fn offer_named(
+        &self,
+        holder: &mut Holder,
+        word: u64,
+        base: u64,
+        offset: u64,
+    ) -> Result<(), AllocError>
+        requires places { HasPlaces self.now.scope.now self.now.claims.now }
+        requires seat { IsSeatOf self.now.claims.now holder.old.seat }
+        requires ranks { AreRanks (aims_in self.now.scope.now (base + offset) word) }
+        ensures { OnOk result (HasTried (place_in self.now.scope.now) (aims_in self.now.scope.now (base + offset) word) holder.old holder.new) }
+    {
+        if word == 0 {
+            return Ok(());
+        }
+        let address = word - 1;
+        match self.scope.place(address) {
+            None => Ok(()),
+            Some(place) => {
+                let rank = base + offset;
+                let lowered = self.claims.offer(&mut holder.seat, place, rank);
+                keep_if(&mut holder.kept, lowered, rank, address)?;
+                Ok(())
+            }
+        }
+    }
+
+    // Offers what the slots of a card name in the window.
+    fn offer_card(
+        &self,
+        alloc: Global,
+        holder: &mut Holder,
+        card: u32,
+        base: u64,
+    ) -> Result<(), AllocError>
+        requires places { HasPlaces self.now.scope.now self.now.claims.now }
+        requires seat { IsSeatOf self.now.claims.now holder.old.seat }
+        requires card { card < card_count self.now.scope.now.heap.now }
+        requires ranks { AreRanks (flat_map (λ p. aims_in self.now.scope.now (base + p) (word self.now.scope.now.heap.now p)) (slots_on self.now.scope.now.heap.now card)) }
+        ensures { OnOk result (HasTried (place_in self.now.scope.now) (flat_map (λ p. aims_in self.now.scope.now (base + p) (word self.now.scope.now.heap.now p)) (slots_on self.now.scope.now.heap.now card)) holder.old holder.new) }
+    {
+        let words = self.scope.heap.words();
+        let slots = slots_on(alloc, self.scope.heap, self.scope.starts, card);
+        for slot in slots.as_slice() {
+            self.offer_named(holder, words[*slot as usize], base, *slot)?;
+        }
+        Ok(())
+    }
+
+    // Offers what the slots of an object name in the window.
+    fn offer_object(&self, holder: &mut Holder, at: u64, base: u64) -> Result<(), AllocError>
+        requires places { HasPlaces self.now.scope.now self.now.claims.now }
+        requires seat { IsSeatOf self.now.claims.now holder.old.seat }
+        requires object { Contains (objects self.now.scope.now.heap.now) (object_at self.now.scope.now.heap.now at) }
+        requires ranks { AreRanks (flat_map (λ p. aims_in self.now.scope.now (base + (p - (at + 1))) (word self.now.scope.now.heap.now p)) (slots (object_at self.now.scope.now.heap.now at))) }
+        ensures { OnOk result (HasTried (place_in self.now.scope.now) (flat_map (λ p. aims_in self.now.scope.now (base + (p - (at + 1))) (word self.now.scope.now.heap.now p)) (slots (object_at self.now.scope.now.heap.now at))) holder.old holder.new) }
+    {
+        let words = self.scope.heap.words();
+        let first = at + 1;
+        let refs = words[at as usize] % REFS_RANGE;
+        for slot in first..first + refs {
+            self.offer_named(holder, words[slot as usize], base, slot - first)?;
+        }
+        Ok(())
+    }
+
+    // Offers what an item names in the window, in order.
+    fn offer_item(&self, alloc: Global, holder: &mut Holder, item: Item) -> Result<(), AllocError>
+        requires places { HasPlaces self.now.scope.now self.now.claims.now }
+        requires seat { IsSeatOf self.now.claims.now holder.old.seat }
+        requires item { IsItem self.now.scope.now.heap.now item }
+        requires ranks { AreRanks (pairs_in self.now.scope.now item) }
+        ensures { OnOk result (HasTried (place_in self.now.scope.now) (pairs_in self.now.scope.now item) holder.old holder.new) }
+    {
+        match item {
+            Item::Root { index } => {
+                let word = self.scope.heap.roots()[index as usize];
+                self.offer_named(holder, word, index, 0)
+            }
+            Item::Card { card, base } => self.offer_card(alloc, holder, card, base),
+            Item::Object { at, base } => self.offer_object(holder, at, base),
+        }
+    }
+
+    // Offers what the items name in the window, in order.
+    fn offer_items(
+        &self,
+        alloc: Global,
+        holder: &mut Holder,
+        items: &[Item],
+    ) -> Result<(), AllocError>
+        requires places { HasPlaces self.now.scope.now self.now.claims.now }
+        requires seat { IsSeatOf self.now.claims.now holder.old.seat }
+        requires items { All (IsItem self.now.scope.now.heap.now) items.now }
+        requires ranks { AreRanks (all_pairs_in self.now.scope.now items.now) }
+        ensures { OnOk result (HasTried (place_in self.now.scope.now) (all_pairs_in self.now.scope.now items.now) holder.old holder.new) }
+    {
+        for item in items {
+            self.offer_item(alloc, holder, *item)?;
+        }
+        Ok(())
+    }
+}
+
+/// The items of a round, by chunks of so many.
+#[derive(Drop)]
+pub struct Round<'a> {
+    pub offers: Offers<'a>,
+    pub items: &'a [Item],
+    pub chunk: usize,
+    pub alloc: Global,
+}
+
+impl<'a> Task for Round<'a> {
+    type State = Holder;
+
+    type Out = ();
+
+    ghost use Rattle.std.specs.Prelude.{◌≡◌, ◌<◌, ◌≤◌, ◌*◌, ◌^◌, length};
+    ghost use Rattle.std.specs.List.{All};
+    ghost use Rattle.g1_words.specs.declared.fault.Fault.TheVariants.{Memory};
+    ghost use Rattle.g1_claim.specs.Claims.{IsSeatOf};
+    ghost use Rattle.g1_frontier.specs.Items.{IsItem, AreRanks, piece};
+    ghost use Rattle.g1_frontier.specs.Scope.{place_in, all_pairs_in};
+    ghost use Rattle.g1_frontier.specs.Offering.{HasTried, HasPlaces};
+
+    ghost ready = { λ s h k. HasPlaces s.offers.scope.now s.offers.claims.now × IsSeatOf s.offers.claims.now h.seat × All (IsItem s.offers.scope.now.heap.now) s.items.now × AreRanks (all_pairs_in s.offers.scope.now s.items.now) × (0 < s.chunk) × (k * s.chunk < length s.items.now) × (k < 2 ^ 32) × (s.chunk ≤ 65536) };
+
+    ghost runs = { λ s h k t _. HasTried (place_in s.offers.scope.now) (all_pairs_in s.offers.scope.now (piece s.chunk k s.items.now)) h t };
+
+    ghost may_fail = { λ _ _ e. e ≡ Memory };
+
+    fn run(&self, state: &mut Holder, chunk: u64) -> Result<(), Fault> {
+        let rest = &self.items[chunk as usize * self.chunk..];
+        let items = &rest[..rest.len().min(self.chunk)];
+        self.offers.offer_items(self.alloc, state, items)?;
+        Ok(())
+    }
+}
