@@ -8,7 +8,7 @@ use Rattle.std.proofs.lemmas.List.{ext_get_or, get_or-take, get_or-replicate, le
 use Rattle.std.proofs.lemmas.List.FromFn.{get_or-map-range_with_len, length-map-range_with_len}
 use Rattle.g1_image.proofs.CopyWords.{copied_word}
 use Rattle.g1_image.proofs.Existence.{made_is_moved}
-use Rattle.g1_image.proofs.ObjectsOf.{kept_outside, region_cases, used_not_to_space}
+use Rattle.g1_image.proofs.ObjectsOf.{kept_outside, region_cases}
 use Rattle.g1_image.proofs.RulesAfter.{named_suc, zero_after}
 use Rattle.g1_image.proofs.SameGraphs.{named_survives}
 use Rattle.g1_image.proofs.ValidAfter.{other_shape, outside_word, set_shape, slot_names}
@@ -33,9 +33,13 @@ use Rattle.g1_words.specs.declared.object.Object.{Object}
 use Rattle.g1_words.specs.declared.region.Kind.TheVariants.{Free, HumongousFirst, Ordinary}
 use Rattle.g1_copy.specs.Gathered.{placed_words, to_space_words}
 use Rattle.g1_copy.specs.Patches.{all_patches, patch}
-use Rattle.g1_copy.specs.Slices.{filled_from, patched, slice_after, slice_of, words_after}
+use Rattle.g1_work.proofs.Slices.{get_or-slice_of, length-slice_of, next_slice, slices_from}
+use Rattle.g1_work.specs.Regions.{slice_of}
+use Rattle.g1_copy.specs.declared.fates.Fate.TheVariants.{Freed}
+use Rattle.g1_copy.specs.Fates.{filled_or_kept}
+use Rattle.g1_copy.specs.Slices.{by_fate, patched, slice_after, words_after}
 use Rattle.g1_copy.proofs.InPlaceCovers.{covers}
-use Rattle.g1_copy.proofs.InPlaceSlices.{Distinct-take, flat_slice, get_or-slice_of, is_position, length-patched, length-slice_of, next_slice, no_position, patched_is, slices_from}
+use Rattle.g1_copy.proofs.InPlaceSlices.{Distinct-take, flat_slice, is_position, length-patched, no_position, patched_is}
 
 bool_cases : (b : Bool) → (b ≡ true) ⊎ (b ≡ false)
 bool_cases true = inl refl
@@ -113,15 +117,12 @@ module _ (i : Image) (set l : List ℕ) (valid : IsBuilt i.heap) (ordinary : All
   -- a region of the set
   set_slice : (r : ℕ) → r < i.heap.geometry.n → has set r ≡ true → slice_of i.heap.geometry.w r j.heap.words ≡ after r (slice_of i.heap.geometry.w r i.heap.words)
   set_slice r lt t =
-      let one : kind i.heap r ≡ Ordinary = ordinary r (Contains-from_in set r (in_from_has set r t)) in
-      let off : has (to_space i.heap l) r ≡ false = used_not_to_space i.heap set l s ordinary survivors room r (λ z. let clash : Ordinary ≡ Free = sym one ∙ z in cc) in
-      let p : position (λ d. eqb d r) (to_space i.heap l) ≡ None = no_position (to_space i.heap l) r (not_in (to_space i.heap l) r off) in
       let size : length (slice_of i.heap.geometry.w r j.heap.words) ≡ i.heap.geometry.w = length-slice_of i.heap.geometry.w r i.heap.geometry.n j.heap.words moved.size lt in
       let zt : top j.heap r ≡ 0 = (set_shape i set l j valid ordinary survivors room moved r lt t).1 in
       let zeros : slice_of i.heap.geometry.w r j.heap.words ≡ replicate i.heap.geometry.w 0 =
       ext_get_or 0 (slice_of i.heap.geometry.w r j.heap.words) (replicate i.heap.geometry.w 0) (size ∙ sym (length-replicate i.heap.geometry.w 0))
       (λ m lt'. let below : m < i.heap.geometry.w = omega arith in get_or-slice_of i.heap.geometry.w r m j.heap.words below ∙ zero_after i set l j valid ordinary survivors room moved r m lt (omega arith) below ∙ sym (get_or-replicate i.heap.geometry.w m 0 0 below)) in
-      zeros ∙ (λ q. filled_from i.heap.geometry.w gathered (sym p q) (cond (sym t q) (replicate i.heap.geometry.w 0) (patched patches (r * i.heap.geometry.w) (slice_of i.heap.geometry.w r i.heap.words))))
+      zeros ∙ (λ q. by_fate i.heap.geometry.w gathered patches r (cond (sym t q) Freed (filled_or_kept (position (λ d. eqb d r) (to_space i.heap l)))) (slice_of i.heap.geometry.w r i.heap.words))
 
   -- a word of a region that was free is no word of an object outside the set
   none_outside : (r m : ℕ) → kind i.heap r ≡ Free → m < i.heap.geometry.w → (b : Bool)
@@ -176,7 +177,11 @@ module _ (i : Image) (set l : List ℕ) (valid : IsBuilt i.heap) (ordinary : All
         ext_get_or 0 (slice_of i.heap.geometry.w goal j.heap.words) (placed_words i.heap l goal) (size ∙ sym (wide goal))
         (λ m lt'. let lt : m < i.heap.geometry.w = omega arith in get_or-slice_of i.heap.geometry.w goal m j.heap.words lt ∙ goal_word m lt) in
         let from : slice_of i.heap.geometry.w t gathered ≡ placed_words i.heap l goal = flat_slice (placed_words i.heap l) i.heap.geometry.w wide (to_space i.heap l) t there ∙ ap (placed_words i.heap l) at in
-        same ∙ sym from ∙ (λ q. filled_from i.heap.geometry.w gathered (sym p q) (cond (has set goal) (replicate i.heap.geometry.w 0) (patched patches (goal * i.heap.geometry.w) (slice_of i.heap.geometry.w goal i.heap.words))))
+        let off : has set goal ≡ false = elim (bool_cases (has set goal)) [
+          | inr f ↦ f
+          | inl t ↦ let clash : Ordinary ≡ Free = sym (ordinary goal (Contains-from_in set goal (in_from_has set goal t))) ∙ goal_free.0 in cc
+        ] in
+        same ∙ sym from ∙ (λ q. by_fate i.heap.geometry.w gathered patches goal (cond (sym off q) Freed (filled_or_kept (sym p q))) (slice_of i.heap.geometry.w goal i.heap.words))
 
   -- a patch is the word after
   patch_word : (p v : ℕ) → IsPatch i.heap set l p v → word j.heap p ≡ v
@@ -290,7 +295,7 @@ module _ (i : Image) (set l : List ℕ) (valid : IsBuilt i.heap) (ordinary : All
         | inl e ↦ inl (get_or-slice_of i.heap.geometry.w r m i.heap.words below ∙ e)
         | inr k ↦ inr (is_patch i.heap set l (base + m) (word j.heap (base + m)) k)
       ]))) in
-      same ∙ (λ q. filled_from i.heap.geometry.w gathered (sym p q) (cond (sym a q) (replicate i.heap.geometry.w 0) (patched patches base xs)))
+      same ∙ (λ q. by_fate i.heap.geometry.w gathered patches r (cond (sym a q) Freed (filled_or_kept (sym p q))) xs)
 
   -- each slice after is what the commit writes
   pub each_slice : (r : ℕ) → r < i.heap.geometry.n → slice_of i.heap.geometry.w r j.heap.words ≡ after r (slice_of i.heap.geometry.w r i.heap.words)

@@ -1,41 +1,17 @@
--- Lists by slices of one width: what stands in a slice, and which patches reach it.
-use Rattle.std.proofs.Common.{◌≡◌, ℕ, zero, suc, ◌+◌, ◌-◌, ◌*◌, ◌<◌, ◌≤◌, ◌⊎◌, inl, inr, Bool, true, false, cond, not, List, [], ◌∷◌, ◌++◌, Some, None, length, get_or, take, drop, set, position, flat_map, refl, sym, ◌∙◌, ap, ap₂, subst, arith, leb, ltb, leb-true, le-leb, lt-ltb, le-ltb, eqb, eq-eqb, ne_eqb, length-drop, length-append}
-use Rattle.std.specs.List.{range_with_len, position_or_len}
+-- What patches leave in a slice, where in a list a number stands, and lists that are put together of slices.
+use Rattle.std.proofs.Common.{◌≡◌, ℕ, zero, suc, ◌+◌, ◌-◌, ◌*◌, ◌<◌, ◌≤◌, ◌⊎◌, inl, inr, Bool, true, false, cond, not, List, [], ◌∷◌, ◌++◌, Some, None, length, get_or, take, drop, set, position, flat_map, refl, sym, ◌∙◌, ap, subst, arith, leb, ltb, leb-true, le-leb, lt-ltb, le-ltb, eqb, eq-eqb, ne_eqb, length-drop, length-append}
+use Rattle.std.specs.List.{position_or_len}
 use Rattle.std.proofs.lemmas.Bool.{cases_lt, false≢true}
-use Rattle.std.proofs.Math.Nat.{mul-le-mul_right, zero-mul, suc-mul, add-mul}
+use Rattle.std.proofs.Math.Nat.{zero-mul, suc-mul}
 use Rattle.std.proofs.Math.Seq.{drop-append_seam, take-append_seam}
-use Rattle.std.proofs.lemmas.List.{get_or-take, get_or-drop, get_or-set_same, get_or-set_other, length-set, length-take-le, take-append-drop, nil_from_length, drop-drop}
+use Rattle.std.proofs.lemmas.List.{drop_more, set_past, get_or-take, get_or-drop, get_or-set_same, get_or-set_other, length-set, length-take-le, take-append-drop, drop-drop}
 use Rattle.g1_words.proofs.Firsts.{Distinct}
 use Rattle.g1_words.proofs.Indices.{get_or-In, taken_in}
 use Rattle.g1_words.proofs.Members.{In}
-use Rattle.g1_copy.specs.Slices.{patched, slice_of}
-
--- a list by its slices
-
-pub slice_next : (w k : ℕ) (xs : List ℕ) → slice_of w k (drop w xs) ≡ slice_of w (k + 1) xs
-slice_next w k xs =
-    let e : w + k * w ≡ (k + 1) * w = omega (arith, add-mul k 1 w) in
-    ap (take w) (drop-drop (k * w) w xs ∙ ap (λ (i : ℕ). drop i xs) e)
-
-pub slices_from : (f : ℕ → List ℕ) (w n a : ℕ) (xs : List ℕ) → length xs ≡ n * w → ((k : ℕ) → k < n → slice_of w k xs ≡ f (a + k)) → xs ≡ flat_map f (range_with_len a n)
-slices_from f w zero a xs l h = nil_from_length xs (l ∙ zero-mul w)
-slices_from f w (suc n) a xs l h =
-    let size : suc n * w ≡ n * w + w = suc-mul n w in
-    let none : a + 0 ≡ a = omega arith in
-    let first : take w xs ≡ f a = ap (λ (i : ℕ). take w (drop i xs)) (sym (zero-mul w)) ∙ (h 0 (omega arith) ∙ ap f none) in
-    let rest : drop w xs ≡ flat_map f (range_with_len (a + 1) n) =
-    slices_from f w n (a + 1) (drop w xs) (omega (arith, length-drop w xs, l, size))
-    (λ k lt. let next : a + (k + 1) ≡ a + 1 + k = omega arith in slice_next w k xs ∙ (h (k + 1) (omega arith) ∙ ap f next)) in
-    sym (take-append-drop w xs) ∙ ap₂ ◌++◌ first rest
-
-pub next_slice : (w r n : ℕ) → r < n → r * w + w ≤ n * w
-next_slice w r n lt = let k : suc r * w ≤ n * w = mul-le-mul_right w (omega arith) in omega arith
-
-pub length-slice_of : (w r n : ℕ) (xs : List ℕ) → length xs ≡ n * w → r < n → length (slice_of w r xs) ≡ w
-length-slice_of w r n xs l lt = let k = next_slice w r n lt in length-take-le w (drop (r * w) xs) (omega (arith, length-drop (r * w) xs))
-
-pub get_or-slice_of : (w r m : ℕ) (xs : List ℕ) → m < w → get_or (slice_of w r xs) m 0 ≡ get_or xs (r * w + m) 0
-get_or-slice_of w r m xs lt = get_or-take w (drop (r * w) xs) m 0 lt ∙ get_or-drop (r * w) xs m 0
+use Rattle.g1_work.proofs.Slices.{slice_next}
+use Rattle.g1_work.specs.Regions.{slice_of}
+use Rattle.g1_copy.specs.Patches.{AreBefore}
+use Rattle.g1_copy.specs.Slices.{patched}
 
 -- positions
 
@@ -107,6 +83,70 @@ patched_is (y ∷ ps) base k x xs lt f d =
     let l = length_at y.0 y.1 base xs (leb base y.0) in
     patched_is ps base k x (cond (leb base y.0) (set xs (y.0 - base) y.1) xs) (omega arith) (λ v m. f v (inr m))
     (patched_at y.0 y.1 base k x xs ps (leb base y.0) refl lt (λ e. f y.1 (inl (λ q. (e q, y.1)))) d)
+
+-- patches that are written one after another
+pub patched-append : (ps qs : List (ℕ × ℕ)) (base : ℕ) (xs : List ℕ) → patched (ps ++ qs) base xs ≡ patched qs base (patched ps base xs)
+patched-append [] qs base xs = refl
+patched-append (x ∷ ps) qs base xs = patched-append ps qs base (cond (leb base x.0) (set xs (x.0 - base) x.1) xs)
+
+-- one that lies before the slice, or past it, writes nothing
+off_slice : (p v base : ℕ) (xs : List ℕ) (b : Bool) → leb base p ≡ b → (p < base) ⊎ (base + length xs ≤ p) → cond b (set xs (p - base) v) xs ≡ xs
+off_slice p v base xs false e d = refl
+off_slice p v base xs true e (inl lt) = let le : base ≤ p = leb-true base p e in absurd (omega arith)
+off_slice p v base xs true e (inr ge) = set_past xs (p - base) v (omega arith)
+
+pub patched_off : (ps : List (ℕ × ℕ)) (base : ℕ) (xs : List ℕ) → ((k : ℕ) → k < length ps → ((get_or ps k (0, 0)).0 < base) ⊎ (base + length xs ≤ (get_or ps k (0, 0)).0)) → patched ps base xs ≡ xs
+patched_off [] base xs f = refl
+patched_off (x ∷ ps) base xs f =
+    let one : cond (leb base x.0) (set xs (x.0 - base) x.1) xs ≡ xs = off_slice x.0 x.1 base xs (leb base x.0) refl (f 0 (omega arith)) in
+    ap (patched ps base) one ∙ patched_off ps base xs (λ k lt. f (suc k) (omega (arith, lt)))
+
+-- of all patches those between two indices reach the slice
+module _ (ps : List (ℕ × ℕ)) (base : ℕ) (xs : List ℕ) (a b : ℕ) (begins : AreBefore ps base a) (ends : AreBefore ps (base + length xs) b) where
+  pub in_turn : a ≤ b
+  in_turn = elim (cases_lt b a) [
+    | inr le ↦ le
+    | inl lt ↦ let low = begins.before b lt in let high = ends.behind b (omega arith) (let w = begins.within in omega arith) in absurd (omega arith)
+  ]
+
+  front_off : (k : ℕ) → k < length (take a ps) → ((get_or (take a ps) k (0, 0)).0 < base) ⊎ (base + length xs ≤ (get_or (take a ps) k (0, 0)).0)
+  front_off k lt =
+      let long : length (take a ps) ≡ a = length-take-le a ps begins.within in
+      let less : k < a = omega (arith, lt, long) in
+      let same : get_or (take a ps) k (0, 0) ≡ get_or ps k (0, 0) = get_or-take a ps k (0, 0) less in
+      inl (subst (λ (x : ℕ × ℕ). x.0 < base) (sym same) (begins.before k less))
+
+  back_off : (k : ℕ) → k < length (drop b ps) → ((get_or (drop b ps) k (0, 0)).0 < base) ⊎ (base + length xs ≤ (get_or (drop b ps) k (0, 0)).0)
+  back_off k lt =
+      let long : length (drop b ps) ≡ length ps - b = length-drop b ps in
+      let same : get_or (drop b ps) k (0, 0) ≡ get_or ps (b + k) (0, 0) = get_or-drop b ps k (0, 0) in
+      inr (subst (λ (x : ℕ × ℕ). base + length xs ≤ x.0) (sym same) (ends.behind (b + k) (omega arith) (omega (arith, lt, long))))
+
+  parts : ps ≡ take a ps ++ (take (b - a) (drop a ps) ++ drop b ps)
+  parts =
+      let le = in_turn in
+      let whole : a + (b - a) ≡ b = omega arith in
+      let rest : drop (b - a) (drop a ps) ≡ drop b ps = drop-drop (b - a) a ps ∙ ap (λ (i : ℕ). drop i ps) whole in
+      sym (take-append-drop a ps) ∙ ap (λ ys. take a ps ++ ys) (sym (take-append-drop (b - a) (drop a ps)) ∙ ap (λ ys. take (b - a) (drop a ps) ++ ys) rest)
+
+  pub patched_part : patched ps base xs ≡ patched (take (b - a) (drop a ps)) base xs
+  patched_part =
+      let mid : List (ℕ × ℕ) = take (b - a) (drop a ps) in
+      let size : length (patched mid base xs) ≡ length xs = length-patched mid base xs in
+      ap (λ qs. patched qs base xs) parts
+      ∙ patched-append (take a ps) (mid ++ drop b ps) base xs
+      ∙ ap (patched (mid ++ drop b ps) base) (patched_off (take a ps) base xs front_off)
+      ∙ patched-append mid (drop b ps) base xs
+      ∙ patched_off (drop b ps) base (patched mid base xs) (λ k lt. subst (λ n. ((get_or (drop b ps) k (0, 0)).0 < base) ⊎ (base + n ≤ (get_or (drop b ps) k (0, 0)).0)) (sym size) (back_off k lt))
+
+-- one patch is written in a slice, and the others are left
+pub patched_one : (ps : List (ℕ × ℕ)) (k base : ℕ) (xs : List ℕ) → k < length ps → base ≤ (get_or ps k (0, 0)).0
+    → patched (drop k ps) base xs ≡ patched (drop (k + 1) ps) base (set xs ((get_or ps k (0, 0)).0 - base) (get_or ps k (0, 0)).1)
+patched_one ps k base xs lt le =
+    let p : ℕ = (get_or ps k (0, 0)).0 in
+    let v : ℕ = (get_or ps k (0, 0)).1 in
+    let low : leb base p ≡ true = le-leb base p le in
+    ap (λ qs. patched qs base xs) (drop_more ps k (0, 0) lt) ∙ (λ q. patched (drop (k + 1) ps) base (cond (low q) (set xs (p - base) v) xs))
 
 -- slice t of lists of one width, one after another, is the t-th
 pub flat_slice : (f : ℕ → List ℕ) (w : ℕ) → ((r : ℕ) → length (f r) ≡ w) → (xs : List ℕ) (t : ℕ) → t < length xs → slice_of w t (flat_map f xs) ≡ f (get_or xs t 0)

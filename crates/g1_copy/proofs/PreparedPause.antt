@@ -1,37 +1,34 @@
 -- What is made ready for a pause is what its commit needs.
-use Rattle.std.proofs.Common.{◌≡◌, ℕ, ◌*◌, ◌<◌, false, not, ◌&&◌, List, [], All, None, length, map, get_or, sym, ◌∙◌, ap, subst, arith}
+use Rattle.std.proofs.Common.{◌≡◌, ℕ, ◌*◌, ◌<◌, false, not, ◌&&◌, List, [], All, length, map, get_or, sym, ◌∙◌, ap, subst, arith}
 use Rattle.std.specs.List.{list_any, range_with_len}
 use Rattle.std.specs.List.Sorted.{IsStrictlyIncreasing}
 use Rattle.std.proofs.lemmas.List.{length-map}
 use Rattle.std.proofs.lemmas.List.FromFn.{length-map-range_with_len}
 use Rattle.std.specs.Prelude.{slice_index_or}
 use Rattle.g1_image.proofs.Covers.{cards_rise}
-use Rattle.g1_image.proofs.Existence.{made_is_moved}
 use Rattle.g1_image.specs.Cards.{Covered, refined}
 use Rattle.g1_image.specs.Copy.{renamed}
 use Rattle.g1_image.specs.Image.{Image, IsImage}
-use Rattle.g1_image.specs.Made.{heap_after, image_after}
-use Rattle.g1_image.specs.Moved.{IsMoved, new_region, new_set}
+use Rattle.g1_image.specs.Made.{heap_after}
+use Rattle.g1_image.specs.Moved.{new_region, new_set}
 use Rattle.g1_layout.specs.Plan.{Plan}
 use Rattle.g1_rem.specs.Starts.{card_count}
 use Rattle.g1_words.proofs.Computed.{range_below}
 use Rattle.g1_words.proofs.Indices.{get_or-In}
 use Rattle.g1_words.proofs.Members.{In, and_true, filter_member}
-use Rattle.g1_words.proofs.Shapes.{built}
 use Rattle.g1_words.specs.Heap.{Heap, regions}
 use Rattle.g1_words.specs.Layout.{HasRoom, forward, to_space}
 use Rattle.g1_words.specs.Lists.{has}
 use Rattle.g1_words.specs.Survivors.{AllOrdinary, in_set}
-use Rattle.g1_words.specs.Valid.{IsValid}
 use Rattle.g1_copy.specs.Cards.{cards_into}
 use Rattle.g1_copy.specs.Gathered.{to_space_words}
 use Rattle.g1_copy.specs.Laws.{RefinedFindPatches}
-use Rattle.g1_copy.specs.Patches.{all_patches, patches_on}
+use Rattle.g1_copy.specs.Patches.{AreFirsts, all_patches, patches_on}
 use Rattle.g1_copy.specs.Plans.{IsPauseOf}
-use Rattle.g1_copy.specs.Prepared.{IsMadeFor, committed}
-use Rattle.g1_copy.specs.Slices.{words_after}
-use Rattle.g1_copy.specs.declared.preparing.Prepared.{Prepared}
-use Rattle.g1_copy.proofs.InPlace.{not_true, words_in_place}
+use Rattle.g1_copy.specs.Fates.{AreFates}
+use Rattle.g1_copy.specs.Prepared.{IsMadeFor, Prepared}
+use Rattle.g1_copy.proofs.InPlace.{not_true}
+use Rattle.g1_copy.proofs.SetsPaused.{outer_rise}
 
 -- the cards that lead into a set rise, are the heap's, and lie outside it
 module _ (h : Heap) (sets : List (List ℕ)) (set cards : List ℕ) (is : cards ≡ cards_into h sets set) where
@@ -67,26 +64,28 @@ module _ (i : Image) (set : List ℕ) (p : Plan) (pause : IsPauseOf i.heap set p
       let same : cards ≡ cards_into i.heap (map (refined i) (regions i.heap)) set = ce ∙ (λ q. cards_into (he q) (se q) set) in
       pe ∙ (λ q. patches_on (he q) p.survivors (same q)) ∙ law i set p.survivors image covered (subst IsStrictlyIncreasing pause.same pause.made.placeable.rising) ordinary pause.survivors
 
-  -- and the words are those of the heap after
-  pub words_are : (h : Heap) (gathered ws : List ℕ) (ps : List (ℕ × ℕ)) → IsValid i.heap → h ≡ i.heap → gathered ≡ to_space_words h p.survivors → ps ≡ all_patches i.heap set p.survivors
-      → ws ≡ words_after h.geometry.w set (to_space h p.survivors) gathered ps h.words → ws ≡ (heap_after i.heap set p.survivors).words
-  words_are h gathered ws ps valid he ge pe we =
-      let same : gathered ≡ to_space_words i.heap p.survivors = ge ∙ (λ q. to_space_words (he q) p.survivors) in
-      we ∙ (λ q. words_after (he q).geometry.w set (to_space (he q) p.survivors) (same q) (pe q) (he q).words) ∙ words_in_place i set p.survivors (built i.heap valid) ordinary pause.survivors pause.made.room
+  -- they are those of the plan's own set
+  pub own_patches : (ps : List (ℕ × ℕ)) → ps ≡ all_patches i.heap set p.survivors → ps ≡ all_patches i.heap p.set p.survivors
+  own_patches ps e = e ∙ ap (λ s. all_patches i.heap s p.survivors) (sym pause.same)
 
-  pub made_for : (h : Heap) (x : Prepared) → IsValid i.heap → h ≡ i.heap → x.words.items ≡ (heap_after i.heap set p.survivors).words → x.regions.items ≡ map (new_region h set p.survivors) (regions h)
-      → x.roots.items ≡ map (renamed (forward h p.survivors)) h.roots → map (λ s. s.items) x.sets.items ≡ map (new_set i set p.survivors (heap_after i.heap set p.survivors)) (regions i.heap) → IsMadeFor x i set p.survivors
-  made_for h x valid he words table roots sets =
-      let table' : x.regions.items ≡ map (new_region i.heap set p.survivors) (regions i.heap) = table ∙ (λ q. map (new_region (he q) set p.survivors) (regions (he q))) in
-      let roots' : x.roots.items ≡ map (renamed (forward i.heap p.survivors)) i.heap.roots = roots ∙ (λ q. map (renamed (forward (he q) p.survivors)) (he q).roots) in
-      let whole : Image = image_after i set p.survivors in
-      let same : committed x i ≡ whole =
-      (λ q. record {
-        heap = record { geometry = i.heap.geometry; words = words q; regions = table' q; roots = roots' q; current = None };
-        sets = sets q;
-        log = [];
-      }) in
-      record { room = has_room; moved = subst (IsMoved i set p.survivors) (sym same) (made_is_moved i set p.survivors (built i.heap valid) ordinary pause.survivors pause.made.room) }
+  -- and rise
+  pub found_rise : (ps : List (ℕ × ℕ)) → IsImage i → ps ≡ all_patches i.heap set p.survivors → IsStrictlyIncreasing (map (λ x. x.0) ps)
+  found_rise ps image e = subst (λ (xs : List (ℕ × ℕ)). IsStrictlyIncreasing (map (λ x. x.0) xs)) (sym e) (outer_rise i set p image pause)
+
+  -- what is prepared is made for the pause
+  pub made_for : (x : Prepared) (h : Heap) (chosen : List ℕ) → h ≡ i.heap → chosen ≡ set → AreFates h set (to_space h p.survivors) x.fates → x.gathered ≡ to_space_words h p.survivors → x.patches ≡ all_patches i.heap set p.survivors
+      → AreFirsts h.geometry.w h.geometry.n x.patches x.firsts → x.regions ≡ map (new_region h chosen p.survivors) (regions h)
+      → x.roots ≡ map (renamed (forward h p.survivors)) h.roots → x.sets ≡ map (new_set i chosen p.survivors (heap_after i.heap chosen p.survivors)) (regions i.heap) → IsMadeFor x i set p.survivors
+  made_for x h chosen he se fates gathered patches firsts table roots sets = record {
+    room = has_room;
+    fates = subst (λ y. AreFates y set (to_space y p.survivors) x.fates) he fates;
+    gathered = gathered ∙ ap (λ y. to_space_words y p.survivors) he;
+    patches = patches;
+    firsts = subst (λ y. AreFirsts y.geometry.w y.geometry.n x.patches x.firsts) he firsts;
+    table = table ∙ (λ q. map (new_region (he q) (se q) p.survivors) (regions (he q)));
+    roots = roots ∙ ap (λ y. map (renamed (forward y p.survivors)) y.roots) he;
+    sets = sets ∙ ap (λ s. map (new_set i s p.survivors (heap_after i.heap s p.survivors)) (regions i.heap)) se;
+  }
 
 -- there is a refined set for each region
 pub sets_count : {X : Type 0} (items : X → List ℕ) (i : Image) (sets : List X) → map items sets ≡ map (refined i) (regions i.heap) → length sets ≡ i.heap.geometry.n

@@ -1,7 +1,6 @@
 -- The table of regions and the roots that are made for a plan.
-use Rattle.std.proofs.Common.{◌≡◌, ◌≢◌, ℕ, zero, suc, ◌+◌, ◌<◌, ◌≤◌, inl, inr, ◌^◌, Bool, true, false, cond, List, [], All, AllPairs, length, map, get_or, set, refl, sym, ◌∙◌, ap, subst, arith}
-use Rattle.std.proofs.lemmas.Bool.{cases_lt, false≢true}
-use Rattle.std.proofs.lemmas.List.{ext_get_or, get_or-set_other, get_or-set_same, length-set, length-take-le, get_or-take}
+use Rattle.std.proofs.Common.{◌≡◌, ℕ, zero, suc, ◌+◌, ◌<◌, ◌≤◌, inl, ◌^◌, true, false, cond, List, [], ◌∷◌, ◌++◌, All, take, length, map, get_or, refl, sym, ◌∙◌, ap, subst, arith}
+use Rattle.std.proofs.lemmas.List.{length-take-le, get_or-take, take_all, take_more}
 use Rattle.std.proofs.lemmas.List.FromFn.{get_or-map-range_with_len, length-map-range_with_len}
 use Rattle.g1_image.proofs.Existence.{made_is_moved}
 use Rattle.g1_image.proofs.ObjectsAfter.{region_after}
@@ -14,8 +13,7 @@ use Rattle.g1_image.specs.Moved.{new_region}
 use Rattle.g1_layout.specs.Plan.{Plan, run_at, runs}
 use Rattle.g1_layout.specs.declared.plan.Run.{Run}
 use Rattle.g1_words.proofs.Indices.{get_or-In, is_free_region, not_has}
-use Rattle.g1_words.proofs.Members.{Contains-from_in, In, In-flat_map, has_from_in, in_from_has}
-use Rattle.g1_words.proofs.NextFit.{distinct_places, free_distinct}
+use Rattle.g1_words.proofs.Members.{Contains-from_in, In, In-flat_map, has_from_in}
 use Rattle.g1_words.proofs.Objects.{tops_fit}
 use Rattle.g1_words.proofs.Shapes.{IsBuilt, built, valid_of}
 use Rattle.g1_words.proofs.Sound.{sound}
@@ -28,39 +26,10 @@ use Rattle.g1_words.specs.Valid.{IsValid}
 use Rattle.g1_words.specs.declared.region.Kind.TheVariants.{Free, Ordinary}
 use Rattle.g1_words.specs.declared.region.Region.{Region}
 use Rattle.g1_copy.specs.Plans.{IsPauseOf}
-use Rattle.g1_copy.specs.Replacing.{AreReplaced}
-use Rattle.g1_copy.proofs.InPlaceWriting.{eq_or, place_of}
-
-pub Replaced-start : (place : ℕ → ℕ) (told : ℕ → Region) (old : List Region) → AreReplaced 0 place told old old
-Replaced-start place told old = record { size = refl; replaced = λ t lt. absurd (omega arith); others = λ r f. refl }
-
--- one place more
-module _ (n : ℕ) (place : ℕ → ℕ) (told : ℕ → Region) (old cur new : List Region) (before : AreReplaced n place told old cur) (there : place n < length old) (agree : (t : ℕ) → t < n → place t ≡ place n → told t ≡ told n)
-    (is : new ≡ set cur (place n) (told n)) where
-  replaced_here : get_or new (place n) free_region ≡ told n
-  replaced_here = ap (λ xs. get_or xs (place n) free_region) is ∙ get_or-set_same cur (place n) (told n) free_region (omega (arith, there, before.size))
-
-  replaced_off : (r : ℕ) → (r ≡ place n → ⊥) → get_or new r free_region ≡ get_or cur r free_region
-  replaced_off r f = ap (λ xs. get_or xs r free_region) is ∙ get_or-set_other cur (place n) r (told n) free_region f
-
-  replaced_each : (t : ℕ) → t < n + 1 → get_or new (place t) free_region ≡ told t
-  replaced_each t lt = elim (cases_lt t n) [
-    | inr ge ↦
-        let e : n ≡ t = omega arith in
-        subst (λ k. get_or new (place k) free_region ≡ told k) e replaced_here
-    | inl less ↦ elim (eq_or (place t) (place n)) [
-      | inl e ↦ ap (λ k. get_or new k free_region) e ∙ replaced_here ∙ sym (agree t less e)
-      | inr (inl a) ↦ replaced_off (place t) (λ e. absurd (omega (arith, e, a))) ∙ before.replaced t less
-      | inr (inr a) ↦ replaced_off (place t) (λ e. absurd (omega (arith, e, a))) ∙ before.replaced t less
-    ]
-  ]
-
-  pub Replaced-step : AreReplaced (n + 1) place told old new
-  Replaced-step = record {
-    size = ap length is ∙ length-set cur (place n) (told n) ∙ before.size;
-    replaced = replaced_each;
-    others = λ r f. replaced_off r (λ e. f n (omega arith) (sym e)) ∙ before.others r (λ t lt. f t (omega arith));
-  }
+use Rattle.g1_copy.specs.Fates.{AreFates, fate_at, fate_of, region_by_fate}
+use Rattle.g1_copy.specs.declared.fates.Fate.{Fate}
+use Rattle.g1_copy.specs.declared.fates.Fate.TheVariants.{Freed, Filled, Kept}
+use Rattle.g1_copy.proofs.FatesMade.{is_freed, is_filled, is_kept, has_fate, once, run_there}
 
 module _ (h : Heap) (chosen : List ℕ) (p : Plan) (valid : IsValid h) (pause : IsPauseOf h chosen p) where
   room : need h p.survivors ≤ length (free_regions h)
@@ -128,9 +97,6 @@ module _ (h : Heap) (chosen : List ℕ) (p : Plan) (valid : IsValid h) (pause : 
     us_at : (t : ℕ) (u : Run) → t < length us → get_or us t u ≡ run_at h p.survivors t
     us_at t u lt = ap (λ xs. get_or xs t u) us_is ∙ run_is t u (us_below t lt)
 
-    pub runs_there : All (λ u. u.region < h.geometry.n) us
-    runs_there t u lt = subst (λ (x : Run). x.region < h.geometry.n) (sym (us_at t u lt)) (free_there t (us_below t lt)).1
-
     pub runs_small : All (λ u. u.end < 2 ^ 32) us
     runs_small t u lt =
         let fits = end_fits t (us_below t lt) in
@@ -138,59 +104,45 @@ module _ (h : Heap) (chosen : List ℕ) (p : Plan) (valid : IsValid h) (pause : 
         let small : (run_at h p.survivors t).end < 2 ^ 32 = omega arith in
         subst (λ (x : Run). x.end < 2 ^ 32) (sym (us_at t u lt)) small
 
-    pub runs_distinct : AllPairs (λ u v. u.region ≢ v.region) us
-    runs_distinct a b d less lt e =
-        let m = us_below a (omega arith) in
-        let n = us_below b lt in
-        let both : get_or (free_regions h) a 0 ≡ get_or (free_regions h) b 0 = sym (ap (λ (x : Run). x.region) (us_at a d (omega arith))) ∙ e ∙ ap (λ (x : Run). x.region) (us_at b d lt) in
-        let k = distinct_places (free_regions h) a b 0 (free_distinct h w_positive) (omega (arith, m, room)) (omega (arith, n, room)) both in
-        omega arith
+    -- a region that is filled by a run has that run
+    pub run_made : (fates : List Fate) (r t : ℕ) → AreFates h chosen (to_space h p.survivors) fates → r < h.geometry.n → fate_at fates r ≡ Filled t → t < length us
+    run_made fates r t are lt e =
+        let k = run_there chosen (to_space h p.survivors) (once h chosen p valid pause) r t (sym (are.each r lt) ∙ e) in
+        let long : length (to_space h p.survivors) ≡ need h p.survivors = length-take-le (need h p.survivors) (free_regions h) room in
+        let size : length us ≡ need h p.survivors = ap length us_is ∙ runs_count in
+        omega (arith, k.0, long, size)
 
-    -- the table, cleared and filled
-    module _ (u : Run) (old one two : List Region) (oe : old ≡ h.regions) (cleared : AreReplaced (length chosen) (λ t. get_or chosen t 0) (λ t. free_region) old one)
-        (filled : AreReplaced (length us) (λ t. (get_or us t u).region) (λ t. region_with Ordinary (get_or us t u).end) one two) where
-      -- a region that isn't of to-space isn't filled
-      not_filled : (r : ℕ) → has (to_space h p.survivors) r ≡ false → get_or two r free_region ≡ get_or one r free_region
-      not_filled r f = filled.others r (λ t lt e.
-          let at : get_or (free_regions h) t 0 ≡ r = sym (ap (λ (x : Run). x.region) (us_at t u lt)) ∙ e in
-          false≢true (sym f ∙ ap (has (to_space h p.survivors)) (sym at) ∙ to_space_has t (us_below t lt)))
+    -- what a fate makes of a region
+    pub region_made : (fates : List Fate) (u : Run) (r : ℕ) → AreFates h chosen (to_space h p.survivors) fates → r < h.geometry.n → region_by_fate us u (fate_at fates r) (region h r) ≡ new_region h chosen p.survivors r
+    region_made fates u r are lt =
+        let to : List ℕ = to_space h p.survivors in
+        let by : (x : Fate) → fate_of chosen to r ≡ x → region_by_fate us u (fate_at fates r) (region h r) ≡ region_by_fate us u x (region h r) =
+        λ x e. ap (λ y. region_by_fate us u y (region h r)) (are.each r lt ∙ e) in
+        elim (has_fate chosen to (once h chosen p valid pause) r) [
+          | is_freed a f ↦ by Freed f ∙ (λ q. cond (sym a q) free_region (cond (has to r) (region_with Ordinary (end_in h p.survivors r)) (region h r)))
+          | is_filled t less at a b f ↦
+              let long : length to ≡ need h p.survivors = length-take-le (need h p.survivors) (free_regions h) room in
+              let lt' : t < need h p.survivors = omega (arith, less, long) in
+              let size : length us ≡ need h p.survivors = ap length us_is ∙ runs_count in
+              let at' : get_or (free_regions h) t 0 ≡ r = sym (get_or-take (need h p.survivors) (free_regions h) t 0 lt') ∙ at in
+              let ends : (get_or us t u).end ≡ end_in h p.survivors r = ap (λ (x : Run). x.end) (us_at t u (omega (arith, lt', size))) ∙ ap (end_in h p.survivors) at' in
+              by (Filled t) f ∙ ap (region_with Ordinary) ends ∙ sym (new_at r a b)
+          | is_kept a b f ↦ by Kept f ∙ (λ q. cond (sym a q) free_region (cond (sym b q) (region_with Ordinary (end_in h p.survivors r)) (region h r)))
+        ]
 
-      off_to_space : (r : ℕ) → has chosen r ≡ true → has (to_space h p.survivors) r ≡ false
-      off_to_space r e = not_has (to_space h p.survivors) r (λ m.
-          let k = place_of (to_space h p.survivors) r m in
-          let long : length (to_space h p.survivors) ≡ need h p.survivors = length-take-le (need h p.survivors) (free_regions h) room in
-          let lt : k.0 < need h p.survivors = let b = k.1 in omega (arith, b, long) in
-          let at : get_or (free_regions h) k.0 0 ≡ r = sym (get_or-take (need h p.survivors) (free_regions h) k.0 0 lt) ∙ k.2 in
-          false≢true (sym (free_off r (ap (kind h) (sym at) ∙ (free_there k.0 lt).0)) ∙ e))
+  -- the regions that are made, one more at a time
+  pub regions_more : (r : ℕ) (made : List Region) (x : Region) → r < h.geometry.n → made ≡ take r (map (new_region h chosen p.survivors) (regions h)) → x ≡ new_region h chosen p.survivors r
+      → made ++ x ∷ [] ≡ take (r + 1) (map (new_region h chosen p.survivors) (regions h))
+  regions_more r made x lt e f =
+      let all : List Region = map (new_region h chosen p.survivors) (regions h) in
+      let size : length all ≡ h.geometry.n = length-map-range_with_len (new_region h chosen p.survivors) 0 h.geometry.n in
+      let at : get_or all r free_region ≡ new_region h chosen p.survivors r = get_or-map-range_with_len (new_region h chosen p.survivors) 0 h.geometry.n r r free_region lt (omega arith) in
+      (λ q. e q ++ (f ∙ sym at) q ∷ []) ∙ sym (take_more all r free_region (omega (arith, lt, size)))
 
-      each_region : (r : ℕ) (a b : Bool) → has chosen r ≡ a → has (to_space h p.survivors) r ≡ b → get_or two r free_region ≡ cond a free_region (cond b (region_with Ordinary (end_in h p.survivors r)) (region h r))
-      each_region r true b e f =
-          let k = place_of chosen r (in_from_has chosen r e) in
-          not_filled r (off_to_space r e) ∙ ap (λ y. get_or one y free_region) (sym k.2) ∙ cleared.replaced k.0 k.1
-      each_region r false true e f =
-          let k = place_of (to_space h p.survivors) r (in_from_has (to_space h p.survivors) r f) in
-          let long : length (to_space h p.survivors) ≡ need h p.survivors = length-take-le (need h p.survivors) (free_regions h) room in
-          let lt : k.0 < need h p.survivors = let b = k.1 in omega (arith, b, long) in
-          let size : length us ≡ need h p.survivors = ap length us_is ∙ runs_count in
-          let lt' : k.0 < length us = omega (arith, lt, size) in
-          let at : get_or (free_regions h) k.0 0 ≡ r = sym (get_or-take (need h p.survivors) (free_regions h) k.0 0 lt) ∙ k.2 in
-          let run = us_at k.0 u lt' in
-          let here : (get_or us k.0 u).region ≡ r = ap (λ (x : Run). x.region) run ∙ at in
-          let ends : (get_or us k.0 u).end ≡ end_in h p.survivors r = ap (λ (x : Run). x.end) run ∙ ap (end_in h p.survivors) at in
-          ap (λ y. get_or two y free_region) (sym here) ∙ filled.replaced k.0 lt' ∙ ap (region_with Ordinary) ends
-      each_region r false false e f =
-          not_filled r f
-          ∙ cleared.others r (λ t lt g. false≢true (sym e ∙ ap (has chosen) (sym g) ∙ has_from_in chosen (get_or chosen t 0) (get_or-In chosen t 0 lt)))
-          ∙ ap (λ xs. get_or xs r free_region) oe
-
-      pub regions_made : two ≡ map (new_region h chosen p.survivors) (regions h)
-      regions_made =
-          let count : length two ≡ h.geometry.n = filled.size ∙ cleared.size ∙ ap length oe ∙ valid.region_count in
-          let size : length (map (new_region h chosen p.survivors) (regions h)) ≡ h.geometry.n = length-map-range_with_len (new_region h chosen p.survivors) 0 h.geometry.n in
-          ext_get_or free_region two (map (new_region h chosen p.survivors) (regions h)) (count ∙ sym size)
-          (λ r lt.
-          each_region r (has chosen r) (has (to_space h p.survivors) r) refl refl
-          ∙ sym (get_or-map-range_with_len (new_region h chosen p.survivors) 0 h.geometry.n r r free_region (omega (arith, count, lt)) (omega arith)))
+  pub regions_all : (r : ℕ) (made : List Region) → h.geometry.n ≤ r → made ≡ take r (map (new_region h chosen p.survivors) (regions h)) → made ≡ map (new_region h chosen p.survivors) (regions h)
+  regions_all r made le e =
+      let size : length (map (new_region h chosen p.survivors) (regions h)) ≡ h.geometry.n = length-map-range_with_len (new_region h chosen p.survivors) 0 h.geometry.n in
+      e ∙ take_all r (map (new_region h chosen p.survivors) (regions h)) (omega (arith, le, size))
 
   -- roots
 

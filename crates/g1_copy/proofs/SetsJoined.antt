@@ -1,14 +1,11 @@
 -- Lists of cards put together, region by region.
-use Rattle.std.proofs.Common.{◌≡◌, ℕ, zero, suc, ◌+◌, ◌*◌, ◌/◌, ◌<◌, ◌≤◌, inl, inr, Bool, true, false, cond, not, ◌&&◌, ◌||◌, List, [], ◌∷◌, ◌++◌, length, get_or, set, map, filter, All, Contains, refl, sym, ◌∙◌, ap, subst, arith, eqb, eqb-true, eq-eqb, get_or-set_same, get_or-set_other}
+use Rattle.std.proofs.Common.{◌≡◌, ℕ, zero, suc, ◌+◌, ◌*◌, ◌/◌, ◌<◌, ◌≤◌, inl, inr, Bool, true, false, cond, not, ◌&&◌, ◌||◌, List, [], ◌∷◌, length, get_or, map, filter, All, Contains, refl, sym, ◌∙◌, ap, subst, arith}
 use Rattle.std.specs.Prelude.{Result, Ok, Err, IfOk, IfErr, MatchResult}
 use Rattle.std.specs.Global.{Vec}
 use Rattle.std.specs.List.{range_with_len, AllZip}
 use Rattle.std.specs.List.Sorted.{IsStrictlyIncreasing}
-use Rattle.std.proofs.Math.ListN.{length-set}
 use Rattle.std.proofs.Math.Nat.{div-lt_iff_lt-mul, div-mul-le_self, mul-le-mul_right}
-use Rattle.std.proofs.lemmas.Bool.{false≢true}
 use Rattle.std.proofs.lemmas.List.{ext_get_or, get_or-map}
-use Rattle.std.proofs.lemmas.List.Folds.{list_any-append}
 use Rattle.std.proofs.lemmas.List.FromFn.{get_or-map-range_with_len, length-map-range_with_len}
 use Rattle.g1_words.specs.declared.fault.Fault.{Fault}
 use Rattle.g1_words.specs.declared.fault.Fault.TheVariants.{Memory}
@@ -29,50 +26,15 @@ use Rattle.g1_rem.specs.Merging.{IsMerged}
 use Rattle.g1_rem.proofs.Rising.{Rises-range, Rises-filter, Rises-one, increasing-Rises}
 use Rattle.g1_copy.specs.Links.{is_linked, cards_by_region, copied_slots}
 use Rattle.g1_copy.specs.Patches.{all_patches}
-use Rattle.g1_copy.specs.Sets.{fate_at, IsMarkedFrom, AreFates, is_left, stays, IsJoined, cards_at, AreSources, IsJoinedAt, AreJoined}
-use Rattle.g1_copy.specs.declared.sets.Fate.{Fate}
-use Rattle.g1_copy.specs.declared.sets.Fate.TheVariants.{Freed, Filled, Kept}
+use Rattle.g1_copy.specs.Fates.{AreFates, fate_at, fate_of}
+use Rattle.g1_copy.specs.Sets.{is_left, stays, IsJoined, cards_at, AreSources, IsJoinedAt, AreJoined}
+use Rattle.g1_copy.specs.declared.fates.Fate.{Fate}
+use Rattle.g1_copy.specs.declared.fates.Fate.TheVariants.{Freed, Filled, Kept}
+use Rattle.g1_words.proofs.Firsts.{Distinct}
+use Rattle.g1_words.proofs.NextFit.{free_distinct}
+use Rattle.g1_copy.proofs.FatesMade.{HasFate, is_freed, is_filled, is_kept, has_fate}
+use Rattle.g1_copy.proofs.InPlaceSlices.{Distinct-take}
 use Rattle.g1_copy.proofs.SetsLinks.{to_space_cards, copied_cards}
-
--- ---- the fates of regions
-
-or_none : (a b c : Bool) → b ≡ false → c ≡ false → (a || (b || c)) ≡ a
-or_none true b c e g = refl
-or_none false b c e g = (λ t. e t || g t)
-
-or_one : (a b c : Bool) → b ≡ true → (a || (b || c)) ≡ true
-or_one true b c e = refl
-or_one false b c e = ap (λ x. x || c) e
-
--- before the first number
-pub marked_start : (old : List Fate) (fate : Fate) → IsMarkedFrom old [] fate old
-marked_start old fate = record { one_each = refl; each = λ r lt. refl }
-
--- one number more
-pub marked_step : (old now : List Fate) (members : List ℕ) (m : ℕ) (fate : Fate) → IsMarkedFrom old members fate now → m < length old → IsMarkedFrom old (members ++ m ∷ []) fate (set now m fate)
-marked_step old now members m fate g lt = record {
-  one_each = length-set now m fate ∙ g.one_each;
-  each = λ r lt'. at r lt' (eqb r m) refl;
-} where
-  more : (r : ℕ) → has (members ++ m ∷ []) r ≡ (has members r || (eqb r m || false))
-  more r = list_any-append (λ y. eqb r y) members (m ∷ [])
-
-  at : (r : ℕ) → r < length old → (b : Bool) → eqb r m ≡ b → fate_at (set now m fate) r ≡ cond (has (members ++ m ∷ []) r) fate (fate_at old r)
-  at r lt' true e =
-      ap (fate_at (set now m fate)) (eqb-true r m e) ∙ get_or-set_same now m fate Kept (omega (arith, lt, g.one_each))
-      ∙ ap (λ b. cond b fate (fate_at old r)) (sym (more r ∙ or_one (has members r) (eqb r m) false e))
-  at r lt' false e =
-      get_or-set_other now m r fate Kept (λ q. false≢true (sym e ∙ eq-eqb r m q)) ∙ g.each r lt'
-      ∙ ap (λ b. cond b fate (fate_at old r)) (sym (more r ∙ or_none (has members r) (eqb r m) false e refl))
-
--- the set's regions are written over to-space's
-pub fates_are : (h : Heap) (set to : List ℕ) (start filled fates : List Fate) → length start ≡ h.geometry.n → ((r : ℕ) → r < h.geometry.n → fate_at start r ≡ Kept)
-    → IsMarkedFrom start to Filled filled → IsMarkedFrom filled set Freed fates → AreFates h set to fates
-fates_are h set to start filled fates count kept a b = record {
-  one_each = b.one_each ∙ a.one_each ∙ count;
-  each = λ r lt.
-      b.each r (omega (arith, lt, a.one_each, count)) ∙ ap (λ x. cond (has set r) Freed x) (a.each r (omega (arith, lt, count)) ∙ ap (λ x. cond (has to r) Filled x) (kept r lt));
-}
 
 -- ---- cards that pass tests
 
@@ -139,14 +101,22 @@ module _ (i : Image) (set l : List ℕ) (valid : IsBuilt i.heap) (ordinary : All
   abbrev after : Heap
   after = heap_after i.heap set l
 
-  fate_left : (a b : Bool) → is_left (cond a Freed (cond b Filled Kept)) ≡ not a
-  fate_left true b = refl
-  fate_left false true = refl
-  fate_left false false = refl
+  once : Distinct (to_space i.heap l)
+  once = Distinct-take (need i.heap l) (free_regions i.heap) (free_distinct i.heap (width_positive i.heap.geometry.w i.heap.geometry.k i.heap.geometry.n valid.limits))
+
+  the_fate : (r : ℕ) → HasFate set (to_space i.heap l) r
+  the_fate r = has_fate set (to_space i.heap l) once r
+
+  fate_left : (r : ℕ) → is_left (fate_of set (to_space i.heap l) r) ≡ not (has set r)
+  fate_left r = elim (the_fate r) [
+    | is_freed a f ↦ ap is_left f ∙ ap not (sym a)
+    | is_filled t lt at a b f ↦ ap is_left f ∙ ap not (sym a)
+    | is_kept a b f ↦ ap is_left f ∙ ap not (sym a)
+  ]
 
   -- a card stays that lies in no region of the set
   stays_is : (c : ℕ) → region_of_card i.heap c < i.heap.geometry.n → stays i.heap fates c ≡ not (card_in i.heap set c)
-  stays_is c lt = ap is_left (are.each (region_of_card i.heap c) lt) ∙ fate_left (has set (region_of_card i.heap c)) (has (to_space i.heap l) (region_of_card i.heap c))
+  stays_is c lt = ap is_left (are.each (region_of_card i.heap c) lt) ∙ fate_left (region_of_card i.heap c)
 
   kept_are : (r : ℕ) → filter (stays i.heap fates) (refined i r) ≡ cards_where i.heap (λ c. is_refined i r c && not (card_in i.heap set c))
   kept_are r =
@@ -165,17 +135,15 @@ module _ (i : Image) (set l : List ℕ) (valid : IsBuilt i.heap) (ordinary : All
       ∙ (λ t. cards_where i.heap (λ c. (is_refined i r c && not (card_in i.heap set c)) || sym (copied_cards i set l valid ordinary survivors room r c) t))
 
   -- what is joined is the set after the pause
-  joined_is : (r : ℕ) (zs : List ℕ) (a b : Bool) → has set r ≡ a → has (to_space i.heap l) r ≡ b
-      → IsJoined i.heap fates (cond a Freed (cond b Filled Kept)) (refined i r) (cards_where i.heap (P r)) (cards_where i.heap (C r)) zs
-      → zs ≡ cond a [] (cond b (cards_where i.heap (is_exact after r)) (cards_where i.heap (other r)))
-  joined_is r zs true b e d m = m
-  joined_is r zs false true e d m = filled_set r zs d m
-  joined_is r zs false false e d m = kept_set r zs m
-
   pub new_set_is : (r : ℕ) (zs : List ℕ) → r < i.heap.geometry.n → IsJoined i.heap fates (fate_at fates r) (refined i r) (cards_where i.heap (P r)) (cards_where i.heap (C r)) zs → zs ≡ new_set i set l after r
   new_set_is r zs lt m =
-      joined_is r zs (has set r) (has (to_space i.heap l) r) refl refl
-      (subst (λ x. IsJoined i.heap fates x (refined i r) (cards_where i.heap (P r)) (cards_where i.heap (C r)) zs) (are.each r lt) m)
+      let by : (x : Fate) → fate_of set (to_space i.heap l) r ≡ x → IsJoined i.heap fates x (refined i r) (cards_where i.heap (P r)) (cards_where i.heap (C r)) zs =
+      λ x e. subst (λ y. IsJoined i.heap fates y (refined i r) (cards_where i.heap (P r)) (cards_where i.heap (C r)) zs) (are.each r lt ∙ e) m in
+      elim (the_fate r) [
+        | is_freed a f ↦ by Freed f ∙ (λ q. cond (sym a q) [] (cond (has (to_space i.heap l) r) (cards_where i.heap (is_exact after r)) (cards_where i.heap (other r))))
+        | is_filled t less at a b f ↦ filled_set r zs b (by (Filled t) f) ∙ (λ q. cond (sym a q) [] (cond (sym b q) (cards_where i.heap (is_exact after r)) (cards_where i.heap (other r))))
+        | is_kept a b f ↦ kept_set r zs (by Kept f) ∙ (λ q. cond (sym a q) [] (cond (sym b q) (cards_where i.heap (is_exact after r)) (cards_where i.heap (other r))))
+      ]
 
   -- ---- all regions
 

@@ -12,7 +12,7 @@ use Rattle.g1_words.specs.Layout.{forward, free_regions, need, to_space}
 use Rattle.g1_words.specs.Valid.{IsValid}
 use Rattle.g1_words.proofs.Bounds.{object_within}
 use Rattle.g1_words.proofs.Computed.{contains_has}
-use Rattle.g1_words.proofs.Indices.{get_or-In, is_free_region, taken_in}
+use Rattle.g1_words.proofs.Indices.{get_or-In}
 use Rattle.g1_words.proofs.Members.{In, Contains-from_in, filter_member, map_cases}
 use Rattle.g1_words.proofs.Ordered.{pairs_from_ordered}
 use Rattle.g1_words.proofs.Rising.{Ordered-filter, Ordered-map, refs_ordered}
@@ -24,12 +24,12 @@ use Rattle.g1_image.specs.Moved.{new_set}
 use Rattle.g1_image.specs.Made.{heap_after}
 use Rattle.g1_layout.specs.Placed.{CanPlace}
 use Rattle.g1_layout.specs.Plan.{Plan}
-use Rattle.g1_layout.proofs.Conditions.{set_in_heap}
 use Rattle.g1_copy.specs.Links.{cards_by_region, copied_slots}
 use Rattle.g1_copy.specs.Patches.{patch, all_patches}
 use Rattle.g1_copy.specs.Plans.{IsPauseOf}
-use Rattle.g1_copy.specs.Sets.{AreFates, AreSources, AreJoined}
-use Rattle.g1_copy.specs.declared.sets.Fate.{Fate}
+use Rattle.g1_copy.specs.Fates.{AreFates}
+use Rattle.g1_copy.specs.Sets.{AreSources, AreJoined}
+use Rattle.g1_copy.specs.declared.fates.Fate.{Fate}
 use Rattle.g1_copy.proofs.CopiedSlots.{copied_rise, copied_there, forward_below}
 use Rattle.g1_copy.proofs.SetsLinks.{owner_of}
 use Rattle.g1_copy.proofs.SetsJoined.{are_sources, new_sets_are}
@@ -75,10 +75,6 @@ module _ (h : Heap) (set l : List ℕ) (valid : IsValid h) (can : CanPlace h set
   pub patches_there : AreThere h (all_patches h set l)
   patches_there = λ k d lt. patch_there (get_or (all_patches h set l) k d) (get_or-In (all_patches h set l) k d lt)
 
-  -- the regions of to-space are the heap's
-  pub to_space_there : All (λ r. r < h.geometry.n) (to_space h l)
-  to_space_there = λ k d lt. (is_free_region h (get_or (to_space h l) k d) (taken_in (need h l) (free_regions h) (get_or (to_space h l) k d) (get_or-In (to_space h l) k d lt))).1
-
 -- ---- what the plan tells
 
 module _ (i : Image) (set : List ℕ) (p : Plan) (image : IsImage i) (pause : IsPauseOf i.heap set p) where
@@ -100,17 +96,8 @@ module _ (i : Image) (set : List ℕ) (p : Plan) (image : IsImage i) (pause : Is
   pub inner_there : AreThere i.heap (copied_slots i.heap l)
   inner_there = copied_there i.heap set l image.heap can pause.made.room
 
-  pub set_there : All (λ r. r < i.heap.geometry.n) set
-  set_there = set_in_heap i.heap set l image.heap can
-
-  pub to_there : All (λ r. r < i.heap.geometry.n) p.to_space
-  to_there = subst (All (λ r. r < i.heap.geometry.n)) (sym (ap (λ (q : Plan). q.to_space) pause.made.plan)) (to_space_there i.heap set l image.heap can pause.made.room)
-
-  module _ (h : Heap) (heap : h ≡ i.heap) (to : List ℕ) (the_to : to ≡ p.to_space) (patches copies : List (ℕ × ℕ)) (the_patches : patches ≡ all_patches i.heap set l) (the_copies : copies ≡ copied_slots i.heap l)
-      (fates : List Fate) (are : AreFates h set to fates) (sets outer inner : List (List ℕ)) (the_sets : sets ≡ map (refined i) (regions i.heap)) (the_outer : outer ≡ cards_by_region h patches) (the_inner : inner ≡ cards_by_region h copies) where
-    fates_are : AreFates i.heap set (to_space i.heap l) fates
-    fates_are = subst (λ x. AreFates x set (to_space i.heap l) fates) heap (subst (λ x. AreFates h set x fates) (the_to ∙ ap (λ (q : Plan). q.to_space) pause.made.plan) are)
-
+  module _ (h : Heap) (heap : h ≡ i.heap) (patches copies : List (ℕ × ℕ)) (the_patches : patches ≡ all_patches i.heap set l) (the_copies : copies ≡ copied_slots i.heap l)
+      (fates : List Fate) (are : AreFates i.heap set (to_space i.heap l) fates) (sets outer inner : List (List ℕ)) (the_sets : sets ≡ map (refined i) (regions i.heap)) (the_outer : outer ≡ cards_by_region h patches) (the_inner : inner ≡ cards_by_region h copies) where
     outer_are : outer ≡ cards_by_region i.heap (all_patches i.heap set l)
     outer_are = the_outer ∙ (λ t. cards_by_region (heap t) (the_patches t))
 
@@ -119,10 +106,10 @@ module _ (i : Image) (set : List ℕ) (p : Plan) (image : IsImage i) (pause : Is
 
     pub paused_sources : AreSources h fates sets outer inner
     paused_sources = subst (λ x. AreSources x fates sets outer inner) (sym heap)
-        (are_sources i set l (built i.heap image.heap) can.ordinary pause.survivors pause.made.room fates fates_are sets outer inner the_sets outer_are inner_are)
+        (are_sources i set l (built i.heap image.heap) can.ordinary pause.survivors pause.made.room fates are sets outer inner the_sets outer_are inner_are)
 
     paused_news : (news : List (List ℕ)) → AreJoined h fates sets outer inner news → news ≡ map (new_set i set l (heap_after i.heap set l)) (regions i.heap)
-    paused_news news m = new_sets_are i set l (built i.heap image.heap) can.ordinary pause.survivors pause.made.room fates fates_are sets outer inner the_sets outer_are inner_are news
+    paused_news news m = new_sets_are i set l (built i.heap image.heap) can.ordinary pause.survivors pause.made.room fates are sets outer inner the_sets outer_are inner_are news
         (subst (λ x. AreJoined x fates sets outer inner news) heap m)
 
     -- the sets after the pause

@@ -1,29 +1,43 @@
 -- What a commit leaves is tracked.
-use Rattle.std.proofs.Common.{◌≡◌, ℕ, List, [], None, map, subst, sym}
+use Rattle.std.proofs.Common.{◌≡◌, ◌%◌, ℕ, List, [], None, length, sym, ◌∙◌, ap, subst}
+use Rattle.std.proofs.Math.Nat.{mul-mod_left}
 use Rattle.g1_words.specs.Geometry.{Geometry}
 use Rattle.g1_image.specs.After.{TrackedAfter}
 use Rattle.g1_image.specs.Cards.{IsTracked}
 use Rattle.g1_image.specs.Image.{Image}
-use Rattle.g1_copy.specs.Prepared.{IsMadeFor, committed}
-use Rattle.g1_copy.specs.declared.preparing.Prepared.{Prepared}
+use Rattle.g1_image.specs.Moved.{IsMoved}
+use Rattle.g1_work.specs.Regions.{EverySlice}
+use Rattle.g1_copy.specs.Prepared.{IsMadeFor, Prepared, committed, written}
+use Rattle.g1_copy.specs.Slices.{IsWritable}
+use Rattle.g1_copy.proofs.Committed.{all_writable, is_moved}
 
-module _ (p : Prepared) (i : Image) where
+module _ (p : Prepared) (i : Image) (tracked : IsTracked i) where
+  -- what the writing in place asks of the words and their width
+  module _ (words : List ℕ) (width : ℕ) (e : words ≡ i.heap.words) (g : width ≡ i.heap.geometry.w) where
+    pub cut_evenly : length words % width ≡ 0
+    cut_evenly = (λ q. length (e q) % g q) ∙ ap (λ x. x % i.heap.geometry.w) tracked.image.heap.word_count ∙ mul-mod_left i.heap.geometry.n i.heap.geometry.w
+
+    pub ready_there : ((set : List ℕ) × (l : List ℕ) × IsMadeFor p i set l) → EverySlice (IsWritable width p.fates p.gathered p.patches p.firsts) width words
+    ready_there (set, l, made) =
+        subst (λ x. EverySlice (IsWritable x p.fates p.gathered p.patches p.firsts) x words) (sym g)
+        (subst (EverySlice (IsWritable i.heap.geometry.w p.fates p.gathered p.patches p.firsts) i.heap.geometry.w) (sym e) (all_writable p i set l tracked.image.heap made))
+
   -- the image with these parts, as the code puts it together
-  abbrev pub put_together : Geometry → List ℕ → Image
-  put_together geometry log = record {
-    heap = record { geometry = geometry; words = p.words.items; regions = p.regions.items; roots = p.roots.items; current = None };
-    sets = map (λ s. s.items) p.sets.items;
+  abbrev pub put_together : Prepared → Geometry → List ℕ → List ℕ → Image
+  put_together q geometry words log = record {
+    heap = record { geometry = geometry; words = words; regions = q.regions; roots = q.roots; current = None };
+    sets = q.sets;
     log = log;
   }
 
-  pub is_committed : (geometry : Geometry) (log : List ℕ) → geometry ≡ i.heap.geometry → log ≡ [] → put_together geometry log ≡ committed p i
-  is_committed geometry log g e = λ t. put_together (g t) (e t)
+  module _ (q : Prepared) (geometry : Geometry) (words log : List ℕ) (same : q ≡ p) (g : geometry ≡ i.heap.geometry) (e : words ≡ written p i.heap.geometry.w i.heap.words) (empty : log ≡ []) where
+    is_committed : put_together q geometry words log ≡ committed p i
+    is_committed = λ t. put_together (same t) (g t) (e t) (empty t)
 
-  -- it is tracked, for whatever set and survivors it was made
-  pub tracked_commit : TrackedAfter → IsTracked i → ((set : List ℕ) × (l : List ℕ) × IsMadeFor p i set l) → IsTracked (committed p i)
-  tracked_commit law t (set, l, made) = law i set l (committed p i) t made.room made.moved
+    -- it is the image after, for whatever set and survivors it was made
+    pub moved_parts : (set l : List ℕ) → IsMadeFor p i set l → IsMoved i set l (put_together q geometry words log)
+    moved_parts set l made = subst (IsMoved i set l) (sym is_committed) (is_moved p i set l tracked.image.heap made)
 
-  -- and so are its parts, put together
-  pub tracked_parts : (geometry : Geometry) (log : List ℕ) → geometry ≡ i.heap.geometry → log ≡ [] → TrackedAfter → IsTracked i → ((set : List ℕ) × (l : List ℕ) × IsMadeFor p i set l)
-      → IsTracked (put_together geometry log)
-  tracked_parts geometry log g e law t made = subst IsTracked (sym (is_committed geometry log g e)) (tracked_commit law t made)
+    -- and is tracked
+    pub tracked_parts : TrackedAfter → ((set : List ℕ) × (l : List ℕ) × IsMadeFor p i set l) → IsTracked (put_together q geometry words log)
+    tracked_parts law (set, l, made) = law i set l (put_together q geometry words log) tracked made.room (moved_parts set l made)

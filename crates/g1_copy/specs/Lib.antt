@@ -4,9 +4,8 @@ pub mod Patches
 pub mod Links
 pub mod Filled
 pub mod Cards
+pub mod Fates
 pub mod Slices
 pub mod Sets
-pub mod Rewriting
-pub mod Replacing
 pub mod Prepared
 pub mod Laws

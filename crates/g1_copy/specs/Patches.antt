@@ -1,5 +1,5 @@
 -- Slots of kept regions that name survivors, with their new words.
-use Rattle.std.specs.Prelude.{ℕ, suc, not, ◌&&◌, List, map, filter, flat_map}
+use Rattle.std.specs.Prelude.{◌≡◌, ◌≤◌, ◌<◌, ℕ, suc, ◌+◌, ◌*◌, not, ◌&&◌, List, length, map, filter, flat_map, slice_index, slice_index_or}
 use Rattle.g1_words.specs.Heap.{Heap, card_of}
 use Rattle.g1_words.specs.Lists.{has}
 use Rattle.g1_words.specs.References.{Ref, refs, refs_at}
@@ -25,3 +25,14 @@ patch_at h l p = map (patch h l) (filter (λ e. has l e.target) (refs_at h p))
 -- the patches of slots, in the slots' order
 abbrev pub patches_at : Heap → List ℕ → List ℕ → List (ℕ × ℕ)
 patches_at h l ps = flat_map (patch_at h l) ps
+
+-- so many of the patches, which are by address, lie before an address
+pub record AreBefore (patches : List (ℕ × ℕ)) (end count : ℕ) : Type 0 where
+  pub within : count ≤ length patches
+  pub before : (k : ℕ) → k < count → (slice_index_or patches k (0, 0)).0 < end
+  pub behind : (k : ℕ) → count ≤ k → k < length patches → end ≤ (slice_index_or patches k (0, 0)).0
+
+-- for each of n regions how many patches lie before it, and at last all
+pub record AreFirsts (w n : ℕ) (patches : List (ℕ × ℕ)) (firsts : List ℕ) : Type 0 where
+  pub one_each : length firsts ≡ n + 1
+  pub each : (r : ℕ) → r < n + 1 → AreBefore patches (r * w) (slice_index firsts r)

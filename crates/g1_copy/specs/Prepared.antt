@@ -1,19 +1,49 @@
 -- What was made ready for a commit.
-use Rattle.std.specs.Prelude.{ℕ, List, [], map, None}
-use Rattle.g1_words.specs.Layout.{HasRoom}
+use Rattle.std.specs.Prelude.{◌≡◌, ℕ, List, [], ◌/◌, length, map, flat_map, None}
+use Rattle.std.specs.List.{range_with_len}
+use Rattle.g1_words.specs.declared.region.Region.{Region}
+use Rattle.g1_words.specs.Heap.{regions}
+use Rattle.g1_words.specs.Layout.{HasRoom, forward, to_space}
 use Rattle.g1_image.specs.Image.{Image}
-use Rattle.g1_image.specs.Moved.{IsMoved}
-use Rattle.g1_copy.specs.declared.preparing.Prepared.{Prepared}
+use Rattle.g1_image.specs.Copy.{renamed}
+use Rattle.g1_image.specs.Made.{heap_after}
+use Rattle.g1_image.specs.Moved.{new_region, new_set}
+use Rattle.g1_work.specs.Regions.{slice_of}
+use Rattle.g1_copy.specs.declared.fates.Fate.{Fate}
+use Rattle.g1_copy.specs.Fates.{AreFates, fate_at}
+use Rattle.g1_copy.specs.Gathered.{to_space_words}
+use Rattle.g1_copy.specs.Patches.{AreFirsts, all_patches}
+use Rattle.g1_copy.specs.Slices.{by_fate}
+
+-- each region's fate, the words of to-space, the patches with where each region's begin, and the regions, roots and remembered sets after
+pub record Prepared : Type 0 where
+  pub fates : List Fate
+  pub gathered : List ℕ
+  pub patches : List (ℕ × ℕ)
+  pub firsts : List ℕ
+  pub regions : List Region
+  pub roots : List ℕ
+  pub sets : List (List ℕ)
+
+-- the words that a commit makes of these, in regions of w words
+abbrev pub written : Prepared → ℕ → List ℕ → List ℕ
+written p w xs = flat_map (λ r. by_fate w p.gathered p.patches r (fate_at p.fates r) (slice_of w r xs)) (range_with_len 0 (length xs / w))
 
 -- the image that a commit makes of i
 abbrev pub committed : Prepared → Image → Image
 committed p i = record {
-  heap = record { geometry = i.heap.geometry; words = p.words.items; regions = p.regions.items; roots = p.roots.items; current = None };
-  sets = map (λ s. s.items) p.sets.items;
+  heap = record { geometry = i.heap.geometry; words = written p i.heap.geometry.w i.heap.words; regions = p.regions; roots = p.roots; current = None };
+  sets = p.sets;
   log = [];
 }
 
 -- it was made for the pause of i that evacuates the survivors l of the set
 pub record IsMadeFor (p : Prepared) (i : Image) (set l : List ℕ) : Type 0 where
   pub room : HasRoom i.heap set l
-  pub moved : IsMoved i set l (committed p i)
+  pub fates : AreFates i.heap set (to_space i.heap l) p.fates
+  pub gathered : p.gathered ≡ to_space_words i.heap l
+  pub patches : p.patches ≡ all_patches i.heap set l
+  pub firsts : AreFirsts i.heap.geometry.w i.heap.geometry.n p.patches p.firsts
+  pub table : p.regions ≡ map (new_region i.heap set l) (regions i.heap)
+  pub roots : p.roots ≡ map (renamed (forward i.heap l)) i.heap.roots
+  pub sets : p.sets ≡ map (new_set i set l (heap_after i.heap set l)) (regions i.heap)

@@ -1,33 +1,15 @@
 -- The remembered sets after a pause, put together of lists of cards.
-use Rattle.std.specs.Prelude.{◌≡◌, ◌<◌, ℕ, Bool, true, false, List, [], length, filter, slice_index_or, All, Result, Ok, Err, if◌then◌else◌}
+use Rattle.std.specs.Prelude.{◌≡◌, ◌<◌, ℕ, Bool, true, false, List, [], length, filter, slice_index_or, All, Result, Ok, Err}
 use Rattle.std.specs.List.Sorted.{IsStrictlyIncreasing}
 use Rattle.std.specs.Global.{Vec}
 use Rattle.g1_words.specs.declared.fault.Fault.{Fault}
 use Rattle.g1_words.specs.declared.fault.Fault.TheVariants.{Memory}
 use Rattle.g1_words.specs.Heap.{Heap}
-use Rattle.g1_words.specs.Lists.{has}
 use Rattle.g1_image.specs.Image.{region_of_card}
 use Rattle.g1_rem.specs.Merging.{IsMerged}
-use Rattle.g1_copy.specs.declared.sets.Fate.{Fate}
-use Rattle.g1_copy.specs.declared.sets.Fate.TheVariants.{Freed, Filled, Kept}
-
--- a region's fate; past the last one, kept
-abbrev pub fate_at : List Fate → ℕ → Fate
-fate_at fates r = slice_index_or fates r Kept
-
--- what a pause does with a region
-abbrev pub fate_of : List ℕ → List ℕ → ℕ → Fate
-fate_of set to r = if has set r then Freed else (if has to r then Filled else Kept)
-
--- these regions have the one fate, any other the fate that it had
-pub record IsMarkedFrom (old : List Fate) (members : List ℕ) (fate : Fate) (new : List Fate) : Type 0 where
-  pub one_each : length new ≡ length old
-  pub each : (r : ℕ) → r < length old → fate_at new r ≡ (if has members r then fate else fate_at old r)
-
--- each region has its fate
-pub record AreFates (h : Heap) (set to : List ℕ) (fates : List Fate) : Type 0 where
-  pub one_each : length fates ≡ h.geometry.n
-  pub each : (r : ℕ) → r < h.geometry.n → fate_at fates r ≡ fate_of set to r
+use Rattle.g1_copy.specs.declared.fates.Fate.{Fate}
+use Rattle.g1_copy.specs.declared.fates.Fate.TheVariants.{Freed, Filled, Kept}
+use Rattle.g1_copy.specs.Fates.{fate_at}
 
 -- the fate isn't that of the set's regions
 abbrev pub is_left : Fate → Bool
@@ -41,7 +23,7 @@ stays h fates c = is_left (fate_at fates (region_of_card h c))
 -- the set of a region of this fate: none; the cards of outer slots and of copied slots; the refined ones that stay and those of copied slots
 abbrev pub IsJoined : Heap → List Fate → Fate → List ℕ → List ℕ → List ℕ → List ℕ → Type 0
 IsJoined h fates Freed refined outer inner cards = cards ≡ []
-IsJoined h fates Filled refined outer inner cards = IsMerged outer inner cards
+IsJoined h fates (Filled t) refined outer inner cards = IsMerged outer inner cards
 IsJoined h fates Kept refined outer inner cards = IsMerged (filter (stays h fates) refined) inner cards
 
 -- one region's list of cards

@@ -2,6 +2,7 @@ ghost use Rattle.std.specs.Prelude.{ℕ, List, ◌<◌, ◌≤◌};
 ghost use Rattle.g1_image.specs.Moved.{IsMoved};
 ghost use Rattle.g1_copy.specs.Prepared.{IsMadeFor};
 
+use crate::filling::write;
 use crate::preparing::Prepared;
 use g1_image::{Image, after};
 use g1_rem::Tracked;
@@ -9,7 +10,8 @@ use g1_words::Heap;
 use g1_work::Gate;
 use std::thread::Threads;
 
-/// The image after the pause, from what was made ready for it. Takes no memory and refuses nothing.
+/// The image after the pause, from what was made ready for it, written in place in one pass over the
+/// regions. Takes no memory and refuses nothing.
 pub fn commit<R: Threads + Sync, G: Gate + Sync>(
     rt: &R,
     workers: u64,
@@ -25,13 +27,16 @@ pub fn commit<R: Threads + Sync, G: Gate + Sync>(
     let Tracked { image } = tracked;
     let Image {
         heap,
-        sets,
+        sets: _,
         mut log,
     } = image;
+    let mut words = heap.words;
+    let region_words = heap.geometry.region_words() as usize;
+    write(rt, workers, &mut words, region_words, &prepared, gate);
     log.clear();
     let heap = Heap {
         geometry: heap.geometry,
-        words: prepared.words,
+        words,
         regions: prepared.regions,
         roots: prepared.roots,
         current: None,

@@ -6,18 +6,21 @@
 //! 3. `patches` lists the slots outside the set that name a survivor, with their new words.
 //! 4. `new_rem` makes the remembered sets of the image after the pause.
 //! 5. `prepare` joins these. It takes all memory; nothing of the image was changed until then.
-//! 6. `commit` puts what was prepared in place. It takes no memory and refuses nothing.
+//! 6. `commit` writes what was prepared over the heap's own words, each region by its fate: one of the
+//!    set is cleared, one of to-space is filled, and any other takes its patches. It takes no memory
+//!    and refuses nothing.
 #![tactic(auto)]
 
 mod committing;
 mod copied;
 mod entering;
+mod fates;
+mod filling;
 mod gathering;
 mod laws;
 mod linking;
 mod patching;
 mod preparing;
-mod rewriting;
 mod sets;
 
 pub use committing::commit;

@@ -1,11 +1,11 @@
-ghost use Rattle.std.specs.Prelude.{◌≡◌, ◌<◌, ◌*◌, ◌++◌, length, Contains, false, All, OnOk, IfOk, IfErr};
+ghost use Rattle.std.specs.Prelude.{◌≡◌, ◌<◌, ◌*◌, ◌++◌, length, map, Contains, false, All, OnOk, IfOk, IfErr};
 ghost use Rattle.std.specs.List.Sorted.{IsStrictlyIncreasing};
 ghost use Rattle.g1_words.specs.Survivors.{in_set};
 ghost use Rattle.g1_words.specs.Valid.{IsValid};
 ghost use Rattle.g1_rem.specs.Slots.{slots_on};
 ghost use Rattle.g1_rem.specs.Starts.{IsStartsOf, card_count};
 ghost use Rattle.g1_copy.specs.Plans.{IsPlanOf};
-ghost use Rattle.g1_copy.specs.Patches.{patch_at, patches_at, patches_on};
+ghost use Rattle.g1_copy.specs.Patches.{patch_at, patches_at, patches_on, AreBefore, AreFirsts};
 
 use g1_layout::Plan;
 use g1_rem::{Starts, slots_on};
@@ -91,4 +91,31 @@ pub fn patches(
         push_card(alloc, heap, starts, plan, *card, &mut patches)?;
     }
     Ok(patches)
+}
+
+/// How many patches lie before an address.
+fn before(patches: &[(u64, u64)], end: u64) -> usize
+    requires { IsStrictlyIncreasing (map (λ x. x.0) patches.now) }
+    ensures { AreBefore patches.now end result }
+{
+    patches.partition_point(|patch| patch.0 < end)
+}
+
+/// For each region how many patches lie before it, and at last all.
+pub(crate) fn firsts(
+    alloc: Global,
+    heap: &Heap,
+    patches: &[(u64, u64)],
+) -> Result<Vec<usize>, Fault>
+    requires { IsStrictlyIncreasing (map (λ x. x.0) patches.now) }
+    ensures ok { IfOk result (λ v. AreFirsts heap.now.geometry.w heap.now.geometry.n patches.now v.items) }
+    ensures memory { IfErr result (λ e. e ≡ Fault.Memory) }
+{
+    let geometry = heap.geometry();
+    let count = geometry.regions() + 1;
+    let mut firsts = Vec::with_capacity(alloc, count as usize)?;
+    for region in 0..count {
+        firsts.push(before(patches, region * geometry.region_words()))?;
+    }
+    Ok(firsts)
 }

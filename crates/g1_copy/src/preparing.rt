@@ -1,77 +1,102 @@
-ghost use Rattle.std.specs.Prelude.{◌≡◌, ◌≢◌, ◌<◌, ◌^◌, map, length, slice_index, slice_index_or, All, AllPairs, IfOk, IfErr};
-ghost use Rattle.g1_words.specs.Heap.{free_region, region_with, regions};
-ghost use Rattle.g1_words.specs.Layout.{forward, moved_to};
-ghost use Rattle.g1_words.specs.declared.region.Kind.TheVariants.{Ordinary};
+ghost use Rattle.std.specs.Prelude.{◌≡◌, ◌<◌, ◌^◌, ℕ, map, length, All, IfOk, IfErr};
+ghost use Rattle.g1_words.specs.Heap.{regions};
+ghost use Rattle.g1_words.specs.Layout.{forward, moved_to, to_space};
 ghost use Rattle.g1_image.specs.Cards.{refined};
 ghost use Rattle.g1_image.specs.Copy.{renamed};
 ghost use Rattle.g1_image.specs.Moved.{new_region};
 ghost use Rattle.g1_layout.specs.declared.plan.Run.{Run};
 ghost use Rattle.g1_rem.specs.Starts.{IsStartsOf};
+ghost use Rattle.g1_copy.specs.Fates.{AreFates, region_by_fate};
 ghost use Rattle.g1_copy.specs.Plans.{IsPauseOf};
 ghost use Rattle.g1_copy.specs.Prepared.{IsMadeFor};
-ghost use Rattle.g1_copy.specs.Replacing.{AreReplaced};
+ghost use Rattle.g1_copy.specs.declared.fates.Fate.TheVariants.{Filled};
 
 use crate::entering::cards_into;
+use crate::fates::{Fate, fates};
 use crate::gathering::{gather, renamed};
 use crate::laws::all_patches;
-use crate::patching::patches;
-use crate::rewriting::new_words;
-use crate::sets::new_rem;
+use crate::patching::{firsts, patches};
+use crate::sets::sets_by_fate;
 use g1_layout::{Plan, Run};
 use g1_rem::{Starts, Tracked, image};
 use g1_words::{Fault, Heap, Kind, Region};
 use std::alloc::Global;
+use std::marker::Model;
 use std::thread::Threads;
 
 /// All that a pause writes, made ready.
 #[derive(Drop)]
 pub struct Prepared {
-    pub(crate) words: Vec<u64>,
+    /// What is done with each region.
+    pub(crate) fates: Vec<Fate>,
+    /// The words of to-space, its regions one after another.
+    pub(crate) gathered: Vec<u64>,
+    /// The slots outside the set that name a survivor, by address, each with its new word.
+    pub(crate) patches: Vec<(u64, u64)>,
+    /// How many patches lie before each region, and at last all.
+    pub(crate) firsts: Vec<usize>,
+    /// The regions after.
     pub(crate) regions: Vec<Region>,
+    /// The roots after.
     pub(crate) roots: Vec<u64>,
+    /// The remembered sets after.
     pub(crate) sets: Vec<Vec<u32>>,
 }
 
-/// Makes these regions free.
-fn clear(regions: &mut [Region], set: &[u32])
-    requires { All (λ r. r < length regions.old) set.now }
-    ensures { AreReplaced (length set.now) (slice_index set.now) (λ t. free_region) regions.old regions.new }
-{
-    for r in set {
-        regions[*r as usize] = Region {
-            kind: Kind::Free,
-            top: 0,
-        };
-    }
+impl Model for Prepared {
+    ghost use Rattle.std.specs.Prelude.{map};
+    ghost use Rattle.g1_copy.specs.Prepared.{Prepared as PreparedOf};
+
+    ghost Value = { PreparedOf };
+
+    ghost view = { λ p. record {
+      fates = p.fates.items;
+      gathered = p.gathered.items;
+      patches = p.patches.items;
+      firsts = p.firsts.items;
+      regions = p.regions.items;
+      roots = p.roots.items;
+      sets = map (λ s. s.items) p.sets.items;
+    } };
 }
 
-/// Makes the region of each run one of ordinary objects, used up to where the last survivor in it ends.
-fn fill(regions: &mut [Region], runs: &[Run])
-    requires there { All (λ u. u.region < length regions.old) runs.now }
+/// A region after the pause, of what it is before.
+fn new_region(fate: Fate, runs: &[Run], region: Region) -> Region
+    requires run { (t : ℕ) → fate ≡ Filled t → t < length runs.now }
     requires small { All (λ u. u.end < 2 ^ 32) runs.now }
-    requires distinct { AllPairs (λ u v. u.region ≢ v.region) runs.now }
-    ensures { (u : Run) → AreReplaced (length runs.now) (λ t. (slice_index_or runs.now t u).region) (λ t. region_with Ordinary (slice_index_or runs.now t u).end) regions.old regions.new }
+    ensures { (u : Run) → result ≡ region_by_fate runs.now u fate region }
 {
-    for run in runs {
-        regions[run.region as usize] = Region {
+    match fate {
+        Fate::Freed => Region {
+            kind: Kind::Free,
+            top: 0,
+        },
+        Fate::Filled(run) => Region {
             kind: Kind::Ordinary,
-            top: run.end as u32,
-        };
+            top: runs[run].end as u32,
+        },
+        Fate::Kept => region,
     }
 }
 
 /// The regions after the pause: those of the set free, those of to-space used up to where their last
 /// survivors end, and all others as they were.
-fn new_regions(alloc: Global, heap: &Heap, set: &[u32], plan: &Plan) -> Result<Vec<Region>, Fault>
-    requires { IsPauseOf heap.now set.now plan.now }
-    ensures ok { IfOk result (λ v. v.items ≡ map (new_region heap.now set.now plan.now.survivors) (regions heap.now)) }
+fn new_regions(
+    alloc: Global,
+    heap: &Heap,
+    fates: &[Fate],
+    plan: &Plan,
+) -> Result<Vec<Region>, Fault>
+    requires plan { IsPauseOf heap.now plan.now.set plan.now }
+    requires fates { AreFates heap.now plan.now.set (to_space heap.now plan.now.survivors) fates.now }
+    ensures ok { IfOk result (λ v. v.items ≡ map (new_region heap.now plan.now.set plan.now.survivors) (regions heap.now)) }
     ensures memory { IfErr result (λ e. e ≡ Fault.Memory) }
 {
-    // Known of every heap whose geometry was asked: it is valid.
-    let _geometry = heap.geometry();
-    let mut regions = heap.regions().to_vec(alloc)?;
-    clear(&mut regions, set);
-    fill(&mut regions, plan.runs());
+    let count = heap.geometry().regions() as u32;
+    let mut regions = Vec::with_capacity(alloc, count as usize)?;
+    for r in 0..count {
+        regions.push(new_region(fates[r as usize], plan.runs(), heap.region(r)))?;
+    }
     Ok(regions)
 }
 
@@ -116,10 +141,14 @@ pub fn prepare(
     let cards = cards_into(alloc, heap, sets, set)?;
     let patches = patches(rt, alloc, heap, starts, plan, &cards)?;
     let gathered = gather(rt, alloc, heap, plan)?;
+    let fates = fates(alloc, heap, set, plan)?;
     Ok(Prepared {
-        words: new_words(alloc, heap, set, plan, &gathered, &patches)?,
-        regions: new_regions(alloc, heap, set, plan)?,
+        firsts: firsts(alloc, heap, &patches)?,
+        regions: new_regions(alloc, heap, &fates, plan)?,
         roots: new_roots(alloc, heap, set, plan)?,
-        sets: new_rem(rt, alloc, tracked, sets, set, plan, &patches, &gathered)?,
+        sets: sets_by_fate(rt, alloc, tracked, sets, &fates, plan, &patches, &gathered)?,
+        fates,
+        gathered,
+        patches,
     })
 }

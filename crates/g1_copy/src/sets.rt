@@ -1,18 +1,20 @@
-ghost use Rattle.std.specs.Prelude.{◌≡◌, ◌<◌, length, map, filter, replicate, All, IfOk, IfErr};
+ghost use Rattle.std.specs.Prelude.{◌≡◌, ◌<◌, length, map, filter, All, IfOk, IfErr};
 ghost use Rattle.std.specs.List.Sorted.{IsStrictlyIncreasing};
 ghost use Rattle.g1_words.specs.Heap.{regions};
 ghost use Rattle.g1_image.specs.Cards.{refined};
 ghost use Rattle.g1_image.specs.Image.{region_of_card};
+ghost use Rattle.g1_words.specs.Layout.{to_space};
 ghost use Rattle.g1_image.specs.Moved.{new_set};
 ghost use Rattle.g1_image.specs.Made.{heap_after};
 ghost use Rattle.g1_copy.specs.Plans.{IsPauseOf};
 ghost use Rattle.g1_copy.specs.Gathered.{to_space_words};
 ghost use Rattle.g1_copy.specs.Patches.{all_patches};
-ghost use Rattle.g1_copy.specs.Sets.{AreFates, IsMarkedFrom, stays, IsJoined, AreSources, AreJoined, IsJoinedAt};
-ghost use Rattle.g1_copy.specs.declared.sets.Fate.TheVariants.{Freed, Filled, Kept};
+ghost use Rattle.g1_copy.specs.Fates.{AreFates};
+ghost use Rattle.g1_copy.specs.Sets.{stays, IsJoined, AreSources, AreJoined, IsJoinedAt};
 ghost use Rattle.g1_copy.specs.Laws.{CardsOfToSpace, CardsInToSpace};
 
 use crate::copied::copied_slots;
+use crate::fates::{Fate, fates};
 use crate::linking::cards_by_region;
 use g1_layout::Plan;
 use g1_rem::{Tracked, image, merged};
@@ -23,52 +25,6 @@ use std::thread::Threads;
 
 /// How many regions are worth a thread of their own: one set alone is a small task.
 const LEAST_PIECE: usize = 64;
-
-/// What a pause does with a region.
-#[derive(Clone, Copy)]
-enum Fate {
-    /// It is of the set, and free afterwards.
-    Freed,
-    /// Survivors are placed in it.
-    Filled,
-    /// Its objects stay.
-    Kept,
-}
-
-/// So many regions that are kept.
-fn all_kept(alloc: Global, regions: u64) -> Result<Vec<Fate>, Fault>
-    ensures ok { IfOk result (λ v. v.items ≡ replicate regions Kept) }
-    ensures memory { IfErr result (λ e. e ≡ Fault.Memory) }
-{
-    let mut fates = Vec::with_capacity(alloc, regions as usize)?;
-    for _region in 0..regions {
-        fates.push(Fate::Kept)?;
-    }
-    Ok(fates)
-}
-
-/// Writes a fate for some regions.
-fn mark(fates: &mut [Fate], members: &[u32], fate: Fate)
-    requires { All (λ r. r < length fates.old) members.now }
-    ensures { IsMarkedFrom fates.old members.now fate fates.new }
-{
-    for region in members {
-        fates[*region as usize] = fate;
-    }
-}
-
-/// The fate of each region.
-fn fates(alloc: Global, heap: &Heap, set: &[u32], to_space: &[u32]) -> Result<Vec<Fate>, Fault>
-    requires set { All (λ r. r < heap.now.geometry.n) set.now }
-    requires to_space { All (λ r. r < heap.now.geometry.n) to_space.now }
-    ensures ok { IfOk result (λ v. AreFates heap.now set.now to_space.now v.items) }
-    ensures memory { IfErr result (λ e. e ≡ Fault.Memory) }
-{
-    let mut fates = all_kept(alloc, heap.geometry().regions())?;
-    mark(&mut fates, to_space, Fate::Filled);
-    mark(&mut fates, set, Fate::Freed);
-    Ok(fates)
-}
 
 /// Those of some cards that don't lie in a freed region.
 fn kept_cards(alloc: Global, heap: &Heap, fates: &[Fate], cards: &[u32]) -> Result<Vec<u32>, Fault>
@@ -107,7 +63,7 @@ fn joined(
 {
     match fate {
         Fate::Freed => Ok(Vec::new(alloc)),
-        Fate::Filled => merged(alloc, outer, inner),
+        Fate::Filled(_) => merged(alloc, outer, inner),
         Fate::Kept => {
             let kept = kept_cards(alloc, heap, fates, refined)?;
             merged(alloc, &kept, inner)
@@ -148,6 +104,32 @@ fn joined_sets(
         .collect::<Result<Vec<Vec<u32>>, Fault>>(rt, alloc)?
 }
 
+/// The remembered sets after the pause, by the fates of the regions.
+pub(crate) fn sets_by_fate(
+    rt: &(impl Threads + Sync),
+    alloc: Global,
+    tracked: &Tracked,
+    sets: &[Vec<u32>],
+    fates: &[Fate],
+    plan: &Plan,
+    patches: &[(u64, u64)],
+    gathered: &[u64],
+) -> Result<Vec<Vec<u32>>, Fault>
+    requires sets { map (λ s. s.items) sets.now ≡ map (refined tracked.now) (regions tracked.now.heap) }
+    requires plan { IsPauseOf tracked.now.heap plan.now.set plan.now }
+    requires fates { AreFates tracked.now.heap plan.now.set (to_space tracked.now.heap plan.now.survivors) fates.now }
+    requires patches { patches.now ≡ all_patches tracked.now.heap plan.now.set plan.now.survivors }
+    requires gathered { gathered.now ≡ to_space_words tracked.now.heap plan.now.survivors }
+    ensures ok { IfOk result (λ v. map (λ s. s.items) v.items ≡ map (new_set tracked.now plan.now.set plan.now.survivors (heap_after tracked.now.heap plan.now.set plan.now.survivors)) (regions tracked.now.heap)) }
+    ensures memory { IfErr result (λ e. e ≡ Fault.Memory) }
+{
+    let heap = image(tracked).heap();
+    let outer = cards_by_region(alloc, heap, patches)?;
+    let copies = copied_slots(alloc, heap, plan, gathered)?;
+    let inner = cards_by_region(alloc, heap, &copies)?;
+    joined_sets(rt, alloc, heap, fates, sets, &outer, &inner)
+}
+
 /// The remembered sets after the pause, one a region: of a region of the set none; of one of
 /// to-space the cards of slots elsewhere that now name an object in it; of any other its refined set
 /// without the set's cards, and the to-space cards that hold a slot which names an object in it.
@@ -175,12 +157,8 @@ pub fn new_rem(
     ensures ok { IfOk result (λ v. map (λ s. s.items) v.items ≡ map (new_set tracked.now set.now plan.now.survivors (heap_after tracked.now.heap set.now plan.now.survivors)) (regions tracked.now.heap)) }
     ensures memory { IfErr result (λ e. e ≡ Fault.Memory) }
 {
-    let heap = image(tracked).heap();
-    let outer = cards_by_region(alloc, heap, patches)?;
-    let copies = copied_slots(alloc, heap, plan, gathered)?;
-    let inner = cards_by_region(alloc, heap, &copies)?;
-    let fates = fates(alloc, heap, set, plan.to_space())?;
-    joined_sets(rt, alloc, heap, &fates, sets, &outer, &inner)
+    let fates = fates(alloc, image(tracked).heap(), set, plan)?;
+    sets_by_fate(rt, alloc, tracked, sets, &fates, plan, patches, gathered)
 }
 
 /// Which slots the exact cards of the heap after a pause come from.

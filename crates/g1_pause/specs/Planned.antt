@@ -2,8 +2,7 @@
 use Rattle.std.specs.Prelude.{ℕ, List}
 use Rattle.g1_image.specs.Image.{Image}
 use Rattle.g1_choose.specs.declared.parameters.Cost.{Cost}
-use Rattle.g1_copy.specs.declared.preparing.Prepared.{Prepared}
-use Rattle.g1_copy.specs.Prepared.{IsMadeFor}
+use Rattle.g1_copy.specs.Prepared.{IsMadeFor, Prepared}
 use Rattle.g1_pause.specs.declared.settings.Choice.{Choice}
 use Rattle.g1_pause.specs.Answer.{IsSetFor}
 

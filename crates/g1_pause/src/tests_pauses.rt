@@ -6,7 +6,7 @@ use g1_rem::{Tracked, image, verify};
 use g1_words::Fault;
 use g1_work::{Gate, Open, Part};
 use std::alloc::Global;
-use std::sync::atomic::{AtomicBool, Ordering};
+use std::sync::atomic::{AtomicBool, AtomicU64, Ordering};
 use std::test::Fail;
 use std::thread::Threads;
 
@@ -357,9 +357,43 @@ fn a_refused_pause_leaves_the_image(rt: HostRuntime) -> Result<(), Fail> {
     Ok(())
 }
 
-/// A gate whose calls for the chunks 0 and 1 look for one another.
+/// Counts the runs that are filled, in bytes, and those from 7 on in the last one.
+#[derive(Drop)]
+struct Counting {
+    runs: AtomicU64,
+}
+
+impl Gate for Counting {
+    fn at(&self, part: Part, number: u64) {
+        if part == Part::Fill {
+            let byte = if number < 7 { number } else { 7 };
+            self.runs.fetch_add(1 << (byte * 8), Ordering::SeqCst);
+        }
+    }
+}
+
+#[test]
+fn a_commit_fills_a_run_for_each_worker(rt: HostRuntime) -> Result<(), Fail> {
+    let alloc = rt.alloc();
+    let gate = Counting {
+        runs: AtomicU64::new(0),
+    };
+    let settings = collecting(alloc, &[0, 1], 3, 64)?;
+    match evacuate(&rt, alloc, tracked(&rt, alloc, &GAP)?, &settings, &gate) {
+        Ok((after, _)) => assert_eq!(rt;
+            encode(alloc, image(&after))?.as_slice(),
+            text(alloc, &GAP_AFTER)?.as_slice()
+        ),
+        Err((_, fault)) => return Err(fault.into()),
+    }
+    assert_eq!(rt; gate.runs.load(Ordering::SeqCst), 0x01_0101);
+    Ok(())
+}
+
+/// A gate whose calls for the numbers 0 and 1 of a part look for one another.
 #[derive(Drop)]
 struct Meeting {
+    part: Part,
     zero: AtomicBool,
     one: AtomicBool,
     missed: AtomicBool,
@@ -378,7 +412,7 @@ fn waits_for(flag: &AtomicBool) -> bool {
 
 impl Gate for Meeting {
     fn at(&self, part: Part, number: u64) {
-        if !matches!(part, Part::Deal) {
+        if part != self.part {
             return;
         }
         let (mine, theirs) = match number {
@@ -393,22 +427,32 @@ impl Gate for Meeting {
     }
 }
 
-#[test]
-fn together(rt: HostRuntime) -> Result<(), Fail> {
-    let alloc = rt.alloc();
+/// Tells whether the numbers 0 and 1 of a part are met in a pause of two workers, which makes what
+/// one worker does.
+fn is_shared<R: Threads + Sync>(rt: &R, alloc: Global, part: Part) -> Result<bool, Fault> {
     let gate = Meeting {
+        part,
         zero: AtomicBool::new(false),
         one: AtomicBool::new(false),
         missed: AtomicBool::new(false),
     };
     let settings = collecting(alloc, &[1], 2, 1)?;
-    match evacuate(&rt, alloc, tracked(&rt, alloc, &SHARED)?, &settings, &gate) {
-        Ok((after, _)) => assert_eq!(rt;
-            encode(alloc, image(&after))?.as_slice(),
-            text(alloc, &SHARED_AFTER)?.as_slice()
-        ),
-        Err((_, fault)) => return Err(fault.into()),
+    match evacuate(rt, alloc, tracked(rt, alloc, &SHARED)?, &settings, &gate) {
+        Ok((after, _)) => {
+            let found = encode(alloc, image(&after))?;
+            let expected = text(alloc, &SHARED_AFTER)?;
+            let met = gate.zero.load(Ordering::SeqCst)
+                && gate.one.load(Ordering::SeqCst)
+                && !gate.missed.load(Ordering::SeqCst);
+            Ok(met && found.as_slice() == expected.as_slice())
+        }
+        Err((_, fault)) => Err(fault),
     }
-    assert!(rt; !gate.missed.load(Ordering::SeqCst));
+}
+
+#[test]
+fn together(rt: HostRuntime) -> Result<(), Fail> {
+    assert!(rt; is_shared(&rt, rt.alloc(), Part::Deal)?);
+    assert!(rt; is_shared(&rt, rt.alloc(), Part::Fill)?);
     Ok(())
 }

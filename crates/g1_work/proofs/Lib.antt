@@ -8,3 +8,4 @@ pub mod Merging
 pub mod Gathering
 pub mod Whole
 pub mod Client
+pub mod Slices

@@ -3,3 +3,4 @@ pub mod Rule
 pub mod Each
 pub mod Worker
 pub mod Merge
+pub mod Regions

@@ -15,22 +15,31 @@
 //! 5. `each_chunk` runs a task so: a worker for each state draws chunks until none is left, and
 //!    keeps what each gave. Then each chunk's out is put at its place.
 //!
+//! Words that are written in place are not drawn: `each_region_mut` cuts them into runs of regions,
+//! and lends each run to one thread alone.
+//!
 //! What holds of the cursor between any two steps is one definition, `Dealing` of `specs/Rule`.
 //! What a seat has drawn stands in the proofs alone: the list takes no bytes.
 #![tactic(auto)]
 
 mod dealer;
 mod each;
+mod fill;
 mod gate;
 mod gather;
 mod merge;
+mod regions;
 mod rule;
 mod task;
 #[cfg(test)]
 mod tests;
+#[cfg(test)]
+mod tests_regions;
 mod worker;
 
 pub use dealer::{DealSeat, Dealer, shares};
 pub use each::each_chunk;
+pub use fill::Fill;
 pub use gate::{Gate, Open, Part};
+pub use regions::each_region_mut;
 pub use task::Task;

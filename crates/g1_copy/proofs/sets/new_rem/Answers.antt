@@ -1,73 +1,11 @@
-use Rattle.std.proofs.Common.{◌≡◌, ◌<◌, List, ℕ, map, All, subst, sym, ap, ◌∙◌}
-use Rattle.std.specs.List.Sorted.{IsStrictlyIncreasing}
-use Rattle.g1_words.specs.Heap.{Heap}
-use Rattle.g1_image.specs.Image.{Image, IsImage}
-use Rattle.g1_copy.specs.Sets.{AreFates}
-use Rattle.g1_copy.proofs.SetsPaused.{AreThere, copies_lent, cards_lent, outer_rise, outer_there, inner_rise, inner_there, set_there, to_there, paused_sources, paused_sets}
-use Rattle.g1_copy.proofs.sets.new_rem.Given.{Over}
+use Rattle.std.proofs.Common.{◌≡◌, IfOk, map, subst}
+use Rattle.g1_words.specs.Heap.{regions}
+use Rattle.g1_image.specs.Made.{heap_after}
+use Rattle.g1_image.specs.Moved.{new_set}
 use Rattle.g1_copy.proofs.sets.new_rem.Goals as goal
-use Rattle.g1_copy.proofs.sets.new_rem.Goals.{After-heap-heap}
-
-the_image : (g : Over) (c : After-heap-heap g) → IsImage c.args.tracked.now
-the_image g c = subst IsImage c.image.ensures.same c.heap-heap.ensures.valid
-
-the_heap : (g : Over) (c : After-heap-heap g) → c.heap-heap.result.now ≡ c.args.tracked.now.heap
-the_heap g c = c.heap-heap.ensures.same ∙ ap (λ (i : Image). i.heap) c.image.ensures.same
-
-pub cards_by_region-requires-clause-rising : goal.cards_by_region-requires-clause-rising
-cards_by_region-requires-clause-rising g c =
-    subst (λ (xs : List (ℕ × ℕ)). IsStrictlyIncreasing (map (λ x. x.0) xs)) (sym c.requires.patches) (outer_rise c.args.tracked.now c.args.set.now c.args.plan.now (the_image g c) c.requires.plan)
-
-pub cards_by_region-requires-clause-there : goal.cards_by_region-requires-clause-there
-cards_by_region-requires-clause-there g c =
-    subst (λ h. AreThere h c.args.patches.now) (sym (the_heap g c))
-    (subst (AreThere c.args.tracked.now.heap) (sym c.requires.patches) (outer_there c.args.tracked.now c.args.set.now c.args.plan.now (the_image g c) c.requires.plan))
-
-pub cards_by_region-requires-2-clause-rising : goal.cards_by_region-requires-2-clause-rising
-cards_by_region-requires-2-clause-rising g c =
-    let b = (goal.at.cards_by_region-requires-2-clause-rising g c).After-heap-heap in
-    let copies = copies_lent c.heap-heap.result.now c.args.tracked.now.heap c.args.plan.now.survivors c.deref.result.now c.in_ok-copies.copies.items (the_heap g b) c.deref.ensures.value c.in_ok-copies.ensures.ok in
-    subst (λ (xs : List (ℕ × ℕ)). IsStrictlyIncreasing (map (λ x. x.0) xs)) (sym copies) (inner_rise c.args.tracked.now c.args.set.now c.args.plan.now (the_image g b) c.requires.plan)
-
-pub cards_by_region-requires-2-clause-there : goal.cards_by_region-requires-2-clause-there
-cards_by_region-requires-2-clause-there g c =
-    let b = (goal.at.cards_by_region-requires-2-clause-there g c).After-heap-heap in
-    let copies = copies_lent c.heap-heap.result.now c.args.tracked.now.heap c.args.plan.now.survivors c.deref.result.now c.in_ok-copies.copies.items (the_heap g b) c.deref.ensures.value c.in_ok-copies.ensures.ok in
-    subst (λ h. AreThere h c.deref.result.now) (sym (the_heap g b))
-    (subst (AreThere c.args.tracked.now.heap) (sym copies) (inner_there c.args.tracked.now c.args.set.now c.args.plan.now (the_image g b) c.requires.plan))
-
-pub fates-requires-clause-set : goal.fates-requires-clause-set
-fates-requires-clause-set g c =
-    let b = (goal.at.fates-requires-clause-set g c).After-heap-heap in
-    subst (λ (h : Heap). All (λ r. r < h.geometry.n) c.args.set.now) (sym (the_heap g b)) (set_there c.args.tracked.now c.args.set.now c.args.plan.now (the_image g b) c.requires.plan)
-
-pub fates-requires-clause-to_space : goal.fates-requires-clause-to_space
-fates-requires-clause-to_space g c =
-    let b = (goal.at.fates-requires-clause-to_space g c).After-heap-heap in
-    subst (λ (h : Heap). All (λ r. r < h.geometry.n) c.to_space.result.now) (sym (the_heap g b))
-    (subst (All (λ r. r < c.args.tracked.now.heap.geometry.n)) (sym c.to_space.ensures) (to_there c.args.tracked.now c.args.set.now c.args.plan.now (the_image g b) c.requires.plan))
-
-pub joined_sets-requires-after_bounds : goal.joined_sets-requires-after_bounds
-joined_sets-requires-after_bounds g c κs within =
-    let b = (goal.at.joined_sets-requires-after_bounds g c).After-heap-heap in
-    let h = c.heap-heap.result.now in
-    let copies = copies_lent h c.args.tracked.now.heap c.args.plan.now.survivors c.deref.result.now c.in_ok-copies.copies.items (the_heap g b) c.deref.ensures.value c.in_ok-copies.ensures.ok in
-    let fates = subst (AreFates h c.args.set.now c.to_space.result.now) (sym c.deref-2.ensures.value) c.in_ok-fates.ensures.ok in
-    let outer = cards_lent h c.args.patches.now c.deref-3.result.now c.in_ok-outer.outer.items c.deref-3.ensures.value c.in_ok-outer.ensures.ok in
-    let inner = cards_lent h c.deref.result.now c.deref-4.result.now c.in_ok-inner.inner.items c.deref-4.ensures.value c.in_ok-inner.ensures.ok in
-    paused_sources c.args.tracked.now c.args.set.now c.args.plan.now (the_image g b) c.requires.plan h (the_heap g b) c.to_space.result.now c.to_space.ensures
-    c.args.patches.now c.deref.result.now c.requires.patches copies c.deref-2.result.now fates
-    (map (λ s. s.items) c.args.sets.now) (map (λ s. s.items) c.deref-3.result.now) (map (λ s. s.items) c.deref-4.result.now) c.requires.sets outer inner
 
 pub returns-clause-ok : goal.returns-clause-ok
 returns-clause-ok g c =
-    let b = (goal.at.returns-clause-ok g c).After-heap-heap in
-    let h = c.heap-heap.result.now in
-    let copies = copies_lent h c.args.tracked.now.heap c.args.plan.now.survivors c.deref.result.now c.in_ok-copies.copies.items (the_heap g b) c.deref.ensures.value c.in_ok-copies.ensures.ok in
-    let fates = subst (AreFates h c.args.set.now c.to_space.result.now) (sym c.deref-2.ensures.value) c.in_ok-fates.ensures.ok in
-    let outer = cards_lent h c.args.patches.now c.deref-3.result.now c.in_ok-outer.outer.items c.deref-3.ensures.value c.in_ok-outer.ensures.ok in
-    let inner = cards_lent h c.deref.result.now c.deref-4.result.now c.in_ok-inner.inner.items c.deref-4.ensures.value c.in_ok-inner.ensures.ok in
-    paused_sets c.args.tracked.now c.args.set.now c.args.plan.now (the_image g b) c.requires.plan h (the_heap g b) c.to_space.result.now c.to_space.ensures
-    c.args.patches.now c.deref.result.now c.requires.patches copies c.deref-2.result.now fates
-    (map (λ s. s.items) c.args.sets.now) (map (λ s. s.items) c.deref-3.result.now) (map (λ s. s.items) c.deref-4.result.now) c.requires.sets outer inner
-    c.joined_sets.result c.joined_sets.ensures.ok
+    let i = c.args.tracked.now in
+    let l = c.args.plan.now.survivors in
+    subst (λ s. IfOk c.sets_by_fate.result (λ v. map (λ s. s.items) v.items ≡ map (new_set i s l (heap_after i.heap s l)) (regions i.heap))) c.requires.plan.same c.sets_by_fate.ensures.ok

@@ -1,0 +1,18 @@
+use Rattle.std.proofs.Common.{◌+◌, ◌*◌, get_or, sym, ◌∙◌, ap, subst}
+use Rattle.std.proofs.lemmas.List.{get_or_default}
+use Rattle.g1_copy.specs.declared.fates.Fate.TheVariants.{Freed, Kept}
+use Rattle.g1_copy.specs.Patches.{AreBefore}
+use Rattle.g1_copy.specs.Slices.{by_fate}
+use Rattle.g1_copy.proofs.InPlaceSlices.{patched_part}
+use Rattle.g1_copy.proofs.filling.FillingFill.fill.Goals as goal
+
+pub returns-in-Kept : goal.returns-in-Kept
+returns-in-Kept c =
+    let s = c.args.self.now in
+    let r = c.args.region in
+    let xs = c.args.words.now in
+    let base = r * s.region_words in
+    let ends = subst (λ n. AreBefore s.patches.now (base + n) (get_or s.firsts.now (r + 1) 0)) (sym c.requires.size) c.requires.ends in
+    c.write_patches.ensures
+    ∙ sym (patched_part s.patches.now base xs (get_or s.firsts.now r 0) (get_or s.firsts.now (r + 1) 0) c.requires.begins ends)
+    ∙ ap (λ x. by_fate s.region_words s.gathered.now s.patches.now r x xs) (sym c.in-Kept.is ∙ get_or_default s.fates.now r Freed Kept c.requires.fate)

@@ -1,0 +1,71 @@
+ghost use Rattle.std.specs.Prelude.{◌≡◌, ◌≢◌, ◌<◌, length, replicate, slice_index, All, AllPairs, IfOk, IfErr};
+ghost use Rattle.g1_words.specs.Layout.{to_space};
+ghost use Rattle.g1_copy.specs.Plans.{IsPauseOf};
+ghost use Rattle.g1_copy.specs.Fates.{AreFates, AreReplaced};
+ghost use Rattle.g1_copy.specs.declared.fates.Fate.TheVariants.{Freed, Filled, Kept};
+
+use g1_layout::Plan;
+use g1_words::{Fault, Heap};
+use std::alloc::Global;
+
+/// What a pause does with a region.
+#[derive(Clone, Copy)]
+pub(crate) enum Fate {
+    /// It is of the set, and free afterwards.
+    Freed,
+    /// Survivors are placed in it: those of the run with this index.
+    Filled(usize),
+    /// Its objects stay, or it stays free.
+    Kept,
+}
+
+/// So many regions that are kept.
+fn all_kept(alloc: Global, regions: u64) -> Result<Vec<Fate>, Fault>
+    ensures ok { IfOk result (λ v. v.items ≡ replicate regions Kept) }
+    ensures memory { IfErr result (λ e. e ≡ Fault.Memory) }
+{
+    let mut fates = Vec::with_capacity(alloc, regions as usize)?;
+    for _region in 0..regions {
+        fates.push(Fate::Kept)?;
+    }
+    Ok(fates)
+}
+
+/// Each of these regions is filled by the run of its index.
+fn fill(fates: &mut [Fate], to_space: &[u32])
+    requires there { All (λ r. r < length fates.old) to_space.now }
+    requires distinct { AllPairs (λ r q. r ≢ q) to_space.now }
+    ensures { AreReplaced (length to_space.now) (slice_index to_space.now) (λ t. Filled t) fates.old fates.new }
+{
+    for (run, region) in to_space.iter().enumerate() {
+        fates[*region as usize] = Fate::Filled(run);
+    }
+}
+
+/// Each of these regions is freed.
+fn free(fates: &mut [Fate], set: &[u32])
+    requires { All (λ r. r < length fates.old) set.now }
+    ensures { AreReplaced (length set.now) (slice_index set.now) (λ t. Freed) fates.old fates.new }
+{
+    for region in set {
+        fates[*region as usize] = Fate::Freed;
+    }
+}
+
+/// The fate of each region in the pause of a set. All that is done region by region goes by this
+/// table.
+pub(crate) fn fates(
+    alloc: Global,
+    heap: &Heap,
+    set: &[u32],
+    plan: &Plan,
+) -> Result<Vec<Fate>, Fault>
+    requires { IsPauseOf heap.now set.now plan.now }
+    ensures ok { IfOk result (λ v. AreFates heap.now set.now (to_space heap.now plan.now.survivors) v.items) }
+    ensures memory { IfErr result (λ e. e ≡ Fault.Memory) }
+{
+    let mut fates = all_kept(alloc, heap.geometry().regions())?;
+    fill(&mut fates, plan.to_space());
+    free(&mut fates, set);
+    Ok(fates)
+}

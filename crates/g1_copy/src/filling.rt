@@ -1,0 +1,76 @@
+ghost use Rattle.std.specs.Prelude.{◌≡◌, ◌≤◌, ◌<◌, ◌+◌, ◌^◌, ◌%◌, ℕ, List, length, All};
+ghost use Rattle.g1_work.specs.Regions.{EverySlice};
+ghost use Rattle.g1_copy.specs.Fates.{fate_at};
+ghost use Rattle.g1_copy.specs.Prepared.{written};
+ghost use Rattle.g1_copy.specs.Slices.{IsWritable, by_fate, patched};
+
+use crate::fates::Fate;
+use crate::preparing::Prepared;
+use g1_work::{Fill, Gate, each_region_mut};
+use std::thread::Threads;
+
+/// Writes each patch's word at its slot, in words that begin at this address.
+fn write_patches(words: &mut [u64], start: usize, patches: &[(u64, u64)])
+    requires there { All (λ x. (start ≤ x.0) × (x.0 < start + length words.old)) patches.now }
+    ensures { words.new ≡ patched patches.now start words.old }
+{
+    for (slot, word) in patches {
+        words[*slot as usize - start] = *word;
+    }
+}
+
+/// What is written over the regions of a heap, in regions of so many words.
+#[derive(Drop)]
+struct Filling<'a> {
+    region_words: usize,
+    fates: &'a [Fate],
+    gathered: &'a [u64],
+    patches: &'a [(u64, u64)],
+    firsts: &'a [usize],
+}
+
+impl Fill for Filling<'_> {
+    ghost ready = { λ s r xs. IsWritable s.region_words s.fates.now s.gathered.now s.patches.now s.firsts.now r xs };
+
+    ghost fills = { λ s r xs ys. ys ≡ by_fate s.region_words s.gathered.now s.patches.now r (fate_at s.fates.now r) xs };
+
+    fn fill(&self, region: usize, words: &mut [u64]) {
+        match self.fates[region] {
+            Fate::Freed => words.fill(0),
+            Fate::Filled(run) => {
+                let at = run * self.region_words;
+                words.copy_from_slice(&self.gathered[at..at + self.region_words]);
+            }
+            Fate::Kept => {
+                let patches = &self.patches[self.firsts[region]..self.firsts[region + 1]];
+                write_patches(words, region * self.region_words, patches);
+            }
+        }
+    }
+}
+
+/// Writes what was prepared over the words of a heap, region by region, in its own place. Takes no
+/// memory.
+pub(crate) fn write<R: Threads + Sync, G: Gate + Sync>(
+    rt: &R,
+    workers: u64,
+    words: &mut [u64],
+    region_words: usize,
+    prepared: &Prepared,
+    gate: &G,
+)
+    requires workers { (0 < workers) × (workers ≤ 64) }
+    requires width { 0 < region_words }
+    requires whole { length words.old % region_words ≡ 0 }
+    requires ready { EverySlice (IsWritable region_words prepared.now.fates prepared.now.gathered prepared.now.patches prepared.now.firsts) region_words words.old }
+    ensures { words.new ≡ written prepared.now region_words words.old }
+{
+    let filling = Filling {
+        region_words,
+        fates: &prepared.fates,
+        gathered: &prepared.gathered,
+        patches: &prepared.patches,
+        firsts: &prepared.firsts,
+    };
+    each_region_mut(rt, workers, words, region_words, &filling, gate);
+}
