@@ -1,0 +1,135 @@
+-- The log after a slot is written, and images whose used regions stay.
+use Rattle.std.proofs.Common.{◌≡◌, ◌≢◌, ℕ, zero, suc, ◌*◌, ◌/◌, ◌^◌, ◌<◌, ◌≤◌, ◌⊎◌, inl, inr, Bool, true, false, cond, ◌||◌, List, [], ◌∷◌, ◌++◌, length, get_or, Contains, AllPairs, refl, sym, ◌∙◌, ap, subst, arith, eqb, eqb-true, ◌==◌}
+use Rattle.std.specs.Prelude.{All}
+use Rattle.std.specs.List.{list_any}
+use Rattle.std.proofs.lemmas.Bool.Decides.{Decides-eqb}
+use Rattle.std.proofs.lemmas.List.{get_or_default}
+use Rattle.std.proofs.lemmas.Map.Made.{IsDistinct-from_AllPairs}
+use Rattle.std.proofs.lemmas.Map.Steps.{length-le_from_distinct_below}
+use Rattle.std.proofs.Math.Nat.{mul-le-mul_left}
+use Rattle.g1_words.specs.Geometry.{Geometry, IsWithinLimits}
+use Rattle.g1_words.specs.declared.region.Kind.{Kind}
+use Rattle.g1_words.specs.declared.region.Kind.TheVariants.{Free, Ordinary, HumongousFirst, Continuation}
+use Rattle.g1_words.specs.Heap.{Heap, kind, region_of, card_of}
+use Rattle.g1_words.specs.Lists.{has}
+use Rattle.g1_words.proofs.Members.{In, In-from_contains, Contains-from_in, In-append_left, In-append_right, In-append_cases, has_from_in, in_from_has, or_true}
+use Rattle.g1_words.proofs.Ordered.{Ordered-from_pairs, pairs_from_ordered}
+use Rattle.g1_words.proofs.Rising.{Ordered-append}
+use Rattle.g1_words.proofs.Shapes.{IsBuilt, valid_of}
+use Rattle.g1_image.specs.Image.{Image, IsUsedCard, MayHoldCards, IsSetOf, IsLog, IsImage, region_of_card, set_of}
+use Rattle.g1_trace.specs.Mutator.{logged}
+
+all_in : {A : Type 0} (P : A → Type 0) (xs : List A) → All P xs → (x : A) → In xs x → P x
+all_in P xs all x m = let c = Contains-from_in xs x m in subst P c.2 (all c.0 x c.1)
+
+in_all : {A : Type 0} (P : A → Type 0) (xs : List A) → ((x : A) → In xs x → P x) → All P xs
+in_all P xs f k d lt = f (get_or xs k d) (In-from_contains xs (get_or xs k d) (k, lt, get_or_default xs k (get_or xs k d) d lt))
+
+-- distinct cards of a heap are few
+pub few_cards : (h : Heap) (cards : List ℕ) → IsWithinLimits h.geometry.w h.geometry.k h.geometry.n → All (IsUsedCard h) cards → AllPairs (λ c d. c ≢ d) cards → length cards < 2 ^ 32
+few_cards h cards limits used distinct =
+    let below : (c : ℕ) → list_any (eqb c) cards ≡ true → c < h.geometry.n * h.geometry.w = λ c e.
+    let u : c * h.geometry.k < h.geometry.n * h.geometry.w = (all_in (IsUsedCard h) cards used c (in_from_has cards c e)).in_heap in
+    let some : 1 ≤ h.geometry.k = omega (arith, limits.k_least) in
+    let more : c * 1 ≤ c * h.geometry.k = mul-le-mul_left c some in
+    omega (arith, u, more) in
+    let few : length cards ≤ h.geometry.n * h.geometry.w = length-le_from_distinct_below cards (h.geometry.n * h.geometry.w) (IsDistinct-from_AllPairs {eq = eqb} Decides-eqb cards distinct) below in
+    omega (arith, few, limits.words_most)
+
+module _ (i : Image) (p : ℕ) where
+  log_at : (c : ℕ) (t : Bool) → In i.log c → In (cond t i.log (i.log ++ card_of i.heap p ∷ [])) c
+  log_at c true m = m
+  log_at c false m = In-append_left i.log (card_of i.heap p ∷ []) c m
+
+  -- a card that was logged still is
+  log_keeps : (x c : ℕ) → In i.log c → In (logged i p x) c
+  log_keeps zero c m = m
+  log_keeps (suc b) c m = log_at c ((region_of i.heap p == region_of i.heap b) || has i.log (card_of i.heap p)) m
+
+  pub logged_still : (x c : ℕ) → Contains i.log c → Contains (logged i p x) c
+  logged_still x c m = Contains-from_in (logged i p x) c (log_keeps x c (In-from_contains i.log c m))
+
+  new_at : (b : ℕ) (t : Bool) → ((region_of i.heap p == region_of i.heap b) || has i.log (card_of i.heap p)) ≡ t
+      → (region_of i.heap p ≡ region_of i.heap b) ⊎ In (cond t i.log (i.log ++ card_of i.heap p ∷ [])) (card_of i.heap p)
+  new_at b false e = inr (In-append_right i.log (card_of i.heap p ∷ []) (card_of i.heap p) (inl refl))
+  new_at b true e = elim (or_true (region_of i.heap p == region_of i.heap b) (has i.log (card_of i.heap p)) e) [
+    | inl s ↦ inl (eqb-true (region_of i.heap p) (region_of i.heap b) s)
+    | inr l ↦ inr (in_from_has i.log (card_of i.heap p) l)
+  ]
+
+  -- the card of what is written is logged, where it names an object of another region
+  pub logged_now : (b : ℕ) → (region_of i.heap p ≡ region_of i.heap b) ⊎ Contains (logged i p (suc b)) (card_of i.heap p)
+  logged_now b = elim (new_at b ((region_of i.heap p == region_of i.heap b) || has i.log (card_of i.heap p)) refl) [
+    | inl s ↦ inl s
+    | inr m ↦ inr (Contains-from_in (logged i p (suc b)) (card_of i.heap p) m)
+  ]
+
+  module _ (valid : IsWithinLimits i.heap.geometry.w i.heap.geometry.k i.heap.geometry.n) (good : IsLog i.heap i.log) (used : IsUsedCard i.heap (card_of i.heap p)) where
+    one_more : (In i.log (card_of i.heap p) → ⊥) → IsLog i.heap (i.log ++ card_of i.heap p ∷ [])
+    one_more fresh =
+        let c : ℕ = card_of i.heap p in
+        let all : All (IsUsedCard i.heap) (i.log ++ c ∷ []) = in_all (IsUsedCard i.heap) (i.log ++ c ∷ []) (λ x m. by x (In-append_cases i.log (c ∷ []) x m)) in
+        let apart : AllPairs (λ x y. x ≢ y) (i.log ++ c ∷ []) = pairs_from_ordered (λ x y. x ≢ y) (i.log ++ c ∷ [])
+        (Ordered-append (λ x y. x ≢ y) i.log (c ∷ []) (Ordered-from_pairs (λ x y. x ≢ y) i.log good.distinct) ((λ y k. absurd k), tt)
+        (λ x y mx my e. fresh (subst (In i.log) (e ∙ last y my) mx))) in
+        record { used = all; distinct = apart; count = few_cards i.heap (i.log ++ c ∷ []) valid all apart }
+      where
+        last : (y : ℕ) → In (card_of i.heap p ∷ []) y → y ≡ card_of i.heap p
+        last y (inl e) = sym e
+        last y (inr e) = absurd e
+
+        by : (x : ℕ) → In i.log x ⊎ In (card_of i.heap p ∷ []) x → IsUsedCard i.heap x
+        by x (inl m) = all_in (IsUsedCard i.heap) i.log good.used x m
+        by x (inr m) = subst (IsUsedCard i.heap) (sym (last x m)) used
+
+    log_is_at : (b : ℕ) (t : Bool) → ((region_of i.heap p == region_of i.heap b) || has i.log (card_of i.heap p)) ≡ t → IsLog i.heap (cond t i.log (i.log ++ card_of i.heap p ∷ []))
+    log_is_at b true e = good
+    log_is_at b false e = one_more (λ m. absurd (clash (region_of i.heap p == region_of i.heap b) (has i.log (card_of i.heap p)) (has_from_in i.log (card_of i.heap p) m) e))
+      where
+        clash : (x y : Bool) → y ≡ true → (x || y) ≡ false → ⊥
+        clash true y f g = cc
+        clash false y f g = cc
+
+    -- the log after is one that the heap may have
+    pub logged_is_log : (x : ℕ) → IsLog i.heap (logged i p x)
+    logged_is_log zero = good
+    logged_is_log (suc b) = log_is_at b ((region_of i.heap p == region_of i.heap b) || has i.log (card_of i.heap p)) refl
+
+-- ---- an image whose used regions stay
+
+holds_used : (k : Kind) → MayHoldCards k → k ≢ Free
+holds_used Free h e = h
+holds_used Ordinary h e = cc
+holds_used HumongousFirst h e = cc
+holds_used Continuation h e = h
+
+module _ (i j : Image) (g : j.heap.geometry ≡ i.heap.geometry) (stay : (r : ℕ) → kind i.heap r ≢ Free → kind j.heap r ≡ kind i.heap r) where
+  used_stays : (c : ℕ) → IsUsedCard i.heap c → IsUsedCard j.heap c
+  used_stays c u =
+      let at : region_of_card j.heap c ≡ region_of_card i.heap c = ap (λ (x : Geometry). c * x.k / x.w) g in
+      record {
+        in_heap = subst (λ (x : Geometry). c * x.k < x.n * x.w) (sym g) u.in_heap;
+        used = λ e. u.used (sym (stay (region_of_card i.heap c) u.used) ∙ ap (kind j.heap) (sym at) ∙ e);
+      }
+
+  set_stays : (r : ℕ) (cards : List ℕ) → IsSetOf i.heap r cards → IsSetOf j.heap r cards
+  set_stays r cards s = record {
+    rising = s.rising;
+    elsewhere = λ k d lt.
+        let u = s.elsewhere k d lt in
+        (used_stays (get_or cards k d) u.0, λ e. u.1 (ap (λ (x : Geometry). get_or cards k d * x.k / x.w) (sym g) ∙ e));
+    count = s.count;
+    owner = λ some. let m = s.owner some in subst MayHoldCards (sym (stay r (holds_used (kind i.heap r) m))) m;
+  }
+
+  pub log_stays : (cards : List ℕ) → IsLog i.heap cards → IsLog j.heap cards
+  log_stays cards l = record { used = λ k d lt. used_stays (get_or cards k d) (l.used k d lt); distinct = l.distinct; count = l.count }
+
+  -- such an image keeps the rules of its cards
+  pub image_kept : IsImage i → IsBuilt j.heap → j.sets ≡ i.sets → IsLog i.heap j.log → IsImage j
+  image_kept good b sets log = record {
+    heap = valid_of j.heap b;
+    one_each = ap length sets ∙ good.one_each ∙ ap (λ (x : Geometry). x.n) (sym g);
+    sets = λ r lt. subst (IsSetOf j.heap r) (ap (λ s. get_or s r []) (sym sets)) (set_stays r (set_of i r) (good.sets r (subst (λ (x : Geometry). r < x.n) g lt)));
+    log = log_stays j.log log;
+  }

@@ -1,0 +1,28 @@
+use Rattle.std.proofs.Common.{◌≡◌, ◌+◌, ◌%◌, get_or, set, sym, ◌∙◌, ap, subst, arith}
+use Rattle.g1_words.specs.Heap.{Heap}
+use Rattle.g1_image.specs.Image.{Image}
+use Rattle.g1_image.specs.Cards.{IsTracked}
+use Rattle.g1_trace.specs.Mutator.{value_address, with_words}
+use Rattle.g1_trace.proofs.Carrying.{value_inside, value_small, value_kept}
+use Rattle.g1_trace.proofs.mutator.set_data.Goals as goal
+
+pub overflow_add-object-3 : goal.overflow_add-object-3
+overflow_add-object-3 c =
+    let i : Image = c.args.tracked in
+    let words = c.words.ensures ∙ ap (λ (h : Heap). h.words) (c.heap.ensures.same ∙ ap (λ (x : Image). x.heap) c.image.ensures.same) in
+    let at : c.args.object + 1 + get_or c.words.result.now c.args.object 0 % 4294967296 + c.args.place ≡ value_address i.heap c.args.object c.args.place = ap (λ ws. c.args.object + 1 + get_or ws c.args.object 0 % 4294967296 + c.args.place) words in
+    omega (arith, at, value_inside i c.requires.before c.args.object c.args.place c.args.value c.requires.fits, value_small i c.requires.before c.args.object c.args.place c.args.value c.requires.fits)
+
+pub set_value-requires-clause-at : goal.set_value-requires-clause-at
+set_value-requires-clause-at c =
+    let i : Image = c.args.tracked in
+    let words = c.words.ensures ∙ ap (λ (h : Heap). h.words) (c.heap.ensures.same ∙ ap (λ (x : Image). x.heap) c.image.ensures.same) in
+    let at : c.args.object + 1 + get_or c.words.result.now c.args.object 0 % 4294967296 + c.args.place ≡ value_address i.heap c.args.object c.args.place = ap (λ ws. c.args.object + 1 + get_or ws c.args.object 0 % 4294967296 + c.args.place) words in
+    omega (arith, at, value_inside i c.requires.before c.args.object c.args.place c.args.value c.requires.fits)
+
+pub set_value-requires-clause-kept : goal.set_value-requires-clause-kept
+set_value-requires-clause-kept c =
+    let i : Image = c.args.tracked in
+    let words = c.words.ensures ∙ ap (λ (h : Heap). h.words) (c.heap.ensures.same ∙ ap (λ (x : Image). x.heap) c.image.ensures.same) in
+    let at : c.args.object + 1 + get_or c.words.result.now c.args.object 0 % 4294967296 + c.args.place ≡ value_address i.heap c.args.object c.args.place = ap (λ ws. c.args.object + 1 + get_or ws c.args.object 0 % 4294967296 + c.args.place) words in
+    subst (λ p. IsTracked (with_words i (set i.heap.words p c.args.value) i.log)) (sym at) (value_kept i c.requires.before c.args.object c.args.place c.args.value c.requires.fits c.ranges.value.fits)

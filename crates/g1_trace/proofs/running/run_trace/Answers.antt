@@ -1,0 +1,66 @@
+use Rattle.std.proofs.Common.{◌≡◌, ℕ, ◌<◌, List, [], ◌∷◌, ◌++◌, length, get_or, not, cond, sym, ◌∙◌, ap, subst, arith}
+use Rattle.std.specs.Prelude.{IfOk}
+use Rattle.g1_words.specs.Geometry.{Geometry}
+use Rattle.g1_image.specs.Image.{Image}
+use Rattle.g1_trace.specs.declared.command.Command.{Command}
+use Rattle.g1_trace.specs.declared.command.Command.TheVariants.{New}
+use Rattle.g1_trace.specs.declared.command.Reply.{Reply}
+use Rattle.g1_trace.specs.Store.{Store, IsPlainStep}
+use Rattle.g1_trace.specs.Mutator.{IsStep}
+use Rattle.g1_trace.specs.Views.{Shows}
+use Rattle.g1_trace.specs.Run.{Replies, IsRun, empty_image, empty_store}
+use Rattle.g1_trace.specs.Running.{sizes}
+use Rattle.g1_trace.proofs.Leads.{leads_start, leads_on, leads_end}
+use Rattle.g1_trace.proofs.running.run_trace.Goals as goal
+
+pub loop-command-init : goal.loop-command-init
+loop-command-init g c =
+    let roots : ℕ = c.args.trace.now.roots in
+    let all : List Command = c.deref-command-items.result.now in
+    let geometry : c.in-Ok.geometry ≡ sizes c.args.trace.now = (λ t. record { w = c.in-Ok.ensures.ok.0 t; k = c.in-Ok.ensures.ok.1 t; n = c.in-Ok.ensures.ok.2 t }) in
+    let made : c.in-Ok-new.mutator ≡ empty_image (sizes c.args.trace.now) roots = c.in-Ok-new.ensures.ok.0 ∙ ap (λ (x : Geometry). empty_image x roots) geometry in
+    record {
+      heap = subst (λ (i : Image). (rs : List Reply) → Replies (IsStep c.args.cost.now) i all rs → Replies (IsStep c.args.cost.now) (empty_image (sizes c.args.trace.now) roots) all (c.new-replies.result.items ++ rs)) (sym made)
+          (leads_start (IsStep c.args.cost.now) (empty_image (sizes c.args.trace.now) roots) all c.new-replies.result.items c.new-replies.ensures.items);
+      plain = (
+        empty_store roots,
+        subst (λ (i : Image). Shows (empty_store roots) i.heap) (sym made) (c.traces.ensures.start (sizes c.args.trace.now) roots),
+        leads_start IsPlainStep (empty_store roots) all c.new-replies.result.items c.new-replies.ensures.items,
+      );
+    }
+
+pub loop-command-preserved : goal.loop-command-preserved
+loop-command-preserved g c =
+    let inv = c.loop-command.invariant in
+    let all : List Command = c.deref-command-items.result.now in
+    let i : Image = c.loop-command.mutator in
+    let k : ℕ = c.loop-command.command-index in
+    let d : Command = New 0 0 0 in
+    let here : Command = get_or all k d in
+    let next : Image = c.step-next.result.0 in
+    let replied : IsStep c.args.cost.now i here c.in-Ok-outcome.reply next = subst (λ x. IfOk x (λ r. IsStep c.args.cost.now i here r next)) c.in-Ok-outcome.is c.step-next.ensures.replied in
+    let shows : (s : Store) → Shows s i.heap → (t : Store) × IsPlainStep s here c.in-Ok-outcome.reply t × Shows t next.heap =
+    subst (λ x. IfOk x (λ r. (s : Store) → Shows s i.heap → (t : Store) × IsPlainStep s here r t × Shows t next.heap)) c.in-Ok-outcome.is c.step-next.ensures.shows in
+    let pushed = c.is_err.ensures.negation ∙ ap not c.if-is_err.false in
+    let items : c.push.new.self.items ≡ c.loop-command.replies.items ++ c.in-Ok-outcome.reply ∷ [] = c.push.ensures.items ∙ ap (λ b. cond b (c.loop-command.replies.items ++ c.in-Ok-outcome.reply ∷ []) c.loop-command.replies.items) pushed in
+    let lt : k < length all = omega (arith, c.loop-command-test.true) in
+    let plain = shows inv.plain.0 inv.plain.1 in
+    record {
+      heap = leads_on (IsStep c.args.cost.now) (empty_image (sizes c.args.trace.now) c.args.trace.now.roots) all c.loop-command.replies.items i next k d c.in-Ok-outcome.reply c.push.new.self.items lt inv.heap replied items;
+      plain = (plain.0, plain.2, leads_on IsPlainStep (empty_store c.args.trace.now.roots) all c.loop-command.replies.items inv.plain.0 plain.0 k d c.in-Ok-outcome.reply c.push.new.self.items lt inv.plain.2 plain.1 items);
+    }
+
+pub returns-clause-run : goal.returns-clause-run
+returns-clause-run g c =
+    let inv = c.loop-command.invariant in
+    let all : List Command = c.deref-command-items.result.now in
+    let k : ℕ = c.loop-command.command-index in
+    let done : k < length all → ⊥ = λ lt. absurd (omega (arith, lt, c.loop-command-test.false)) in
+    let start : ℕ = c.args.trace.now.roots in
+    subst (λ cs. IsRun c.args.cost.now (sizes c.args.trace.now) start cs c.loop-command.replies.items) c.deref-command-items.ensures.value (record {
+      plain = leads_end IsPlainStep (empty_store start) all c.loop-command.replies.items inv.plain.0 k done inv.plain.2;
+      heap = leads_end (IsStep c.args.cost.now) (empty_image (sizes c.args.trace.now) start) all c.loop-command.replies.items c.loop-command.mutator k done inv.heap;
+    })
+
+pub returns-clause-only : goal.returns-clause-only
+returns-clause-only g c = λ told run. c.one_run.ensures.run c.args.cost.now (sizes c.args.trace.now) c.args.trace.now.roots c.args.trace.now.commands.items told c.loop-command.replies.items run (returns-clause-run g c)

@@ -1,0 +1,11 @@
+pub mod Commands
+pub mod Store
+pub mod Mutator
+pub mod Placing
+pub mod Run
+pub mod Running
+pub mod Views
+pub mod Laid
+pub mod Laws
+pub mod TraceText
+pub mod Lines

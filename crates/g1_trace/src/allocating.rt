@@ -1,0 +1,224 @@
+ghost use Rattle.std.specs.Prelude.{◌≡◌, ◌+◌, ◌*◌, ◌/◌, ◌-◌, ◌<◌, ◌≤◌, ◌^◌, length, find, min, Some, ◌==◌, if◌then◌else◌};
+ghost use Rattle.g1_words.specs.Heap.{end, region_with, regions, top};
+ghost use Rattle.g1_words.specs.declared.region.Kind.TheVariants.{HumongousFirst, Continuation};
+ghost use Rattle.g1_image.specs.Cards.{IsTracked};
+ghost use Rattle.g1_trace.specs.Mutator.{is_free_region, is_free_run, run_length, region_for, place_for, heap_with, with_heap};
+ghost use Rattle.g1_trace.specs.Placing.{run_taken, ordinary_heap, humongous_heap};
+
+use g1_image::Image;
+use g1_rem::{Tracked, image};
+use g1_words::{Heap, Kind, REFS_RANGE, Region};
+
+/// Tells whether a region is free.
+fn is_free(heap: &Heap, r: u32) -> bool
+    requires { r < heap.now.geometry.n }
+    ensures { result ≡ is_free_region heap.now r }
+{
+    match heap.region(r).kind {
+        Kind::Free => true,
+        Kind::Ordinary => false,
+        Kind::HumongousFirst => false,
+        Kind::Continuation => false,
+    }
+}
+
+/// The lowest free region.
+fn lowest_free(heap: &Heap) -> Option<u32>
+    ensures { result ≡ find (is_free_region heap.now) (regions heap.now) }
+{
+    for r in 0..heap.geometry().regions() as u32 {
+        if is_free(heap, r) {
+            return Some(r);
+        }
+    }
+    None
+}
+
+/// The lowest run of so many free regions, one after another.
+fn lowest_run(heap: &Heap, count: u64) -> Option<u32>
+    requires { 0 < count }
+    ensures { result ≡ find (is_free_run heap.now count) (regions heap.now) }
+{
+    let mut first: u32 = 0;
+    for r in 0..heap.geometry().regions() as u32 {
+        if !is_free(heap, r) {
+            first = r + 1;
+        } else if u64::from(r - first) + 1 == count {
+            return Some(first);
+        }
+    }
+    None
+}
+
+/// Where an object of so many words goes: a humongous one to the lowest run of free regions, any
+/// other to the current region where it ends within it, else to the lowest free one.
+fn region_for(heap: &Heap, size: u64) -> Option<u32>
+    requires some { 0 < size }
+    requires fits { size ≤ heap.now.geometry.n * heap.now.geometry.w }
+    ensures { result ≡ region_for heap.now size }
+{
+    let region_words = heap.geometry().region_words();
+    if 4 * size > 3 * region_words {
+        return lowest_run(heap, (size + (region_words - 1)) / region_words);
+    }
+    match heap.current() {
+        Some(current) => {
+            if u64::from(heap.region(current).top) + size <= region_words {
+                Some(current)
+            } else {
+                lowest_free(heap)
+            }
+        }
+        None => lowest_free(heap),
+    }
+}
+
+/// Where a new object with so many slots and data words goes.
+pub(crate) fn place_for(heap: &Heap, refs: u64, words: u64) -> Option<u32>
+    ensures { result ≡ place_for heap.now (1 + refs + words) }
+{
+    let geometry = heap.geometry();
+    let total = geometry.regions() * geometry.region_words();
+    if refs >= total || words >= total - refs {
+        return None;
+    }
+    region_for(heap, 1 + refs + words)
+}
+
+/// Region number i of a humongous object's run.
+fn run_region(region_words: u64, size: u64, i: u64) -> Region
+    requires width { (16 ≤ region_words) × (region_words ≤ 65536) }
+    requires size { size ≤ 2 ^ 24 }
+    requires within { i * region_words < size }
+    ensures { result ≡ region_with (if i == 0 then HumongousFirst else Continuation) (min region_words (size - i * region_words)) }
+{
+    let rest = size - i * region_words;
+    let kind = if i == 0 {
+        Kind::HumongousFirst
+    } else {
+        Kind::Continuation
+    };
+    if region_words <= rest {
+        Region {
+            kind,
+            top: region_words as u32,
+        }
+    } else {
+        Region {
+            kind,
+            top: rest as u32,
+        }
+    }
+}
+
+/// Takes the regions of a humongous object's run.
+fn take_run(regions: &mut Vec<Region>, region_words: u64, first: u32, size: u64)
+    requires width { (16 ≤ region_words) × (region_words ≤ 65536) }
+    requires size { (0 < size) × (size ≤ 2 ^ 24) }
+    requires there { first + (size + (region_words - 1)) / region_words ≤ length regions.old.items }
+    requires few { length regions.old.items ≤ 4096 }
+    ensures { regions.new.items ≡ run_taken region_words regions.old.items first size ((size + (region_words - 1)) / region_words) }
+{
+    let count = (size + (region_words - 1)) / region_words;
+    for i in 0..count {
+        regions[first as usize + i as usize] = run_region(region_words, size, i);
+    }
+}
+
+/// The image with a new ordinary object at the top of a region, which becomes current.
+fn place_ordinary(tracked: Tracked, r: u32, root: u64, size: u64, refs: u64) -> Tracked
+    requires region { r < length tracked.heap.regions }
+    requires fits { top tracked.heap r + size ≤ 65536 }
+    requires width { (16 ≤ tracked.heap.geometry.w) × (tracked.heap.geometry.w ≤ 65536) }
+    requires few { length tracked.heap.regions ≤ 4096 }
+    requires refs { refs < size }
+    requires header { end tracked.heap r < length tracked.heap.words }
+    requires root { root < length tracked.heap.roots }
+    requires kept { IsTracked (with_heap tracked (ordinary_heap tracked.heap r size refs root)) }
+    ensures { result ≡ with_heap tracked (ordinary_heap tracked.heap r size refs root) }
+{
+    let Tracked { image } = tracked;
+    let Image { heap, sets, log } = image;
+    let Heap {
+        geometry,
+        mut words,
+        mut regions,
+        mut roots,
+        ..
+    } = heap;
+    let top = regions[r as usize].top;
+    let at = u64::from(r) * geometry.region_words() + u64::from(top);
+    words[at as usize] = size * REFS_RANGE + refs;
+    roots[root as usize] = at + 1;
+    regions[r as usize] = Region {
+        kind: Kind::Ordinary,
+        top: top + size as u32,
+    };
+    let heap = Heap {
+        geometry,
+        words,
+        regions,
+        roots,
+        current: Some(r),
+    };
+    Tracked {
+        image: Image { heap, sets, log },
+    }
+}
+
+/// The image with a new humongous object at the start of a run of free regions.
+fn place_humongous(tracked: Tracked, r: u32, root: u64, size: u64, refs: u64) -> Tracked
+    requires region { r < length tracked.heap.regions }
+    requires free { top tracked.heap r ≡ 0 }
+    requires run { r + run_length tracked.heap size ≤ length tracked.heap.regions }
+    requires width { (16 ≤ tracked.heap.geometry.w) × (tracked.heap.geometry.w ≤ 65536) }
+    requires few { length tracked.heap.regions ≤ 4096 }
+    requires refs { (refs < size) × (size ≤ 2 ^ 24) }
+    requires header { end tracked.heap r < length tracked.heap.words }
+    requires root { root < length tracked.heap.roots }
+    requires kept { IsTracked (with_heap tracked (humongous_heap tracked.heap r size refs root)) }
+    ensures { result ≡ with_heap tracked (humongous_heap tracked.heap r size refs root) }
+{
+    let Tracked { image } = tracked;
+    let Image { heap, sets, log } = image;
+    let Heap {
+        geometry,
+        mut words,
+        mut regions,
+        mut roots,
+        current,
+    } = heap;
+    let region_words = geometry.region_words();
+    let at = u64::from(r) * region_words;
+    words[at as usize] = size * REFS_RANGE + refs;
+    roots[root as usize] = at + 1;
+    take_run(&mut regions, region_words, r, size);
+    let heap = Heap {
+        geometry,
+        words,
+        regions,
+        roots,
+        current,
+    };
+    Tracked {
+        image: Image { heap, sets, log },
+    }
+}
+
+/// The image with a new object that a root names, in the region where it goes. One header is written,
+/// and as many regions as it takes: the words were 0 before.
+pub(crate) fn place_object(tracked: Tracked, r: u32, root: u64, refs: u64, words: u64) -> Tracked
+    requires place { place_for tracked.heap (1 + refs + words) ≡ Some r }
+    requires root { root < length tracked.heap.roots }
+    requires before { IsTracked tracked }
+    requires kept { IsTracked (with_heap tracked (heap_with tracked.heap r (1 + refs + words) refs root)) }
+    ensures { result ≡ with_heap tracked (heap_with tracked.heap r (1 + refs + words) refs root) }
+{
+    let region_words = image(&tracked).heap().geometry().region_words();
+    let size = 1 + refs + words;
+    if 4 * size > 3 * region_words {
+        place_humongous(tracked, r, root, size, refs)
+    } else {
+        place_ordinary(tracked, r, root, size, refs)
+    }
+}

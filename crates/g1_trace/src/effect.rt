@@ -1,0 +1,25 @@
+use crate::command::Reply;
+
+/// What a command does to a store. A reference is 0 (null) or an object and 1.
+#[derive(Debug, Clone, Copy, PartialEq, Eq)]
+pub enum Effect {
+    /// Nothing.
+    Nothing,
+    /// A root becomes the value.
+    SetRoot { root: u64, value: u64 },
+    /// A slot of an object becomes the value.
+    SetSlot { object: u64, slot: u64, value: u64 },
+    /// A data word of an object becomes the value.
+    SetValue { object: u64, place: u64, value: u64 },
+    /// A root names a new object.
+    MakeNew { root: u64, refs: u64, words: u64 },
+    /// A pause is made.
+    MakePause { budget: u64 },
+}
+
+/// What a command replies and does where there is place.
+#[derive(Debug, Clone, Copy, PartialEq, Eq)]
+pub struct Answer {
+    pub reply: Reply,
+    pub effect: Effect,
+}

@@ -1,0 +1,222 @@
+ghost use Rattle.std.specs.Prelude.{◌≡◌, ◌≤◌, ◌<◌, ◌⊎◌, ℕ, List, [], map, replicate, slice_set, IfOk, IfErr};
+ghost use Rattle.g1_image.specs.Cards.{IsTracked};
+ghost use Rattle.g1_image.specs.Image.{Image as ImageOf};
+ghost use Rattle.g1_choose.specs.Cost.{IsCost};
+ghost use Rattle.g1_pause.specs.Settings.{AreWorkers, IsChunk};
+ghost use Rattle.g1_trace.specs.declared.command.Reply.{Reply as ReplyOf};
+ghost use Rattle.g1_trace.specs.Mutator.{heap_view, value_address, with_words, IsStep, IsEffect};
+ghost use Rattle.g1_trace.specs.Run.{empty_image};
+ghost use Rattle.g1_trace.specs.Store.{Store, IsPlainStep};
+ghost use Rattle.g1_trace.specs.Views.{EffectFits, ForPause, Shows};
+
+use crate::allocating::{place_for, place_object};
+use crate::answering::answer;
+use crate::command::{Command, Reply};
+use crate::effect::{Answer, Effect};
+use crate::laws::{one_run, traces};
+use crate::writing::{set_root, set_slot, set_value};
+use g1_choose::Cost;
+use g1_image::Image;
+use g1_pause::{Choice, Settings, evacuate};
+use g1_rem::{Tracked, image};
+use g1_words::{Fault, Geometry, Heap, Kind, REFS_RANGE, Region};
+use g1_work::Gate;
+use indexmap::IndexSet;
+use std::alloc::Global;
+use std::marker::Model;
+use std::thread::Threads;
+
+/// A heap that commands work on, with roots by number.
+#[derive(Drop)]
+pub struct Mutator {
+    tracked: Tracked,
+}
+
+impl Model for Mutator {
+    ghost use Rattle.g1_image.specs.Image.{Image as ImageOf};
+
+    ghost Value = { ImageOf };
+
+    ghost view = { λ m. m.tracked };
+}
+
+/// An empty remembered set for each region.
+fn no_sets(alloc: Global, regions: u64) -> Result<Vec<Vec<u32>>, Fault>
+    ensures ok { IfOk result (λ v. map (λ s. s.items) v.items ≡ replicate regions []) }
+    ensures memory { IfErr result (λ e. e ≡ Fault.Memory) }
+{
+    let mut sets: Vec<Vec<u32>> = Vec::new(alloc);
+    for _r in 0..regions {
+        sets.push(Vec::new(alloc))?;
+    }
+    Ok(sets)
+}
+
+/// One pause by a budget.
+///
+/// # Errors
+///
+/// `Fault::Memory`, with the image as it was.
+fn pause<R: Threads + Sync, G: Gate + Sync>(
+    rt: &R,
+    alloc: Global,
+    tracked: Tracked,
+    budget: u64,
+    cost: &Cost,
+    workers: u64,
+    chunk: u64,
+    gate: &G,
+) -> (Tracked, Result<Reply, Fault>)
+    requires workers { AreWorkers workers }
+    requires chunk { IsChunk chunk }
+    requires cost { IsCost cost.now }
+    ensures done { IfOk result.1 (λ r. IsEffect cost.now tracked (Effect.MakePause budget) Reply.Ok r result.0) }
+    ensures memory { IfErr result.1 (λ e. e ≡ Fault.Memory) }
+    ensures same { IfErr result.1 (λ e. result.0 ≡ tracked) }
+{
+    match Settings::new(workers, chunk, *cost, Choice::Budget(budget)) {
+        Err(_) => (tracked, Err(Fault::Memory)),
+        Ok(settings) => match evacuate(rt, alloc, tracked, &settings, gate) {
+            Ok((tracked, _report)) => (tracked, Ok(Reply::Ok)),
+            Err((tracked, fault)) => match fault {
+                Fault::Memory => (tracked, Err(Fault::Memory)),
+                _ => (tracked, Ok(Reply::Room)),
+            },
+        },
+    }
+}
+
+/// The image with another data word of an object. Its header tells where its data words begin.
+fn set_data(tracked: Tracked, object: u64, place: u64, value: u64) -> Tracked
+    requires before { IsTracked tracked }
+    requires fits { EffectFits (heap_view tracked.heap) (Effect.SetValue object place value) }
+    ensures { result ≡ with_words tracked (slice_set tracked.heap.words (value_address tracked.heap object place) value) tracked.log }
+{
+    let refs = image(&tracked).heap().words()[object as usize] % REFS_RANGE;
+    set_value(tracked, object + 1 + refs + place, value)
+}
+
+/// Does what a command does, where the table of commands answers so.
+///
+/// # Errors
+///
+/// `Fault::Memory`, with the image as it was.
+fn carry_out<R: Threads + Sync, G: Gate + Sync>(
+    rt: &R,
+    alloc: Global,
+    tracked: Tracked,
+    told: Answer,
+    cost: &Cost,
+    workers: u64,
+    chunk: u64,
+    gate: &G,
+) -> (Tracked, Result<Reply, Fault>)
+    requires workers { AreWorkers workers }
+    requires chunk { IsChunk chunk }
+    requires cost { IsCost cost.now }
+    requires before { IsTracked tracked }
+    requires fits { EffectFits (heap_view tracked.heap) told.effect }
+    requires paused { ForPause told.effect (told.reply ≡ Reply.Ok) }
+    ensures done { IfOk result.1 (λ r. IsEffect cost.now tracked told.effect told.reply r result.0) }
+    ensures memory { IfErr result.1 (λ e. e ≡ Fault.Memory) }
+    ensures same { IfErr result.1 (λ e. result.0 ≡ tracked) }
+{
+    match told.effect {
+        Effect::Nothing => (tracked, Ok(told.reply)),
+        Effect::SetRoot { root, value } => (set_root(tracked, root, value), Ok(told.reply)),
+        Effect::SetSlot {
+            object,
+            slot,
+            value,
+        } => match set_slot(tracked, object + 1 + slot, value) {
+            Ok(tracked) => (tracked, Ok(told.reply)),
+            Err((tracked, fault)) => (tracked, Err(fault)),
+        },
+        Effect::SetValue {
+            object,
+            place,
+            value,
+        } => (set_data(tracked, object, place, value), Ok(told.reply)),
+        Effect::MakeNew { root, refs, words } => {
+            let place = place_for(image(&tracked).heap(), refs, words);
+            match place {
+                None => (tracked, Ok(Reply::Full)),
+                Some(r) => (place_object(tracked, r, root, refs, words), Ok(told.reply)),
+            }
+        }
+        Effect::MakePause { budget } => {
+            pause(rt, alloc, tracked, budget, cost, workers, chunk, gate)
+        }
+    }
+}
+
+impl Mutator {
+    /// A heap of free regions, with so many roots, all null.
+    ///
+    /// # Errors
+    ///
+    /// `Fault::Geometry` where there are more than 65,536 roots; `Fault::Memory`.
+    pub fn new(alloc: Global, geometry: Geometry, roots: u64) -> Result<Mutator, Fault>
+        ensures ok { IfOk result (λ m. (m ≡ empty_image geometry roots) × (roots ≤ 65536)) }
+        ensures err { IfErr result (λ e. (e ≡ Fault.Memory) ⊎ ((e ≡ Fault.Geometry) × (65536 < roots))) }
+    {
+        if roots > 65_536 {
+            return Err(Fault::Geometry);
+        }
+        let regions = geometry.regions();
+        let total = regions * geometry.region_words();
+        let free = Region {
+            kind: Kind::Free,
+            top: 0,
+        };
+        let heap = Heap {
+            geometry,
+            words: vec![in alloc; 0u64; total as usize]?,
+            regions: vec![in alloc; free; regions as usize]?,
+            roots: vec![in alloc; 0u64; roots as usize]?,
+            current: None,
+        };
+        let image = Image {
+            heap,
+            sets: no_sets(alloc, regions)?,
+            log: IndexSet::new(alloc),
+        };
+        Ok(Mutator {
+            tracked: Tracked { image },
+        })
+    }
+
+    /// Does one command. A few words are read and written; a new object besides looks for a free
+    /// region where the current one is full, and a pause does what a pause does.
+    ///
+    /// # Errors
+    ///
+    /// `Fault::Memory`, and then the mutator is as before.
+    pub fn step<R: Threads + Sync, G: Gate + Sync>(
+        self,
+        rt: &R,
+        alloc: Global,
+        command: &Command,
+        cost: &Cost,
+        workers: u64,
+        chunk: u64,
+        gate: &G,
+    ) -> (Mutator, Result<Reply, Fault>)
+        requires workers { AreWorkers workers }
+        requires chunk { IsChunk chunk }
+        requires cost { IsCost cost.now }
+        ensures tracked { IsTracked self }
+        ensures replied { IfOk result.1 (λ r. IsStep cost.now self command.now r result.0) }
+        ensures only { IfOk result.1 (λ r. (told : ReplyOf) (j : ImageOf) → IsStep cost.now self command.now told j → (told ≡ r) × (j ≡ result.0)) }
+        ensures shows { IfOk result.1 (λ r. (s : Store) → Shows s self.heap → (t : Store) × IsPlainStep s command.now r t × Shows t result.0.heap) }
+        ensures memory { IfErr result.1 (λ e. e ≡ Fault.Memory) }
+        ensures same { IfErr result.1 (λ e. result.0 ≡ self) }
+    {
+        traces();
+        one_run();
+        let Mutator { tracked } = self;
+        let told = answer(image(&tracked).heap(), command);
+        let (tracked, outcome) = carry_out(rt, alloc, tracked, told, cost, workers, chunk, gate);
+        (Mutator { tracked }, outcome)
+    }
+}
