@@ -226,9 +226,7 @@ pub fn discover<R: Threads + Sync, G: Gate + Sync>(
     let mut round: u64 = 0;
     while search.from < search.found.len() {
         let hired = hired(workers, search.found.len() - search.from, round);
-        search = next_round(
-            rt, alloc, heap, starts, window, search, hired, chunk, gate,
-        )?;
+        search = next_round(rt, alloc, heap, starts, window, search, hired, chunk, gate)?;
         round = round.saturating_add(1);
     }
     Ok(search.found)
