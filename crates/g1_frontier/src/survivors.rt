@@ -28,14 +28,14 @@ pub struct Search {
     pub next: u64,
 }
 
-// A thread takes as long to start as some 500 objects to be looked at. So a round has a worker for
+// A thread takes as long to start as some 500 items to be looked at. So a round has a worker for
 // each 2,048 items; only the first rounds of a call, which are all that a small heap has, may have
 // two for fewer.
 const ITEMS_A_WORKER: usize = 2048;
 
 const ROUNDS_OF_TWO: u64 = 16;
 
-// How many of the workers a round of so many objects hires.
+// How many of the workers a round of so many items hires.
 fn hired(workers: u64, items: usize, round: u64) -> u64
     requires { (0 < workers) × (workers ≤ 64) }
     ensures { (0 < result) × (result ≤ 64) }
@@ -126,8 +126,9 @@ pub(crate) fn first_round<R: Threads + Sync, G: Gate + Sync>(
     let (claims, seat) = Claims::new(alloc, places)?;
     let first = first_items(alloc, roots, cards)?;
     let items = first.as_slice();
+    let hired = hired(workers, items.len(), 0);
     let (claims, seat, won) = claim_round(
-        rt, alloc, heap, starts, window, claims, seat, items, workers, chunk, gate,
+        rt, alloc, heap, starts, window, claims, seat, items, hired, chunk, gate,
     )?;
     let mut found = Vec::new(alloc);
     push_addresses(&mut found, won.as_slice())?;
@@ -223,7 +224,7 @@ pub fn discover<R: Threads + Sync, G: Gate + Sync>(
     // Tells that the heap is valid.
     heap.geometry();
     let mut search = first_round(rt, alloc, heap, starts, window, cards, workers, chunk, gate)?;
-    let mut round: u64 = 0;
+    let mut round: u64 = 1;
     while search.from < search.found.len() {
         let hired = hired(workers, search.found.len() - search.from, round);
         search = next_round(rt, alloc, heap, starts, window, search, hired, chunk, gate)?;
