@@ -28,6 +28,23 @@ pub struct Search {
     pub next: u64,
 }
 
+// A thread takes as long to start as some 500 items to be looked at. So a round has a worker for
+// each 2,048 items; only the first rounds of a call, which are all that a small heap has, may have
+// two for fewer.
+const ITEMS_A_WORKER: usize = 2048;
+
+const ROUNDS_OF_TWO: u64 = 16;
+
+// How many of the workers a round of so many items hires.
+fn hired(workers: u64, items: usize, round: u64) -> u64
+    requires { (0 < workers) × (workers ≤ 64) }
+    ensures { (0 < result) × (result ≤ 64) }
+{
+    let fed = (items / ITEMS_A_WORKER) as u64;
+    let fewest = if round < ROUNDS_OF_TWO { 2 } else { 1 };
+    workers.min(fed.max(fewest))
+}
+
 // The roots, by number, then the cards.
 fn first_items(alloc: Global, roots: u64, cards: &[u32]) -> Result<Vec<Item>, AllocError>
     ensures { IfOk result (λ v. v.items ≡ first_items roots cards.now) }
@@ -109,8 +126,9 @@ pub(crate) fn first_round<R: Threads + Sync, G: Gate + Sync>(
     let (claims, seat) = Claims::new(alloc, places)?;
     let first = first_items(alloc, roots, cards)?;
     let items = first.as_slice();
+    let hired = hired(workers, items.len(), 0);
     let (claims, seat, won) = claim_round(
-        rt, alloc, heap, starts, window, claims, seat, items, workers, chunk, gate,
+        rt, alloc, heap, starts, window, claims, seat, items, hired, chunk, gate,
     )?;
     let mut found = Vec::new(alloc);
     push_addresses(&mut found, won.as_slice())?;
@@ -206,10 +224,11 @@ pub fn discover<R: Threads + Sync, G: Gate + Sync>(
     // Tells that the heap is valid.
     heap.geometry();
     let mut search = first_round(rt, alloc, heap, starts, window, cards, workers, chunk, gate)?;
+    let mut round: u64 = 1;
     while search.from < search.found.len() {
-        search = next_round(
-            rt, alloc, heap, starts, window, search, workers, chunk, gate,
-        )?;
+        let hired = hired(workers, search.found.len() - search.from, round);
+        search = next_round(rt, alloc, heap, starts, window, search, hired, chunk, gate)?;
+        round = round.saturating_add(1);
     }
     Ok(search.found)
 }

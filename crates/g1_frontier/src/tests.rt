@@ -8,7 +8,7 @@ use g1_rem::{Starts, image, refine, verify};
 use g1_words::Fault;
 use g1_work::{Gate, Open, Part};
 use std::alloc::{AllocError, Global};
-use std::sync::atomic::{AtomicBool, Ordering};
+use std::sync::atomic::{AtomicBool, AtomicU64, Ordering};
 use std::test::Fail;
 use std::thread::Threads;
 
@@ -146,15 +146,29 @@ fn a_dead_outside_slot_keeps_its_target(rt: HostRuntime) -> Result<(), Fail> {
     Ok(())
 }
 
-/// A gate whose calls for the chunks 0 and 1 look for one another.
+/// A gate whose calls for the chunks 0 and 1 look for one another in a round, counted from 0.
 #[derive(Drop)]
 struct Meeting {
+    round: u64,
+    zeros: AtomicU64,
+    ones: AtomicU64,
     zero: AtomicBool,
     one: AtomicBool,
     missed: AtomicBool,
 }
 
 const TURNS: u64 = 200_000_000;
+
+fn meeting_in(round: u64) -> Meeting {
+    Meeting {
+        round,
+        zeros: AtomicU64::new(0),
+        ones: AtomicU64::new(0),
+        zero: AtomicBool::new(false),
+        one: AtomicBool::new(false),
+        missed: AtomicBool::new(false),
+    }
+}
 
 fn waits_for(flag: &AtomicBool) -> bool {
     for _ in 0..TURNS {
@@ -167,11 +181,14 @@ fn waits_for(flag: &AtomicBool) -> bool {
 
 impl Gate for Meeting {
     fn at(&self, _part: Part, number: u64) {
-        let (mine, theirs) = match number {
-            0 => (&self.zero, &self.one),
-            1 => (&self.one, &self.zero),
+        let (rounds, mine, theirs) = match number {
+            0 => (&self.zeros, &self.zero, &self.one),
+            1 => (&self.ones, &self.one, &self.zero),
             _ => return,
         };
+        if rounds.fetch_add(1, Ordering::SeqCst) != self.round {
+            return;
+        }
         mine.store(true, Ordering::SeqCst);
         if !waits_for(theirs) {
             self.missed.store(true, Ordering::SeqCst);
@@ -179,19 +196,24 @@ impl Gate for Meeting {
     }
 }
 
+/// Tells whether two workers are in a round at the same time, and the survivors are the right ones.
+fn meets<R: Threads + Sync>(rt: &R, alloc: Global, round: u64) -> Result<bool, Fault> {
+    let gate = meeting_in(round);
+    let text = text_of(alloc, &SHARED, &shared_words())?;
+    let found = survivors(rt, alloc, &text, 2, 1, &gate)?;
+    let both = gate.zero.load(Ordering::SeqCst) && gate.one.load(Ordering::SeqCst);
+    Ok(both && !gate.missed.load(Ordering::SeqCst) && found.as_slice() == [21, 16].as_slice())
+}
+
 #[test]
 fn together(rt: HostRuntime) -> Result<(), Fail> {
-    let gate = Meeting {
-        zero: AtomicBool::new(false),
-        one: AtomicBool::new(false),
-        missed: AtomicBool::new(false),
-    };
-    let text = text_of(rt.alloc(), &SHARED, &shared_words())?;
-    assert_eq!(rt;
-        survivors(&rt, rt.alloc(), &text, 2, 1, &gate)?.as_slice(),
-        [21, 16].as_slice()
-    );
-    assert!(rt; !gate.missed.load(Ordering::SeqCst));
+    assert!(rt; meets(&rt, rt.alloc(), 0)?);
+    Ok(())
+}
+
+#[test]
+fn together_in_a_later_round(rt: HostRuntime) -> Result<(), Fail> {
+    assert!(rt; meets(&rt, rt.alloc(), 1)?);
     Ok(())
 }
 

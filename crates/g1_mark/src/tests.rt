@@ -3,8 +3,9 @@ use crate::live_bytes;
 use g1_image::decode;
 use g1_rem::Starts;
 use g1_words::Fault;
-use g1_work::Open;
+use g1_work::{Gate, Open, Part};
 use std::alloc::{AllocError, Global};
+use std::sync::atomic::{AtomicBool, Ordering};
 use std::test::Fail;
 use std::thread::Threads;
 
@@ -145,5 +146,55 @@ fn a_humongous_object_counts_in_its_first_region(rt: HostRuntime) -> Result<(), 
             &[320, 0, 0, 16, 0, 0]
         )?
     );
+    Ok(())
+}
+
+/// A gate whose calls for the chunks 0 and 1 look for one another.
+#[derive(Drop)]
+struct Meeting {
+    zero: AtomicBool,
+    one: AtomicBool,
+    missed: AtomicBool,
+}
+
+const TURNS: u64 = 200_000_000;
+
+fn waits_for(flag: &AtomicBool) -> bool {
+    for _ in 0..TURNS {
+        if flag.load(Ordering::SeqCst) {
+            return true;
+        }
+    }
+    false
+}
+
+impl Gate for Meeting {
+    fn at(&self, _part: Part, number: u64) {
+        let (mine, theirs) = match number {
+            0 => (&self.zero, &self.one),
+            1 => (&self.one, &self.zero),
+            _ => return,
+        };
+        mine.store(true, Ordering::SeqCst);
+        if !waits_for(theirs) {
+            self.missed.store(true, Ordering::SeqCst);
+        }
+    }
+}
+
+#[test]
+fn together(rt: HostRuntime) -> Result<(), Fail> {
+    let gate = Meeting {
+        zero: AtomicBool::new(false),
+        one: AtomicBool::new(false),
+        missed: AtomicBool::new(false),
+    };
+    let text = text_of(rt.alloc(), &SHARED, &shared_words())?;
+    let image = decode(rt.alloc(), &text)?;
+    let starts = Starts::build(rt.alloc(), image.heap())?;
+    let bytes = live_bytes(&rt, rt.alloc(), image.heap(), &starts, 2, 1, &gate)?;
+    assert_eq!(rt; bytes.as_slice(), [0, 56, 0, 0].as_slice());
+    assert!(rt; gate.zero.load(Ordering::SeqCst) && gate.one.load(Ordering::SeqCst));
+    assert!(rt; !gate.missed.load(Ordering::SeqCst));
     Ok(())
 }

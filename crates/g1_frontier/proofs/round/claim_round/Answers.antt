@@ -10,8 +10,8 @@ use Rattle.g1_frontier.proofs.Scopes.{all_from_in}
 use Rattle.g1_frontier.proofs.Claimed.{lists_rise, all_in_window, adds, merged_from, round_won}
 use Rattle.g1_frontier.proofs.round.claim_round.Goals as goal
 
-pub merged-requires : goal.merged-requires
-merged-requires g c = record { rise = lists_rise c.in_ok-seat.lists.items c.in_ok-seat.ensures.ok.rise }
+pub in_rank_order-requires : goal.in_rank_order-requires
+in_rank_order-requires g c = record { rise = lists_rise c.in_ok-seat.lists.items c.in_ok-seat.ensures.ok.rise }
 
 pub still_there-requires-clause-inside : goal.still_there-requires-clause-inside
 still_there-requires-clause-inside g c =
