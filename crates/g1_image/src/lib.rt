@@ -14,6 +14,7 @@ mod encoding;
 mod image;
 mod laid;
 mod laws;
+mod marks;
 mod plain;
 mod reading;
 mod refs;
