@@ -16,6 +16,7 @@ pub mod SetsPaused
 pub mod GatheringCopies
 pub mod GatheringRuns
 pub mod GatheringWhole
+pub mod GatheredLaws
 pub mod CopiedWords
 pub mod PreparedRegions
 pub mod PreparedPause

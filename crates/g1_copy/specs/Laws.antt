@@ -1,9 +1,10 @@
 -- The laws that public functions of this crate prove.
-use Rattle.std.specs.Prelude.{◌≡◌, ◌<◌, ◌↔◌, ◌*◌, ◌&&◌, ◌||◌, ℕ, false, List, map, All, Contains, IsTrue}
+use Rattle.std.specs.Prelude.{◌≡◌, ◌≤◌, ◌<◌, ◌⊎◌, ◌↔◌, ◌+◌, ◌*◌, ◌&&◌, ◌||◌, ℕ, false, List, length, map, slice_index, All, Contains, IsTrue}
 use Rattle.std.specs.List.Sorted.{IsStrictlyIncreasing}
 use Rattle.g1_words.specs.Heap.{Heap, regions}
 use Rattle.g1_words.specs.Survivors.{in_set, AllOrdinary, Survivors}
-use Rattle.g1_words.specs.Layout.{HasRoom, to_space}
+use Rattle.g1_words.specs.Layout.{HasRoom, need, to_space}
+use Rattle.g1_layout.specs.Plan.{Plan}
 use Rattle.g1_image.specs.Image.{Image, IsImage}
 use Rattle.g1_image.specs.Cards.{Covered, is_exact, refined}
 use Rattle.g1_image.specs.Made.{heap_after}
@@ -13,7 +14,8 @@ use Rattle.g1_copy.specs.Links.{is_linked, copied_slots}
 use Rattle.g1_words.specs.Valid.{IsValid}
 use Rattle.g1_rem.specs.Starts.{card_count}
 use Rattle.g1_copy.specs.Cards.{cards_into}
-use Rattle.g1_copy.specs.Gathered.{to_space_words}
+use Rattle.g1_copy.specs.Gathered.{IsGatheredAt, size_of, start_of, to_space_words}
+use Rattle.g1_copy.specs.Plans.{IsPlanOf}
 use Rattle.g1_copy.specs.Patches.{all_patches, patches_on}
 use Rattle.g1_copy.specs.Slices.{words_after}
 
@@ -46,3 +48,13 @@ CardsOfToSpace = (h : Heap) (set l : List ℕ) → IsValid h → HasRoom h set l
 abbrev pub CardsInToSpace : Type 0
 CardsInToSpace = (h : Heap) (set l : List ℕ) → IsValid h → HasRoom h set l → (r c : ℕ)
     → (card_in h (to_space h l) c && is_exact (heap_after h set l) r c) ≡ is_linked h (copied_slots h l) r c
+
+-- of a plan of any objects of a set: each survivor's words stand at its place
+abbrev pub GatheredAtPlaces : Type 0
+GatheredAtPlaces = (h : Heap) (p : Plan) → IsValid h → IsPlanOf h p → (i : ℕ) → i < length p.survivors → (t : ℕ) × IsGatheredAt h p i t
+
+-- and a word of to-space that no survivor takes is 0
+abbrev pub GatheredElsewhere : Type 0
+GatheredElsewhere = (h : Heap) (p : Plan) → IsValid h → IsPlanOf h p → (t m : ℕ) → t < need h p.survivors → m < h.geometry.w
+    → ((i : ℕ) → i < length p.survivors → (start_of h p t + m < slice_index p.places i) ⊎ (slice_index p.places i + size_of h p i ≤ start_of h p t + m))
+    → slice_index (to_space_words h p.survivors) (t * h.geometry.w + m) ≡ 0

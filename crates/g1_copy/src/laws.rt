@@ -1,4 +1,4 @@
-ghost use Rattle.g1_copy.specs.Laws.{CardsLeadIn, CardsStandOutside, RefinedFindPatches, WrittenInPlace};
+ghost use Rattle.g1_copy.specs.Laws.{CardsLeadIn, CardsStandOutside, RefinedFindPatches, WrittenInPlace, GatheredAtPlaces, GatheredElsewhere};
 
 /// What the cards that lead into a set are, and that they meet what `patches` asks.
 pub fn cards_lead_in()
@@ -14,4 +14,11 @@ pub fn all_patches()
 /// The words of to-space, the patches and the cleared regions make the words of the heap after.
 pub fn written_in_place()
     ensures { WrittenInPlace }
+{}
+
+/// What the words of to-space are, for every plan that `gather` takes: those of each survivor at its
+/// place, and 0 elsewhere.
+pub fn gathered()
+    ensures places { GatheredAtPlaces }
+    ensures elsewhere { GatheredElsewhere }
 {}

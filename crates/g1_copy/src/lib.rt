@@ -26,7 +26,7 @@ mod sets;
 pub use committing::commit;
 pub use entering::cards_into;
 pub use gathering::gather;
-pub use laws::{all_patches, cards_lead_in, written_in_place};
+pub use laws::{all_patches, cards_lead_in, gathered, written_in_place};
 pub use patching::patches;
 pub use preparing::{Prepared, prepare};
 pub use sets::{cards_after, new_rem};

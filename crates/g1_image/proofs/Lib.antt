@@ -11,6 +11,7 @@ pub mod Tests
 pub mod Tiled
 pub mod Runs
 pub mod Rows
+pub mod Bits
 pub mod Slots
 pub mod Logs
 pub mod Drafts

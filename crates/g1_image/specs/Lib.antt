@@ -5,6 +5,7 @@ pub mod Faults
 pub mod Plain
 pub mod Draft
 pub mod Marks
+pub mod Bits
 pub mod Judged
 pub mod Cards
 pub mod Copy

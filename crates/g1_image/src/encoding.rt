@@ -36,6 +36,21 @@ pub fn encode(alloc: Global, image: &Image) -> Result<Vec<u8>, Fault>
     ensures ok { IfOk result (λ v. IsTextOf v.items image.now) }
     ensures err { IfErr result (λ e. e ≡ Fault.Memory) }
 {
+    let mut out = Vec::new(alloc);
+    encode_into(&mut out, image)?;
+    Ok(out)
+}
+
+/// Writes the text of an image in the place of the bytes that a list has. A list that has the room
+/// doesn't grow, so bytes that nobody reads any more lend theirs.
+///
+/// # Errors
+///
+/// `Fault::Memory` where a growth was refused: the list then has a beginning of the text.
+pub fn encode_into(out: &mut Vec<u8>, image: &Image) -> Result<(), Fault>
+    ensures ok { OnOk result (IsTextOf out.new.items image.now) }
+    ensures err { IfErr result (λ e. e ≡ Fault.Memory) }
+{
     let heap = image.heap();
     let geometry = heap.geometry();
     let log = image.log().as_slice();
@@ -47,17 +62,18 @@ pub fn encode(alloc: Global, image: &Image) -> Result<Vec<u8>, Fault>
         dirty: log.len() as u32,
         current: heap.current().unwrap_or(geometry.regions() as u32),
     };
-    let mut out = Vec::from_slice(alloc, b"G1IMAGE1")?;
-    push_heading(&mut out, &heading)?;
-    push_table(&mut out, heap.regions())?;
-    push_words(&mut out, heap.roots())?;
-    push_numbers(&mut out, log)?;
-    push_sets(&mut out, image.sets())?;
+    out.clear();
+    out.extend_from_slice(b"G1IMAGE1")?;
+    push_heading(out, &heading)?;
+    push_table(out, heap.regions())?;
+    push_words(out, heap.roots())?;
+    push_numbers(out, log)?;
+    push_sets(out, image.sets())?;
     push_used(
-        &mut out,
+        out,
         geometry.region_words() as usize,
         heap.regions(),
         heap.words(),
     )?;
-    Ok(out)
+    Ok(())
 }

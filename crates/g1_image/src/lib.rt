@@ -14,6 +14,7 @@ mod encoding;
 mod image;
 mod laid;
 mod laws;
+mod marks;
 mod plain;
 mod reading;
 mod refs;
@@ -21,6 +22,6 @@ mod shape;
 mod writing;
 
 pub use decoding::decode;
-pub use encoding::encode;
+pub use encoding::{encode, encode_into};
 pub use image::Image;
 pub use laws::{after, card_sets, cover, one_fault, one_image, one_text, same_graph};

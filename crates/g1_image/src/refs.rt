@@ -1,4 +1,4 @@
-ghost use Rattle.std.specs.Prelude.{◌≡◌, ◌≤◌, ◌<◌, ◌+◌, ◌*◌, ◌^◌, ℕ, List, length, slice_index, replicate, false, IsTrue, ◌↔◌, OnOk, IfOk, IfErr, IfSome, IfNone};
+ghost use Rattle.std.specs.Prelude.{◌≡◌, ◌≤◌, ◌<◌, ◌+◌, ◌*◌, ◌^◌, ℕ, List, length, slice_index, IsTrue, ◌↔◌, OnOk, IfOk, IfErr, IfSome, IfNone};
 ghost use Rattle.g1_words.specs.Heap.{region};
 ghost use Rattle.g1_words.specs.Valid.{IsShaped, IsReference};
 ghost use Rattle.g1_words.specs.Walk.{Reaches};
@@ -7,40 +7,34 @@ ghost use Rattle.g1_image.specs.Marks.{InRow, Marked, StartsAre};
 ghost use Rattle.g1_image.specs.Faults.{IsFirstBreach, IsGoodSlot};
 
 use crate::draft::{Draft, header};
+use crate::marks::Marks;
 use g1_words::{Fault, Kind, Place};
 use std::alloc::Global;
 
 /// Marks the objects that fill the words between two addresses.
-fn mark_row(marks: &mut [bool], words: &[u64], from: u64, to: u64)
+fn mark_row(marks: &mut Marks, words: &[u64], from: u64, to: u64)
     requires filled { Reaches words.now from to }
     requires in_words { to ≤ length words.now }
     requires as_many { length marks.old ≡ length words.now }
-    ensures { Marked (InRow words.now from to) marks.old marks.new }
+    ensures marked { Marked (InRow words.now from to) marks.old marks.new }
+    ensures size { length marks.new ≡ length marks.old }
 {
     let mut at = from;
     while at < to {
-        marks[at as usize] = true;
+        marks.set(at as usize);
         at += header(words, at).size;
     }
 }
 
-/// So many marks that aren't set.
-fn no_marks(alloc: Global, count: u64) -> Result<Vec<bool>, Fault>
-    ensures ok { IfOk result (λ v. v.items ≡ replicate count false) }
-    ensures err { IfErr result (λ e. e ≡ Fault.Memory) }
-{
-    Ok(vec![in alloc; false; count as usize]?)
-}
-
 /// Marks the addresses where objects start.
-pub(crate) fn starts(alloc: Global, draft: &Draft) -> Result<Vec<bool>, Fault>
+pub(crate) fn starts(alloc: Global, draft: &Draft) -> Result<Marks, Fault>
     requires { AllShaped draft.now draft.now.geometry.n }
-    ensures ok { IfOk result (λ v. StartsAre draft.now v.items) }
+    ensures ok { IfOk result (λ v. StartsAre draft.now v) }
     ensures err { IfErr result (λ e. e ≡ Fault.Memory) }
 {
     let region_words = draft.geometry().region_words();
     let regions = draft.geometry().regions() as u32;
-    let mut marks = no_marks(alloc, u64::from(regions) * region_words)?;
+    let mut marks = Marks::none(alloc, regions as usize * region_words as usize)?;
     for r in 0..regions {
         let region = draft.region(r);
         let start = u64::from(r) * region_words;
@@ -51,7 +45,7 @@ pub(crate) fn starts(alloc: Global, draft: &Draft) -> Result<Vec<bool>, Fault>
                 start,
                 start + u64::from(region.top),
             ),
-            Kind::HumongousFirst => marks[start as usize] = true,
+            Kind::HumongousFirst => marks.set(start as usize),
             _ => {}
         }
     }
@@ -59,7 +53,7 @@ pub(crate) fn starts(alloc: Global, draft: &Draft) -> Result<Vec<bool>, Fault>
 }
 
 /// Tells whether a word is null or names an object.
-fn is_reference(draft: &Draft, marks: &[bool], x: u64) -> bool
+fn is_reference(draft: &Draft, marks: &Marks, x: u64) -> bool
     requires { StartsAre draft.now marks.now }
     ensures { IsTrue result ↔ IsReference draft.now x }
 {
@@ -69,11 +63,11 @@ fn is_reference(draft: &Draft, marks: &[bool], x: u64) -> bool
     if x > marks.len() as u64 {
         return false;
     }
-    marks[(x - 1) as usize]
+    marks.is_set((x - 1) as usize)
 }
 
 /// Tells the first root that names no object.
-pub(crate) fn good_roots(draft: &Draft, marks: &[bool]) -> Result<(), Fault>
+pub(crate) fn good_roots(draft: &Draft, marks: &Marks) -> Result<(), Fault>
     requires { StartsAre draft.now marks.now }
     ensures ok { OnOk result ((i : ℕ) → i < length draft.now.roots → IsReference draft.now (slice_index draft.now.roots i)) }
     ensures err { IfErr result (λ e. (i : ℕ) × (e ≡ Fault.Reference (Place.Root i)) × IsFirstBreach (λ i. IsReference draft.now (slice_index draft.now.roots i)) (length draft.now.roots) i) }
@@ -87,7 +81,7 @@ pub(crate) fn good_roots(draft: &Draft, marks: &[bool]) -> Result<(), Fault>
 }
 
 /// Tells the first of some words that names no object.
-fn first_stray(draft: &Draft, marks: &[bool], words: &[u64]) -> Option<usize>
+fn first_stray(draft: &Draft, marks: &Marks, words: &[u64]) -> Option<usize>
     requires { StartsAre draft.now marks.now }
     ensures found { IfSome result (λ i. IsFirstBreach (λ i. IsReference draft.now (slice_index words.now i)) (length words.now) i) }
     ensures none { IfNone result ((i : ℕ) → i < length words.now → IsReference draft.now (slice_index words.now i)) }
@@ -101,7 +95,7 @@ fn first_stray(draft: &Draft, marks: &[bool], words: &[u64]) -> Option<usize>
 }
 
 /// Tells the first slot that names no object.
-pub(crate) fn good_slots(draft: &Draft, marks: &[bool]) -> Result<(), Fault>
+pub(crate) fn good_slots(draft: &Draft, marks: &Marks) -> Result<(), Fault>
     requires starts { StartsAre draft.now marks.now }
     requires shaped { AllShaped draft.now draft.now.geometry.n }
     ensures ok { OnOk result ((p : ℕ) → p < draft.now.geometry.n * draft.now.geometry.w → IsGoodSlot draft.now p) }
@@ -110,7 +104,7 @@ pub(crate) fn good_slots(draft: &Draft, marks: &[bool]) -> Result<(), Fault>
     let words = draft.words();
     let mut at = 0;
     while at < words.len() {
-        if marks[at] {
+        if marks.is_set(at) {
             let o = header(words, at as u64);
             let first = at + 1;
             let slots = &words[first..first + o.refs as usize];

@@ -31,7 +31,7 @@ use Rattle.g1_pause.proofs.Following.{evacuation_follows}
 use Rattle.g1_pause.proofs.SetsFor.{set_ordinary}
 
 -- a heap has live bytes
-live_bytes_exist : (h : Heap) → IsValid h → (lives : List ℕ) × IsLiveBytes h lives
+pub live_bytes_exist : (h : Heap) → IsValid h → (lives : List ℕ) × IsLiveBytes h lives
 live_bytes_exist h valid =
     let e = survivors_exist h (used h) (sound h valid) in
     (map (bytes_where h (has e.0)) (regions h), live_counted h valid e.0 e.1 (map (bytes_where h (has e.0)) (regions h)) refl)

@@ -43,11 +43,15 @@ module _ (cost : Cost) (choice : Choice) (bytes : List ℕ) where
   memory_told (Ok v) m = (m, m)
   memory_told (Err e) m = (inl m, inl m)
 
-  -- a text that was written is the answer, the only one, and follows
-  pub written_told : (i k j l : Image) (r : Result (Vec ℕ Global) Fault) → IsTextOf bytes i → k ≡ i → IsTracked k → IsEvacuated cost choice k (Ok j) → l ≡ j
+  -- each text of the image after is the answer
+  pub after_told : (i k j : Image) → IsTextOf bytes i → k ≡ i → IsTracked k → IsEvacuated cost choice k (Ok j) → (out : List ℕ) → IsTextOf out j → IsAnswer cost choice bytes (Ok out)
+  after_told i k j t same tracked e out after = written (subst (IsTextOf bytes) (sym same) t) tracked.covered e after
+
+  -- and so is the one that was written
+  pub text_told : (j l : Image) (r : Result (Vec ℕ Global) Fault) → ((out : List ℕ) → IsTextOf out j → IsAnswer cost choice bytes (Ok out)) → l ≡ j
       → IfOk r (λ v. IsTextOf v.items l) → IfOk r (λ v. IsAnswer cost choice bytes (Ok v.items))
-  written_told i k j l (Err e) t same tracked e' after w = w
-  written_told i k j l (Ok v) t same tracked e after w = written (subst (IsTextOf bytes) (sym same) t) tracked.covered e (subst (IsTextOf v.items) after w)
+  text_told j l (Err e) told after w = w
+  text_told j l (Ok v) told after w = told v.items (subst (IsTextOf v.items) after w)
 
   pub only_written : OneAnswer → (r : Result (Vec ℕ Global) Fault) → IfOk r (λ v. IsAnswer cost choice bytes (Ok v.items))
       → IfOk r (λ v. (y : Result (List ℕ) Fault) → IsAnswer cost choice bytes y → y ≡ Ok v.items)

@@ -1,6 +1,9 @@
 -- The laws that public functions of this crate prove.
 use Rattle.std.specs.Prelude.{◌≡◌, ℕ, List, Result, Ok}
 use Rattle.g1_words.specs.declared.fault.Fault.{Fault}
+use Rattle.g1_words.specs.Heap.{Heap}
+use Rattle.g1_words.specs.Live.{IsLiveBytes}
+use Rattle.g1_words.specs.Valid.{IsValid}
 use Rattle.g1_image.specs.Image.{Image}
 use Rattle.g1_image.specs.Cards.{IsTracked}
 use Rattle.g1_image.specs.Reading.{IsBytes}
@@ -28,6 +31,10 @@ EvacuationByAsking = (cost : Cost) (i : Image) (c d : Choice) (x : Result Image 
 -- and so is the answer to bytes
 abbrev pub AnswerByAsking : Type 0
 AnswerByAsking = (cost : Cost) (c d : Choice) (bytes : List ℕ) (x : Result (List ℕ) Fault) → AskTheSame c d → IsAnswer cost c bytes x → IsAnswer cost d bytes x
+
+-- a valid heap has live bytes
+abbrev pub LiveBytesExist : Type 0
+LiveBytesExist = (h : Heap) → IsValid h → (lives : List ℕ) × IsLiveBytes h lives
 
 -- bytes always have an answer
 abbrev pub AnswerExists : Type 0

@@ -1,4 +1,4 @@
-ghost use Rattle.g1_pause.specs.Laws.{OneSetFor, OneEvacuation, OneAnswer, EvacuationByAsking, AnswerByAsking, AnswerExists, EvacuationFollows, AnswerFollows};
+ghost use Rattle.g1_pause.specs.Laws.{OneSetFor, OneEvacuation, OneAnswer, EvacuationByAsking, AnswerByAsking, AnswerExists, LiveBytesExist, EvacuationFollows, AnswerFollows};
 
 /// A choice has one set, a tracked image one pause, and bytes one answer.
 pub fn one_answer()
@@ -17,6 +17,11 @@ pub fn same_choice()
 pub fn what_follows()
     ensures evacuation { EvacuationFollows }
     ensures answer { AnswerFollows }
+{}
+
+/// A valid heap has live bytes. That it has no others is `one_list` of `g1_words`.
+pub fn live_bytes_exist()
+    ensures { LiveBytesExist }
 {}
 
 /// Bytes always have an answer, whatever the choice and the cost.

@@ -39,10 +39,10 @@ mod whole;
 mod wraps;
 
 pub use evacuating::evacuate;
-pub use laws::{always_one, one_answer, same_choice, what_follows};
+pub use laws::{always_one, live_bytes_exist, one_answer, same_choice, what_follows};
 pub use report::Report;
 pub use running::pause_run;
 pub use settings::{Choice, Settings};
-pub use streams::{Sink, Source, read_to_end, write_all};
+pub use streams::{Sink, Source};
 pub use whole::pause_bytes;
 pub use wraps::{FromReader, ToWriter};

@@ -5,7 +5,9 @@ ghost use Rattle.g1_pause.specs.Streams.{RunGives, WritesNoFault, input_mark, ou
 
 use crate::settings::Settings;
 use crate::streams::{Sink, Source, read_to_end, write_all};
-use crate::whole::pause_bytes;
+use crate::whole::paused;
+use g1_image::encode_into;
+use g1_rem::image;
 use g1_words::Fault;
 use g1_work::Gate;
 use std::alloc::Global;
@@ -33,9 +35,13 @@ pub fn pause_run<R: Threads + Sync, I: Source, O: Sink, G: Gate + Sync>(
     ensures input { I.failed reader.new ≡ input_mark (I.failed reader.old) result }
     ensures output { O.failed writer.new ≡ output_mark (O.failed writer.old) result }
 {
-    let bytes = read_to_end(alloc, reader)?;
-    match pause_bytes(rt, alloc, bytes.as_slice(), settings, gate) {
-        Ok(text) => write_all(writer, text.as_slice()),
+    let mut bytes = read_to_end(alloc, reader)?;
+    match paused(rt, alloc, bytes.as_slice(), settings, gate) {
+        Ok(after) => {
+            // What was read is of no more use: the answer takes its room.
+            encode_into(&mut bytes, image(&after))?;
+            write_all(writer, bytes.as_slice())
+        }
         Err(fault) => Err(fault),
     }
 }

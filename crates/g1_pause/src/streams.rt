@@ -57,7 +57,7 @@ const PIECE: usize = 65_536;
 ///
 /// `Fault::Device(Device::Input)` where a read failed, and `Fault::Memory`: the bytes that were read
 /// before are lost.
-pub fn read_to_end<S: Source>(alloc: Global, source: &mut S) -> Result<Vec<u8>, Fault>
+pub(crate) fn read_to_end<S: Source>(alloc: Global, source: &mut S) -> Result<Vec<u8>, Fault>
     ensures bytes { IfOk result (λ v. IfSome (S.left source.old) (λ xs. v.items ≡ xs)) }
     ensures end { OnOk result (IsAtEnd (S.left source.new)) }
     ensures marks { MatchResult result (λ _. S.failed source.new ≡ S.failed source.old) (ReadFails (S.failed source.old) (S.failed source.new)) }
@@ -84,7 +84,7 @@ pub fn read_to_end<S: Source>(alloc: Global, source: &mut S) -> Result<Vec<u8>, 
 ///
 /// `Fault::Device(Device::Output)` where a write failed: the beginning of the bytes that was written
 /// before stands.
-pub fn write_all<S: Sink>(sink: &mut S, bytes: &[u8]) -> Result<(), Fault>
+pub(crate) fn write_all<S: Sink>(sink: &mut S, bytes: &[u8]) -> Result<(), Fault>
     ensures ok { OnOk result (Appends (S.written sink.old) (S.written sink.new) bytes.now) }
     ensures err { IfErr result (λ e. (e ≡ Fault.Device Device.Output) × ((k : ℕ) × (k < length bytes.now) × Appends (S.written sink.old) (S.written sink.new) (take k bytes.now))) }
     ensures mark { S.failed sink.new ≡ marked (S.failed sink.old) result }

@@ -36,7 +36,8 @@ fn slots_between(
     requires filled { Reaches words.now from to }
     requires in_words { to ≤ length words.now }
     requires few { hi ≤ lo + 64 }
-    ensures { (os : List Object) → Tiles words.now from os to → result.items ≡ filter (is_between lo hi) (flat_map slots os) }
+    ensures items { (os : List Object) → Tiles words.now from os to → result.items ≡ filter (is_between lo hi) (flat_map slots os) }
+    ensures capacity { result.capacity ≡ 64 }
 {
     let mut out = SmallVec::new(alloc);
     let mut at = from;
@@ -51,11 +52,12 @@ fn slots_between(
 }
 
 /// The addresses of the reference slots that lie on a card themselves, rising, wherever their object
-/// began. A card has at most 64 words, so the list never grows.
+/// began. A card has at most 64 words, so the list never grows: it takes no memory.
 pub fn slots_on(alloc: Global, heap: &Heap, starts: &Starts, card: u32) -> SmallVec<u64, 64>
     requires starts { IsStartsOf heap.now starts.now }
     requires card { card < card_count heap.now }
-    ensures { result.items ≡ slots_on heap.now card }
+    ensures items { result.items ≡ slots_on heap.now card }
+    ensures inline { result.capacity ≡ 64 }
 {
     let geometry = heap.geometry();
     let lo = u64::from(card) * geometry.card_words();

@@ -13,6 +13,14 @@ pub struct Geometry {
     n: u64,
 }
 
+/// The quotient by a power of two: a shift, since a division takes many times as long.
+pub(crate) fn over(a: u64, power: u64) -> u64
+    requires { IsPowerOfTwo power }
+    ensures { result ≡ a / power }
+{
+    a >> power.trailing_zeros()
+}
+
 /// Tells whether a number is a power of two.
 fn is_power(x: u64) -> bool
     ensures { IsTrue result ↔ IsPowerOfTwo x }

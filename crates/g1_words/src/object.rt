@@ -5,7 +5,7 @@ ghost use Rattle.g1_words.specs.Walk.{Reaches, StandsBetween};
 ghost use Rattle.g1_words.specs.declared.object.Object.{Object};
 
 use crate::fault::Fault;
-use crate::geometry::Geometry;
+use crate::geometry::{Geometry, over};
 use crate::heap::Heap;
 use crate::region::{Kind, Region};
 use std::alloc::Global;
@@ -57,14 +57,14 @@ pub(crate) fn object_between(words: &[u64], from: u64, to: u64, a: u64) -> Optio
 pub fn region_of(geometry: &Geometry, a: u64) -> u64
     ensures { result ≡ a / geometry.now.w }
 {
-    a / geometry.region_words()
+    over(a, geometry.region_words())
 }
 
 /// The card that an address lies on, or would lie on.
 pub fn card_of(geometry: &Geometry, a: u64) -> u64
     ensures { result ≡ a / geometry.now.k }
 {
-    a / geometry.card_words()
+    over(a, geometry.card_words())
 }
 
 /// The address of an object's first reference slot, and how many there are.

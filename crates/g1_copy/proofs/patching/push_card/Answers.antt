@@ -10,7 +10,7 @@ push_patch-requires-clause-slot c =
     let xs = c.as_slice-slot-items.result.now in
     let i = c.loop-slot.slot-index in
     (slot_good c.args.heap.now c.args.card (get_or c.as_slice-slot-items.result.now c.loop-slot.slot-index 0) c.requires.heap
-    (subst (λ l. Contains l (get_or c.as_slice-slot-items.result.now c.loop-slot.slot-index 0)) (c.as_slice-slot-items.ensures ∙ c.slots_on-slots.ensures)
+    (subst (λ l. Contains l (get_or c.as_slice-slot-items.result.now c.loop-slot.slot-index 0)) (c.as_slice-slot-items.ensures ∙ c.slots_on-slots.ensures.items)
     (i, c.loop-slot-test.true, get_or_default xs i (get_or xs i 0) 0 c.loop-slot-test.true))).0
 
 pub loop-slot-init : goal.loop-slot-init
@@ -28,4 +28,4 @@ pub returns-clause-ok : goal.returns-clause-ok
 returns-clause-ok c =
     c.loop-slot.invariant
     ∙ ap (λ ys. c.args.patches.now.items ++ patches_at c.args.heap.now c.args.plan.now.survivors ys)
-    (take_whole c.as_slice-slot-items.result.now c.loop-slot.slot-index c.loop-slot-test.false ∙ c.as_slice-slot-items.ensures ∙ c.slots_on-slots.ensures)
+    (take_whole c.as_slice-slot-items.result.now c.loop-slot.slot-index c.loop-slot-test.false ∙ c.as_slice-slot-items.ensures ∙ c.slots_on-slots.ensures.items)

@@ -17,7 +17,7 @@ slice_bounds-slots-end c =
     let h = c.args.draft.now in
     let some : 0 < h.geometry.w = omega (arith, c.words-words.ensures.draft.limits.w_least) in
     let word : slice_index h.words c.loop-at.at ≡ c.header-o.result.size * 2 ^ 32 + c.header-o.result.refs = ap (λ ws. slice_index ws c.loop-at.at) (sym c.words-words.ensures.same) ∙ c.header-o.ensures.word in
-    let fits = object_fits h c.loop-at.at c.header-o.result some c.requires.shaped (c.requires.starts.each.sound c.loop-at.at c.if-marks-at.true) word c.header-o.ensures.refs c.header-o.ensures.size in
+    let fits = object_fits h c.loop-at.at c.header-o.result some c.requires.shaped (c.requires.starts.each.sound c.loop-at.at (sym c.is_set.ensures ∙ c.if-is_set.true)) word c.header-o.ensures.refs c.header-o.ensures.size in
     omega (arith, fits.0, fits.1, c.words-words.ensures.draft.word_count, ap length c.words-words.ensures.same)
 
 pub returns-in-Some-clause-err : goal.returns-in-Some-clause-err
@@ -29,7 +29,7 @@ returns-in-Some-clause-err c =
     let i = c.in-Some.i in
     let some : 0 < h.geometry.w = omega (arith, c.words-words.ensures.draft.limits.w_least) in
     let word : slice_index h.words at ≡ q.size * 2 ^ 32 + q.refs = ap (λ ws. slice_index ws at) (sym c.words-words.ensures.same) ∙ c.header-o.ensures.word in
-    let start : StartsAt h at = c.requires.starts.each.sound at c.if-marks-at.true in
+    let start : StartsAt h at = c.requires.starts.each.sound at (sym c.is_set.ensures ∙ c.if-is_set.true) in
     let fits = object_fits h at q some c.requires.shaped start word c.header-o.ensures.refs c.header-o.ensures.size in
     let count : length (between (at + 1) (at + 1 + q.refs) ws) ≡ q.refs =
     slot_count ws (at + 1) q.refs (omega (arith, fits.0, fits.1, c.words-words.ensures.draft.word_count, ap length c.words-words.ensures.same)) in
@@ -42,23 +42,23 @@ returns-in-Some-clause-err c =
           (λ k less. subst (λ x. IsReference h x) (slot_is ws h.words (at + 1) q.refs k c.words-words.ensures.same (omega (arith, less, lt))) (first.before k less)),
     )
 
-pub loop-at-smaller-then-marks-at : goal.loop-at-smaller-then-marks-at
-loop-at-smaller-then-marks-at c =
+pub loop-at-smaller-then-is_set : goal.loop-at-smaller-then-is_set
+loop-at-smaller-then-is_set c =
     let h = c.args.draft.now in
     let some : 0 < h.geometry.w = omega (arith, c.words-words.ensures.draft.limits.w_least) in
     let word : slice_index h.words c.loop-at.at ≡ c.header-o.result.size * 2 ^ 32 + c.header-o.result.refs = ap (λ ws. slice_index ws c.loop-at.at) (sym c.words-words.ensures.same) ∙ c.header-o.ensures.word in
-    let fits = object_fits h c.loop-at.at c.header-o.result some c.requires.shaped (c.requires.starts.each.sound c.loop-at.at c.if-marks-at.true) word c.header-o.ensures.refs c.header-o.ensures.size in
+    let fits = object_fits h c.loop-at.at c.header-o.result some c.requires.shaped (c.requires.starts.each.sound c.loop-at.at (sym c.is_set.ensures ∙ c.if-is_set.true)) word c.header-o.ensures.refs c.header-o.ensures.size in
     omega (arith, fits.0, c.loop-at-test.true)
 
-pub loop-at-preserved-then-marks-at : goal.loop-at-preserved-then-marks-at
-loop-at-preserved-then-marks-at c =
+pub loop-at-preserved-then-is_set : goal.loop-at-preserved-then-is_set
+loop-at-preserved-then-is_set c =
     let h = c.args.draft.now in
     let ws = c.words-words.result.now in
     let at = c.loop-at.at in
     let q = c.header-o.result in
     let some : 0 < h.geometry.w = omega (arith, c.words-words.ensures.draft.limits.w_least) in
     let word : slice_index h.words at ≡ q.size * 2 ^ 32 + q.refs = ap (λ ws. slice_index ws at) (sym c.words-words.ensures.same) ∙ c.header-o.ensures.word in
-    let start : StartsAt h at = c.requires.starts.each.sound at c.if-marks-at.true in
+    let start : StartsAt h at = c.requires.starts.each.sound at (sym c.is_set.ensures ∙ c.if-is_set.true) in
     let fits = object_fits h at q some c.requires.shaped start word c.header-o.ensures.refs c.header-o.ensures.size in
     let count : length (between (at + 1) (at + 1 + q.refs) ws) ≡ q.refs =
     slot_count ws (at + 1) q.refs (omega (arith, fits.0, fits.1, c.words-words.ensures.draft.word_count, ap length c.words-words.ensures.same)) in
@@ -67,7 +67,7 @@ loop-at-preserved-then-marks-at c =
 
 pub loop-at-preserved : goal.loop-at-preserved
 loop-at-preserved c =
-    let none : StartsAt c.args.draft.now c.loop-at.at → ⊥ = λ s. let e : false ≡ true = sym c.if-marks-at.false ∙ c.requires.starts.each.whole c.loop-at.at s in cc in
+    let none : StartsAt c.args.draft.now c.loop-at.at → ⊥ = λ s. let e : false ≡ true = sym c.if-is_set.false ∙ c.is_set.ensures ∙ c.requires.starts.each.whole c.loop-at.at s in cc in
     SlotsBelow-none c.args.draft.now c.loop-at.at c.loop-at.invariant none
 
 pub returns-clause-ok : goal.returns-clause-ok

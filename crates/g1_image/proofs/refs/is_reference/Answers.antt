@@ -3,8 +3,8 @@ use Rattle.g1_image.proofs.Tests.{never}
 use Rattle.g1_image.proofs.Rows.{past_marks}
 use Rattle.g1_image.proofs.refs.is_reference.Goals as goal
 
-pub returns-then-x-marks : goal.returns-then-x-marks
-returns-then-x-marks c = never (λ r. elim r [
-  | inl z ↦ omega (arith, z, c.if-x-marks.true)
-  | inr p ↦ past_marks c.args.marks.now p.0.at (c.requires.each.whole p.0.at (p.0, p.1, refl)) (omega (arith, p.2, c.if-x-marks.true))
+pub returns-then-x-len : goal.returns-then-x-len
+returns-then-x-len c = never (λ r. elim r [
+  | inl z ↦ omega (arith, z, c.if-x-len.true, c.len.ensures)
+  | inr p ↦ past_marks c.args.marks.now p.0.at (c.requires.each.whole p.0.at (p.0, p.1, refl)) (omega (arith, p.2, c.if-x-len.true, c.len.ensures))
 ])

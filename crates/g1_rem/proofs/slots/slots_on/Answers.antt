@@ -10,8 +10,8 @@ use Rattle.g1_rem.proofs.Card.{none_on, over_at, RowOn, ordinary_row_on, alone_r
 use Rattle.g1_rem.proofs.slots.slots_on.Goals as goal
 use Rattle.g1_rem.proofs.slots.slots_on.Goals.{in-Ordinary, in_default}
 
-pub returns-in-None : goal.returns-in-None
-returns-in-None c =
+pub returns-in-None-clause-items : goal.returns-in-None-clause-items
+returns-in-None-clause-items c =
     let h = c.args.heap.now in
     let valid = c.geometry-geometry.ensures.valid in
     let k : c.card_words.result ≡ c.args.heap.now.geometry.k = c.card_words.ensures.value ∙ ap (λ g. g.k) c.geometry-geometry.ensures.same in
@@ -56,9 +56,9 @@ slots_between-requires-clause-filled c =
 pub slots_between-requires-clause-in_words : goal.slots_between-requires-clause-in_words
 slots_between-requires-clause-in_words c = let w = ap length c.words-in-Some.ensures in omega (arith, (row c).in_words, w)
 
-pub returns-after-region : goal.returns-after-region
-returns-after-region c =
+pub returns-after-region-clause-items : goal.returns-after-region-clause-items
+returns-after-region-clause-items c =
     let r = row c.before in
-    c.slots_between.ensures r.filled.0 (subst (λ l. Tiles l c.from-at.result r.filled.0 c.match-region.end) (sym c.words-in-Some.ensures) r.filled.1)
+    c.slots_between.ensures.items r.filled.0 (subst (λ l. Tiles l c.from-at.result r.filled.0 c.match-region.end) (sym c.words-in-Some.ensures) r.filled.1)
     ∙ ap (λ x. filter (is_between (x * c.card_words.result) (x * c.card_words.result + c.card_words-in-Some.result)) (flat_map slots r.filled.0)) c.from.ensures
     ∙ r.all r.filled.0 r.filled.1

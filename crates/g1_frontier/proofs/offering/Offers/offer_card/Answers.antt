@@ -14,14 +14,14 @@ use Rattle.g1_frontier.proofs.offering.Offers.offer_card.Goals as goal
 pub offset_bounds-words-slot : goal.offset_bounds-words-slot
 offset_bounds-words-slot c =
     let s = c.args.self.now.scope.now in
-    let listed = c.as_slice-slot-items.ensures ∙ c.slots_on-slots.ensures in
+    let listed = c.as_slice-slot-items.ensures ∙ c.slots_on-slots.ensures.items in
     let low = slot_in_words s.heap.now c.requires.places.scope.valid c.args.card (get_or c.as_slice-slot-items.result.now c.loop-slot.slot-index 0) (subst (λ l. In l (get_or c.as_slice-slot-items.result.now c.loop-slot.slot-index 0)) listed (In-get c.as_slice-slot-items.result.now c.loop-slot.slot-index 0 c.loop-slot-test.true)) in
     omega (arith, low, c.requires.places.scope.valid.word_count, c.requires.places.scope.valid.limits.words_most)
 
 pub bounds-words-slot : goal.bounds-words-slot
 bounds-words-slot c =
     let s = c.args.self.now.scope.now in
-    let listed = c.as_slice-slot-items.ensures ∙ c.slots_on-slots.ensures in
+    let listed = c.as_slice-slot-items.ensures ∙ c.slots_on-slots.ensures.items in
     let low = slot_in_words s.heap.now c.requires.places.scope.valid c.args.card (get_or c.as_slice-slot-items.result.now c.loop-slot.slot-index 0) (subst (λ l. In l (get_or c.as_slice-slot-items.result.now c.loop-slot.slot-index 0)) listed (In-get c.as_slice-slot-items.result.now c.loop-slot.slot-index 0 c.loop-slot-test.true)) in
     omega (arith, low, ap length c.words-words.ensures)
 
@@ -30,7 +30,7 @@ offer_named-requires-clause-ranks c =
     let s = c.args.self.now.scope.now in
     let xs = c.as_slice-slot-items.result.now in
     let p : ℕ = get_or xs c.loop-slot.slot-index 0 in
-    let listed = c.as_slice-slot-items.ensures ∙ c.slots_on-slots.ensures in
+    let listed = c.as_slice-slot-items.ensures ∙ c.slots_on-slots.ensures.items in
     subst (λ l. AreRanks (aims_in s (c.args.base + p) (get_or l p 0))) (sym c.words-words.ensures)
     (all_part (λ q. q.0 < 2 ^ 32) (λ p. aims_in s (c.args.base + p) (word s.heap.now p)) (slots_on s.heap.now c.args.card) p c.requires.ranks (subst (λ l. In l p) listed (In-get xs c.loop-slot.slot-index 0 c.loop-slot-test.true)))
 
@@ -48,4 +48,4 @@ returns c =
     let s = c.args.self.now.scope.now in
     let xs = c.as_slice-slot-items.result.now in
     subst (λ l. HasTried (place_in s) (flat_map (λ p. aims_in s (c.args.base + p) (word s.heap.now p)) l) c.args.holder.now c.loop-slot.holder)
-    (take_all xs c.loop-slot.slot-index c.loop-slot-test.false ∙ c.as_slice-slot-items.ensures ∙ c.slots_on-slots.ensures) c.loop-slot.invariant
+    (take_all xs c.loop-slot.slot-index c.loop-slot-test.false ∙ c.as_slice-slot-items.ensures ∙ c.slots_on-slots.ensures.items) c.loop-slot.invariant

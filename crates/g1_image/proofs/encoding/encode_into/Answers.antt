@@ -1,11 +1,11 @@
-use Rattle.std.proofs.Common.{◌≡◌, ◌++◌, length, map, ◌∙◌}
+use Rattle.std.proofs.Common.{rules, ◌≡◌, [], ◌++◌, length, map, ◌∙◌}
 use Rattle.g1_words.proofs.Objects.{tops_fit}
 use Rattle.g1_image.specs.declared.cursor.Heading.{Heading}
-use Rattle.g1_image.specs.Text.{heading_of, heading_text, table_text, words_text, numbers_text, sets_text}
+use Rattle.g1_image.specs.Text.{magic, heading_of, heading_text, table_text, words_text, numbers_text, sets_text}
 use Rattle.g1_image.specs.Image.{file_of, entry_of, used_words}
 use Rattle.g1_image.proofs.Images.{counts_fit}
 use Rattle.g1_image.proofs.Written.{file_written}
-use Rattle.g1_image.proofs.encoding.encode.Goals as goal
+use Rattle.g1_image.proofs.encoding.encode_into.Goals as goal
 
 pub push_sets-requires : goal.push_sets-requires
 push_sets-requires c = rw c.sets.ensures (counts_fit c.args.image.now c.heap-heap.ensures.valid)
@@ -33,11 +33,12 @@ returns-clause-ok c =
     let roots : c.roots-2.result.now ≡ i.heap.roots = cc in
     let width : c.region_words-2.result ≡ i.heap.geometry.w = cc in
     let regions : c.regions-4.result.now ≡ i.heap.regions = cc in
-    let words : c.words.result.now ≡ i.heap.words = cc in (
+    let words : c.words.result.now ≡ i.heap.words = cc in
+    let empty : c.clear.new.self.items ≡ [] = search rules in (
       c.heap-heap.ensures.valid,
-      file_written (file_of i) c.in_ok-out.out.items c.push_heading.new.out.items c.push_table.new.out.items c.push_words.new.out.items c.push_numbers.new.out.items c.push_sets.new.out.items c.push_used.new.out.items
-          c.in_ok-out.ensures.items
-          (c.in_ok-push_heading.ensures.ok ∙ (λ t. c.in_ok-out.out.items ++ heading_text (first t)))
+      file_written (file_of i) c.extend_from_slice.new.self.items c.push_heading.new.out.items c.push_table.new.out.items c.push_words.new.out.items c.push_numbers.new.out.items c.push_sets.new.out.items c.push_used.new.out.items
+          (c.in_ok-extend_from_slice.ensures.items ∙ (λ t. empty t ++ magic))
+          (c.in_ok-push_heading.ensures.ok ∙ (λ t. c.extend_from_slice.new.self.items ++ heading_text (first t)))
           (c.in_ok-push_table.ensures.ok ∙ (λ t. c.push_heading.new.out.items ++ table_text (map entry_of (table t))))
           (c.in_ok-push_words.ensures.ok ∙ (λ t. c.push_table.new.out.items ++ words_text (roots t)))
           (c.in_ok-push_numbers.ensures.ok ∙ (λ t. c.push_words.new.out.items ++ numbers_text (log t)))

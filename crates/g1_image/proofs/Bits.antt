@@ -1,0 +1,56 @@
+-- Marks that are kept as the bits of words.
+use Rattle.std.proofs.Common.{arith, ◌≡◌, ◌≢◌, ◌≤◌, ◌<◌, ◌*◌, ◌/◌, ◌%◌, ◌^◌, ◌==◌, inl, inr, ℕ, List, Bool, true, false, length, slice_index, get_or, set, replicate, sym, ap, subst, ◌∙◌, zero-add, get_or-set_same, get_or-set_other, length-set}
+use Rattle.std.specs.Int.Bits.{bit_or}
+use Rattle.std.specs.Int.{bit_at, w64}
+use Rattle.std.proofs.lemmas.List.{same_lists, get_or-replicate, length-replicate}
+use Rattle.std.proofs.lemmas.List.FromFn.{get_or-map-range_with_len, length-map-range_with_len}
+use Rattle.std.proofs.lemmas.Nat.Bits.{bit_at-zero, bit_at_set_same, bit_at_set_other}
+use Rattle.std.proofs.lemmas.Bool.{cases_eq}
+use Rattle.g1_image.specs.Bits.{is_set, marks_of}
+
+pub length-marks_of : (count : ℕ) (bits : List ℕ) → length (marks_of count bits) ≡ count
+length-marks_of count bits = length-map-range_with_len (is_set bits) 0 count
+
+-- the mark of a number below the bound
+pub mark_of : (count : ℕ) (bits : List ℕ) (a : ℕ) (d : Bool) → a < count → get_or (marks_of count bits) a d ≡ is_set bits a
+mark_of count bits a d lt = get_or-map-range_with_len (is_set bits) 0 count a a d lt (zero-add a)
+
+-- no mark is set where all words are 0
+pub marks_of-none : (count n : ℕ) → count ≤ 64 * n → marks_of count (replicate n 0) ≡ replicate count false
+marks_of-none count n le =
+    same_lists (marks_of count (replicate n 0)) (replicate count false) (length-marks_of count (replicate n 0) ∙ sym (length-replicate count false)) (λ k d lt.
+    let under : k < count = omega (arith, lt, length-marks_of count (replicate n 0)) in
+    let word : get_or (replicate n 0) (k / 64) 0 ≡ 0 = get_or-replicate n (k / 64) 0 0 (omega (arith, le, under)) in
+    mark_of count (replicate n 0) k d under ∙ ap (λ x. bit_at x (k % 64) == 1) word ∙ ap (λ b. b == 1) (bit_at-zero (k % 64)) ∙ sym (get_or-replicate count k false d under))
+
+-- the mark of a number, where the word that has the mark of a has one bit more
+set_at : (bits : List ℕ) (a k : ℕ) → a / 64 < length bits → k ≡ a → is_set (set bits (a / 64) (bit_or (slice_index bits (a / 64)) (1 * 2 ^ (a % 64) % 2 ^ 64))) k ≡ true
+set_at bits a k lt e =
+    let x : ℕ = bit_or (slice_index bits (a / 64)) (1 * 2 ^ (a % 64) % 2 ^ 64) in
+    subst (λ j. is_set (set bits (a / 64) x) j ≡ true) (sym e)
+    (ap (λ y. bit_at y (a % 64) == 1) (get_or-set_same bits (a / 64) x 0 lt) ∙ ap (λ b. b == 1) (bit_at_set_same w64 (slice_index bits (a / 64)) (a % 64) (omega arith)))
+
+set_off : (bits : List ℕ) (a k : ℕ) → a / 64 < length bits → k ≢ a → is_set (set bits (a / 64) (bit_or (slice_index bits (a / 64)) (1 * 2 ^ (a % 64) % 2 ^ 64))) k ≡ is_set bits k
+set_off bits a k lt ne =
+    let x : ℕ = bit_or (slice_index bits (a / 64)) (1 * 2 ^ (a % 64) % 2 ^ 64) in
+    elim (cases_eq (k / 64) (a / 64)) [
+      | inl same ↦
+          let other : k % 64 ≢ a % 64 = λ e. ne (omega (arith, same, e)) in
+          ap (λ j. bit_at (get_or (set bits (a / 64) x) j 0) (k % 64) == 1) same ∙ ap (λ y. bit_at y (k % 64) == 1) (get_or-set_same bits (a / 64) x 0 lt)
+          ∙ ap (λ b. b == 1) (bit_at_set_other w64 (slice_index bits (a / 64)) (a % 64) (omega arith) (k % 64) other) ∙ ap (λ j. bit_at (slice_index bits j) (k % 64) == 1) (sym same)
+      | inr apart ↦ ap (λ y. bit_at y (k % 64) == 1) (get_or-set_other bits (a / 64) (k / 64) x 0 apart)
+    ]
+
+-- one bit more is one mark more
+pub marks_of-set : (count : ℕ) (bits : List ℕ) (a : ℕ) → a < count → a / 64 < length bits →
+    marks_of count (set bits (a / 64) (bit_or (slice_index bits (a / 64)) (1 * 2 ^ (a % 64) % 2 ^ 64))) ≡ set (marks_of count bits) a true
+marks_of-set count bits a lt in_bits =
+    let new : List ℕ = set bits (a / 64) (bit_or (slice_index bits (a / 64)) (1 * 2 ^ (a % 64) % 2 ^ 64)) in
+    let old : List Bool = marks_of count bits in
+    let same : length (set old a true) ≡ length old = simp length-set in
+    same_lists (marks_of count new) (set old a true) (length-marks_of count new ∙ sym (length-marks_of count bits) ∙ sym same) (λ k d less.
+    let under : k < count = omega (arith, less, length-marks_of count new) in
+    elim (cases_eq k a) [
+      | inl e ↦ mark_of count new k d under ∙ set_at bits a k in_bits e ∙ sym (subst (λ j. get_or (set old a true) j d ≡ true) (sym e) (get_or-set_same old a true d (omega (arith, lt, length-marks_of count bits))))
+      | inr ne ↦ mark_of count new k d under ∙ set_off bits a k in_bits ne ∙ sym (mark_of count bits k d under) ∙ sym (get_or-set_other old a k true d ne)
+    ])

@@ -1,0 +1,60 @@
+ghost use Rattle.std.specs.Prelude.{◌≡◌, ◌≤◌, ◌<◌, ◌*◌, length, set, replicate, slice_index_or, true, false, IfOk, IfErr};
+
+use g1_words::Fault;
+use std::alloc::Global;
+use std::marker::Model;
+
+/// A mark for each number below a bound, one bit each.
+#[derive(Drop)]
+pub(crate) struct Marks {
+    count: usize,
+    bits: Vec<u64>,
+}
+
+impl Model for Marks {
+    ghost use Rattle.std.specs.Prelude.{◌≤◌, ◌*◌, List, Bool, length};
+    ghost use Rattle.g1_image.specs.Bits.{marks_of};
+
+    ghost Value = { List Bool };
+
+    ghost view = { λ m. marks_of m.count m.bits.items };
+
+    ghost invariant = { λ m. m.count ≤ 64 * length m.bits.items };
+}
+
+impl Marks {
+    /// So many marks, none of them set.
+    pub(crate) fn none(alloc: Global, count: usize) -> Result<Marks, Fault>
+        ensures ok { IfOk result (λ m. m ≡ replicate count false) }
+        ensures err { IfErr result (λ e. e ≡ Fault.Memory) }
+    {
+        let words = count / 64 + 1;
+        Ok(Marks {
+            count,
+            bits: vec![in alloc; 0u64; words]?,
+        })
+    }
+
+    /// How many marks there are.
+    pub(crate) fn len(&self) -> usize
+        ensures { result ≡ length self.now }
+    {
+        self.count
+    }
+
+    /// Tells whether a mark is set.
+    pub(crate) fn is_set(&self, at: usize) -> bool
+        requires { at < length self.now }
+        ensures { result ≡ slice_index_or self.now at false }
+    {
+        self.bits[at / 64] >> (at % 64) & 1 == 1
+    }
+
+    /// Sets a mark.
+    pub(crate) fn set(&mut self, at: usize)
+        requires { at < length self.old }
+        ensures { self.new ≡ set self.old at true }
+    {
+        self.bits[at / 64] |= 1 << (at % 64);
+    }
+}
