@@ -9,6 +9,9 @@ cost, as many as a third of the heap's regions.
 
 With --growth it times two pauses on eight images of growing size in place of that, and prints by which power of
 the size the best time grows (least squares over the logarithms).
+
+With --traces it times `run` on two traces of 5,000,000 commands in place of that, into a pipe, beside `cat`, and beside
+another program that answers the same where --beside gives its words. Their answers have to be equal.
 """
 import argparse, filecmp, math, os, pathlib, statistics, subprocess, sys, tempfile, time
 
@@ -84,6 +87,33 @@ def report(title, runs, size):
               f"{cpu:7.2f}{cpu / base[2]:7.1f}{max(memories) / MB:6.0f}{max(memories) / size:9.2f}")
 
 
+def same_answers(commands, trace):
+    answers = set()
+    for words in commands:
+        with open(trace, "rb") as stdin:
+            answers.add(subprocess.run(words, stdin=stdin, check=True, capture_output=True).stdout)
+    if len(answers) != 1:
+        sys.exit(f"the answers to {trace.name} differ")
+
+
+def traces(options, folder):
+    for kind in ("lists", "tables"):
+        trace = folder / f"{kind}.trace"
+        subprocess.run([sys.executable, str(HERE / "traces.py"), kind, str(trace), "--seed", options.seed], check=True)
+        commands = {"run": [options.program, "run"], "run --workers 4": [options.program, "run", "--workers", "4"]}
+        if options.beside:
+            commands["beside"] = options.beside.split()
+        same_answers(commands.values(), trace)
+        commands = {"cat": ["cat"]} | commands
+        runs = {name: [] for name in commands}
+        for _ in range(options.rounds):
+            for name, words in commands.items():
+                runs[name].append(run_to_pipe(name, words, trace))
+        size = trace.stat().st_size
+        report(f"{kind}, {size / MB:.1f} MB", runs, size)
+        trace.unlink()
+
+
 def exponent(sizes, times):
     xs, ys = [math.log(x) for x in sizes], [math.log(y) for y in times]
     x, y = statistics.mean(xs), statistics.mean(ys)
@@ -113,10 +143,15 @@ def main():
     parser.add_argument("--rounds", type=int, default=7, metavar="R")
     parser.add_argument("--seed", default="1", metavar="S")
     parser.add_argument("--growth", action="store_true")
+    parser.add_argument("--traces", action="store_true")
+    parser.add_argument("--beside", default="", metavar="WORDS")
     options = parser.parse_args()
     with tempfile.TemporaryDirectory() as folder:
         if options.growth:
             growth(options, pathlib.Path(folder))
+            return
+        if options.traces:
+            traces(options, pathlib.Path(folder))
             return
         for region_words in (65536, 4096):
             image = pathlib.Path(folder) / "large.img"

@@ -28,3 +28,5 @@ pub mod Words
 pub mod Names
 pub mod Texts
 pub mod OneText
+pub mod Deciding
+pub mod Tellings

@@ -1,6 +1,7 @@
 -- A text has one trace, and no bad line; bytes have one first bad line.
 use Rattle.std.proofs.Common.{◌≡◌, ℕ, zero, suc, ◌+◌, ◌<◌, ◌≤◌, inl, inr, List, [], ◌∷◌, ◌++◌, length, get_or, drop, map, refl, sym, ◌∙◌, ap, subst, arith, append_assoc}
 use Rattle.std.specs.Prelude.{All, decimal}
+use Rattle.g1_words.specs.Geometry.{Geometry}
 use Rattle.g1_words.proofs.Members.{In, Contains-from_in}
 use Rattle.g1_trace.specs.declared.command.Command.{Command}
 use Rattle.g1_trace.specs.declared.command.Command.TheVariants.{New, Get, Put, Set, Say, Same, Copy, Drop, Pause}
@@ -109,11 +110,18 @@ commands_one (c ∷ cs) (d ∷ ds) f g e =
     let rest = commands_one cs ds (rest_fit c cs f) (rest_fit d ds g) s.1 in
     (λ t. one t ∷ rest t)
 
+-- bytes have one first line
+pub one_first : (bytes : List ℕ) (g h : Geometry) (roots more : ℕ) (rest left : List ℕ) → AllFit (g.w ∷ g.k ∷ g.n ∷ roots ∷ []) → AllFit (h.w ∷ h.k ∷ h.n ∷ more ∷ [])
+    → bytes ≡ (heap_line g.w g.k g.n roots ++ 10 ∷ []) ++ rest → bytes ≡ (heap_line h.w h.k h.n more ++ 10 ∷ []) ++ left → (g ≡ h) × (roots ≡ more) × (rest ≡ left)
+one_first bytes g h roots more rest left f k p q =
+    let s = first_lines (heap_line g.w g.k g.n roots) (heap_line h.w h.k h.n more) rest left (heap_clean g.w g.k g.n roots f) (heap_clean h.w h.k h.n more k) (sym p ∙ q) in
+    let numbers = spaced_one (g.w ∷ g.k ∷ g.n ∷ roots ∷ []) (h.w ∷ h.k ∷ h.n ∷ more ∷ []) f k (ap (drop 4) s.0) in
+    (ap (λ xs. record { w = get_or xs 0 0; k = get_or xs 1 0; n = get_or xs 2 0 }) numbers, ap (λ xs. get_or xs 3 0) numbers, s.1)
+
 pub one_trace : OneTrace
-one_trace bytes t u p q =
-    let s = first_lines (heap_line t.w t.k t.n t.roots) (heap_line u.w u.k u.n u.roots) (lines_of t.commands.items) (lines_of u.commands.items) (heap_clean t.w t.k t.n t.roots p.first) (heap_clean u.w u.k u.n u.roots q.first) (sym p.text ∙ q.text) in
-    let numbers = spaced_one (t.w ∷ t.k ∷ t.n ∷ t.roots ∷ []) (u.w ∷ u.k ∷ u.n ∷ u.roots ∷ []) p.first q.first (ap (drop 4) s.0) in
-    (ap (λ xs. record { w = get_or xs 0 0; k = get_or xs 1 0; n = get_or xs 2 0 }) numbers, ap (λ xs. get_or xs 3 0) numbers, commands_one t.commands.items u.commands.items p.later q.later s.1)
+one_trace bytes g h roots more cs ds p q =
+    let s = one_first bytes g h roots more (lines_of cs) (lines_of ds) p.first q.first p.text q.text in
+    (s.0, s.1, commands_one cs ds p.later q.later s.2)
 
 -- ---- a text has no bad line, and bytes have one first
 
@@ -159,10 +167,10 @@ from_zero : (m : ℕ) (rest : List ℕ) → IsBadRest m rest → IsBadRest (m + 
 from_zero m rest b = let z : m ≡ m + 0 = omega arith in subst (λ k. IsBadRest k rest) z b
 
 pub no_bad_line : NoBadLine
-no_bad_line bytes t n p b =
-    let lines : List (List ℕ) = heap_line t.w t.k t.n t.roots ∷ map command_line t.commands.items in
-    let are : AreLines 0 lines = ((t.w, t.k, t.n, t.roots, p.first, refl), later_lines 0 t.commands.items p.later) in
-    let text : bytes ≡ ended lines = p.text ∙ ap (λ xs. (heap_line t.w t.k t.n t.roots ++ 10 ∷ []) ++ xs) (sym (ended_lines t.commands.items)) in
+no_bad_line bytes g roots cs n p b =
+    let lines : List (List ℕ) = heap_line g.w g.k g.n roots ∷ map command_line cs in
+    let are : AreLines 0 lines = ((g.w, g.k, g.n, roots, p.first, refl), later_lines 0 cs p.later) in
+    let text : bytes ≡ ended lines = p.text ∙ ap (λ xs. (heap_line g.w g.k g.n roots ++ 10 ∷ []) ++ xs) (sym (ended_lines cs)) in
     text_no_bad 0 b.good lines b.rest b.are_lines are (sym b.split ∙ text ∙ sym (append_nil (ended lines))) (from_zero (length b.good) b.rest b.bad) (omega arith)
 
 pub one_bad_line : OneBadLine

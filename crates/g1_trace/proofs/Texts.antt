@@ -3,10 +3,10 @@ use Rattle.std.proofs.Common.{◌≡◌, ◌≢◌, ℕ, suc, ◌+◌, ◌<◌, 
 use Rattle.std.specs.Prelude.{All}
 use Rattle.std.proofs.lemmas.List.{get_or_default, length-map}
 use Rattle.std.proofs.lemmas.Grind.{flat_map-append}
+use Rattle.g1_words.specs.Geometry.{Geometry}
 use Rattle.g1_words.proofs.Members.{In, In-from_contains, Contains-from_in, In-append_cases}
 use Rattle.g1_trace.specs.declared.command.Command.{Command}
-use Rattle.g1_trace.specs.declared.trace.Trace.{Trace}
-use Rattle.g1_trace.specs.TraceText.{AllFit, numbers_of, command_line, heap_line, ended, IsHeapLine, IsCommandLine, AreLines, IsBadRest, IsFirstBadLine, IsTraceText}
+use Rattle.g1_trace.specs.TraceText.{AllFit, numbers_of, command_line, heap_line, ended, IsHeapLine, IsCommandLine, AreLines, IsBadRest, IsFirstBadLine, IsText}
 
 -- the lines of commands, each ended
 abbrev pub lines_of : List Command → List ℕ
@@ -55,9 +55,9 @@ read_more bytes w k n roots cs more rest line left c r e is fits longer =
       later = all_more cs c r.later fits;
     })
 
-pub read_end : (bytes : List ℕ) (t : Trace) (rest : List ℕ) → IsRead bytes t.w t.k t.n t.roots t.commands.items rest → length rest ≡ 0 → IsTraceText bytes t
-read_end bytes t [] r e = record { text = r.text ∙ ap (λ xs. (heap_line t.w t.k t.n t.roots ++ 10 ∷ []) ++ xs) (append_nil (lines_of t.commands.items)); first = r.first; later = r.later }
-read_end bytes t (x ∷ rest) r e = absurd (omega (arith, e))
+pub read_end : (bytes : List ℕ) (g : Geometry) (roots : ℕ) (cs : List Command) (rest : List ℕ) → IsRead bytes g.w g.k g.n roots cs rest → length rest ≡ 0 → IsText bytes g roots cs
+read_end bytes g roots cs [] r e = record { text = r.text ∙ ap (λ xs. (heap_line g.w g.k g.n roots ++ 10 ∷ []) ++ xs) (append_nil (lines_of cs)); first = r.first; later = r.later }
+read_end bytes g roots cs (x ∷ rest) r e = absurd (omega (arith, e))
 
 -- ---- the first bad line
 

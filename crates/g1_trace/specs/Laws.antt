@@ -1,5 +1,5 @@
 -- The laws that public functions of this crate prove.
-use Rattle.std.specs.Prelude.{◌≡◌, ℕ, List, ◌^◌, ◌<◌, ◌≤◌, ⊤}
+use Rattle.std.specs.Prelude.{◌≡◌, ◌⊎◌, ℕ, List, ◌^◌, ◌<◌, ◌≤◌, ⊤}
 use Rattle.std.specs.List.{AllByRecursion}
 use Rattle.g1_words.specs.Geometry.{Geometry, IsWithinLimits}
 use Rattle.g1_image.specs.Image.{Image}
@@ -10,9 +10,8 @@ use Rattle.g1_trace.specs.declared.command.Command.TheVariants.{Set}
 use Rattle.g1_trace.specs.declared.command.Reply.{Reply}
 use Rattle.g1_trace.specs.Store.{Store, IsPlainStep}
 use Rattle.g1_trace.specs.Mutator.{IsStep}
-use Rattle.g1_trace.specs.declared.trace.Trace.{Trace}
-use Rattle.g1_trace.specs.TraceText.{IsTraceText, IsFirstBadLine}
-use Rattle.g1_trace.specs.Running.{sizes}
+use Rattle.g1_trace.specs.TraceText.{IsText, IsFirstBadLine}
+use Rattle.g1_trace.specs.Telling.{IsTold}
 use Rattle.g1_trace.specs.Views.{Shows}
 use Rattle.g1_trace.specs.Run.{Replies, IsRun, empty_store, empty_image}
 
@@ -53,12 +52,20 @@ OneRun = (cost : Cost) (g : Geometry) (roots : ℕ) (commands : List Command) (r
 
 -- a text is that of one trace
 abbrev pub OneTrace : Type 0
-OneTrace = (bytes : List ℕ) (t u : Trace) → IsTraceText bytes t → IsTraceText bytes u → (sizes t ≡ sizes u) × (t.roots ≡ u.roots) × (t.commands.items ≡ u.commands.items)
+OneTrace = (bytes : List ℕ) (g h : Geometry) (roots more : ℕ) (commands others : List Command) → IsText bytes g roots commands → IsText bytes h more others → (g ≡ h) × (roots ≡ more) × (commands ≡ others)
 
 -- a trace's text has no bad line
 abbrev pub NoBadLine : Type 0
-NoBadLine = (bytes : List ℕ) (t : Trace) (n : ℕ) → IsTraceText bytes t → IsFirstBadLine bytes n → ⊥
+NoBadLine = (bytes : List ℕ) (g : Geometry) (roots : ℕ) (commands : List Command) (n : ℕ) → IsText bytes g roots commands → IsFirstBadLine bytes n → ⊥
 
 -- bytes have one first bad line
 abbrev pub OneBadLine : Type 0
 OneBadLine = (bytes : List ℕ) (n m : ℕ) → IsFirstBadLine bytes n → IsFirstBadLine bytes m → n ≡ m
+
+-- any bytes are a trace's text or have a first bad line
+abbrev pub TextOrBadLine : Type 0
+TextOrBadLine = (bytes : List ℕ) → ((g : Geometry) × (roots : ℕ) × (commands : List Command) × IsText bytes g roots commands) ⊎ ((n : ℕ) × IsFirstBadLine bytes n)
+
+-- the text of a run's replies is told by the trace's text and the cost
+abbrev pub OneTold : Type 0
+OneTold = (cost : Cost) (bytes answer other : List ℕ) → IsTold cost bytes answer → IsTold cost bytes other → answer ≡ other

@@ -9,3 +9,4 @@ pub mod Laid
 pub mod Laws
 pub mod TraceText
 pub mod Lines
+pub mod Telling

@@ -1,19 +1,20 @@
--- A trace's first line, and a run that is still going on.
-use Rattle.std.specs.Prelude.{List, ◌++◌, ◌≤◌}
+-- The limits of a trace's first line, and a run that is still going on.
+use Rattle.std.specs.Prelude.{ℕ, List, ◌++◌, ◌≤◌}
 use Rattle.g1_words.specs.Geometry.{Geometry, IsWithinLimits}
 use Rattle.g1_trace.specs.declared.trace.Trace.{Trace}
 use Rattle.g1_trace.specs.declared.command.Command.{Command}
 use Rattle.g1_trace.specs.declared.command.Reply.{Reply}
 use Rattle.g1_trace.specs.Run.{Replies}
+use Rattle.g1_trace.specs.TraceText.{sizes}
 
--- the sizes that a trace's first line tells
-abbrev pub sizes : Trace → Geometry
-sizes t = record { w = t.w; k = t.k; n = t.n }
+-- a heap of these sizes, with so many roots, is within the limits
+pub record IsHeapSize (g : Geometry) (count : ℕ) : Type 0 where
+  pub sizes : IsWithinLimits g.w g.k g.n
+  pub roots : count ≤ 65536
 
 -- the numbers of a trace's first line are within the limits
-pub record AreLimits (t : Trace) : Type 0 where
-  pub sizes : IsWithinLimits t.w t.k t.n
-  pub roots : t.roots ≤ 65536
+abbrev pub AreLimits : Trace → Type 0
+AreLimits t = IsHeapSize (sizes t) t.roots
 
 -- whatever replies the rest of the commands has from here on, with those so far before them they are replies to all
 abbrev pub Leads : {S : Type 0} → (S → Command → Reply → S → Type 0) → S → List Command → List Reply → S → List Command → Type 0

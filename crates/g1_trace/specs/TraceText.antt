@@ -1,5 +1,6 @@
--- The text of a trace: each trace has one, and bytes without a trace have a first bad line.
+-- The text of a trace: each trace has one, and bytes that are no trace's text have a first bad line.
 use Rattle.std.specs.Prelude.{◌≡◌, ◌⊎◌, ℕ, zero, suc, List, [], ◌∷◌, ◌++◌, ◌+◌, ◌^◌, ◌<◌, length, flat_map, decimal, Contains, All, ⊤}
+use Rattle.g1_words.specs.Geometry.{Geometry}
 use Rattle.g1_trace.specs.declared.command.Command.{Command}
 use Rattle.g1_trace.specs.declared.command.Command.TheVariants.{New, Get, Put, Set, Say, Same, Copy, Drop, Pause}
 use Rattle.g1_trace.specs.declared.trace.Trace.{Trace}
@@ -49,11 +50,19 @@ heap_line w k n roots = (104 ∷ 101 ∷ 97 ∷ 112 ∷ []) ++ spaced (w ∷ k �
 abbrev pub ended : List (List ℕ) → List ℕ
 ended lines = flat_map (λ line. line ++ 10 ∷ []) lines
 
--- THE RELATION: the bytes are the trace's text
-pub record IsTraceText (bytes : List ℕ) (t : Trace) : Type 0 where
-  pub text : bytes ≡ (heap_line t.w t.k t.n t.roots ++ 10 ∷ []) ++ flat_map (λ c. command_line c ++ 10 ∷ []) t.commands.items
-  pub first : AllFit (t.w ∷ t.k ∷ t.n ∷ t.roots ∷ [])
-  pub later : All (λ c. AllFit (numbers_of c)) t.commands.items
+-- THE RELATION: the bytes are the text of a first line with these sizes and so many roots, and of these commands
+pub record IsText (bytes : List ℕ) (g : Geometry) (roots : ℕ) (commands : List Command) : Type 0 where
+  pub text : bytes ≡ (heap_line g.w g.k g.n roots ++ 10 ∷ []) ++ flat_map (λ c. command_line c ++ 10 ∷ []) commands
+  pub first : AllFit (g.w ∷ g.k ∷ g.n ∷ roots ∷ [])
+  pub later : All (λ c. AllFit (numbers_of c)) commands
+
+-- the sizes that a trace's first line tells
+abbrev pub sizes : Trace → Geometry
+sizes t = record { w = t.w; k = t.k; n = t.n }
+
+-- the bytes are the trace's text
+abbrev pub IsTraceText : List ℕ → Trace → Type 0
+IsTraceText bytes t = IsText bytes (sizes t) t.roots t.commands.items
 
 -- a line of a command's form
 abbrev pub IsCommandLine : List ℕ → Type 0

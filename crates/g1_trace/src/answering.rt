@@ -63,11 +63,11 @@ fn answer_get(heap: &Heap, root: u64, from: u64, slot: u64) -> Answer
     }
     match object_of(heap, from) {
         None => refused(Reply::Null),
-        Some(object) => {
-            if slot >= object.refs {
+        Some(source) => {
+            if slot >= source.refs {
                 return refused(Reply::Range);
             }
-            let value = heap.words()[(object.at + 1 + slot) as usize];
+            let value = heap.words()[(source.at + 1 + slot) as usize];
             done(Effect::SetRoot { root, value })
         }
     }
@@ -85,13 +85,13 @@ fn answer_put(heap: &Heap, root: u64, slot: u64, from: u64) -> Answer
     }
     match object_of(heap, root) {
         None => refused(Reply::Null),
-        Some(object) => {
-            if slot >= object.refs {
+        Some(target) => {
+            if slot >= target.refs {
                 return refused(Reply::Range);
             }
             let value = heap.roots()[from as usize];
             done(Effect::SetSlot {
-                object: object.at,
+                object: target.at,
                 slot,
                 value,
             })

@@ -1,4 +1,4 @@
-ghost use Rattle.g1_trace.specs.Laws.{StepShows, StepKeeps, OneStep, StartShows, StartTracked, WholeTraces, OneRun, OneTrace, NoBadLine, OneBadLine};
+ghost use Rattle.g1_trace.specs.Laws.{StepShows, StepKeeps, OneStep, StartShows, StartTracked, WholeTraces, OneRun, OneTrace, NoBadLine, OneBadLine, TextOrBadLine, OneTold};
 
 /// What a mutator's image shows is what the plain store shows, whatever a pause moves or frees.
 pub fn traces()
@@ -19,9 +19,15 @@ pub fn one_run()
     ensures run { OneRun }
 {}
 
-/// Bytes are the text of one trace, or have one first bad line.
+/// Every string of bytes is the text of one trace or has one first bad line, and never both.
 pub fn one_text()
     ensures one { OneTrace }
     ensures good { NoBadLine }
     ensures bad { OneBadLine }
+    ensures always { TextOrBadLine }
+{}
+
+/// Bytes have one text of replies.
+pub fn one_answer()
+    ensures { OneTold }
 {}

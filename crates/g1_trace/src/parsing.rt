@@ -130,7 +130,7 @@ fn is_word(name: &[u8], word: &[u8]) -> bool
 }
 
 /// The numbers of a first line.
-fn first_line(line: &[u8]) -> Option<(u64, u64, u64, u64)>
+pub(crate) fn first_line(line: &[u8]) -> Option<(u64, u64, u64, u64)>
     ensures some { IfSome result (λ r. line.now ≡ heap_line r.0 r.1 r.2 r.3) }
     ensures fits { IfSome result (λ r. AllFit (r.0 ∷ r.1 ∷ r.2 ∷ r.3 ∷ [])) }
     ensures none { IfNone result (IsHeapLine line.now → ⊥) }
@@ -144,7 +144,7 @@ fn first_line(line: &[u8]) -> Option<(u64, u64, u64, u64)>
 }
 
 /// The command of a later line.
-fn later_line(line: &[u8]) -> Option<Command>
+pub(crate) fn later_line(line: &[u8]) -> Option<Command>
     ensures some { IfSome result (λ c. line.now ≡ command_line c) }
     ensures fits { IfSome result (λ c. AllFit (numbers_of c)) }
     ensures none { IfNone result (IsCommandLine line.now → ⊥) }
@@ -208,7 +208,7 @@ fn later_line(line: &[u8]) -> Option<Command>
 }
 
 /// The first line of the bytes without its end, and the bytes after it; None where no line is ended.
-fn split_line(bytes: &[u8]) -> Option<(&[u8], &[u8])>
+pub(crate) fn split_line(bytes: &[u8]) -> Option<(&[u8], &[u8])>
     ensures some { IfSome result (λ r. (bytes.now ≡ r.0.now ++ 10 ∷ r.1.now) × ((k : ℕ) → k < length r.0.now → slice_index r.0.now k ≢ 10)) }
     ensures none { IfNone result ((k : ℕ) → k < length bytes.now → slice_index bytes.now k ≢ 10) }
 {

@@ -3,7 +3,8 @@ ghost use Rattle.g1_choose.specs.Cost.{IsCost};
 ghost use Rattle.g1_pause.specs.Settings.{AreWorkers, IsChunk};
 ghost use Rattle.g1_trace.specs.declared.command.Reply.{Reply as ReplyOf};
 ghost use Rattle.g1_trace.specs.Run.{IsRun};
-ghost use Rattle.g1_trace.specs.Running.{sizes, AreLimits};
+ghost use Rattle.g1_trace.specs.Running.{AreLimits};
+ghost use Rattle.g1_trace.specs.TraceText.{sizes};
 
 use crate::command::Reply;
 use crate::laws::{one_run, traces};

@@ -6,6 +6,7 @@ use g1_choose::Cost;
 use g1_image::{Image, decode, encode};
 use g1_pause::{Choice, FromReader, Settings, ToWriter, pause_run};
 use g1_rem::{Tracked, verify};
+use g1_trace::run_text;
 use g1_words::{Device, Fault};
 use g1_work::Open;
 use std::alloc::Global;
@@ -93,6 +94,10 @@ fn perform<T: Threads + Sync, R: Read, W: Write>(
             let settings = chosen(pause)?;
             Ok(paused(rt, alloc, &settings, reader, writer)?)
         }
+        Request::Run { sharing, cost } => {
+            let settings = costed(sharing, cost)?;
+            deliver(&run(rt, alloc, &settings, reader)?, writer)
+        }
     }
 }
 
@@ -104,7 +109,12 @@ fn shared(sharing: Sharing) -> Result<Settings, Fault> {
         card: 0,
         byte: 0,
     };
-    Settings::new(sharing.workers, sharing.chunk, free, Choice::Budget(0))
+    costed(sharing, free)
+}
+
+// The settings of a command that has no choice of its own.
+fn costed(sharing: Sharing, cost: Cost) -> Result<Settings, Fault> {
+    Settings::new(sharing.workers, sharing.chunk, cost, Choice::Budget(0))
 }
 
 // The settings of a pause. A budget beside regions is looked for last, as its number is the highest.
@@ -184,6 +194,26 @@ fn paused<T: Threads + Sync, R: Read, W: Write>(
     let mut sink = ToWriter::new(writer);
     pause_run(rt, alloc, &mut source, &mut sink, settings, &Open)?;
     sink.flush()
+}
+
+// The input is let go as soon as the commands are read from it.
+fn run<T: Threads + Sync, R: Read>(
+    rt: &T,
+    alloc: Global,
+    settings: &Settings,
+    reader: &mut R,
+) -> Result<Vec<u8>, Fault> {
+    let bytes = read_all(alloc, reader)?;
+    let (workers, chunk) = (settings.workers(), settings.chunk());
+    run_text(
+        rt,
+        alloc,
+        bytes.as_slice(),
+        &settings.cost(),
+        workers,
+        chunk,
+        &Open,
+    )
 }
 
 fn read_image<R: Read>(alloc: Global, reader: &mut R) -> Result<Image, Fault> {

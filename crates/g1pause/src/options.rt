@@ -27,6 +27,11 @@ pub enum Request {
     },
     /// The image after a pause.
     Pause(Pause),
+    /// The replies to a trace.
+    Run {
+        sharing: Sharing,
+        cost: Cost,
+    },
 }
 
 /// A pause that collects what a budget buys, or the regions that are named. Both may stand here.
@@ -135,6 +140,11 @@ fn pause_command<'a>(alloc: Global) -> Result<Command<'a>, AllocError> {
         .arg(regions)
 }
 
+fn run<'a>(alloc: Global) -> Result<Command<'a>, AllocError> {
+    let about = "Runs the trace on standard input, and prints what each command replies";
+    Ok(costed(alloc, "run")?.about(about))
+}
+
 fn command<'a>(alloc: Global) -> Result<Command<'a>, AllocError> {
     let check = Command::new(alloc, "check").about(
         "Tells whether every reference into another region is covered",
@@ -149,7 +159,8 @@ fn command<'a>(alloc: Global) -> Result<Command<'a>, AllocError> {
         .subcommand(check)?
         .subcommand(live)?
         .subcommand(choose(alloc)?)?
-        .subcommand(pause_command(alloc)?)
+        .subcommand(pause_command(alloc)?)?
+        .subcommand(run(alloc)?)
 }
 
 // A whole number in decimal digits alone.
@@ -271,6 +282,10 @@ fn requested(alloc: Global, words: &[String]) -> Result<Request, Error> {
             budget: number(alloc, &mut command, choose, "budget")?,
         }),
         Some(("pause", pause)) => pause_of(alloc, &mut command, pause),
+        Some(("run", run)) => Ok(Request::Run {
+            sharing: sharing_of(alloc, &mut command, run)?,
+            cost: cost(alloc, &mut command, run)?,
+        }),
         _ => Err(command.error(ErrorKind::MissingSubcommand, "a command is required")?),
     }
 }

@@ -520,6 +520,53 @@ fn expect_output_faults<T: Threads + Abort + Sync>(
     Ok(())
 }
 
+static CYCLE: &str = "heap 16 4 4 3\nnew 0 1 1\nnew 1 0 4\nset 0 0 11\ndrop 1\nnew 1 1 10\n\
+    put 0 0 1\nput 1 0 0\nset 1 9 77\ndrop 1\npause 1000\nsay 0 0\nget 1 0 0\nsay 1 9\n\
+    get 2 1 0\nsame 0 2\nsame 0 1\nnew 2 0 4\ndrop 2\npause 1000\nnew 2 0 4\nset 2 3 5\n\
+    copy 1 2\ndrop 0\npause 1000\nsay 1 3\nsame 1 2\nsay 0 0\nnew 0 0 39\nnew 0 0 0\n\
+    say 0 39\nsay 0 38\n";
+
+static CYCLE_REPLIES: &str = "ok\nok\nok\nok\nok\nok\nok\nok\nok\nok\n11\nok\n77\nok\n1\n0\n\
+    ok\nok\nok\nok\nok\nok\nok\nok\n5\n1\nnull\nok\nfull\nrange\n0\n";
+
+static NO_ROOM: &str =
+    "heap 16 4 2 2\nnew 0 0 11\nnew 1 0 2\ndrop 1\nnew 1 0 11\npause 1000\nsay 0 10\n";
+
+#[test]
+fn replies_to_traces(rt: HostRuntime) -> Result<(), Fail> {
+    let alloc = rt.alloc();
+    let freed = "heap 16 4 4 1\nnew 0 0 4\ndrop 0\npause 5\nnew 0 0 60\n";
+    for (line, trace, replies) in [
+        ("run", CYCLE, CYCLE_REPLIES),
+        ("run --workers 8 --chunk 1", CYCLE, CYCLE_REPLIES),
+        ("run", NO_ROOM, "ok\nok\nok\nok\nroom\n0\n"),
+        ("run --workers 8", NO_ROOM, "ok\nok\nok\nok\nroom\n0\n"),
+        ("run", "heap 16 4 4 3\n", ""),
+        // Only with the region that a pause frees there are four in a row.
+        ("run", freed, "ok\nok\nok\nok\n"),
+        ("run --fixed 6", freed, "ok\nok\nok\nfull\n"),
+    ] {
+        expect_answer(&rt, alloc, line, trace.as_bytes(), replies.as_bytes())?;
+    }
+    Ok(())
+}
+
+#[test]
+fn refuses_bad_lines_and_sizes(rt: HostRuntime) -> Result<(), Fail> {
+    let alloc = rt.alloc();
+    for (trace, status, told) in [
+        ("", 2, "15: line 1"),
+        ("heap 16 4 4 3", 2, "15: line 1"),
+        ("heap 16 4 4 3\nsame 0 0\nsay 0 0\ndrop\n", 2, "15: line 4"),
+        ("heap 24 4 4 3\ndrop\n", 2, "15: line 2"),
+        ("heap 24 4 4 3\n", 3, "2: geometry"),
+        ("heap 16 4 4 65537\ndrop 0\n", 3, "2: geometry"),
+    ] {
+        expect_fault(&rt, alloc, "run", trace.as_bytes(), status, told)?;
+    }
+    Ok(())
+}
+
 #[test]
 fn devices_fail_at_each_byte(rt: HostRuntime) -> Result<(), Fail> {
     let alloc = rt.alloc();
@@ -529,6 +576,14 @@ fn devices_fail_at_each_byte(rt: HostRuntime) -> Result<(), Fail> {
         expect_input_faults(&rt, alloc, line, image.as_slice())?;
         expect_output_faults(&rt, alloc, line, image.as_slice(), answer.as_slice())?;
     }
+    expect_input_faults(&rt, alloc, "run", b"heap 16 4 4 3\nsame 0 1\n")?;
+    expect_output_faults(
+        &rt,
+        alloc,
+        "run",
+        NO_ROOM.as_bytes(),
+        b"ok\nok\nok\nok\nroom\n0\n",
+    )?;
     Ok(())
 }
 
@@ -547,7 +602,11 @@ fn usage_faults_come_before_the_input(rt: HostRuntime) -> Result<(), Fail> {
         "pause --budget",
         "pause --budget 18446744073709551616",
         "pause --workers 0 --budget 1 1 +1",
-        "run",
+        "ran",
+        "run 1",
+        "run --budget 1",
+        "run --cost 1",
+        "run --byte -1",
         "show 1",
         "show --repack=1",
         "show --repack --repack",
@@ -576,6 +635,7 @@ fn usage_faults_come_before_the_input(rt: HostRuntime) -> Result<(), Fail> {
         "show --help",
         "help show",
         "pause --help",
+        "run --help",
     ] {
         let mut reader = Failing {
             bytes: Vec::new(alloc),
@@ -617,6 +677,8 @@ fn numbers_out_of_range_come_before_the_input(rt: HostRuntime) -> Result<(), Fai
         ),
         ("pause --budget 1 1", "g1pause: fault 12: setting 4\n"),
         ("pause 0 --budget 0", "g1pause: fault 12: setting 4\n"),
+        ("run --chunk 0", "g1pause: fault 12: setting 2\n"),
+        ("run --dirty 4294967296", "g1pause: fault 12: setting 3\n"),
     ] {
         let mut reader = Failing {
             bytes: Vec::new(alloc),

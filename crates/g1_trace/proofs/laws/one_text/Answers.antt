@@ -1,4 +1,5 @@
 use Rattle.g1_trace.proofs.OneText.{one_trace, no_bad_line, one_bad_line}
+use Rattle.g1_trace.proofs.Deciding.{text_or_bad_line}
 use Rattle.g1_trace.proofs.laws.one_text.Goals as goal
 
 pub returns-clause-one : goal.returns-clause-one
@@ -9,3 +10,6 @@ returns-clause-good c = no_bad_line
 
 pub returns-clause-bad : goal.returns-clause-bad
 returns-clause-bad c = one_bad_line
+
+pub returns-clause-always : goal.returns-clause-always
+returns-clause-always c = text_or_bad_line

@@ -3,7 +3,8 @@ use Rattle.g1_trace.specs.Store.{Store, IsPlainStep}
 use Rattle.g1_trace.specs.Mutator.{IsStep}
 use Rattle.g1_trace.specs.Views.{Shows}
 use Rattle.g1_trace.specs.Run.{empty_image, empty_store}
-use Rattle.g1_trace.specs.Running.{sizes, Leads}
+use Rattle.g1_trace.specs.Running.{Leads}
+use Rattle.g1_trace.specs.TraceText.{sizes}
 use Rattle.g1_trace.proofs.running.run_trace.Given as goal
 
 -- the replies so far and those to what is left are those to all, on the heap and on the plain store that it shows

@@ -1,0 +1,132 @@
+ghost use Rattle.std.specs.Prelude.{◌≡◌, ◌⊎◌, ◌++◌, List, ℕ, OnOk, IfOk, IfErr};
+ghost use Rattle.g1_choose.specs.Cost.{IsCost};
+ghost use Rattle.g1_pause.specs.Settings.{AreWorkers, IsChunk};
+ghost use Rattle.g1_trace.specs.Telling.{reply_line, IsTold, IsRefusal, IsBegun, BeginsOutside};
+
+use crate::command::Reply;
+use crate::laws::{one_answer, traces};
+use crate::mutator::Mutator;
+use crate::parsing::{first_line, later_line, parse_trace, split_line};
+use g1_choose::Cost;
+use g1_words::{Fault, Geometry};
+use g1_work::Gate;
+use itoa::Buffer;
+use std::alloc::{AllocError, Global};
+use std::thread::Threads;
+
+/// Adds a reply's line to a text.
+fn push_reply(text: &mut Vec<u8>, reply: Reply) -> Result<(), AllocError>
+    ensures { OnOk result (text.new.items ≡ text.old.items ++ reply_line reply) }
+{
+    match reply {
+        Reply::Ok => text.extend_from_slice(b"ok\n"),
+        Reply::Full => text.extend_from_slice(b"full\n"),
+        Reply::Range => text.extend_from_slice(b"range\n"),
+        Reply::Null => text.extend_from_slice(b"null\n"),
+        Reply::Room => text.extend_from_slice(b"room\n"),
+        Reply::Number(value) => push_number(text, value),
+    }
+}
+
+/// Adds a number in decimal digits, and the end of the line.
+fn push_number(text: &mut Vec<u8>, value: u64) -> Result<(), AllocError>
+    ensures { OnOk result (text.new.items ≡ text.old.items ++ reply_line (Reply.Number value)) }
+{
+    let mut buffer = Buffer::new();
+    text.extend_from_slice(buffer.format(value).as_bytes())?;
+    text.extend_from_slice(b"\n")
+}
+
+/// What is told of bytes whose first line has a number outside the limits: the fault of a line comes
+/// first.
+fn outside(alloc: Global, bytes: &[u8]) -> Fault
+    requires { BeginsOutside bytes.now }
+    ensures { IsRefusal bytes.now result }
+{
+    match parse_trace(alloc, bytes) {
+        Ok(_trace) => Fault::Geometry,
+        Err(fault) => fault,
+    }
+}
+
+/// The heap that a trace's first line tells, and the lines after it.
+fn begin(alloc: Global, bytes: &[u8]) -> Result<(Mutator, &[u8]), Fault>
+    ensures ok { IfOk result (λ r. IsBegun bytes.now r.0 r.1.now) }
+    ensures refused { IfErr result (IsRefusal bytes.now) }
+{
+    let (first, rest) = match split_line(bytes) {
+        Some(split) => split,
+        None => return Err(Fault::Line(1)),
+    };
+    let (w, k, n, roots) = match first_line(first) {
+        Some(numbers) => numbers,
+        None => return Err(Fault::Line(1)),
+    };
+    let geometry = match Geometry::new(w, k, n) {
+        Ok(geometry) => geometry,
+        Err(_) => return Err(outside(alloc, bytes)),
+    };
+    if roots > 65_536 {
+        return Err(outside(alloc, bytes));
+    }
+    match Mutator::new(alloc, geometry, roots) {
+        Ok(mutator) => Ok((mutator, rest)),
+        Err(_) => Err(Fault::Memory),
+    }
+}
+
+/// The replies to the trace whose text the bytes are, a line each. Each line is read, done and
+/// answered in turn, and nothing is kept of it but the reply's text.
+///
+/// # Errors
+///
+/// `Fault::Line` with the number, from 1, of the first line that isn't of its form; else
+/// `Fault::Geometry` where a number of the first line is outside the limits of a heap, or there are
+/// more than 65,536 roots; `Fault::Memory`.
+pub fn run_text<R: Threads + Sync, G: Gate + Sync>(
+    rt: &R,
+    alloc: Global,
+    bytes: &[u8],
+    cost: &Cost,
+    workers: u64,
+    chunk: u64,
+    gate: &G,
+) -> Result<Vec<u8>, Fault>
+    requires workers { AreWorkers workers }
+    requires chunk { IsChunk chunk }
+    requires cost { IsCost cost.now }
+    ensures told { IfOk result (λ text. IsTold cost.now bytes.now text.items) }
+    ensures only { IfOk result (λ text. (other : List ℕ) → IsTold cost.now bytes.now other → other ≡ text.items) }
+    ensures refused { IfErr result (IsRefusal bytes.now) }
+{
+    traces();
+    one_answer();
+    let (mut mutator, mut rest) = match begin(alloc, bytes) {
+        Ok(begun) => begun,
+        Err(fault) => return Err(fault),
+    };
+    let mut text: Vec<u8> = Vec::new(alloc);
+    let mut lines: u64 = 1;
+    while rest.len() > 0 {
+        let (line, more) = match split_line(rest) {
+            Some(split) => split,
+            None => return Err(Fault::Line(lines + 1)),
+        };
+        let command = match later_line(line) {
+            Some(command) => command,
+            None => return Err(Fault::Line(lines + 1)),
+        };
+        let (next, outcome) = mutator.step(rt, alloc, &command, cost, workers, chunk, gate);
+        mutator = next;
+        let reply = match outcome {
+            Ok(reply) => reply,
+            Err(fault) => return Err(fault),
+        };
+        if push_reply(&mut text, reply).is_err() {
+            return Err(Fault::Memory);
+        }
+        lines += 1;
+        rest = more;
+    }
+    Ok(text)
+}
