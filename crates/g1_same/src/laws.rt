@@ -1,0 +1,11 @@
+ghost use Rattle.g1_same.specs.Laws.{NeverBoth, OneFirst};
+
+/// A difference tells that no renaming makes the one graph the other.
+pub fn never_both()
+    ensures { NeverBoth }
+{}
+
+/// Two heaps have one first difference at most.
+pub fn one_first()
+    ensures { OneFirst }
+{}
