@@ -27,7 +27,7 @@ earlier_along : (f m k n p q r s : ℕ) → f ≡ p → m ≡ q → k ≡ r → 
 earlier_along f m k n p q r s e1 e2 e3 e4 (inl t) = inl (omega (arith, t, e1, e3))
 earlier_along f m k n p q r s e1 e2 e3 e4 (inr t) = inr (omega (arith, t.0, e1, e3), omega (arith, t.1, e2, e4))
 
-earlier_next : (p q r s : ℕ) → IsEarlier p q r s → IsEarlier p q r (s + 1)
+pub earlier_next : (p q r s : ℕ) → IsEarlier p q r s → IsEarlier p q r (s + 1)
 earlier_next p q r s (inl t) = inl t
 earlier_next p q r s (inr t) = inr (t.0, omega (arith, t.1))
 
