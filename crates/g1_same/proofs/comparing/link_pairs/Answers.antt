@@ -32,7 +32,7 @@ loop-place-preserved c =
     let m : ℕ = c.loop-place.place in
     let lt : m < length w.before.items = omega (arith, c.loop-place-test.true, c.len.ensures, c.loop-place.walk.before.ok) in
     let grown : HasGrown w v = c.in_ok-stop.ensures.grown in
-    let l = none_then (LinksSlots g h v m (object_at g (slice_index w.before.items m)).refs) c.in_ok-stop.field-0 c.in-None.is c.in_ok-stop.ensures.linked in
+    let l = none_then (LinksSlots g h v m (object_at g (slice_index w.before.items m)).refs) c.in_ok-stop.field-0 c.in_default.not-Some c.in_ok-stop.ensures.linked in
     record {
       walk = c.in_ok-stop.ensures.walk;
       roots = roots_kept g h w v (length g.roots) grown c.loop-place.invariant.roots;

@@ -178,7 +178,7 @@ loop-number-preserved c =
     let v : Walk = c.link.new.walk in
     let x : ℕ = slice_index c.words-here.result.now (a + 1 + n) in
     let y : ℕ = slice_index c.words-there.result.now (b + 1 + n) in
-    let l = none_then (IsLinked v (place + 1) n x y) c.in_ok-how.field-0 c.in-None.is c.in_ok-how.ensures.linked in
+    let l = none_then (IsLinked v (place + 1) n x y) c.in_ok-how.field-0 c.in_default.not-Some c.in_ok-how.ensures.linked in
     let one : place + 1 ≡ suc place = omega arith in
     let l' : IsLinked v (suc place) n (word g (a + 1 + n)) (word h (b + 1 + n)) =
     subst (λ q. IsLinked v (suc place) n (slice_index q (a + 1 + n)) (word h (b + 1 + n))) c.words-here.ensures (subst (λ q. IsLinked v (suc place) n x (slice_index q (b + 1 + n))) c.words-there.ensures (subst (λ z. IsLinked v z n x y) one l)) in
