@@ -1,5 +1,5 @@
 -- One more root, slot or pair is linked.
-use Rattle.std.proofs.Common.{◌≡◌, ℕ, zero, suc, ◌+◌, ◌-◌, ◌<◌, ◌≤◌, inl, inr, List, length, refl, sym, ap, subst, ◌∙◌, arith, slice_index, Option, Some, None, IfSome, IfNone}
+use Rattle.std.proofs.Common.{◌≡◌, ℕ, suc, ◌+◌, ◌<◌, ◌≤◌, inl, inr, List, length, refl, sym, subst, ◌∙◌, arith, slice_index, Option, Some, None, IfSome, IfNone}
 use Rattle.std.proofs.lemmas.Bool.{cases_lt}
 use Rattle.g1_words.specs.Heap.{Heap, word, object_at}
 use Rattle.g1_same.specs.declared.walk.Walk.{Walk}
