@@ -1,0 +1,12 @@
+pub mod Heaps
+pub mod Excludes
+pub mod Tables
+pub mod Adding
+pub mod Words
+pub mod Routes
+pub mod Renamed
+pub mod Order
+pub mod OneRenaming
+pub mod Steps
+pub mod OneFirst
+pub mod First

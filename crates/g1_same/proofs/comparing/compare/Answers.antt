@@ -1,0 +1,23 @@
+use Rattle.std.proofs.Common.{arith, ap, ◌≡◌, length}
+use Rattle.g1_words.specs.Heap.{Heap}
+use Rattle.g1_same.specs.declared.walk.Walk.{Walk}
+use Rattle.g1_same.specs.Walk.{LinksPairs}
+use Rattle.g1_same.proofs.Steps.{none_then}
+use Rattle.g1_same.proofs.Order.{renaming}
+use Rattle.g1_same.proofs.Excludes.{no_difference}
+use Rattle.g1_same.proofs.comparing.compare.Goals as goal
+
+pub returns-in-Some-clause-never : goal.returns-in-Some-clause-never
+returns-in-Some-clause-never c = λ s. no_difference c.args.before.now c.args.after.now c.in_ok-walk.ensures.before s c.in_ok-told.field-0 c.in_ok-told.ensures.is
+
+pub returns-in-Some-2-clause-never : goal.returns-in-Some-2-clause-never
+returns-in-Some-2-clause-never c = λ s. no_difference c.args.before.now c.args.after.now c.in_ok-walk.ensures.before s c.in_ok-told-2.field-0 c.in_ok-told-2.ensures.is
+
+pub returns-clause-same : goal.returns-clause-same
+returns-clause-same c =
+    let g : Heap = c.args.before.now in
+    let h : Heap = c.args.after.now in
+    let w : Walk = c.link_pairs.new.walk in
+    let count : length g.roots ≡ length h.roots = omega (arith, c.if-roots.false, ap length c.roots-roots.ensures, ap length c.roots.ensures) in
+    renaming g h c.in_ok-walk.ensures.before c.in_ok-walk.ensures.after w c.in_ok-stop-2.ensures.walk count c.in_ok-stop-2.ensures.roots
+    (none_then (LinksPairs g h w (length w.before.items)) c.in_ok-stop-2.field-0 c.in_default-2.not-Some c.in_ok-stop-2.ensures.pairs)

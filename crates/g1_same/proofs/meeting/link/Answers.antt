@@ -1,0 +1,84 @@
+use Rattle.std.proofs.Common.{arith, subst, sym, suc, ℕ, ◌<◌, length}
+use Rattle.g1_same.specs.Walk.{IsLinked, IsWay}
+use Rattle.g1_same.proofs.Heaps.{object_in}
+use Rattle.g1_same.proofs.Adding.{IsAdded, added_walk, added_linked, added_below, linked_by, pairs_fit}
+use Rattle.g1_same.proofs.meeting.link.Goals as goal
+
+pub add-requires-clause-a : goal.add-requires-clause-a
+add-requires-clause-a c =
+    let o = object_in c.args.before.now c.in-New.a c.geometry.ensures.valid (c.requires.x c.in-New.a c.in-New.ensures.0) in
+    omega (arith, o.0, o.1, c.requires.walk.table_before)
+
+pub add-requires-clause-b : goal.add-requires-clause-b
+add-requires-clause-b c =
+    let o = object_in c.args.after.now c.in-New.b c.geometry-2.ensures.valid (c.requires.y c.in-New.b c.in-New.ensures.1) in
+    omega (arith, o.0, o.1, c.requires.walk.table_after)
+
+pub add-requires-clause-few : goal.add-requires-clause-few
+add-requires-clause-few c = pairs_fit c.args.before.now c.args.after.now c.args.walk.now c.geometry.ensures.valid c.requires.walk
+
+pub returns-in_ok-add-in-New-clause-walk : goal.returns-in_ok-add-in-New-clause-walk
+returns-in_ok-add-in-New-clause-walk c =
+    let g = c.args.before.now in
+    let h = c.args.after.now in
+    let w = c.args.walk.now in
+    let v = c.add.new.self in
+    let met = c.in-New.ensures in
+    let a : ℕ = c.in-New.a in
+    let b : ℕ = c.in-New.b in
+    let x_in = c.requires.x a met.0 in
+    let y_in = c.requires.y b met.1 in
+    let x_lt : a < length w.new_of.items = let o = object_in g a c.geometry.ensures.valid x_in in omega (arith, o.0, o.1, c.requires.walk.table_before) in
+    let y_lt : b < length w.old_of.items = let o = object_in h b c.geometry-2.ensures.valid y_in in omega (arith, o.0, o.1, c.requires.walk.table_after) in
+    let e : IsAdded w v c.args.from c.args.number a b = record {
+      before = c.in_ok-add-in-New.ensures.before;
+      after = c.in_ok-add-in-New.ensures.after;
+      from = c.in_ok-add-in-New.ensures.from;
+      number = c.in_ok-add-in-New.ensures.number;
+      new_of = c.in_ok-add-in-New.ensures.new_of;
+      old_of = c.in_ok-add-in-New.ensures.old_of;
+    } in
+    let way : IsWay g h w.before.items w.after.items c.args.from c.args.number (suc a) (suc b) =
+    subst (λ z. IsWay g h w.before.items w.after.items c.args.from c.args.number z (suc b)) met.0 (subst (λ z. IsWay g h w.before.items w.after.items c.args.from c.args.number c.args.x z) met.1 c.requires.way) in
+    added_walk g h w v c.args.from c.args.number a b c.requires.walk e x_in y_in met.4 x_lt y_lt met.2 met.3 way c.requires.backward c.requires.below
+
+pub returns-in_ok-add-in-New-clause-linked : goal.returns-in_ok-add-in-New-clause-linked
+returns-in_ok-add-in-New-clause-linked c =
+    let g = c.args.before.now in
+    let h = c.args.after.now in
+    let w = c.args.walk.now in
+    let v = c.add.new.self in
+    let met = c.in-New.ensures in
+    let a : ℕ = c.in-New.a in
+    let b : ℕ = c.in-New.b in
+    let e : IsAdded w v c.args.from c.args.number a b = record {
+      before = c.in_ok-add-in-New.ensures.before;
+      after = c.in_ok-add-in-New.ensures.after;
+      from = c.in_ok-add-in-New.ensures.from;
+      number = c.in_ok-add-in-New.ensures.number;
+      new_of = c.in_ok-add-in-New.ensures.new_of;
+      old_of = c.in_ok-add-in-New.ensures.old_of;
+    } in
+    subst (λ z. IsLinked v c.args.from c.args.number z c.args.y) (sym met.0) (subst (λ z. IsLinked v c.args.from c.args.number (suc a) z) (sym met.1) (added_linked g h w v c.args.from c.args.number a b c.requires.walk e))
+
+pub returns-in_ok-add-in-New-clause-below : goal.returns-in_ok-add-in-New-clause-below
+returns-in_ok-add-in-New-clause-below c =
+    let g = c.args.before.now in
+    let h = c.args.after.now in
+    let w = c.args.walk.now in
+    let v = c.add.new.self in
+    let met = c.in-New.ensures in
+    let a : ℕ = c.in-New.a in
+    let b : ℕ = c.in-New.b in
+    let e : IsAdded w v c.args.from c.args.number a b = record {
+      before = c.in_ok-add-in-New.ensures.before;
+      after = c.in_ok-add-in-New.ensures.after;
+      from = c.in_ok-add-in-New.ensures.from;
+      number = c.in_ok-add-in-New.ensures.number;
+      new_of = c.in_ok-add-in-New.ensures.new_of;
+      old_of = c.in_ok-add-in-New.ensures.old_of;
+    } in
+    added_below g h w v c.args.from c.args.number a b c.requires.walk e c.requires.below
+
+pub returns-in-Known-clause-linked : goal.returns-in-Known-clause-linked
+returns-in-Known-clause-linked c = linked_by c.args.walk.now c.args.from c.args.number c.args.x c.args.y c.requires.below c.in-Known.ensures

@@ -1,0 +1,4 @@
+pub mod Path
+pub mod Same
+pub mod Walk
+pub mod Laws

@@ -1,0 +1,163 @@
+ghost use Rattle.std.specs.Prelude.{◌≡◌, ◌≢◌, ◌<◌, ◌≤◌, ◌+◌, ◌^◌, suc, ℕ, List, length, slice_index, Contains, IfSome, IfNone, IfOk, OnOk};
+ghost use Rattle.g1_words.specs.Heap.{object_at, objects};
+ghost use Rattle.g1_words.specs.Valid.{IsValid};
+ghost use Rattle.g1_same.specs.Same.{IsClash};
+ghost use Rattle.g1_same.specs.Walk.{IsWalk, IsWay, IsBelow, IsLinked, HasGrown, AreAlike, IsMet, IsSeen, IsLeast, IsLower, Names};
+
+use crate::difference::How;
+use crate::walk::Walk;
+use g1_words::{Heap, Object, REFS_RANGE};
+use std::alloc::AllocError;
+
+/// What two words are to the walk.
+#[derive(Drop)]
+pub enum Met {
+    /// They agree.
+    Known,
+    /// They name two objects that are new and alike.
+    New { a: u64, b: u64 },
+    Clash(How),
+}
+
+// The first of so many words that differ, from one address on in each heap.
+fn first_other(here: &[u64], there: &[u64], a: u64, b: u64, count: u64) -> Option<u64>
+    requires here { a + count ≤ length here.now }
+    requires there { b + count ≤ length there.now }
+    ensures some { IfSome result (λ k. k < count) }
+    ensures other { IfSome result (λ k. slice_index here.now (a + k) ≢ slice_index there.now (b + k)) }
+    ensures before { IfSome result (λ k. (i : ℕ) → i < k → slice_index here.now (a + i) ≡ slice_index there.now (b + i)) }
+    ensures none { IfNone result ((i : ℕ) → i < count → slice_index here.now (a + i) ≡ slice_index there.now (b + i)) }
+{
+    for k in 0..count {
+        if here[(a + k) as usize] != there[(b + k) as usize] {
+            return Some(k);
+        }
+    }
+    None
+}
+
+/// The object at an address where one stands.
+pub fn object(heap: &Heap, a: u64) -> Object
+    requires { Contains (objects heap.now) (object_at heap.now a) }
+    ensures size { result.size ≡ (object_at heap.now a).size }
+    ensures refs { result.refs ≡ (object_at heap.now a).refs }
+    ensures fits { result.refs < result.size }
+    ensures within { a + result.size ≤ length heap.now.words }
+    ensures few { length heap.now.words ≤ 2 ^ 24 }
+{
+    let _sizes = heap.geometry();
+    let header = heap.words()[a as usize];
+    Object {
+        at: a,
+        size: header / REFS_RANGE,
+        refs: header % REFS_RANGE,
+    }
+}
+
+// How two objects differ, apart from what their slots name.
+fn objects_differ(before: &Heap, after: &Heap, a: u64, b: u64) -> Option<How>
+    requires a { Contains (objects before.now) (object_at before.now a) }
+    requires b { Contains (objects after.now) (object_at after.now b) }
+    ensures some { IfSome result (λ how. (p : List ℕ) → IsClash before.now after.now p how (suc a) (suc b)) }
+    ensures lower { IfSome result (λ how. IsLower before.now after.now how a b) }
+    ensures none { IfNone result (AreAlike before.now after.now a b) }
+{
+    let old = object(before, a);
+    let new = object(after, b);
+    if old.size != new.size {
+        return Some(How::Size {
+            before: old.size,
+            after: new.size,
+        });
+    }
+    if old.refs != new.refs {
+        return Some(How::Slots {
+            before: old.refs,
+            after: new.refs,
+        });
+    }
+    let here = before.words();
+    let there = after.words();
+    let (first, second, count) = (a + 1 + old.refs, b + 1 + old.refs, old.size - 1 - old.refs);
+    match first_other(here, there, first, second, count) {
+        Some(word) => Some(How::Data { word }),
+        None => None,
+    }
+}
+
+// What two words are to the walk.
+fn meet(before: &Heap, after: &Heap, walk: &Walk, x: u64, y: u64) -> Met
+    requires walk { IsWalk before.now after.now walk.now }
+    requires x { Names before.now x }
+    requires y { Names after.now y }
+    ensures { IsMet before.now after.now walk.now x y result }
+{
+    let _sizes = (before.geometry(), after.geometry());
+    if x == 0 {
+        if y == 0 {
+            return Met::Known;
+        }
+        return Met::Clash(How::NullBefore);
+    }
+    if y == 0 {
+        return Met::Clash(How::NullAfter);
+    }
+    let a = x - 1;
+    let b = y - 1;
+    let i = walk.new_of[a as usize];
+    let j = walk.old_of[b as usize];
+    if i != j {
+        if i != 0 {
+            return Met::Clash(How::Split {
+                object: a,
+                first: walk.after[(i - 1) as usize],
+                second: b,
+            });
+        }
+        return Met::Clash(How::Joined {
+            first: walk.before[(j - 1) as usize],
+            second: a,
+            object: b,
+        });
+    }
+    if i != 0 {
+        return Met::Known;
+    }
+    match objects_differ(before, after, a, b) {
+        Some(how) => Met::Clash(how),
+        None => Met::New { a, b },
+    }
+}
+
+/// Links two words that stand where this way leads, or tells how they disagree.
+pub fn link(
+    before: &Heap,
+    after: &Heap,
+    walk: &mut Walk,
+    from: u32,
+    number: u32,
+    x: u64,
+    y: u64,
+) -> Result<Option<How>, AllocError>
+    requires walk { IsWalk before.now after.now walk.old }
+    requires below { IsBelow walk.old from number }
+    requires way { IsWay before.now after.now walk.old.before.items walk.old.after.items from number x y }
+    requires backward { from ≤ length walk.old.before.items }
+    requires x { Names before.now x }
+    requires y { Names after.now y }
+    ensures walk { OnOk result (IsWalk before.now after.now walk.new) }
+    ensures grown { OnOk result (HasGrown walk.old walk.new) }
+    ensures linked { IfOk result (λ o. IfNone o (IsLinked walk.new from number x y)) }
+    ensures below { OnOk result (IsBelow walk.new from (number + 1)) }
+    ensures clash { IfOk result (λ o. IfSome o (λ how. IsSeen before.now after.now walk.new how x y × IsBelow walk.new from number × IsLeast before.now after.now walk.new how x y)) }
+{
+    let _sizes = (before.geometry(), after.geometry());
+    match meet(before, after, walk, x, y) {
+        Met::Known => Ok(None),
+        Met::Clash(how) => Ok(Some(how)),
+        Met::New { a, b } => {
+            walk.add(from, number, a, b)?;
+            Ok(None)
+        }
+    }
+}
