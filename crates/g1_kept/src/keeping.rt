@@ -16,7 +16,9 @@ pub fn kept(
     before: &Heap,
     after: &Heap,
     set: &[u32],
-) -> Result<Result<(), Lost>, Fault> {
+) -> Result<Result<(), Lost>, Fault>
+    ensures memory { IfErr result (λ e. e ≡ Fault.Memory) }
+{
     let chosen = marked(alloc, before, set)?;
     let heaps = Heaps {
         before,
@@ -26,7 +28,7 @@ pub fn kept(
     match compare(alloc, heaps) {
         Ok(()) => Ok(Ok(())),
         Err(Stop::Lost(lost)) => Ok(Err(lost)),
-        Err(Stop::Fault(fault)) => Err(fault),
+        Err(Stop::Memory) => Err(Fault::Memory),
     }
 }
 
@@ -93,9 +95,11 @@ fn compare_roots(heaps: Heaps<'_>, pairs: &mut Pairs) -> Result<(), Stop> {
 
 // The objects outside the set, each with itself.
 fn compare_kept(alloc: Global, heaps: Heaps<'_>, pairs: &mut Pairs) -> Result<(), Stop> {
-    for (region, chosen) in heaps.chosen.iter().enumerate() {
-        if !*chosen {
-            compare_region(alloc, heaps, pairs, region as u32)?;
+    let regions = heaps.before.geometry().regions();
+    for region in 0..regions as u32 {
+        let chosen = heaps.chosen.get(region as usize).copied();
+        if chosen != Some(true) {
+            compare_region(alloc, heaps, pairs, region)?;
         }
     }
     Ok(())
@@ -106,11 +110,13 @@ fn compare_region(
     heaps: Heaps<'_>,
     pairs: &mut Pairs,
     region: u32,
-) -> Result<(), Stop> {
-    if u64::from(region) >= heaps.before.geometry().regions() {
-        return Ok(());
-    }
-    let starts = objects_in(alloc, heaps.before, region)?;
+) -> Result<(), Stop>
+    requires { region < heaps.before.now.geometry.n }
+{
+    // Only memory can fail there.
+    let Ok(starts) = objects_in(alloc, heaps.before, region) else {
+        return Err(Stop::Memory);
+    };
     for start in starts.iter() {
         let pair = Pair {
             before: *start,

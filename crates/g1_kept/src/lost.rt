@@ -1,6 +1,5 @@
 ghost use Rattle.std.specs.Prelude.{◌≡◌};
 
-use g1_words::Fault;
 use std::alloc::{AllocError, AllocFailed};
 use thiserror::Error;
 
@@ -33,7 +32,7 @@ pub enum Lost {
 #[derive(Debug, Clone, Copy, PartialEq, Eq)]
 pub(crate) enum Stop {
     Lost(Lost),
-    Fault(Fault),
+    Memory,
 }
 
 impl From<Lost> for Stop {
@@ -42,20 +41,14 @@ impl From<Lost> for Stop {
     }
 }
 
-impl From<Fault> for Stop {
-    fn from(fault: Fault) -> Stop {
-        Stop::Fault(fault)
-    }
-}
-
 impl From<AllocError> for Stop {
     fn from(_error: AllocError) -> Stop {
-        Stop::Fault(Fault::Memory)
+        Stop::Memory
     }
 }
 
 impl<T: Drop> From<AllocFailed<T>> for Stop {
     fn from(_error: AllocFailed<T>) -> Stop {
-        Stop::Fault(Fault::Memory)
+        Stop::Memory
     }
 }
