@@ -1,5 +1,5 @@
 -- A walk to which a pair is added is a walk.
-use Rattle.std.proofs.Common.{◌≡◌, ◌≢◌, ◌↔◌, ℕ, zero, suc, ◌+◌, ◌-◌, ◌<◌, ◌≤◌, ◌++◌, ◌⊎◌, inl, inr, List, [], ◌∷◌, length, get_or, set, Contains, refl, sym, ap, subst, ◌∙◌, arith, slice_index, slice_set, length-append}
+use Rattle.std.proofs.Common.{◌≡◌, ◌≢◌, ◌↔◌, ℕ, zero, suc, ◌+◌, ◌-◌, ◌<◌, ◌≤◌, ◌^◌, ◌++◌, ◌⊎◌, inl, inr, List, [], ◌∷◌, length, get_or, set, Contains, refl, sym, ap, subst, ◌∙◌, arith, slice_index, slice_set, length-append}
 use Rattle.std.proofs.lemmas.Bool.{cases_lt}
 use Rattle.std.proofs.lemmas.List.{get_or_append_left, get_or_push, length_push, length-set}
 use Rattle.g1_words.specs.Heap.{Heap, word, object_at, objects}
@@ -27,7 +27,7 @@ earlier_along : (f m k n p q r s : ℕ) → f ≡ p → m ≡ q → k ≡ r → 
 earlier_along f m k n p q r s e1 e2 e3 e4 (inl t) = inl (omega (arith, t, e1, e3))
 earlier_along f m k n p q r s e1 e2 e3 e4 (inr t) = inr (omega (arith, t.0, e1, e3), omega (arith, t.1, e2, e4))
 
-earlier_next : (p q r s : ℕ) → IsEarlier p q r s → IsEarlier p q r (s + 1)
+pub earlier_next : (p q r s : ℕ) → IsEarlier p q r s → IsEarlier p q r (s + 1)
 earlier_next p q r s (inl t) = inl t
 earlier_next p q r s (inr t) = inr (t.0, omega (arith, t.1))
 
@@ -67,6 +67,10 @@ after_within g h w valid walk i p = let o = object_in h (slice_index w.after.ite
 
 pub few_pairs : (g h : Heap) (w : Walk) → IsValid g → IsWalk g h w → length w.before.items ≤ length g.words
 few_pairs g h w valid walk = let k = index_few w.new_of.items w.before.items walk.index_before (before_within g h w valid walk) in omega (arith, k, walk.table_before)
+
+-- so their places fit the tables
+pub pairs_fit : (g h : Heap) (w : Walk) → IsValid g → IsWalk g h w → length w.before.items ≤ 2 ^ 24
+pairs_fit g h w valid walk = let k = few_pairs g h w valid walk in omega (arith, k, valid.word_count, valid.limits.words_most)
 
 pub record IsAdded (w v : Walk) (f n a b : ℕ) : Type 0 where
   pub before : v.before.items ≡ w.before.items ++ a ∷ []

@@ -85,7 +85,7 @@ module _ (g h : Heap) (valid : IsValid g) (s : SameGraph g h) where
       let rest = carried ss (word g (a + 1 + n)) y (λ b e. slot_live g a b n live l.0 e) l.1 in
       ((omega (arith, l.0, refs), subst (λ w. Leads h ss w (renamed s.rename y)) (sym (same_slot a n live l.0)) rest.0), rest.1)
 
-  same_root : (n : ℕ) → n < length g.roots → slice_index h.roots n ≡ renamed s.rename (slice_index g.roots n)
+  pub same_root : (n : ℕ) → n < length g.roots → slice_index h.roots n ≡ renamed s.rename (slice_index g.roots n)
   same_root n lt = ap (λ l. slice_index l n) s.roots ∙ get_or-map (renamed s.rename) g.roots n 0 0 lt
 
   carried_path : (p : List ℕ) (x : ℕ) → LeadsTo g p x → LeadsTo h p (renamed s.rename x) × LivesAt g x

@@ -5,6 +5,8 @@ pub mod Adding
 pub mod Words
 pub mod Routes
 pub mod Renamed
+pub mod Order
+pub mod OneRenaming
 pub mod Steps
 pub mod OneFirst
 pub mod First

@@ -10,7 +10,6 @@ use Rattle.g1_image.specs.Copy.{renamed, words_at, renamed_words, IsCopy}
 use Rattle.g1_image.specs.Graph.{SameGraph}
 use Rattle.g1_image.proofs.CopyWords.{StaysAt, RenamedAt, renamed_word, length-renamed_words}
 use Rattle.g1_same.specs.declared.walk.Walk.{Walk}
-use Rattle.g1_same.specs.Same.{IsRenaming}
 use Rattle.g1_same.specs.Walk.{AreAlike, IsLinked, IsWay, IsWalk, LinksRoots, LinksSlots, LinksPairs}
 use Rattle.g1_same.proofs.Heaps.{object_in, root_of, slot_of, root_live, slot_live}
 use Rattle.g1_same.proofs.Tables.{index_apart}
@@ -99,7 +98,7 @@ module _ (g h : Heap) (left : IsValid g) (right : IsValid h) (w : Walk) (walk : 
         (λ m lt. let q : m < o.size = omega (arith, lt, long) in
         get_or-map-range_with_len (word h) (rename a) o.size m (rename a + m) 0 q refl ∙ ap (λ z. word h (z + m)) at ∙ word_copied i m p q)
 
-    same : SameGraph g h
+    pub same : SameGraph g h
     same = record {
       rename = rename;
       one_to_one = λ a b la lb e.
@@ -118,13 +117,7 @@ module _ (g h : Heap) (left : IsValid g) (right : IsValid h) (w : Walk) (walk : 
       copies = λ a la. let i = found a la in subst (λ z. IsCopy rename g h (object_at g z)) i.2 (copied_at i.0 i.1);
     }
 
-    pub renaming : IsRenaming g h w.before.items w.after.items
+    pub images : w.after.items ≡ map same.rename w.before.items
     unfolding same
-    renaming = record {
-      same = same;
-      lengths = sym walk.pairs;
-      renames = λ i p. sym (rename_at i p);
-      live = live_at;
-      all = found;
-      once = once;
-    }
+    images = ext_get_or 0 w.after.items (map rename w.before.items) (walk.pairs ∙ sym (length-map w.before.items rename))
+        (λ i lt. let p : i < length w.before.items = omega (arith, lt, walk.pairs) in sym (rename_at i p) ∙ sym (get_or-map rename w.before.items i 0 0 p))

@@ -10,7 +10,7 @@ use Rattle.g1_words.proofs.Indices.{get_or-In}
 use Rattle.g1_same.specs.Walk.{IsIndex}
 
 -- the place of an element of a list
-place_of : (l : List ℕ) (a : ℕ) → In l a → (i : ℕ) × (i < length l) × (slice_index l i ≡ a)
+pub place_of : (l : List ℕ) (a : ℕ) → In l a → (i : ℕ) × (i < length l) × (slice_index l i ≡ a)
 place_of [] a h = absurd h
 place_of (x ∷ l) a (inl e) = (0, omega arith, e)
 place_of (x ∷ l) a (inr h) = let r = place_of l a h in (suc r.0, omega (arith, r.1), r.2)

@@ -5,7 +5,7 @@ use Rattle.g1_words.specs.Valid.{IsValid}
 use Rattle.g1_image.specs.Graph.{SameGraph}
 use Rattle.g1_same.specs.declared.difference.Difference.{Difference}
 use Rattle.g1_same.specs.declared.difference.Difference.TheVariants.{Roots, At}
-use Rattle.g1_same.specs.Same.{IsDifference, IsFirstDifference}
+use Rattle.g1_same.specs.Same.{IsDifference, IsFirstDifference, IsRenaming}
 
 -- heaps with a difference do not show one graph
 abbrev pub NeverBoth : Type 0
@@ -20,3 +20,7 @@ TellSame _ _ = ⊥
 -- two heaps have one first difference at most
 abbrev pub OneFirst : Type 0
 OneFirst = (g h : Heap) (d e : Difference) → IsFirstDifference g h d → IsFirstDifference g h e → TellSame d e
+
+-- two heaps have one renaming at most
+abbrev pub OneRenaming : Type 0
+OneRenaming = (g h : Heap) (olds news others images : List ℕ) → IsValid g → IsRenaming g h olds news → IsRenaming g h others images → (olds ≡ others) × (news ≡ images)

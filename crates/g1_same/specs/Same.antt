@@ -1,13 +1,14 @@
 -- Where two heaps show one graph from the roots, and how they differ where they do not.
-use Rattle.std.specs.Prelude.{◌≡◌, ◌≢◌, ◌<◌, ℕ, zero, suc, List, [], ◌∷◌, ◌+◌, length, map, slice_index}
+use Rattle.std.specs.Prelude.{◌≡◌, ◌≢◌, ◌<◌, ℕ, suc, List, ◌∷◌, ◌+◌, length, map}
 use Rattle.g1_words.specs.Heap.{Heap, word, object_at}
-use Rattle.g1_words.specs.Live.{Live}
+use Rattle.g1_words.specs.References.{root_targets, targets}
+use Rattle.g1_words.specs.Survivors.{IsBreadthFirst}
 use Rattle.g1_image.specs.Graph.{SameGraph}
 use Rattle.g1_same.specs.declared.difference.How.{How}
 use Rattle.g1_same.specs.declared.difference.How.TheVariants.{NullBefore, NullAfter, Split, Joined, Size, Slots, Data}
 use Rattle.g1_same.specs.declared.difference.Difference.{Difference}
 use Rattle.g1_same.specs.declared.difference.Difference.TheVariants.{Roots, At}
-use Rattle.g1_same.specs.Path.{LeadsTo, Together, Before}
+use Rattle.g1_same.specs.Path.{Together, Before}
 
 -- How the words that a path leads to disagree. An earlier path makes one object before two after, or two before one after.
 abbrev pub IsClash : Heap → Heap → List ℕ → How → ℕ → ℕ → Type 0
@@ -58,11 +59,8 @@ pub record IsFirstDifference (g h : Heap) (d : Difference) : Type 0 where
   pub is : IsDifference g h d
   pub earliest : IsEarliest g h d
 
--- the reached objects of the one heap, each once, and where each stands in the other
+-- the objects that the roots of the one heap reach, in breadth-first order, and where each stands in the other
 pub record IsRenaming (g h : Heap) (olds news : List ℕ) : Type 0 where
   pub same : SameGraph g h
-  pub lengths : length olds ≡ length news
-  pub renames : (i : ℕ) → i < length olds → slice_index news i ≡ same.rename (slice_index olds i)
-  pub live : (i : ℕ) → i < length olds → Live g (slice_index olds i)
-  pub all : (a : ℕ) → Live g a → (i : ℕ) × (i < length olds) × (slice_index olds i ≡ a)
-  pub once : (i j : ℕ) → i < length olds → j < length olds → slice_index olds i ≡ slice_index olds j → i ≡ j
+  pub found : IsBreadthFirst (root_targets g) (targets g) olds
+  pub renames : news ≡ map same.rename olds

@@ -30,11 +30,12 @@ fn link_roots(before: &Heap, after: &Heap, walk: &mut Walk) -> Result<Option<Sto
     for number in 0..roots.len() {
         let x = roots[number];
         let y = others[number];
-        match link(before, after, walk, 0, number as u64, x, y)? {
+        let number = number as u32;
+        match link(before, after, walk, 0, number, x, y)? {
             Some(how) => {
                 return Ok(Some(Stop {
                     from: 0,
-                    number: number as u64,
+                    number,
                     how,
                 }));
             }
@@ -68,10 +69,11 @@ fn link_slots(
     let there = after.words();
     let old = object(before, a);
     let _new = object(after, b);
-    let from = place as u64 + 1;
+    let from = place as u32 + 1;
     for number in 0..old.refs {
         let x = here[(a + 1 + number) as usize];
         let y = there[(b + 1 + number) as usize];
+        let number = number as u32;
         match link(before, after, walk, from, number, x, y)? {
             Some(how) => {
                 return Ok(Some(Stop { from, number, how }));
@@ -126,14 +128,14 @@ fn told(
     let mut from = stop.from;
     let mut number = stop.number;
     while from > 0 {
-        slots.push(number)?;
+        slots.push(number as u64)?;
         let place = (from - 1) as usize;
         number = walk.number[place];
         from = walk.from[place];
     }
     slots.reverse();
     Ok(Difference::At {
-        root: number,
+        root: number as u64,
         slots,
         how: stop.how,
     })

@@ -1,4 +1,4 @@
-ghost use Rattle.g1_same.specs.Laws.{NeverBoth, OneFirst};
+ghost use Rattle.g1_same.specs.Laws.{NeverBoth, OneFirst, OneRenaming};
 
 /// A difference tells that no renaming makes the one graph the other.
 pub fn never_both()
@@ -8,4 +8,9 @@ pub fn never_both()
 /// Two heaps have one first difference at most.
 pub fn one_first()
     ensures { OneFirst }
+{}
+
+/// Two heaps have one renaming at most.
+pub fn one_renaming()
+    ensures { OneRenaming }
 {}

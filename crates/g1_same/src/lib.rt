@@ -20,7 +20,7 @@ mod walk;
 
 pub use comparing::compare;
 pub use difference::{Difference, How};
-pub use laws::{never_both, one_first};
+pub use laws::{never_both, one_first, one_renaming};
 pub use renaming::Renaming;
 
 #[cfg(test)]

@@ -134,8 +134,8 @@ pub fn link(
     before: &Heap,
     after: &Heap,
     walk: &mut Walk,
-    from: u64,
-    number: u64,
+    from: u32,
+    number: u32,
     x: u64,
     y: u64,
 ) -> Result<Option<How>, AllocError>

@@ -1,4 +1,4 @@
-ghost use Rattle.std.specs.Prelude.{◌≡◌, ◌<◌, ◌≤◌, ◌++◌, ◌+◌, ◌∷◌, [], suc, length, replicate, slice_set, slice_index, Contains, IfOk, OnOk};
+ghost use Rattle.std.specs.Prelude.{◌≡◌, ◌<◌, ◌≤◌, ◌++◌, ◌+◌, ◌^◌, ◌∷◌, [], suc, length, replicate, slice_set, slice_index, Contains, IfOk, OnOk};
 ghost use Rattle.g1_words.specs.Heap.{object_at, objects};
 ghost use Rattle.g1_words.specs.Valid.{IsValid};
 ghost use Rattle.g1_same.specs.Walk.{IsWalk, IsWay, IsBelow, IsLinked, HasGrown, AreAlike};
@@ -15,27 +15,27 @@ pub struct Walk {
     /// The address after of each pair.
     pub after: Vec<u64>,
     /// 0 where a root names the pair, else 1 more than the place of the pair whose slot does.
-    pub from: Vec<u64>,
+    pub from: Vec<u32>,
     /// The number of that root or slot.
-    pub number: Vec<u64>,
+    pub number: Vec<u32>,
     /// By address before, 1 more than the place of its pair.
-    pub new_of: Vec<u64>,
+    pub new_of: Vec<u32>,
     /// By address after, the same.
-    pub old_of: Vec<u64>,
+    pub old_of: Vec<u32>,
 }
 
 /// Where a walk ends at two words that disagree: the way to them, and how.
 #[derive(Clone, Copy, Drop)]
 pub struct Stop {
-    pub from: u64,
-    pub number: u64,
+    pub from: u32,
+    pub number: u32,
     pub how: How,
 }
 
-fn zeros(alloc: Global, count: usize) -> Result<Vec<u64>, AllocError>
+fn zeros(alloc: Global, count: usize) -> Result<Vec<u32>, AllocError>
     ensures { IfOk result (λ v. v.items ≡ replicate count 0) }
 {
-    vec![in alloc; 0u64; count]
+    vec![in alloc; 0u32; count]
 }
 
 /// A walk that has found nothing.
@@ -58,9 +58,10 @@ pub fn start(alloc: Global, before: &Heap, after: &Heap) -> Result<Walk, AllocEr
 
 impl Walk {
     /// Adds a pair, found by this way.
-    pub fn add(&mut self, from: u64, number: u64, a: u64, b: u64) -> Result<(), AllocError>
+    pub fn add(&mut self, from: u32, number: u32, a: u64, b: u64) -> Result<(), AllocError>
         requires a { a < length self.old.new_of.items }
         requires b { b < length self.old.old_of.items }
+        requires few { length self.old.before.items ≤ 2 ^ 24 }
         ensures before { OnOk result (self.new.before.items ≡ self.old.before.items ++ a ∷ []) }
         ensures after { OnOk result (self.new.after.items ≡ self.old.after.items ++ b ∷ []) }
         ensures from { OnOk result (self.new.from.items ≡ self.old.from.items ++ from ∷ []) }
@@ -68,7 +69,7 @@ impl Walk {
         ensures new_of { OnOk result (self.new.new_of.items ≡ slice_set self.old.new_of.items a (suc (length self.old.before.items))) }
         ensures old_of { OnOk result (self.new.old_of.items ≡ slice_set self.old.old_of.items b (suc (length self.old.before.items))) }
     {
-        let place = self.before.len() as u64 + 1;
+        let place = self.before.len() as u32 + 1;
         self.before.push(a)?;
         self.after.push(b)?;
         self.from.push(from)?;

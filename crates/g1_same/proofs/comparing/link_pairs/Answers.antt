@@ -11,7 +11,7 @@ use Rattle.g1_same.proofs.Heaps.{root_names, slot_names}
 use Rattle.g1_same.proofs.Adding.{grown_more, few_pairs}
 use Rattle.g1_same.proofs.Steps.{none_then, some_then, roots_more, roots_kept, slots_more, slots_kept, pairs_more, pairs_kept, slot_way, below_along}
 use Rattle.g1_same.proofs.First.{first}
-use Rattle.g1_same.proofs.Renamed.{renaming}
+use Rattle.g1_same.proofs.Order.{renaming}
 use Rattle.g1_same.proofs.Excludes.{no_difference}
 use Rattle.g1_same.proofs.comparing.link_pairs.Goals as goal
 

@@ -8,10 +8,10 @@ use Rattle.g1_same.specs.declared.difference.Difference.{Difference}
 use Rattle.g1_same.specs.Same.{ClashAt, IsDifference, IsFirstDifference}
 use Rattle.g1_same.specs.Walk.{IsLeast, LinksTo, Names, IsRoute, root, slot, IsLinked, IsSeen, IsBelow, IsWay, IsWalk, LinksRoots, LinksSlots, LinksPairs, IsStop, HasGrown}
 use Rattle.g1_same.proofs.Heaps.{root_names, slot_names}
-use Rattle.g1_same.proofs.Adding.{grown_more, few_pairs}
+use Rattle.g1_same.proofs.Adding.{grown_more, pairs_fit}
 use Rattle.g1_same.proofs.Steps.{none_then, some_then, roots_more, roots_kept, slots_more, slots_kept, pairs_more, pairs_kept, slot_way, below_along}
 use Rattle.g1_same.proofs.First.{first}
-use Rattle.g1_same.proofs.Renamed.{renaming}
+use Rattle.g1_same.proofs.Order.{renaming}
 use Rattle.g1_same.proofs.Excludes.{no_difference}
 use Rattle.g1_same.proofs.comparing.link_slots.Goals as goal
 
@@ -204,3 +204,13 @@ returns-clause-linked c =
     let a_is : a ≡ slice_index u.before.items place = get_or_read u.before.items place a c.requires.place c.index-a.ensures 0 in
     let refs : (object_at g (slice_index u.before.items place)).refs ≡ (object_at g a).refs = ap (λ z. (object_at g z).refs) (sym a_is) in
     λ n p. c.loop-number.invariant.linked n (omega (arith, p, refs, c.loop-number-test.false, c.object-old.ensures.refs))
+
+pub overflow_cast-from : goal.overflow_cast-from
+overflow_cast-from c =
+    let k = pairs_fit c.args.before.now c.args.after.now c.args.walk.now c.geometry.ensures.valid c.requires.walk in
+    omega (arith, k, c.requires.place)
+
+pub overflow_add-from : goal.overflow_add-from
+overflow_add-from c =
+    let k = pairs_fit c.args.before.now c.args.after.now c.args.walk.now c.geometry.ensures.valid c.requires.walk in
+    omega (arith, k, c.requires.place)

@@ -1,7 +1,7 @@
 use Rattle.std.proofs.Common.{arith, ap, subst, sym, suc, ℕ, ◌≡◌, ◌<◌, length}
 use Rattle.g1_same.specs.Walk.{IsLinked, IsWay}
 use Rattle.g1_same.proofs.Heaps.{object_in}
-use Rattle.g1_same.proofs.Adding.{IsAdded, added_walk, added_linked, added_below, added_grown, linked_by}
+use Rattle.g1_same.proofs.Adding.{IsAdded, added_walk, added_linked, added_below, added_grown, linked_by, pairs_fit}
 use Rattle.g1_same.proofs.meeting.link.Goals as goal
 
 pub add-requires-clause-a : goal.add-requires-clause-a
@@ -13,6 +13,9 @@ pub add-requires-clause-b : goal.add-requires-clause-b
 add-requires-clause-b c =
     let o = object_in c.args.after.now c.in-New.b c.geometry-2.ensures.valid (c.requires.y c.in-New.b c.in-New.ensures.1) in
     omega (arith, o.0, o.1, c.requires.walk.table_after)
+
+pub add-requires-clause-few : goal.add-requires-clause-few
+add-requires-clause-few c = pairs_fit c.args.before.now c.args.after.now c.args.walk.now c.geometry.ensures.valid c.requires.walk
 
 pub returns-in_ok-add-in-New-clause-walk : goal.returns-in_ok-add-in-New-clause-walk
 returns-in_ok-add-in-New-clause-walk c =
