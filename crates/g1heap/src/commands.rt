@@ -85,7 +85,7 @@ fn same_answer<T: Threads + Sync + Files, R: Read>(
     Ok((status, text))
 }
 
-fn compared(
+pub(crate) fn compared(
     alloc: Global,
     same: &Same,
     before: &Image,
