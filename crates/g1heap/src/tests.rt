@@ -54,7 +54,11 @@ fn expect<T: Threads + Abort + Sync + Files>(
     let mut reader = input;
     let mut out = Vec::new(alloc);
     let (status, errors) = run(rt, alloc, line, &mut reader, &mut out)?;
-    assert_eq!(rt; errors.as_slice(), expected.2.as_bytes(), "{line} of {input:?}");
+    assert_eq!(rt;
+        errors.as_slice(),
+        expected.2.as_bytes(),
+        "{line} of {input:?}"
+    );
     assert_eq!(rt; out.as_slice(), expected.1, "{line} of {input:?}");
     assert_eq!(rt; status, expected.0, "{line} of {input:?}");
     Ok(())
@@ -73,11 +77,29 @@ fn prints_and_makes(rt: HostRuntime) -> Result<(), Fail> {
         expect(&rt, alloc, "make", text.as_bytes(), (0, ONE_OBJECT, ""))?;
     }
     let object = b"object 16 4/1 - 7 9\n";
-    expect(&rt, alloc, "print - --object 16", ONE_OBJECT, (0, object, ""))?;
+    expect(
+        &rt,
+        alloc,
+        "print - --object 16",
+        ONE_OBJECT,
+        (0, object, ""),
+    )?;
     let region = b"region 1 ordinary top 4 objects 1 cards 0\nobject 16 4/1 - 7 9\n";
-    expect(&rt, alloc, "print --region 1 -", ONE_OBJECT, (0, region, ""))?;
+    expect(
+        &rt,
+        alloc,
+        "print --region 1 -",
+        ONE_OBJECT,
+        (0, region, ""),
+    )?;
     let told = "g1heap: -: no object starts at 17\n";
-    expect(&rt, alloc, "print - --object 17", ONE_OBJECT, (2, b"", told))?;
+    expect(
+        &rt,
+        alloc,
+        "print - --object 17",
+        ONE_OBJECT,
+        (2, b"", told),
+    )?;
     let told = "g1heap: -: no region 4\n";
     expect(&rt, alloc, "print - --region 4", ONE_OBJECT, (2, b"", told))?;
     Ok(())
@@ -91,38 +113,98 @@ fn expect_wrong<T: Threads + Abort + Sync + Files>(
 ) -> Result<(), AllocError> {
     let text = format!(in alloc; "heap 16 4 4\n{lines}\n")?;
     let errors = format!(in alloc; "g1heap: -: line {told}\n")?;
-    expect(rt, alloc, "make -", text.as_bytes(), (3, b"", errors.as_str()))
+    expect(
+        rt,
+        alloc,
+        "make -",
+        text.as_bytes(),
+        (3, b"", errors.as_str()),
+    )
 }
 
 #[test]
 fn tells_a_wrong_line(rt: HostRuntime) -> Result<(), Fail> {
     let alloc = rt.alloc();
     for (lines, told) in [
-        ("heap 16 4 4", "2: expected 'root', 'dirty', 'covered', 'region', 'remembered' or 'object'"),
+        (
+            "heap 16 4 4",
+            "2: expected 'root', 'dirty', 'covered', 'region', 'remembered' or 'object'",
+        ),
         ("root 0 x", "2: expected '-' or an address"),
         ("root 1 -", "2: expected root 0"),
         ("root 16", "2: expected '-' or the address of an object"),
         ("region 4 free", "2: expected a region from 0 to 3"),
-        ("region 1 free\nregion 1 free", "3: expected a region from 2 to 3"),
-        ("region full", "2: expected 'free', 'ordinary', 'humongous' or 'continuation'"),
-        ("region continuation", "2: expected no continuation where no humongous object goes on"),
+        (
+            "region 1 free\nregion 1 free",
+            "3: expected a region from 2 to 3",
+        ),
+        (
+            "region full",
+            "2: expected 'free', 'ordinary', 'humongous' or 'continuation'",
+        ),
+        (
+            "region continuation",
+            "2: expected no continuation where no humongous object goes on",
+        ),
         ("region ordinary", "2: expected an object in this region"),
-        ("region ordinary top 3\nobject 4/0 1 2 3", "2: expected top 4"),
-        ("region ordinary objects 2\nobject 1/0", "2: expected objects 1"),
+        (
+            "region ordinary top 3\nobject 4/0 1 2 3",
+            "2: expected top 4",
+        ),
+        (
+            "region ordinary objects 2\nobject 1/0",
+            "2: expected objects 1",
+        ),
         ("region ordinary cards 1\nobject 1/0", "2: expected cards 0"),
-        ("object 1/0", "2: expected no object here: the region above takes none, or no further one"),
-        ("region ordinary\nobject 1/1", "3: expected SIZE/SLOTS, at least one word and fewer slots than words"),
-        ("region ordinary\nobject 13/0 ..", "3: expected an object of at most 12 words"),
-        ("region humongous\nobject 12/0 ..", "3: expected an object of at least 13 words"),
-        ("region 3 humongous\nobject 17/0 ..", "3: expected an object of at most 16 words"),
+        (
+            "object 1/0",
+            "2: expected no object here: the region above takes none, or no further one",
+        ),
+        (
+            "region ordinary\nobject 1/1",
+            "3: expected SIZE/SLOTS, at least one word and fewer slots than words",
+        ),
+        (
+            "region ordinary\nobject 13/0 ..",
+            "3: expected an object of at most 12 words",
+        ),
+        (
+            "region humongous\nobject 12/0 ..",
+            "3: expected an object of at least 13 words",
+        ),
+        (
+            "region 3 humongous\nobject 17/0 ..",
+            "3: expected an object of at most 16 words",
+        ),
         ("region ordinary\nobject 1 1/0", "3: expected object 0"),
-        ("region ordinary\nobject 3/1 - 5 6", "3: expected 1 slots and 1 data words"),
-        ("region ordinary\nobject 3/1 -", "3: expected 1 slots and 1 data words"),
-        ("region ordinary\nobject 2/0 -", "3: expected a whole number as data word"),
-        ("region ordinary\nobject 3/2 0 1", "3: expected '-' or the address of an object in slot 1"),
-        ("dirty cards 16", "2: expected cards of regions in use, each once"),
-        ("region ordinary\nobject 1/0\nremembered 0 cards 0", "4: expected rising cards of other regions in use"),
-        ("remembered 1 cards 0\ncovered", "2: expected no remembered cards beside 'covered'"),
+        (
+            "region ordinary\nobject 3/1 - 5 6",
+            "3: expected 1 slots and 1 data words",
+        ),
+        (
+            "region ordinary\nobject 3/1 -",
+            "3: expected 1 slots and 1 data words",
+        ),
+        (
+            "region ordinary\nobject 2/0 -",
+            "3: expected a whole number as data word",
+        ),
+        (
+            "region ordinary\nobject 3/2 0 1",
+            "3: expected '-' or the address of an object in slot 1",
+        ),
+        (
+            "dirty cards 16",
+            "2: expected cards of regions in use, each once",
+        ),
+        (
+            "region ordinary\nobject 1/0\nremembered 0 cards 0",
+            "4: expected rising cards of other regions in use",
+        ),
+        (
+            "remembered 1 cards 0\ncovered",
+            "2: expected no remembered cards beside 'covered'",
+        ),
         ("covered 1", "2: expected the end of the line"),
         ("dirty 1", "2: expected 'cards'"),
     ] {
@@ -149,7 +231,8 @@ static PAIR_MOVED: &str =
 // One object, and two that are alike.
 static ONE: &str = "heap 16 4 4\nroot 16\nroot 16\nregion 1 ordinary\nobject 3/0 1 2";
 
-static TWO: &str = "heap 16 4 4\nroot 16\nroot 19\nregion 1 ordinary\nobject 3/0 1 2\nobject 3/0 1 2";
+static TWO: &str =
+    "heap 16 4 4\nroot 16\nroot 19\nregion 1 ordinary\nobject 3/0 1 2\nobject 3/0 1 2";
 
 // A dead object that names one, and the same with that one moved out of region 1.
 static DEAD_OWNER: &str =
@@ -177,7 +260,11 @@ fn expect_compared<T: Abort>(
     let (old, new) = (image_of(alloc, before)?, image_of(alloc, after)?);
     let (status, text) = compared(alloc, &same, &old, &new)?;
     assert_eq!(rt; text.as_str(), told, "{before} and {after}");
-    assert_eq!(rt; status == 0, told.starts_with("same"), "{before} and {after}");
+    assert_eq!(rt;
+        status == 0,
+        told.starts_with("same"),
+        "{before} and {after}"
+    );
     Ok(())
 }
 
@@ -186,7 +273,11 @@ fn tells_the_first_difference(rt: HostRuntime) -> Result<(), Fail> {
     let alloc = rt.alloc();
     for (before, after, told) in [
         (PAIR, PAIR_MOVED, "same objects 2 words 7\n"),
-        (PAIR, ONE, "differ size at root 0: object 16 before, object 16 after; size 4 before, 3 after\n"),
+        (
+            PAIR,
+            ONE,
+            "differ size at root 0: object 16 before, object 16 after; size 4 before, 3 after\n",
+        ),
         (
             PAIR,
             "heap 16 4 4\nroot 35\nroot 32\nregion 2 ordinary\nobject 3/1 35 5\nobject 4/2 32 32 7",
@@ -227,7 +318,14 @@ fn tells_the_first_difference(rt: HostRuntime) -> Result<(), Fail> {
 #[test]
 fn tells_what_a_pause_would_keep(rt: HostRuntime) -> Result<(), Fail> {
     let alloc = rt.alloc();
-    expect_compared(&rt, alloc, PAIR, PAIR_MOVED, &[1], "same objects 2 words 7\nkept\n")?;
+    expect_compared(
+        &rt,
+        alloc,
+        PAIR,
+        PAIR_MOVED,
+        &[1],
+        "same objects 2 words 7\nkept\n",
+    )?;
     let not_free = "differ region 1: in the set, and not free after\n";
     expect_compared(&rt, alloc, PAIR, PAIR, &[1], not_free)?;
     for (after, told) in [
@@ -309,7 +407,11 @@ fn devices_fail_at_each_byte(rt: HostRuntime) -> Result<(), Fail> {
         let (status, errors) = run(&rt, alloc, "print -", &mut reader, &mut out)?;
         assert_eq!(rt; status, 6, "{left}");
         assert!(rt; out.is_empty(), "{left}");
-        assert_eq!(rt; errors.as_slice(), b"g1heap: -: fault 14: input\n", "{left}");
+        assert_eq!(rt;
+            errors.as_slice(),
+            b"g1heap: -: fault 14: input\n",
+            "{left}"
+        );
         let mut reader = ONE_OBJECT_LINES.as_bytes();
         let bytes = Vec::new(alloc);
         let mut writer = Failing { bytes, left };
