@@ -1,0 +1,71 @@
+#!/usr/bin/env python3
+"""same.py [--g1heap FILE] [--g1pause FILE] [--rounds R] [--seed S]
+
+`g1heap same` on two images of about 94 MB (bench/images.py), the second being the answer of a pause to the first,
+beside `g1pause live` on the first: processor time and peak memory, in turn, R rounds (5). Twice the time of `live`
+is what reading and walking both images would take.
+"""
+import argparse
+import os
+import pathlib
+import statistics
+import subprocess
+import sys
+import tempfile
+
+HERE = pathlib.Path(__file__).resolve().parent
+CRATES = HERE.parent / "crates"
+MB = 1_000_000
+
+
+def run(command, source=None):
+    """Processor time in seconds, peak memory in bytes, and what was printed."""
+    with open(source or os.devnull, "rb") as data:
+        process = subprocess.Popen(command, stdin=data, stdout=subprocess.PIPE)
+        out = process.stdout.read()
+        _, status, usage = os.wait4(process.pid, 0)
+        process.returncode = os.waitstatus_to_exitcode(status)
+    if process.returncode != 0:
+        sys.exit(f"{command}: status {process.returncode}")
+    return usage.ru_utime + usage.ru_stime, usage.ru_maxrss * 1024, out
+
+
+def paused(program, image, after):
+    """Writes the answer of the pause with the greatest budget that finds room."""
+    budget = 1 << 28
+    while budget:
+        with open(image, "rb") as source, open(after, "wb") as out:
+            command = [program, "pause", "--budget", str(budget)]
+            if subprocess.run(command, stdin=source, stdout=out, stderr=subprocess.DEVNULL).returncode == 0:
+                return budget
+        budget //= 2
+    sys.exit("no pause finds room")
+
+
+def main():
+    parser = argparse.ArgumentParser(description=__doc__, formatter_class=argparse.RawDescriptionHelpFormatter)
+    parser.add_argument("--g1heap", default=str(CRATES / "g1heap" / "out" / "g1heap"), metavar="FILE")
+    parser.add_argument("--g1pause", default=str(CRATES / "g1pause" / "out" / "g1pause"), metavar="FILE")
+    parser.add_argument("--rounds", type=int, default=5, metavar="R")
+    parser.add_argument("--seed", default="1", metavar="S")
+    options = parser.parse_args()
+    with tempfile.TemporaryDirectory() as folder:
+        image, after = pathlib.Path(folder) / "before.img", pathlib.Path(folder) / "after.img"
+        for width in (65536, 4096):
+            subprocess.run([sys.executable, str(HERE / "images.py"), str(width), str(image), "--seed", options.seed],
+                           check=True, stdout=subprocess.DEVNULL)
+            budget = paused(options.g1pause, image, after)
+            live, same = [], []
+            for _ in range(options.rounds):
+                live.append(run([options.g1pause, "live"], image))
+                same.append(run([options.g1heap, "same", str(image), str(after)]))
+            once, both = (statistics.median(cpu for cpu, _, _ in runs) for runs in (live, same))
+            low, high = (max(peak for _, peak, _ in runs) for runs in (live, same))
+            print(f"Regions of {width} words, {image.stat().st_size / MB:.1f} and {after.stat().st_size / MB:.1f} MB, "
+                  f"pause --budget {budget}: {same[0][2].decode().strip()}")
+            print(f"live {once:.2f} s, {low / MB:.0f} MB; same {both:.2f} s, {high / MB:.0f} MB; "
+                  f"{both / (2 * once):.2f} of twice the time, {high / low:.2f} of the memory")
+
+
+if __name__ == "__main__":
+    main()

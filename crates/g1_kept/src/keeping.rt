@@ -1,0 +1,128 @@
+ghost use Rattle.std.specs.Prelude.{◌≡◌, ◌<◌, IfErr};
+
+use crate::lost::{Lost, Stop};
+use crate::pairs::{Heaps, Pair, Pairs};
+use g1_words::{Fault, Heap, Kind, objects_in};
+use std::alloc::{AllocError, Global};
+
+/// Whether a heap keeps what a pause of these regions keeps of another one: all objects outside them
+/// in their places, and a copy of each object of theirs that a root or a kept slot leads to.
+///
+/// # Errors
+///
+/// `Fault::Memory` alone. What is lost is told by `Lost`.
+pub fn kept(
+    alloc: Global,
+    before: &Heap,
+    after: &Heap,
+    set: &[u32],
+) -> Result<Result<(), Lost>, Fault>
+    ensures memory { IfErr result (λ e. e ≡ Fault.Memory) }
+{
+    let chosen = marked(alloc, before, set)?;
+    let heaps = Heaps {
+        before,
+        after,
+        chosen: chosen.as_slice(),
+    };
+    match compare(alloc, heaps) {
+        Ok(()) => Ok(Ok(())),
+        Err(Stop::Lost(lost)) => Ok(Err(lost)),
+        Err(Stop::Memory) => Err(Fault::Memory),
+    }
+}
+
+// For each region whether it is in the set.
+fn marked(alloc: Global, heap: &Heap, set: &[u32]) -> Result<Vec<bool>, AllocError> {
+    let mut chosen = vec![in alloc; false; heap.regions().len()]?;
+    for region in set {
+        if let Some(mark) = chosen.get_mut(*region as usize) {
+            *mark = true;
+        }
+    }
+    Ok(chosen)
+}
+
+fn compare(alloc: Global, heaps: Heaps<'_>) -> Result<(), Stop> {
+    compare_regions(heaps)?;
+    let words = heaps.before.words().len();
+    let mut pairs = Pairs::new(alloc, words)?;
+    compare_roots(heaps, &mut pairs)?;
+    compare_kept(alloc, heaps, &mut pairs)?;
+    for number in 0..words {
+        match pairs.pair(number) {
+            Some(pair) => pairs.compare(heaps, pair)?,
+            None => break,
+        }
+    }
+    Ok(())
+}
+
+fn compare_regions(heaps: Heaps<'_>) -> Result<(), Lost> {
+    let Heaps {
+        before,
+        after,
+        chosen,
+    } = heaps;
+    if before.geometry() != after.geometry() {
+        return Err(Lost::Sizes);
+    }
+    let regions = before.regions().iter().zip(after.regions().iter());
+    for (number, ((old, new), chosen)) in regions.zip(chosen.iter()).enumerate() {
+        let number = number as u32;
+        if *chosen && new.kind != Kind::Free {
+            return Err(Lost::Set(number));
+        }
+        if !*chosen && old.kind != Kind::Free && *old != *new {
+            return Err(Lost::Region(number));
+        }
+    }
+    Ok(())
+}
+
+fn compare_roots(heaps: Heaps<'_>, pairs: &mut Pairs) -> Result<(), Stop> {
+    let (old, new) = (heaps.before.roots(), heaps.after.roots());
+    if old.len() != new.len() {
+        return Err(Lost::Roots.into());
+    }
+    for (number, (word, now)) in old.iter().zip(new.iter()).enumerate() {
+        if !pairs.follow(heaps, *word, *now)? {
+            return Err(Lost::Root(number as u64).into());
+        }
+    }
+    Ok(())
+}
+
+// The objects outside the set, each with itself.
+fn compare_kept(alloc: Global, heaps: Heaps<'_>, pairs: &mut Pairs) -> Result<(), Stop> {
+    let regions = heaps.before.geometry().regions();
+    for region in 0..regions as u32 {
+        let chosen = heaps.chosen.get(region as usize).copied();
+        if chosen != Some(true) {
+            compare_region(alloc, heaps, pairs, region)?;
+        }
+    }
+    Ok(())
+}
+
+fn compare_region(
+    alloc: Global,
+    heaps: Heaps<'_>,
+    pairs: &mut Pairs,
+    region: u32,
+) -> Result<(), Stop>
+    requires { region < heaps.before.now.geometry.n }
+{
+    // Only memory can fail there.
+    let Ok(starts) = objects_in(alloc, heaps.before, region) else {
+        return Err(Stop::Memory);
+    };
+    for start in starts.iter() {
+        let pair = Pair {
+            before: *start,
+            after: *start,
+        };
+        pairs.compare(heaps, pair)?;
+    }
+    Ok(())
+}

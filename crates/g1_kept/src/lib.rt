@@ -1,0 +1,17 @@
+//! Whether a heap keeps what a pause of some regions keeps, wherever the survivors went.
+//!
+//! 1. The regions of the set are free after. Every other region that was in use is as it was.
+//! 2. The objects outside the set stand in their places, dead ones too, with their headers, their
+//!    data words and the slots that don't lead into the set.
+//! 3. A slot or a root that led into the set names a copy: the same copy for the same object, another
+//!    for another, in a region that was free. The copies are compared in the same way, slot by slot.
+//!
+//! The order of the copies and their regions are free. The first place that is found to differ is told.
+#![tactic(auto)]
+
+mod keeping;
+mod lost;
+mod pairs;
+
+pub use keeping::kept;
+pub use lost::Lost;

@@ -1,0 +1,54 @@
+ghost use Rattle.std.specs.Prelude.{◌≡◌};
+
+use std::alloc::{AllocError, AllocFailed};
+use thiserror::Error;
+
+/// Where a heap doesn't keep what a pause keeps. An object is told by its address before and, where
+/// that differs, after.
+#[derive(Debug, Clone, Copy, PartialEq, Eq, Error)]
+pub enum Lost {
+    #[error("sizes: the heaps have other regions")]
+    Sizes,
+    #[error("roots: the heaps have other numbers of roots")]
+    Roots,
+    /// A region of the set that is not free after.
+    #[error("region {0}: in the set, and not free after")]
+    Set(u32),
+    /// A region outside the set with another kind or top.
+    #[error("region {0}: outside the set, with another kind or top after")]
+    Region(u32),
+    #[error("object {before}: {after} after has another size or number of slots")]
+    Header { before: u64, after: u64 },
+    #[error("object {before}: data word {word} is another in {after} after")]
+    Data { before: u64, after: u64, word: u64 },
+    /// A slot that led out of the set and has another word, or led into it and names no copy.
+    #[error("object {before}: slot {slot} in {after} after names another object, or none")]
+    Slot { before: u64, after: u64, slot: u64 },
+    #[error("root {0}: another object after, or none")]
+    Root(u64),
+}
+
+/// Why the comparison ends.
+#[derive(Debug, Clone, Copy, PartialEq, Eq)]
+pub(crate) enum Stop {
+    Lost(Lost),
+    Memory,
+}
+
+impl From<Lost> for Stop {
+    fn from(lost: Lost) -> Stop {
+        Stop::Lost(lost)
+    }
+}
+
+impl From<AllocError> for Stop {
+    fn from(_error: AllocError) -> Stop {
+        Stop::Memory
+    }
+}
+
+impl<T: Drop> From<AllocFailed<T>> for Stop {
+    fn from(_error: AllocFailed<T>) -> Stop {
+        Stop::Memory
+    }
+}

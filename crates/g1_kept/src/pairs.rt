@@ -1,0 +1,160 @@
+use crate::lost::{Lost, Stop};
+use g1_words::{Heap, Kind, REFS_RANGE, region_of};
+use std::alloc::{AllocError, Global};
+
+/// The two heaps, and for each region whether it is in the set.
+#[derive(Clone, Copy)]
+pub(crate) struct Heaps<'a> {
+    pub(crate) before: &'a Heap,
+    pub(crate) after: &'a Heap,
+    pub(crate) chosen: &'a [bool],
+}
+
+/// Objects of the set and their copies, as far as they are found.
+#[derive(Drop)]
+pub(crate) struct Pairs {
+    /// By the address of an object, the word that names its copy, or 0.
+    copies: Vec<u64>,
+    /// By the address of a copy, the word that names its object, or 0.
+    objects: Vec<u64>,
+    /// In the order in which they were found.
+    found: Vec<Pair>,
+}
+
+/// The addresses of an object and of what it is to be after.
+#[derive(Debug, Clone, Copy)]
+pub(crate) struct Pair {
+    pub(crate) before: u64,
+    pub(crate) after: u64,
+}
+
+impl<'a> Heaps<'a> {
+    fn is_chosen(&self, address: u64) -> bool {
+        let region = region_of(&self.before.geometry(), address);
+        self.chosen.get(region as usize).copied().unwrap_or(false)
+    }
+
+    fn was_free(&self, address: u64) -> bool {
+        let region = region_of(&self.before.geometry(), address);
+        match self.before.regions().get(region as usize) {
+            Some(region) => region.kind == Kind::Free,
+            None => false,
+        }
+    }
+}
+
+impl Pairs {
+    pub(crate) fn new(alloc: Global, words: usize) -> Result<Pairs, AllocError> {
+        Ok(Pairs {
+            copies: vec![in alloc; 0; words]?,
+            objects: vec![in alloc; 0; words]?,
+            found: Vec::new(alloc),
+        })
+    }
+
+    /// The pair of this number.
+    pub(crate) fn pair(&self, number: usize) -> Option<Pair> {
+        self.found.get(number).copied()
+    }
+
+    /// Whether a reference word is after what it should be: the same where it led out of the set,
+    /// else a word that names the object's copy.
+    pub(crate) fn follow(
+        &mut self,
+        heaps: Heaps<'_>,
+        word: u64,
+        now: u64,
+    ) -> Result<bool, AllocError> {
+        let (Some(before), Some(after)) = (word.checked_sub(1), now.checked_sub(1)) else {
+            return Ok(word == now);
+        };
+        if !heaps.is_chosen(before) {
+            return Ok(word == now);
+        }
+        let (Some(copy), Some(object)) = (
+            self.copies.get_mut(before as usize),
+            self.objects.get_mut(after as usize),
+        ) else {
+            return Ok(false);
+        };
+        if *copy != 0 || *object != 0 {
+            return Ok(*copy == now && *object == word);
+        }
+        *copy = now;
+        *object = word;
+        self.found.push(Pair { before, after })?;
+        Ok(heaps.was_free(after))
+    }
+
+    /// Compares two objects that are to be the same.
+    pub(crate) fn compare(&mut self, heaps: Heaps<'_>, pair: Pair) -> Result<(), Stop> {
+        let Pair { before, after } = pair;
+        let old = content_of(heaps.before.words(), before);
+        let new = content_of(heaps.after.words(), after);
+        if old.header != new.header {
+            return Err(Lost::Header { before, after }.into());
+        }
+        if let Some(word) = first_other(old.data, new.data) {
+            return Err(Lost::Data {
+                before,
+                after,
+                word,
+            }
+            .into());
+        }
+        for (slot, (word, now)) in old.slots.iter().zip(new.slots.iter()).enumerate() {
+            if !self.follow(heaps, *word, *now)? {
+                let slot = slot as u64;
+                return Err(Lost::Slot {
+                    before,
+                    after,
+                    slot,
+                }
+                .into());
+            }
+        }
+        Ok(())
+    }
+}
+
+/// An object's header, its slots and its data words.
+#[derive(Clone, Copy)]
+struct Content<'a> {
+    header: u64,
+    slots: &'a [u64],
+    data: &'a [u64],
+}
+
+fn content_of(words: &[u64], address: u64) -> Content<'_> {
+    let (_, from) = words.split_at(words.len().min(address as usize));
+    match from.split_first() {
+        Some((header, behind)) => {
+            let length = ((*header / REFS_RANGE) as usize).saturating_sub(1);
+            let (content, _) = behind.split_at(behind.len().min(length));
+            let slots = (*header % REFS_RANGE) as usize;
+            let (slots, data) = content.split_at(content.len().min(slots));
+            Content {
+                header: *header,
+                slots,
+                data,
+            }
+        }
+        None => Content {
+            header: 0,
+            slots: &[],
+            data: &[],
+        },
+    }
+}
+
+// The first place at which two lists of one length differ.
+fn first_other(old: &[u64], new: &[u64]) -> Option<u64> {
+    if old == new {
+        return None;
+    }
+    let place = old
+        .iter()
+        .zip(new.iter())
+        .position(|(old, new)| *old != *new)?;
+    Some(place as u64)
+}

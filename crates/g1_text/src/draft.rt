@@ -1,0 +1,194 @@
+use crate::expected::Expected;
+use g1_words::{Geometry, Kind, Region};
+use std::alloc::{AllocError, Global};
+
+/// What has been read of an image, and in which lines.
+#[derive(Drop)]
+pub(crate) struct Draft {
+    pub(crate) geometry: Geometry,
+    pub(crate) current: Option<u32>,
+    pub(crate) roots: Vec<u64>,
+    pub(crate) log: Vec<u32>,
+    /// The regions up to the one that takes objects.
+    pub(crate) regions: Vec<Region>,
+    /// The remembered cards of each region of the heap.
+    pub(crate) sets: Vec<Vec<u32>>,
+    /// The used words, of one region after the other.
+    pub(crate) words: Vec<u64>,
+    pub(crate) objects: Vec<Placed>,
+    /// The words of a humongous object that no region has yet.
+    pub(crate) beyond: u64,
+    /// Whether the remembered sets follow from the references.
+    pub(crate) covered: bool,
+    pub(crate) lines: Lines,
+}
+
+/// An object that was read.
+#[derive(Debug, Clone, Copy)]
+pub(crate) struct Placed {
+    pub(crate) at: u64,
+    pub(crate) slots: u64,
+    /// The place of its header among the used words.
+    pub(crate) place: usize,
+    pub(crate) line: u64,
+}
+
+/// The lines in which things were read, by their numbers.
+#[derive(Drop)]
+pub(crate) struct Lines {
+    pub(crate) heading: Heading,
+    pub(crate) roots: Vec<u64>,
+    pub(crate) log: Vec<u64>,
+    /// The last line with cards of a region.
+    pub(crate) sets: Vec<u64>,
+    pub(crate) regions: Vec<Told>,
+}
+
+/// What the first line tells of those below it, where it does.
+#[derive(Debug, Clone, Copy)]
+pub(crate) struct Heading {
+    pub(crate) line: u64,
+    pub(crate) roots: Option<u64>,
+    pub(crate) dirty: Option<u64>,
+}
+
+/// What a region's line tells of those below it, where it does.
+#[derive(Debug, Clone, Copy)]
+pub(crate) struct Told {
+    pub(crate) line: u64,
+    pub(crate) region: usize,
+    pub(crate) top: Option<u64>,
+    pub(crate) objects: Option<u64>,
+    pub(crate) cards: Option<u64>,
+    /// The objects that were read in it.
+    pub(crate) found: u64,
+}
+
+impl Draft {
+    /// A heap of these sizes with nothing in it.
+    pub(crate) fn new(
+        alloc: Global,
+        geometry: Geometry,
+        current: Option<u32>,
+        heading: Heading,
+    ) -> Result<Draft, AllocError> {
+        let count = geometry.regions() as usize;
+        let lines = Lines {
+            heading,
+            roots: Vec::new(alloc),
+            log: Vec::new(alloc),
+            sets: vec![in alloc; heading.line; count]?,
+            regions: Vec::new(alloc),
+        };
+        Ok(Draft {
+            geometry,
+            current,
+            roots: Vec::new(alloc),
+            log: Vec::new(alloc),
+            regions: Vec::new(alloc),
+            sets: empty_sets(alloc, count)?,
+            words: Vec::new(alloc),
+            objects: Vec::new(alloc),
+            beyond: 0,
+            covered: false,
+            lines,
+        })
+    }
+
+    /// The address behind the last object of the last region.
+    pub(crate) fn next_address(&self) -> u64 {
+        match self.regions.split_last() {
+            Some((last, below)) => {
+                let start = (below.len() as u64).saturating_mul(self.geometry.region_words());
+                start.saturating_add(u64::from(last.top))
+            }
+            None => 0,
+        }
+    }
+
+    /// Adds free regions up to this one.
+    pub(crate) fn fill_up_to(&mut self, region: u64) -> Result<(), AllocError> {
+        let free = Region {
+            kind: Kind::Free,
+            top: 0,
+        };
+        for _ in self.regions.len() as u64..region {
+            self.regions.push(free)?;
+        }
+        Ok(())
+    }
+
+    /// Adds a region in which the humongous object above it goes on.
+    pub(crate) fn continue_run(&mut self) -> Result<(), AllocError> {
+        let words = self.geometry.region_words().min(self.beyond);
+        self.beyond -= words;
+        self.regions.push(Region {
+            kind: Kind::Continuation,
+            top: words as u32,
+        })?;
+        Ok(())
+    }
+
+    /// Adds all regions in which the humongous object above them goes on.
+    pub(crate) fn close_run(&mut self) -> Result<(), AllocError> {
+        for _ in 0..self.geometry.regions() {
+            if self.beyond == 0 {
+                break;
+            }
+            self.continue_run()?;
+        }
+        Ok(())
+    }
+
+    /// Takes room for an object of so many words behind the last one.
+    pub(crate) fn take_room(&mut self, size: u64) -> Result<(), Expected> {
+        let place = self.regions.len() as u64;
+        let behind = self.geometry.regions().saturating_sub(place);
+        let width = self.geometry.region_words();
+        let Some(region) = self.regions.last_mut() else {
+            return Err(Expected::NoObject);
+        };
+        match region.kind {
+            Kind::Ordinary => {
+                region.top = grown(region.top, size, width)?;
+                Ok(())
+            }
+            Kind::HumongousFirst if region.top == 0 => {
+                self.beyond = overhang(size, width, behind)?;
+                region.top = size.min(width) as u32;
+                Ok(())
+            }
+            _ => Err(Expected::NoObject),
+        }
+    }
+}
+
+fn empty_sets(alloc: Global, count: usize) -> Result<Vec<Vec<u32>>, AllocError> {
+    let mut sets = Vec::new(alloc);
+    for _ in 0..count {
+        sets.push(Vec::new(alloc))?;
+    }
+    Ok(sets)
+}
+
+// The top of an ordinary region of this width behind an object more.
+fn grown(top: u32, size: u64, width: u64) -> Result<u32, Expected> {
+    let most = (3 * (width / 4)).min(width.saturating_sub(u64::from(top)));
+    match u32::try_from(size) {
+        Ok(words) if size <= most => top.checked_add(words).ok_or(Expected::AtMost(most)),
+        _ => Err(Expected::AtMost(most)),
+    }
+}
+
+// The words of a humongous object beyond its first region, where so many regions stand behind that.
+fn overhang(size: u64, width: u64, behind: u64) -> Result<u64, Expected> {
+    let least = (3 * (width / 4)).saturating_add(1);
+    let most = width.saturating_mul(behind.saturating_add(1));
+    if size < least {
+        Err(Expected::AtLeast(least))
+    } else if size > most {
+        Err(Expected::AtMost(most))
+    } else {
+        Ok(size.saturating_sub(width))
+    }
+}

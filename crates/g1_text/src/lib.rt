@@ -1,0 +1,25 @@
+//! The lines of a heap image: what a person reads and writes in the place of its bytes.
+//!
+//! 1. `image_lines` tells an image line by line: its heading, its roots, its dirty cards, and for
+//!    each region its numbers, its remembered cards and its objects. `region_lines` and
+//!    `object_line` tell a part.
+//! 2. `make` reads lines and gives the image's bytes. Each line's numbers are compared with what
+//!    follows from the lines above it, so whatever follows may be left out: addresses, tops, counts,
+//!    free and continuation regions, and, by the word `covered`, remembered sets.
+//! 3. What was read is written as bytes, and `decode` judges these: `make` has no rules of its own for
+//!    references and cards. A fault of `decode` is told of the line that it comes from.
+#![tactic(auto)]
+
+mod covering;
+mod draft;
+mod expected;
+mod making;
+mod packing;
+mod printing;
+mod reading;
+mod settling;
+mod words;
+
+pub use expected::{Expected, Wrong};
+pub use making::make;
+pub use printing::{image_lines, object_line, region_lines};

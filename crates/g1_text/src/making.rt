@@ -1,0 +1,68 @@
+ghost use Rattle.std.specs.Prelude.{◌≡◌, IfOk};
+ghost use Rattle.g1_text.specs.Made.{IsImageText};
+
+use crate::covering::cover;
+use crate::draft::Draft;
+use crate::expected::{Expected, Wrong};
+use crate::packing::packed;
+use crate::reading::read;
+use crate::settling::settle;
+use g1_image::decode;
+use g1_words::{Fault, Place, Stand};
+use std::alloc::Global;
+
+/// The bytes of the image that lines tell.
+///
+/// # Errors
+///
+/// The first line that is not what is expected there, by its number, and what is expected. What
+/// follows only from all lines, as a count or a reference to an object further down, is looked at
+/// when all have been read. `Fault::Memory` else.
+pub fn make(alloc: Global, text: &[u8]) -> Result<Vec<u8>, Wrong>
+    ensures image { IfOk result (λ v. IsImageText v.items) }
+{
+    let mut draft = read(alloc, text)?;
+    if draft.covered {
+        cover(&mut draft)?;
+    }
+    settle(&draft)?;
+    let bytes = packed(alloc, &draft)?;
+    match decode(alloc, bytes.as_slice()) {
+        Ok(_) => Ok(bytes),
+        Err(fault) => Err(traced(&draft, fault)),
+    }
+}
+
+// The line that a fault of the bytes comes from.
+fn traced(draft: &Draft, fault: Fault) -> Wrong {
+    let lines = &draft.lines;
+    match fault {
+        Fault::Reference(Place::Root(root)) => at(&lines.roots, root, Expected::Root, fault),
+        Fault::Reference(Place::Slot(slot)) => slot_line(draft, slot, fault),
+        Fault::Card(Stand::Dirty(place)) => at(&lines.log, place, Expected::Dirty, fault),
+        Fault::Card(Stand::Region(region)) => at(&lines.sets, region, Expected::Cards, fault),
+        other => Wrong::Fault(other),
+    }
+}
+
+fn at(lines: &[u64], place: u32, expected: Expected, fault: Fault) -> Wrong {
+    match lines.get(place as usize) {
+        Some(number) => Wrong::Line {
+            number: *number,
+            expected,
+        },
+        None => Wrong::Fault(fault),
+    }
+}
+
+// The line of the object that a slot belongs to: the last one below the slot.
+fn slot_line(draft: &Draft, slot: u64, fault: Fault) -> Wrong {
+    let below = draft.objects.partition_point(|object| object.at < slot);
+    match draft.objects[..below].last() {
+        Some(object) => Wrong::Line {
+            number: object.line,
+            expected: Expected::Slot(slot.saturating_sub(object.at).saturating_sub(1)),
+        },
+        None => Wrong::Fault(fault),
+    }
+}

@@ -1,0 +1,270 @@
+use crate::draft::{Draft, Heading, Placed, Told};
+use crate::expected::{Expected, Refusal, Wrong};
+use crate::words::{Words, size_and_slots};
+use g1_words::{Geometry, Kind, Region};
+use std::alloc::Global;
+use std::str;
+
+// The most roots that an image can have.
+const MOST_ROOTS: u64 = 65_536;
+
+/// Reads lines one after the other.
+pub(crate) fn read(alloc: Global, text: &[u8]) -> Result<Draft, Wrong> {
+    let mut draft = None;
+    let mut number = 0u64;
+    for line in text.split(|byte| *byte == b'\n') {
+        number = number.saturating_add(1);
+        if let Err(refusal) = read_line(alloc, &mut draft, number, line) {
+            return Err(refusal.at(number));
+        }
+    }
+    let Some(mut draft) = draft else {
+        return Err(Refusal::Expected(Expected::Heading).at(number));
+    };
+    draft.close_run()?;
+    let regions = draft.geometry.regions();
+    draft.fill_up_to(regions)?;
+    Ok(draft)
+}
+
+// A line with no word says nothing, nor does one that begins with '#'.
+fn read_line(
+    alloc: Global,
+    draft: &mut Option<Draft>,
+    number: u64,
+    line: &[u8],
+) -> Result<(), Refusal> {
+    let Ok(line) = str::from_utf8(line) else {
+        return Err(Expected::Text.into());
+    };
+    let words = line.split_ascii_whitespace().collect::<Vec<&str>>(alloc)?;
+    let mut words = Words::new(words.as_slice());
+    let Some(first) = words.next() else {
+        return Ok(());
+    };
+    if first.starts_with('#') {
+        return Ok(());
+    }
+    match draft {
+        Some(draft) => draft.add(alloc, first, words, number),
+        None => {
+            *draft = Some(begun(alloc, first, words, number)?);
+            Ok(())
+        }
+    }
+}
+
+// heap W K N [roots R] [dirty D] [current none|C]
+fn begun(alloc: Global, first: &str, words: Words<'_>, line: u64) -> Result<Draft, Refusal> {
+    let mut words = words;
+    if first != "heap" {
+        return Err(Expected::Heading.into());
+    }
+    let (w, k, n) = (words.number("W")?, words.number("K")?, words.number("N")?);
+    let roots = words.named("roots")?;
+    let dirty = words.named("dirty")?;
+    let current = current(&mut words)?;
+    words.end()?;
+    let Ok(geometry) = Geometry::new(w, k, n) else {
+        return Err(Expected::Sizes.into());
+    };
+    let heading = Heading { line, roots, dirty };
+    Ok(Draft::new(alloc, geometry, current, heading)?)
+}
+
+fn current(words: &mut Words<'_>) -> Result<Option<u32>, Expected> {
+    if !words.take("current") || words.take("none") {
+        return Ok(None);
+    }
+    Ok(Some(words.short_number("current")?))
+}
+
+// The number that follows, where a line tells one.
+pub(crate) fn follows(told: Option<u64>, what: &'static str, number: u64) -> Result<(), Expected> {
+    match told {
+        Some(told) if told != number => Err(Expected::Follows(what, number)),
+        _ => Ok(()),
+    }
+}
+
+impl Draft {
+    // Reads the words behind the first word of a line.
+    fn add(
+        &mut self,
+        alloc: Global,
+        first: &str,
+        words: Words<'_>,
+        line: u64,
+    ) -> Result<(), Refusal> {
+        match first {
+            "root" => self.add_root(words, line),
+            "dirty" => self.add_dirty(words, line),
+            "covered" => self.cover(words),
+            "region" => self.add_region(words, line),
+            "remembered" => self.add_remembered(words, line),
+            "object" => self.add_object(words, line),
+            _ => Err(Expected::Line.into()),
+        }
+    }
+
+    // root [NUMBER] REFERENCE
+    fn add_root(&mut self, words: Words<'_>, line: u64) -> Result<(), Refusal> {
+        let mut words = words;
+        let next = self.roots.len() as u64;
+        if next >= MOST_ROOTS {
+            return Err(Expected::Roots(MOST_ROOTS).into());
+        }
+        if words.len() > 1 {
+            follows(Some(words.number("root")?), "root", next)?;
+        }
+        let reference = words.reference()?;
+        words.end()?;
+        self.roots.push(reference)?;
+        self.lines.roots.push(line)?;
+        Ok(())
+    }
+
+    // dirty cards CARD ..
+    fn add_dirty(&mut self, words: Words<'_>, line: u64) -> Result<(), Refusal> {
+        let mut words = words;
+        words.word("cards")?;
+        for _ in 0..words.len() {
+            self.log.push(words.short_number("card")?)?;
+            self.lines.log.push(line)?;
+        }
+        Ok(())
+    }
+
+    // covered
+    fn cover(&mut self, words: Words<'_>) -> Result<(), Refusal> {
+        words.end()?;
+        self.covered = true;
+        Ok(())
+    }
+
+    // remembered REGION cards CARD ..
+    fn add_remembered(&mut self, words: Words<'_>, line: u64) -> Result<(), Refusal> {
+        let mut words = words;
+        let region = words.number("region")?;
+        let last = self.geometry.regions().saturating_sub(1);
+        let Some(set) = self.sets.get_mut(region as usize) else {
+            return Err(Expected::Region(0, last).into());
+        };
+        words.word("cards")?;
+        for _ in 0..words.len() {
+            set.push(words.short_number("card")?)?;
+        }
+        if let Some(told) = self.lines.sets.get_mut(region as usize) {
+            *told = line;
+        }
+        Ok(())
+    }
+
+    // region [NUMBER] KIND [top WORDS] [objects COUNT] [cards COUNT]
+    fn add_region(&mut self, words: Words<'_>, line: u64) -> Result<(), Refusal> {
+        let mut words = words;
+        let told = words.take_number();
+        let kind = kind(words.next())?;
+        let region = self.begin_region(told, kind)?;
+        let told = Told {
+            line,
+            region,
+            top: words.named("top")?,
+            objects: words.named("objects")?,
+            cards: words.named("cards")?,
+            found: 0,
+        };
+        words.end()?;
+        self.lines.regions.push(told)?;
+        Ok(())
+    }
+
+    // Adds a region of a kind, and those below it that no line names. Tells its number.
+    fn begin_region(&mut self, told: Option<u64>, kind: Kind) -> Result<usize, Refusal> {
+        if kind != Kind::Continuation {
+            self.close_run()?;
+        }
+        let next = self.regions.len() as u64;
+        let number = told.unwrap_or(next);
+        let Some(last) = self.geometry.regions().checked_sub(1) else {
+            return Err(Expected::NoRegion.into());
+        };
+        if next > last {
+            return Err(Expected::NoRegion.into());
+        }
+        if number < next || number > last {
+            return Err(Expected::Region(next, last).into());
+        }
+        if kind == Kind::Continuation {
+            if self.beyond == 0 || number != next {
+                return Err(Expected::NoContinuation.into());
+            }
+            self.continue_run()?;
+        } else {
+            self.fill_up_to(number)?;
+            self.regions.push(Region { kind, top: 0 })?;
+        }
+        Ok(number as usize)
+    }
+
+    // object [ADDRESS] SIZE/SLOTS SLOT .. WORD .. [..]
+    fn add_object(&mut self, words: Words<'_>, line: u64) -> Result<(), Refusal> {
+        let mut words = words;
+        let told = words.take_number();
+        let Some((size, slots)) = size_and_slots(words.next().unwrap_or("")) else {
+            return Err(Expected::Size.into());
+        };
+        if slots >= size {
+            return Err(Expected::Size.into());
+        }
+        let at = self.next_address();
+        follows(told, "object", at)?;
+        self.take_room(size)?;
+        let place = self.words.len();
+        self.words.push(size << 32 | slots)?;
+        self.add_content(words, slots, size - slots - 1)?;
+        self.objects.push(Placed {
+            at,
+            slots,
+            place,
+            line,
+        })?;
+        if let Some(told) = self.lines.regions.last_mut() {
+            told.found = told.found.saturating_add(1);
+        }
+        Ok(())
+    }
+
+    // Two dots at the end stand for null slots and data words of 0.
+    fn add_content(&mut self, words: Words<'_>, slots: u64, count: u64) -> Result<(), Refusal> {
+        let mut words = words;
+        let whole = slots.saturating_add(count);
+        let open = words.take_last("..");
+        let given = words.len() as u64;
+        if given > whole || (given < whole && !open) {
+            return Err(Expected::Content(slots, count).into());
+        }
+        for place in 0..given {
+            let word = if place < slots {
+                words.reference()?
+            } else {
+                words.number("data word")?
+            };
+            self.words.push(word)?;
+        }
+        for _ in given..whole {
+            self.words.push(0)?;
+        }
+        Ok(())
+    }
+}
+
+fn kind(word: Option<&str>) -> Result<Kind, Expected> {
+    match word {
+        Some("free") => Ok(Kind::Free),
+        Some("ordinary") => Ok(Kind::Ordinary),
+        Some("humongous") => Ok(Kind::HumongousFirst),
+        Some("continuation") => Ok(Kind::Continuation),
+        _ => Err(Expected::Kind),
+    }
+}

@@ -1,0 +1,49 @@
+use crate::draft::{Draft, Told};
+use crate::expected::{Expected, Wrong};
+use crate::reading::follows;
+use g1_words::{Kind, Region};
+
+/// Finds that the lines agree with what was read: counts, tops, objects, and the current region.
+pub(crate) fn settle(draft: &Draft) -> Result<(), Wrong> {
+    if let Err(expected) = settle_heading(draft) {
+        let number = draft.lines.heading.line;
+        return Err(Wrong::Line { number, expected });
+    }
+    for told in &draft.lines.regions {
+        if let Err(expected) = settle_region(draft, told) {
+            let number = told.line;
+            return Err(Wrong::Line { number, expected });
+        }
+    }
+    Ok(())
+}
+
+fn settle_heading(draft: &Draft) -> Result<(), Expected> {
+    let heading = draft.lines.heading;
+    follows(heading.roots, "roots", draft.roots.len() as u64)?;
+    follows(heading.dirty, "dirty", draft.log.len() as u64)?;
+    match draft.current {
+        Some(current) => match draft.regions.get(current as usize) {
+            Some(region) if region.kind == Kind::Ordinary => Ok(()),
+            _ => Err(Expected::Current),
+        },
+        None => Ok(()),
+    }
+}
+
+fn settle_region(draft: &Draft, told: &Told) -> Result<(), Expected> {
+    let Some(Region { kind, top, .. }) = draft.regions.get(told.region) else {
+        return Err(Expected::NoRegion);
+    };
+    let starts = *kind == Kind::Ordinary || *kind == Kind::HumongousFirst;
+    if starts && told.found == 0 {
+        return Err(Expected::Object);
+    }
+    follows(told.top, "top", u64::from(*top))?;
+    follows(told.objects, "objects", told.found)?;
+    let cards = match draft.sets.get(told.region) {
+        Some(set) => set.len(),
+        None => 0,
+    };
+    follows(told.cards, "cards", cards as u64)
+}

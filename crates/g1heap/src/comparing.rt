@@ -1,0 +1,128 @@
+//! What two heaps show, in one line.
+use g1_same::{Difference, How, Renaming};
+use g1_words::{Heap, REFS_RANGE};
+use std::alloc::{AllocError, Global};
+
+/// The line that tells how much is reached where two heaps show the same graph.
+pub fn same_line(alloc: Global, before: &Heap, renaming: &Renaming) -> Result<String, AllocError> {
+    let objects = renaming.before.len();
+    let mut words = 0u64;
+    for address in renaming.before.iter() {
+        words = words.saturating_add(word_at(before.words(), *address) / REFS_RANGE);
+    }
+    format!(in alloc; "same objects {objects} words {words}\n")
+}
+
+/// The line that tells where two heaps differ: the path from a root, what stands there, and how it
+/// differs.
+pub fn difference_line(
+    alloc: Global,
+    before: &Heap,
+    after: &Heap,
+    difference: &Difference,
+) -> Result<String, AllocError> {
+    match difference {
+        Difference::Roots {
+            before: old,
+            after: new,
+        } => format!(in alloc; "differ roots: {old} before, {new} after\n"),
+        Difference::At { root, slots, how } => {
+            let kind = kind_word(how);
+            let mut text = format!(in alloc; "differ {kind} at root {root}")?;
+            push_path(&mut text, slots.as_slice())?;
+            let old = reached(before, *root, slots.as_slice());
+            let new = reached(after, *root, slots.as_slice());
+            push_word(&mut text, ": ", old)?;
+            push_word(&mut text, " before, ", new)?;
+            write!(text, " after")?;
+            push_detail(&mut text, before, after, how, old, new)?;
+            text.push('\n')?;
+            Ok(text)
+        }
+    }
+}
+
+fn kind_word(how: &How) -> &'static str {
+    match how {
+        How::NullBefore => "null",
+        How::NullAfter => "null",
+        How::Split { .. } => "split",
+        How::Joined { .. } => "joined",
+        How::Size { .. } => "size",
+        How::Slots { .. } => "slots",
+        How::Data { .. } => "data",
+    }
+}
+
+fn push_path(text: &mut String, slots: &[u64]) -> Result<(), AllocError> {
+    for slot in slots {
+        write!(text, " slot {slot}")?;
+    }
+    Ok(())
+}
+
+fn push_word(text: &mut String, lead: &str, word: u64) -> Result<(), AllocError> {
+    text.push_str(lead)?;
+    match word.checked_sub(1) {
+        Some(address) => write!(text, "object {address}"),
+        None => write!(text, "null"),
+    }
+}
+
+// How two words that stand at one place disagree.
+fn push_detail(
+    text: &mut String,
+    heap: &Heap,
+    other: &Heap,
+    how: &How,
+    old: u64,
+    new: u64,
+) -> Result<(), AllocError> {
+    match how {
+        How::NullBefore => Ok(()),
+        How::NullAfter => Ok(()),
+        How::Split {
+            object,
+            first,
+            second: _,
+        } => write!(
+            text,
+            "; {object} before is {first} after on an earlier path"
+        ),
+        How::Joined {
+            first,
+            second: _,
+            object,
+        } => write!(
+            text,
+            "; {object} after is {first} before on an earlier path"
+        ),
+        How::Size { before, after } => write!(text, "; size {before} before, {after} after"),
+        How::Slots { before, after } => write!(text, "; slots {before} before, {after} after"),
+        How::Data { word } => {
+            let (was, is) = (data_word(heap, old, *word), data_word(other, new, *word));
+            write!(text, "; data word {word} is {was} before, {is} after")
+        }
+    }
+}
+
+// The word that a path leads to. The slot of this number of an object stands as many words behind the
+// address that is 1 more than the object's, which is the reference word itself.
+fn reached(heap: &Heap, root: u64, slots: &[u64]) -> u64 {
+    let mut word = word_at(heap.roots(), root);
+    for slot in slots {
+        word = word_at(heap.words(), word.saturating_add(*slot));
+    }
+    word
+}
+
+// The data word of this number of the object that a reference word names.
+fn data_word(heap: &Heap, reference: u64, number: u64) -> u64 {
+    let header = word_at(heap.words(), reference.saturating_sub(1));
+    let first = reference.saturating_add(header % REFS_RANGE);
+    word_at(heap.words(), first.saturating_add(number))
+}
+
+fn word_at(words: &[u64], place: u64) -> u64 {
+    words.get(place as usize).copied().unwrap_or(0)
+}

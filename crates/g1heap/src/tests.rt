@@ -1,0 +1,479 @@
+use crate::commands::{compared, program};
+use crate::options::Same;
+use g1_image::{Image, decode};
+use g1_text::make;
+use std::alloc::{AllocError, Global};
+use std::io;
+use std::io::{ErrorKind, Read, Write};
+use std::process::Abort;
+use std::rt::Files;
+use std::test::Fail;
+use std::thread::Threads;
+
+// One object in the second of four regions, named by the one root, byte by byte.
+static ONE_OBJECT: &[u8; 120] = b"G1IMAGE1\
+    \x10\0\0\0\x04\0\0\0\x04\0\0\0\x01\0\0\0\0\0\0\0\x04\0\0\0\
+    \0\0\0\0\0\0\0\0\x01\0\0\0\x04\0\0\0\0\0\0\0\0\0\0\0\0\0\0\0\0\0\0\0\
+    \x11\0\0\0\0\0\0\0\
+    \0\0\0\0\0\0\0\0\0\0\0\0\0\0\0\0\
+    \x01\0\0\0\x04\0\0\0\0\0\0\0\0\0\0\0\x07\0\0\0\0\0\0\0\x09\0\0\0\0\0\0\0";
+
+static ONE_OBJECT_LINES: &str = "heap 16 4 4 roots 1 dirty 0 current none\n\
+    root 0 16\n\
+    region 0 free top 0 objects 0 cards 0\n\
+    region 1 ordinary top 4 objects 1 cards 0\n\
+    object 16 4/1 - 7 9\n\
+    region 2 free top 0 objects 0 cards 0\n\
+    region 3 free top 0 objects 0 cards 0\n";
+
+// Runs the program on words that are separated by spaces, and gives its status and what it wrote to
+// standard error.
+fn run<R: Read, W: Write>(
+    rt: &(impl Threads + Sync + Files),
+    alloc: Global,
+    line: &str,
+    reader: &mut R,
+    writer: &mut W,
+) -> Result<(u8, Vec<u8>), AllocError> {
+    let mut words = Vec::new(alloc);
+    for word in line.split_ascii_whitespace() {
+        words.push(String::from_str(alloc, word)?)?;
+    }
+    let mut errors = Vec::new(alloc);
+    let status = program(rt, alloc, words.as_slice(), reader, writer, &mut errors);
+    Ok((status, errors))
+}
+
+fn expect<T: Threads + Abort + Sync + Files>(
+    rt: &T,
+    alloc: Global,
+    line: &str,
+    input: &[u8],
+    expected: (u8, &[u8], &str),
+) -> Result<(), AllocError> {
+    let mut reader = input;
+    let mut out = Vec::new(alloc);
+    let (status, errors) = run(rt, alloc, line, &mut reader, &mut out)?;
+    assert_eq!(rt;
+        errors.as_slice(),
+        expected.2.as_bytes(),
+        "{line} of {input:?}"
+    );
+    assert_eq!(rt; out.as_slice(), expected.1, "{line} of {input:?}");
+    assert_eq!(rt; status, expected.0, "{line} of {input:?}");
+    Ok(())
+}
+
+#[test]
+fn prints_and_makes(rt: HostRuntime) -> Result<(), Fail> {
+    let alloc = rt.alloc();
+    let lines = ONE_OBJECT_LINES.as_bytes();
+    expect(&rt, alloc, "print -", ONE_OBJECT, (0, lines, ""))?;
+    for text in [
+        ONE_OBJECT_LINES,
+        "heap 16 4 4\nroot 16\nregion 1 ordinary\nobject 4/1 - 7 9",
+        "# by hand\n\nheap 16 4 4\ncovered\n  region 1 ordinary top 4\nobject 4/1 - 7 9\nroot 0 16\n",
+    ] {
+        expect(&rt, alloc, "make", text.as_bytes(), (0, ONE_OBJECT, ""))?;
+    }
+    let object = b"object 16 4/1 - 7 9\n";
+    expect(
+        &rt,
+        alloc,
+        "print - --object 16",
+        ONE_OBJECT,
+        (0, object, ""),
+    )?;
+    let region = b"region 1 ordinary top 4 objects 1 cards 0\nobject 16 4/1 - 7 9\n";
+    expect(
+        &rt,
+        alloc,
+        "print --region 1 -",
+        ONE_OBJECT,
+        (0, region, ""),
+    )?;
+    let told = "g1heap: -: no object starts at 17\n";
+    expect(
+        &rt,
+        alloc,
+        "print - --object 17",
+        ONE_OBJECT,
+        (2, b"", told),
+    )?;
+    let told = "g1heap: -: no region 4\n";
+    expect(&rt, alloc, "print - --region 4", ONE_OBJECT, (2, b"", told))?;
+    Ok(())
+}
+
+fn expect_wrong<T: Threads + Abort + Sync + Files>(
+    rt: &T,
+    alloc: Global,
+    lines: &str,
+    told: &str,
+) -> Result<(), AllocError> {
+    let text = format!(in alloc; "heap 16 4 4\n{lines}\n")?;
+    let errors = format!(in alloc; "g1heap: -: line {told}\n")?;
+    expect(
+        rt,
+        alloc,
+        "make -",
+        text.as_bytes(),
+        (3, b"", errors.as_str()),
+    )
+}
+
+#[test]
+fn tells_a_wrong_line(rt: HostRuntime) -> Result<(), Fail> {
+    let alloc = rt.alloc();
+    for (lines, told) in [
+        (
+            "heap 16 4 4",
+            "2: expected 'root', 'dirty', 'covered', 'region', 'remembered' or 'object'",
+        ),
+        ("root 0 x", "2: expected '-' or an address"),
+        ("root 1 -", "2: expected root 0"),
+        ("root 16", "2: expected '-' or the address of an object"),
+        ("region 4 free", "2: expected a region from 0 to 3"),
+        (
+            "region 1 free\nregion 1 free",
+            "3: expected a region from 2 to 3",
+        ),
+        (
+            "region full",
+            "2: expected 'free', 'ordinary', 'humongous' or 'continuation'",
+        ),
+        (
+            "region continuation",
+            "2: expected no continuation where no humongous object goes on",
+        ),
+        ("region ordinary", "2: expected an object in this region"),
+        (
+            "region ordinary top 3\nobject 4/0 1 2 3",
+            "2: expected top 4",
+        ),
+        (
+            "region ordinary objects 2\nobject 1/0",
+            "2: expected objects 1",
+        ),
+        ("region ordinary cards 1\nobject 1/0", "2: expected cards 0"),
+        (
+            "object 1/0",
+            "2: expected no object here: the region above takes none, or no further one",
+        ),
+        (
+            "region ordinary\nobject 1/1",
+            "3: expected SIZE/SLOTS, at least one word and fewer slots than words",
+        ),
+        (
+            "region ordinary\nobject 13/0 ..",
+            "3: expected an object of at most 12 words",
+        ),
+        (
+            "region humongous\nobject 12/0 ..",
+            "3: expected an object of at least 13 words",
+        ),
+        (
+            "region 3 humongous\nobject 17/0 ..",
+            "3: expected an object of at most 16 words",
+        ),
+        ("region ordinary\nobject 1 1/0", "3: expected object 0"),
+        (
+            "region ordinary\nobject 3/1 - 5 6",
+            "3: expected 1 slots and 1 data words",
+        ),
+        (
+            "region ordinary\nobject 3/1 -",
+            "3: expected 1 slots and 1 data words",
+        ),
+        (
+            "region ordinary\nobject 2/0 -",
+            "3: expected a whole number as data word",
+        ),
+        (
+            "region ordinary\nobject 3/2 0 1",
+            "3: expected '-' or the address of an object in slot 1",
+        ),
+        (
+            "dirty cards 16",
+            "2: expected cards of regions in use, each once",
+        ),
+        (
+            "region ordinary\nobject 1/0\nremembered 0 cards 0",
+            "4: expected rising cards of other regions in use",
+        ),
+        (
+            "remembered 1 cards 0\ncovered",
+            "2: expected no remembered cards beside 'covered'",
+        ),
+        ("covered 1", "2: expected the end of the line"),
+        ("dirty 1", "2: expected 'cards'"),
+    ] {
+        expect_wrong(&rt, alloc, lines, told)?;
+    }
+    let told = "g1heap: -: line 1: expected the sizes of a heap, and a current region of it\n";
+    expect(&rt, alloc, "make", b"heap 24 4 4", (3, b"", told))?;
+    let told = "g1heap: -: line 1: expected an ordinary region as the current one\n";
+    expect(&rt, alloc, "make", b"heap 16 4 4 current 0", (3, b"", told))?;
+    let told = "g1heap: -: line 1: expected 'heap W K N' before all other lines\n";
+    expect(&rt, alloc, "make", b"", (3, b"", told))?;
+    let told = "g1heap: -: line 2: expected text\n";
+    expect(&rt, alloc, "make", b"heap 16 4 4\n\xff", (3, b"", told))?;
+    Ok(())
+}
+
+// Two objects that name each other, and the same two moved.
+static PAIR: &str =
+    "heap 16 4 4\nroot 16\nroot 20\nregion 1 ordinary\nobject 4/2 20 - 7\nobject 3/1 16 5";
+
+static PAIR_MOVED: &str =
+    "heap 16 4 4\nroot 35\nroot 32\nregion 2 ordinary\nobject 3/1 35 5\nobject 4/2 32 - 7";
+
+// One object, and two that are alike.
+static ONE: &str = "heap 16 4 4\nroot 16\nroot 16\nregion 1 ordinary\nobject 3/0 1 2";
+
+static TWO: &str =
+    "heap 16 4 4\nroot 16\nroot 19\nregion 1 ordinary\nobject 3/0 1 2\nobject 3/0 1 2";
+
+// A dead object that names one, and the same with that one moved out of region 1.
+static DEAD_OWNER: &str =
+    "heap 16 4 4\nregion ordinary\nobject 2/1 16\nregion ordinary\nobject 3/0 1 2";
+
+fn image_of(alloc: Global, lines: &str) -> Result<Image, Fail> {
+    let bytes = make(alloc, lines.as_bytes())?;
+    Ok(decode(alloc, bytes.as_slice())?)
+}
+
+fn expect_compared<T: Abort>(
+    rt: &T,
+    alloc: Global,
+    before: &str,
+    after: &str,
+    set: &[u32],
+    told: &str,
+) -> Result<(), Fail> {
+    let same = Same {
+        before: String::from_str(alloc, "before")?,
+        after: String::from_str(alloc, "after")?,
+        covered: false,
+        set: Vec::from_slice(alloc, set)?,
+    };
+    let (old, new) = (image_of(alloc, before)?, image_of(alloc, after)?);
+    let (status, text) = compared(alloc, &same, &old, &new)?;
+    assert_eq!(rt; text.as_str(), told, "{before} and {after}");
+    assert_eq!(rt;
+        status == 0,
+        told.starts_with("same"),
+        "{before} and {after}"
+    );
+    Ok(())
+}
+
+#[test]
+fn tells_the_first_difference(rt: HostRuntime) -> Result<(), Fail> {
+    let alloc = rt.alloc();
+    for (before, after, told) in [
+        (PAIR, PAIR_MOVED, "same objects 2 words 7\n"),
+        (
+            PAIR,
+            ONE,
+            "differ size at root 0: object 16 before, object 16 after; size 4 before, 3 after\n",
+        ),
+        (
+            PAIR,
+            "heap 16 4 4\nroot 35\nroot 32\nregion 2 ordinary\nobject 3/1 35 5\nobject 4/2 32 32 7",
+            "differ null at root 0 slot 1: null before, object 32 after\n",
+        ),
+        (
+            PAIR,
+            "heap 16 4 4\nroot 32\nroot -\nregion 2 ordinary\nobject 4/2 32 - 7",
+            "differ null at root 1: object 20 before, null after\n",
+        ),
+        (
+            ONE,
+            TWO,
+            "differ split at root 1: object 16 before, object 19 after; 16 before is 16 after on an earlier path\n",
+        ),
+        (
+            TWO,
+            ONE,
+            "differ joined at root 1: object 19 before, object 16 after; 16 after is 16 before on an earlier path\n",
+        ),
+        (
+            ONE,
+            "heap 16 4 4\nroot 16\nroot 16\nregion 1 ordinary\nobject 3/1 - 2",
+            "differ slots at root 0: object 16 before, object 16 after; slots 0 before, 1 after\n",
+        ),
+        (
+            ONE,
+            "heap 16 4 4\nroot 1\nroot 1\nregion ordinary\nobject 1/0\nobject 3/0 1 9",
+            "differ data at root 0: object 16 before, object 1 after; data word 1 is 2 before, 9 after\n",
+        ),
+        (ONE, DEAD_OWNER, "differ roots: 2 before, 0 after\n"),
+    ] {
+        expect_compared(&rt, alloc, before, after, &[], told)?;
+    }
+    Ok(())
+}
+
+#[test]
+fn tells_what_a_pause_would_keep(rt: HostRuntime) -> Result<(), Fail> {
+    let alloc = rt.alloc();
+    expect_compared(
+        &rt,
+        alloc,
+        PAIR,
+        PAIR_MOVED,
+        &[1],
+        "same objects 2 words 7\nkept\n",
+    )?;
+    let not_free = "differ region 1: in the set, and not free after\n";
+    expect_compared(&rt, alloc, PAIR, PAIR, &[1], not_free)?;
+    for (after, told) in [
+        (
+            "region ordinary\nobject 2/1 32\nregion 2 ordinary\nobject 3/0 1 2",
+            "same objects 0 words 0\nkept\n",
+        ),
+        (
+            "region 2 ordinary\nobject 3/0 1 2",
+            "differ region 0: outside the set, with another kind or top after\n",
+        ),
+        (
+            "region ordinary\nobject 2/0 33\nregion 2 ordinary\nobject 3/0 1 2",
+            "differ object 0: 0 after has another size or number of slots\n",
+        ),
+        (
+            "region ordinary\nobject 2/1 -\nregion 2 ordinary\nobject 3/0 1 2",
+            "differ object 0: slot 0 in 0 after names another object, or none\n",
+        ),
+        (
+            "region ordinary\nobject 2/1 32\nregion 2 ordinary\nobject 3/0 1 9",
+            "differ object 16: data word 1 is another in 32 after\n",
+        ),
+    ] {
+        let after = format!(in alloc; "heap 16 4 4\n{after}")?;
+        expect_compared(&rt, alloc, DEAD_OWNER, after.as_str(), &[1], told)?;
+    }
+    Ok(())
+}
+
+// Gives or takes a byte a call, and fails once it has been called `left` times.
+#[derive(Drop)]
+struct Failing {
+    bytes: Vec<u8>,
+    left: usize,
+}
+
+impl Failing {
+    fn turn(&mut self) -> io::Result<()> {
+        if self.left == 0 {
+            return Err(io::Error::from(ErrorKind::Other));
+        }
+        self.left -= 1;
+        Ok(())
+    }
+}
+
+impl Read for Failing {
+    fn read(&mut self, buf: &mut [u8]) -> io::Result<usize> {
+        self.turn()?;
+        if self.bytes.is_empty() || buf.is_empty() {
+            return Ok(0);
+        }
+        buf[0] = self.bytes.remove(0);
+        Ok(1)
+    }
+}
+
+impl Write for Failing {
+    fn write(&mut self, buf: &[u8]) -> io::Result<usize> {
+        self.turn()?;
+        let taken = buf.len().min(1);
+        self.bytes.extend_from_slice(&buf[..taken])?;
+        Ok(taken)
+    }
+
+    fn flush(&mut self) -> io::Result<()> {
+        self.turn()
+    }
+}
+
+#[test]
+fn devices_fail_at_each_byte(rt: HostRuntime) -> Result<(), Fail> {
+    let alloc = rt.alloc();
+    for left in 0..=ONE_OBJECT.len() {
+        let bytes = Vec::from_slice(alloc, ONE_OBJECT)?;
+        let mut reader = Failing { bytes, left };
+        let mut out = Vec::new(alloc);
+        let (status, errors) = run(&rt, alloc, "print -", &mut reader, &mut out)?;
+        assert_eq!(rt; status, 6, "{left}");
+        assert!(rt; out.is_empty(), "{left}");
+        assert_eq!(rt;
+            errors.as_slice(),
+            b"g1heap: -: fault 14: input\n",
+            "{left}"
+        );
+        let mut reader = ONE_OBJECT_LINES.as_bytes();
+        let bytes = Vec::new(alloc);
+        let mut writer = Failing { bytes, left };
+        let (status, errors) = run(&rt, alloc, "make", &mut reader, &mut writer)?;
+        assert_eq!(rt; status, 6, "{left}");
+        assert_eq!(rt; writer.bytes.as_slice(), &ONE_OBJECT[..left], "{left}");
+        assert_eq!(rt; errors.as_slice(), b"g1heap: fault 14: output\n", "{left}");
+    }
+    Ok(())
+}
+
+#[test]
+fn usage_faults_come_before_the_input(rt: HostRuntime) -> Result<(), Fail> {
+    let alloc = rt.alloc();
+    for (line, wanted) in [
+        ("", 2),
+        ("frob", 2),
+        ("same", 2),
+        ("same a", 2),
+        ("same - -", 2),
+        ("same a b c", 2),
+        ("same a b --set", 2),
+        ("same a b --set +1", 2),
+        ("same a b --set 1 x", 2),
+        ("same a b --set 4294967296", 2),
+        ("same a b --covered=1", 2),
+        ("print", 2),
+        ("print - --region x", 2),
+        ("print - --region 1 --object 16", 2),
+        ("print - --object 18446744073709551616", 2),
+        ("make a b", 2),
+        ("--help", 0),
+        ("same --help", 0),
+        ("help make", 0),
+        ("--version", 0),
+    ] {
+        let mut reader = Failing {
+            bytes: Vec::new(alloc),
+            left: 0,
+        };
+        let mut out = Vec::new(alloc);
+        let (status, errors) = run(&rt, alloc, line, &mut reader, &mut out)?;
+        assert_eq!(rt; status, wanted, "{line}");
+        assert_eq!(rt; out.is_empty(), wanted == 2, "{line}");
+        assert_eq!(rt; errors.starts_with(b"error: "), wanted == 2, "{line}");
+    }
+    Ok(())
+}
+
+#[test]
+fn faults_name_their_file(rt: HostRuntime) -> Result<(), Fail> {
+    let alloc = rt.alloc();
+    let told = "g1heap: no/such: can't be opened\n";
+    expect(&rt, alloc, "same - no/such", ONE_OBJECT, (7, b"", told))?;
+    expect(&rt, alloc, "print no/such", b"", (7, b"", told))?;
+    let told = "g1heap: /dev/null: fault 3: short\n";
+    expect(&rt, alloc, "same - /dev/null", ONE_OBJECT, (3, b"", told))?;
+    let told = "g1heap: -: fault 1: magic\n";
+    expect(&rt, alloc, "same - /dev/null", b"H", (3, b"", told))?;
+    let told = "g1heap: -: fault 4: trailing\n";
+    let mut longer = Vec::from_slice(alloc, ONE_OBJECT)?;
+    longer.push(0)?;
+    expect(&rt, alloc, "print -", longer.as_slice(), (3, b"", told))?;
+    Ok(())
+}

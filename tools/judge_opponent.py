@@ -1,0 +1,145 @@
+#!/usr/bin/env python3
+"""judge_opponent.py G1HEAP [--g1pause FILE] [--cases N] [--seed S]
+
+Draws N small heaps (1000) and sets, evacuates each set as tools/opponent.py does, and asks of the image after that
+`same --covered --set R ..` finds it the same, kept and covered, with the numbers of objects and words that are
+reached; with --g1pause also that `check` finds it covered. Then an error of each kind of tools/plant_errors.py is
+planted. What `same` tells of it, line by line, is compared with a judge of this script's own, which walks both
+heaps from the definition; and `same --set` has to find it wherever roots or objects outside the set lead to it.
+The last line is 'N passed, M failed', after a count for each kind of error.
+"""
+import argparse
+import collections
+import pathlib
+import random
+import subprocess
+import sys
+import tempfile
+
+from heap_image import FREE, NULL, ORDINARY, drawn
+from opponent import NoRoom, Opponent
+from plant_errors import ERRORS, Planter
+
+
+def tells(before, after, x, y, forth, back):
+    """How two reference words differ: the kind and the detail of the line. None where they don't."""
+    a, b = x - 1, y - 1
+    if NULL in (x, y):
+        return ("null", "") if x != y else None
+    if a in forth or b in back:
+        if forth.get(a) == b:
+            return None
+        if a in forth:
+            return "split", f"; {a} before is {forth[a]} after on an earlier path"
+        return "joined", f"; {b} after is {back[b]} before on an earlier path"
+    for kind, length in (("size", lambda i, o: i.size(o)), ("slots", lambda i, o: len(i.slots(o)))):
+        old, new = length(before, a), length(after, b)
+        if old != new:
+            return kind, f"; {kind} {old} before, {new} after"
+    for number, (p, q) in enumerate(zip(before.content(a), after.content(b))):
+        if before.words[p] != after.words[q]:
+            return "data", f"; data word {number} is {before.words[p]} before, {after.words[q]} after"
+    return None
+
+
+def judged(before, after, more=()):
+    """The line of `same`: both heaps walked at once from their roots, and from words that are to agree too."""
+    if len(before.roots) != len(after.roots):
+        return f"differ roots: {len(before.roots)} before, {len(after.roots)} after\n"
+    queue = [(f"root {i}", x, y) for i, (x, y) in enumerate(zip(before.roots, after.roots))] + list(more)
+    forth, back = {}, {}
+    for path, x, y in queue:
+        how = tells(before, after, x, y, forth, back)
+        if how is not None:
+            old, new = (f"object {word - 1}" if word != NULL else "null" for word in (x, y))
+            return f"differ {how[0]} at {path}: {old} before, {new} after{how[1]}\n"
+        if x != NULL and x - 1 not in forth:
+            forth[x - 1], back[y - 1] = y - 1, x - 1
+            queue += [(f"{path} slot {i}", before.words[p], after.words[q])
+                      for i, (p, q) in enumerate(zip(before.slots(x - 1), after.slots(y - 1)))]
+    return f"same objects {len(forth)} words {sum(before.size(a) for a in forth)}\n"
+
+
+class Judge:
+    def __init__(self, options, folder):
+        self.options, self.folder = options, folder
+        self.passed = self.failed = 0
+        self.counts = collections.Counter()
+
+    def judge(self, name, good):
+        self.passed += bool(good)
+        self.failed += not good
+        if not good:
+            print(f"failed: {name}")
+
+    def same(self, after, *words):
+        (self.folder / "after").write_bytes(after.to_bytes())
+        command = [self.options.g1heap, "same", "before", "after", *words]
+        done = subprocess.run(command, cwd=self.folder, capture_output=True, text=True, timeout=60)
+        return done.returncode, done.stdout, done.stderr
+
+    def case(self, name, rng):
+        """One heap and one set. False where there is no set, or no room."""
+        before = drawn(rng)
+        ordinary = [r for r in range(before.regions) if before.kinds[r] == ORDINARY]
+        if not ordinary or FREE not in before.kinds:
+            return False
+        chosen = rng.sample(ordinary, rng.randint(1, min(4, len(ordinary))))
+        opponent = Opponent(before, chosen, rng, rng.randint(1, 4), rng.choice((4, 12, 48)))
+        try:
+            after = opponent.evacuate()
+        except NoRoom:
+            return False
+        (self.folder / "before").write_bytes(before.to_bytes())
+        words = ["--set", *(str(r) for r in chosen)]
+        expected = judged(before, after) + "kept\ncovered\n"
+        self.judge(name, expected.startswith("same") and self.same(after, "--covered", *words) == (0, expected, ""))
+        if self.options.g1pause:
+            done = subprocess.run([self.options.g1pause, "check"], input=after.to_bytes(), capture_output=True)
+            self.judge(f"{name}: check", done.stdout == b"covered\n")
+        planter = Planter(after, opponent.copies, rng)
+        outside = [a + 1 for a in before.objects() if before.region_of(a) not in chosen]
+        for error in ERRORS:
+            self.planted(f"{name}: {error}", error, before, getattr(planter, error)(), outside, words)
+        return True
+
+    def planted(self, name, error, before, after, outside, words):
+        if after is None:
+            return
+        self.counts[error] += 1
+        status, out, err = self.same(after)
+        if error == "slot_not_updated":
+            self.judge(name, status == 3 and err.startswith("g1heap: after: fault 7: reference in slot"))
+            return
+        expected = judged(before, after)
+        self.judge(f"{name}: {expected}", (status, out, err) == (int(expected[:4] != "same"), expected, ""))
+        whole = judged(before, after, [(f"object {word - 1}", word, word) for word in outside])
+        status, out, err = self.same(after, *words)
+        found = (status, out[:6]) == (1, "differ")
+        self.judge(f"{name}, with the set: {whole}", found == (whole[:4] != "same") and not err)
+        self.counts[f"{error}, and a root leads to it"] += expected[:4] != "same"
+        self.counts[f"{error}, and a root or an object outside the set leads to it"] += found
+
+
+def main():
+    parser = argparse.ArgumentParser(description=__doc__, formatter_class=argparse.RawDescriptionHelpFormatter)
+    parser.add_argument("g1heap")
+    parser.add_argument("--g1pause")
+    parser.add_argument("--cases", type=int, default=1000, metavar="N")
+    parser.add_argument("--seed", type=int, default=1, metavar="S")
+    options = parser.parse_args()
+    options.g1heap = str(pathlib.Path(options.g1heap).resolve())
+    rng = random.Random(options.seed)
+    cases = 0
+    with tempfile.TemporaryDirectory() as folder:
+        judge = Judge(options, pathlib.Path(folder))
+        while cases < options.cases:
+            cases += judge.case(f"case {cases}", rng)
+    for kind, count in sorted(judge.counts.items()):
+        print(f"{kind}: {count}")
+    print(f"{judge.passed} passed, {judge.failed} failed")
+    return 1 if judge.failed or not judge.passed else 0
+
+
+if __name__ == "__main__":
+    sys.exit(main())
