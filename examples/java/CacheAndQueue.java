@@ -42,6 +42,9 @@ public final class CacheAndQueue {
         cache = new Cache(entries);
         Page last = null;
         for (int i = 0; i < 3 * entries; i++) {
+            if (i == 2 * entries) {
+                System.gc(); // what is garbage in the dump is the cache's, and not the start's
+            }
             queue.add(random.nextInt(2 * entries));
             if (queue.size() > entries / 4) {
                 last = answer(queue.remove(), random, last);

@@ -27,6 +27,9 @@ public final class TreeAndIndex {
         int nodes = words.length > 0 ? Integer.parseInt(words[0]) : 1000;
         Random random = new Random(1);
         for (int i = 0; i < nodes; i++) {
+            if (i == nodes / 2) {
+                System.gc(); // what is garbage in the dump is the tree's, and not the start's
+            }
             Node node = insert(random.nextInt(4 * nodes));
             index.put(node.name, node);
             if (i % 2 == 1) {
