@@ -102,10 +102,12 @@ def steps_of(text):
             else:
                 steps += commands_of(block)
                 before = steps[-1]
-        else:
-            if before is not None and block.above.startswith("directly"):
-                before.expected, before.vary = block.lines, VARY in block.above
+        elif before is None or not block.above.startswith("directly"):
             before = None
+        elif before.expected is None:
+            before.expected, before.vary = block.lines, VARY in block.above
+        else:  # an empty line within the output
+            before.expected = before.expected + ["", *block.lines]
     return steps, left_out
 
 
@@ -133,11 +135,9 @@ def judge(step, folder, at):
     printed = (folder / f"{at}.out").read_text(errors="replace").splitlines()
     if step.expected is None:
         return None if status == 0 else f"ended with status {status}: {' / '.join(printed[:3])}"
-    expected = [line for line in step.expected]
-    if same_lines(expected, printed, step.vary):
+    if same_lines(step.expected, printed, step.vary):
         return None
-    told = ["the page has", *(f"    {line}" for line in expected), "  and it printed", *(f"    {x}" for x in printed)]
-    return "\n  ".join(told[:1] + told[1:]).replace("\n      ", "\n    ")
+    return "\n    ".join(["the page has", *step.expected]) + "\n  " + "\n    ".join(["and it printed", *printed])
 
 
 def files_of(checkout):
