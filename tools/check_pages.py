@@ -1,7 +1,7 @@
 #!/usr/bin/env python3
 """Runs the command lines of the pages, and compares what they print with what stands there: check_pages.py [PAGE ..]
 
-Without pages: README.md, docs/*.md, examples/*.md, bench/*.md. It needs the built programs, and finds them where they
+Without pages: README.md, docs/*.md, examples/*.md, examples/*/*.md, bench/*.md. It needs the built programs, and finds them where they
 are built, or by --program and --heap.
 
 What is a command: a block of code (indented by four spaces, or fenced) whose first word is one of those in COMMANDS
@@ -9,7 +9,7 @@ below. Each of its lines is run, unless it ends with a backslash: then it goes o
 is to print stands in the block directly behind it, with nothing but empty lines between: standard output and standard
 error together. A command with no such block has to end with status 0. Where a page has <!-- figures vary --> in the line
 above the block, numbers in it may be others. A line <!-- not run: WHY --> above a block of commands leaves it out,
-and that is told.
+and a line <!-- needs: PROGRAM .. --> leaves the page out where one of these is not on the path; both are told.
 
 Each page runs from top to bottom in one shell, in a fresh copy of the checkout's files beside the built programs. After
 it nothing may stand there that did not before, and no file may have changed: so a page that makes a picture which is
@@ -25,12 +25,14 @@ import sys
 import tempfile
 
 TOP = pathlib.Path(__file__).resolve().parent.parent
-PAGES = ("README.md", "docs/*.md", "examples/*.md", "bench/*.md")
+PAGES = ("README.md", "docs/*.md", "examples/*.md", "examples/*/*.md", "bench/*.md")
 PROGRAMS = ("g1pause", "g1heap")
-COMMANDS = {*PROGRAMS, "bash", "cat", "cd", "cmp", "cp", "diff", "echo", "export", "gunzip", "head", "java", "javac",
-            "jcmd", "ls", "mkdir", "mktemp", "printf", "python3", "rm", "rt", "sed", "sh", "time", "ulimit", "wc"}
+COMMANDS = {*PROGRAMS, "bash", "cat", "cd", "cmp", "cp", "diff", "echo", "exec", "export", "gunzip", "head", "java",
+            "javac", "jcmd", "ls", "mkdir", "mkfifo", "mktemp", "printf", "python3", "rm", "rt", "sed", "sh", "sleep", "time",
+            "ulimit", "until", "wc"}
 FOLDERS = ("tools/", "bench/", "examples/", "crates/", ".ci/", "./", "(", "PATH=")
 LEFT_OUT = re.compile(r"<!-- not run: (.*) -->")
+NEEDS = re.compile(r"<!-- needs: (.*) -->")
 VARY = "<!-- figures vary -->"
 
 
@@ -198,6 +200,12 @@ def check_page(name, text, checkout, programs):
     return len(steps), wrong
 
 
+def missing(text, programs):
+    """The first program that the page needs and that is not there."""
+    needed = [name for match in NEEDS.finditer(text) for name in match.group(1).split()]
+    return next((name for name in needed if name not in programs and not shutil.which(name)), None)
+
+
 def built(name, given):
     program = pathlib.Path(given) if given else TOP / "crates" / name / "out" / name
     return program.resolve() if program.exists() else None
@@ -218,7 +226,11 @@ def main():
     passed = failed = 0
     for page in pages:
         name = str(page.relative_to(TOP)) if TOP in page.parents else str(page)
-        ran, wrong = check_page(name, page.read_text(), TOP, programs)
+        text = page.read_text()
+        if missing(text, programs):
+            print(f"{name}: not run, there is no {missing(text, programs)}")
+            continue
+        ran, wrong = check_page(name, text, TOP, programs)
         for problem in wrong:
             print(problem)
         print(f"{name}: {ran} commands, {len(wrong)} wrong")
