@@ -27,7 +27,7 @@ import tempfile
 TOP = pathlib.Path(__file__).resolve().parent.parent
 PAGES = ("README.md", "docs/*.md", "examples/*.md", "examples/*/*.md", "bench/*.md")
 PROGRAMS = ("g1pause", "g1heap")
-COMMANDS = {*PROGRAMS, "bash", "cat", "cd", "cmp", "cp", "diff", "echo", "exec", "export", "gunzip", "head", "java",
+COMMANDS = {*PROGRAMS, "bash", "cat", "cd", "cmp", "cp", "diff", "echo", "exec", "export", "for", "gunzip", "head", "java",
             "javac", "jcmd", "ls", "mkdir", "mkfifo", "mktemp", "printf", "python3", "rm", "rt", "sed", "sh", "sleep", "time",
             "ulimit", "until", "wc"}
 FOLDERS = ("tools/", "bench/", "examples/", "crates/", ".ci/", "./", "(", "PATH=")

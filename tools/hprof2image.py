@@ -21,6 +21,7 @@ word filled with zeros. A label is data, so an object has no slot that names its
 in a pause that unloads no class. Each root of the dump, of whatever kind, is a root, in the dump's order; then come
 the classes that are none. A heap has at most 65,536 roots: where there are more, the last ones are slots of arrays
 made for them, which are roots. A reference to what the dump does not have is null, and counted.
+What the virtual machine alone holds, by roots that a dump does not list (its table of strings, for one), is garbage.
 
 Standard error tells what was counted in the dump and what in the finished image; they have to agree.
 Statuses: 0 done; 1 the counts do not agree; 2 usage, or W, K or N out of its range; 3 the file is no such dump;
