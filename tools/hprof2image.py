@@ -1,5 +1,5 @@
 #!/usr/bin/env python3
-"""Turns the heap dump of a Java virtual machine into a heap image: hprof2image.py DUMP W K N > IMAGE
+"""Turns the heap dump of a Java virtual machine into a heap image: hprof2image.py [--blank] DUMP W K N > IMAGE
 
 DUMP is a binary heap dump, HPROF 1.0.2, as `jcmd PID GC.heap_dump -all FILE` or `jmap -dump:format=b,file=FILE PID`
 writes it. W is the words of a region, K the words of a card, N the number of regions (docs/IMAGE.md has their
@@ -22,6 +22,9 @@ in a pause that unloads no class. Each root of the dump, of whatever kind, is a 
 the classes that are none. A heap has at most 65,536 roots: where there are more, the last ones are slots of arrays
 made for them, which are roots. A reference to what the dump does not have is null, and counted.
 What the virtual machine alone holds, by roots that a dump does not list (its table of strings, for one), is garbage.
+
+With --blank all primitive data are zeros, in the same number of words. A dump holds all strings of its program, names and
+secrets too: an image that others are to see should have none of them.
 
 Standard error tells what was counted in the dump and what in the finished image; they have to agree.
 Statuses: 0 done; 1 the counts do not agree; 2 usage, or W, K or N out of its range; 3 the file is no such dump;
@@ -426,8 +429,8 @@ class Counts:
 class Conversion:
     """The second reading: each object goes to its place."""
 
-    def __init__(self, dump, index, region_words, card_words, regions):
-        self.dump, self.shapes, self.classes = dump, index.shapes, index.classes
+    def __init__(self, dump, index, region_words, card_words, regions, blank=False):
+        self.dump, self.shapes, self.blank = dump, index.shapes, blank
         self.arrays = root_arrays(len(index.roots), region_words)
         sizes = index.sizes + array("Q", (1 + slots for slots in self.arrays))
         layout = Layout(sizes, region_words)
@@ -457,7 +460,7 @@ class Conversion:
                 names, data = (), body
             else:
                 names, data = body.references, body.data
-            put(next(starts), self.named(names), label(what) + data)
+            put(next(starts), self.named(names), label(what) + (bytes(len(data)) if self.blank else data))
             self.counts.objects += 1
             self.counts.data_words += 1 + words_of(len(data))
             self.primitive_bytes += len(data)
@@ -548,7 +551,7 @@ def convert(options, output, errors):
     with open(options.dump, "rb") as file:
         dump = Dump(file)
         index = Index(dump)
-        conversion = Conversion(dump, index, options.region_words, options.card_words, options.regions)
+        conversion = Conversion(dump, index, options.region_words, options.card_words, options.regions, options.blank)
     if not told(conversion, index, errors):
         raise Refusal(1, "the counts do not agree: this is a bug of the tool")
     conversion.image.write(output)
@@ -561,6 +564,7 @@ def main():
     parser.add_argument("region_words", type=int, metavar="W", help="words of a region")
     parser.add_argument("card_words", type=int, metavar="K", help="words of a card")
     parser.add_argument("regions", type=int, metavar="N", help="number of regions")
+    parser.add_argument("--blank", action="store_true", help="zeros in place of primitive data")
     options = parser.parse_args()
     try:
         convert(options, sys.stdout.buffer, sys.stderr)

@@ -95,11 +95,11 @@ def by_hand():
     return b"".join(parts)
 
 
-def converted(data, region_words=16, card_words=4, regions=6):
+def converted(data, region_words=16, card_words=4, regions=6, blank=False):
     """The image of a dump, and what is told."""
     dump = hprof2image.Dump(io.BytesIO(data))
     index = hprof2image.Index(dump)
-    conversion = hprof2image.Conversion(dump, index, region_words, card_words, regions)
+    conversion = hprof2image.Conversion(dump, index, region_words, card_words, regions, blank)
     errors, image = io.StringIO(), io.BytesIO()
     agree = hprof2image.told(conversion, index, errors)
     conversion.image.write(image)
@@ -114,6 +114,12 @@ class Dumps(unittest.TestCase):
             self.assertTrue(agree)
             self.assertIn("8 objects, 6 references", told)
             self.assertIn("1 references to what is not in the dump", told)
+
+    def test_a_blank_image_has_labels_and_no_data(self):
+        words = [word for part in WORDS for word in part]
+        data = {0x05000000, 0x07000000, 0x030201, 0xFFFFFFFF, *(i << 56 for i in range(12))}
+        blank = b"".join(struct.pack("<Q", 0 if word in data else word) for word in words)
+        self.assertEqual(converted(Maker(8).heap(), blank=True)[0], by_hand()[:-len(blank)] + blank)
 
     def test_every_cut_is_refused(self):
         for id_bytes in (4, 8):

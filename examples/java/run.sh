@@ -11,7 +11,8 @@ answer again by the same budget, and asks each time by g1heap, where it was buil
 the program. Last it makes a page with the pictures of the heap before and after the second budget.
 
 The images and the page are kept in FOLDER, if one is named. With --image it begins at this image, and so it does
-with the small one that lies here where there is no java, javac or jcmd.
+with the small one that lies here where there is no java, javac or jcmd. The
+programs are taken from where they are built, or from the variables G1PAUSE and G1HEAP.
 Statuses: 0 done; 1 something was not as it must be; 2 usage.
 END
 }
@@ -27,8 +28,12 @@ case "${1:-}" in
     --help) usage; exit 0 ;;
     --image) image=${2:-}; shift; [ $# -gt 0 ] && shift ;;
 esac
-if [ -z "$image" ] && [ $# -lt 5 ]; then
+if [ -z "$image" ] && { [ $# -lt 5 ] || [ ! -f "$here/$1.java" ]; }; then
     usage >&2
+    exit 2
+fi
+if [ ! -x "$program" ]; then
+    echo "run.sh: $program is not there: build it by rt run in crates/g1pause, or name it by G1PAUSE=FILE" >&2
     exit 2
 fi
 
