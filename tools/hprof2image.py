@@ -29,12 +29,13 @@ secrets too: an image that others are to see should have none of them.
 Standard error tells what was counted in the dump and what in the finished image; they have to agree.
 Statuses: 0 done; 1 the counts do not agree; 2 usage, or W, K or N out of its range; 3 the file is no such dump;
 5 the objects do not fit into N regions; 6 a file can't be read or written, or no memory. Then no image is written.
-Memory: the image, and about 100 bytes for each object.
+Memory: two to three times the image. Time: about half a minute for 100 MB.
 """
 import argparse
 import struct
 import sys
 from array import array
+from bisect import bisect_left
 from itertools import islice
 
 VERSION = b"JAVA PROFILE 1.0.2\0"
@@ -295,7 +296,7 @@ class Index:
             whats.append(what)
             instances.append(tag == INSTANCE)
         self.shapes = Shapes(self.classes, dump)
-        self.sizes = array("Q", (self.shapes[what].size if instance else what
+        self.sizes = array("I", (self.shapes[what].size if instance else what
                                  for what, instance in zip(whats, instances)))
         self.add_classes()
 
@@ -312,7 +313,7 @@ class Layout:
     """Where the objects stand: each behind the one before, a humongous one in regions of its own."""
 
     def __init__(self, sizes, region_words):
-        self.kinds, self.tops, self.starts = [], [], array("Q")
+        self.kinds, self.tops, self.starts = [], [], array("I")
         at = room = 0  # in the region that is filled at present
         filled = None
         for size in sizes:
@@ -426,22 +427,37 @@ class Counts:
                 f"{self.roots} roots")
 
 
+class Places:
+    """The reference word of each identifier. Two arrays take 12 bytes an object, and a dict would take 200."""
+
+    def __init__(self, names, starts):
+        order = sorted(range(len(names)), key=names.__getitem__)
+        self.names = array("Q", (names[i] for i in order))
+        self.words = array("I", (starts[i] + 1 for i in order))
+        if any(name == other for name, other in zip(self.names, islice(self.names, 1, None))) or 0 in self.names[:1]:
+            raise bad("two objects have the same identifier, or one has the identifier 0")
+
+    def word(self, name):
+        """0 for null, and None for what is not in the dump."""
+        if name == 0:
+            return 0
+        at = bisect_left(self.names, name)
+        return self.words[at] if at < len(self.names) and self.names[at] == name else None
+
+
 class Conversion:
     """The second reading: each object goes to its place."""
 
     def __init__(self, dump, index, region_words, card_words, regions, blank=False):
         self.dump, self.shapes, self.blank = dump, index.shapes, blank
         self.arrays = root_arrays(len(index.roots), region_words)
-        sizes = index.sizes + array("Q", (1 + slots for slots in self.arrays))
+        sizes = index.sizes + array("I", (1 + slots for slots in self.arrays))
         layout = Layout(sizes, region_words)
         if len(layout.tops) > regions:
             raise too_many(sizes, region_words, regions, len(layout.tops))
         self.starts = layout.starts
+        self.word_of = Places(index.names, layout.starts).word
         self.image = Image(layout, region_words, card_words, regions)
-        self.word_of = dict(zip(index.names, (at + 1 for at in layout.starts)))
-        if len(self.word_of) != len(index.names) or 0 in self.word_of:
-            raise bad("two objects have the same identifier, or one has the identifier 0")
-        self.word_of[0] = 0
         self.counts, self.primitive_bytes, self.missing = Counts(), 0, 0
         self.put_objects()
         self.put_roots(index)
@@ -467,7 +483,7 @@ class Conversion:
 
     def named(self, names):
         """The reference words of identifiers, counted."""
-        words = list(map(self.word_of.get, names))
+        words = list(map(self.word_of, names))
         if None in words:
             self.missing += words.count(None)
             words = [word or 0 for word in words]
@@ -475,7 +491,7 @@ class Conversion:
         return words
 
     def put_roots(self, index):
-        words = [self.word_of.get(name) for name in index.roots]
+        words = [self.word_of(name) for name in index.roots]
         self.missing += words.count(None)
         words = [word or 0 for word in words]
         self.counts.roots = len(words)
