@@ -20,7 +20,7 @@ PROGRAM = pathlib.Path(__file__).resolve().parent.parent / "crates" / "g1pause" 
 COSTS = ("fixed", "dirty", "card", "byte")
 # Up to so many regions: columns, and the pixels from one cell to the next.
 GRIDS = ((8, 4, 72), (32, 8, 56), (256, 16, 32), (1024, 32, 18), (4096, 64, 10))
-MARGIN, LABEL, HEAD, BETWEEN, LEGEND = 16, 40, 58, 40, 96
+MARGIN, LABEL, HEAD, BETWEEN, LEGEND = 16, 40, 58, 40, 116
 
 # Each class of shapes: its colour where the screen is light, and where it is dark.
 COLOURS = {
@@ -31,7 +31,8 @@ COLOURS = {
     "humongous": ("#e4d8f7", "#3b2a63"),
     "live-ordinary": ("#2f6fb7", "#5aa2f0"),
     "live-humongous": ("#7446b8", "#b093f2"),
-    "garbage": ("#e0922a", "#d99a2b"),
+    "garbage-ordinary": ("#e0922a", "#d99a2b"),
+    "garbage-humongous": ("#a5551e", "#a8653a"),
     "cards": ("#0b7a6b", "#41cdb9"),
     "set": ("#c2185b", "#ff7ac6"),
     "pin": ("#111111", "#ffffff"),
@@ -170,7 +171,7 @@ def draw_cell(shapes, region, x, y, side, region_words, most_cards):
     live, garbage = side * region.live / region_words, side * region.garbage / region_words
     if region.kind != "free":
         shapes.box(f"live-{region.colour}", x, y + side - live, width, live)
-        shapes.box("garbage", x, y + side - live - garbage, width, garbage)
+        shapes.box(f"garbage-{region.colour}", x, y + side - live - garbage, width, garbage)
     if region.cards:
         height = max(1, side * region.cards / most_cards)
         shapes.box("cards", x + width, y + side - height, bar, height)
@@ -206,7 +207,8 @@ def draw_legend(shapes, left, top, most_cards, seen):
     entries = [("free", "free region"), ("ordinary", "free words of an ordinary region"),
                ("humongous", "free words of a humongous region"), ("live-ordinary", "live words, ordinary"),
                ("live-humongous", "live words, humongous"),
-               ("garbage", "garbage"), ("cards", f"remembered set (full: {most_cards} cards)"),
+               ("garbage-ordinary", "garbage, ordinary"), ("garbage-humongous", "garbage, humongous"),
+               ("cards", f"remembered set (full: {most_cards} cards)"),
                ("set", "collection set"), ("pin", "pinned")]
     x = y = 0
     for name, text in entries:
