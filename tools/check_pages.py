@@ -1,15 +1,16 @@
 #!/usr/bin/env python3
 """Runs the command lines of the pages, and compares what they print with what stands there: check_pages.py [PAGE ..]
 
-Without pages: README.md, docs/*.md, examples/*.md, examples/*/*.md, bench/*.md. It needs the built programs, and finds them where they
-are built, or by --program and --heap.
+Without pages: README.md and those of docs/, examples/, examples/*/ and bench/. It needs the built programs, and finds
+them where they are built, or by --program and --heap.
 
 What is a command: a block of code (indented by four spaces, or fenced) whose first word is one of those in COMMANDS
-below. Each of its lines is run, unless it ends with a backslash: then it goes on in the next line. What such a line
-is to print stands in the block directly behind it, with nothing but empty lines between: standard output and standard
-error together. A command with no such block has to end with status 0. Where a page has <!-- figures vary --> in the line
-above the block, numbers in it may be others. A line <!-- not run: WHY --> above a block of commands leaves it out,
-and a line <!-- needs: PROGRAM .. --> leaves the page out where one of these is not on the path; both are told.
+below. Each of its lines is run, but for lines that go on: after a backslash at their end, or up to the last line of a
+<<END. What such a line is to print stands in the block directly behind it, with only empty lines between: standard
+output and standard error together. A command with no such block has to end with status 0.
+  <!-- figures vary -->        above that block: numbers in it may be others
+  <!-- not run: WHY -->        above a block of commands: it is left out, which is told
+  <!-- needs: PROGRAM .. -->   anywhere: the page is left out where one of these is not on the path, which is told
 
 Each page runs from top to bottom in one shell, in a fresh copy of the checkout's files beside the built programs. After
 it nothing may stand there that did not before, and no file may have changed: so a page that makes a picture which is
@@ -27,13 +28,15 @@ import tempfile
 TOP = pathlib.Path(__file__).resolve().parent.parent
 PAGES = ("README.md", "docs/*.md", "examples/*.md", "examples/*/*.md", "bench/*.md")
 PROGRAMS = ("g1pause", "g1heap")
-COMMANDS = {*PROGRAMS, "bash", "cat", "cd", "cmp", "cp", "diff", "echo", "exec", "export", "for", "gunzip", "head", "java",
-            "javac", "jcmd", "ls", "mkdir", "mkfifo", "mktemp", "printf", "python3", "rm", "rt", "sed", "sh", "sleep", "time",
-            "ulimit", "until", "wc"}
+COMMANDS = {*PROGRAMS, "bash", "cat", "cd", "cmp", "cp", "diff", "echo", "exec", "export", "for", "gunzip", "head",
+            "java", "javac", "jcmd", "ls", "mkdir", "mkfifo", "mktemp", "printf", "python3", "rm", "rt", "sed", "sh",
+            "sleep", "time", "ulimit", "until", "wc"}
 FOLDERS = ("tools/", "bench/", "examples/", "crates/", ".ci/", "./", "(", "PATH=")
 LEFT_OUT = re.compile(r"<!-- not run: (.*) -->")
 NEEDS = re.compile(r"<!-- needs: (.*) -->")
 VARY = "<!-- figures vary -->"
+HERE = re.compile(r"<<['\"]?(\w+)")
+SECONDS = 900  # for one page
 
 
 class Block:
@@ -48,7 +51,7 @@ class Block:
 
 
 def blocks(text):
-    """The blocks of code of a page. Between two that follow each other directly stand empty lines and comments alone."""
+    """The blocks of code of a page. Two follow each other directly with empty lines and comments alone between."""
     found, lines, above, fence, blank = [], [], "", None, True
     for number, line in enumerate(text.splitlines() + [""], 1):
         if fence is not None:
@@ -81,12 +84,14 @@ class Step:
 
 
 def commands_of(block):
-    """The commands of a block: a line each, unless a line ends with a backslash."""
-    steps, command, number = [], [], block.number
+    """The commands of a block: a line each, unless it goes on."""
+    steps, command, number, last = [], [], block.number, None
     for at, line in enumerate(block.lines, block.number):
         number = number if command else at
         command.append(line)
-        if not line.endswith("\\"):
+        begun = HERE.search(line) if last is None else None
+        last = begun.group(1) if begun else (None if line == last else last)
+        if last is None and not line.endswith("\\"):
             steps.append(Step(number, "\n".join(command)))
             command = []
     return steps
@@ -191,7 +196,10 @@ def check_page(name, text, checkout, programs):
         before = contents(copy)
         path = ":".join(str(copy / "crates" / program / "out") for program in programs)
         script = f"PATH={path}:$PATH\n{shell_text(steps, folder)}"
-        subprocess.run(["bash", "-c", script], cwd=copy, check=False)
+        try:
+            subprocess.run(["bash", "-c", script], cwd=copy, check=False, timeout=SECONDS)
+        except subprocess.TimeoutExpired:
+            wrong.append(f"{name}: was ended after {SECONDS} seconds")
         for at, step in enumerate(steps):
             problem = judge(step, folder, at)
             if problem:

@@ -23,8 +23,8 @@ the classes that are none. A heap has at most 65,536 roots: where there are more
 made for them, which are roots. A reference to what the dump does not have is null, and counted.
 What the virtual machine alone holds, by roots that a dump does not list (its table of strings, for one), is garbage.
 
-With --blank all primitive data are zeros, in the same number of words. A dump holds all strings of its program, names and
-secrets too: an image that others are to see should have none of them.
+With --blank all primitive data are zeros, in the same number of words. A dump holds all strings of its program, names
+and secrets too: an image that others are to see should have none of them.
 
 Standard error tells what was counted in the dump and what in the finished image; they have to agree.
 Statuses: 0 done; 1 the counts do not agree; 2 usage, or W, K or N out of its range; 3 the file is no such dump;
@@ -588,7 +588,7 @@ def main():
         print(f"hprof2image: {refusal}", file=sys.stderr)
         return refusal.status
     except OSError as error:
-        print(f"hprof2image: {error}", file=sys.stderr)
+        print(f"hprof2image: {error.filename or 'input or output'}: {error.strerror or error}", file=sys.stderr)
         return 6
     except MemoryError:
         print("hprof2image: no memory", file=sys.stderr)

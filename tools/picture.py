@@ -333,7 +333,7 @@ def main():
         print(f"picture: {refusal}", file=sys.stderr)
         return refusal.status
     except OSError as error:
-        print(f"picture: {error}", file=sys.stderr)
+        print(f"picture: {error.filename or 'input or output'}: {error.strerror or error}", file=sys.stderr)
         return 2
     title = "A heap before and after a pause" if options.after else "A heap"
     sys.stdout.write(page(heaps, chosen, title) if options.html else picture(heaps, chosen))

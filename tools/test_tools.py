@@ -184,6 +184,10 @@ class Pages(unittest.TestCase):
         self.assertEqual(self.wrong("    printf 'one\\n\\ntwo\\n'\n\n    one\n\n    two\n"), [])
         self.assertEqual(len(self.wrong("    printf 'one\\n\\ntwo\\n'\n\n    one\n\n    three\n")), 1)
 
+    def test_a_command_may_have_several_lines(self):
+        self.assertEqual(self.wrong("    echo one \\\n        two\n\n    one two\n"), [])
+        self.assertEqual(self.wrong("```\ncat <<END\none\nEND\necho two\n```\n\n```\ntwo\n```\n"), [])
+
     def test_a_command_that_fails_fails(self):
         self.assertEqual(len(self.wrong("    ls nothing-here\n")), 1)
         self.assertEqual(len(self.wrong("    cat kept.txt; false\n\ntext\n")), 1)
