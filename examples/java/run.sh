@@ -79,7 +79,8 @@ make_image() {
         echo "there is no java, javac or jcmd here: small.img is a dump of CacheAndQueue with 300 entries"
         gunzip -c "$here/small.img.gz" >"$room/before.img"
     fi
-    echo "image: $(wc -c <"$room/before.img") bytes, $("$program" check <"$room/before.img")"
+    covered=$("$program" check <"$room/before.img")
+    echo "image: $(wc -c <"$room/before.img") bytes, $covered"
 }
 
 # Is the heap the same to the program that runs on it?
@@ -95,14 +96,21 @@ regions_free() {
     "$program" show <"$1" | grep -c ' free ' || true
 }
 
-# One pause by a budget, judged.
+# One pause by a budget, judged. Without room for it the heap stays as it was, and that is no error.
 pause_once() {
-    if ! "$program" pause --budget "$3" <"$1" >"$2" 2>"$room/fault"; then
-        cat "$room/fault"
+    status=0
+    "$program" pause --budget "$3" <"$1" >"$2" 2>"$room/said" || status=$?
+    if [ $status -ne 0 ]; then
+        sed 's/^/  /' "$room/said"
+        rm "$2"
+        [ $status -eq 5 ] || exit 1
         return 1
     fi
-    echo "  pause: $(regions_free "$1") regions were free, $(regions_free "$2") are; $("$program" check <"$2")"
-    same "$1" "$2" | sed 's/^/  /'
+    covered=$("$program" check <"$2") || exit 1
+    echo "  pause: $(regions_free "$1") regions were free, $(regions_free "$2") are; $covered"
+    same "$1" "$2" >"$room/said" || status=$?
+    sed 's/^/  /' "$room/said"
+    [ $status -eq 0 ] || exit 1
 }
 
 two_pauses() {
@@ -117,7 +125,9 @@ echo "to collect all regions with garbage costs $all"
 two_pauses $((all / 20)) 1
 two_pauses $((all / 5)) 2
 two_pauses $((all / 2)) 3
-"$top/tools/picture.py" --program "$program" --budget $((all / 5)) --html "$room/before.img" "$room/after2.img" \
+after=$room/after2.img
+[ -s "$after" ] || after= # there was no room for it
+"$top/tools/picture.py" --program "$program" --budget $((all / 5)) --html "$room/before.img" ${after:+"$after"} \
     >"$room/pause.html"
 shift $(($# < 5 ? $# : 5))
 if [ $# -gt 0 ]; then
