@@ -74,6 +74,8 @@ make_image() {
     elif has_java; then
         dump "$1" "$2"
         echo "dump of $1 with $2 entries: $(wc -c <"$room/heap.hprof") bytes"
+        # The counts are printed, the image is kept.
+        # shellcheck disable=SC2069
         "$top/tools/hprof2image.py" "$room/heap.hprof" "$3" "$4" "$5" 2>&1 >"$room/before.img"
     else
         echo "there is no java, javac or jcmd here: small.img is a dump of CacheAndQueue with 300 entries"
@@ -116,7 +118,7 @@ pause_once() {
 two_pauses() {
     echo "budget $1"
     pause_once "$room/before.img" "$room/after$2.img" "$1" || return 0
-    pause_once "$room/after$2.img" "$room/again$2.img" "$1"
+    pause_once "$room/after$2.img" "$room/again$2.img" "$1" || return 0
 }
 
 make_image "$@"
