@@ -28,7 +28,8 @@ and secrets too: an image that others are to see should have none of them.
 
 Standard error tells what was counted in the dump and what in the finished image; they have to agree.
 Statuses: 0 done; 1 the counts do not agree; 2 usage, or W, K or N out of its range; 3 the file is no such dump;
-5 the objects do not fit into N regions; 6 a file can't be read or written, or no memory. Then no image is written.
+5 the objects do not fit into N regions; 6 a file can't be read or written, or no memory. Where it is not 0 no image is
+written, but for a beginning of it where the writing failed.
 Memory: two to three times the image. Time: about half a minute for 100 MB.
 """
 import argparse
@@ -37,6 +38,7 @@ import sys
 from array import array
 from bisect import bisect_left
 from itertools import islice
+from zlib import crc32
 
 VERSION = b"JAVA PROFILE 1.0.2\0"
 HEAP_DUMP, HEAP_DUMP_SEGMENT, HEAP_DUMP_END = 0x0C, 0x1C, 0x2C
@@ -417,14 +419,21 @@ class Image:
 
 
 class Counts:
-    """What is counted on both sides. Data are counted in whole words, labels and padding included."""
+    """What is counted on both sides. Data are whole words, labels and padding included; their sum is that of the
+    objects' CRC-32, so that it does not depend on the order."""
 
     def __init__(self):
-        self.objects = self.references = self.data_words = self.roots = 0
+        self.objects = self.references = self.data_bytes = self.data_sum = self.roots = 0
+
+    def add(self, references, data):
+        self.objects += 1
+        self.references += references
+        self.data_bytes += len(data)
+        self.data_sum = (self.data_sum + crc32(data)) & 0xFFFFFFFF
 
     def __str__(self):
-        return (f"{self.objects} objects, {self.references} references, {8 * self.data_words} bytes of data, "
-                f"{self.roots} roots")
+        return (f"{self.objects} objects, {self.references} references, {self.data_bytes} bytes of data with the sum "
+                f"{self.data_sum}, {self.roots} roots")
 
 
 class Places:
@@ -476,18 +485,18 @@ class Conversion:
                 names, data = (), body
             else:
                 names, data = body.references, body.data
-            put(next(starts), self.named(names), label(what) + (bytes(len(data)) if self.blank else data))
-            self.counts.objects += 1
-            self.counts.data_words += 1 + words_of(len(data))
             self.primitive_bytes += len(data)
+            data = label(what) + (bytes(len(data)) if self.blank else data) + bytes(-len(data) % 8)
+            words = self.named(names)
+            self.counts.add(len(words) - words.count(0), data)
+            put(next(starts), words, data)
 
     def named(self, names):
-        """The reference words of identifiers, counted."""
+        """The reference words of identifiers."""
         words = list(map(self.word_of, names))
         if None in words:
             self.missing += words.count(None)
             words = [word or 0 for word in words]
-        self.counts.references += len(words) - words.count(0)
         return words
 
     def put_roots(self, index):
@@ -506,8 +515,8 @@ class Conversion:
 
 
 def counted(image, arrays):
-    """The counts of the finished image, by its headers alone. The last objects are the arrays that hold roots."""
-    counts, tables = Counts(), []
+    """The counts of the finished image, by its headers alone. An object without data is an array that holds roots."""
+    counts, held = Counts(), 0
     words = memoryview(image.words)
     for region, (kind, top) in enumerate(zip(image.kinds, image.tops)):
         if kind not in (ORDINARY, FIRST):
@@ -517,15 +526,12 @@ def counted(image, arrays):
         while at < end:
             refs, size = struct.unpack_from("<2I", words, 8 * at)
             slots = struct.unpack_from(f"<{refs}Q", words, 8 * at + 8)
-            counts.objects += 1
-            counts.references += refs - slots.count(0)
-            counts.data_words += size - 1 - refs
-            if size == refs + 1:  # every other object has a label
-                tables.append((refs, refs - slots.count(0)))
+            if size > refs + 1:
+                counts.add(refs - slots.count(0), words[8 * (at + 1 + refs):8 * (at + size)])
+            else:  # every object of the dump has a label
+                held += refs
             at += size
-    counts.objects -= len(tables)
-    counts.references -= sum(filled for _slots, filled in tables)
-    counts.roots = len(image.roots) - len(arrays) + sum(slots for slots, _filled in tables)
+    counts.roots = len(image.roots) - len(arrays) + held
     return counts
 
 

@@ -112,7 +112,7 @@ class Dumps(unittest.TestCase):
             image, told, agree = converted(Maker(id_bytes).heap())
             self.assertEqual(image, by_hand())
             self.assertTrue(agree)
-            self.assertIn("8 objects, 6 references", told)
+            self.assertIn("8 objects, 6 references, 192 bytes of data with the sum", told)
             self.assertIn("1 references to what is not in the dump", told)
 
     def test_a_blank_image_has_labels_and_no_data(self):
@@ -150,6 +150,16 @@ class Dumps(unittest.TestCase):
             converted(Maker(8).heap(), regions=3)
         self.assertEqual(caught.exception.status, 5)
         self.assertEqual(converted(Maker(8).heap(), regions=4)[0][16:20], struct.pack("<I", 4))
+
+    def test_an_image_that_lost_something_is_told(self):
+        dump = hprof2image.Dump(io.BytesIO(Maker(8).heap()))
+        index = hprof2image.Index(dump)
+        for at in (8 * 1, 8 * 5, 8 * 7, 8 * 13 + 3, 8 * 48):  # two slots, a label, a byte of data, a header
+            conversion = hprof2image.Conversion(dump, index, 16, 4, 6)
+            self.assertTrue(hprof2image.told(conversion, index, io.StringIO()))
+            conversion.image.words[at] ^= 1
+            if hprof2image.told(conversion, index, io.StringIO()):
+                self.fail(f"a change of byte {at} is not told")
 
     def test_too_many_roots_are_held_by_arrays(self):
         make = Maker(8)
