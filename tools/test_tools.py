@@ -151,6 +151,15 @@ class Dumps(unittest.TestCase):
         self.assertEqual(caught.exception.status, 5)
         self.assertEqual(converted(Maker(8).heap(), regions=4)[0][16:20], struct.pack("<I", 4))
 
+    def test_no_heap_at_all_is_told(self):
+        self.assertIn("W 4096 with N from 4096 to 4096", str(hprof2image.too_many([8192] * 2048, 16, 9, 512 * 2048)))
+        self.assertIn("no heap holds them", str(hprof2image.too_many([1 << 20] * 17, 4096, 9, 17 * 256)))
+
+    def test_a_dump_in_one_record_needs_no_end(self):
+        make = Maker(8)
+        whole = make.dump(make.kind(OBJECT, 0)).replace(b"\x1c" + bytes(7), b"\x0c" + bytes(7))
+        self.assertEqual(converted(whole)[0], converted(whole[:-9])[0])
+
     def test_an_image_that_lost_something_is_told(self):
         dump = hprof2image.Dump(io.BytesIO(Maker(8).heap()))
         index = hprof2image.Index(dump)
