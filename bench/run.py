@@ -146,6 +146,8 @@ def main():
     parser.add_argument("--traces", action="store_true")
     parser.add_argument("--beside", default="", metavar="WORDS")
     options = parser.parse_args()
+    if not pathlib.Path(options.program).is_file():
+        parser.error(f"{options.program} is not there: build it by rt run in crates/g1pause, or name it by --program FILE")
     with tempfile.TemporaryDirectory() as folder:
         if options.growth:
             growth(options, pathlib.Path(folder))

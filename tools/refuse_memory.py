@@ -9,6 +9,7 @@ short by a byte, where the fault found before memory was needed may come, but ne
 It needs a C compiler for the small library that stands before malloc. The last line is
 'N passed, M failed'.
 """
+import argparse
 import os
 import pathlib
 import subprocess
@@ -111,9 +112,13 @@ class Sweep:
 
 
 def main():
-    binary = str(pathlib.Path(sys.argv[1]).resolve())
+    parser = argparse.ArgumentParser(description=__doc__, formatter_class=argparse.RawDescriptionHelpFormatter)
+    parser.add_argument("binary", metavar="BINARY", help="the built program, crates/g1pause/out/g1pause")
+    parser.add_argument("images", metavar="IMAGE", nargs="*", type=pathlib.Path, default=[])
+    options = parser.parse_args()
+    binary = str(pathlib.Path(options.binary).resolve())
     examples = pathlib.Path(__file__).resolve().parent.parent / "examples"
-    images = [pathlib.Path(x) for x in sys.argv[2:]] or sorted(examples.glob("*.img"))
+    images = options.images or sorted(examples.glob("*.img"))
     with tempfile.TemporaryDirectory() as room:
         sweep = Sweep(pathlib.Path(room))
         for image in images:

@@ -7,6 +7,7 @@ pause has to end with status 0, or with Room. Of an answer it is asked that `che
 it again gives the same bytes, and that 4 workers at other chunk sizes give the same answer. The last line is
 'N passed, M failed'.
 """
+import argparse
 import pathlib
 import subprocess
 import sys
@@ -59,9 +60,13 @@ class Tries:
 
 
 def main():
-    binary = str(pathlib.Path(sys.argv[1]).resolve())
+    parser = argparse.ArgumentParser(description=__doc__, formatter_class=argparse.RawDescriptionHelpFormatter)
+    parser.add_argument("binary", metavar="BINARY", help="the built program, crates/g1pause/out/g1pause")
+    parser.add_argument("images", metavar="IMAGE", nargs="*", type=pathlib.Path, default=[])
+    options = parser.parse_args()
+    binary = str(pathlib.Path(options.binary).resolve())
     examples = pathlib.Path(__file__).resolve().parent.parent / "examples"
-    images = [pathlib.Path(x) for x in sys.argv[2:]] or sorted(examples.glob("*.img"))
+    images = options.images or sorted(examples.glob("*.img"))
     tries = Tries(binary)
     for image in images:
         tries.pauses(image.name, image.read_bytes())

@@ -1,0 +1,83 @@
+#!/usr/bin/env python3
+"""Makes the images of this folder that show a refusal or a state: make.py FOLDER
+
+Writes dirty_card.img, current.img and no_room.img into FOLDER, and the images that are refused into FOLDER/refused.
+examples/README.md says what each one shows. The images here were made by `examples/make.py examples`.
+"""
+import argparse
+import pathlib
+import struct
+
+FREE, ORDINARY = 0, 1
+
+
+class Heap:
+    """A small heap as its parts, in the order of the file. Regions have 16 words and cards 4 words."""
+
+    def __init__(self, regions, tables=None, roots=(), log=(), sets=None, words=(), current=None):
+        self.regions, self.tables = regions, tables or {}  # a region's kind and top
+        self.roots, self.log, self.sets, self.words = roots, log, sets or {}, words
+        self.current = regions if current is None else current
+
+    def data(self, magic=b"G1IMAGE1", region_words=16, card_words=4):
+        parts = [magic, struct.pack("<6I", region_words, card_words, self.regions, len(self.roots), len(self.log),
+                                    self.current)]
+        parts += [struct.pack("<2I", *self.tables.get(region, (FREE, 0))) for region in range(self.regions)]
+        parts.append(struct.pack(f"<{len(self.roots)}Q", *self.roots))
+        parts.append(struct.pack(f"<{len(self.log)}I", *self.log))
+        for region in range(self.regions):
+            cards = self.sets.get(region, ())
+            parts.append(struct.pack(f"<{1 + len(cards)}I", len(cards), *cards))
+        parts.append(struct.pack(f"<{len(self.words)}Q", *self.words))
+        return b"".join(parts)
+
+
+def header(size, slots):
+    return size << 32 | slots
+
+
+def one_object(root=17, kind_of_two=FREE):
+    """16 = 4/1 (-) 7 9, named by a root."""
+    return Heap(4, {1: (ORDINARY, 4), 2: (kind_of_two, 0)}, roots=[root], words=[header(4, 1), 0, 7, 9])
+
+
+def two_regions(slot=17, **others):
+    """0 = 2/1 (16), which nothing names, and 16 = 3/0 1 2."""
+    return Heap(4, {0: (ORDINARY, 2), 1: (ORDINARY, 3)}, words=[header(2, 1), slot, header(3, 0), 1, 2], **others)
+
+
+def accepted():
+    yield "dirty_card.img", two_regions(log=[0]).data()
+    yield "current.img", Heap(4, {0: (ORDINARY, 2)}, roots=[1], log=[0], words=[header(2, 1), 0], current=0).data()
+    full = Heap(3, {0: (ORDINARY, 12), 1: (ORDINARY, 5)}, roots=[1, 17], log=[0],
+                words=[header(12, 0), *[0] * 11, header(5, 0), *[0] * 4])
+    yield "no_room.img", full.data()
+
+
+def refused():
+    yield "magic.img", one_object().data(magic=b"G1IMAGE9")
+    yield "geometry.img", one_object().data(region_words=24)
+    yield "short.img", one_object().data()[:-1]
+    yield "trailing.img", one_object().data() + b"\0"
+    yield "kind.img", one_object(kind_of_two=4).data()
+    yield "shape.img", Heap(4, {0: (ORDINARY, 13)}, words=[header(13, 0), *[0] * 12]).data()
+    yield "root.img", one_object(root=18).data()
+    yield "slot.img", two_regions(slot=18, sets={1: [0]}).data()
+    yield "log_card.img", two_regions(log=[0, 0]).data()
+    yield "set_card.img", two_regions(sets={1: [0, 4]}).data()
+    yield "uncovered.img", two_regions().data()
+
+
+def main():
+    parser = argparse.ArgumentParser(description=__doc__, formatter_class=argparse.RawDescriptionHelpFormatter)
+    parser.add_argument("folder", type=pathlib.Path, metavar="FOLDER")
+    folder = parser.parse_args().folder
+    (folder / "refused").mkdir(parents=True, exist_ok=True)
+    for name, data in accepted():
+        (folder / name).write_bytes(data)
+    for name, data in refused():
+        (folder / "refused" / name).write_bytes(data)
+
+
+if __name__ == "__main__":
+    main()

@@ -1,0 +1,344 @@
+#!/usr/bin/env python3
+"""Draws a heap image, and the heap after a pause beside it: picture.py [options] IMAGE [AFTER] > picture.svg
+
+One cell is one region, in rows from the lowest number on, coloured by its kind. A cell is filled from below by its
+live words, then by its garbage; what is left are free words. The thin bar at its right is its remembered set, as a
+part of the largest one in the picture. A dot marks a pinned region. The regions of the collection set have a frame
+in the heap before: with --budget those that g1pause choose takes, with --set those that are named.
+
+All numbers come from g1pause: show, live and choose. The same images give the same bytes. The colours follow what
+the reader's screen asks for, light or dark.
+Statuses: 0 done; 2 usage; else the status with which g1pause refused an image.
+"""
+import argparse
+import html
+import pathlib
+import subprocess
+import sys
+
+PROGRAM = pathlib.Path(__file__).resolve().parent.parent / "crates" / "g1pause" / "out" / "g1pause"
+COSTS = ("fixed", "dirty", "card", "byte")
+# Up to so many regions: columns, and the pixels from one cell to the next.
+GRIDS = ((8, 4, 72), (32, 8, 56), (256, 16, 32), (1024, 32, 18), (4096, 64, 10))
+MARGIN, LABEL, HEAD, BETWEEN, LEGEND = 16, 40, 58, 40, 116
+
+# Each class of shapes: its colour where the screen is light, and where it is dark.
+COLOURS = {
+    "page": ("#ffffff", "#0d1117"),
+    "text": ("#1f2328", "#e6edf3"),
+    "free": ("#eef0f2", "#1b2129"),
+    "ordinary": ("#cfe2f7", "#1d3a5c"),
+    "humongous": ("#e4d8f7", "#3b2a63"),
+    "live-ordinary": ("#2f6fb7", "#5aa2f0"),
+    "live-humongous": ("#7446b8", "#b093f2"),
+    "garbage-ordinary": ("#e0922a", "#d99a2b"),
+    "garbage-humongous": ("#a5551e", "#a8653a"),
+    "cards": ("#0b7a6b", "#41cdb9"),
+    "set": ("#c2185b", "#ff7ac6"),
+    "pin": ("#111111", "#ffffff"),
+}
+
+
+class Refusal(Exception):
+    """What g1pause said on standard error, and its status."""
+
+    def __init__(self, text, status):
+        super().__init__(text)
+        self.status = status
+
+
+def answer(program, words, image):
+    """The lines that the program prints about an image."""
+    with open(image, "rb") as stdin:
+        done = subprocess.run([program, *words], stdin=stdin, capture_output=True, check=False)
+    if done.returncode != 0:
+        raise Refusal(f"{image}: {done.stderr.decode(errors='replace').strip()}", done.returncode)
+    return done.stdout.decode().splitlines()
+
+
+class Region:
+    """One region: its kind and its numbers, in words and cards."""
+
+    def __init__(self, line):
+        words = line.split()
+        self.number, self.kind = int(words[1]), words[2]
+        self.top, self.objects, self.cards = int(words[4]), int(words[6]), int(words[8])
+        self.pinned = "pinned" in words[9:]
+        self.live = 0
+
+    @property
+    def garbage(self):
+        return self.top - self.live
+
+    @property
+    def colour(self):
+        return "humongous" if self.kind == "continuation" else self.kind
+
+
+class Heap:
+    """A heap as the program tells it."""
+
+    def __init__(self, program, image):
+        heading, *lines = answer(program, ["show"], image)
+        words = heading.split()
+        self.region_words, self.card_words = int(words[1]), int(words[2])
+        self.roots, self.dirty, self.current = int(words[5]), int(words[7]), words[9]
+        self.regions = [Region(line) for line in lines]
+        self.take_live([int(line.split()[3]) for line in answer(program, ["live"], image)])
+
+    def take_live(self, live):
+        """Live bytes of a humongous object are told for its first region: its run shares them."""
+        whole = False
+        for region, count in zip(self.regions, live):
+            if region.kind == "continuation":
+                region.live = region.top if whole else 0
+            else:
+                whole = count > 0
+                region.live = min(count // 8, region.top)
+
+    def total(self, name):
+        return sum(getattr(region, name) for region in self.regions)
+
+    def free_words(self):
+        return len(self.regions) * self.region_words - self.total("top")
+
+
+def taken(program, image, options):
+    """The numbers of the collection set, as far as one is asked for."""
+    if options.budget is None:
+        return set(options.set or [])
+    words = ["choose", "--budget", options.budget]
+    for name in COSTS:
+        if getattr(options, name) is not None:
+            words += [f"--{name}", getattr(options, name)]
+    return {int(line.split()[1]) for line in answer(program, words, image) if line.endswith(" taken")}
+
+
+# Drawing.
+
+
+def short(value):
+    """A number of pixels, without digits that say nothing."""
+    return f"{value:.2f}".rstrip("0").rstrip(".")
+
+
+class Shapes:
+    """Rectangles by class, one path each, so that thousands of regions make a small file."""
+
+    def __init__(self):
+        self.paths, self.others = {}, []
+
+    def box(self, name, x, y, width, height):
+        if width > 0 and height > 0:
+            self.paths.setdefault(name, []).append(
+                f"M{short(x)} {short(y)}h{short(width)}v{short(height)}h{short(-width)}z")
+
+    def frame(self, x, y, side, line):
+        self.others.append(f'<rect class="set" x="{short(x)}" y="{short(y)}" width="{short(side)}" '
+                           f'height="{short(side)}" stroke-width="{short(line)}"/>')
+
+    def dot(self, x, y, radius):
+        self.others.append(f'<circle class="pin" cx="{short(x)}" cy="{short(y)}" r="{short(radius)}"/>')
+
+    def text(self, x, y, text, size=13, anchor="start"):
+        self.others.append(f'<text x="{short(x)}" y="{short(y)}" font-size="{size}" text-anchor="{anchor}">'
+                           f"{html.escape(text)}</text>")
+
+    def lines(self):
+        for name in COLOURS:
+            if name in self.paths:
+                yield f'<path class="{name}" d="{"".join(self.paths[name])}"/>'
+        yield from self.others
+
+
+class Grid:
+    """Where the cells stand."""
+
+    def __init__(self, regions):
+        self.columns, self.pitch = next((columns, pitch) for most, columns, pitch in GRIDS if regions <= most)
+        self.columns = min(self.columns, regions)
+        self.rows = -(-regions // self.columns)
+        self.side = self.pitch - max(1, self.pitch // 12)
+        self.width = LABEL + self.columns * self.pitch
+        self.height = HEAD + self.rows * self.pitch
+
+
+def draw_cell(shapes, region, x, y, side, region_words, most_cards):
+    """The colours of one region, from its floor up, and its remembered set at the right."""
+    bar = max(1.5, side / 12)
+    width = side - bar
+    shapes.box(region.colour, x, y, side, side)
+    live, garbage = side * region.live / region_words, side * region.garbage / region_words
+    if region.kind != "free":
+        shapes.box(f"live-{region.colour}", x, y + side - live, width, live)
+        shapes.box(f"garbage-{region.colour}", x, y + side - live - garbage, width, garbage)
+    if region.cards:
+        height = max(1, side * region.cards / most_cards)
+        shapes.box("cards", x + width, y + side - height, bar, height)
+
+
+def draw_heap(shapes, heap, title, left, chosen, most_cards):
+    grid = Grid(len(heap.regions))
+    draw_heading(shapes, heap, title, left + LABEL)
+    for region in heap.regions:
+        row, column = divmod(region.number, grid.columns)
+        x, y = left + LABEL + column * grid.pitch, MARGIN + HEAD + row * grid.pitch
+        draw_cell(shapes, region, x, y, grid.side, heap.region_words, most_cards)
+        if column == 0 and row % (1 if grid.pitch >= 18 else 4) == 0:
+            shapes.text(x - 8, y + min(grid.side, 11), str(region.number), 10, "end")
+        if region.number in chosen:
+            line = max(1.5, grid.side / 16)
+            shapes.frame(x - line / 4, y - line / 4, grid.side + line / 2, line)
+        if region.pinned:
+            radius = max(1.5, grid.side / 12)
+            shapes.dot(x + 2 * radius, y + 2 * radius, radius)
+
+
+def draw_heading(shapes, heap, title, left):
+    shapes.text(left, MARGIN + 14, f"{title}: {len(heap.regions)} regions of {heap.region_words} words", 15)
+    shapes.text(left, MARGIN + 31, f"live {heap.total('live')} words, garbage {heap.total('garbage')}, "
+                                   f"free {heap.free_words()}", 12)
+    shapes.text(left, MARGIN + 47, f"{heap.roots} roots, {heap.total('cards')} remembered cards, {heap.dirty} dirty, "
+                                   f"current {heap.current}", 12)
+
+
+def draw_legend(shapes, left, top, most_cards, seen):
+    """What the colours mean. Only what is in the picture is told."""
+    entries = [("free", "free region"), ("ordinary", "free words of an ordinary region"),
+               ("humongous", "free words of a humongous region"), ("live-ordinary", "live words, ordinary"),
+               ("live-humongous", "live words, humongous"),
+               ("garbage-ordinary", "garbage, ordinary"), ("garbage-humongous", "garbage, humongous"),
+               ("cards", f"remembered set (full: {most_cards} cards)"),
+               ("set", "collection set"), ("pin", "pinned")]
+    x = y = 0
+    for name, text in entries:
+        if name not in seen:
+            continue
+        width = 26 + 7 * len(text)
+        if x and x + width > 620:
+            x, y = 0, y + 22
+        swatch(shapes, name, left + x, top + y)
+        shapes.text(left + x + 19, top + y + 11, text, 12)
+        x += width + 8
+
+
+def swatch(shapes, name, x, y):
+    if name == "set":
+        shapes.frame(x + 1, y + 1, 11, 2)
+    elif name == "pin":
+        shapes.dot(x + 6, y + 6, 3)
+    else:
+        shapes.box(name, x, y, 13, 13)
+
+
+def style():
+    light, dark = ["text{font-family:sans-serif}"], []
+    for name, colours in COLOURS.items():
+        for rules, colour in zip((light, dark), colours):
+            if name == "text":
+                rules.append(f"text{{fill:{colour}}}")
+            elif name == "set":
+                rules.append(f".set{{fill:none;stroke:{colour}}}")
+            else:
+                rules.append(f".{name}{{fill:{colour}}}")
+    return f'<style>{"".join(light)}@media(prefers-color-scheme:dark){{{"".join(dark)}}}</style>'
+
+
+def picture(heaps, chosen):
+    """The text of the drawing."""
+    shapes = Shapes()
+    most_cards = max(1, max(region.cards for heap in heaps for region in heap.regions))
+    left, height = MARGIN, 0
+    for heap, title in zip(heaps, ("before", "after") if len(heaps) > 1 else ("heap",)):
+        draw_heap(shapes, heap, title, left, chosen if heap is heaps[0] else set(), most_cards)
+        grid = Grid(len(heap.regions))
+        left += max(grid.width, 380) + BETWEEN
+        height = max(height, grid.height)
+    seen = set(shapes.paths) | {name for name in ("set", "pin") if any(f'"{name}"' in line for line in shapes.others)}
+    draw_legend(shapes, MARGIN + LABEL, MARGIN + height + 16, most_cards, seen)
+    width, height = max(left - BETWEEN + MARGIN, 720), MARGIN + height + LEGEND
+    head = (f'<svg xmlns="http://www.w3.org/2000/svg" width="{width}" height="{height}" '
+            f'viewBox="0 0 {width} {height}" role="img" aria-label="regions of a heap">')
+    ground = f'<rect class="page" width="{width}" height="{height}"/>'
+    return "\n".join([head, style(), ground, *shapes.lines(), "</svg>", ""])
+
+
+# The page.
+
+PAGE = """<!DOCTYPE html>
+<html lang="en">
+<head>
+<meta charset="utf-8">
+<meta name="color-scheme" content="light dark">
+<title>{title}</title>
+<style>
+body {{ font-family: sans-serif; margin: 1.5em; color: #1f2328; background: #ffffff }}
+svg {{ max-width: 100%; height: auto }}
+td, th {{ padding: 0.2em 1em 0.2em 0; text-align: right }}
+td:first-child {{ text-align: left }}
+@media (prefers-color-scheme: dark) {{ body {{ color: #e6edf3; background: #0d1117 }} }}
+</style>
+</head>
+<body>
+<h1>{title}</h1>
+{svg}
+<table>
+<tr><th></th>{heads}</tr>
+{rows}
+</table>
+<p>{chosen}</p>
+<p>A cell is a region, in rows from the lowest number on. It is filled from below by live words, then by garbage; what
+is left are free words. The bar at its right is its remembered set, as a part of the largest one in the picture.
+A region with a frame is in the collection set, a dot marks a pinned region.</p>
+</body>
+</html>
+"""
+
+
+def page(heaps, chosen, title):
+    """The drawing with its numbers in one file."""
+    kinds = ("free", "ordinary", "humongous", "continuation")
+    table = [(f"{kind} regions", [sum(1 for region in heap.regions if region.kind == kind) for heap in heaps])
+             for kind in kinds]
+    table += [(f"{name} words", [heap.total(name) for heap in heaps]) for name in ("live", "garbage")]
+    table.append(("free words", [heap.free_words() for heap in heaps]))
+    table += [(name, [heap.total(name) for heap in heaps]) for name in ("objects", "cards")]
+    table += [(name, [getattr(heap, name) for heap in heaps]) for name in ("roots", "dirty")]
+    names = {"cards": "remembered cards", "dirty": "dirty cards"}
+    rows = "\n".join(f"<tr><td>{names.get(name, name)}</td>{''.join(f'<td>{value}</td>' for value in values)}</tr>"
+                     for name, values in table)
+    heads = "".join(f"<th>{head}</th>" for head in (("before", "after") if len(heaps) > 1 else ("heap",)))
+    numbers = ", ".join(str(number) for number in sorted(chosen))
+    told = f"Collection set: {numbers}." if chosen else "No collection set is drawn."
+    return PAGE.format(title=html.escape(title), svg=picture(heaps, chosen), heads=heads, rows=rows, chosen=told)
+
+
+def main():
+    parser = argparse.ArgumentParser(description=__doc__, formatter_class=argparse.RawDescriptionHelpFormatter)
+    parser.add_argument("image", metavar="IMAGE", help="the heap before")
+    parser.add_argument("after", metavar="AFTER", nargs="?", help="the heap after, drawn beside it")
+    parser.add_argument("--html", action="store_true", help="a page with the picture, its numbers and its legend")
+    parser.add_argument("--set", metavar="R,R", type=lambda text: [int(word) for word in text.split(",")],
+                        help="the regions of the collection set, with commas between them")
+    parser.add_argument("--budget", metavar="N", help="frames what g1pause choose takes for this budget")
+    for name in COSTS:
+        parser.add_argument(f"--{name}", metavar="N", help="handed to g1pause choose")
+    parser.add_argument("--program", metavar="FILE", default=str(PROGRAM), help="g1pause (default: where it is built)")
+    options = parser.parse_args()
+    images = [options.image] + ([options.after] if options.after else [])
+    try:
+        heaps = [Heap(options.program, image) for image in images]
+        chosen = taken(options.program, options.image, options)
+    except Refusal as refusal:
+        print(f"picture: {refusal}", file=sys.stderr)
+        return refusal.status
+    except OSError as error:
+        print(f"picture: {error.filename or 'input or output'}: {error.strerror or error}", file=sys.stderr)
+        return 2
+    title = "A heap before and after a pause" if options.after else "A heap"
+    sys.stdout.write(page(heaps, chosen, title) if options.html else picture(heaps, chosen))
+    return 0
+
+
+if __name__ == "__main__":
+    sys.exit(main())
