@@ -2,12 +2,12 @@ ghost use Rattle.std.specs.Prelude.{◌≡◌, ◌≤◌, ◌<◌, ◌+◌, ◌*
 ghost use Rattle.g1_words.specs.Heap.{region};
 ghost use Rattle.g1_words.specs.Valid.{IsShaped, IsReference};
 ghost use Rattle.g1_words.specs.Walk.{Reaches};
-ghost use Rattle.g1_image.specs.Draft.{AllShaped};
+ghost use Rattle.g1_image.specs.Draft.{ShapedBelow};
 ghost use Rattle.g1_image.specs.Marks.{InRow, Marked, StartsAre};
 ghost use Rattle.g1_image.specs.Faults.{IsFirstBreach, IsGoodSlot};
 
-use crate::draft::{Draft, header};
-use g1_words::{Fault, Kind, Place};
+use crate::draft::Draft;
+use g1_words::{Fault, Kind, Place, header};
 use std::alloc::Global;
 
 /// Marks the objects that fill the words between two addresses.
@@ -34,7 +34,7 @@ fn no_marks(alloc: Global, count: u64) -> Result<Vec<bool>, Fault>
 
 /// Marks the addresses where objects start.
 pub(crate) fn starts(alloc: Global, draft: &Draft) -> Result<Vec<bool>, Fault>
-    requires { AllShaped draft.now draft.now.geometry.n }
+    requires { ShapedBelow draft.now draft.now.geometry.n }
     ensures ok { IfOk result (λ v. StartsAre draft.now v.items) }
     ensures err { IfErr result (λ e. e ≡ Fault.Memory) }
 {
@@ -103,7 +103,7 @@ fn first_stray(draft: &Draft, marks: &[bool], words: &[u64]) -> Option<usize>
 /// Tells the first slot that names no object.
 pub(crate) fn good_slots(draft: &Draft, marks: &[bool]) -> Result<(), Fault>
     requires starts { StartsAre draft.now marks.now }
-    requires shaped { AllShaped draft.now draft.now.geometry.n }
+    requires shaped { ShapedBelow draft.now draft.now.geometry.n }
     ensures ok { OnOk result ((p : ℕ) → p < draft.now.geometry.n * draft.now.geometry.w → IsGoodSlot draft.now p) }
     ensures err { IfErr result (λ e. (p : ℕ) × (e ≡ Fault.Reference (Place.Slot p)) × IsFirstBreach (IsGoodSlot draft.now) (draft.now.geometry.n * draft.now.geometry.w) p) }
 {

@@ -124,7 +124,7 @@ impl Geometry {
         words / self.k
     }
 
-    /// The address of a region's first word. Regions past the last one count on.
+    /// The address of the first word of a region, also of one past the heap's last.
     pub fn start(&self, region: u32) -> u64
         ensures value { result ≡ region * self.now.w }
         ensures limits { IsWithinLimits self.now.w self.now.k self.now.n }
@@ -132,7 +132,7 @@ impl Geometry {
         u64::from(region) * self.w
     }
 
-    /// The address of a card's first word. Cards past the last one count on.
+    /// The address of the first word of a card, also of one past the heap's last.
     pub fn card_start(&self, card: u32) -> u64
         ensures value { result ≡ card * self.now.k }
         ensures limits { IsWithinLimits self.now.w self.now.k self.now.n }
