@@ -7,7 +7,7 @@ ghost use Rattle.g1_choose.specs.Candidate.{TellsRegion, IsCandidateOrder, IsPai
 use crate::candidate::Candidate;
 use crate::parameters::Cost;
 use crate::pricing::{cost, total};
-use g1_words::{Fault, Heap, Kind, Region};
+use g1_words::{Fault, Heap, Region};
 use std::alloc::Global;
 
 /// The candidate that a region is, if it is one.
@@ -28,13 +28,10 @@ fn candidate(
     ensures tells { IfSome result (TellsRegion parameters.now heap.now (map (λ s. s.items) sets.now) live.now) }
     ensures none { IfNone result (IsTrue (is_candidate parameters.now heap.now (map (λ s. s.items) sets.now) live.now region) → ⊥) }
 {
-    let Region {
-        kind: Kind::Ordinary,
-        top,
-    } = heap.region(region)
-    else {
+    let Region { kind, top, .. } = heap.region(region);
+    if !kind.is_ordinary() {
         return None;
-    };
+    }
     let place = region as usize;
     let garbage = 8 * u64::from(top) - live[place];
     if garbage == 0 {

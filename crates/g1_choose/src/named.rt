@@ -1,10 +1,9 @@
 ghost use Rattle.std.specs.Prelude.{◌≡◌, ◌<◌, ◌⊎◌, ℕ, length, filter, slice_index, IsTrue, ◌↔◌, OnOk, IfOk, IfErr};
-ghost use Rattle.g1_words.specs.Heap.{regions, kind};
-ghost use Rattle.g1_words.specs.declared.region.Kind.TheVariants.{Ordinary};
+ghost use Rattle.g1_words.specs.Heap.{regions};
 ghost use Rattle.g1_words.specs.Lists.{has};
 ghost use Rattle.g1_choose.specs.Named.{AreDistinctOrdinary, IsBadAt, IsFirstBad};
 
-use g1_words::{Fault, Heap, Kind};
+use g1_words::{Fault, Heap};
 use std::alloc::Global;
 
 /// Refuses a list with a region that can't be taken.
@@ -15,20 +14,12 @@ fn check(alloc: Global, heap: &Heap, list: &[u32]) -> Result<(), Fault>
     let mut named = vec![in alloc; false; heap.geometry().regions() as usize]?;
     for region in list {
         let place = *region as usize;
-        if place >= named.len() || named[place] || !is_ordinary(heap, *region) {
+        if place >= named.len() || named[place] || !heap.region(*region).kind.is_ordinary() {
             return Err(Fault::Set(*region));
         }
         named[place] = true;
     }
     Ok(())
-}
-
-/// Tells whether a region is an ordinary one.
-fn is_ordinary(heap: &Heap, region: u32) -> bool
-    requires { region < heap.now.geometry.n }
-    ensures { IsTrue result ↔ (kind heap.now region ≡ Ordinary) }
-{
-    matches!(heap.region(region).kind, Kind::Ordinary)
 }
 
 /// The regions of the list, rising.

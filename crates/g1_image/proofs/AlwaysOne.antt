@@ -10,7 +10,7 @@ use Rattle.g1_words.specs.declared.fault.Fault.TheVariants as fault
 use Rattle.g1_words.specs.declared.fault.Place.TheVariants as place
 use Rattle.g1_words.specs.declared.fault.Stand.TheVariants as stand
 use Rattle.g1_image.specs.declared.cursor.Heading.{Heading}
-use Rattle.g1_image.specs.Text.{File, Entry, file_text, words_of, total}
+use Rattle.g1_image.specs.Text.{File, Entry, file_text, words_of, table_words}
 use Rattle.g1_image.specs.Reading.{IsBytes}
 use Rattle.g1_image.specs.Image.{Image, IsTextOf, heap_of, all_words, region_of_entry}
 use Rattle.g1_image.specs.Draft.{IsDraft}
@@ -74,7 +74,7 @@ module _ (bytes : List ℕ) (h : Heading) (table : List Entry) (roots log : List
   draft = record {
     limits = p.good.sizes;
     word_count = length-laid h.w table words ∙ ap (λ n. n * h.w) p.fits.table.how_many;
-    word_fits = λ i d lt. rw (get_or_default_zero (all_words h.w table (words_of (total table) words)) i d lt) (bounded_laid h.w table words p.are_bytes i);
+    word_fits = λ i d lt. rw (get_or_default_zero (all_words h.w table (words_of (table_words table) words)) i d lt) (bounded_laid h.w table words p.are_bytes i);
     region_count = length-map table region_of_entry ∙ p.fits.table.how_many;
     root_count = omega (arith, p.root_count, p.good.roots);
     current_in = current_in h.current h.n;

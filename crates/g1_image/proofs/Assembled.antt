@@ -13,12 +13,13 @@ use Rattle.g1_words.specs.declared.fault.Fault.{Fault}
 use Rattle.g1_words.specs.declared.fault.Fault.TheVariants as fault
 use Rattle.g1_words.specs.declared.fault.Place.TheVariants as place
 use Rattle.g1_words.specs.declared.fault.Stand.TheVariants as stand
-use Rattle.g1_image.specs.Text.{File, Entry, file_text, total}
-use Rattle.g1_image.specs.Image.{IsImage, IsLog, IsUsedCard, all_words, used_words, heap_of, file_of, region_of_entry, entry_of, kind_of, kind_number}
-use Rattle.g1_image.specs.Faults.{FileFits, MayFail, IsKnown, KindsKnown, IsFirstBreach, IsGoodLogged, LogGood, SetGood}
+use Rattle.g1_image.specs.Text.{File, Entry, file_text, table_words}
+use Rattle.g1_words.specs.Kind.{kind_of, kind_number}
+use Rattle.g1_image.specs.Image.{IsImage, IsLog, IsUsedCard, all_words, used_words, heap_of, file_of, region_of_entry, entry_of}
+use Rattle.g1_image.specs.Faults.{FileFits, MayFail, IsKnownKind, KindsKnown, IsFirstBreach, IsGoodLogged, LogGood, SetGood}
 use Rattle.g1_image.specs.Judged.{IsGoodHeap, HeapFault}
 use Rattle.g1_image.specs.Draft.{IsDraft}
-use Rattle.g1_image.proofs.Words.{total-cons}
+use Rattle.g1_image.proofs.Words.{table_words-cons}
 
 -- the fault of a whole file is the bytes'
 pub heap_fault : (bytes : List ℕ) (f : File) (e : Fault) → FileFits f → bytes ≡ file_text f → KindsKnown f → HeapFault (heap_of f) e → MayFail bytes e
@@ -48,7 +49,7 @@ take_same (suc n) [] = refl
 take_same (suc n) (x ∷ xs) = ap (λ l. x ∷ l) (take_same n xs)
 
 -- the words of the first region
-module _ (w : ℕ) (e : Entry) (es : List Entry) (ws : List ℕ) (le : total (e ∷ es) ≤ length ws) (top : e.top ≤ w) where
+module _ (w : ℕ) (e : Entry) (es : List Entry) (ws : List ℕ) (le : table_words (e ∷ es) ≤ length ws) (top : e.top ≤ w) where
   used : List ℕ
   used = take (min e.top w) ws
 
@@ -56,7 +57,7 @@ module _ (w : ℕ) (e : Entry) (es : List Entry) (ws : List ℕ) (le : total (e 
   chunk = take (min e.top w) ws ++ replicate (w - e.top) 0
 
   length-front : length (take (min e.top w) ws) ≡ e.top
-  length-front = omega (arith, length-take (min e.top w) ws, le, total-cons e es, top)
+  length-front = omega (arith, length-take (min e.top w) ws, le, table_words-cons e es, top)
 
   length-chunk : length (take (min e.top w) ws ++ replicate (w - e.top) 0) ≡ w
   length-chunk = omega (arith, length-append (take (min e.top w) ws) (replicate (w - e.top) 0), length-front, length-replicate {A = ℕ} (w - e.top) 0, top)
@@ -88,7 +89,7 @@ module _ (w : ℕ) (e : Entry) (es : List Entry) (ws : List ℕ) (le : total (e 
       take-append-le e.top (take (min e.top w) ws) (replicate (w - e.top) 0 ++ all_words w es (drop e.top ws)) (omega (arith, length-front))
       ∙ ap (λ k. take e.top (take k ws)) m ∙ take_same e.top ws
 
-pub zero_at : (w : ℕ) (es : List Entry) (ws : List ℕ) (r i : ℕ) → total es ≤ length ws → ((q : ℕ) → q < length es → (slice_index_or es q (record { kind = 0; top = 0 })).top ≤ w) →
+pub zero_at : (w : ℕ) (es : List Entry) (ws : List ℕ) (r i : ℕ) → table_words es ≤ length ws → ((q : ℕ) → q < length es → (slice_index_or es q (record { kind = 0; top = 0 })).top ≤ w) →
     r < length es → (slice_index_or es r (record { kind = 0; top = 0 })).top ≤ i → i < w → slice_index (all_words w es ws) (r * w + i) ≡ 0
 zero_at w [] ws r i le tops lt ge il = absurd (omega (arith, lt))
 zero_at w (e ∷ es) ws zero i le tops lt ge il =
@@ -97,16 +98,16 @@ zero_at w (e ∷ es) ws zero i le tops lt ge il =
 zero_at w (e ∷ es) ws (suc r) i le tops lt ge il =
     let place : suc r * w + i ≡ w + (r * w + i) = omega arith in
     ap (λ k. slice_index (all_words w (e ∷ es) ws) k) place ∙ later w e es ws le (tops 0 (omega arith)) (r * w + i)
-    ∙ zero_at w es (drop e.top ws) r i (omega (arith, le, total-cons e es, length-drop e.top ws)) (λ q l. tops (suc q) (omega (arith, l))) (omega (arith, lt)) ge il
+    ∙ zero_at w es (drop e.top ws) r i (omega (arith, le, table_words-cons e es, length-drop e.top ws)) (λ q l. tops (suc q) (omega (arith, l))) (omega (arith, lt)) ge il
 
-pub used_all : (w : ℕ) (es : List Entry) (ws : List ℕ) → length ws ≡ total es → ((q : ℕ) → q < length es → (slice_index_or es q (record { kind = 0; top = 0 })).top ≤ w) →
+pub used_all : (w : ℕ) (es : List Entry) (ws : List ℕ) → length ws ≡ table_words es → ((q : ℕ) → q < length es → (slice_index_or es q (record { kind = 0; top = 0 })).top ≤ w) →
     used_words w (map region_of_entry es) (all_words w es ws) ≡ ws
 used_all w [] [] e tops = refl
 used_all w [] (x ∷ ws) e tops = absurd (omega (arith, e))
 used_all w (e ∷ es) ws le tops =
-    let fits : total (e ∷ es) ≤ length ws = omega (arith, le) in
+    let fits : table_words (e ∷ es) ≤ length ws = omega (arith, le) in
     let rest : used_words w (map region_of_entry es) (all_words w es (drop e.top ws)) ≡ drop e.top ws =
-    used_all w es (drop e.top ws) (omega (arith, le, total-cons e es, length-drop e.top ws)) (λ q l. tops (suc q) (omega (arith, l))) in
+    used_all w es (drop e.top ws) (omega (arith, le, table_words-cons e es, length-drop e.top ws)) (λ q l. tops (suc q) (omega (arith, l))) in
     (λ t. taken w e es ws fits (tops 0 (omega arith)) t ++ used_words w (map region_of_entry es) (dropped w e es ws fits (tops 0 (omega arith)) t))
     ∙ ap (λ l. take e.top ws ++ l) rest ∙ take-append-drop e.top ws
 
@@ -117,7 +118,7 @@ kind_again (suc (suc zero)) le = refl
 kind_again (suc (suc (suc zero))) le = refl
 kind_again (suc (suc (suc (suc x)))) le = absurd (omega (arith, le))
 
-pub table_again : (es : List Entry) → ((r : ℕ) → r < length es → IsKnown es r) → map entry_of (map region_of_entry es) ≡ es
+pub table_again : (es : List Entry) → ((r : ℕ) → r < length es → IsKnownKind es r) → map entry_of (map region_of_entry es) ≡ es
 table_again [] known = refl
 table_again (e ∷ es) known =
     let first : kind_number (kind_of e.kind) ≡ e.kind = kind_again e.kind (known 0 (omega arith)) in

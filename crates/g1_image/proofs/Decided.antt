@@ -6,7 +6,7 @@ use Rattle.std.proofs.lemmas.Grind.{get_or_default_zero}
 use Rattle.g1_words.specs.declared.region.Kind.{Kind}
 use Rattle.g1_words.proofs.Members.{In}
 use Rattle.g1_image.specs.Faults.{IsFirstBreach}
-use Rattle.g1_image.specs.Image.{kind_number, kind_of}
+use Rattle.g1_words.specs.Kind.{kind_number, kind_of}
 use Rattle.g1_image.proofs.Rows.{eq_or}
 use Rattle.g1_image.proofs.FileOf.{kind_there}
 

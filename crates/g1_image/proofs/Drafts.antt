@@ -1,16 +1,16 @@
 -- The heap that a file tells.
 use Rattle.std.proofs.Common.{◌≡◌, ◌≤◌, ◌<◌, ℕ, zero, suc, ◌+◌, ◌-◌, ◌*◌, ◌^◌, List, [], ◌∷◌, ◌++◌, length, take, drop, replicate, slice_index, get_or-drop, min, arith, length-append, length-drop, length-take}
 use Rattle.std.proofs.lemmas.List.{length-replicate}
-use Rattle.g1_image.specs.Text.{Entry, words_of, total}
+use Rattle.g1_image.specs.Text.{Entry, words_of, table_words}
 use Rattle.g1_image.specs.Reading.{IsBytes}
 use Rattle.g1_image.specs.Image.{all_words}
-use Rattle.g1_image.proofs.Words.{total-cons, length-words_of, read_word-fits}
+use Rattle.g1_image.proofs.Words.{table_words-cons, length-words_of, read_word-fits}
 
-pub length-all_words : (w : ℕ) (es : List Entry) (ws : List ℕ) → total es ≤ length ws → length (all_words w es ws) ≡ length es * w
+pub length-all_words : (w : ℕ) (es : List Entry) (ws : List ℕ) → table_words es ≤ length ws → length (all_words w es ws) ≡ length es * w
 length-all_words w [] ws le = omega arith
 length-all_words w (e ∷ es) ws le =
-    let rest : length (all_words w es (drop e.top ws)) ≡ length es * w = length-all_words w es (drop e.top ws) (omega (arith, le, total-cons e es, length-drop e.top ws)) in
-    let used : length (take (min e.top w) ws) ≡ min e.top w = omega (arith, length-take (min e.top w) ws, le, total-cons e es) in
+    let rest : length (all_words w es (drop e.top ws)) ≡ length es * w = length-all_words w es (drop e.top ws) (omega (arith, le, table_words-cons e es, length-drop e.top ws)) in
+    let used : length (take (min e.top w) ws) ≡ min e.top w = omega (arith, length-take (min e.top w) ws, le, table_words-cons e es) in
     omega (
       arith,
       used,
@@ -20,8 +20,8 @@ length-all_words w (e ∷ es) ws le =
       length-replicate {A = ℕ} (w - e.top) 0,
     )
 
-pub length-laid : (w : ℕ) (es : List Entry) (bytes : List ℕ) → length (all_words w es (words_of (total es) bytes)) ≡ length es * w
-length-laid w es bytes = length-all_words w es (words_of (total es) bytes) (omega (arith, length-words_of (total es) bytes))
+pub length-laid : (w : ℕ) (es : List Entry) (bytes : List ℕ) → length (all_words w es (words_of (table_words es) bytes)) ≡ length es * w
+length-laid w es bytes = length-all_words w es (words_of (table_words es) bytes) (omega (arith, length-words_of (table_words es) bytes))
 
 abbrev pub Bounded : List ℕ → Type 0
 Bounded xs = (i : ℕ) → slice_index xs i < 2 ^ 64
@@ -54,5 +54,5 @@ bounded_words zero bytes b i = omega arith
 bounded_words (suc n) bytes b zero = read_word-fits bytes b
 bounded_words (suc n) bytes b (suc i) = bounded_words n (drop 8 bytes) (λ k. rw (get_or-drop 8 bytes k 0) (b (8 + k))) i
 
-pub bounded_laid : (w : ℕ) (es : List Entry) (bytes : List ℕ) → IsBytes bytes → Bounded (all_words w es (words_of (total es) bytes))
-bounded_laid w es bytes b = bounded_all w es (words_of (total es) bytes) (bounded_words (total es) bytes b)
+pub bounded_laid : (w : ℕ) (es : List Entry) (bytes : List ℕ) → IsBytes bytes → Bounded (all_words w es (words_of (table_words es) bytes))
+bounded_laid w es bytes b = bounded_all w es (words_of (table_words es) bytes) (bounded_words (table_words es) bytes b)

@@ -12,11 +12,12 @@ use Rattle.g1_words.specs.declared.region.Region.{Region}
 use Rattle.g1_words.specs.declared.region.Kind.{Kind}
 use Rattle.g1_words.specs.declared.region.Kind.TheVariants.{Free, Ordinary, HumongousFirst, Continuation}
 use Rattle.g1_words.proofs.Objects.{object_stands, stands_within, region_in_words, tops_fit}
-use Rattle.g1_image.specs.Text.{Entry, total}
+use Rattle.g1_image.specs.Text.{Entry, table_words}
 use Rattle.g1_image.specs.Reading.{IsU32, IsU64}
 use Rattle.g1_image.specs.Faults.{EntryFits, SetFits, FileFits}
-use Rattle.g1_image.specs.Image.{Image, IsImage, IsTextOf, IsUsedCard, region_of_card, set_of, kind_number, kind_of, entry_of, region_of_entry, used_words, all_words, file_of, heap_of}
-use Rattle.g1_image.proofs.Words.{total-cons}
+use Rattle.g1_words.specs.Kind.{kind_number, kind_of}
+use Rattle.g1_image.specs.Image.{Image, IsImage, IsTextOf, IsUsedCard, region_of_card, set_of, entry_of, region_of_entry, used_words, all_words, file_of, heap_of}
+use Rattle.g1_image.proofs.Words.{table_words-cons}
 use Rattle.g1_image.proofs.OneFile.{one_file}
 use Rattle.g1_image.proofs.Drafts.{Bounded, bounded_append, bounded_take}
 
@@ -35,13 +36,13 @@ kind_there HumongousFirst = refl
 kind_there Continuation = refl
 
 -- as many used words as the table announces
-length-used_words : (w : ℕ) (qs : List Region) (words : List ℕ) → All (λ q. q.top ≤ w) qs → length words ≡ length qs * w → length (used_words w qs words) ≡ total (map entry_of qs)
+length-used_words : (w : ℕ) (qs : List Region) (words : List ℕ) → All (λ q. q.top ≤ w) qs → length words ≡ length qs * w → length (used_words w qs words) ≡ table_words (map entry_of qs)
 length-used_words w [] words tops e = refl
 length-used_words w (q ∷ qs) words tops e =
     let top : q.top ≤ w = tops 0 q (omega arith) in
-    let rest : length (used_words w qs (drop w words)) ≡ total (map entry_of qs) =
+    let rest : length (used_words w qs (drop w words)) ≡ table_words (map entry_of qs) =
     length-used_words w qs (drop w words) (λ k d lt. tops (suc k) d (omega (arith, lt))) (omega (arith, length-drop w words, e)) in
-    omega (arith, length-append (take q.top words) (used_words w qs (drop w words)), length-take q.top words, rest, top, e, total-cons (entry_of q) (map entry_of qs))
+    omega (arith, length-append (take q.top words) (used_words w qs (drop w words)), length-take q.top words, rest, top, e, table_words-cons (entry_of q) (map entry_of qs))
 
 -- used words fit where all words do
 bounded_used : (w : ℕ) (qs : List Region) (words : List ℕ) → Bounded words → Bounded (used_words w qs words)

@@ -4,7 +4,7 @@ use Rattle.std.proofs.lemmas.List.{append-nil, append_cancel_left, drop_all}
 use Rattle.g1_words.specs.declared.fault.Fault.{Fault}
 use Rattle.g1_words.specs.declared.fault.Fault.TheVariants as fault
 use Rattle.g1_image.specs.declared.cursor.Heading.{Heading}
-use Rattle.g1_image.specs.Text.{File, Entry, magic, heading_text, heading_of, body_text, file_text, table_text, words_text, numbers_text, sets_text, entry_text, set_text, u32, u64, words_of, total}
+use Rattle.g1_image.specs.Text.{File, Entry, magic, heading_text, heading_of, body_text, file_text, table_text, words_text, numbers_text, sets_text, entry_text, set_text, u32, u64, words_of, table_words}
 use Rattle.g1_image.specs.Reading.{Are, IsU32, IsU64, IsBytes, EndsWithin, FailsIf}
 use Rattle.g1_image.specs.Faults.{HeadingFits, IsGoodHeading, EntryFits, SetFits, FileFits, FaultOf, MayFail}
 use Rattle.g1_image.specs.Plain.{plain_file, PlainIs}
@@ -53,8 +53,8 @@ are_log h f fits is = record { how_many = ap (λ (x : Heading). x.dirty) is; eac
 pub are_sets : (h : Heading) (f : File) → FileFits f → Is h f → Are SetFits h.n f.sets
 are_sets h f fits is = subst (λ (x : Heading). Are SetFits x.n f.sets) is fits.sets
 
-pub words_as : (table : List Entry) (f : File) → FileFits f → f.table ≡ table → Are IsU64 (total table) f.words
-words_as table f fits is = subst (λ t. Are IsU64 (total t) f.words) is fits.words
+pub words_as : (table : List Entry) (f : File) → FileFits f → f.table ≡ table → Are IsU64 (table_words table) f.words
+words_as table f fits is = subst (λ t. Are IsU64 (table_words t) f.words) is fits.words
 
 -- what follows in bytes is bytes
 pub suffix : (bytes xs ys : List ℕ) → bytes ≡ xs ++ ys → IsBytes bytes → IsBytes ys
@@ -112,14 +112,14 @@ module _ (bytes rest : List ℕ) (h : Heading) (hf : HeadingFits h) (good : IsGo
           known4 = Left-step FileFits file_text bytes (λ f. (((Unit {0} × Is h f) × (f.table ≡ table)) × (f.roots ≡ roots)) × (f.log ≡ log)) after_log r3 (λ f. f.sets) (Are SetFits h.n) sets_text after_sets known3
               (λ f fits k. refl) (λ f fits k. are_sets h f fits k.0.0.0.1) (Are-free SetFits set_text set_free h.n) sets r4 fs es
 
-          are_words : (f : File) → FileFits f → f.table ≡ table → Are IsU64 (total table) f.words
-          are_words f fits is = subst (λ t. Are IsU64 (total t) f.words) is fits.words
+          are_words : (f : File) → FileFits f → f.table ≡ table → Are IsU64 (table_words table) f.words
+          are_words f fits is = subst (λ t. Are IsU64 (table_words t) f.words) is fits.words
 
           -- the words aren't all there
-          pub short_words : length r4 < 8 * total table → FaultOf bytes fault.Short
+          pub short_words : length r4 < 8 * table_words table → FaultOf bytes fault.Short
           short_words lt = short (Left-short FileFits file_text bytes (λ f. ((((Unit {0} × Is h f) × (f.table ≡ table)) × (f.roots ≡ roots)) × (f.log ≡ log)) × (f.sets ≡ sets)) after_sets r4
-              (λ f. f.words) (Are IsU64 (total table)) words_text (λ f. []) known4
-              (λ f fits k. sym (append-nil (words_text f.words))) (λ f fits k. are_words f fits k.0.0.0.1) (words_short (total table) r4 lt))
+              (λ f. f.words) (Are IsU64 (table_words table)) words_text (λ f. []) known4
+              (λ f fits k. sym (append-nil (words_text f.words))) (λ f fits k. are_words f fits k.0.0.0.1) (words_short (table_words table) r4 lt))
 
           file : File
           file = plain_file h table roots log sets r4
@@ -135,7 +135,7 @@ module _ (bytes rest : List ℕ) (h : Heading) (hf : HeadingFits h) (good : IsGo
             roots = fr.each;
             log = fl.each;
             sets = fs;
-            words = words_of-are (total table) r4 b;
+            words = words_of-are (table_words table) r4 b;
           }
 
           pub words_are_bytes : IsBytes bytes → IsBytes r4
@@ -143,23 +143,23 @@ module _ (bytes rest : List ℕ) (h : Heading) (hf : HeadingFits h) (good : IsGo
               suffix r3 (sets_text sets) r4 es (suffix r2 (numbers_text log) r3 el (suffix r1 (words_text roots) r2 er (suffix rest (table_text table) r1 et
               (suffix (heading_text h ++ rest) (heading_text h) rest refl (suffix bytes magic (heading_text h ++ rest) e b)))))
 
-          module _ (b : IsBytes r4) (le : 8 * total table ≤ length r4) where
-            text : bytes ≡ file_text (plain_file h table roots log sets r4) ++ drop (8 * total table) r4
+          module _ (b : IsBytes r4) (le : 8 * table_words table ≤ length r4) where
+            text : bytes ≡ file_text (plain_file h table roots log sets r4) ++ drop (8 * table_words table) r4
             text =
-                let tail : List ℕ = drop (8 * total table) r4 in
-                let ws : List ℕ = words_text (words_of (total table) r4) in
-                let e4 : r4 ≡ ws ++ tail = words_of-text (total table) r4 le b in
+                let tail : List ℕ = drop (8 * table_words table) r4 in
+                let ws : List ℕ = words_text (words_of (table_words table) r4) in
+                let e4 : r4 ≡ ws ++ tail = words_of-text (table_words table) r4 le b in
                 e ∙ (λ t. magic ++ (heading_text (sym header t) ++ rest))
                 ∙ ap (λ l. magic ++ (heading_text (heading_of (plain_file h table roots log sets r4)) ++ l))
                 (et ∙ ap (λ l. table_text table ++ l) (er ∙ ap (λ l. words_text roots ++ l) (el ∙ ap (λ l. numbers_text log ++ l) (es ∙ ap (λ l. sets_text sets ++ l) e4))))
                 ∙ (simp append_assoc)
 
-            pub trailing : 8 * total table < length r4 → FaultOf bytes fault.Trailing
-            trailing lt = (plain_file h table roots log sets r4, drop (8 * total table) r4, fits b, text, omega (arith, lt, length-drop (8 * total table) r4))
+            pub trailing : 8 * table_words table < length r4 → FaultOf bytes fault.Trailing
+            trailing lt = (plain_file h table roots log sets r4, drop (8 * table_words table) r4, fits b, text, omega (arith, lt, length-drop (8 * table_words table) r4))
 
-            pub plain_is : length r4 ≡ 8 * total table → PlainIs bytes h table roots log sets r4
+            pub plain_is : length r4 ≡ 8 * table_words table → PlainIs bytes h table roots log sets r4
             plain_is whole =
-                let none : drop (8 * total table) r4 ≡ [] = drop_all (8 * total table) r4 (omega (arith, whole)) in
+                let none : drop (8 * table_words table) r4 ≡ [] = drop_all (8 * table_words table) r4 (omega (arith, whole)) in
                 record {
                   good = good;
                   root_count = fr.how_many;

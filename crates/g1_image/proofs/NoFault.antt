@@ -10,9 +10,10 @@ use Rattle.g1_words.specs.declared.fault.Fault.TheVariants as fault
 use Rattle.g1_words.specs.declared.fault.Place.TheVariants as place
 use Rattle.g1_words.specs.declared.fault.Stand.TheVariants as stand
 use Rattle.g1_image.specs.Text.{File}
-use Rattle.g1_image.specs.Image.{Image, IsImage, IsLog, IsSetOf, IsTextOf, heap_of, file_of, kind_number, entry_of}
+use Rattle.g1_words.specs.Kind.{kind_number}
+use Rattle.g1_image.specs.Image.{Image, IsImage, IsLog, IsSetOf, IsTextOf, heap_of, file_of, entry_of}
 use Rattle.g1_image.specs.Judged.{IsGoodRoot}
-use Rattle.g1_image.specs.Faults.{FileFault, FaultOf, IsKnown, KindsKnown, Shaped, RootsGood, SlotsGood, LogsGood, SetGood, IsGoodSlot, IsGoodLogged}
+use Rattle.g1_image.specs.Faults.{FileFault, FaultOf, IsKnownKind, KindsKnown, Shaped, RootsGood, SlotsGood, LogsGood, SetGood, IsGoodSlot, IsGoodLogged}
 use Rattle.g1_image.proofs.FileOf.{file_fits, heap_of_file}
 use Rattle.g1_image.proofs.OneVerdict.{fault_of_whole}
 
@@ -43,7 +44,7 @@ kind_known HumongousFirst = omega arith
 kind_known Continuation = omega arith
 
 -- and so is each in the table of an image's file
-table_known : (qs : List Region) (r : ℕ) → IsKnown (map entry_of qs) r
+table_known : (qs : List Region) (r : ℕ) → IsKnownKind (map entry_of qs) r
 table_known [] r = omega arith
 table_known (q ∷ qs) zero = kind_known q.kind
 table_known (q ∷ qs) (suc r) = table_known qs r

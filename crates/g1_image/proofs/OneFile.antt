@@ -1,7 +1,7 @@
 -- No file's text begins another's.
 use Rattle.std.proofs.Common.{◌≡◌, ℕ, List, [], ◌++◌, refl, sym, ◌∙◌, append_assoc}
 use Rattle.std.proofs.lemmas.List.{append_cancel_left, append-nil}
-use Rattle.g1_image.specs.Text.{File, magic, heading_text, heading_of, file_text, table_text, words_text, numbers_text, sets_text, entry_text, set_text, total}
+use Rattle.g1_image.specs.Text.{File, magic, heading_text, heading_of, file_text, table_text, words_text, numbers_text, sets_text, entry_text, set_text, table_words}
 use Rattle.g1_image.specs.Faults.{EntryFits, SetFits, FileFits}
 use Rattle.g1_image.proofs.PrefixFree.{IsPrefixFree, Are-free}
 use Rattle.g1_image.proofs.Parts.{entry_free, set_free, heading_free}
@@ -20,7 +20,7 @@ file_free x y s t fx fy e =
     let b = words_free (heading_of y).roots x.roots y.roots _ _ (are_roots (heading_of y) x fx h.0) (are_roots (heading_of y) y fy refl) a.1 in
     let c = numbers_free (heading_of y).dirty x.log y.log _ _ (are_log (heading_of y) x fx h.0) (are_log (heading_of y) y fy refl) b.1 in
     let d = Are-free SetFits set_text set_free y.n x.sets y.sets _ _ (are_sets (heading_of y) x fx h.0) (are_sets (heading_of y) y fy refl) c.1 in
-    let k = words_free (total y.table) x.words y.words s t (words_as y.table x fx a.0) fy.words d.1 in (
+    let k = words_free (table_words y.table) x.words y.words s t (words_as y.table x fx a.0) fy.words d.1 in (
       (λ i. record {
         w = (h.0 i).w;
         k = (h.0 i).k;

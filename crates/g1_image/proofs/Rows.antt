@@ -11,7 +11,7 @@ use Rattle.g1_words.specs.declared.region.Kind.{Kind}
 use Rattle.g1_words.specs.declared.region.Kind.TheVariants.{Free, Ordinary, HumongousFirst, Continuation}
 use Rattle.g1_words.proofs.Tiling.{Front, Reaches-front, Reaches-rest, Reaches-more, Tiles-le, same_size}
 use Rattle.g1_words.proofs.Objects.{StandsIn, holds_stands, Within, stands_within, ordinary_has, first_has}
-use Rattle.g1_image.specs.Draft.{AllShaped}
+use Rattle.g1_image.specs.Draft.{ShapedBelow}
 use Rattle.g1_image.specs.Marks.{InRow, StartsIn, StartsBelow, mark, Marked, Marks, StartsAt}
 use Rattle.g1_image.proofs.Tiled.{header_is}
 
@@ -152,7 +152,7 @@ stands_starts Continuation h r o t = absurd t
 pub in_place : (h : Heap) (o : Object) (has : HasObject h o) → StandsIn (region h has.place).kind h has.place o
 in_place h o has = holds_stands (region h has.place).kind h has.place has.others o has.holds has.one_of
 
-pub Marks-end : (h : Heap) (marks : List Bool) → AllShaped h h.geometry.n → Marks (StartsBelow h h.geometry.n) marks → Marks (StartsAt h) marks
+pub Marks-end : (h : Heap) (marks : List Bool) → ShapedBelow h h.geometry.n → Marks (StartsBelow h h.geometry.n) marks → Marks (StartsAt h) marks
 Marks-end h marks shaped m = record {
   sound = λ a t. let s = m.sound a t in starts_object (region h s.0).kind h s.0 a s.1 refl (shaped s.0 s.1).by_kind s.2;
   whole = λ a s. m.whole a (subst (λ x. StartsBelow h h.geometry.n x) s.2 (s.1.place, s.1.in_heap, stands_starts (region h s.1.place).kind h s.1.place s.0 (in_place h s.0 s.1)));
@@ -191,7 +191,7 @@ apart_in HumongousFirst h r p o q kind s t u wo wq lt le = elim (cases_lt q.at (
 apart_in Continuation h r p o q kind s t u wo wq lt le = absurd t
 
 -- no object reaches into another
-pub apart : (h : Heap) (o q : Object) → 0 < h.geometry.w → AllShaped h h.geometry.n → HasObject h o → HasObject h q → o.at < q.at → o.at + o.size ≤ q.at
+pub apart : (h : Heap) (o q : Object) → 0 < h.geometry.w → ShapedBelow h h.geometry.n → HasObject h o → HasObject h q → o.at < q.at → o.at + o.size ≤ q.at
 apart h o q some shaped ho hq lt =
     let so = in_place h o ho in
     let sq = in_place h q hq in

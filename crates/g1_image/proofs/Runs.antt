@@ -8,13 +8,13 @@ use Rattle.g1_words.specs.declared.object.Object.{Object}
 use Rattle.g1_words.specs.declared.region.Kind.{Kind}
 use Rattle.g1_words.specs.declared.region.Kind.TheVariants.{HumongousFirst, Continuation}
 use Rattle.g1_words.proofs.Tiling.{same_size}
-use Rattle.g1_image.specs.Draft.{Latest, AllShaped}
+use Rattle.g1_image.specs.Draft.{Latest, ShapedBelow}
 use Rattle.g1_image.proofs.Tiled.{header_is}
 
 shape_of : (h : Heap) (k : Kind) (r : ℕ) → IsShaped h r → (region h r).kind ≡ k → IsShapedBy k h r
 shape_of h k r s e = subst (λ k. IsShapedBy k h r) e s.by_kind
 
-module _ (h : Heap) (r first size : ℕ) (latest : Latest h r first size) (shaped : AllShaped h r) where
+module _ (h : Heap) (r first size : ℕ) (latest : Latest h r first size) (shaped : ShapedBelow h r) where
   -- a humongous object that comes up to r is the last one that starts before r
   earlier : (f : ℕ) (o : Object) → 0 < size → IsFirst h f o → (r - f) * h.geometry.w < o.size → f < first → ⊥
   earlier f o some i lt le =

@@ -9,7 +9,7 @@ use Rattle.g1_words.specs.declared.region.Kind.{Kind}
 use Rattle.g1_words.specs.declared.region.Kind.TheVariants.{Free, Ordinary, HumongousFirst, Continuation}
 use Rattle.g1_words.proofs.Tiling.{Tiles-le, same_object}
 use Rattle.g1_words.proofs.Objects.{StandsIn}
-use Rattle.g1_image.specs.Draft.{AllShaped}
+use Rattle.g1_image.specs.Draft.{ShapedBelow}
 use Rattle.g1_image.specs.Marks.{StartsAt}
 use Rattle.g1_image.specs.Faults.{IsFirstBreach, IsGoodSlot}
 use Rattle.g1_image.proofs.Tiled.{header_is}
@@ -32,7 +32,7 @@ SlotsBelow-none h at below none = λ o p has lt slot. elim (cases_lt o.at at) [
   | inr ge ↦ absurd (none (o, has, (let e : o.at ≡ at = omega (arith, ge, lt) in e)))
 ]
 
-module _ (h : Heap) (shaped : AllShaped h h.geometry.n) where
+module _ (h : Heap) (shaped : ShapedBelow h h.geometry.n) where
   within : (k : Kind) (r : ℕ) (o : Object) → r < h.geometry.n → IsShapedBy k h r → StandsIn k h r o → o.at + o.size ≤ h.geometry.n * h.geometry.w
   within Free r o lt s t = absurd t
   within Ordinary r o lt s t =
@@ -51,7 +51,7 @@ module _ (h : Heap) (shaped : AllShaped h h.geometry.n) where
   ends_within o has = within (region h has.place).kind has.place o has.in_heap (shaped has.place has.in_heap).by_kind (in_place h o has)
 
 -- the object at an address, whose header was read
-module _ (h : Heap) (at : ℕ) (q : Object) (some : 0 < h.geometry.w) (shaped : AllShaped h h.geometry.n) (start : StartsAt h at)
+module _ (h : Heap) (at : ℕ) (q : Object) (some : 0 < h.geometry.w) (shaped : ShapedBelow h h.geometry.n) (start : StartsAt h at)
     (word : slice_index h.words at ≡ q.size * 2 ^ 32 + q.refs) (refs : q.refs < 2 ^ 32) (size : q.size < 2 ^ 32) where
   same : (o : Object) → HasObject h o → o.at ≡ at → (o.size ≡ q.size) × (o.refs ≡ q.refs)
   same o has e = header_is h.words at q word refs size o e (has_header h o has)

@@ -9,7 +9,7 @@ use Rattle.g1_words.proofs.Powers.{power_of_ones, ones_of_power}
 use Rattle.g1_words.specs.declared.fault.Fault.{Fault}
 use Rattle.g1_words.specs.declared.fault.Fault.TheVariants as fault
 use Rattle.g1_image.specs.declared.cursor.Heading.{Heading}
-use Rattle.g1_image.specs.Text.{Entry, u32, u64, magic, heading_text, table_text, words_text, numbers_text, sets_text, entry_text, set_text, total}
+use Rattle.g1_image.specs.Text.{Entry, u32, u64, magic, heading_text, table_text, words_text, numbers_text, sets_text, entry_text, set_text, table_words}
 use Rattle.g1_image.specs.Reading.{IsU64, IsBytes}
 use Rattle.g1_image.specs.Faults.{HeadingFits, IsGoodHeading, EntryFits, SetFits, FaultOf}
 use Rattle.g1_image.specs.Plain.{PlainIs}
@@ -180,9 +180,9 @@ told_body bytes b o =
                         | inr s ↦ inr (fault.Short, short_sets bytes rest h o.2 o.3 o.4 t.0 t.1 t.2 t.3 r.0 r.1 r.2 r.3 l.0 l.1 l.2 l.3 s)
                         | inl s ↦
                             let b4 : IsBytes s.1 = suffix l.1 (sets_text s.0) s.1 s.3 b3 in
-                            elim (cases_lt (length s.1) (8 * total t.0)) [
+                            elim (cases_lt (length s.1) (8 * table_words t.0)) [
                               | inl lt ↦ inr (fault.Short, short_words bytes rest h o.2 o.3 o.4 t.0 t.1 t.2 t.3 r.0 r.1 r.2 r.3 l.0 l.1 l.2 l.3 s.0 s.1 s.2 s.3 lt)
-                              | inr ge ↦ elim (cases_lt (8 * total t.0) (length s.1)) [
+                              | inr ge ↦ elim (cases_lt (8 * table_words t.0) (length s.1)) [
                                 | inl more ↦ inr (fault.Trailing, trailing bytes rest h o.2 o.3 o.4 t.0 t.1 t.2 t.3 r.0 r.1 r.2 r.3 l.0 l.1 l.2 l.3 s.0 s.1 s.2 s.3 b4 ge more)
                                 | inr le ↦ inl (
                                   h,

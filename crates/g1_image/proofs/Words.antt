@@ -3,7 +3,7 @@ use Rattle.std.proofs.Common.{◌≡◌, ◌≤◌, ◌<◌, ℕ, zero, suc, ◌
 use Rattle.std.proofs.lemmas.List.{append-nil, drop-drop, drop-take, drop_all, take_at}
 use borrow.Rule.Slice.PartMut.{put_mid, post_of}
 use Rattle.std.proofs.lemmas.List.Sums.{sum_by-append}
-use Rattle.g1_image.specs.Text.{Entry, u32, u64, words_text, numbers_text, read_word, words_of, total}
+use Rattle.g1_image.specs.Text.{Entry, u32, u64, words_text, numbers_text, read_word, words_of, table_words}
 use Rattle.g1_image.specs.Reading.{IsU64, Are, IsBytes, EndsWithin}
 use Rattle.g1_image.specs.Image.{all_words}
 use Rattle.g1_image.proofs.Numbers.{u64_read, u64-length}
@@ -106,39 +106,39 @@ pub numbers_text-is : (xs : List ℕ) → flat_map (little_bytes 4) xs ≡ numbe
 unfolding u32
 numbers_text-is xs = refl
 
-pub total-cons : (e : Entry) (es : List Entry) → total (e ∷ es) ≡ e.top + total es
-total-cons e es = omega (arith, sum_by-append (λ (e : Entry). e.top) (e ∷ []) es)
+pub table_words-cons : (e : Entry) (es : List Entry) → table_words (e ∷ es) ≡ e.top + table_words es
+table_words-cons e es = omega (arith, sum_by-append (λ (e : Entry). e.top) (e ∷ []) es)
 
 -- one more region
 pub laid_front : (w : ℕ) (e : Entry) (es : List Entry) (rest : List ℕ) →
-    all_words w (e ∷ es) (words_of (total (e ∷ es)) rest) ≡ words_of (min e.top w) rest ++ (replicate (w - e.top) 0 ++ all_words w es (words_of (total es) (drop (8 * e.top) rest)))
+    all_words w (e ∷ es) (words_of (table_words (e ∷ es)) rest) ≡ words_of (min e.top w) rest ++ (replicate (w - e.top) 0 ++ all_words w es (words_of (table_words es) (drop (8 * e.top) rest)))
 laid_front w e es rest =
-    let some : take (min e.top w) (words_of (total (e ∷ es)) rest) ≡ words_of (min e.top w) rest = take-words_of (min e.top w) (total (e ∷ es)) rest (omega (arith, total-cons e es)) in
-    let others : drop e.top (words_of (total (e ∷ es)) rest) ≡ words_of (total es) (drop (8 * e.top) rest) = drop-words_of e.top (total (e ∷ es)) (total es) rest (total-cons e es) in
+    let some : take (min e.top w) (words_of (table_words (e ∷ es)) rest) ≡ words_of (min e.top w) rest = take-words_of (min e.top w) (table_words (e ∷ es)) rest (omega (arith, table_words-cons e es)) in
+    let others : drop e.top (words_of (table_words (e ∷ es)) rest) ≡ words_of (table_words es) (drop (8 * e.top) rest) = drop-words_of e.top (table_words (e ∷ es)) (table_words es) rest (table_words-cons e es) in
     λ t. some t ++ (replicate (w - e.top) 0 ++ all_words w es (others t))
 
 pub laid_step : (w i : ℕ) (table : List Entry) (d : Entry) (out read padded rest after all : List ℕ) (used : ℕ) → i < length table →
-    used ≡ min (slice_index_or table i d).top w → length rest ≡ 8 * total (drop i table) →
-    out ++ all_words w (drop i table) (words_of (total (drop i table)) rest) ≡ all →
+    used ≡ min (slice_index_or table i d).top w → length rest ≡ 8 * table_words (drop i table) →
+    out ++ all_words w (drop i table) (words_of (table_words (drop i table)) rest) ≡ all →
     read ≡ out ++ words_of used rest → padded ≡ read ++ replicate (w - used) 0 → after ≡ drop (8 * (slice_index_or table i d).top) rest →
-    (length after ≡ 8 * total (drop (i + 1) table)) × (padded ++ all_words w (drop (i + 1) table) (words_of (total (drop (i + 1) table)) after) ≡ all)
+    (length after ≡ 8 * table_words (drop (i + 1) table)) × (padded ++ all_words w (drop (i + 1) table) (words_of (table_words (drop (i + 1) table)) after) ≡ all)
 laid_step w i table d out read padded rest after all used lt u len come r p a =
     let e : Entry = slice_index_or table i d in
     let es : List Entry = drop (i + 1) table in
     let split : drop i table ≡ e ∷ es = drop-cons table i d lt ∙ ap (λ k. e ∷ drop k table) (sym (add-one i)) in
-    let sum : total (drop i table) ≡ e.top + total es = ap total split ∙ total-cons e es in
+    let sum : table_words (drop i table) ≡ e.top + table_words es = ap table_words split ∙ table_words-cons e es in
     let pad : w - used ≡ w - e.top = omega (arith, u) in
-    let tail : List ℕ = all_words w es (words_of (total es) after) in
-    let front : all_words w (drop i table) (words_of (total (drop i table)) rest) ≡ words_of used rest ++ (replicate (w - used) 0 ++ tail) =
-    ap (λ l. all_words w l (words_of (total l) rest)) split ∙ laid_front w e es rest
-    ∙ (λ t. words_of (sym u t) rest ++ (replicate (sym pad t) 0 ++ all_words w es (words_of (total es) (sym a t)))) in (
+    let tail : List ℕ = all_words w es (words_of (table_words es) after) in
+    let front : all_words w (drop i table) (words_of (table_words (drop i table)) rest) ≡ words_of used rest ++ (replicate (w - used) 0 ++ tail) =
+    ap (λ l. all_words w l (words_of (table_words l) rest)) split ∙ laid_front w e es rest
+    ∙ (λ t. words_of (sym u t) rest ++ (replicate (sym pad t) 0 ++ all_words w es (words_of (table_words es) (sym a t)))) in (
       omega (arith, ap length a, length-drop (8 * e.top) rest, sum),
       ap (λ l. l ++ tail) p ∙ append_assoc read (replicate (w - used) 0) tail ∙ ap (λ l. l ++ (replicate (w - used) 0 ++ tail)) r
           ∙ append_assoc out (words_of used rest) (replicate (w - used) 0 ++ tail) ∙ ap (λ l. out ++ l) (sym front) ∙ come,
     )
 
-pub total-fits : (w : ℕ) (table : List Entry) (i : ℕ) (d : Entry) → i < length table → (slice_index_or table i d).top ≤ total (drop i table)
-total-fits w table i d lt =
+pub table_words-fits : (w : ℕ) (table : List Entry) (i : ℕ) (d : Entry) → i < length table → (slice_index_or table i d).top ≤ table_words (drop i table)
+table_words-fits w table i d lt =
     let split : drop i table ≡ slice_index_or table i d ∷ drop (suc i) table = drop-cons table i d lt in
-    let sum : total (drop i table) ≡ (slice_index_or table i d).top + total (drop (suc i) table) = ap total split ∙ total-cons (slice_index_or table i d) (drop (suc i) table) in
+    let sum : table_words (drop i table) ≡ (slice_index_or table i d).top + table_words (drop (suc i) table) = ap table_words split ∙ table_words-cons (slice_index_or table i d) (drop (suc i) table) in
     omega (arith, sum)

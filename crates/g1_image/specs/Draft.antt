@@ -6,6 +6,7 @@ use Rattle.g1_words.specs.Valid.{IsShaped, IsFirst, Tiles}
 use Rattle.g1_words.specs.declared.object.Object.{Object}
 use Rattle.g1_words.specs.declared.region.Kind.TheVariants.{HumongousFirst}
 
+-- what is known of a heap before its objects and references are looked at: its sizes, and that its lists have their lengths
 pub record IsDraft (h : Heap) : Type 0 where
   pub limits : IsWithinLimits h.geometry.w h.geometry.k h.geometry.n
   pub word_count : length h.words ≡ h.geometry.n * h.geometry.w
@@ -25,5 +26,6 @@ pub record Latest (h : Heap) (r first size : ℕ) : Type 0 where
   pub object : 0 < size → (refs : ℕ) × IsFirst h first (record { at = start h first; size = size; refs = refs })
   pub last : 0 < size → (q : ℕ) → first < q → q < r → (region h q).kind ≢ HumongousFirst
 
-abbrev pub AllShaped : Heap → ℕ → Type 0
-AllShaped h r = (q : ℕ) → q < r → IsShaped h q
+-- every region below r keeps its rules
+abbrev pub ShapedBelow : Heap → ℕ → Type 0
+ShapedBelow h r = (q : ℕ) → q < r → IsShaped h q

@@ -2,7 +2,7 @@
 use Rattle.std.specs.Prelude.{◌≡◌, ◌≢◌, ◌≤◌, ◌<◌, ℕ, ◌*◌, ◌^◌, ◌⊎◌, List, [], ◌++◌, length, slice_index, slice_index_or, All}
 use Rattle.g1_words.specs.Geometry.{IsWithinLimits}
 use Rattle.g1_words.specs.Valid.{IsShaped, AllShaped, IsReference, HasObject, IsSlotOf}
-use Rattle.g1_image.specs.Text.{File, Entry, magic, heading_text, heading_of, file_text, total}
+use Rattle.g1_image.specs.Text.{File, Entry, magic, heading_text, heading_of, file_text, table_words}
 use Rattle.g1_words.specs.Heap.{Heap}
 use Rattle.g1_image.specs.Reading.{Are, IsU32, IsU64, EndsWithin}
 use Rattle.g1_image.specs.Image.{heap_of, IsUsedCard, IsSetOf}
@@ -44,7 +44,7 @@ pub record FileFits (f : File) : Type 0 where
   pub roots : All IsU64 f.roots
   pub log : All IsU32 f.log
   pub sets : Are SetFits f.n f.sets
-  pub words : Are IsU64 (total f.table) f.words
+  pub words : Are IsU64 (table_words f.table) f.words
 
 -- the first of the numbers below an end of which P doesn't hold
 pub record IsFirstBreach (P : ℕ → Type 0) (end at : ℕ) : Type 0 where
@@ -57,12 +57,12 @@ abbrev pub StartsWithMagic : List ℕ → Type 0
 StartsWithMagic bytes = (rest : List ℕ) × (bytes ≡ magic ++ rest)
 
 -- the region's kind has a meaning
-abbrev pub IsKnown : List Entry → ℕ → Type 0
-IsKnown es r = (slice_index_or es r (record { kind = 0; top = 0 })).kind ≤ 3
+abbrev pub IsKnownKind : List Entry → ℕ → Type 0
+IsKnownKind es r = (slice_index_or es r (record { kind = 0; top = 0 })).kind ≤ 3
 
 -- the kind of region r is one of the four
 abbrev pub KindKnown : File → ℕ → Type 0
-KindKnown f r = IsKnown f.table r
+KindKnown f r = IsKnownKind f.table r
 
 -- every kind is one of the four
 abbrev pub KindsKnown : File → Type 0
@@ -84,6 +84,7 @@ RootsGood f = (i : ℕ) → i < length f.roots → RootGood f i
 abbrev pub IsGoodSlot : Heap → ℕ → Type 0
 IsGoodSlot h p = (o : Object) → HasObject h o → IsSlotOf o p → IsReference h (slice_index h.words p)
 
+-- the same for the heap that a file tells
 abbrev pub SlotGood : File → ℕ → Type 0
 SlotGood f p = IsGoodSlot (heap_of f) p
 
@@ -95,6 +96,7 @@ SlotsGood f = (p : ℕ) → p < f.n * f.w → SlotGood f p
 abbrev pub IsGoodLogged : Heap → List ℕ → ℕ → Type 0
 IsGoodLogged h log i = IsUsedCard h (slice_index log i) × ((j : ℕ) → j < i → slice_index log j ≢ slice_index log i)
 
+-- the same for the log of a file
 abbrev pub LogGood : File → ℕ → Type 0
 LogGood f i = IsGoodLogged (heap_of f) f.log i
 

@@ -3,10 +3,11 @@ use Rattle.std.specs.Prelude.{◌≡◌, ◌≢◌, ◌<◌, ℕ, ◌-◌, ◌*�
 use Rattle.std.specs.List.Sorted.{IsStrictlyIncreasing}
 use Rattle.g1_words.specs.Heap.{Heap, region, region_with}
 use Rattle.g1_words.specs.Valid.{IsValid}
+use Rattle.g1_words.specs.Kind.{kind_number, kind_of}
+pub use Rattle.g1_words.specs.Kind.{MayHoldCards}
 use Rattle.g1_image.specs.Text.{File, Entry, file_text}
 use Rattle.g1_words.specs.declared.region.Region.{Region}
-use Rattle.g1_words.specs.declared.region.Kind.{Kind}
-use Rattle.g1_words.specs.declared.region.Kind.TheVariants.{Free, Ordinary, HumongousFirst, Continuation}
+use Rattle.g1_words.specs.declared.region.Kind.TheVariants.{Free}
 
 -- a heap, the remembered set of each region, and the dirty log
 pub record Image : Type 0 where
@@ -22,12 +23,6 @@ region_of_card h c = c * h.geometry.k / h.geometry.w
 pub record IsUsedCard (h : Heap) (c : ℕ) : Type 0 where
   pub in_heap : c * h.geometry.k < h.geometry.n * h.geometry.w
   pub used : (region h (region_of_card h c)).kind ≢ Free
-
--- regions of this kind may have a remembered set that is not empty
-abbrev pub MayHoldCards : Kind → Type 0
-MayHoldCards Ordinary = Unit {0}
-MayHoldCards HumongousFirst = Unit {0}
-MayHoldCards _ = ⊥
 
 -- a remembered set that region r may have
 pub record IsSetOf (h : Heap) (r : ℕ) (cards : List ℕ) : Type 0 where
@@ -52,13 +47,6 @@ pub record IsImage (i : Image) : Type 0 where
   pub one_each : length i.sets ≡ i.heap.geometry.n
   pub sets : (r : ℕ) → r < i.heap.geometry.n → IsSetOf i.heap r (set_of i r)
   pub log : IsLog i.heap i.log
-
--- the number that stands for a kind in a file
-abbrev pub kind_number : Kind → ℕ
-kind_number Free = 0
-kind_number Ordinary = 1
-kind_number HumongousFirst = 2
-kind_number Continuation = 3
 
 -- a region's entry of the table
 abbrev pub entry_of : Region → Entry
@@ -86,10 +74,6 @@ file_of i = record {
 -- THE RELATION: the bytes are the image's text
 abbrev pub IsTextOf : List ℕ → Image → Type 0
 IsTextOf bytes i = IsImage i × (bytes ≡ file_text (file_of i))
-
--- The same, read from a file that need not be an image's.
-abbrev pub kind_of : ℕ → Kind
-kind_of x = if nat_lt x 2 then (if nat_lt x 1 then Free else Ordinary) else (if nat_lt x 3 then HumongousFirst else Continuation)
 
 -- the regions' words, each region's used words first and zeros after them
 abbrev pub all_words : ℕ → List Entry → List ℕ → List ℕ

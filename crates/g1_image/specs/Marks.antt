@@ -22,6 +22,7 @@ StartsIn Continuation h r a = ⊥
 abbrev pub StartsBelow : Heap → ℕ → ℕ → Type 0
 StartsBelow h n a = (r : ℕ) × (r < n) × StartsIn (region h r).kind h r a
 
+-- whether the address is marked; addresses past the last one are not
 abbrev pub mark : List Bool → ℕ → Bool
 mark marks a = slice_index_or marks a false
 
@@ -40,6 +41,7 @@ pub record Marks (P : ℕ → Type 0) (marks : List Bool) : Type 0 where
 abbrev pub StartsAt : Heap → ℕ → Type 0
 StartsAt h a = (o : Object) × HasObject h o × (o.at ≡ a)
 
+-- one mark for each word, set exactly where an object of the heap starts
 pub record StartsAre (h : Heap) (marks : List Bool) : Type 0 where
   pub each : Marks (StartsAt h) marks
   pub count : length marks ≡ h.geometry.n * h.geometry.w

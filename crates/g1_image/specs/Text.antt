@@ -78,5 +78,5 @@ words_of zero bytes = []
 words_of (suc n) bytes = read_word bytes ∷ words_of n (drop 8 bytes)
 
 -- how many words the table announces
-abbrev pub total : List Entry → ℕ
-total es = sum_by (λ e. e.top) es
+abbrev pub table_words : List Entry → ℕ
+table_words es = sum_by (λ e. e.top) es

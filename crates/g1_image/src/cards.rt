@@ -1,10 +1,9 @@
 ghost use Rattle.std.specs.Prelude.{◌≡◌, ◌≤◌, ◌<◌, ◌+◌, ◌*◌, ◌/◌, ◌^◌, ◌⊎◌, ℕ, List, [], All, map, length, slice_index, slice_index_or, IsTrue, ◌↔◌, OnOk, IfOk, IfErr};
-ghost use Rattle.g1_words.specs.Heap.{region};
-ghost use Rattle.g1_image.specs.Image.{IsUsedCard, IsSetOf, MayHoldCards, region_of_card};
+ghost use Rattle.g1_image.specs.Image.{IsUsedCard, IsSetOf};
 ghost use Rattle.g1_image.specs.Faults.{IsFirstBreach, IsGoodLogged};
 
 use crate::draft::Draft;
-use g1_words::{Fault, Kind, Stand};
+use g1_words::{Fault, Stand};
 use indexmap::IndexSet;
 use std::alloc::Global;
 
@@ -12,15 +11,12 @@ use std::alloc::Global;
 fn is_used(draft: &Draft, c: u32) -> bool
     ensures { IsTrue result ↔ IsUsedCard draft.now c }
 {
-    let region_words = draft.geometry().region_words();
-    let at = u64::from(c) * draft.geometry().card_words();
-    if at >= draft.geometry().regions() * region_words {
+    let geometry = draft.geometry();
+    if geometry.card_start(c) >= geometry.words() {
         return false;
     }
-    match draft.region((at / region_words) as u32).kind {
-        Kind::Free => false,
-        _ => true,
-    }
+    let region = geometry.region_of_card(c);
+    draft.region(region as u32).kind.is_used()
 }
 
 /// The log's cards, or the first that isn't good.
@@ -42,35 +38,22 @@ pub(crate) fn good_log(alloc: Global, draft: &Draft, log: &[u32]) -> Result<Inde
     Ok(cards)
 }
 
-/// Tells whether a region may have cards.
-fn may_hold(draft: &Draft, r: u32) -> bool
-    requires { r < draft.now.geometry.n }
-    ensures { IsTrue result ↔ MayHoldCards (region draft.now r).kind }
-{
-    match draft.region(r).kind {
-        Kind::Ordinary => true,
-        Kind::HumongousFirst => true,
-        _ => false,
-    }
-}
-
 /// Tells whether a remembered set may be that of a region.
 fn is_set_of(draft: &Draft, r: u32, cards: &[u32]) -> bool
     requires there { r < draft.now.geometry.n }
     requires count { length cards.now < 2 ^ 32 }
     ensures { IsTrue result ↔ IsSetOf draft.now r cards.now }
 {
-    if cards.len() > 0 && !may_hold(draft, r) {
+    if cards.len() > 0 && !draft.region(r).kind.may_hold_cards() {
         return false;
     }
-    let region_words = draft.geometry().region_words();
-    let card_words = draft.geometry().card_words();
+    let geometry = draft.geometry();
     for i in 0..cards.len() {
         let c = cards[i];
         if !is_used(draft, c) {
             return false;
         }
-        if u64::from(c) * card_words / region_words == u64::from(r) {
+        if geometry.region_of_card(c) == u64::from(r) {
             return false;
         }
         if i > 0 && cards[i - 1] >= c {

@@ -3,7 +3,7 @@ ghost use Rattle.g1_image.specs.Text.{u32 as u32_text, heading_text, magic};
 ghost use Rattle.g1_image.specs.Faults.{HeadingFits, IsGoodHeading, FaultOf};
 
 use byteorder::{ByteOrder, LittleEndian};
-use g1_words::{Fault, Geometry};
+use g1_words::{Fault, Geometry, MOST_ROOTS};
 use std::marker::Model;
 
 /// The numbers at the head of an image file.
@@ -142,7 +142,7 @@ fn is_good(h: &Heading) -> bool
     ensures { IsTrue result ↔ IsGoodHeading h.now }
 {
     match Geometry::new(u64::from(h.w), u64::from(h.k), u64::from(h.n)) {
-        Ok(geometry) => geometry.region_words() > 0 && h.roots <= 65_536 && h.current <= h.n,
+        Ok(geometry) => geometry.region_words() > 0 && h.roots <= MOST_ROOTS && h.current <= h.n,
         Err(_) => false,
     }
 }

@@ -1,7 +1,7 @@
 ghost use Rattle.std.specs.Prelude.{◌≡◌, ◌≤◌, ◌<◌, ◌+◌, ◌*◌, ◌^◌, ◌⊎◌, ℕ, List, [], map, All, length, OnOk, IfOk, IfErr};
 ghost use Rattle.g1_image.specs.Image.{IsTextOf, heap_of};
-ghost use Rattle.g1_image.specs.Faults.{MayFail, IsGoodHeading, IsKnown, IsFirstBreach};
-ghost use Rattle.g1_image.specs.Text.{total};
+ghost use Rattle.g1_image.specs.Faults.{MayFail, IsGoodHeading, IsKnownKind, IsFirstBreach};
+ghost use Rattle.g1_image.specs.Text.{table_words};
 ghost use Rattle.g1_image.specs.Plain.{plain_file};
 ghost use Rattle.g1_image.specs.Judged.{IsGoodHeap, HeapFault};
 
@@ -51,9 +51,9 @@ fn drafted(
     requires good { IsGoodHeading h.now }
     requires table { length table.now ≡ h.now.n }
     requires roots { length roots.items ≡ h.now.roots }
-    requires whole { length words.now ≡ 8 * total table.now }
-    ensures ok { IfOk result (λ d. (d ≡ heap_of (plain_file h.now table.now roots.items [] [] words.now)) × ((r : ℕ) → r < h.now.n → IsKnown table.now r)) }
-    ensures err { IfErr result (λ e. (e ≡ Fault.Memory) ⊎ ((r : ℕ) × (e ≡ Fault.Kind r) × IsFirstBreach (IsKnown table.now) h.now.n r)) }
+    requires whole { length words.now ≡ 8 * table_words table.now }
+    ensures ok { IfOk result (λ d. (d ≡ heap_of (plain_file h.now table.now roots.items [] [] words.now)) × ((r : ℕ) → r < h.now.n → IsKnownKind table.now r)) }
+    ensures err { IfErr result (λ e. (e ≡ Fault.Memory) ⊎ ((r : ℕ) × (e ≡ Fault.Kind r) × IsFirstBreach (IsKnownKind table.now) h.now.n r)) }
 {
     let regions = match regions(alloc, table) {
         Ok(regions) => regions,

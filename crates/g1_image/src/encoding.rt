@@ -1,31 +1,19 @@
 ghost use Rattle.std.specs.Prelude.{◌≡◌, ◌≤◌, ◌<◌, ◌*◌, ◌^◌, ◌++◌, ℕ, List, [], length, map, All, OnOk, IfOk, IfErr};
 ghost use Rattle.g1_image.specs.Text.{table_text, magic};
-ghost use Rattle.g1_image.specs.Image.{kind_number, entry_of, IsTextOf};
+ghost use Rattle.g1_image.specs.Image.{entry_of, IsTextOf};
 
 use crate::cursor::Heading;
 use crate::image::Image;
 use crate::writing::{push_heading, push_number, push_numbers, push_sets, push_used, push_words};
-use g1_words::{Fault, Kind, Region};
+use g1_words::{Fault, Region};
 use std::alloc::Global;
-
-/// The number that stands for a kind in an image file.
-pub fn number_of_kind(kind: Kind) -> u32
-    ensures { result ≡ kind_number kind }
-{
-    match kind {
-        Kind::Free => 0,
-        Kind::Ordinary => 1,
-        Kind::HumongousFirst => 2,
-        Kind::Continuation => 3,
-    }
-}
 
 fn push_table(out: &mut Vec<u8>, regions: &[Region]) -> Result<(), Fault>
     ensures ok { OnOk result (out.new.items ≡ out.old.items ++ table_text (map entry_of regions.now)) }
     ensures err { IfErr result (λ e. e ≡ Fault.Memory) }
 {
     for region in regions {
-        push_number(out, number_of_kind(region.kind))?;
+        push_number(out, region.kind.number())?;
         push_number(out, region.top)?;
     }
     Ok(())

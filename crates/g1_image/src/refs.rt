@@ -2,13 +2,13 @@ ghost use Rattle.std.specs.Prelude.{◌≡◌, ◌≤◌, ◌<◌, ◌+◌, ◌*
 ghost use Rattle.g1_words.specs.Heap.{region};
 ghost use Rattle.g1_words.specs.Valid.{IsShaped, IsReference};
 ghost use Rattle.g1_words.specs.Walk.{Reaches};
-ghost use Rattle.g1_image.specs.Draft.{AllShaped};
+ghost use Rattle.g1_image.specs.Draft.{ShapedBelow};
 ghost use Rattle.g1_image.specs.Marks.{InRow, Marked, StartsAre};
 ghost use Rattle.g1_image.specs.Faults.{IsFirstBreach, IsGoodSlot};
 
-use crate::draft::{Draft, header};
+use crate::draft::Draft;
 use crate::marks::Marks;
-use g1_words::{Fault, Kind, Place};
+use g1_words::{Fault, Kind, Place, header};
 use std::alloc::Global;
 
 /// Marks the objects that fill the words between two addresses.
@@ -28,7 +28,7 @@ fn mark_row(marks: &mut Marks, words: &[u64], from: u64, to: u64)
 
 /// Marks the addresses where objects start.
 pub(crate) fn starts(alloc: Global, draft: &Draft) -> Result<Marks, Fault>
-    requires { AllShaped draft.now draft.now.geometry.n }
+    requires { ShapedBelow draft.now draft.now.geometry.n }
     ensures ok { IfOk result (λ v. StartsAre draft.now v) }
     ensures err { IfErr result (λ e. e ≡ Fault.Memory) }
 {
@@ -97,7 +97,7 @@ fn first_stray(draft: &Draft, marks: &Marks, words: &[u64]) -> Option<usize>
 /// Tells the first slot that names no object.
 pub(crate) fn good_slots(draft: &Draft, marks: &Marks) -> Result<(), Fault>
     requires starts { StartsAre draft.now marks.now }
-    requires shaped { AllShaped draft.now draft.now.geometry.n }
+    requires shaped { ShapedBelow draft.now draft.now.geometry.n }
     ensures ok { OnOk result ((p : ℕ) → p < draft.now.geometry.n * draft.now.geometry.w → IsGoodSlot draft.now p) }
     ensures err { IfErr result (λ e. (p : ℕ) × (e ≡ Fault.Reference (Place.Slot p)) × IsFirstBreach (IsGoodSlot draft.now) (draft.now.geometry.n * draft.now.geometry.w) p) }
 {

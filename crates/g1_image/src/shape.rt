@@ -2,11 +2,11 @@ ghost use Rattle.std.specs.Prelude.{◌≡◌, ◌≤◌, ◌<◌, ◌+◌, ◌*
 ghost use Rattle.g1_words.specs.Heap.{region};
 ghost use Rattle.g1_words.specs.Valid.{IsShaped, IsShapedBy, IsWholeRun};
 ghost use Rattle.g1_words.specs.declared.region.Kind.TheVariants.{Ordinary, HumongousFirst, Continuation};
-ghost use Rattle.g1_image.specs.Draft.{IsTiled, Latest, AllShaped};
+ghost use Rattle.g1_image.specs.Draft.{IsTiled, Latest, ShapedBelow};
 ghost use Rattle.g1_image.specs.Faults.{IsFirstBreach};
 
-use crate::draft::{Draft, header};
-use g1_words::{Fault, Kind};
+use crate::draft::Draft;
+use g1_words::{Fault, Kind, header};
 
 /// Tells whether objects that aren't humongous fill the words between two addresses.
 fn is_tiled(words: &[u64], from: u64, to: u64, region_words: u64) -> bool
@@ -46,9 +46,8 @@ fn is_run(draft: &Draft, r: u32, size: u64) -> bool
         if u64::from(r) + i >= regions {
             return false;
         }
-        match draft.region(r + i as u32).kind {
-            Kind::Continuation => {}
-            _ => return false,
+        if !draft.region(r + i as u32).kind.is_continuation() {
+            return false;
         }
         i += 1;
     }
@@ -60,7 +59,8 @@ fn ordinary_shaped(draft: &Draft, r: u32) -> bool
     requires kind { (region draft.now r).kind ≡ Ordinary }
     ensures { IsTrue result ↔ IsShapedBy Ordinary draft.now r }
 {
-    let region_words = draft.geometry().region_words();
+    let geometry = draft.geometry();
+    let region_words = geometry.region_words();
     let top = u64::from(draft.region(r).top);
     if top == 0 {
         return false;
@@ -68,7 +68,7 @@ fn ordinary_shaped(draft: &Draft, r: u32) -> bool
     if top > region_words {
         return false;
     }
-    let start = u64::from(r) * region_words;
+    let start = geometry.start(r);
     is_tiled(draft.words(), start, start + top, region_words)
 }
 
@@ -77,9 +77,10 @@ fn first_shaped(draft: &Draft, r: u32) -> bool
     requires kind { (region draft.now r).kind ≡ HumongousFirst }
     ensures { IsTrue result ↔ IsShapedBy HumongousFirst draft.now r }
 {
-    let region_words = draft.geometry().region_words();
+    let geometry = draft.geometry();
+    let region_words = geometry.region_words();
     let top = u64::from(draft.region(r).top);
-    let o = header(draft.words(), u64::from(r) * region_words);
+    let o = header(draft.words(), geometry.start(r));
     if o.refs >= o.size {
         return false;
     }
@@ -100,7 +101,7 @@ fn first_shaped(draft: &Draft, r: u32) -> bool
 fn continued(draft: &Draft, r: u32, first: u32, size: u64) -> bool
     requires there { r < draft.now.geometry.n }
     requires latest { Latest draft.now r first size }
-    requires shaped { AllShaped draft.now r }
+    requires shaped { ShapedBelow draft.now r }
     requires kind { (region draft.now r).kind ≡ Continuation }
     ensures { IsTrue result ↔ IsShapedBy Continuation draft.now r }
 {
@@ -126,7 +127,7 @@ fn continued(draft: &Draft, r: u32, first: u32, size: u64) -> bool
 fn kind_shaped(draft: &Draft, r: u32, first: u32, size: u64) -> bool
     requires there { r < draft.now.geometry.n }
     requires latest { Latest draft.now r first size }
-    requires shaped { AllShaped draft.now r }
+    requires shaped { ShapedBelow draft.now r }
     ensures { IsTrue result ↔ IsShapedBy (region draft.now r).kind draft.now r }
 {
     let region = draft.region(r);
@@ -143,12 +144,12 @@ fn current_shaped(draft: &Draft, r: u32) -> bool
     requires there { r < draft.now.geometry.n }
     ensures { IsTrue result ↔ (draft.now.current ≡ Some r → (region draft.now r).kind ≡ Ordinary) }
 {
-    match draft.region(r).kind {
-        Kind::Ordinary => true,
-        _ => match draft.current() {
-            Some(current) => current != r,
-            None => true,
-        },
+    if draft.region(r).kind.is_ordinary() {
+        return true;
+    }
+    match draft.current() {
+        Some(current) => current != r,
+        None => true,
     }
 }
 
@@ -156,7 +157,7 @@ fn current_shaped(draft: &Draft, r: u32) -> bool
 fn region_shaped(draft: &Draft, r: u32, first: u32, size: u64) -> bool
     requires there { r < draft.now.geometry.n }
     requires latest { Latest draft.now r first size }
-    requires shaped { AllShaped draft.now r }
+    requires shaped { ShapedBelow draft.now r }
     ensures { IsTrue result ↔ IsShaped draft.now r }
 {
     if !kind_shaped(draft, r, first, size) {
@@ -167,23 +168,20 @@ fn region_shaped(draft: &Draft, r: u32, first: u32, size: u64) -> bool
 
 /// Tells the first region that breaks a rule.
 pub(crate) fn shaped(draft: &Draft) -> Result<(), Fault>
-    ensures ok { OnOk result (AllShaped draft.now draft.now.geometry.n) }
+    ensures ok { OnOk result (ShapedBelow draft.now draft.now.geometry.n) }
     ensures err { IfErr result (λ e. (r : ℕ) × (e ≡ Fault.Shape r) × IsFirstBreach (IsShaped draft.now) draft.now.geometry.n r) }
 {
-    let region_words = draft.geometry().region_words();
-    let regions = draft.geometry().regions() as u32;
+    let geometry = draft.geometry();
+    let regions = geometry.regions() as u32;
     let mut first = 0;
     let mut size = 0;
     for r in 0..regions {
         if !region_shaped(draft, r, first, size) {
             return Err(Fault::Shape(r));
         }
-        match draft.region(r).kind {
-            Kind::HumongousFirst => {
-                first = r;
-                size = header(draft.words(), u64::from(r) * region_words).size;
-            }
-            _ => {}
+        if draft.region(r).kind.is_humongous_first() {
+            first = r;
+            size = header(draft.words(), geometry.start(r)).size;
         }
     }
     Ok(())

@@ -4,9 +4,9 @@ ghost use Rattle.g1_layout.specs.Placed.{CanLay, CanPlace};
 ghost use Rattle.g1_layout.specs.Plan.{laid_before, run_at, runs, plan_of};
 
 use crate::plan::{Plan, Run};
-use crate::row::{free_count, free_regions, need, next_fit, size_at};
+use crate::row::{free_count, free_regions, need, next_fit};
 use crate::table::Table;
-use g1_words::{Fault, Heap, region_of};
+use g1_words::{Fault, Heap, region_of, size_at};
 use std::alloc::Global;
 
 /// The survivors' new addresses.
@@ -22,14 +22,15 @@ fn places(
     ensures ok { IfOk result (λ v. v.items ≡ places_of heap.now survivors.now) }
     ensures memory { IfErr result (λ e. e ≡ Fault.Memory) }
 {
-    let region_words = heap.geometry().region_words();
+    let geometry = heap.geometry();
+    let region_words = geometry.region_words();
     let mut places = Vec::with_capacity(alloc, survivors.len())?;
     let mut end: u64 = 0;
     for a in survivors {
         let size = size_at(heap, *a);
         let at = next_fit(region_words, end, size);
-        let region = u64::from(to_space[(at / region_words) as usize]);
-        places.push(region * region_words + at % region_words)?;
+        let region = to_space[(at / region_words) as usize];
+        places.push(geometry.start(region) + at % region_words)?;
         end = at + size;
     }
     Ok(places)
@@ -43,7 +44,7 @@ fn run_from(heap: &Heap, survivors: &[u64], places: &[u64], region: u32, from: u
     ensures { (t : ℕ) → t < need heap.now survivors.now → region ≡ slice_index (free_regions heap.now) t → from ≡ laid_before heap.now survivors.now t → result ≡ run_at heap.now survivors.now t }
 {
     let geometry = heap.geometry();
-    let start = u64::from(region) * geometry.region_words();
+    let start = geometry.start(region);
     let mut to = from;
     let mut end: u64 = 0;
     while to < places.len() && region_of(&geometry, places[to]) == u64::from(region) {

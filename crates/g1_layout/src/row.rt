@@ -1,18 +1,9 @@
 ghost use Rattle.std.specs.Prelude.{◌≡◌, ◌≤◌, ◌<◌, ◌+◌, ◌*◌, ◌^◌, length, IfOk, IfErr};
-ghost use Rattle.g1_words.specs.Heap.{is_free, kind, object_at};
 ghost use Rattle.g1_words.specs.Layout.{next_fit, need, free_regions, to_space};
 ghost use Rattle.g1_layout.specs.Placed.{CanLay};
 
-use g1_words::{Fault, Heap, Kind, REFS_RANGE};
+use g1_words::{Fault, Heap, size_at};
 use std::alloc::Global;
-
-/// The size in words of the object at an address.
-pub(crate) fn size_at(heap: &Heap, a: u64) -> u64
-    requires { a < length heap.now.words }
-    ensures { result ≡ (object_at heap.now a).size }
-{
-    heap.words()[a as usize] / REFS_RANGE
-}
 
 /// The place of an object of a size in an endless row of empty regions, from an address of the row on.
 pub(crate) fn next_fit(region_words: u64, from: u64, size: u64) -> u64
@@ -41,17 +32,6 @@ pub(crate) fn need(heap: &Heap, survivors: &[u64]) -> u64
     (end + (region_words - 1)) / region_words
 }
 
-/// Tells whether a region is free.
-fn is_free(heap: &Heap, r: u32) -> bool
-    requires { r < heap.now.geometry.n }
-    ensures { result ≡ is_free (kind heap.now r) }
-{
-    match heap.region(r).kind {
-        Kind::Free => true,
-        _ => false,
-    }
-}
-
 /// The number of free regions.
 pub(crate) fn free_count(heap: &Heap) -> u64
     ensures { result ≡ length (free_regions heap.now) }
@@ -59,7 +39,7 @@ pub(crate) fn free_count(heap: &Heap) -> u64
     let regions = heap.geometry().regions() as u32;
     let mut count: u64 = 0;
     for r in 0..regions {
-        if is_free(heap, r) {
+        if heap.region(r).kind.is_free() {
             count += 1;
         }
     }
@@ -74,7 +54,7 @@ pub(crate) fn free_regions(alloc: Global, heap: &Heap) -> Result<Vec<u32>, Fault
     let regions = heap.geometry().regions() as u32;
     let mut free = Vec::new(alloc);
     for r in 0..regions {
-        if is_free(heap, r) {
+        if heap.region(r).kind.is_free() {
             free.push(r)?;
         }
     }

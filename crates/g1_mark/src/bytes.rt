@@ -1,23 +1,14 @@
-ghost use Rattle.std.specs.Prelude.{◌≡◌, ◌≤◌, not, map, replicate, Contains, IfOk};
+ghost use Rattle.std.specs.Prelude.{◌≡◌, ◌≤◌, map, replicate, Contains, IfOk};
 ghost use Rattle.std.specs.List.{All};
-ghost use Rattle.g1_words.specs.Heap.{is_free, object_at, objects, regions};
+ghost use Rattle.g1_words.specs.Heap.{object_at, objects, regions};
 ghost use Rattle.g1_words.specs.Lists.{has};
 ghost use Rattle.g1_words.specs.Live.{bytes_where};
 ghost use Rattle.g1_words.specs.Survivors.{firsts};
 ghost use Rattle.g1_words.specs.Valid.{IsValid};
 ghost use Rattle.g1_mark.specs.Marked.{used};
 
-use g1_words::{Heap, Kind, REFS_RANGE, region_of};
+use g1_words::{Heap, region_of, size_at};
 use std::alloc::{AllocError, Global};
-
-fn is_used(kind: Kind) -> bool
-    ensures { result ≡ not (is_free kind) }
-{
-    match kind {
-        Kind::Free => false,
-        _ => true,
-    }
-}
 
 /// The regions that aren't free, rising.
 pub fn used_regions(alloc: Global, heap: &Heap) -> Result<Vec<u32>, AllocError>
@@ -26,7 +17,7 @@ pub fn used_regions(alloc: Global, heap: &Heap) -> Result<Vec<u32>, AllocError>
 {
     let mut used = Vec::new(alloc);
     for region in 0..heap.geometry().regions() as u32 {
-        if is_used(heap.region(region).kind) {
+        if heap.region(region).kind.is_used() {
             used.push(region)?;
         }
     }
@@ -46,11 +37,10 @@ pub fn bytes_at(alloc: Global, heap: &Heap, addresses: &[u64]) -> Result<Vec<u64
     ensures { IfOk result (λ v. v.items ≡ map (bytes_where heap.now (has addresses.now)) (regions heap.now)) }
 {
     let geometry = heap.geometry();
-    let words = heap.words();
     let mut bytes = zeros(alloc, geometry.regions())?;
     for address in addresses {
         let region = region_of(&geometry, *address) as usize;
-        bytes[region] += 8 * (words[*address as usize] / REFS_RANGE);
+        bytes[region] += 8 * size_at(heap, *address);
     }
     Ok(bytes)
 }

@@ -9,7 +9,7 @@ ghost use Rattle.g1_rem.specs.Places.{IsBehind, AreBehind, AreReadyFor};
 use crate::leads::led_into;
 use crate::tracked::Tracked;
 use g1_image::Image;
-use g1_words::{Fault, REFS_RANGE, card_of, objects_in};
+use g1_words::{Fault, card_of, header, objects_in};
 use std::alloc::Global;
 use std::thread::Threads;
 
@@ -83,7 +83,7 @@ fn first_in(
     let heap = image.heap();
     let starts = objects_in(alloc, heap, region)?;
     'objects: for at in &starts {
-        let refs = heap.words()[*at as usize] % REFS_RANGE;
+        let refs = header(heap.words(), *at).refs;
         if let Some(p) = first_between(image, places, *at + 1, *at + 1 + refs) {
             return Ok(Some(p));
         }

@@ -2,7 +2,7 @@ ghost use Rattle.std.specs.Prelude.{◌≡◌, ◌≤◌, ◌<◌, ◌+◌, ◌*
 ghost use Rattle.g1_rem.specs.Starts.{IsStartsOf};
 ghost use Rattle.g1_rem.specs.Marks.{IsMarkedTo, Told, objects_from};
 
-use g1_words::{Fault, Heap, REFS_RANGE, objects_in};
+use g1_words::{Fault, Heap, objects_in, size_at};
 use std::alloc::Global;
 use std::marker::Model;
 
@@ -53,7 +53,7 @@ fn mark_region(
     let k = heap.geometry().card_words();
     let starts = objects_in(alloc, heap, region)?;
     'objects: for at in &starts {
-        let size = heap.words()[*at as usize] / REFS_RANGE;
+        let size = size_at(heap, *at);
         mark(firsts, k, *at, None)?;
         mark(firsts, k, *at + size, Some(*at as u32))?;
     }
@@ -74,12 +74,7 @@ impl Starts {
         for region in 0..geometry.regions() as u32 {
             mark_region(alloc, heap, region, &mut firsts)?;
         }
-        mark(
-            &mut firsts,
-            geometry.card_words(),
-            geometry.regions() * geometry.region_words(),
-            None,
-        )?;
+        mark(&mut firsts, geometry.card_words(), geometry.words(), None)?;
         Ok(Starts { firsts })
     }
 

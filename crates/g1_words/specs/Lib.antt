@@ -1,6 +1,8 @@
 pub mod Fault
 pub mod Geometry
 pub mod Lists
+pub mod Kind
+pub mod Header
 pub mod Heap
 pub mod Valid
 pub mod Walk

@@ -5,6 +5,26 @@ ghost use Rattle.std.specs.Int.{IsPowerOfTwo};
 use crate::fault::Fault;
 use std::marker::Model;
 
+/// Regions of fewer words are no use even for examples that are followed by hand.
+const LEAST_REGION_WORDS: u64 = 16;
+
+/// 512 KiB, half of HotSpot's smallest region. Twice as many would leave room for 128 regions in the
+/// widest heap.
+const MOST_REGION_WORDS: u64 = 65_536;
+
+/// A table has one entry a card: cards of fewer words would make it as long as a good part of the heap.
+const LEAST_CARD_WORDS: u64 = 4;
+
+/// 512 bytes, the usual card of HotSpot. The slots on a card fit a list that never grows.
+const MOST_CARD_WORDS: u64 = 64;
+
+/// Twice the number of regions that HotSpot aims at. Tables have one entry a region.
+const MOST_REGIONS: u64 = 4_096;
+
+/// 2^24 words, or 128 MiB. The roots and twice the words are fewer than 2^32, so that each slot of a
+/// search has a number of 32 bits.
+const MOST_WORDS: u64 = 16_777_216;
+
 /// The sizes of a heap: words a region, words a card, and the number of regions.
 #[derive(Debug, PartialEq, Eq)]
 pub struct Geometry {
@@ -59,13 +79,13 @@ impl Geometry {
         ensures ok { IfOk result (λ g. (g.w ≡ w) × (g.k ≡ k) × (g.n ≡ n)) }
         ensures err { IfErr result (λ e. (e ≡ Fault.Geometry) × (IsWithinLimits w k n → ⊥)) }
     {
-        if !is_power(w) || w < 16 || w > 65_536 {
+        if !is_power(w) || w < LEAST_REGION_WORDS || w > MOST_REGION_WORDS {
             return Err(Fault::Geometry);
         }
-        if !is_power(k) || k < 4 || k > 64 || k > w {
+        if !is_power(k) || k < LEAST_CARD_WORDS || k > MOST_CARD_WORDS || k > w {
             return Err(Fault::Geometry);
         }
-        if n < 1 || n > 4_096 || n * w > 16_777_216 {
+        if n < 1 || n > MOST_REGIONS || n * w > MOST_WORDS {
             return Err(Fault::Geometry);
         }
         Ok(Geometry { w, k, n })
@@ -93,5 +113,46 @@ impl Geometry {
         ensures limits { IsWithinLimits self.now.w self.now.k self.now.n }
     {
         self.n
+    }
+
+    /// The number of words of the heap.
+    pub fn words(&self) -> u64
+        ensures value { result ≡ self.now.n * self.now.w }
+        ensures limits { IsWithinLimits self.now.w self.now.k self.now.n }
+    {
+        self.n * self.w
+    }
+
+    /// The number of cards of the heap.
+    pub fn cards(&self) -> u64
+        ensures value { result ≡ self.now.n * self.now.w / self.now.k }
+        ensures limits { IsWithinLimits self.now.w self.now.k self.now.n }
+    {
+        let words = self.words();
+        words / self.k
+    }
+
+    /// The address of the first word of a region, also of one past the heap's last.
+    pub fn start(&self, region: u32) -> u64
+        ensures value { result ≡ region * self.now.w }
+        ensures limits { IsWithinLimits self.now.w self.now.k self.now.n }
+    {
+        u64::from(region) * self.w
+    }
+
+    /// The address of the first word of a card, also of one past the heap's last.
+    pub fn card_start(&self, card: u32) -> u64
+        ensures value { result ≡ card * self.now.k }
+        ensures limits { IsWithinLimits self.now.w self.now.k self.now.n }
+    {
+        u64::from(card) * self.k
+    }
+
+    /// The number of the region that a card lies in, or would lie in.
+    pub fn region_of_card(&self, card: u32) -> u64
+        ensures value { result ≡ card * self.now.k / self.now.w }
+        ensures limits { IsWithinLimits self.now.w self.now.k self.now.n }
+    {
+        self.card_start(card) / self.w
     }
 }

@@ -17,9 +17,11 @@ mod region;
 
 pub use fault::{Device, Fault, Place, Stand};
 pub use geometry::Geometry;
-pub use heap::Heap;
+pub use heap::{Heap, MOST_ROOTS};
 pub use laws::{apart, computed_objects, computed_references, one_list};
-pub use object::{Object, REFS_RANGE, card_of, object_at, objects_in, region_of, slots_of};
+pub use object::{
+    Object, REFS_RANGE, card_of, header, object_at, objects_in, region_of, size_at, slots_of,
+};
 pub use region::{Kind, Region};
 
 #[cfg(test)]

@@ -1,4 +1,5 @@
-ghost use Rattle.std.specs.Prelude.{◌≡◌, ◌≤◌, ◌<◌, ◌+◌, ◌*◌, ◌/◌, ◌^◌, ◌-◌, ℕ, List, length, map, Contains, IfSome, IfNone, IfOk, IfErr};
+ghost use Rattle.std.specs.Prelude.{◌≡◌, ◌≤◌, ◌<◌, ◌+◌, ◌*◌, ◌/◌, ◌^◌, ◌-◌, ℕ, List, length, map, slice_index, Contains, IfSome, IfNone, IfOk, IfErr};
+ghost use Rattle.g1_words.specs.Header.{header};
 ghost use Rattle.g1_words.specs.Heap.{object_at, objects_in, objects};
 ghost use Rattle.g1_words.specs.Valid.{IsObject, Tiles};
 ghost use Rattle.g1_words.specs.Walk.{Reaches, StandsBetween};
@@ -21,10 +22,14 @@ pub struct Object {
 /// A header word is the object's size in words times this, plus its number of reference slots.
 pub const REFS_RANGE: u64 = 4_294_967_296;
 
-/// The object whose header is the word at an address, if one stands there.
-pub(crate) fn read_header(words: &[u64], at: u64) -> Object
+/// What the word at an address tells, read as a header: the object that stands there, if one does.
+pub fn header(words: &[u64], at: u64) -> Object
     requires { at < length words.now }
+    ensures value { result ≡ header words.now at }
     ensures at { result.at ≡ at }
+    ensures word { slice_index words.now at ≡ result.size * 2 ^ 32 + result.refs }
+    ensures refs { result.refs < 2 ^ 32 }
+    ensures size { result.size < 2 ^ 32 }
     ensures only { (o : Object) → o.at ≡ at → IsObject words.now o → o ≡ result }
 {
     let header = words[at as usize];
@@ -33,6 +38,14 @@ pub(crate) fn read_header(words: &[u64], at: u64) -> Object
         size: header / REFS_RANGE,
         refs: header % REFS_RANGE,
     }
+}
+
+/// The size in words, the header included, that the word at an address tells as a header.
+pub fn size_at(heap: &Heap, a: u64) -> u64
+    requires { a < length heap.now.words }
+    ensures { result ≡ (object_at heap.now a).size }
+{
+    header(heap.words(), a).size
 }
 
 /// The object at an address among those that fill the words from one address up to another.
@@ -44,10 +57,10 @@ pub(crate) fn object_between(words: &[u64], from: u64, to: u64, a: u64) -> Optio
 {
     let mut at = from;
     while at < a && at < to {
-        at += read_header(words, at).size;
+        at += header(words, at).size;
     }
     if at == a && at < to {
-        Some(read_header(words, at))
+        Some(header(words, at))
     } else {
         None
     }
@@ -86,13 +99,13 @@ pub fn object_at(heap: &Heap, a: u64) -> Option<Object>
     if number >= geometry.regions() {
         return None;
     }
-    let start = number * geometry.region_words();
+    let start = geometry.start(number as u32);
     let region = heap.region(number as u32);
     match region.kind {
         Kind::Ordinary => { object_between(heap.words(), start, start + u64::from(region.top), a) }
         Kind::HumongousFirst => {
             if a == start {
-                Some(read_header(heap.words(), a))
+                Some(header(heap.words(), a))
             } else {
                 None
             }
@@ -118,7 +131,7 @@ pub(crate) fn starts_between(
     let mut at = from;
     while at < to {
         starts.push(at)?;
-        at += read_header(words, at).size;
+        at += header(words, at).size;
     }
     Ok(starts)
 }
@@ -129,7 +142,7 @@ pub fn objects_in(alloc: Global, heap: &Heap, region: u32) -> Result<Vec<u64>, F
     ensures ok { IfOk result (λ v. v.items ≡ map (λ o. o.at) (objects_in heap.now region)) }
     ensures memory { IfErr result (λ e. e ≡ Fault.Memory) }
 {
-    let start = u64::from(region) * heap.geometry().region_words();
+    let start = heap.geometry().start(region);
     let Region { kind, top, .. } = heap.region(region);
     match kind {
         Kind::Ordinary => starts_between(alloc, heap.words(), start, start + u64::from(top)),

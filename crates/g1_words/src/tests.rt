@@ -1,4 +1,6 @@
-use crate::{Device, Fault, Geometry, Object, Place, Stand, card_of, region_of, slots_of};
+use crate::{
+    Device, Fault, Geometry, Kind, Object, Place, Stand, card_of, header, region_of, slots_of,
+};
 use std::test::Fail;
 
 #[test]
@@ -28,6 +30,24 @@ fn each_fault_has_its_number_and_its_text(rt: HostRuntime) -> Result<(), Fail> {
         assert_eq!(rt; told.as_str(), text);
         assert_eq!(rt; fault.number(), number, "{text}");
     }
+    Ok(())
+}
+
+#[test]
+fn each_kind_has_its_number_and_its_text(rt: HostRuntime) -> Result<(), Fail> {
+    let kinds = [
+        (Kind::Free, 0, "free"),
+        (Kind::Ordinary, 1, "ordinary"),
+        (Kind::HumongousFirst, 2, "humongous"),
+        (Kind::Continuation, 3, "continuation"),
+    ];
+    for (kind, number, text) in kinds {
+        let told = format!(in rt.alloc(); "{kind}")?;
+        assert_eq!(rt; told.as_str(), text);
+        assert_eq!(rt; kind.number(), number, "{text}");
+        assert!(rt; Kind::of_number(number) == Some(kind), "{text}");
+    }
+    assert!(rt; Kind::of_number(4).is_none());
     Ok(())
 }
 
@@ -79,5 +99,28 @@ fn addresses_by_division(rt: HostRuntime) -> Result<(), Fail> {
         refs: 3,
     };
     assert_eq!(rt; slots_of(&object), (17, 3));
+    assert_eq!(rt;
+        header(&[0, 5 * 4_294_967_296 + 3], 1),
+        Object {
+            at: 1,
+            size: 5,
+            refs: 3
+        }
+    );
+    Ok(())
+}
+
+#[test]
+fn addresses_by_multiplication(rt: HostRuntime) -> Result<(), Fail> {
+    let geometry = Geometry::new(32, 8, 6)?;
+    assert_eq!(rt; geometry.words(), 192);
+    assert_eq!(rt; geometry.cards(), 24);
+    for (region, start) in [(0, 0), (1, 32), (5, 160)] {
+        assert_eq!(rt; geometry.start(region), start);
+    }
+    for (card, start, region) in [(0, 0, 0), (3, 24, 0), (4, 32, 1), (23, 184, 5)] {
+        assert_eq!(rt; geometry.card_start(card), start);
+        assert_eq!(rt; geometry.region_of_card(card), region);
+    }
     Ok(())
 }

@@ -1,4 +1,4 @@
-use Rattle.std.proofs.Common.{ℕ, ◌<◌, inl, inr, refl, sym, arith, ◌∙◌, true, false, IsTrue}
+use Rattle.std.proofs.Common.{ℕ, ◌<◌, inl, inr, refl, sym, ap, arith, ◌∙◌, true, false, IsTrue}
 use Rattle.std.specs.Prelude.{slice_index, slice_index_or}
 use Rattle.std.proofs.lemmas.List.{length-set, get_or_default}
 use Rattle.g1_choose.specs.Named.{IsBadAt}
@@ -20,7 +20,7 @@ returns-then-place-len-clause-err c =
           let marked : IsTrue (slice_index_or c.loop-region.named.items r false) =
           get_or_default c.loop-region.named.items r false w.index.result.now (omega (arith, w.if-place-len.false, c.len.ensures)) ∙ sym w.index.ensures ∙ w.if-index.true in
           inr (inr ((c.loop-region.invariant.marks r (omega (arith, w.if-place-len.false, c.len.ensures, count))).0 marked))
-      | then-place-len-via-else-place-len+else-index+then-not-is_ordinary w ↦ inr (inl (λ e. let t = w.is_ordinary.ensures.1 e in let f = w.if-not-is_ordinary.true in cc))
+      | then-place-len-via-else-place-len+else-index+then-not-is_ordinary w ↦ inr (inl (λ e. let t = w.is_ordinary.ensures.fact.1 (ap (λ q. q.kind) w.region.ensures ∙ e) in let f = w.if-not-is_ordinary.true in cc))
     ] in
     inr (i, record { within = c.loop-region-test.true; bad = bad; before = c.loop-region.invariant.good }, refl)
 
@@ -35,6 +35,6 @@ loop-region-preserved c =
     record {
       count = length-set c.loop-region.named.items (slice_index list i) true ∙ invariant.count;
       marks = marked_more h.geometry.n i c.loop-region.named.items list invariant.count c.loop-region-test.true in_heap invariant.marks;
-      good = good_more h list i invariant.good in_heap (c.is_ordinary.ensures.0 c.if-not-is_ordinary.false)
+      good = good_more h list i invariant.good in_heap (sym (ap (λ q. q.kind) c.region.ensures) ∙ c.is_ordinary.ensures.fact.0 c.if-not-is_ordinary.false)
           (λ again. let marked = (invariant.marks r in_heap).1 again in let unmarked = get_or_default c.loop-region.named.items r false c.index.result.now (omega (arith, c.if-place-len.false, c.len.ensures)) ∙ sym c.index.ensures ∙ c.if-index.false in cc);
     }

@@ -7,9 +7,7 @@ use Rattle.g1_image.proofs.cards.is_set_of.Goals.{else-i-gt0-via-then-i-gt0+else
 pub loop-i-preserved : goal.loop-i-preserved
 loop-i-preserved c =
     let h = c.args.draft.now in
-    let k : c.card_words-card_words.result ≡ h.geometry.k = cc in
-    let w : c.region_words-region_words.result ≡ h.geometry.w = cc in
-    let place : c.from.result * c.card_words-card_words.result / c.region_words-region_words.result ≡ region_of_card h (slice_index c.args.cards.now c.loop-i.i) = λ t. c.from.ensures t * k t / w t in
+    let place : c.region_of_card.result ≡ region_of_card h (slice_index c.args.cards.now c.loop-i.i) = cc in
     record {
       rising = λ q lt. elim (cases_lt (q + 1) c.loop-i.i) [
         | inl l ↦ c.loop-i.invariant.rising q l
@@ -21,5 +19,5 @@ loop-i-preserved c =
               | else-i-gt0-via-else-i-gt0 v ↦ absurd (omega (arith, v.if-i-gt0.false))
             ]
       ];
-      elsewhere = below_more _ _ c.loop-i.invariant.elsewhere (c.if-not-is_used.ensures.0 refl, λ e. c.if-from-card_words.false (place ∙ e ∙ sym c.from-in-loop-i.ensures));
+      elsewhere = below_more _ _ c.loop-i.invariant.elsewhere (c.if-not-is_used.ensures.0 refl, λ e. c.if-region_of_card-from.false (place ∙ e ∙ sym c.from.ensures));
     }

@@ -1,9 +1,13 @@
-use Rattle.std.proofs.Common.{◌≡◌, ◌<◌, arith}
+use Rattle.std.proofs.Common.{◌≡◌, ◌<◌, ◌*◌, ◌/◌, arith}
 use Rattle.std.proofs.Math.Nat.{div-lt_iff_lt-mul}
 use Rattle.g1_image.proofs.cards.is_used.Goals as goal
 
 pub region-requires : goal.region-requires
 region-requires c =
-    let n : c.regions.result ≡ c.args.draft.now.geometry.n = cc in
-    let some : 0 < c.region_words-region_words.result = omega (arith, c.region_words-region_words.ensures.value, c.region_words-region_words.ensures.limits.w_least) in
-    (div-lt_iff_lt-mul some).1 (rw (← n) (omega (arith, c.if-at-regions.false)))
+    let g = c.args.draft.now.geometry in
+    let at : c.card_start.result ≡ c.args.c * g.k = cc in
+    let all : c.words.result ≡ g.n * g.w = cc in
+    let region : c.region_of_card-region.result ≡ c.args.c * g.k / g.w = cc in
+    let some : 0 < g.w = omega (arith, c.geometry-geometry.ensures.draft.limits.w_least) in
+    let inside : c.args.c * g.k / g.w < g.n = (div-lt_iff_lt-mul some).1 (omega (arith, at, all, c.if-card_start-words.false)) in
+    omega (arith, region, inside)

@@ -9,7 +9,7 @@ use Rattle.g1_image.specs.Image.{Image, IsImage, IsSetOf, heap_of, file_of}
 use Rattle.g1_image.specs.Plain.{plain_file}
 use Rattle.g1_image.specs.Draft.{IsDraft}
 use Rattle.g1_image.specs.Judged.{IsGoodHeap, HeapFault}
-use Rattle.g1_image.specs.Faults.{KindsKnown, IsKnown, IsFirstBreach, IsGoodLogged, LogGood, SetGood}
+use Rattle.g1_image.specs.Faults.{KindsKnown, IsKnownKind, IsFirstBreach, IsGoodLogged, LogGood, SetGood}
 use Rattle.g1_image.proofs.Assembled.{heap_fault, log_fault, set_fault, is_image, file_again}
 use Rattle.g1_image.proofs.decoding.decode.Goals as goal
 
@@ -32,7 +32,7 @@ returns-in-Err-judged-clause-err c =
     let is = c.in-Ok.ensures.ok in
     let f : File = plain_file p.heading p.table.items p.roots.items p.log.items (map (λ s. s.items) p.sets.items) p.words.now in
     let eq : c.in-Ok-drafted.draft ≡ heap_of f = c.in-Ok-drafted.ensures.ok.0 ∙ ap (λ t. heap_of (plain_file p.heading t p.roots.items [] [] p.words.now)) c.deref.ensures.value in
-    let known : KindsKnown f = λ r lt. subst (λ t. IsKnown t r) c.deref.ensures.value (c.in-Ok-drafted.ensures.ok.1 r lt) in
+    let known : KindsKnown f = λ r lt. subst (λ t. IsKnownKind t r) c.deref.ensures.value (c.in-Ok-drafted.ensures.ok.1 r lt) in
     elim c.in-Err-judged.ensures.err [
       | inl m ↦ inl m
       | inr h ↦ heap_fault bytes f c.in-Err-judged.fault is.fits is.text known (subst (λ x. HeapFault x c.in-Err-judged.fault) eq h)
@@ -45,7 +45,7 @@ returns-in-Err-good_log-clause-err c =
     let is = c.in-Ok.ensures.ok in
     let f : File = plain_file p.heading p.table.items p.roots.items p.log.items (map (λ s. s.items) p.sets.items) p.words.now in
     let eq : c.in-Ok-drafted.draft ≡ heap_of f = c.in-Ok-drafted.ensures.ok.0 ∙ ap (λ t. heap_of (plain_file p.heading t p.roots.items [] [] p.words.now)) c.deref.ensures.value in
-    let known : KindsKnown f = λ r lt. subst (λ t. IsKnown t r) c.deref.ensures.value (c.in-Ok-drafted.ensures.ok.1 r lt) in
+    let known : KindsKnown f = λ r lt. subst (λ t. IsKnownKind t r) c.deref.ensures.value (c.in-Ok-drafted.ensures.ok.1 r lt) in
     let good : IsGoodHeap (heap_of f) = subst IsGoodHeap eq c.in-Ok-judged.ensures.ok in
     elim c.in-Err-good_log.ensures.err [
       | inl m ↦ inl m
@@ -61,7 +61,7 @@ returns-in-Err-good_sets-clause-err c =
     let is = c.in-Ok.ensures.ok in
     let f : File = plain_file p.heading p.table.items p.roots.items p.log.items (map (λ s. s.items) p.sets.items) p.words.now in
     let eq : c.in-Ok-drafted.draft ≡ heap_of f = c.in-Ok-drafted.ensures.ok.0 ∙ ap (λ t. heap_of (plain_file p.heading t p.roots.items [] [] p.words.now)) c.deref.ensures.value in
-    let known : KindsKnown f = λ r lt. subst (λ t. IsKnown t r) c.deref.ensures.value (c.in-Ok-drafted.ensures.ok.1 r lt) in
+    let known : KindsKnown f = λ r lt. subst (λ t. IsKnownKind t r) c.deref.ensures.value (c.in-Ok-drafted.ensures.ok.1 r lt) in
     let good : IsGoodHeap (heap_of f) = subst IsGoodHeap eq c.in-Ok-judged.ensures.ok in
     let logged : (i : ℕ) → i < length f.log → LogGood f i = subst (λ l. (i : ℕ) → i < length l → IsGoodLogged (heap_of f) l i) c.deref-2.ensures.value
     (subst (λ h. (i : ℕ) → i < length c.deref-2.result.now → IsGoodLogged h c.deref-2.result.now i) eq c.in-Ok-good_log.ensures.ok.1) in
@@ -77,7 +77,7 @@ invariant_of-heap c =
     let is = c.in-Ok.ensures.ok in
     let f : File = plain_file p.heading p.table.items p.roots.items p.log.items (map (λ s. s.items) p.sets.items) p.words.now in
     let eq : c.in-Ok-drafted.draft ≡ heap_of f = c.in-Ok-drafted.ensures.ok.0 ∙ ap (λ t. heap_of (plain_file p.heading t p.roots.items [] [] p.words.now)) c.deref.ensures.value in
-    let known : KindsKnown f = λ r lt. subst (λ t. IsKnown t r) c.deref.ensures.value (c.in-Ok-drafted.ensures.ok.1 r lt) in
+    let known : KindsKnown f = λ r lt. subst (λ t. IsKnownKind t r) c.deref.ensures.value (c.in-Ok-drafted.ensures.ok.1 r lt) in
     let good : IsGoodHeap (heap_of f) = subst IsGoodHeap eq c.in-Ok-judged.ensures.ok in
     let logged : (i : ℕ) → i < length f.log → LogGood f i = subst (λ l. (i : ℕ) → i < length l → IsGoodLogged (heap_of f) l i) c.deref-2.ensures.value
     (subst (λ h. (i : ℕ) → i < length c.deref-2.result.now → IsGoodLogged h c.deref-2.result.now i) eq c.in-Ok-good_log.ensures.ok.1) in
@@ -93,7 +93,7 @@ invariant_of-result c =
     let is = c.in-Ok.ensures.ok in
     let f : File = plain_file p.heading p.table.items p.roots.items p.log.items (map (λ s. s.items) p.sets.items) p.words.now in
     let eq : c.in-Ok-drafted.draft ≡ heap_of f = c.in-Ok-drafted.ensures.ok.0 ∙ ap (λ t. heap_of (plain_file p.heading t p.roots.items [] [] p.words.now)) c.deref.ensures.value in
-    let known : KindsKnown f = λ r lt. subst (λ t. IsKnown t r) c.deref.ensures.value (c.in-Ok-drafted.ensures.ok.1 r lt) in
+    let known : KindsKnown f = λ r lt. subst (λ t. IsKnownKind t r) c.deref.ensures.value (c.in-Ok-drafted.ensures.ok.1 r lt) in
     let good : IsGoodHeap (heap_of f) = subst IsGoodHeap eq c.in-Ok-judged.ensures.ok in
     let logged : (i : ℕ) → i < length f.log → LogGood f i = subst (λ l. (i : ℕ) → i < length l → IsGoodLogged (heap_of f) l i) c.deref-2.ensures.value
     (subst (λ h. (i : ℕ) → i < length c.deref-2.result.now → IsGoodLogged h c.deref-2.result.now i) eq c.in-Ok-good_log.ensures.ok.1) in
@@ -113,7 +113,7 @@ returns-clause-ok c =
     let is = c.in-Ok.ensures.ok in
     let f : File = plain_file p.heading p.table.items p.roots.items p.log.items (map (λ s. s.items) p.sets.items) p.words.now in
     let eq : c.in-Ok-drafted.draft ≡ heap_of f = c.in-Ok-drafted.ensures.ok.0 ∙ ap (λ t. heap_of (plain_file p.heading t p.roots.items [] [] p.words.now)) c.deref.ensures.value in
-    let known : KindsKnown f = λ r lt. subst (λ t. IsKnown t r) c.deref.ensures.value (c.in-Ok-drafted.ensures.ok.1 r lt) in
+    let known : KindsKnown f = λ r lt. subst (λ t. IsKnownKind t r) c.deref.ensures.value (c.in-Ok-drafted.ensures.ok.1 r lt) in
     let good : IsGoodHeap (heap_of f) = subst IsGoodHeap eq c.in-Ok-judged.ensures.ok in
     let logged : (i : ℕ) → i < length f.log → LogGood f i = subst (λ l. (i : ℕ) → i < length l → IsGoodLogged (heap_of f) l i) c.deref-2.ensures.value
     (subst (λ h. (i : ℕ) → i < length c.deref-2.result.now → IsGoodLogged h c.deref-2.result.now i) eq c.in-Ok-good_log.ensures.ok.1) in

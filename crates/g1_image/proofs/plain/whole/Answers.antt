@@ -1,5 +1,5 @@
 use Rattle.std.proofs.Common.{◌≡◌, ◌++◌, map, arith, sym, ap, ◌∙◌, inr}
-use Rattle.g1_image.specs.Text.{magic, heading_text, table_text, words_text, numbers_text, sets_text, total}
+use Rattle.g1_image.specs.Text.{magic, heading_text, table_text, words_text, numbers_text, sets_text, table_words}
 use Rattle.g1_image.specs.Reading.{Are, IsU32, IsU64, IsBytes, EndsWithin}
 use Rattle.g1_image.specs.Faults.{EntryFits, SetFits}
 use Rattle.g1_image.proofs.Files.{fails, short_table, short_roots, short_log, short_sets, short_words, words_are_bytes, trailing, plain_is}
@@ -50,7 +50,7 @@ returns-then-words-needed-clause-err c =
     let h = c.in-Ok.found in
     let rest = c.rest.result.now in
     let e : bytes ≡ magic ++ (heading_text h ++ rest) = sym c.new-cursor.ensures ∙ c.in-Ok.ensures.ok.2 ∙ ap (λ l. magic ++ (heading_text h ++ l)) (sym c.rest.ensures) in
-    let needed : c.total-needed.result ≡ total c.in-Ok-table.found.0.items = c.total-needed.ensures.value ∙ ap (λ l. total l) c.deref.ensures.value in
+    let needed : c.table_words-needed.result ≡ table_words c.in-Ok-table.found.0.items = c.table_words-needed.ensures.value ∙ ap (λ l. table_words l) c.deref.ensures.value in
     inr (short_words bytes rest h c.in-Ok.ensures.ok.0 c.in-Ok.ensures.ok.1 e c.in-Ok-table.found.0.items c.in-Ok-table.found.1.now c.in-Ok-table.ensures.0 c.in-Ok-table.ensures.1
     c.in-Ok-words.found.0.items c.in-Ok-words.found.1.now c.in-Ok-words.ensures.0 c.in-Ok-words.ensures.1
     c.in-Ok-numbers.found.0.items c.in-Ok-numbers.found.1.now c.in-Ok-numbers.ensures.0 c.in-Ok-numbers.ensures.1
@@ -63,7 +63,7 @@ returns-then-words-needed-2-clause-err c =
     let h = c.in-Ok.found in
     let rest = c.rest.result.now in
     let e : bytes ≡ magic ++ (heading_text h ++ rest) = sym c.new-cursor.ensures ∙ c.in-Ok.ensures.ok.2 ∙ ap (λ l. magic ++ (heading_text h ++ l)) (sym c.rest.ensures) in
-    let needed : c.total-needed.result ≡ total c.in-Ok-table.found.0.items = c.total-needed.ensures.value ∙ ap (λ l. total l) c.deref.ensures.value in
+    let needed : c.table_words-needed.result ≡ table_words c.in-Ok-table.found.0.items = c.table_words-needed.ensures.value ∙ ap (λ l. table_words l) c.deref.ensures.value in
     let b : IsBytes c.in-Ok-sets.found.1.now = words_are_bytes bytes rest h c.in-Ok.ensures.ok.0 c.in-Ok.ensures.ok.1 e c.in-Ok-table.found.0.items c.in-Ok-table.found.1.now c.in-Ok-table.ensures.0 c.in-Ok-table.ensures.1
     c.in-Ok-words.found.0.items c.in-Ok-words.found.1.now c.in-Ok-words.ensures.0 c.in-Ok-words.ensures.1
     c.in-Ok-numbers.found.0.items c.in-Ok-numbers.found.1.now c.in-Ok-numbers.ensures.0 c.in-Ok-numbers.ensures.1
@@ -80,7 +80,7 @@ returns-clause-ok c =
     let h = c.in-Ok.found in
     let rest = c.rest.result.now in
     let e : bytes ≡ magic ++ (heading_text h ++ rest) = sym c.new-cursor.ensures ∙ c.in-Ok.ensures.ok.2 ∙ ap (λ l. magic ++ (heading_text h ++ l)) (sym c.rest.ensures) in
-    let needed : c.total-needed.result ≡ total c.in-Ok-table.found.0.items = c.total-needed.ensures.value ∙ ap (λ l. total l) c.deref.ensures.value in
+    let needed : c.table_words-needed.result ≡ table_words c.in-Ok-table.found.0.items = c.table_words-needed.ensures.value ∙ ap (λ l. table_words l) c.deref.ensures.value in
     let b : IsBytes c.in-Ok-sets.found.1.now = words_are_bytes bytes rest h c.in-Ok.ensures.ok.0 c.in-Ok.ensures.ok.1 e c.in-Ok-table.found.0.items c.in-Ok-table.found.1.now c.in-Ok-table.ensures.0 c.in-Ok-table.ensures.1
     c.in-Ok-words.found.0.items c.in-Ok-words.found.1.now c.in-Ok-words.ensures.0 c.in-Ok-words.ensures.1
     c.in-Ok-numbers.found.0.items c.in-Ok-numbers.found.1.now c.in-Ok-numbers.ensures.0 c.in-Ok-numbers.ensures.1

@@ -6,25 +6,24 @@ use Rattle.g1_words.specs.declared.region.Kind.TheVariants.{HumongousFirst}
 use Rattle.g1_image.specs.Draft.{Latest}
 use Rattle.g1_image.proofs.Runs.{Latest-first, Latest-other}
 use Rattle.g1_image.proofs.shape.shaped.Goals as goal
-use Rattle.g1_image.proofs.shape.shaped.Goals.{in-HumongousFirst, in_default}
+use Rattle.g1_image.proofs.shape.shaped.Goals.{then-is_humongous_first, else-is_humongous_first}
 
 pub loop-r-preserved : goal.loop-r-preserved
 loop-r-preserved c =
     let h = c.args.draft.now in
     let r = c.loop-r.r in
-    let good : IsShaped h r = c.if-not-region_shaped.ensures.0 refl in
-    let width : c.region_words-region_words.result ≡ h.geometry.w = cc in (
-      elim c.match-region.branch [
-        | in-HumongousFirst w ↦
+    let good : IsShaped h r = c.if-not-region_shaped.ensures.0 refl in (
+      elim c.if-is_humongous_first.branch [
+        | then-is_humongous_first w ↦
             let q : Object = w.header-size.result in
-            let place : w.from.result * c.region_words-region_words.result ≡ start h r = λ t. w.from.ensures t * width t in
-            let kind : (region h r).kind ≡ HumongousFirst = ap (λ q. q.kind) (sym c.region.ensures) ∙ w.in-HumongousFirst.is in
+            let place : w.start.result ≡ start h r = cc in
+            let kind : (region h r).kind ≡ HumongousFirst = sym (ap (λ q. q.kind) c.region.ensures) ∙ c.is_humongous_first.ensures.0 w.if-is_humongous_first.true in
             let word : slice_index h.words (start h r) ≡ q.size * 2 ^ 32 + q.refs = sym (λ t. slice_index (w.words.ensures.same t) (place t)) ∙ w.header-size.ensures.word in
             let l : Latest h (r + 1) r q.size = Latest-first h r q (w.header-size.ensures.at ∙ place) word w.header-size.ensures.refs w.header-size.ensures.size good kind in
-            subst (λ x. Latest h (r + 1) x c.match-region.size) (sym w.first-is) (subst (λ x. Latest h (r + 1) r x) (sym w.size-is) l)
-        | in_default w ↦
-            let l : Latest h (r + 1) c.loop-r.first c.loop-r.size = Latest-other h r c.loop-r.first c.loop-r.size c.loop-r.invariant.0 (λ k. w.in_default.not-HumongousFirst (ap (λ q. q.kind) c.region.ensures ∙ k)) in
-            subst (λ x. Latest h (r + 1) x c.match-region.size) (sym w.first-is) (subst (λ x. Latest h (r + 1) c.loop-r.first x) (sym w.size-is) l)
+            subst (λ x. Latest h (r + 1) x c.if-is_humongous_first.size) (sym w.first-is) (subst (λ x. Latest h (r + 1) r x) (sym w.size-is) l)
+        | else-is_humongous_first w ↦
+            let l : Latest h (r + 1) c.loop-r.first c.loop-r.size = Latest-other h r c.loop-r.first c.loop-r.size c.loop-r.invariant.0 (λ k. let e : false ≡ true = sym w.if-is_humongous_first.false ∙ c.is_humongous_first.ensures.1 (ap (λ q. q.kind) c.region.ensures ∙ k) in cc) in
+            subst (λ x. Latest h (r + 1) x c.if-is_humongous_first.size) (sym w.first-is) (subst (λ x. Latest h (r + 1) c.loop-r.first x) (sym w.size-is) l)
       ],
       below_more _ _ c.loop-r.invariant.1 good,
     )

@@ -14,7 +14,7 @@ returns-else-region_of-from c =
     let ps = c.args.places.now in
     Running-end c.args.heap.now c.args.survivors.now ps c.args.region c.args.from c.loop-to.to c.loop-to.end (omega (arith, c.geometry-geometry.ensures.valid.limits.w_least)) c.requires.fits c.requires.room c.requires.placed
     c.loop-to.invariant
-    (λ lt here. c.if-region_of-from.false (c.region_of.ensures ∙ ap (λ g. get_or ps c.loop-to.to 0 / g.w) c.geometry-geometry.ensures.same ∙ here ∙ sym c.from-in-loop-to.ensures))
+    (λ lt here. c.if-region_of-from.false (c.region_of.ensures ∙ ap (λ g. get_or ps c.loop-to.to 0 / g.w) c.geometry-geometry.ensures.same ∙ here ∙ sym c.from.ensures))
 
 pub returns-after-loop-to : goal.returns-after-loop-to
 returns-after-loop-to c =

@@ -11,19 +11,12 @@ use Rattle.g1_mark.proofs.bytes.bytes_at.Goals as goal
 pub loop-address-init : goal.loop-address-init
 loop-address-init c = counted_none c.args.heap.now c.geometry-geometry.ensures.valid c.in_ok-bytes.bytes.items (c.in_ok-bytes.ensures ∙ ap zeros (c.regions.ensures.value ∙ ap (λ g. g.n) c.geometry-geometry.ensures.same))
 
-pub offset_bounds-words-address : goal.offset_bounds-words-address
-offset_bounds-words-address c =
+pub size_at-requires : goal.size_at-requires
+size_at-requires c =
     let h = c.args.heap.now in
     let a : ℕ = get_or c.args.addresses.now c.loop-address.address-index 0 in
     let object : Contains (objects h) (object_at h a) = c.requires.objects c.loop-address.address-index 0 c.loop-address-test.true in
-    omega (arith, word_there h c.geometry-geometry.ensures.valid a object, c.geometry-geometry.ensures.valid.word_count, c.geometry-geometry.ensures.valid.limits.words_most)
-
-pub bounds-words-address : goal.bounds-words-address
-bounds-words-address c =
-    let h = c.args.heap.now in
-    let a : ℕ = get_or c.args.addresses.now c.loop-address.address-index 0 in
-    let object : Contains (objects h) (object_at h a) = c.requires.objects c.loop-address.address-index 0 c.loop-address-test.true in
-    omega (arith, word_there h c.geometry-geometry.ensures.valid a object, ap length c.words-words.ensures)
+    word_there h c.geometry-geometry.ensures.valid a object
 
 pub index_mut-requires : goal.index_mut-requires
 index_mut-requires c =
@@ -44,7 +37,7 @@ overflow_add-index_mut c =
     let there = region_there h valid a object in
     let low : region_of h a < length c.loop-address.bytes.items = omega (arith, there, c.loop-address.invariant.one_each) in
     let is : get_or c.loop-address.bytes.items (region_of h a) 0 ≡ c.index_mut.result.now = read c.loop-address.bytes.items c.region_of-region.result (region_of h a) c.index_mut.result.now c.index_mut.result.now 0 region low c.index_mut.ensures.value (λ i. c.index_mut.result.now) in
-    let size : get_or c.words-words.result.now a 0 / 2 ^ 32 ≡ word h a / 2 ^ 32 = ap (λ l. get_or l a 0 / 2 ^ 32) c.words-words.ensures in
+    let size : c.size_at.result ≡ word h a / 2 ^ 32 = c.size_at.ensures in
     let here = bytes_here h valid a object front (not_before c.args.addresses.now c.loop-address.address-index c.requires.once c.loop-address-test.true) in
     let few = bytes_few h valid (has (front ++ a ∷ [])) (region_of h a) there in
     omega (arith, is, size, here, few, c.loop-address.invariant.each (region_of h a) there)
@@ -57,15 +50,14 @@ loop-address-preserved c =
     let xs : List ℕ = c.args.addresses.now in
     let a : ℕ = get_or c.args.addresses.now c.loop-address.address-index 0 in
     let bytes : List ℕ = c.loop-address.bytes.items in
-    let size : ℕ = get_or c.words-words.result.now a 0 / 2 ^ 32 in
     let object : Contains (objects h) (object_at h a) = c.requires.objects c.loop-address.address-index 0 c.loop-address-test.true in
     let region : c.region_of-region.result ≡ region_of h a = c.region_of-region.ensures ∙ ap (λ g. a / g.w) c.geometry-geometry.ensures.same in
     let low : c.region_of-region.result < length c.loop-address.bytes.items = omega (arith, region, region_there h valid a object, c.loop-address.invariant.one_each) in
     let is : get_or c.loop-address.bytes.items c.region_of-region.result 0 ≡ c.index_mut.result.now = read c.loop-address.bytes.items c.region_of-region.result c.region_of-region.result c.index_mut.result.now c.index_mut.result.now 0 (λ i. c.region_of-region.result) low c.index_mut.ensures.value (λ i. c.index_mut.result.now) in
-    let told : get_or c.words-words.result.now (get_or c.args.addresses.now c.loop-address.address-index 0) 0 / 2 ^ 32 ≡ word h (get_or c.args.addresses.now c.loop-address.address-index 0) / 2 ^ 32 = ap (λ l. get_or l (get_or c.args.addresses.now c.loop-address.address-index 0) 0 / 2 ^ 32) c.words-words.ensures in
-    subst (λ l. AreBytesOf h l (set c.loop-address.bytes.items c.region_of-region.result (c.index_mut.result.now + 8 * (get_or c.words-words.result.now (get_or c.args.addresses.now c.loop-address.address-index 0) 0 / 2 ^ 32)))) (sym (take_more c.args.addresses.now c.loop-address.address-index 0 c.loop-address-test.true))
-    (subst (λ v. AreBytesOf h (take c.loop-address.address-index c.args.addresses.now ++ get_or c.args.addresses.now c.loop-address.address-index 0 ∷ []) (set c.loop-address.bytes.items c.region_of-region.result (v + 8 * (get_or c.words-words.result.now (get_or c.args.addresses.now c.loop-address.address-index 0) 0 / 2 ^ 32)))) is
-    (counted_more h valid a object (take c.loop-address.address-index c.args.addresses.now) (not_before c.args.addresses.now c.loop-address.address-index c.requires.once c.loop-address-test.true) c.loop-address.bytes.items c.region_of-region.result (get_or c.words-words.result.now a 0 / 2 ^ 32) c.loop-address.invariant region told))
+    let told : c.size_at.result ≡ word h a / 2 ^ 32 = c.size_at.ensures in
+    subst (λ l. AreBytesOf h l (set c.loop-address.bytes.items c.region_of-region.result (c.index_mut.result.now + 8 * c.size_at.result))) (sym (take_more c.args.addresses.now c.loop-address.address-index 0 c.loop-address-test.true))
+    (subst (λ v. AreBytesOf h (take c.loop-address.address-index c.args.addresses.now ++ get_or c.args.addresses.now c.loop-address.address-index 0 ∷ []) (set c.loop-address.bytes.items c.region_of-region.result (v + 8 * c.size_at.result))) is
+    (counted_more h valid a object (take c.loop-address.address-index c.args.addresses.now) (not_before c.args.addresses.now c.loop-address.address-index c.requires.once c.loop-address-test.true) c.loop-address.bytes.items c.region_of-region.result c.size_at.result c.loop-address.invariant region told))
 
 pub returns : goal.returns
 returns c =

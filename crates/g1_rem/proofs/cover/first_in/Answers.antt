@@ -8,7 +8,7 @@ use Rattle.g1_rem.proofs.Next.{NextOf, next_of}
 use Rattle.g1_rem.proofs.Bare.{refs_good, found_here, none_here, bare_end}
 use Rattle.g1_rem.proofs.Places.{ready_at, ready_next}
 use Rattle.g1_rem.proofs.cover.first_in.Goals as goal
-use Rattle.g1_rem.proofs.cover.first_in.Goals.{In-objects, After-words}
+use Rattle.g1_rem.proofs.cover.first_in.Goals.{In-objects, After-words, After-header-refs}
 
 the_starts : (c : In-objects) → c.deref-at-items.result.now ≡ map (λ o. o.at) (objects_in c.args.image.now.heap c.args.region)
 the_starts c = c.deref-at-items.ensures.value ∙ c.in_ok-starts.ensures.ok ∙ ap (λ h. map (λ o. o.at) (objects_in h c.args.region)) c.heap-heap.ensures.same
@@ -24,22 +24,15 @@ the_words : (c : After-words) → c.words.result.now ≡ c.args.image.now.heap.w
 the_words c = c.words.ensures ∙ ap (λ (h : Heap). h.words) c.heap-heap.ensures.same
 
 -- its number of references, as it was read
-refs_read : (c : After-words) → slice_index c.words.result.now (slice_index c.deref-at-items.result.now c.objects.at-index) % 2 ^ 32 ≡ word c.args.image.now.heap (slice_index c.deref-at-items.result.now c.objects.at-index) % 2 ^ 32
-refs_read c = ap (λ l. slice_index l (slice_index c.deref-at-items.result.now c.objects.at-index) % 2 ^ 32) (the_words c)
+refs_read : (c : After-header-refs) → c.header-refs.result.refs ≡ word c.args.image.now.heap (slice_index c.deref-at-items.result.now c.objects.at-index) % 2 ^ 32
+refs_read c = ap (λ o. o.refs) c.header-refs.ensures.value ∙ ap (λ l. slice_index l (slice_index c.deref-at-items.result.now c.objects.at-index) % 2 ^ 32) (c.words.ensures ∙ ap (λ (h : Heap). h.words) c.heap-heap.ensures.same)
 
-pub bounds-words-at : goal.bounds-words-at
-bounds-words-at c =
-    let b = goal.at.bounds-words-at c in
+pub header-refs-requires : goal.header-refs-requires
+header-refs-requires c =
+    let b = goal.at.header-refs-requires c in
     let n = row b.In-objects in
     let len = ap length (the_words b.After-words) in
     omega (arith, n.fits, len, c.heap-heap.ensures.valid.heap.word_count)
-
-pub offset_bounds-words-at : goal.offset_bounds-words-at
-offset_bounds-words-at c =
-    let b = goal.at.offset_bounds-words-at c in
-    let n = row b.In-objects in
-    let len = ap length (the_words b.After-words) in
-    omega (arith, n.fits, len, c.heap-heap.ensures.valid.heap.word_count, c.heap-heap.ensures.valid.heap.limits.words_most)
 
 pub overflow_add-at : goal.overflow_add-at
 overflow_add-at c =
@@ -55,21 +48,21 @@ pub overflow_add-at-in-objects-2 : goal.overflow_add-at-in-objects-2
 overflow_add-at-in-objects-2 c =
     let b = goal.at.overflow_add-at-in-objects-2 c in
     let n = row b.In-objects in
-    let e = refs_read b.After-words in
+    let e = refs_read b.After-header-refs in
     omega (arith, n.fits, e, n.refs_is, c.heap-heap.ensures.valid.heap.limits.words_most)
 
 pub first_between-requires-clause-slots : goal.first_between-requires-clause-slots
 first_between-requires-clause-slots c =
     let b = goal.at.first_between-requires-clause-slots c in
     let n = row b.In-objects in
-    let e = refs_read b.After-words in
+    let e = refs_read b.After-header-refs in
     omega (arith, n.fits, e, n.refs_is, c.heap-heap.ensures.valid.heap.word_count)
 
 pub first_between-requires-clause-references : goal.first_between-requires-clause-references
 first_between-requires-clause-references c =
     let b = goal.at.first_between-requires-clause-references c in
-    refs_good c.args.image.now.heap c.args.region c.objects.at-index (slice_index c.deref-at-items.result.now c.objects.at-index) (slice_index c.words.result.now (slice_index c.deref-at-items.result.now c.objects.at-index) % 2 ^ 32)
-    c.heap-heap.ensures.valid.heap (row b.In-objects) (refs_read b.After-words)
+    refs_good c.args.image.now.heap c.args.region c.objects.at-index (slice_index c.deref-at-items.result.now c.objects.at-index) c.header-refs.result.refs
+    c.heap-heap.ensures.valid.heap (row b.In-objects) (refs_read b.After-header-refs)
 
 -- the places are ready for that object, and for what follows
 ready : (c : In-objects) → AreReadyFor c.args.image.now c.objects.places ((row c).object ∷ (drop (c.objects.at-index + 1) (objects_in c.args.image.now.heap c.args.region) ++ objects_from c.args.image.now.heap (c.args.region + 1)))
@@ -90,16 +83,16 @@ objects-init c = record {
 pub returns-in-Some-clause-ok : goal.returns-in-Some-clause-ok
 returns-in-Some-clause-ok c =
     let b = goal.at.returns-in-Some-clause-ok c in
-    found_here c.args.image.now c.args.region c.objects.at-index (slice_index c.deref-at-items.result.now c.objects.at-index) (slice_index c.words.result.now (slice_index c.deref-at-items.result.now c.objects.at-index) % 2 ^ 32)
-    (row b.In-objects) (refs_read b.After-words) c.objects.invariant.same c.in-Some.p c.in-Some.ensures.first
+    found_here c.args.image.now c.args.region c.objects.at-index (slice_index c.deref-at-items.result.now c.objects.at-index) c.header-refs.result.refs
+    (row b.In-objects) (refs_read b.After-header-refs) c.objects.invariant.same c.in-Some.p c.in-Some.ensures.first
 
 pub objects-preserved : goal.objects-preserved
 objects-preserved c =
     let b = goal.at.objects-preserved c in
     let n = row b.In-objects in
     let at : ℕ = slice_index c.deref-at-items.result.now c.objects.at-index in
-    let refs : ℕ = slice_index c.words.result.now (slice_index c.deref-at-items.result.now c.objects.at-index) % 2 ^ 32 in
-    let e = refs_read b.After-words in
+    let refs : ℕ = c.header-refs.result.refs in
+    let e = refs_read b.After-header-refs in
     let chain = (ready b.In-objects).ahead in
     record {
       same = none_here c.args.image.now c.args.region c.objects.at-index at refs n e c.objects.invariant.same c.in_default.ensures.first;

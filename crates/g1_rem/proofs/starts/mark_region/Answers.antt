@@ -6,7 +6,7 @@ use Rattle.g1_rem.specs.Marks.{IsMarkedTo, Told}
 use Rattle.g1_rem.proofs.Next.{NextOf, next_of}
 use Rattle.g1_rem.proofs.Marks.{left_start, left_end, told_next}
 use Rattle.g1_rem.proofs.starts.mark_region.Goals as goal
-use Rattle.g1_rem.proofs.starts.mark_region.Goals.{In-objects, After-words}
+use Rattle.g1_rem.proofs.starts.mark_region.Goals.{In-objects, After-size_at-size}
 
 -- the object whose cards are marked
 row : (c : In-objects) → NextOf c.args.heap.now c.args.region c.objects.at-index (slice_index c.deref-at-items.result.now c.objects.at-index)
@@ -15,22 +15,16 @@ row c =
     (c.deref-at-items.ensures.value ∙ c.in_ok-starts.ensures.ok) c.objects-test.true refl
 
 -- its size, as it was read
-size_read : (c : After-words) → slice_index c.words.result.now (slice_index c.deref-at-items.result.now c.objects.at-index) / 2 ^ 32 ≡ (object_at c.args.heap.now (slice_index c.deref-at-items.result.now c.objects.at-index)).size
-size_read c = ap (λ l. slice_index l (slice_index c.deref-at-items.result.now c.objects.at-index) / 2 ^ 32) c.words.ensures
+size_read : (c : After-size_at-size) → c.size_at-size.result ≡ (object_at c.args.heap.now (slice_index c.deref-at-items.result.now c.objects.at-index)).size
+size_read c = c.size_at-size.ensures
 
 pub objects-init : goal.objects-init
 objects-init c = (subst (λ l. Told c.args.heap.now l c.args.firsts.now.items) (left_start c.args.heap.now c.geometry.ensures.valid c.args.region c.requires.region) c.requires.told, c.requires.room)
 
-pub bounds-words-at : goal.bounds-words-at
-bounds-words-at c =
-    let n = row (goal.at.bounds-words-at c).In-objects in
-    let w : length c.words.result.now ≡ length c.args.heap.now.words = ap length c.words.ensures in
-    omega (arith, n.fits, w, c.geometry.ensures.valid.word_count)
-
-pub offset_bounds-words-at : goal.offset_bounds-words-at
-offset_bounds-words-at c =
-    let n = row (goal.at.offset_bounds-words-at c).In-objects in
-    omega (arith, n.fits, c.geometry.ensures.valid.limits.words_most)
+pub size_at-size-requires : goal.size_at-size-requires
+size_at-size-requires c =
+    let n = row (goal.at.size_at-size-requires c).In-objects in
+    omega (arith, n.fits, c.geometry.ensures.valid.word_count)
 
 pub mark-requires-clause-address : goal.mark-requires-clause-address
 mark-requires-clause-address c =
@@ -41,7 +35,7 @@ pub mark-requires-in-objects-clause-address : goal.mark-requires-in-objects-clau
 mark-requires-in-objects-clause-address c =
     let b = goal.at.mark-requires-in-objects-clause-address c in
     let n = row b.In-objects in
-    let w = size_read b.After-words in
+    let w = size_read b.After-size_at-size in
     let s = ap (λ o. o.size) n.whole in
     omega (arith, n.ends, w, s, c.geometry.ensures.valid.limits.words_most)
 
@@ -49,13 +43,13 @@ pub objects-preserved : goal.objects-preserved
 objects-preserved c =
     let b = goal.at.objects-preserved c in
     let at : ℕ = slice_index c.deref-at-items.result.now c.objects.at-index in
-    let size : ℕ = slice_index c.words.result.now at / 2 ^ 32 in
+    let size : ℕ = c.size_at-size.result in
     let old = c.objects.firsts.items in
     let mid = c.mark.new.firsts.items in
     let new = c.mark-in-objects.new.firsts.items in
     let k : c.card_words-k.result ≡ c.args.heap.now.geometry.k = c.card_words-k.ensures.value ∙ ap (λ g. g.k) c.geometry.ensures.same in
     let gap = subst (λ k. IsMarkedTo old mid k at None) k c.in_ok-mark.ensures.marked in
-    let cards = subst (λ s. IsMarkedTo mid new c.args.heap.now.geometry.k (at + s) (Some at)) (size_read b.After-words)
+    let cards = subst (λ s. IsMarkedTo mid new c.args.heap.now.geometry.k (at + s) (Some at)) (size_read b.After-size_at-size)
     (subst (λ k. IsMarkedTo mid new k (at + size) (Some at)) k c.in_ok-mark-2.ensures.marked) in (
       told_next c.args.heap.now c.geometry.ensures.valid c.args.region c.objects.at-index at (row b.In-objects) old c.objects.invariant.0 mid new gap cards,
       subst (λ k. length c.mark-in-objects.new.firsts.items * k ≤ 2 ^ 25) k c.mark-in-objects.ensures.room,

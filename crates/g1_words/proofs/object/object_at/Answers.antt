@@ -19,9 +19,9 @@ returns-in-Ordinary-clause-found c =
     let r = c.region_of-number.result in
     let n : c.regions.result ≡ c.args.heap.now.geometry.n = cc in
     let kind : (region h r).kind ≡ Ordinary = cc in
-    let from : c.region_of-number.result * c.region_words.result ≡ start h r = cc in
-    let to : c.region_of-number.result * c.region_words.result + c.from.result ≡ end h r = cc in
-    found_listed h c.args.a c.object_between.result g.valid (ordinary_found h r c.args.a c.words.result.now (c.region_of-number.result * c.region_words.result) (c.region_of-number.result * c.region_words.result + c.from.result)
+    let from : c.start-start.result ≡ start h r = cc in
+    let to : c.start-start.result + c.from.result ≡ end h r = cc in
+    found_listed h c.args.a c.object_between.result g.valid (ordinary_found h r c.args.a c.words.result.now c.start-start.result (c.start-start.result + c.from.result)
     c.object_between.result g.valid (omega arith) kind c.words.ensures from to c.object_between.ensures.found)
 
 pub returns-in-Ordinary-clause-none : goal.returns-in-Ordinary-clause-none
@@ -32,9 +32,9 @@ returns-in-Ordinary-clause-none c =
     let e : c.region_of-number.result ≡ c.args.a / c.args.heap.now.geometry.w = cc in
     let n : c.regions.result ≡ c.args.heap.now.geometry.n = cc in
     let kind : (region h r).kind ≡ Ordinary = cc in
-    let from : c.region_of-number.result * c.region_words.result ≡ start h r = cc in
-    let to : c.region_of-number.result * c.region_words.result + c.from.result ≡ end h r = cc in
-    missing_listed h c.args.a c.object_between.result g.valid (ordinary_none h r c.args.a c.words.result.now (c.region_of-number.result * c.region_words.result) (c.region_of-number.result * c.region_words.result + c.from.result)
+    let from : c.start-start.result ≡ start h r = cc in
+    let to : c.start-start.result + c.from.result ≡ end h r = cc in
+    missing_listed h c.args.a c.object_between.result g.valid (ordinary_none h r c.args.a c.words.result.now c.start-start.result (c.start-start.result + c.from.result)
     c.object_between.result g.valid (omega arith) kind c.words.ensures from to e c.object_between.ensures.none)
 
 pub returns-then-a-start-clause-found : goal.returns-then-a-start-clause-found
@@ -45,9 +45,9 @@ returns-then-a-start-clause-found c =
     let n : c.regions.result ≡ c.args.heap.now.geometry.n = cc in
     let kind : (region h r).kind ≡ HumongousFirst = cc in
     let here : c.args.a ≡ start h r = cc in
-    one_listed h c.args.a c.read_header.result g.valid c.read_header.ensures.at
-    (first_there h r c.words-then-a-start.result.now c.read_header.result g.valid (omega arith) kind c.words-then-a-start.ensures
-    (c.read_header.ensures.at ∙ here) (λ o e i. c.read_header.ensures.only o (e ∙ sym here) i))
+    one_listed h c.args.a c.header.result g.valid c.header.ensures.at
+    (first_there h r c.words-then-a-start.result.now c.header.result g.valid (omega arith) kind c.words-then-a-start.ensures
+    (c.header.ensures.at ∙ here) (λ o e i. c.header.ensures.only o (e ∙ sym here) i))
 
 pub returns-else-a-start-clause-none : goal.returns-else-a-start-clause-none
 returns-else-a-start-clause-none c =
@@ -56,7 +56,7 @@ returns-else-a-start-clause-none c =
     let r = c.region_of-number.result in
     let e : c.region_of-number.result ≡ c.args.a / c.args.heap.now.geometry.w = cc in
     let kind : (region h r).kind ≡ HumongousFirst = cc in
-    let from : c.region_of-number.result * c.region_words.result ≡ start h r = cc in
+    let from : c.start-start.result ≡ start h r = cc in
     none_listed h c.args.a g.valid (none_of_kind h r c.args.a HumongousFirst g.valid kind e (λ o here s. c.if-a-start.false (sym here ∙ s.0 ∙ sym from)))
 
 pub returns-in-Free-clause-none : goal.returns-in-Free-clause-none

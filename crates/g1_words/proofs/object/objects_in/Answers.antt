@@ -11,10 +11,10 @@ returns-in-Ordinary-clause-ok c =
     let h = c.args.heap.now in
     let r = c.args.region in
     let words = c.words.result.now in
-    let from = c.from.result * c.region_words.result in
-    let to = c.from.result * c.region_words.result + c.from-in-Ordinary.result in
+    let from = c.start-start.result in
+    let to = c.start-start.result + c.from.result in
     let is : kind h r ≡ Ordinary = cc in
-    let at : c.from.result * c.region_words.result ≡ start h r = cc in
-    let until : c.from.result * c.region_words.result + c.from-in-Ordinary.result ≡ end h r = cc in
+    let at : c.start-start.result ≡ start h r = cc in
+    let until : c.start-start.result + c.from.result ≡ end h r = cc in
     IfOk-then (λ v. (os : List Object) × Tiles words from os to × (v.items ≡ map (λ o. o.at) os)) (λ v. v.items ≡ map (λ o. o.at) (objects_in h r)) c.starts_between.result
     (λ v. ordinary_listed h r v.items words from to is c.words.ensures at until) c.starts_between.ensures.ok

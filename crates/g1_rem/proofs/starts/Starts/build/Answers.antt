@@ -15,9 +15,7 @@ returns-clause-ok c =
     let h = c.args.heap.now in
     let same : c.geometry-geometry.result ≡ c.args.heap.now.geometry = c.geometry-geometry.ensures.same in
     let k : c.card_words.result ≡ c.args.heap.now.geometry.k = c.card_words.ensures.value ∙ ap (λ g. g.k) same in
-    let n : c.regions.result ≡ c.args.heap.now.geometry.n = c.regions.ensures.value ∙ ap (λ g. g.n) same in
-    let w : c.region_words.result ≡ c.args.heap.now.geometry.w = c.region_words.ensures.value ∙ ap (λ g. g.w) same in
-    let size : c.regions.result * c.region_words.result ≡ c.args.heap.now.geometry.n * c.args.heap.now.geometry.w = ap (λ x. x * c.region_words.result) n ∙ ap (λ x. c.args.heap.now.geometry.n * x) w in
+    let size : c.words.result ≡ c.args.heap.now.geometry.n * c.args.heap.now.geometry.w = c.words.ensures.value ∙ ap (λ g. g.n * g.w) same in
     let m : IsMarkedTo c.loop-region.firsts.items c.mark.new.firsts.items c.args.heap.now.geometry.k (c.args.heap.now.geometry.n * c.args.heap.now.geometry.w) None =
     subst (λ x. IsMarkedTo c.loop-region.firsts.items c.mark.new.firsts.items x (c.args.heap.now.geometry.n * c.args.heap.now.geometry.w) None) k
     (subst (λ x. IsMarkedTo c.loop-region.firsts.items c.mark.new.firsts.items c.card_words.result x None) size c.in_ok-mark.ensures.marked) in
