@@ -1,4 +1,4 @@
-ghost use Rattle.std.specs.Prelude.{◌≡◌, ◌<◌, ◌⊎◌, ℕ, length, filter, slice_index, IsTrue, ◌↔◌, OnOk, IfOk, IfErr};
+ghost use Rattle.std.specs.Prelude.{◌≡◌, ◌<◌, ◌⊎◌, ℕ, length, filter, slice_index, OnOk, IfOk, IfErr};
 ghost use Rattle.g1_words.specs.Heap.{regions};
 ghost use Rattle.g1_words.specs.Lists.{has};
 ghost use Rattle.g1_choose.specs.Named.{AreDistinctOrdinary, IsBadAt, IsFirstBad};

@@ -1,4 +1,4 @@
-use Rattle.std.proofs.Common.{◌≡◌, ◌+◌, ◌-◌, ◌*◌, ◌/◌, slice_index, inl, inr, refl, sym, ap, ◌∙◌, arith, below_more}
+use Rattle.std.proofs.Common.{◌≡◌, ◌+◌, ◌-◌, slice_index, inl, inr, refl, sym, ap, ◌∙◌, arith, below_more}
 use Rattle.std.proofs.lemmas.Bool.{cases_lt}
 use Rattle.g1_image.specs.Image.{region_of_card}
 use Rattle.g1_image.proofs.cards.is_set_of.Goals as goal

@@ -1,4 +1,4 @@
-use Rattle.std.proofs.Common.{arith, sym, ◌∙◌, ◌≡◌, ◌/◌, ◌*◌, ◌+◌}
+use Rattle.std.proofs.Common.{arith, sym, ◌∙◌, ◌≡◌, ◌/◌, ◌+◌}
 use Rattle.g1_words.specs.Heap.{region, start, end}
 use Rattle.g1_words.proofs.Objects.{ordinary_found, ordinary_none, none_past, none_of_kind, first_there}
 use Rattle.g1_words.specs.declared.region.Kind.TheVariants.{Free, Ordinary, HumongousFirst, Continuation}

@@ -1,4 +1,4 @@
-use Rattle.std.proofs.Common.{◌≡◌, ◌*◌, ◌+◌, List, map}
+use Rattle.std.proofs.Common.{◌≡◌, ◌+◌, List, map}
 use Rattle.g1_words.specs.Heap.{kind, start, end, objects_in}
 use Rattle.g1_words.specs.Valid.{Tiles}
 use Rattle.g1_words.specs.declared.object.Object.{Object}
