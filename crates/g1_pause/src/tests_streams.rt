@@ -1,4 +1,5 @@
-use crate::{Choice, FromReader, Settings, ToWriter, pause_run, read_to_end, write_all};
+use crate::streams::{read_to_end, write_all};
+use crate::{Choice, FromReader, Settings, ToWriter, pause_run};
 use g1_choose::Cost;
 use g1_words::{Device, Fault};
 use g1_work::Open;
