@@ -249,7 +249,7 @@ fn sizes_are_judged_when_every_line_is_read(rt: HostRuntime) -> Result<(), Fail>
         1,
         &Open,
     )?;
-    assert_eq!(rt; told.as_slice(), b"1\n");
+    assert_eq!(rt; told.as_slice(), b"1\n".as_slice());
     Ok(())
 }
 
