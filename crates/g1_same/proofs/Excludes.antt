@@ -1,11 +1,11 @@
 -- One graph shows no difference.
-use Rattle.std.proofs.Common.{◌≡◌, ◌≢◌, ℕ, zero, suc, ◌+◌, ◌-◌, ◌<◌, ◌≤◌, ◌%◌, ◌/◌, ◌^◌, inl, inr, List, [], ◌∷◌, length, get_or, map, refl, sym, ap, subst, ◌∙◌, arith, slice_index, ◌⊎◌}
+use Rattle.std.proofs.Common.{◌≡◌, ℕ, zero, suc, ◌+◌, ◌-◌, ◌<◌, ◌%◌, ◌/◌, ◌^◌, inl, inr, List, [], ◌∷◌, length, get_or, refl, sym, ap, subst, ◌∙◌, arith, slice_index, ◌⊎◌}
 use Rattle.std.proofs.lemmas.List.{length-map, get_or-map}
 use Rattle.g1_words.specs.declared.object.Object.{Object}
 use Rattle.g1_words.specs.Heap.{Heap, word, object_at}
 use Rattle.g1_words.specs.Valid.{IsValid}
 use Rattle.g1_words.specs.Live.{Live}
-use Rattle.g1_image.specs.Copy.{renamed, renamed_words, IsCopy}
+use Rattle.g1_image.specs.Copy.{renamed, renamed_words}
 use Rattle.g1_image.specs.Graph.{SameGraph}
 use Rattle.g1_image.proofs.Determined.{word_from_copy}
 use Rattle.g1_image.proofs.CopyWords.{StaysAt, RenamedAt, renamed_word}

@@ -1,8 +1,8 @@
 -- Where a walk ends, no difference comes before.
-use Rattle.std.proofs.Common.{◌≡◌, ◌≢◌, ℕ, zero, suc, ◌+◌, ◌-◌, ◌<◌, ◌≤◌, ◌/◌, ◌%◌, ◌^◌, ◌++◌, ◌⊎◌, inl, inr, List, [], ◌∷◌, Vec, Global, length, refl, sym, ap, subst, ◌∙◌, arith, slice_index}
+use Rattle.std.proofs.Common.{◌≡◌, ◌≢◌, ℕ, zero, suc, ◌+◌, ◌<◌, ◌≤◌, ◌/◌, ◌%◌, ◌^◌, ◌++◌, ◌⊎◌, inl, inr, List, [], ◌∷◌, Vec, Global, length, refl, sym, ap, subst, ◌∙◌, arith, slice_index}
 use Rattle.std.proofs.lemmas.Bool.{cases_lt}
 use Rattle.std.proofs.lemmas.List.{length_push}
-use Rattle.g1_words.specs.Heap.{Heap, word, object_at, objects}
+use Rattle.g1_words.specs.Heap.{Heap, word, object_at}
 use Rattle.g1_words.specs.Valid.{IsValid}
 use Rattle.g1_same.specs.declared.walk.Walk.{Walk}
 use Rattle.g1_same.specs.declared.walk.Stop.{Stop}
@@ -11,11 +11,11 @@ use Rattle.g1_same.specs.declared.difference.How.TheVariants.{NullBefore, NullAf
 use Rattle.g1_same.specs.declared.difference.Difference.TheVariants.{At}
 use Rattle.g1_same.specs.Path.{Leads, LeadsTo, Together, Lower, Before}
 use Rattle.g1_same.specs.Same.{IsClash, ClashAt, rank, IsFirstDifference}
-use Rattle.g1_same.specs.Walk.{AreAlike, IsWay, IsWalk, IsEarlier, IsBelow, IsRoute, root, slot, IsLinked, IsNew, IsLeast, IsStop, LinksTo}
+use Rattle.g1_same.specs.Walk.{AreAlike, IsWay, IsWalk, IsEarlier, IsRoute, root, slot, IsLinked, IsNew, IsLeast, IsStop, LinksTo}
 use Rattle.g1_same.proofs.Excludes.{leads_to_one}
 use Rattle.g1_same.proofs.Tables.{index_apart}
 use Rattle.g1_same.proofs.Adding.{before_within, after_within}
-use Rattle.g1_same.proofs.Routes.{route_of, route_one, route_before, before_push, leads_to_push, stopped, route_leads, seen_clash}
+use Rattle.g1_same.proofs.Routes.{route_of, route_one, route_before, before_push, stopped, route_leads, seen_clash}
 
 -- ---- the order of paths
 

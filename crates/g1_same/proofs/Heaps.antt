@@ -1,10 +1,8 @@
 -- What one heap has: its objects lie within its words, and its references name objects.
-use Rattle.std.proofs.Common.{◌≡◌, ℕ, zero, suc, ◌+◌, ◌<◌, ◌≤◌, ◌-◌, ◌++◌, inl, inr, List, [], ◌∷◌, length, get_or, Contains, flat_map, refl, sym, ap, subst, ◌∙◌, arith, slice_index}
-use Rattle.std.specs.List.{range_with_len}
+use Rattle.std.proofs.Common.{◌≡◌, ℕ, suc, ◌+◌, ◌<◌, ◌≤◌, ◌-◌, inl, length, Contains, refl, sym, ap, subst, ◌∙◌, arith, slice_index}
 use Rattle.std.proofs.lemmas.List.{get_or_default}
-use Rattle.g1_words.specs.declared.object.Object.{Object}
 use Rattle.g1_words.specs.Heap.{Heap, word, object_at, objects, slots}
-use Rattle.g1_words.specs.Valid.{IsValid, IsReference, HasObject}
+use Rattle.g1_words.specs.Valid.{IsValid, IsReference}
 use Rattle.g1_words.specs.References.{named, root_targets, targets}
 use Rattle.g1_words.specs.Live.{Live, seed, child}
 use Rattle.g1_words.proofs.Members.{In, In-from_contains, Contains-from_in, In-flat_map, flat_map_cases}

@@ -1,8 +1,8 @@
 -- Two heaps have one first difference at most.
-use Rattle.std.proofs.Common.{◌≡◌, ◌≢◌, ℕ, zero, suc, ◌+◌, ◌<◌, ◌≤◌, ◌⊎◌, inl, inr, List, [], ◌∷◌, length, refl, sym, ap, subst, ◌∙◌, arith}
+use Rattle.std.proofs.Common.{◌≡◌, ℕ, suc, ◌⊎◌, inl, inr, List, [], ◌∷◌, length, refl, sym, ap, subst, ◌∙◌, arith}
 use Rattle.std.proofs.lemmas.Bool.{cases_lt}
 use native.Mathlib.Decide.{ℕ_discrete}
-use Rattle.g1_words.specs.Heap.{Heap, word, object_at}
+use Rattle.g1_words.specs.Heap.{Heap, object_at}
 use Rattle.g1_same.specs.declared.difference.How.{How}
 use Rattle.g1_same.specs.declared.difference.How.TheVariants.{NullBefore, NullAfter, Split, Joined, Size, Slots, Data}
 use Rattle.g1_same.specs.declared.difference.Difference.{Difference}

@@ -1,7 +1,7 @@
 -- Two heaps have one renaming at most.
-use Rattle.std.proofs.Common.{◌≡◌, ℕ, suc, ◌+◌, ◌<◌, List, length, map, refl, sym, ap, ◌∙◌, arith, slice_index}
+use Rattle.std.proofs.Common.{◌≡◌, ℕ, suc, ◌+◌, ◌<◌, List, length, map, sym, ap, ◌∙◌, arith, slice_index}
 use Rattle.std.proofs.lemmas.List.{ext_get_or, length-map, get_or-map}
-use Rattle.g1_words.specs.Heap.{Heap, word, object_at}
+use Rattle.g1_words.specs.Heap.{Heap, word}
 use Rattle.g1_words.specs.Valid.{IsValid}
 use Rattle.g1_words.specs.Live.{Live, seed, child}
 use Rattle.g1_words.specs.References.{root_targets, targets}

@@ -114,10 +114,9 @@ module _ (g h : Heap) (left : IsValid g) (right : IsValid h) (w : Walk) (walk : 
             ] in
             let lt : m < length w.before.items = omega (arith, last, k.1) in
             let absent : In l a → ⊥ = λ t.
-                let c = take_cases m w.before.items a 0 (subst (λ z. In z a) front.names (In-firsts l a t)) in
-                let o : c.0 ≡ k.0 = once g h left right w walk c.0 k.0 c.2 k.1 c.3 in
-                omega (arith, o, c.1, p) in
-            (
+            let c = take_cases m w.before.items a 0 (subst (λ z. In z a) front.names (In-firsts l a t)) in
+            let o : c.0 ≡ k.0 = once g h left right w walk c.0 k.0 c.2 k.1 c.3 in
+            omega (arith, o, c.1, p) in (
               m + 1,
               record {
                 most = omega (arith, lt);
@@ -225,7 +224,7 @@ module _ (g h : Heap) (left : IsValid g) (right : IsValid h) (w : Walk) (walk : 
       reached = λ a. (
         λ c. let k = place_of w.before.items a (In-from_contains w.before.items a c) in subst (λ z. Live g z) k.2 (live_at g h left right w walk k.0 k.1),
         λ live. let k = found g h left right w walk count roots pairs a live in
-        Contains-from_in w.before.items a (subst (λ z. In w.before.items z) k.2 (get_or-In w.before.items k.0 0 k.1)),
+            Contains-from_in w.before.items a (subst (λ z. In w.before.items z) k.2 (get_or-In w.before.items k.0 0 k.1)),
       );
       in_order = in_order;
     }

@@ -1,5 +1,5 @@
 -- A walk that links all roots and all slots of its pairs tells the renaming.
-use Rattle.std.proofs.Common.{◌≡◌, ◌≢◌, ℕ, zero, suc, ◌+◌, ◌-◌, ◌<◌, ◌≤◌, ◌⊎◌, inl, inr, List, [], ◌∷◌, length, get_or, map, Contains, refl, sym, ap, subst, ◌∙◌, arith, slice_index}
+use Rattle.std.proofs.Common.{◌≡◌, ℕ, zero, suc, ◌+◌, ◌-◌, ◌<◌, ◌≤◌, inl, inr, length, get_or, map, Contains, refl, sym, ap, subst, ◌∙◌, arith, slice_index}
 use Rattle.std.proofs.lemmas.List.{ext_get_or, length-map, get_or-map}
 use Rattle.std.proofs.lemmas.List.FromFn.{get_or-map-range_with_len, length-map-range_with_len}
 use Rattle.g1_words.specs.declared.object.Object.{Object}
@@ -8,9 +8,9 @@ use Rattle.g1_words.specs.Valid.{IsValid}
 use Rattle.g1_words.specs.Live.{Live, seed, child}
 use Rattle.g1_image.specs.Copy.{renamed, words_at, renamed_words, IsCopy}
 use Rattle.g1_image.specs.Graph.{SameGraph}
-use Rattle.g1_image.proofs.CopyWords.{StaysAt, RenamedAt, renamed_word, length-renamed_words}
+use Rattle.g1_image.proofs.CopyWords.{renamed_word, length-renamed_words}
 use Rattle.g1_same.specs.declared.walk.Walk.{Walk}
-use Rattle.g1_same.specs.Walk.{AreAlike, IsLinked, IsWay, IsWalk, LinksRoots, LinksSlots, LinksPairs}
+use Rattle.g1_same.specs.Walk.{IsLinked, IsWay, IsWalk, LinksRoots, LinksPairs}
 use Rattle.g1_same.proofs.Heaps.{object_in, root_of, slot_of, root_live, slot_live}
 use Rattle.g1_same.proofs.Tables.{index_apart}
 use Rattle.g1_same.proofs.Adding.{before_within, after_within}

@@ -1,7 +1,7 @@
 -- The paths of ways: they lead where the ways lead, and stand in breadth-first order.
-use Rattle.std.proofs.Common.{◌≡◌, ◌≢◌, ℕ, zero, suc, ◌+◌, ◌-◌, ◌<◌, ◌≤◌, ◌++◌, ◌⊎◌, inl, inr, List, [], ◌∷◌, length, refl, sym, ap, subst, ◌∙◌, arith, slice_index}
+use Rattle.std.proofs.Common.{◌≡◌, ℕ, zero, suc, ◌+◌, ◌<◌, ◌≤◌, ◌++◌, inl, inr, List, [], ◌∷◌, length, refl, sym, ap, subst, arith, slice_index}
 use Rattle.std.proofs.lemmas.List.{length_push}
-use Rattle.g1_words.specs.Heap.{Heap, word, object_at, objects}
+use Rattle.g1_words.specs.Heap.{Heap, word, object_at}
 use Rattle.g1_same.specs.declared.walk.Walk.{Walk}
 use Rattle.g1_same.specs.declared.walk.Stop.{Stop}
 use Rattle.g1_same.specs.declared.difference.How.{How}

@@ -1,13 +1,14 @@
 -- One more root, slot or pair is linked.
-use Rattle.std.proofs.Common.{◌≡◌, ℕ, zero, suc, ◌+◌, ◌-◌, ◌<◌, ◌≤◌, inl, inr, List, length, refl, sym, ap, subst, ◌∙◌, arith, slice_index, Option, Some, None, IfSome, IfNone}
+use Rattle.std.proofs.Common.{◌≡◌, ℕ, suc, ◌+◌, ◌<◌, ◌≤◌, inl, inr, List, length, refl, sym, subst, ◌∙◌, arith, slice_index, Option, Some, None, IfSome, IfNone}
 use Rattle.std.proofs.lemmas.Bool.{cases_lt}
 use Rattle.g1_words.specs.Heap.{Heap, word, object_at}
 use Rattle.g1_same.specs.declared.walk.Walk.{Walk}
 use Rattle.g1_same.specs.Walk.{IsLinked, IsWay, IsBelow, HasGrown, LinksRoots, LinksSlots, LinksPairs}
 use Rattle.g1_same.proofs.Adding.{linked_more}
 
-pub none_then : {X : Type 0} (P : Type 0) (o : Option X) → o ≡ None → IfNone o P → P
-none_then P o e h = subst (λ o. IfNone o P) e h
+pub none_then : {X : Type 0} (P : Type 0) (o : Option X) → ((x : X) → o ≡ Some x → ⊥) → IfNone o P → P
+none_then P None none h = h
+none_then P (Some x) none h = absurd (none x refl)
 
 pub some_then : {X : Type 0} (P : X → Type 0) (o : Option X) (x : X) → o ≡ Some x → IfSome o P → P x
 some_then P o x e h = subst (λ o. IfSome o P) e h

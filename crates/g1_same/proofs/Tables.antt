@@ -1,12 +1,11 @@
 -- The table of a list: by element, 1 more than its place.
-use Rattle.std.proofs.Common.{◌≡◌, ◌≢◌, ◌↔◌, ℕ, zero, suc, ◌+◌, ◌-◌, ◌<◌, ◌≤◌, ◌++◌, ◌⊎◌, inl, inr, Bool, true, false, List, [], ◌∷◌, length, get_or, set, refl, sym, ap, subst, ◌∙◌, arith, slice_index, eqb, eqb-true, eq-eqb, get_or-set_same, get_or-set_other, length-append}
-use Rattle.std.specs.List.{list_any, AllByRecursion, IsDistinct}
+use Rattle.std.proofs.Common.{◌≡◌, ◌≢◌, ◌↔◌, ℕ, suc, ◌-◌, ◌<◌, ◌≤◌, ◌++◌, inl, inr, false, List, [], ◌∷◌, length, set, refl, sym, subst, ◌∙◌, arith, slice_index, eqb, eqb-true, get_or-set_same, get_or-set_other, length-append}
+use Rattle.std.specs.List.{AllByRecursion, IsDistinct}
 use Rattle.std.proofs.lemmas.Bool.{cases_lt, cases_Bool}
 use Rattle.std.proofs.lemmas.List.{get_or_append_left, get_or_push, length-set}
 use Rattle.std.proofs.lemmas.Map.Steps.{length-le_from_distinct_below}
 use native.Mathlib.Decide.{ℕ_discrete}
-use Rattle.g1_words.proofs.Members.{In, In-from_contains, Contains-from_in, in_from_has}
-use Rattle.g1_words.proofs.Indices.{get_or-In}
+use Rattle.g1_words.proofs.Members.{In, in_from_has}
 use Rattle.g1_same.specs.Walk.{IsIndex}
 
 -- the place of an element of a list

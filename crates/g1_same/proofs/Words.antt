@@ -1,16 +1,15 @@
 -- What two words are to a walk, by its tables.
-use Rattle.std.proofs.Common.{◌≡◌, ◌≢◌, ℕ, zero, suc, ◌+◌, ◌-◌, ◌<◌, ◌≤◌, inl, inr, List, [], ◌∷◌, length, Contains, refl, sym, ap, subst, ◌∙◌, arith, slice_index}
-use Rattle.g1_words.specs.Heap.{Heap, word, object_at, objects}
+use Rattle.std.proofs.Common.{◌≡◌, ◌≢◌, ℕ, suc, ◌-◌, ◌<◌, inl, inr, List, [], ◌∷◌, length, Contains, sym, ap, subst, ◌∙◌, arith, slice_index}
+use Rattle.g1_words.specs.Heap.{Heap, object_at, objects}
 use Rattle.g1_words.specs.Valid.{IsValid}
 use Rattle.g1_same.specs.declared.walk.Walk.{Walk}
 use Rattle.g1_same.specs.declared.difference.How.{How}
 use Rattle.g1_same.specs.declared.difference.How.TheVariants.{NullBefore, NullAfter, Split, Joined, Size, Slots, Data}
-use Rattle.g1_same.specs.Path.{Lower, Before}
+use Rattle.g1_same.specs.Path.{Before}
 use Rattle.g1_same.specs.Same.{IsClash}
-use Rattle.g1_same.specs.Walk.{IsSeen, IsIndex, IsPaired, IsLeast, IsLower, IsNew, IsWalk, Names}
+use Rattle.g1_same.specs.Walk.{IsSeen, IsPaired, IsLeast, IsLower, IsNew, IsWalk, Names}
 use Rattle.g1_same.proofs.Heaps.{object_in}
 use Rattle.g1_same.proofs.Tables.{index_none, index_some}
-use Rattle.g1_same.proofs.Adding.{before_within, after_within}
 
 pub named : (h : Heap) (x : ℕ) → x ≢ 0 → Names h x → Contains (objects h) (object_at h (x - 1))
 named h x some names = names (x - 1) (omega arith)

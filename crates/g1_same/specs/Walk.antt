@@ -6,8 +6,7 @@ use Rattle.g1_same.specs.declared.walk.Stop.{Stop}
 use Rattle.g1_same.specs.declared.meeting.Met.{Met}
 use Rattle.g1_same.specs.declared.meeting.Met.TheVariants.{Known, New, Clash}
 use Rattle.g1_same.specs.declared.difference.How.{How}
-use Rattle.g1_same.specs.declared.difference.How.TheVariants.{NullBefore, NullAfter, Split, Joined, Size, Slots, Data}
-use Rattle.g1_same.specs.Path.{Together}
+use Rattle.g1_same.specs.declared.difference.How.TheVariants.{NullBefore, NullAfter, Split, Joined, Slots, Data}
 use Rattle.g1_same.specs.Same.{IsClash}
 
 -- the table has, at each address of the list, 1 more than its place in it, and 0 at every other address

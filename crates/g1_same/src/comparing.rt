@@ -31,15 +31,12 @@ fn link_roots(before: &Heap, after: &Heap, walk: &mut Walk) -> Result<Option<Sto
         let x = roots[number];
         let y = others[number];
         let number = number as u32;
-        match link(before, after, walk, 0, number, x, y)? {
-            Some(how) => {
-                return Ok(Some(Stop {
-                    from: 0,
-                    number,
-                    how,
-                }));
-            }
-            None => {}
+        if let Some(how) = link(before, after, walk, 0, number, x, y)? {
+            return Ok(Some(Stop {
+                from: 0,
+                number,
+                how,
+            }));
         }
     }
     Ok(None)
@@ -74,11 +71,8 @@ fn link_slots(
         let x = here[(a + 1 + number) as usize];
         let y = there[(b + 1 + number) as usize];
         let number = number as u32;
-        match link(before, after, walk, from, number, x, y)? {
-            Some(how) => {
-                return Ok(Some(Stop { from, number, how }));
-            }
-            None => {}
+        if let Some(how) = link(before, after, walk, from, number, x, y)? {
+            return Ok(Some(Stop { from, number, how }));
         }
     }
     Ok(None)
@@ -98,11 +92,8 @@ fn link_pairs(before: &Heap, after: &Heap, walk: &mut Walk) -> Result<Option<Sto
     let _sizes = (before.geometry(), after.geometry());
     let mut place = 0;
     while place < walk.before.len() {
-        match link_slots(before, after, walk, place)? {
-            Some(stop) => {
-                return Ok(Some(stop));
-            }
-            None => {}
+        if let Some(stop) = link_slots(before, after, walk, place)? {
+            return Ok(Some(stop));
         }
         place += 1;
     }
@@ -144,8 +135,10 @@ fn told(
 /// Whether two heaps show the same graph from the roots: the renaming that makes the one the other,
 /// or the first place where they differ.
 ///
+/// The time is linear in what the roots reach, and in the words of both heaps for two empty tables.
+///
 /// # Errors
-/// `Memory`.
+/// `Fault::Memory` where a growth was refused.
 pub fn compare(
     alloc: Global,
     before: &Heap,
@@ -164,17 +157,11 @@ pub fn compare(
         }));
     }
     let mut walk = start(alloc, before, after)?;
-    match link_roots(before, after, &mut walk)? {
-        Some(stop) => {
-            return Ok(Err(told(alloc, before, after, &walk, stop)?));
-        }
-        None => {}
+    if let Some(stop) = link_roots(before, after, &mut walk)? {
+        return Ok(Err(told(alloc, before, after, &walk, stop)?));
     }
-    match link_pairs(before, after, &mut walk)? {
-        Some(stop) => {
-            return Ok(Err(told(alloc, before, after, &walk, stop)?));
-        }
-        None => {}
+    if let Some(stop) = link_pairs(before, after, &mut walk)? {
+        return Ok(Err(told(alloc, before, after, &walk, stop)?));
     }
     Ok(Ok(Renaming {
         before: walk.before,

@@ -1,23 +1,26 @@
-/// How two words that one path leads to disagree.
+/// How two words that one path leads to disagree. Of several ways the first one in this order is told.
+/// Addresses count words.
 #[derive(Debug, Clone, Copy, PartialEq, Eq, Drop)]
 pub enum How {
     /// The word before is null, the one after isn't.
     NullBefore,
     /// The word after is null, the one before isn't.
     NullAfter,
-    /// An earlier path leads to the same object before, and to another one after.
+    /// One object before is two after: a path that comes before leads to `object` before and to
+    /// `first` after, this one to `object` and to `second`.
     Split {
         object: u64,
         first: u64,
         second: u64,
     },
-    /// An earlier path leads to the same object after, and to another one before.
+    /// Two objects before are one after: a path that comes before leads to `first` before and to
+    /// `object` after, this one to `second` and to `object`.
     Joined {
         first: u64,
         second: u64,
         object: u64,
     },
-    /// The objects have these sizes, in words.
+    /// The objects have these sizes, in words, the header included.
     Size {
         before: u64,
         after: u64,
@@ -27,13 +30,13 @@ pub enum How {
         before: u64,
         after: u64,
     },
-    /// The objects' data words of this number, from 0.
+    /// The objects' data words of this number, from 0, are not equal.
     Data {
         word: u64,
     },
 }
 
-/// Where two heaps differ, for whoever reads from the roots.
+/// The first place where two heaps differ, for whoever reads from the roots.
 #[derive(Drop)]
 pub enum Difference {
     /// The heaps have so many roots.
@@ -41,7 +44,8 @@ pub enum Difference {
         before: u64,
         after: u64,
     },
-    /// A root and then slots, by number, lead to words that disagree.
+    /// A root and then slots, by number from 0, lead to words that disagree. No shorter path does, and
+    /// none of this length with a lower number where the two first differ.
     At {
         root: u64,
         slots: Vec<u64>,

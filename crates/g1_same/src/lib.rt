@@ -1,14 +1,26 @@
 //! Whether two heaps show the same graph to whoever reads from the roots.
 //!
-//! 1. The roots are compared by number, and then the slots of each pair of objects that was found,
-//!    in the order in which the pairs are found: a breadth-first search of both heaps at once.
-//! 2. Two words agree where both are null, or where they name a pair that was found, or two objects
-//!    that are new, with one header and the same data words. Two tables tell it, one for each heap:
-//!    by an object's address the place of its pair.
-//! 3. Where all agree, the pairs are the renaming. Else the first two words that do not are told by
-//!    the path that leads to them in both heaps.
+//! A pause may give every object another address. What a program can see of a heap is its graph: the
+//! roots, and from them object by object the sizes, the slots and the data words. Two heaps show one
+//! graph where a one-to-one renaming of the reached objects makes the one the other. Regions, cards and
+//! dead objects don't count.
 //!
-//! Each reached object, each slot and each data word is looked at once.
+//! 1. Both heaps are searched at once, breadth first. The roots are compared by number, and then the
+//!    slots of each pair of objects that was found, in the order in which the pairs are found. So two
+//!    finite automata are compared, state by state (Hopcroft, Karp 1971); here a slot's number is the
+//!    letter that is read.
+//! 2. Two words agree where both are null, where they name a pair that was found, or where they name
+//!    two objects that are both new, of one size, as many slots and the same data words: a new pair.
+//! 3. Two tables tell which: by an object's address before, and by its address after, the place of its
+//!    pair. Two equal entries are a pair or two new objects. Else one object before is two after, or
+//!    two before are one after.
+//! 4. At the first two words that disagree the search ends. The path to them is told by going back
+//!    from a pair to the one whose slot named it. Since pairs are found in breadth-first order, no
+//!    path that comes before leads to a difference.
+//! 5. Where no slot is left, the pairs are the renaming.
+//!
+//! Each reached object, slot and data word is looked at once. The tables have 4 bytes for each word of
+//! their heap, and the list of pairs 24 bytes for each.
 #![tactic(auto)]
 
 mod comparing;

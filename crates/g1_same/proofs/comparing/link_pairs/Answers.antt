@@ -1,18 +1,10 @@
-use Rattle.std.proofs.Common.{arith, ap, subst, sym, refl, zero, suc, ℕ, List, [], ◌∷◌, ◌++◌, ◌≡◌, ◌<◌, ◌≤◌, ◌+◌, ◌-◌, ◌%◌, ◌^◌, ◌∙◌, Contains, length, reverse, slice_index, append_assoc, Option, Some, None, IfSome, IfNone}
-use Rattle.std.proofs.lemmas.List.{get_or_read, reverse-append}
-use Rattle.g1_words.specs.Heap.{Heap, word, object_at, objects}
+use Rattle.std.proofs.Common.{arith, subst, sym, suc, ℕ, ◌≡◌, ◌<◌, ◌+◌, ◌-◌, length, slice_index}
+use Rattle.g1_words.specs.Heap.{Heap, object_at}
 use Rattle.g1_same.specs.declared.walk.Walk.{Walk}
 use Rattle.g1_same.specs.declared.walk.Stop.{Stop}
-use Rattle.g1_same.specs.declared.difference.How.{How}
-use Rattle.g1_same.specs.declared.difference.Difference.{Difference}
-use Rattle.g1_same.specs.Same.{ClashAt, IsDifference, IsFirstDifference}
-use Rattle.g1_same.specs.Walk.{IsLeast, LinksTo, Names, IsRoute, root, slot, IsLinked, IsSeen, IsBelow, IsWay, IsWalk, LinksRoots, LinksSlots, LinksPairs, IsStop, HasGrown}
-use Rattle.g1_same.proofs.Heaps.{root_names, slot_names}
-use Rattle.g1_same.proofs.Adding.{grown_more, few_pairs}
-use Rattle.g1_same.proofs.Steps.{none_then, some_then, roots_more, roots_kept, slots_more, slots_kept, pairs_more, pairs_kept, slot_way, below_along}
-use Rattle.g1_same.proofs.First.{first}
-use Rattle.g1_same.proofs.Order.{renaming}
-use Rattle.g1_same.proofs.Excludes.{no_difference}
+use Rattle.g1_same.specs.Walk.{LinksTo, LinksSlots, HasGrown}
+use Rattle.g1_same.proofs.Adding.{few_pairs}
+use Rattle.g1_same.proofs.Steps.{none_then, some_then, roots_kept, pairs_more, pairs_kept, below_along}
 use Rattle.g1_same.proofs.comparing.link_pairs.Goals as goal
 
 pub loop-place-smaller : goal.loop-place-smaller
@@ -32,7 +24,7 @@ loop-place-preserved c =
     let m : ℕ = c.loop-place.place in
     let lt : m < length w.before.items = omega (arith, c.loop-place-test.true, c.len.ensures, c.loop-place.walk.before.ok) in
     let grown : HasGrown w v = c.in_ok-stop.ensures.grown in
-    let l = none_then (LinksSlots g h v m (object_at g (slice_index w.before.items m)).refs) c.in_ok-stop.field-0 c.in-None.is c.in_ok-stop.ensures.linked in
+    let l = none_then (LinksSlots g h v m (object_at g (slice_index w.before.items m)).refs) c.in_ok-stop.field-0 c.in_default.not-Some c.in_ok-stop.ensures.linked in
     record {
       walk = c.in_ok-stop.ensures.walk;
       roots = roots_kept g h w v (length g.roots) grown c.loop-place.invariant.roots;

@@ -1,18 +1,9 @@
-use Rattle.std.proofs.Common.{arith, ap, subst, sym, refl, zero, suc, ℕ, List, [], ◌∷◌, ◌++◌, ◌≡◌, ◌<◌, ◌≤◌, ◌+◌, ◌-◌, ◌%◌, ◌^◌, ◌∙◌, Contains, length, reverse, slice_index, append_assoc, Option, Some, None, IfSome, IfNone}
-use Rattle.std.proofs.lemmas.List.{get_or_read, reverse-append}
-use Rattle.g1_words.specs.Heap.{Heap, word, object_at, objects}
+use Rattle.std.proofs.Common.{arith, ap, subst, sym, ℕ, ◌<◌, length, slice_index}
+use Rattle.g1_words.specs.Heap.{Heap}
 use Rattle.g1_same.specs.declared.walk.Walk.{Walk}
-use Rattle.g1_same.specs.declared.walk.Stop.{Stop}
-use Rattle.g1_same.specs.declared.difference.How.{How}
-use Rattle.g1_same.specs.declared.difference.Difference.{Difference}
-use Rattle.g1_same.specs.Same.{ClashAt, IsDifference, IsFirstDifference}
-use Rattle.g1_same.specs.Walk.{IsLeast, LinksTo, Names, IsRoute, root, slot, IsLinked, IsSeen, IsBelow, IsWay, IsWalk, LinksRoots, LinksSlots, LinksPairs, IsStop, HasGrown}
-use Rattle.g1_same.proofs.Heaps.{root_names, slot_names}
-use Rattle.g1_same.proofs.Adding.{grown_more, few_pairs}
-use Rattle.g1_same.proofs.Steps.{none_then, some_then, roots_more, roots_kept, slots_more, slots_kept, pairs_more, pairs_kept, slot_way, below_along}
-use Rattle.g1_same.proofs.First.{first}
-use Rattle.g1_same.proofs.Order.{renaming}
-use Rattle.g1_same.proofs.Excludes.{no_difference}
+use Rattle.g1_same.specs.Walk.{Names, IsLinked}
+use Rattle.g1_same.proofs.Heaps.{root_names}
+use Rattle.g1_same.proofs.Steps.{none_then, roots_more, roots_kept}
 use Rattle.g1_same.proofs.comparing.link_roots.Goals as goal
 
 pub link-requires-clause-x : goal.link-requires-clause-x
@@ -32,7 +23,7 @@ loop-number-preserved c =
     let v : Walk = c.link.new.walk in
     let n : ℕ = c.loop-number.number in
     let l : IsLinked v 0 n (slice_index c.roots-roots.result.now n) (slice_index c.roots-others.result.now n) =
-    none_then (IsLinked v 0 n (slice_index c.roots-roots.result.now n) (slice_index c.roots-others.result.now n)) c.in_ok-how.field-0 c.in-None.is c.in_ok-how.ensures.linked in
+    none_then (IsLinked v 0 n (slice_index c.roots-roots.result.now n) (slice_index c.roots-others.result.now n)) c.in_ok-how.field-0 c.in_default.not-Some c.in_ok-how.ensures.linked in
     let l' : IsLinked v 0 n (slice_index g.roots n) (slice_index h.roots n) =
     subst (λ q. IsLinked v 0 n (slice_index q n) (slice_index h.roots n)) c.roots-roots.ensures (subst (λ q. IsLinked v 0 n (slice_index c.roots-roots.result.now n) (slice_index q n)) c.roots-others.ensures l) in
     record {

@@ -1,18 +1,12 @@
-use Rattle.std.proofs.Common.{arith, ap, subst, sym, refl, zero, suc, ℕ, List, [], ◌∷◌, ◌++◌, ◌≡◌, ◌<◌, ◌≤◌, ◌+◌, ◌-◌, ◌%◌, ◌^◌, ◌∙◌, Contains, length, reverse, slice_index, append_assoc, Option, Some, None, IfSome, IfNone}
-use Rattle.std.proofs.lemmas.List.{get_or_read, reverse-append}
+use Rattle.std.proofs.Common.{arith, ap, subst, sym, suc, ℕ, ◌≡◌, ◌<◌, ◌+◌, ◌%◌, ◌^◌, ◌∙◌, Contains, length, slice_index}
+use Rattle.std.proofs.lemmas.List.{get_or_read}
 use Rattle.g1_words.specs.Heap.{Heap, word, object_at, objects}
 use Rattle.g1_same.specs.declared.walk.Walk.{Walk}
-use Rattle.g1_same.specs.declared.walk.Stop.{Stop}
 use Rattle.g1_same.specs.declared.difference.How.{How}
-use Rattle.g1_same.specs.declared.difference.Difference.{Difference}
-use Rattle.g1_same.specs.Same.{ClashAt, IsDifference, IsFirstDifference}
-use Rattle.g1_same.specs.Walk.{IsLeast, LinksTo, Names, IsRoute, root, slot, IsLinked, IsSeen, IsBelow, IsWay, IsWalk, LinksRoots, LinksSlots, LinksPairs, IsStop, HasGrown}
-use Rattle.g1_same.proofs.Heaps.{root_names, slot_names}
+use Rattle.g1_same.specs.Walk.{IsLeast, Names, IsLinked, IsSeen, IsBelow, HasGrown}
+use Rattle.g1_same.proofs.Heaps.{slot_names}
 use Rattle.g1_same.proofs.Adding.{grown_more, pairs_fit}
-use Rattle.g1_same.proofs.Steps.{none_then, some_then, roots_more, roots_kept, slots_more, slots_kept, pairs_more, pairs_kept, slot_way, below_along}
-use Rattle.g1_same.proofs.First.{first}
-use Rattle.g1_same.proofs.Order.{renaming}
-use Rattle.g1_same.proofs.Excludes.{no_difference}
+use Rattle.g1_same.proofs.Steps.{none_then, some_then, slots_more, slots_kept, slot_way}
 use Rattle.g1_same.proofs.comparing.link_slots.Goals as goal
 
 pub object-old-requires : goal.object-old-requires
@@ -178,7 +172,7 @@ loop-number-preserved c =
     let v : Walk = c.link.new.walk in
     let x : ℕ = slice_index c.words-here.result.now (a + 1 + n) in
     let y : ℕ = slice_index c.words-there.result.now (b + 1 + n) in
-    let l = none_then (IsLinked v (place + 1) n x y) c.in_ok-how.field-0 c.in-None.is c.in_ok-how.ensures.linked in
+    let l = none_then (IsLinked v (place + 1) n x y) c.in_ok-how.field-0 c.in_default.not-Some c.in_ok-how.ensures.linked in
     let one : place + 1 ≡ suc place = omega arith in
     let l' : IsLinked v (suc place) n (word g (a + 1 + n)) (word h (b + 1 + n)) =
     subst (λ q. IsLinked v (suc place) n (slice_index q (a + 1 + n)) (word h (b + 1 + n))) c.words-here.ensures (subst (λ q. IsLinked v (suc place) n x (slice_index q (b + 1 + n))) c.words-there.ensures (subst (λ z. IsLinked v z n x y) one l)) in

@@ -1,18 +1,8 @@
-use Rattle.std.proofs.Common.{arith, ap, subst, sym, refl, zero, suc, ℕ, List, [], ◌∷◌, ◌++◌, ◌≡◌, ◌<◌, ◌≤◌, ◌+◌, ◌-◌, ◌%◌, ◌^◌, ◌∙◌, Contains, length, reverse, slice_index, append_assoc, Option, Some, None, IfSome, IfNone}
+use Rattle.std.proofs.Common.{arith, ap, subst, sym, suc, ℕ, [], ◌∷◌, ◌++◌, ◌≡◌, ◌<◌, ◌-◌, ◌∙◌, length, reverse, slice_index, append_assoc}
 use Rattle.std.proofs.lemmas.List.{get_or_read, reverse-append}
-use Rattle.g1_words.specs.Heap.{Heap, word, object_at, objects}
 use Rattle.g1_same.specs.declared.walk.Walk.{Walk}
-use Rattle.g1_same.specs.declared.walk.Stop.{Stop}
-use Rattle.g1_same.specs.declared.difference.How.{How}
-use Rattle.g1_same.specs.declared.difference.Difference.{Difference}
-use Rattle.g1_same.specs.Same.{ClashAt, IsDifference, IsFirstDifference}
-use Rattle.g1_same.specs.Walk.{IsLeast, LinksTo, Names, IsRoute, root, slot, IsLinked, IsSeen, IsBelow, IsWay, IsWalk, LinksRoots, LinksSlots, LinksPairs, IsStop, HasGrown}
-use Rattle.g1_same.proofs.Heaps.{root_names, slot_names}
-use Rattle.g1_same.proofs.Adding.{grown_more, few_pairs}
-use Rattle.g1_same.proofs.Steps.{none_then, some_then, roots_more, roots_kept, slots_more, slots_kept, pairs_more, pairs_kept, slot_way, below_along}
+use Rattle.g1_same.specs.Walk.{IsRoute, root, slot}
 use Rattle.g1_same.proofs.First.{first}
-use Rattle.g1_same.proofs.Order.{renaming}
-use Rattle.g1_same.proofs.Excludes.{no_difference}
 use Rattle.g1_same.proofs.comparing.told.Goals as goal
 
 pub loop-from-preserved : goal.loop-from-preserved

@@ -1,7 +1,7 @@
-use Rattle.std.proofs.Common.{arith, ap, subst, sym, suc, ℕ, ◌≡◌, ◌<◌, length}
+use Rattle.std.proofs.Common.{arith, subst, sym, suc, ℕ, ◌<◌, length}
 use Rattle.g1_same.specs.Walk.{IsLinked, IsWay}
 use Rattle.g1_same.proofs.Heaps.{object_in}
-use Rattle.g1_same.proofs.Adding.{IsAdded, added_walk, added_linked, added_below, added_grown, linked_by, pairs_fit}
+use Rattle.g1_same.proofs.Adding.{IsAdded, added_walk, added_linked, added_below, linked_by, pairs_fit}
 use Rattle.g1_same.proofs.meeting.link.Goals as goal
 
 pub add-requires-clause-a : goal.add-requires-clause-a

@@ -1,4 +1,4 @@
-use Rattle.std.proofs.Common.{arith, ap, subst, sym, suc, ℕ, ◌≡◌, ◌≢◌, ◌<◌, ◌-◌, ◌∙◌, length, slice_index}
+use Rattle.std.proofs.Common.{arith, subst, sym, suc, ℕ, ◌≡◌, ◌≢◌, ◌<◌, ◌-◌, ◌∙◌, length, slice_index}
 use Rattle.std.proofs.lemmas.List.{get_or_read}
 use Rattle.g1_same.specs.Walk.{IsPaired, IsSeen, IsLeast}
 use Rattle.g1_same.proofs.Words.{named_below, known_here, split_here, joined_here, seen_of, new_before, new_after, least_of}

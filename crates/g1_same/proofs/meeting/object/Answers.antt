@@ -1,4 +1,4 @@
-use Rattle.std.proofs.Common.{arith, ap, subst, sym, ◌≡◌, ◌<◌, ◌≤◌, ◌+◌, ◌%◌, ◌/◌, ◌^◌, length, slice_index}
+use Rattle.std.proofs.Common.{arith, ap, subst, sym, ◌<◌, ◌≤◌, ◌+◌, ◌%◌, ◌/◌, ◌^◌, length, slice_index}
 use Rattle.g1_same.proofs.Heaps.{object_in}
 use Rattle.g1_same.proofs.meeting.object.Goals as goal
 
