@@ -3,7 +3,8 @@
 
 Draws N small heaps (1000) and sets, evacuates each set as tools/opponent.py does, and asks of the image after that
 `same --covered --set R ..` finds it the same, kept and covered, with the numbers of objects and words that are
-reached; with --g1pause also that `check` finds it covered. Then an error of each kind of tools/plant_errors.py is
+reached; with --g1pause also that `check` finds it covered, and that the answer of `g1pause pause R ..` to the heap
+with exact remembered sets is found the same, kept and covered too. Then an error of each kind of tools/plant_errors.py is
 planted. What `same` tells of it, line by line, is compared with a judge of this script's own, which walks both
 heaps from the definition; and `same --set` has to find it wherever roots or objects outside the set lead to it.
 The last line is 'N passed, M failed', after a count for each kind of error.
@@ -16,7 +17,7 @@ import subprocess
 import sys
 import tempfile
 
-from heap_image import FREE, NULL, ORDINARY, drawn
+from heap_image import FREE, NULL, ORDINARY, drawn, from_bytes
 from opponent import NoRoom, Opponent
 from plant_errors import ERRORS, Planter
 
@@ -97,11 +98,23 @@ class Judge:
         if self.options.g1pause:
             done = subprocess.run([self.options.g1pause, "check"], input=after.to_bytes(), capture_output=True)
             self.judge(f"{name}: check", done.stdout == b"covered\n")
+            self.paused(f"{name}: g1pause", before, chosen, expected)
         planter = Planter(after, opponent.copies, rng)
         outside = [a + 1 for a in before.objects() if before.region_of(a) not in chosen]
         for error in ERRORS:
             self.planted(f"{name}: {error}", error, before, getattr(planter, error)(), outside, words)
         return True
+
+    def paused(self, name, before, chosen, expected):
+        """The answer of g1pause, where there is room for it. It has no fillers, but shows the same."""
+        exact = before.copy()
+        exact.make_exact()
+        regions = [str(r) for r in chosen]
+        done = subprocess.run([self.options.g1pause, "pause", *regions], input=exact.to_bytes(), capture_output=True)
+        if done.returncode == 0:
+            self.counts["pauses of g1pause"] += 1
+            answer = self.same(from_bytes(done.stdout), "--covered", "--set", *regions)
+            self.judge(name, answer == (0, expected, ""))
 
     def planted(self, name, error, before, after, outside, words):
         if after is None:

@@ -47,8 +47,8 @@ pub fn object_line(alloc: Global, heap: &Heap, object: &Object) -> Result<String
     Ok(text)
 }
 
-/// The word for a kind.
-pub fn kind_word(kind: Kind) -> &'static str {
+// The word for a kind, as `show` has it.
+fn kind_word(kind: Kind) -> &'static str {
     match kind {
         Kind::Free => "free",
         Kind::Ordinary => "ordinary",

@@ -409,7 +409,7 @@ fn devices_fail_at_each_byte(rt: HostRuntime) -> Result<(), Fail> {
         assert!(rt; out.is_empty(), "{left}");
         assert_eq!(rt;
             errors.as_slice(),
-            b"g1heap: -: fault 14: input\n",
+            b"g1heap: -: fault 14: input\n".as_slice(),
             "{left}"
         );
         let mut reader = ONE_OBJECT_LINES.as_bytes();
@@ -418,7 +418,11 @@ fn devices_fail_at_each_byte(rt: HostRuntime) -> Result<(), Fail> {
         let (status, errors) = run(&rt, alloc, "make", &mut reader, &mut writer)?;
         assert_eq!(rt; status, 6, "{left}");
         assert_eq!(rt; writer.bytes.as_slice(), &ONE_OBJECT[..left], "{left}");
-        assert_eq!(rt; errors.as_slice(), b"g1heap: fault 14: output\n", "{left}");
+        assert_eq!(rt;
+            errors.as_slice(),
+            b"g1heap: fault 14: output\n".as_slice(),
+            "{left}"
+        );
     }
     Ok(())
 }
