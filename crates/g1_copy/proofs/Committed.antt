@@ -3,10 +3,10 @@ use Rattle.std.proofs.Common.{◌≡◌, ℕ, zero, suc, refl, ◌++◌, ◌+◌
 use Rattle.std.specs.List.{range_with_len}
 use Rattle.std.proofs.Math.Nat.{mul-div_left}
 use Rattle.std.proofs.lemmas.List.FromFn.{length-map-range_with_len}
-use Rattle.g1_image.proofs.Existence.{made_is_moved}
+use Rattle.g1_after.proofs.Existence.{made_is_moved}
 use Rattle.g1_image.specs.Image.{Image}
-use Rattle.g1_image.specs.Made.{image_after, moved_word}
-use Rattle.g1_image.specs.Moved.{IsMoved}
+use Rattle.g1_after.specs.Made.{image_after, moved_word}
+use Rattle.g1_after.specs.Moved.{IsMoved}
 use Rattle.g1_work.proofs.Slices.{length-slice_of, next_slice}
 use Rattle.g1_work.specs.Regions.{EverySlice, slice_of}
 use Rattle.g1_words.proofs.Firsts.{Distinct}

@@ -17,7 +17,7 @@ use Rattle.g1_words.proofs.OneToOne.{moved_stays}
 use Rattle.g1_words.proofs.Ordered.{Ordered, Ordered-from_pairs, pairs_from_ordered}
 use Rattle.g1_words.proofs.Rising.{Ordered-filter, Ordered-flat_map, Ordered-map, Ordered-range}
 use Rattle.g1_words.proofs.Sound.{sound}
-use Rattle.g1_image.specs.Copy.{renamed}
+use Rattle.g1_words.specs.Copy.{renamed}
 use Rattle.g1_layout.proofs.Stretches.{within_region}
 use Rattle.g1_layout.specs.Placed.{CanPlace}
 use Rattle.g1_copy.proofs.GatheringWords.{forward_at, places_apart}

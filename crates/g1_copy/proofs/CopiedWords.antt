@@ -14,8 +14,8 @@ use Rattle.g1_words.specs.Layout.{forward, free_regions, laid, need, places, siz
 use Rattle.g1_words.specs.Valid.{IsValid}
 use Rattle.g1_words.proofs.Indices.{get_or-In, is_free_region, range_bounds}
 use Rattle.g1_words.proofs.Members.{In}
-use Rattle.g1_image.specs.Copy.{renamed, renamed_words, words_at}
-use Rattle.g1_image.specs.Made.{moved_word}
+use Rattle.g1_words.specs.Copy.{renamed, renamed_words, words_at}
+use Rattle.g1_after.specs.Made.{moved_word}
 use Rattle.g1_layout.proofs.Conditions.{can_lay}
 use Rattle.g1_layout.proofs.Lists.{range-more, range_more}
 use Rattle.g1_layout.proofs.Running.{count_places, fits, laid_before-more, place_is, size_is, stretch_lies}

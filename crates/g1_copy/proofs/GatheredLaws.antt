@@ -4,7 +4,7 @@ use Rattle.std.proofs.lemmas.List.{get_or-take}
 use Rattle.g1_words.specs.Heap.{Heap, object_at, start}
 use Rattle.g1_words.specs.Layout.{forward, free_regions, laid, need, places, sizes_of, to_space}
 use Rattle.g1_words.specs.Valid.{IsValid}
-use Rattle.g1_image.specs.Made.{moved_word}
+use Rattle.g1_after.specs.Made.{moved_word}
 use Rattle.g1_layout.proofs.Conditions.{can_lay}
 use Rattle.g1_layout.proofs.Running.{fits, needed, place_is, size_is}
 use Rattle.g1_layout.specs.Placed.{CanLay}

@@ -14,8 +14,8 @@ use Rattle.g1_words.specs.Layout.{forward, free_regions, moved_to, need, places,
 use Rattle.g1_words.specs.Lists.{has}
 use Rattle.g1_words.specs.Valid.{IsReference, IsValid}
 use Rattle.g1_words.specs.declared.object.Object.{Object}
-use Rattle.g1_image.proofs.CopyWords.{length-renamed_words, renamed_word}
-use Rattle.g1_image.specs.Copy.{renamed, renamed_words}
+use Rattle.g1_after.proofs.CopyWords.{length-renamed_words, renamed_word}
+use Rattle.g1_words.specs.Copy.{renamed, renamed_words}
 use Rattle.g1_layout.proofs.Stretches.{within_region}
 use Rattle.g1_layout.specs.Placed.{CanPlace}
 use Rattle.g1_layout.specs.Plan.{Plan}

@@ -8,8 +8,8 @@ use Rattle.std.proofs.lemmas.List.FromFn.{get_or-map-range_with_len, length-map-
 use Rattle.g1_words.specs.Heap.{Heap, object_at, start}
 use Rattle.g1_words.specs.Layout.{forward, free_regions, laid, need, places, sizes_of}
 use Rattle.g1_words.specs.Valid.{IsValid}
-use Rattle.g1_image.specs.Copy.{renamed_words}
-use Rattle.g1_image.specs.Made.{moved_word}
+use Rattle.g1_words.specs.Copy.{renamed_words}
+use Rattle.g1_after.specs.Made.{moved_word}
 use Rattle.g1_layout.proofs.Conditions.{can_lay}
 use Rattle.g1_layout.proofs.Running.{fits, in_stretch, only_region, place_is, place_region, size_is, stretch_lies}
 use Rattle.g1_layout.specs.Placed.{CanPlace}

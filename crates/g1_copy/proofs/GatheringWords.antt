@@ -12,8 +12,8 @@ use Rattle.g1_words.specs.Heap.{Heap, object_at, start}
 use Rattle.g1_words.specs.Layout.{forward, free_regions, moved_to, need, places, sizes_of, to_space}
 use Rattle.g1_words.specs.Valid.{IsValid}
 use Rattle.g1_words.specs.declared.object.Object.{Object}
-use Rattle.g1_image.specs.Copy.{renamed_words}
-use Rattle.g1_image.specs.Made.{moved_word}
+use Rattle.g1_words.specs.Copy.{renamed_words}
+use Rattle.g1_after.specs.Made.{moved_word}
 use Rattle.g1_layout.proofs.Conditions.{can_lay}
 use Rattle.g1_layout.proofs.Running.{count_places, count_sizes, size_is}
 use Rattle.g1_layout.proofs.Stretches.{places_rise}

@@ -6,16 +6,16 @@ use Rattle.std.proofs.lemmas.Nat.{div-mul-add}
 use Rattle.std.proofs.Math.Nat.{mul-div_left}
 use Rattle.std.proofs.lemmas.List.{ext_get_or, get_or-take, get_or-replicate, length-replicate, length-take-le}
 use Rattle.std.proofs.lemmas.List.FromFn.{get_or-map-range_with_len, length-map-range_with_len}
-use Rattle.g1_image.proofs.CopyWords.{copied_word}
-use Rattle.g1_image.proofs.Existence.{made_is_moved}
-use Rattle.g1_image.proofs.ObjectsOf.{kept_outside, region_cases}
-use Rattle.g1_image.proofs.RulesAfter.{named_suc, zero_after}
-use Rattle.g1_image.proofs.SameGraphs.{named_survives}
-use Rattle.g1_image.proofs.ValidAfter.{other_shape, outside_word, set_shape, slot_names}
-use Rattle.g1_image.specs.Copy.{is_taken, renamed, renamed_words}
+use Rattle.g1_after.proofs.CopyWords.{copied_word}
+use Rattle.g1_after.proofs.Existence.{made_is_moved}
+use Rattle.g1_after.proofs.ObjectsOf.{kept_outside, region_cases}
+use Rattle.g1_after.proofs.RulesAfter.{named_suc, zero_after}
+use Rattle.g1_after.proofs.SameGraphs.{named_survives}
+use Rattle.g1_after.proofs.ValidAfter.{other_shape, outside_word, set_shape, slot_names}
+use Rattle.g1_words.specs.Copy.{is_taken, renamed, renamed_words}
 use Rattle.g1_image.specs.Image.{Image}
-use Rattle.g1_image.specs.Made.{image_after, moved_word}
-use Rattle.g1_image.specs.Moved.{IsMoved}
+use Rattle.g1_after.specs.Made.{image_after, moved_word}
+use Rattle.g1_after.specs.Moved.{IsMoved}
 use Rattle.g1_words.proofs.Computed.{In-range}
 use Rattle.g1_words.proofs.Indices.{get_or-In, is_free_region, range_bounds}
 use Rattle.g1_words.proofs.Members.{Contains-from_in, In, In-filter, In-flat_map, In-map, and_true, any_member, filter_member, flat_map_cases, has_from_in, in_from_has, map_cases}

@@ -7,10 +7,10 @@ use Rattle.std.proofs.lemmas.List.FromFn.{length-map-range_with_len}
 use Rattle.std.specs.Prelude.{slice_index_or}
 use Rattle.g1_image.proofs.Covers.{cards_rise}
 use Rattle.g1_image.specs.Cards.{Covered, refined}
-use Rattle.g1_image.specs.Copy.{renamed}
+use Rattle.g1_words.specs.Copy.{renamed}
 use Rattle.g1_image.specs.Image.{Image, IsImage}
-use Rattle.g1_image.specs.Made.{heap_after}
-use Rattle.g1_image.specs.Moved.{new_region, new_set}
+use Rattle.g1_after.specs.Made.{heap_after}
+use Rattle.g1_after.specs.Moved.{new_region, new_set}
 use Rattle.g1_layout.specs.Plan.{Plan}
 use Rattle.g1_rem.specs.Starts.{card_count}
 use Rattle.g1_words.proofs.Computed.{range_below}

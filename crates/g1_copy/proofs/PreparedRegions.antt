@@ -2,14 +2,14 @@
 use Rattle.std.proofs.Common.{◌≡◌, ℕ, zero, suc, ◌+◌, ◌<◌, ◌≤◌, inl, ◌^◌, true, false, cond, List, [], ◌∷◌, ◌++◌, All, take, length, map, get_or, refl, sym, ◌∙◌, ap, subst, arith}
 use Rattle.std.proofs.lemmas.List.{length-take-le, get_or-take, take_all, take_more}
 use Rattle.std.proofs.lemmas.List.FromFn.{get_or-map-range_with_len, length-map-range_with_len}
-use Rattle.g1_image.proofs.Existence.{made_is_moved}
-use Rattle.g1_image.proofs.ObjectsAfter.{region_after}
-use Rattle.g1_image.proofs.RulesAfter.{valid_after}
-use Rattle.g1_image.proofs.ValidAfter.{kept_refs, moved_below, root_kept}
-use Rattle.g1_image.specs.Copy.{renamed}
+use Rattle.g1_after.proofs.Existence.{made_is_moved}
+use Rattle.g1_after.proofs.ObjectsAfter.{region_after}
+use Rattle.g1_after.proofs.RulesAfter.{valid_after}
+use Rattle.g1_after.proofs.ValidAfter.{kept_refs, moved_below, root_kept}
+use Rattle.g1_words.specs.Copy.{renamed}
 use Rattle.g1_image.specs.Image.{Image}
-use Rattle.g1_image.specs.Made.{image_after}
-use Rattle.g1_image.specs.Moved.{new_region}
+use Rattle.g1_after.specs.Made.{image_after}
+use Rattle.g1_after.specs.Moved.{new_region}
 use Rattle.g1_layout.specs.Plan.{Plan, run_at, runs}
 use Rattle.g1_layout.specs.declared.plan.Run.{Run}
 use Rattle.g1_words.proofs.Indices.{get_or-In, is_free_region, not_has}

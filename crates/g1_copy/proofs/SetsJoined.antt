@@ -19,8 +19,8 @@ use Rattle.g1_words.proofs.Shapes.{IsBuilt}
 use Rattle.g1_words.proofs.Standing.{card_positive, width_positive}
 use Rattle.g1_image.specs.Image.{Image, region_of_card}
 use Rattle.g1_image.specs.Cards.{cards_where, is_exact, is_refined, refined}
-use Rattle.g1_image.specs.Moved.{card_in, new_set}
-use Rattle.g1_image.specs.Made.{heap_after}
+use Rattle.g1_after.specs.Moved.{card_in, new_set}
+use Rattle.g1_after.specs.Made.{heap_after}
 use Rattle.g1_image.proofs.Covers.{cards_rise}
 use Rattle.g1_rem.specs.Merging.{IsMerged}
 use Rattle.g1_rem.proofs.Rising.{Rises-range, Rises-filter, Rises-one, increasing-Rises}

@@ -19,17 +19,17 @@ use Rattle.g1_words.proofs.Bounds.{card_in_region, cards_in_region}
 use Rattle.g1_words.proofs.OneToOne.{kept_cases, outside_stays}
 use Rattle.g1_image.specs.Image.{Image, region_of_card}
 use Rattle.g1_image.specs.Cards.{leads_into, is_exact}
-use Rattle.g1_image.specs.Copy.{renamed}
-use Rattle.g1_image.specs.Moved.{IsMoved, card_in}
-use Rattle.g1_image.specs.Made.{image_after}
-use Rattle.g1_image.specs.After.{IsMovedRef}
-use Rattle.g1_image.proofs.ObjectsOf.{kept_outside, used_not_to_space}
-use Rattle.g1_image.proofs.ToSpace.{goal_in_to_space, goal_is_free, survivor_kept}
-use Rattle.g1_image.proofs.ValidAfter.{kept_refs, outside_word, slot_kept, slot_names, survivor_word}
-use Rattle.g1_image.proofs.RulesAfter.{named_suc}
-use Rattle.g1_image.proofs.RefsMoved.{refs_after}
-use Rattle.g1_image.proofs.CoveredAfter.{any_from_in, and_both, or_left, or_right}
-use Rattle.g1_image.proofs.Existence.{made_is_moved}
+use Rattle.g1_words.specs.Copy.{renamed}
+use Rattle.g1_after.specs.Moved.{IsMoved, card_in}
+use Rattle.g1_after.specs.Made.{image_after}
+use Rattle.g1_after.specs.After.{IsMovedRef}
+use Rattle.g1_after.proofs.ObjectsOf.{kept_outside, used_not_to_space}
+use Rattle.g1_after.proofs.ToSpace.{goal_in_to_space, goal_is_free, survivor_kept}
+use Rattle.g1_after.proofs.ValidAfter.{kept_refs, outside_word, slot_kept, slot_names, survivor_word}
+use Rattle.g1_after.proofs.RulesAfter.{named_suc}
+use Rattle.g1_after.proofs.RefsMoved.{refs_after}
+use Rattle.g1_after.proofs.CoveredAfter.{any_from_in, and_both, or_left, or_right}
+use Rattle.g1_after.proofs.Existence.{made_is_moved}
 use Rattle.g1_copy.specs.Links.{link, is_linked, moved_slots, copied_slots}
 use Rattle.g1_copy.specs.Patches.{patch, all_patches}
 

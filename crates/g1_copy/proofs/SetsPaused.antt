@@ -20,8 +20,8 @@ use Rattle.g1_words.proofs.Shapes.{built}
 use Rattle.g1_words.proofs.Sound.{sound}
 use Rattle.g1_image.specs.Image.{Image, IsImage}
 use Rattle.g1_image.specs.Cards.{refined}
-use Rattle.g1_image.specs.Moved.{new_set}
-use Rattle.g1_image.specs.Made.{heap_after}
+use Rattle.g1_after.specs.Moved.{new_set}
+use Rattle.g1_after.specs.Made.{heap_after}
 use Rattle.g1_layout.specs.Placed.{CanPlace}
 use Rattle.g1_layout.specs.Plan.{Plan}
 use Rattle.g1_copy.specs.Links.{cards_by_region, copied_slots}

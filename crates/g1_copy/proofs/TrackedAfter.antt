@@ -2,10 +2,10 @@
 use Rattle.std.proofs.Common.{◌≡◌, ◌%◌, ℕ, List, [], None, length, sym, ◌∙◌, ap, subst}
 use Rattle.std.proofs.Math.Nat.{mul-mod_left}
 use Rattle.g1_words.specs.Geometry.{Geometry}
-use Rattle.g1_image.specs.After.{TrackedAfter}
+use Rattle.g1_after.specs.After.{TrackedAfter}
 use Rattle.g1_image.specs.Cards.{IsTracked}
 use Rattle.g1_image.specs.Image.{Image}
-use Rattle.g1_image.specs.Moved.{IsMoved}
+use Rattle.g1_after.specs.Moved.{IsMoved}
 use Rattle.g1_work.specs.Regions.{EverySlice}
 use Rattle.g1_copy.specs.Prepared.{IsMadeFor, Prepared, committed, written}
 use Rattle.g1_copy.specs.Slices.{IsWritable}

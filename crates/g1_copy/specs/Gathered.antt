@@ -3,8 +3,8 @@ use Rattle.std.specs.Prelude.{◌≡◌, ◌≤◌, ◌<◌, ℕ, ◌+◌, ◌-�
 use Rattle.std.specs.List.{range_with_len}
 use Rattle.g1_words.specs.Heap.{Heap, object_at, start}
 use Rattle.g1_words.specs.Layout.{forward, need, to_space}
-use Rattle.g1_image.specs.Copy.{renamed_words}
-use Rattle.g1_image.specs.Made.{moved_word}
+use Rattle.g1_words.specs.Copy.{renamed_words}
+use Rattle.g1_after.specs.Made.{moved_word}
 use Rattle.g1_layout.specs.Plan.{Plan}
 
 -- the words of a region that survivors are placed in: each word is that of the survivor that takes it, its references renamed, or 0

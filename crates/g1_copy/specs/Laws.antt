@@ -7,8 +7,8 @@ use Rattle.g1_words.specs.Layout.{HasRoom, need, to_space}
 use Rattle.g1_layout.specs.Plan.{Plan}
 use Rattle.g1_image.specs.Image.{Image, IsImage}
 use Rattle.g1_image.specs.Cards.{Covered, is_exact, refined}
-use Rattle.g1_image.specs.Made.{heap_after}
-use Rattle.g1_image.specs.Moved.{card_in}
+use Rattle.g1_after.specs.Made.{heap_after}
+use Rattle.g1_after.specs.Moved.{card_in}
 use Rattle.g1_words.specs.Lists.{has}
 use Rattle.g1_copy.specs.Links.{is_linked, copied_slots}
 use Rattle.g1_words.specs.Valid.{IsValid}

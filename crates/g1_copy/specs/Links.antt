@@ -4,7 +4,7 @@ use Rattle.std.specs.List.{range_with_len, list_any}
 use Rattle.g1_words.specs.Heap.{Heap, regions, card_of, object_at, word}
 use Rattle.g1_words.specs.References.{Ref}
 use Rattle.g1_words.specs.Layout.{forward}
-use Rattle.g1_image.specs.Copy.{renamed}
+use Rattle.g1_words.specs.Copy.{renamed}
 use Rattle.g1_image.specs.Cards.{cards_where, leads_into}
 
 -- the reference that a slot holds whose word isn't null

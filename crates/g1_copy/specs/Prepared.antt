@@ -5,9 +5,9 @@ use Rattle.g1_words.specs.declared.region.Region.{Region}
 use Rattle.g1_words.specs.Heap.{regions}
 use Rattle.g1_words.specs.Layout.{HasRoom, forward, to_space}
 use Rattle.g1_image.specs.Image.{Image}
-use Rattle.g1_image.specs.Copy.{renamed}
-use Rattle.g1_image.specs.Made.{heap_after}
-use Rattle.g1_image.specs.Moved.{new_region, new_set}
+use Rattle.g1_words.specs.Copy.{renamed}
+use Rattle.g1_after.specs.Made.{heap_after}
+use Rattle.g1_after.specs.Moved.{new_region, new_set}
 use Rattle.g1_work.specs.Regions.{slice_of}
 use Rattle.g1_copy.specs.declared.fates.Fate.{Fate}
 use Rattle.g1_copy.specs.Fates.{AreFates, fate_at}

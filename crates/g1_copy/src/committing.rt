@@ -1,10 +1,11 @@
 ghost use Rattle.std.specs.Prelude.{ℕ, List, ◌<◌, ◌≤◌};
-ghost use Rattle.g1_image.specs.Moved.{IsMoved};
+ghost use Rattle.g1_after.specs.Moved.{IsMoved};
 ghost use Rattle.g1_copy.specs.Prepared.{IsMadeFor};
 
 use crate::filling::write;
 use crate::preparing::Prepared;
-use g1_image::{Image, after};
+use g1_after::after;
+use g1_image::Image;
 use g1_rem::Tracked;
 use g1_words::Heap;
 use g1_work::Gate;

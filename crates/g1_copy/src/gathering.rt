@@ -2,7 +2,7 @@ ghost use Rattle.std.specs.Prelude.{◌≡◌, ◌≤◌, ◌<◌, ◌+◌, ◌-
 ghost use Rattle.g1_words.specs.Heap.{object_at};
 ghost use Rattle.g1_words.specs.Valid.{IsValid};
 ghost use Rattle.g1_words.specs.Layout.{need, free_regions, forward, moved_to};
-ghost use Rattle.g1_image.specs.Copy.{renamed, renamed_words};
+ghost use Rattle.g1_words.specs.Copy.{renamed, renamed_words};
 ghost use Rattle.g1_layout.specs.Plan.{run_at};
 ghost use Rattle.g1_copy.specs.Plans.{IsPlanOf};
 ghost use Rattle.g1_copy.specs.Gathered.{placed_words, to_space_words};

@@ -2,8 +2,8 @@ ghost use Rattle.std.specs.Prelude.{◌≡◌, ◌<◌, ◌^◌, ℕ, map, lengt
 ghost use Rattle.g1_words.specs.Heap.{regions};
 ghost use Rattle.g1_words.specs.Layout.{forward, moved_to, to_space};
 ghost use Rattle.g1_image.specs.Cards.{refined};
-ghost use Rattle.g1_image.specs.Copy.{renamed};
-ghost use Rattle.g1_image.specs.Moved.{new_region};
+ghost use Rattle.g1_words.specs.Copy.{renamed};
+ghost use Rattle.g1_after.specs.Moved.{new_region};
 ghost use Rattle.g1_layout.specs.declared.plan.Run.{Run};
 ghost use Rattle.g1_rem.specs.Starts.{IsStartsOf};
 ghost use Rattle.g1_copy.specs.Fates.{AreFates, region_by_fate};

@@ -16,7 +16,7 @@ ghost use Rattle.g1_words.specs.Live.{IsLiveBytes};
 ghost use Rattle.g1_image.specs.Image.{IsImage, file_of};
 ghost use Rattle.g1_image.specs.Text.{file_text};
 ghost use Rattle.g1_image.specs.Cards.{refined, uncovered};
-ghost use Rattle.g1_image.specs.Moved.{Moved};
+ghost use Rattle.g1_after.specs.Moved.{Moved};
 ghost use Rattle.g1_examples.specs.Examples.{later_root_first, dead_owner, dead_cycle, shared_target, with_a_gap, one_object, one_object_after, three_regions, three_regions_image, dead_owner_image, dead_owner_after, shared_target_image, shared_target_after, humongous_owner, humongous_owner_image, humongous_owner_after};
 ghost use Rattle.g1_examples.specs.Texts.{one_object_text, one_object_after_text, dead_owner_text, dead_owner_after_text};
 

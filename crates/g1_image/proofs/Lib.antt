@@ -28,16 +28,4 @@ pub mod DecidedCards
 pub mod ToldTexts
 pub mod ToldFiles
 pub mod AlwaysOne
-pub mod Determined
-pub mod ObjectsAfter
 pub mod Covers
-pub mod ToSpace
-pub mod ObjectsOf
-pub mod SameGraphs
-pub mod CopyWords
-pub mod ValidAfter
-pub mod RulesAfter
-pub mod CoveredAfter
-pub mod RefsMoved
-pub mod Existence
-pub mod CardsAfter

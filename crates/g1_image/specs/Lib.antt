@@ -8,10 +8,5 @@ pub mod Marks
 pub mod Bits
 pub mod Judged
 pub mod Cards
-pub mod Copy
-pub mod Moved
-pub mod Graph
-pub mod Made
-pub mod After
 pub mod Laws
 pub mod Verdict

@@ -1,5 +1,4 @@
-ghost use Rattle.g1_image.specs.After.{ToSpaceObjects, ObjectsAfter, ValidAfter, CoveredAfter, ImageExists, RefsAfter, ExactByRefs, TrackedAfter};
-ghost use Rattle.g1_image.specs.Laws.{CardsInRegions, CardsRise, ExactSet, RefinedSet, CoveredImage, UncoveredSlots, UncoveredRise, OneImageAfter, GraphStays, NothingIntoSet, OneFile, OneImage, OneText};
+ghost use Rattle.g1_image.specs.Laws.{CardsInRegions, CardsRise, ExactSet, RefinedSet, CoveredImage, UncoveredSlots, UncoveredRise, OneFile, OneImage, OneText};
 ghost use Rattle.g1_image.specs.Verdict.{OneFault, NoFaultOfText, AlwaysOne};
 
 /// What the cards of an image tell.
@@ -15,29 +14,6 @@ pub fn cover()
     ensures image { CoveredImage }
     ensures slots { UncoveredSlots }
     ensures rising { UncoveredRise }
-{}
-
-/// An image and a set have one image after the pause.
-pub fn one_image()
-    ensures { OneImageAfter }
-{}
-
-/// What a pause leaves of the graph.
-pub fn same_graph()
-    ensures stays { GraphStays }
-    ensures nothing_into_set { NothingIntoSet }
-{}
-
-/// What holds of the image after a pause.
-pub fn after()
-    ensures to_space { ToSpaceObjects }
-    ensures objects { ObjectsAfter }
-    ensures valid { ValidAfter }
-    ensures covered { CoveredAfter }
-    ensures exists { ImageExists }
-    ensures refs { RefsAfter }
-    ensures exact { ExactByRefs }
-    ensures tracked { TrackedAfter }
 {}
 
 /// Bytes are the text of one file and of one image at most, and an image has one text.

@@ -24,4 +24,4 @@ mod writing;
 pub use decoding::decode;
 pub use encoding::{encode, encode_into};
 pub use image::Image;
-pub use laws::{after, card_sets, cover, one_fault, one_image, one_text, same_graph};
+pub use laws::{card_sets, cover, one_fault, one_text};

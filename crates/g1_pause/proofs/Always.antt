@@ -13,7 +13,7 @@ use Rattle.g1_image.specs.Image.{Image, IsTextOf, file_of}
 use Rattle.g1_image.specs.Text.{file_text}
 use Rattle.g1_image.specs.Reading.{IsBytes}
 use Rattle.g1_image.specs.Cards.{IsTracked, refined, uncovered}
-use Rattle.g1_image.specs.Made.{image_after}
+use Rattle.g1_after.specs.Made.{image_after}
 use Rattle.g1_choose.specs.declared.parameters.Cost.{Cost}
 use Rattle.g1_mark.specs.Marked.{used}
 use Rattle.g1_pause.specs.declared.settings.Choice.{Choice}
@@ -23,7 +23,7 @@ use Rattle.g1_words.proofs.Shapes.{built}
 use Rattle.g1_words.proofs.Sound.{sound}
 use Rattle.g1_words.proofs.SurvivorsExist.{survivors_exist}
 use Rattle.g1_image.proofs.AlwaysOne.{always_one}
-use Rattle.g1_image.proofs.Existence.{made_is_moved}
+use Rattle.g1_after.proofs.Existence.{made_is_moved}
 use Rattle.g1_choose.proofs.Naming.{accepted_or_bad}
 use Rattle.g1_choose.proofs.OneChoice.{set_exists}
 use Rattle.g1_mark.proofs.Counting.{live_counted}

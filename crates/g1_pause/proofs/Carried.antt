@@ -1,7 +1,7 @@
 -- A pause that was carried out as it was planned.
 use Rattle.std.proofs.Common.{ℕ, List, Ok}
 use Rattle.g1_image.specs.Image.{Image}
-use Rattle.g1_image.specs.Moved.{IsMoved}
+use Rattle.g1_after.specs.Moved.{IsMoved}
 use Rattle.g1_choose.specs.declared.parameters.Cost.{Cost}
 use Rattle.g1_copy.specs.Prepared.{IsMadeFor, Prepared}
 use Rattle.g1_pause.specs.declared.settings.Choice.{Choice}

@@ -8,7 +8,7 @@ use Rattle.g1_words.specs.Survivors.{AllOrdinary, Survivors, in_set}
 use Rattle.g1_words.specs.Layout.{need, free_regions, forward, kept}
 use Rattle.g1_image.specs.Image.{Image}
 use Rattle.g1_image.specs.Cards.{IsTracked}
-use Rattle.g1_image.specs.Moved.{IsMoved}
+use Rattle.g1_after.specs.Moved.{IsMoved}
 use Rattle.g1_choose.specs.declared.parameters.Cost.{Cost}
 use Rattle.g1_pause.specs.declared.settings.Choice.{Choice}
 use Rattle.g1_pause.specs.Answer.{IsEvacuated, done, IsAnswer, written}
@@ -18,10 +18,10 @@ use Rattle.g1_words.proofs.Members.{In, In-from_contains, Contains-from_in, In-f
 use Rattle.g1_words.proofs.OneToOne.{forward_one_to_one}
 use Rattle.g1_words.proofs.Shapes.{built}
 use Rattle.g1_words.proofs.Sound.{sound}
-use Rattle.g1_image.proofs.ObjectsOf.{objects_after}
-use Rattle.g1_image.proofs.RefsMoved.{refs_after, slot_word}
-use Rattle.g1_image.proofs.SameGraphs.{no_root_into_set, no_slot_into_set, same_graph}
-use Rattle.g1_image.proofs.CardsAfter.{tracked_after}
+use Rattle.g1_after.proofs.ObjectsOf.{objects_after}
+use Rattle.g1_after.proofs.RefsMoved.{refs_after, slot_word}
+use Rattle.g1_after.proofs.SameGraphs.{no_root_into_set, no_slot_into_set, same_graph}
+use Rattle.g1_after.proofs.CardsAfter.{tracked_after}
 use Rattle.g1_pause.proofs.SetsFor.{set_ordinary}
 
 module _ (i : Image) (set l : List ℕ) (j : Image) (tracked : IsTracked i) (ordinary : AllOrdinary i.heap set) (survivors : Survivors i.heap set l) (room : need i.heap l ≤ length (free_regions i.heap)) (moved : IsMoved i set l j) where

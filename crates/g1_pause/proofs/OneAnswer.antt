@@ -9,7 +9,7 @@ use Rattle.g1_words.specs.Survivors.{Survivors, seeds, children}
 use Rattle.g1_words.specs.Layout.{need, free_regions}
 use Rattle.g1_image.specs.Image.{Image, IsTextOf}
 use Rattle.g1_image.specs.Cards.{IsTracked, Covered, refined, uncovered}
-use Rattle.g1_image.specs.Moved.{Moved}
+use Rattle.g1_after.specs.Moved.{Moved}
 use Rattle.g1_choose.specs.declared.parameters.Cost.{Cost}
 use Rattle.g1_choose.specs.Choice.{IsChosen}
 use Rattle.g1_choose.specs.Named.{IsFirstBad}
@@ -18,7 +18,7 @@ use Rattle.g1_pause.specs.declared.settings.Choice.TheVariants.{Budget, Given}
 use Rattle.g1_pause.specs.Answer.{IsSetFor, IsEvacuated, bad_set, no_room, done, IsAnswer, unread, not_covered, refused, written}
 use Rattle.g1_words.proofs.Unique.{breadth_first_unique}
 use Rattle.g1_words.proofs.LiveBytes.{live_bytes_unique}
-use Rattle.g1_image.proofs.Determined.{moved_unique}
+use Rattle.g1_after.proofs.Determined.{moved_unique}
 use Rattle.g1_image.proofs.OneVerdict.{one_fault}
 use Rattle.g1_image.proofs.NoFault.{no_fault}
 use Rattle.g1_image.proofs.FileOf.{one_image}

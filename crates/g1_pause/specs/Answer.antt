@@ -11,7 +11,7 @@ use Rattle.g1_words.specs.Layout.{need, free_regions}
 use Rattle.g1_image.specs.Image.{Image, IsTextOf}
 use Rattle.g1_image.specs.Faults.{FaultOf}
 use Rattle.g1_image.specs.Cards.{refined, uncovered, Covered}
-use Rattle.g1_image.specs.Moved.{IsMoved}
+use Rattle.g1_after.specs.Moved.{IsMoved}
 use Rattle.g1_choose.specs.declared.parameters.Cost.{Cost}
 use Rattle.g1_choose.specs.Choice.{IsChosen}
 use Rattle.g1_choose.specs.Named.{AreDistinctOrdinary, IsFirstBad}

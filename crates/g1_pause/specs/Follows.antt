@@ -8,8 +8,8 @@ use Rattle.g1_words.specs.Layout.{forward, kept}
 use Rattle.g1_words.specs.Moves.{moved_object}
 use Rattle.g1_image.specs.Image.{Image, IsTextOf}
 use Rattle.g1_image.specs.Cards.{IsTracked}
-use Rattle.g1_image.specs.Copy.{renamed, IsCopy}
-use Rattle.g1_image.specs.Graph.{SameGraph}
+use Rattle.g1_words.specs.Copy.{renamed, IsCopy}
+use Rattle.g1_words.specs.Graph.{SameGraph}
 use Rattle.g1_choose.specs.declared.parameters.Cost.{Cost}
 use Rattle.g1_pause.specs.declared.settings.Choice.{Choice}
 use Rattle.g1_pause.specs.Answer.{IsSetFor}

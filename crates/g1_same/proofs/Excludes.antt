@@ -5,10 +5,10 @@ use Rattle.g1_words.specs.declared.object.Object.{Object}
 use Rattle.g1_words.specs.Heap.{Heap, word, object_at}
 use Rattle.g1_words.specs.Valid.{IsValid}
 use Rattle.g1_words.specs.Live.{Live}
-use Rattle.g1_image.specs.Copy.{renamed, renamed_words}
-use Rattle.g1_image.specs.Graph.{SameGraph}
-use Rattle.g1_image.proofs.Determined.{word_from_copy}
-use Rattle.g1_image.proofs.CopyWords.{StaysAt, RenamedAt, renamed_word}
+use Rattle.g1_words.specs.Copy.{renamed, renamed_words}
+use Rattle.g1_words.specs.Graph.{SameGraph}
+use Rattle.g1_after.proofs.Determined.{word_from_copy}
+use Rattle.g1_after.proofs.CopyWords.{StaysAt, RenamedAt, renamed_word}
 use Rattle.g1_same.specs.declared.difference.How.{How}
 use Rattle.g1_same.specs.declared.difference.How.TheVariants.{NullBefore, NullAfter, Split, Joined, Size, Slots, Data}
 use Rattle.g1_same.specs.declared.difference.Difference.{Difference}

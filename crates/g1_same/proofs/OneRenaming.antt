@@ -8,8 +8,8 @@ use Rattle.g1_words.specs.References.{root_targets, targets}
 use Rattle.g1_words.proofs.Members.{Contains-from_in}
 use Rattle.g1_words.proofs.Indices.{get_or-In}
 use Rattle.g1_words.proofs.Unique.{breadth_first_unique}
-use Rattle.g1_image.specs.Copy.{renamed}
-use Rattle.g1_image.specs.Graph.{SameGraph}
+use Rattle.g1_words.specs.Copy.{renamed}
+use Rattle.g1_words.specs.Graph.{SameGraph}
 use Rattle.g1_same.specs.Same.{IsRenaming}
 use Rattle.g1_same.proofs.Heaps.{root_of, slot_of}
 use Rattle.g1_same.proofs.Excludes.{same_root, same_slot}

@@ -6,9 +6,9 @@ use Rattle.g1_words.specs.declared.object.Object.{Object}
 use Rattle.g1_words.specs.Heap.{Heap, word, object_at, objects}
 use Rattle.g1_words.specs.Valid.{IsValid}
 use Rattle.g1_words.specs.Live.{Live, seed, child}
-use Rattle.g1_image.specs.Copy.{renamed, words_at, renamed_words, IsCopy}
-use Rattle.g1_image.specs.Graph.{SameGraph}
-use Rattle.g1_image.proofs.CopyWords.{renamed_word, length-renamed_words}
+use Rattle.g1_words.specs.Copy.{renamed, words_at, renamed_words, IsCopy}
+use Rattle.g1_words.specs.Graph.{SameGraph}
+use Rattle.g1_after.proofs.CopyWords.{renamed_word, length-renamed_words}
 use Rattle.g1_same.specs.declared.walk.Walk.{Walk}
 use Rattle.g1_same.specs.Walk.{IsLinked, IsWay, IsWalk, LinksRoots, LinksPairs}
 use Rattle.g1_same.proofs.Heaps.{object_in, root_of, slot_of, root_live, slot_live}

@@ -3,7 +3,7 @@ use Rattle.std.specs.Prelude.{◌≡◌, ◌≢◌, ◌<◌, ℕ, suc, List, ◌
 use Rattle.g1_words.specs.Heap.{Heap, word, object_at}
 use Rattle.g1_words.specs.References.{root_targets, targets}
 use Rattle.g1_words.specs.Survivors.{IsBreadthFirst}
-use Rattle.g1_image.specs.Graph.{SameGraph}
+use Rattle.g1_words.specs.Graph.{SameGraph}
 use Rattle.g1_same.specs.declared.difference.How.{How}
 use Rattle.g1_same.specs.declared.difference.How.TheVariants.{NullBefore, NullAfter, Split, Joined, Size, Slots, Data}
 use Rattle.g1_same.specs.declared.difference.Difference.{Difference}

@@ -2,7 +2,7 @@ ghost use Rattle.std.specs.Prelude.{◌≡◌, ◌≢◌, ◌<◌, ◌≤◌, �
 ghost use Rattle.g1_words.specs.declared.fault.Fault.TheVariants.{Memory};
 ghost use Rattle.g1_words.specs.Heap.{object_at, objects};
 ghost use Rattle.g1_words.specs.Valid.{IsValid};
-ghost use Rattle.g1_image.specs.Graph.{SameGraph};
+ghost use Rattle.g1_words.specs.Graph.{SameGraph};
 ghost use Rattle.g1_same.specs.Same.{IsClash, IsDifference, IsFirstDifference, IsRenaming};
 ghost use Rattle.g1_same.specs.Walk.{IsWalk, IsWay, IsBelow, IsLinked, HasGrown, AreAlike, IsStop, LinksRoots, LinksSlots, LinksPairs, LinksTo};
 

@@ -2,7 +2,7 @@
 use Rattle.std.proofs.Common.{◌≡◌, ℕ, zero, suc, ◌⊎◌, inl, inr, Bool, true, false, cond, List, [], ◌∷◌, set, replicate, map, refl, sym, ◌∙◌, ap, subst, arith, eqb, eqb-true, eq-eqb}
 use Rattle.std.proofs.lemmas.List.{map-set}
 use Rattle.g1_words.proofs.Members.{In}
-use Rattle.g1_image.specs.Copy.{renamed}
+use Rattle.g1_words.specs.Copy.{renamed}
 use Rattle.g1_trace.specs.Commands.{View}
 use Rattle.g1_trace.specs.Views.{Seen, SameView, SeenWord, IsRootSet, IsSlotSet, IsValueSet, IsMade}
 use Rattle.g1_trace.proofs.Views.{In-set, no_zeros, root_seen, slot_seen, seen_within, both_seen, equal_or_not}

@@ -5,8 +5,8 @@ use Rattle.std.proofs.lemmas.List.FromFn.{length-map-range_with_len}
 use Rattle.g1_words.specs.Heap.{Heap, object_at, word, slots}
 use Rattle.g1_words.specs.References.{named, targets}
 use Rattle.g1_words.specs.Live.{seed, child, Live}
-use Rattle.g1_image.specs.Copy.{renamed, words_at, renamed_words}
-use Rattle.g1_image.specs.Graph.{SameGraph}
+use Rattle.g1_words.specs.Copy.{renamed, words_at, renamed_words}
+use Rattle.g1_words.specs.Graph.{SameGraph}
 use Rattle.g1_trace.specs.Commands.{View}
 use Rattle.g1_trace.specs.Mutator.{heap_view}
 use Rattle.g1_trace.specs.Views.{Seen, SameView}

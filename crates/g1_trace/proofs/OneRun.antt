@@ -7,8 +7,8 @@ use Rattle.g1_pause.specs.declared.settings.Choice.TheVariants.{Budget}
 use Rattle.g1_words.specs.Survivors.{Survivors, seeds, children}
 use Rattle.g1_words.specs.Layout.{need}
 use Rattle.g1_words.proofs.Unique.{breadth_first_unique}
-use Rattle.g1_image.specs.Moved.{Moved}
-use Rattle.g1_image.proofs.Determined.{moved_unique}
+use Rattle.g1_after.specs.Moved.{Moved}
+use Rattle.g1_after.proofs.Determined.{moved_unique}
 use Rattle.g1_pause.specs.Answer.{IsSetFor, IsEvacuated, bad_set, no_room, done}
 use Rattle.g1_pause.proofs.OneAnswer.{set_unique}
 use Rattle.g1_trace.specs.declared.command.Command.{Command}

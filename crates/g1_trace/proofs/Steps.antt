@@ -5,7 +5,7 @@ use Rattle.g1_words.specs.Heap.{Heap, top, object_at}
 use Rattle.g1_words.proofs.Members.{Contains-from_in}
 use Rattle.g1_words.proofs.Shapes.{built}
 use Rattle.g1_image.specs.Image.{Image}
-use Rattle.g1_image.specs.Copy.{renamed}
+use Rattle.g1_words.specs.Copy.{renamed}
 use Rattle.g1_image.specs.Cards.{IsTracked}
 use Rattle.g1_choose.specs.declared.parameters.Cost.{Cost}
 use Rattle.g1_pause.specs.declared.settings.Choice.TheVariants.{Budget}

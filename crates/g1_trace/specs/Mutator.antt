@@ -9,7 +9,7 @@ use Rattle.g1_words.specs.Geometry.{Geometry}
 use Rattle.g1_words.specs.Lists.{has}
 use Rattle.g1_words.specs.Heap.{Heap, region, region_with, kind, top, end, regions, is_free, object_at}
 use Rattle.g1_image.specs.Image.{Image}
-use Rattle.g1_image.specs.Copy.{words_at}
+use Rattle.g1_words.specs.Copy.{words_at}
 use Rattle.g1_choose.specs.declared.parameters.Cost.{Cost}
 use Rattle.g1_pause.specs.declared.settings.Choice.TheVariants.{Budget}
 use Rattle.g1_pause.specs.Answer.{IsEvacuated}

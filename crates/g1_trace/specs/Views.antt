@@ -3,7 +3,7 @@ use Rattle.std.specs.Prelude.{◌≡◌, ◌≢◌, ℕ, zero, suc, map, flat_ma
 use Rattle.g1_words.specs.Heap.{Heap}
 use Rattle.g1_words.specs.References.{named}
 use Rattle.g1_words.specs.Live.{Reached}
-use Rattle.g1_image.specs.Copy.{renamed}
+use Rattle.g1_words.specs.Copy.{renamed}
 use Rattle.g1_trace.specs.Commands.{View, Effect, Nothing, SetRoot, SetSlot, SetValue, MakeNew, MakePause, Answer}
 use Rattle.g1_trace.specs.Store.{Store, store_view}
 use Rattle.g1_trace.specs.Mutator.{heap_view}

@@ -11,4 +11,6 @@ pub mod Live
 pub mod Survivors
 pub mod Layout
 pub mod Moves
+pub mod Copy
+pub mod Graph
 pub mod Laws

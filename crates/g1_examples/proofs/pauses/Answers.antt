@@ -2,8 +2,8 @@ use Rattle.std.proofs.Common.{ℕ, List, [], ◌∷◌, refl}
 use Rattle.g1_words.specs.declared.object.Object.{Object}
 use Rattle.g1_words.specs.Survivors.{seeds, children}
 use Rattle.g1_words.specs.Layout.{forward, kept}
-use Rattle.g1_image.specs.Copy.{IsCopy}
-use Rattle.g1_image.specs.Moved.{IsMoved}
+use Rattle.g1_words.specs.Copy.{IsCopy}
+use Rattle.g1_after.specs.Moved.{IsMoved}
 use Rattle.g1_examples.specs.Examples.{one_object, one_object_after, dead_owner, shared_target, three_regions, dead_owner_image, dead_owner_after, shared_target_image, shared_target_after, humongous_owner, humongous_owner_image, humongous_owner_after}
 use Rattle.g1_words.proofs.Members.{In-from_contains}
 use Rattle.g1_words.proofs.Unique.{search_ends}

@@ -2,7 +2,7 @@ use Rattle.std.proofs.Common.{◌≡◌, ℕ, ◌+◌, ◌-◌, ◌<◌, ◌^◌
 use Rattle.std.proofs.lemmas.List.{get_or-take, get_or-drop}
 use Rattle.g1_words.specs.Heap.{word}
 use Rattle.g1_words.specs.Layout.{moved_to}
-use Rattle.g1_image.specs.Copy.{renamed, renamed_words}
+use Rattle.g1_words.specs.Copy.{renamed, renamed_words}
 use Rattle.g1_copy.proofs.GatheringCopies.{places_of_plan, plan_there, renamed_is_copy}
 use Rattle.g1_copy.proofs.gathering.copy.Goals as goal
 

@@ -1,8 +1,8 @@
 use Rattle.std.proofs.Common.{◌≡◌, ◌+◌, ◌-◌, ◌*◌, Contains, get_or, length, arith, ap, sym, subst, ◌∙◌}
 use Rattle.g1_words.specs.Heap.{object_at, start}
 use Rattle.g1_words.specs.Layout.{forward}
-use Rattle.g1_image.specs.Copy.{renamed_words}
-use Rattle.g1_image.proofs.CopyWords.{length-renamed_words}
+use Rattle.g1_words.specs.Copy.{renamed_words}
+use Rattle.g1_after.proofs.CopyWords.{length-renamed_words}
 use Rattle.g1_copy.proofs.GatheringRuns.{Filling-all, Filling-more, in_run}
 use Rattle.g1_copy.proofs.gathering.fill.Goals as goal
 

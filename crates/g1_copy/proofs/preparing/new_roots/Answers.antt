@@ -1,6 +1,6 @@
 use Rattle.std.proofs.Common.{◌++◌, ◌∷◌, [], map, take, get_or, sym, ◌∙◌, ap, arith}
 use Rattle.std.proofs.lemmas.List.{map-append, take_all, take_more}
-use Rattle.g1_image.specs.Copy.{renamed}
+use Rattle.g1_words.specs.Copy.{renamed}
 use Rattle.g1_words.specs.Layout.{moved_to}
 use Rattle.g1_copy.proofs.PreparedRegions.{root_fits, roots_made}
 use Rattle.g1_copy.proofs.preparing.new_roots.Goals as goal

@@ -1,5 +1,5 @@
 use Rattle.std.proofs.Common.{◌≡◌, map, take}
-use Rattle.g1_image.specs.Copy.{renamed}
+use Rattle.g1_words.specs.Copy.{renamed}
 use Rattle.g1_words.specs.Layout.{moved_to}
 use Rattle.g1_copy.proofs.preparing.new_roots.Given as goal
 

@@ -1,7 +1,7 @@
 use Rattle.std.proofs.Common.{◌≡◌, IfOk, map, subst}
 use Rattle.g1_words.specs.Heap.{regions}
-use Rattle.g1_image.specs.Made.{heap_after}
-use Rattle.g1_image.specs.Moved.{new_set}
+use Rattle.g1_after.specs.Made.{heap_after}
+use Rattle.g1_after.specs.Moved.{new_set}
 use Rattle.g1_copy.proofs.sets.new_rem.Goals as goal
 
 pub returns-clause-ok : goal.returns-clause-ok

@@ -3,11 +3,11 @@ use Rattle.std.proofs.Common.{◌≡◌, ℕ, zero, suc, ◌+◌, ◌-◌, ◌*�
 use Rattle.std.proofs.Common.{flat_map}
 use Rattle.std.proofs.lemmas.Bool.{cases_lt, false≢true}
 use Rattle.std.proofs.Math.Nat.{mul-le-mul_right, div-mul-le_self}
-use Rattle.g1_image.proofs.Determined.{word_from_copy}
-use Rattle.g1_image.proofs.ObjectsAfter.{region_after}
-use Rattle.g1_image.specs.Copy.{renamed_words}
+use Rattle.g1_after.proofs.Determined.{word_from_copy}
+use Rattle.g1_after.proofs.ObjectsAfter.{region_after}
+use Rattle.g1_words.specs.Copy.{renamed_words}
 use Rattle.g1_image.specs.Image.{Image}
-use Rattle.g1_image.specs.Moved.{IsMoved}
+use Rattle.g1_after.specs.Moved.{IsMoved}
 use Rattle.g1_words.proofs.Firsts.{Distinct, Distinct-firsts}
 use Rattle.g1_words.proofs.Indices.{In-take, get_or-In, is_free_region, not_has}
 use Rattle.g1_words.proofs.Members.{Contains-from_in, In, In-append_right, In-map, filter_member, has_from_in, map_cases}

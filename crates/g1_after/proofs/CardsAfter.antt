@@ -7,13 +7,13 @@ use Rattle.std.proofs.lemmas.List.{get_or_past, get_or_default}
 use Rattle.std.proofs.lemmas.List.FromFn.{get_or-map-range_with_len, length-map-range_with_len, length-range_with_len}
 use Rattle.std.proofs.Math.Nat.{div-le_self, div-mul-le_self, mul-le-mul_right}
 use Rattle.g1_image.proofs.Covers.{cards_rise}
-use Rattle.g1_image.proofs.CoveredAfter.{covered_after}
-use Rattle.g1_image.proofs.ObjectsOf.{used_not_to_space}
-use Rattle.g1_image.proofs.RulesAfter.{valid_after}
-use Rattle.g1_image.proofs.ValidAfter.{other_shape, sound_before}
+use Rattle.g1_after.proofs.CoveredAfter.{covered_after}
+use Rattle.g1_after.proofs.ObjectsOf.{used_not_to_space}
+use Rattle.g1_after.proofs.RulesAfter.{valid_after}
+use Rattle.g1_after.proofs.ValidAfter.{other_shape, sound_before}
 use Rattle.g1_image.specs.Cards.{IsTracked, cards_where, exact, is_exact, is_refined, leads_into}
 use Rattle.g1_image.specs.Image.{Image, IsImage, IsLog, IsSetOf, IsUsedCard, MayHoldCards, region_of_card, set_of}
-use Rattle.g1_image.specs.Moved.{IsMoved, card_in, new_set}
+use Rattle.g1_after.specs.Moved.{IsMoved, card_in, new_set}
 use Rattle.g1_words.proofs.Bounds.{card_in_region, cards_in_region}
 use Rattle.g1_words.proofs.Indices.{range_bounds}
 use Rattle.g1_words.proofs.Members.{Contains-from_in, In, In-from_contains, and_true, any_member, filter_member, flat_map_cases, in_from_has, map_cases, or_true}

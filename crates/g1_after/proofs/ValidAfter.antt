@@ -4,12 +4,12 @@ use Rattle.std.proofs.lemmas.Bool.{cases_Bool, cases_lt, false≢true}
 use Rattle.std.proofs.lemmas.Nat.{div-mul-add}
 use Rattle.std.proofs.Math.Nat.{mul-le-mul_right}
 use Rattle.std.proofs.Common.{div-add-mod', mod-lt, eq-eqb}
-use Rattle.g1_image.proofs.ObjectsAfter.{header_stays, objects_stay, region_after}
-use Rattle.g1_image.proofs.ObjectsOf.{kept_is_after, kept_is_object, kept_outside, region_cases, survivor_region, used_not_to_space}
-use Rattle.g1_image.proofs.SameGraphs.{live_found, named_survives}
-use Rattle.g1_image.proofs.ToSpace.{goal_is_free, goal_kind, goal_top, object_copied, survivor_kept, survivor_object, to_space_objects, to_space_tiled}
+use Rattle.g1_after.proofs.ObjectsAfter.{header_stays, objects_stay, region_after}
+use Rattle.g1_after.proofs.ObjectsOf.{kept_is_after, kept_is_object, kept_outside, region_cases, survivor_region, used_not_to_space}
+use Rattle.g1_after.proofs.SameGraphs.{live_found, named_survives}
+use Rattle.g1_after.proofs.ToSpace.{goal_is_free, goal_kind, goal_top, object_copied, survivor_kept, survivor_object, to_space_objects, to_space_tiled}
 use Rattle.g1_image.specs.Image.{Image}
-use Rattle.g1_image.specs.Moved.{IsMoved}
+use Rattle.g1_after.specs.Moved.{IsMoved}
 use Rattle.g1_words.proofs.Computed.{In-range}
 use Rattle.g1_words.proofs.Members.{Contains-from_in, In, In-filter, In-flat_map, In-from_contains, In-map, filter_member, in_from_has, map_cases}
 use Rattle.g1_words.proofs.OneToOne.{kept_cases, outside_stays, survivor_fits, survivor_in_set, target_in_refs}

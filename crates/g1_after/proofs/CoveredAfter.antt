@@ -3,12 +3,12 @@ use Rattle.std.proofs.Common.{◌≡◌, ℕ, suc, ◌+◌, ◌*◌, ◌/◌, �
 use Rattle.std.specs.List.{range_with_len, list_any}
 use Rattle.std.proofs.lemmas.Bool.{cases_Bool, false≢true}
 use Rattle.std.proofs.lemmas.List.FromFn.{get_or-map-range_with_len}
-use Rattle.g1_image.proofs.RulesAfter.{RefAfter, before_kept, ref_after}
-use Rattle.g1_image.proofs.ToSpace.{goal_in_to_space, goal_is_free, goal_not_in_set}
-use Rattle.g1_image.proofs.ValidAfter.{kept_refs, moved_below, outside_word, sound_before, survivor_word}
+use Rattle.g1_after.proofs.RulesAfter.{RefAfter, before_kept, ref_after}
+use Rattle.g1_after.proofs.ToSpace.{goal_in_to_space, goal_is_free, goal_not_in_set}
+use Rattle.g1_after.proofs.ValidAfter.{kept_refs, moved_below, outside_word, sound_before, survivor_word}
 use Rattle.g1_image.specs.Cards.{Covered, cards_where, exact, is_covered, is_exact, is_refined, leads_into}
 use Rattle.g1_image.specs.Image.{Image, set_of}
-use Rattle.g1_image.specs.Moved.{IsMoved, card_in, new_set}
+use Rattle.g1_after.specs.Moved.{IsMoved, card_in, new_set}
 use Rattle.g1_words.proofs.Bounds.{card_below, card_in_region, cards_in_region}
 use Rattle.g1_words.proofs.Computed.{In-range}
 use Rattle.g1_words.proofs.Members.{In, In-filter, In-flat_map, In-map, has_from_in, or_true}

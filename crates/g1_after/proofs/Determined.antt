@@ -6,8 +6,8 @@ use Rattle.g1_words.specs.Heap.{Heap, word, regions}
 use Rattle.g1_words.specs.Survivors.{seeds, children}
 use Rattle.g1_words.specs.Layout.{forward, kept}
 use Rattle.g1_image.specs.Image.{Image}
-use Rattle.g1_image.specs.Copy.{is_taken, renamed_words, IsCopy}
-use Rattle.g1_image.specs.Moved.{new_set, IsMoved, Moved}
+use Rattle.g1_words.specs.Copy.{is_taken, renamed_words, IsCopy}
+use Rattle.g1_after.specs.Moved.{new_set, IsMoved, Moved}
 use Rattle.g1_words.proofs.Members.{Contains-from_in, any_member, and_true}
 use Rattle.g1_words.proofs.Unique.{breadth_first_unique}
 use Rattle.g1_words.specs.declared.object.Object.{Object}

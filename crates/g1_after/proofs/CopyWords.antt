@@ -4,10 +4,10 @@ use Rattle.std.proofs.Common.{length-append}
 use Rattle.std.proofs.lemmas.Bool.{cases_lt}
 use Rattle.std.proofs.lemmas.List.{length-map, get_or-map, get_or_append_left, get_or-append_right}
 use Rattle.std.proofs.lemmas.List.FromFn.{get_or-map-range_with_len, length-map-range_with_len}
-use Rattle.g1_image.proofs.Determined.{word_from_copy}
-use Rattle.g1_image.specs.Copy.{is_taken, renamed, renamed_words, words_at}
+use Rattle.g1_after.proofs.Determined.{word_from_copy}
+use Rattle.g1_words.specs.Copy.{is_taken, renamed, renamed_words, words_at}
 use Rattle.g1_image.specs.Image.{Image}
-use Rattle.g1_image.specs.Moved.{IsMoved}
+use Rattle.g1_after.specs.Moved.{IsMoved}
 use Rattle.g1_words.proofs.Members.{Contains-from_in, In, and_true, any_member}
 use Rattle.g1_words.specs.Heap.{Heap, word}
 use Rattle.g1_words.specs.Layout.{forward, kept}

@@ -13,15 +13,15 @@ use Rattle.g1_words.specs.Survivors.{in_set, seeds, children, Survivors, AllOrdi
 use Rattle.g1_words.specs.Layout.{need, free_regions, forward, kept}
 use Rattle.g1_words.specs.Moves.{moved_object}
 use Rattle.g1_image.specs.Image.{Image}
-use Rattle.g1_image.specs.Copy.{renamed, words_at, renamed_words, IsCopy}
-use Rattle.g1_image.specs.Moved.{IsMoved}
-use Rattle.g1_image.specs.Graph.{SameGraph}
+use Rattle.g1_words.specs.Copy.{renamed, words_at, renamed_words, IsCopy}
+use Rattle.g1_after.specs.Moved.{IsMoved}
+use Rattle.g1_words.specs.Graph.{SameGraph}
 use Rattle.g1_words.proofs.Sound.{IsSound}
 use Rattle.g1_words.proofs.Members.{In, In-from_contains, Contains-from_in, In-append_left, In-append_right, In-append_cases, In-flat_map, flat_map_cases, In-map, map_cases, In-filter, filter_member, in_from_has}
 use Rattle.g1_words.proofs.OneToOne.{target_in_refs, kept_object, forward_one_to_one, survivor_to_free, outside_stays}
-use Rattle.g1_image.proofs.Determined.{word_from_copy}
-use Rattle.g1_image.proofs.ToSpace.{object_copied}
-use Rattle.g1_image.proofs.ObjectsOf.{kept_is_object, kept_is_after}
+use Rattle.g1_after.proofs.Determined.{word_from_copy}
+use Rattle.g1_after.proofs.ToSpace.{object_copied}
+use Rattle.g1_after.proofs.ObjectsOf.{kept_is_object, kept_is_after}
 use Rattle.g1_words.specs.declared.object.Object.{Object}
 
 module _ (h : Heap) (set l : List ℕ) (sound : IsSound h) (ordinary : AllOrdinary h set) (survivors : Survivors h set l) where

@@ -1,0 +1,12 @@
+pub mod Determined
+pub mod ObjectsAfter
+pub mod ToSpace
+pub mod ObjectsOf
+pub mod SameGraphs
+pub mod CopyWords
+pub mod ValidAfter
+pub mod RulesAfter
+pub mod CoveredAfter
+pub mod RefsMoved
+pub mod Existence
+pub mod CardsAfter

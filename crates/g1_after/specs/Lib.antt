@@ -1,0 +1,4 @@
+pub mod Moved
+pub mod Made
+pub mod After
+pub mod Laws

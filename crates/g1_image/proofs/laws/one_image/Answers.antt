@@ -1,5 +1,0 @@
-use Rattle.g1_image.proofs.Determined.{moved_unique}
-use Rattle.g1_image.proofs.laws.one_image.Goals as goal
-
-pub returns : goal.returns
-returns c = moved_unique
