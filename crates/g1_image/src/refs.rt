@@ -38,12 +38,12 @@ pub(crate) fn starts(alloc: Global, draft: &Draft) -> Result<Vec<bool>, Fault>
     ensures ok { IfOk result (λ v. StartsAre draft.now v.items) }
     ensures err { IfErr result (λ e. e ≡ Fault.Memory) }
 {
-    let region_words = draft.geometry().region_words();
-    let regions = draft.geometry().regions() as u32;
-    let mut marks = no_marks(alloc, u64::from(regions) * region_words)?;
+    let geometry = draft.geometry();
+    let regions = geometry.regions() as u32;
+    let mut marks = no_marks(alloc, geometry.words())?;
     for r in 0..regions {
         let region = draft.region(r);
-        let start = u64::from(r) * region_words;
+        let start = geometry.start(r);
         match region.kind {
             Kind::Ordinary => mark_row(
                 &mut marks,
@@ -52,7 +52,8 @@ pub(crate) fn starts(alloc: Global, draft: &Draft) -> Result<Vec<bool>, Fault>
                 start + u64::from(region.top),
             ),
             Kind::HumongousFirst => marks[start as usize] = true,
-            _ => {}
+            Kind::Free => {}
+            Kind::Continuation => {}
         }
     }
     Ok(marks)
