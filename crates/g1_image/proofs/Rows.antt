@@ -104,12 +104,6 @@ marked_one marks new k lt e =
       whole = λ a i. here a (sym i);
     }
 
-pub none_in : (k : Kind) (h : Heap) (r a : ℕ) → k ≢ Ordinary → k ≢ HumongousFirst → StartsIn k h r a → ⊥
-none_in Free h r a f g s = s
-none_in Ordinary h r a f g s = f refl
-none_in HumongousFirst h r a f g s = g refl
-none_in Continuation h r a f g s = s
-
 pub Marks-start : (h : Heap) (n : ℕ) → Marks (StartsBelow h 0) (replicate n false)
 Marks-start h n = record {
   sound = λ a t. let e : false ≡ true = sym (off n a) ∙ t in cc;

@@ -32,12 +32,12 @@ pub(crate) fn starts(alloc: Global, draft: &Draft) -> Result<Marks, Fault>
     ensures ok { IfOk result (λ v. StartsAre draft.now v) }
     ensures err { IfErr result (λ e. e ≡ Fault.Memory) }
 {
-    let region_words = draft.geometry().region_words();
-    let regions = draft.geometry().regions() as u32;
-    let mut marks = Marks::none(alloc, regions as usize * region_words as usize)?;
+    let geometry = draft.geometry();
+    let regions = geometry.regions() as u32;
+    let mut marks = Marks::none(alloc, geometry.words() as usize)?;
     for r in 0..regions {
         let region = draft.region(r);
-        let start = u64::from(r) * region_words;
+        let start = geometry.start(r);
         match region.kind {
             Kind::Ordinary => mark_row(
                 &mut marks,
@@ -46,7 +46,8 @@ pub(crate) fn starts(alloc: Global, draft: &Draft) -> Result<Marks, Fault>
                 start + u64::from(region.top),
             ),
             Kind::HumongousFirst => marks.set(start as usize),
-            _ => {}
+            Kind::Free => {}
+            Kind::Continuation => {}
         }
     }
     Ok(marks)
