@@ -16,9 +16,9 @@ import pathlib
 import sys
 import tempfile
 
-from images import (DIRTY, GAP, GAP_AFTER, HUMONGOUS, HUMONGOUS_AFTER, LOGGED, MANY_DIRTY, NO_ROOM, ONE_OBJECT, ONE_OBJECT_AFTER,
+from images import (DIRTY, GAP, GAP_AFTER, HUMONGOUS, HUMONGOUS_AFTER, LOGGED, NO_ROOM, ONE_OBJECT, ONE_OBJECT_AFTER,
                     OUTSIDE_SLOT, OUTSIDE_SLOT_AFTER, SHARED, SHARED_AFTER, THREE, THREE_AFTER, UNCOVERED)
-from refusing import ENDLESS, Judge, Refusing, run
+from refusing import Judge, Refusing, run
 
 MEMORY = (b"", b"g1pause: fault 13: memory\n", 6)
 USAGE = (b"", b"", 2)
@@ -89,9 +89,6 @@ class Sweep(Judge):
             self.sweep(f"{words} of {len(data)} bytes", words, data, lambda answer: answer == told)
         for words in USAGES:
             self.sweep(f"usage {words}", words, b"", is_usage, (MEMORY, USAGE))
-        # Nothing is reserved for a count whose bytes aren't there.
-        (_, errors, _), met = self.refusing.run([self.binary, "show"], MANY_DIRTY, 1, ENDLESS)
-        self.judge("2^32 - 1 dirty cards, all refused", met and errors == MEMORY[1])
 
 
 def is_usage(answer):

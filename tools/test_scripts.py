@@ -1,8 +1,8 @@
 #!/usr/bin/env python3
-"""test_scripts.py BINARY DRIVER
+"""test_scripts.py BINARY [DRIVER]
 
 Tests the scripts beside it: each has to fail a program that is broken in one way. BINARY is the built g1pause, DRIVER
-the built g1_refusals. The broken programs run the real one, and change what it says; they are written in C, since they
+the built g1_refusals, for the script that takes it. The broken programs run the real one, and change what it says; they are written in C, since they
 run while memory is refused, and take none. The last line is 'N passed, M failed'.
 """
 import pathlib
@@ -107,7 +107,7 @@ def broken(folder, name, real, body):
 
 
 def main():
-    binary, driver = (str(pathlib.Path(x).resolve()) for x in sys.argv[1:3])
+    binary, *drivers = (str(pathlib.Path(x).resolve()) for x in sys.argv[1:3])
     judge = Judge()
     with tempfile.TemporaryDirectory() as room:
         folder = pathlib.Path(room)
@@ -119,9 +119,10 @@ def main():
             program = broken(folder, name, binary, body)
             for script in scripts:
                 judge.judge(f"{script} fails {name}", not passes(script, program, *few.get(script, [])))
-        for name, body in DRIVERS.items():
-            program = broken(folder, f"driver_{name}", driver, body)
-            judge.judge(f"refuse_calls.py fails {name}", not passes("refuse_calls.py", program))
+        for driver in drivers:
+            for name, body in DRIVERS.items():
+                program = broken(folder, f"driver_{name}", driver, body)
+                judge.judge(f"refuse_calls.py fails {name}", not passes("refuse_calls.py", program))
     return judge.end()
 
 
