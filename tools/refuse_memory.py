@@ -1,133 +1,111 @@
 #!/usr/bin/env python3
-"""refuse_memory.py BINARY [IMAGE ..]
+"""refuse_memory.py BINARY
 
-Runs each of the built program's commands on each image (default: examples/*.img) while requests for
-memory are refused: every request, all from the Nth on, and the Nth alone, for N from 1 until a run
-meets no refusal. Each run has to answer what the program answers with ample memory, or
-`g1pause: fault 13: memory` with status 6 and nothing on standard output. Each image is also tried cut
-short by a byte, where the fault found before memory was needed may come, but never an image.
-It needs a C compiler for the small library that stands before malloc. The last line is
+Runs the built program's commands while requests for memory are refused: every request, all from the Nth on, and the Nth
+alone, for N from 1 until a run meets no refusal. Each run has to answer what the program answers with ample memory, or
+`g1pause: fault 13: memory` with status 6 and nothing on standard output; a text of a usage fault may also end with
+status 2 and no text, where there was no memory for it.
+
+What it answers with ample memory is judged first: it is written here, from the definitions and by hand. And each
+command that succeeds has to meet refusals, and to tell Memory for one. Images of all kinds are tried: remembered cards,
+a dirty log, a humongous object, with one worker and with several, and what is refused for want of room, of cover, or for
+its set. It needs a C compiler for the small library that stands before the allocator. The last line is
 'N passed, M failed'.
 """
 import argparse
-import os
 import pathlib
-import subprocess
 import sys
 import tempfile
 
-SHIM = r"""
-#define _GNU_SOURCE
-#include <dlfcn.h>
-#include <errno.h>
-#include <fcntl.h>
-#include <stdatomic.h>
-#include <stdlib.h>
-#include <unistd.h>
+from images import (DIRTY, GAP, GAP_AFTER, HUMONGOUS, HUMONGOUS_AFTER, LOGGED, NO_ROOM, ONE_OBJECT, ONE_OBJECT_AFTER,
+                    OUTSIDE_SLOT, OUTSIDE_SLOT_AFTER, SHARED, SHARED_AFTER, THREE, THREE_AFTER, UNCOVERED)
+from refusing import Judge, Refusing, run
 
-static atomic_long seen;
-static long from = -1, to = -1;
-
-__attribute__((constructor)) static void begin(void) {
-    const char *first = getenv("REFUSE_FROM"), *last = getenv("REFUSE_TO");
-    if (first) from = atol(first);
-    if (last) to = atol(last);
-    atomic_store(&seen, 0);
-}
-
-/* A file tells that a request was refused: standard error stays the program's own. */
-static int refused(void) {
-    long n = 1 + atomic_fetch_add(&seen, 1);
-    if (from <= 0 || n < from || n > to) return 0;
-    const char *path = getenv("REFUSE_REPORT");
-    int file = path ? open(path, O_CREAT | O_WRONLY, 0600) : -1;
-    if (file >= 0) close(file);
-    errno = ENOMEM;
-    return 1;
-}
-
-void *malloc(size_t size) {
-    static void *(*real)(size_t);
-    if (!real) real = dlsym(RTLD_NEXT, "malloc");
-    return refused() ? 0 : real(size);
-}
-
-void *realloc(void *old, size_t size) {
-    static void *(*real)(void *, size_t);
-    if (!real) real = dlsym(RTLD_NEXT, "realloc");
-    return refused() ? 0 : real(old, size);
-}
-
-void *aligned_alloc(size_t align, size_t size) {
-    static void *(*real)(size_t, size_t);
-    if (!real) real = dlsym(RTLD_NEXT, "aligned_alloc");
-    return refused() ? 0 : real(align, size);
-}
-"""
 MEMORY = (b"", b"g1pause: fault 13: memory\n", 6)
-ENDLESS = 1 << 40
-COMMANDS = ["show", "show --repack", "check", "live", "choose --budget 35", "pause --budget 35", "pause 1"]
+USAGE = (b"", b"", 2)
+TABLE = b"""heap 16 4 4 roots 1 dirty 1 current 0
+region 0 ordinary top 2 objects 1 cards 0
+region 1 free top 0 objects 0 cards 0
+region 2 free top 0 objects 0 cards 0
+region 3 free top 0 objects 0 cards 0
+"""
+LIVE = b"region 0 live 0\nregion 1 live 56\nregion 2 live 0\nregion 3 live 0\n"
+PRICES = b"""region 0 cost 16 garbage 16 taken
+region 1 cost 16 garbage 16 left
+region 2 cost 9 garbage 8 left
+total 26
+"""
+SHARING = ["", "--workers 4 --chunk 1"]
+# The words, whether workers share them, the image, and what is answered with ample memory.
+ANSWERS = [
+    ("show", True, DIRTY, TABLE),
+    ("show --repack", False, HUMONGOUS, HUMONGOUS),
+    ("check", False, OUTSIDE_SLOT, b"covered\n"),
+    ("check", False, LOGGED, b"covered\n"),
+    ("live", True, SHARED, LIVE),
+    ("choose --fixed 10 --budget 35", True, THREE, PRICES),
+    ("pause 1", True, ONE_OBJECT, ONE_OBJECT_AFTER),
+    ("pause 1", True, OUTSIDE_SLOT, OUTSIDE_SLOT_AFTER),
+    ("pause 1", True, LOGGED, OUTSIDE_SLOT_AFTER),
+    ("pause 1", True, SHARED, SHARED_AFTER),
+    ("pause 1 0", True, GAP, GAP_AFTER),
+    ("pause 3", True, HUMONGOUS, HUMONGOUS_AFTER),
+    ("pause --fixed 10 --budget 42", True, THREE, THREE_AFTER),
+]
+FAULTS = [
+    ("show", ONE_OBJECT[:-1], "3: short", 3),
+    ("check", UNCOVERED, "9: uncovered slot 1", 4),
+    ("pause 1", UNCOVERED, "9: uncovered slot 1", 4),
+    ("pause 1 1", SHARED, "10: set region 1", 5),
+    ("pause 0 1", NO_ROOM, "11: room need 2 free 1", 5),
+    ("pause --workers 65 1", SHARED, "12: setting 1", 2),
+]
+USAGES = ["", "frob", "choose", "pause +1", "show --workers x", "pause --budget 18446744073709551616"]
 
 
-def built(folder):
-    source, library = folder / "refuse.c", folder / "refuse.so"
-    source.write_text(SHIM)
-    subprocess.run(["cc", "-O2", "-shared", "-fPIC", "-o", library, source, "-ldl"], check=True)
-    return library
+class Sweep(Judge):
+    def __init__(self, binary, folder):
+        super().__init__()
+        self.binary, self.refusing = binary, Refusing(folder)
 
-
-def run(command, data, environment=None):
-    done = subprocess.run(command, input=data, capture_output=True, timeout=60, env=environment)
-    return done.stdout, done.stderr, done.returncode
-
-
-class Sweep:
-    def __init__(self, folder):
-        self.library, self.report = built(folder), folder / "refused"
-        self.passed = self.failed = 0
-
-    def refusing(self, command, data, first, last):
-        """The answer with these requests refused, and whether one was."""
-        self.report.unlink(missing_ok=True)
-        environment = dict(os.environ, LD_PRELOAD=str(self.library), REFUSE_REPORT=str(self.report),
-                           REFUSE_FROM=str(first), REFUSE_TO=str(last))
-        return run(command, data, environment), self.report.exists()
-
-    def judge(self, name, answer, ample, met):
-        # With no refusal only the ample answer will do.
-        if answer == ample or (met and answer == MEMORY):
-            self.passed += 1
-        else:
-            self.failed += 1
-            print(f"{name}: {answer}")
-
-    def sweep(self, name, command, data):
+    def sweep(self, name, words, data, good, others=(MEMORY,)):
+        """`good` judges the answer with ample memory. Tells whether a refusal was met and Memory told."""
+        command = [self.binary, *words.split()]
         ample = run(command, data)
-        for last, what in ((ENDLESS, "all from"), (0, "only")):
-            n, met = 1, True
-            while met:
-                answer, met = self.refusing(command, data, n, last or n)
-                self.judge(f"{name}, {what} request {n}", answer, ample, met)
-                n += 1
+        self.judge(f"{name}, ample: {ample}", good(ample))
+        some = memory = False
+        for what, answer, met in self.refusing.sweep(command, data):
+            # With no refusal only the ample answer will do.
+            self.judge(f"{name}, {what}: {answer}", good(answer) or (met and answer in others))
+            some, memory = some or met, memory or answer in others
+        self.judge(f"{name}: requests were refused, and it was told", some and memory)
+
+    def all(self):
+        for words, shared, data, answer in ANSWERS:
+            for sharing in SHARING if shared else [""]:
+                line = f"{words} {sharing}".strip()
+                self.sweep(f"{line} of {len(data)} bytes", line, data, lambda told: told == (answer, b"", 0))
+        for words, data, fault, status in FAULTS:
+            told = (b"", f"g1pause: fault {fault}\n".encode(), status)
+            self.sweep(f"{words} of {len(data)} bytes", words, data, lambda answer: answer == told)
+        for words in USAGES:
+            self.sweep(f"usage {words}", words, b"", is_usage, (MEMORY, USAGE))
+
+
+def is_usage(answer):
+    out, errors, status = answer
+    return not out and errors.startswith(b"error: ") and status == 2
 
 
 def main():
     parser = argparse.ArgumentParser(description=__doc__, formatter_class=argparse.RawDescriptionHelpFormatter)
     parser.add_argument("binary", metavar="BINARY", help="the built program, crates/g1pause/out/g1pause")
-    parser.add_argument("images", metavar="IMAGE", nargs="*", type=pathlib.Path, default=[])
+    parser.add_argument("--first", action="store_true", help="end at the first failure")
     options = parser.parse_args()
-    binary = str(pathlib.Path(options.binary).resolve())
-    examples = pathlib.Path(__file__).resolve().parent.parent / "examples"
-    images = options.images or sorted(examples.glob("*.img"))
     with tempfile.TemporaryDirectory() as room:
-        sweep = Sweep(pathlib.Path(room))
-        for image in images:
-            data = image.read_bytes()
-            for line in COMMANDS:
-                sweep.sweep(f"{image.name} {line}", [binary, *line.split()], data)
-            sweep.sweep(f"{image.name} cut", [binary, "show"], data[:-1])
-    print(f"{sweep.passed} passed, {sweep.failed} failed")
-    return 1 if sweep.failed or not sweep.passed else 0
+        sweep = Sweep(str(pathlib.Path(options.binary).resolve()), pathlib.Path(room))
+        sweep.all()
+        return sweep.end()
 
 
 if __name__ == "__main__":

@@ -4,53 +4,71 @@
 Runs the commands of g1heap on each image (default: examples/*.img) while requests for memory are refused, as
 tools/refuse_memory.py does for g1pause: every request from the Nth on, and the Nth alone. Each run has to answer
 what the program answers with ample memory, or `fault 13: memory`, of a file or of none, with status 6 and nothing
-on standard output. The last line is 'N passed, M failed'.
+on standard output; and each command has to meet a refusal, and to tell Memory for one. The last line is
+'N passed, M failed'.
 """
+import argparse
 import pathlib
 import re
 import sys
 import tempfile
 
-from refuse_memory import Sweep, run
+from refusing import Judge, Refusing, run
 
 MEMORY = re.compile(rb"g1heap: (.*: )?fault 13: memory\n")
 
 
-class HeapSweep(Sweep):
-    def judge(self, name, answer, ample, met):
-        out, errors, status = answer
-        refused = out == b"" and status == 6 and MEMORY.fullmatch(errors) is not None
-        if answer == ample or (met and refused):
-            self.passed += 1
-        else:
-            self.failed += 1
-            print(f"{name}: {answer}")
+def is_memory(answer):
+    out, errors, status = answer
+    return out == b"" and status == 6 and MEMORY.fullmatch(errors) is not None
+
+
+class Sweep(Judge):
+    def __init__(self, folder):
+        super().__init__()
+        self.refusing = Refusing(folder)
+
+    def sweep(self, name, command, data):
+        ample = run(command, data)
+        some = memory = False
+        for what, answer, met in self.refusing.sweep(command, data):
+            # With no refusal only the ample answer will do.
+            self.judge(f"{name}, {what}: {answer}", answer == ample or (met and is_memory(answer)))
+            some, memory = some or met, memory or is_memory(answer)
+        self.judge(f"{name}: requests were refused, and it was told", some and memory)
+
+
+def shortened(lines):
+    """The lines without what follows from the others."""
+    kept = b"\n".join(line for line in lines.splitlines() if not line.startswith(b"remembered"))
+    return re.sub(rb"( roots| top).*", b"", kept).replace(b"\n", b"\ncovered\n", 1)
 
 
 def main():
-    binary = str(pathlib.Path(sys.argv[1]).resolve())
+    parser = argparse.ArgumentParser(description=__doc__, formatter_class=argparse.RawDescriptionHelpFormatter)
+    parser.add_argument("binary", metavar="G1HEAP", help="the built program, crates/g1heap/out/g1heap")
+    parser.add_argument("images", metavar="IMAGE", nargs="*", type=pathlib.Path, default=[])
+    parser.add_argument("--first", action="store_true", help="end at the first failure")
+    options = parser.parse_args()
+    binary = str(pathlib.Path(options.binary).resolve())
     examples = pathlib.Path(__file__).resolve().parent.parent / "examples"
-    images = [pathlib.Path(x) for x in sys.argv[2:]] or sorted(examples.glob("*.img"))
     with tempfile.TemporaryDirectory() as room:
-        sweep = HeapSweep(pathlib.Path(room))
-        for image in images:
+        sweep = Sweep(pathlib.Path(room))
+        for image in options.images or sorted(examples.glob("*.img")):
             data, path = image.read_bytes(), str(image.resolve())
             lines = run([binary, "print", "-"], data)[0]
-            short = b"\n".join(line for line in lines.splitlines() if not line.startswith(b"remembered"))
-            short = re.sub(rb"( roots| top).*", b"", short).replace(b"\n", b"\ncovered\n", 1)
             for words, source in (
                 (["print", "-"], data),
                 (["print", path, "--region", "1"], b""),
                 (["same", path, "-", "--covered"], data),
                 (["same", path, "-", "--set", "1"], data),
                 (["make"], lines),
-                (["make"], short),
+                (["make"], shortened(lines)),
                 (["make"], lines[:-4]),
                 (["print", "-"], data[:-1]),
             ):
                 sweep.sweep(f"{image.name}: {' '.join(words)}", [binary, *words], source)
-    print(f"{sweep.passed} passed, {sweep.failed} failed")
-    return 1 if sweep.failed or not sweep.passed else 0
+        return sweep.end()
 
 
 if __name__ == "__main__":

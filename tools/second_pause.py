@@ -3,53 +3,76 @@
 
 Runs `pause` on each image (default: examples/*.img) and then `pause` again on each answer, with several choices
 the first and the second time: no region, budgets from nothing to everything, and each ordinary region alone. A
-pause has to end with status 0, or with Room. Of an answer it is asked that `check` finds it covered, that packing
-it again gives the same bytes, and that 4 workers at other chunk sizes give the same answer. The last line is
-'N passed, M failed'.
+pause has to end with status 0, or with Room. Of an answer it is asked, by an independent reading of the text
+(image_text.py):
+
+- that it is an image, covered, with no dirty card and no current region, and that packing it again gives it back;
+- that a region that was named is free, and what was free and no longer is, is ordinary;
+- that the roots lead to the same graph, with the same sizes, data and references;
+- that as many live bytes are counted as before;
+- that 4 workers at other chunk sizes give the same answer.
+
+And some pauses have to move something, and to free something. The last line is 'N passed, M failed'.
 """
 import argparse
 import pathlib
-import subprocess
 import sys
+
+from image_text import fault_of, free_regions, graph, read
+from refusing import Judge, run
 
 BUDGETS = ["0", "1000", "1000000", "18446744073709551615"]
 REGIONS = 4  # so many ordinary regions are tried alone
+ORDINARY = 1
 
 
-class Tries:
+class Tries(Judge):
     def __init__(self, binary):
+        super().__init__()
         self.binary = binary
-        self.passed = self.failed = 0
+        self.moved = self.freed = 0
 
     def run(self, words, data):
-        done = subprocess.run([self.binary, *words], input=data, capture_output=True, timeout=600)
-        return done.stdout, done.stderr, done.returncode
-
-    def judge(self, name, good):
-        if good:
-            self.passed += 1
-        else:
-            self.failed += 1
-            print(f"failed: {name}")
+        return run([self.binary, *words], data)
 
     def choices(self, data):
-        table = self.run(["show"], data)[0].decode().splitlines()[1:]
-        ordinary = [line.split()[1] for line in table if line.split()[2] == "ordinary"]
+        ordinary = [str(r) for r, (kind, _) in enumerate(read(data)[3]) if kind == ORDINARY]
         return [[], *(["--budget", budget] for budget in BUDGETS), *([region] for region in ordinary[:REGIONS])]
+
+    def live(self, data):
+        out, errors, status = self.run(["live"], data)
+        lines = [line.split() for line in out.decode().splitlines()]
+        return None if errors or status else sum(int(line[-1]) for line in lines)
 
     def pause(self, name, words, data):
         """The answer, where the pause gives one."""
-        out, err, status = self.run(["pause", *words], data)
-        room = status == 5 and err.startswith(b"g1pause: fault 11: room") and not out
-        self.judge(name, room or (status == 0 and not err))
-        if status != 0:
+        out, errors, status = self.run(["pause", *words], data)
+        room = status == 5 and errors.startswith(b"g1pause: fault 11: room") and not out
+        if not self.judge(name, room or (status == 0 and not errors)) or room:
+            return None
+        if not self.judge(f"{name}, an image that is covered", fault_of(out, True) is None):
             return None
         self.judge(f"{name}, checked", self.run(["check"], out) == (b"covered\n", b"", 0))
-        self.judge(f"{name}, packed again", self.run(["show", "--repack"], out)[0] == out)
+        self.judge(f"{name}, packed again", self.run(["show", "--repack"], out) == (out, b"", 0))
+        self.follows(name, words, data, out)
         for chunk in ("1", "1000"):
-            same = self.run(["pause", "--workers", "4", "--chunk", chunk, *words], data)[0] == out
+            same = self.run(["pause", "--workers", "4", "--chunk", chunk, *words], data) == (out, b"", 0)
             self.judge(f"{name}, 4 workers, chunk {chunk}", same)
         return out
+
+    def follows(self, name, words, data, out):
+        regions, log, current = read(out)[3], read(out)[5], read(out)[8]
+        self.judge(f"{name}, no dirty card, none current", not log and current == len(regions))
+        before, after = free_regions(data), free_regions(out)
+        if words and words[0] != "--budget":
+            self.judge(f"{name}, free after", int(words[0]) in after)
+        taken = before - after
+        self.judge(f"{name}, to-space is ordinary", all(regions[r][0] == ORDINARY for r in taken))
+        self.judge(f"{name}, the same graph", graph(data) == graph(out))
+        live = self.live(data)
+        self.judge(f"{name}, live bytes", live is not None and live == self.live(out))
+        self.moved += bool(taken)
+        self.freed += bool(after - before)
 
     def pauses(self, name, data):
         for words in self.choices(data):
@@ -58,11 +81,16 @@ class Tries:
             for again in self.choices(after) if after is not None else []:
                 self.pause(f"{first}, then pause {' '.join(again)}", again, after)
 
+    def end(self):
+        self.judge("some pauses move something, and some free something", self.moved and self.freed)
+        return super().end()
+
 
 def main():
     parser = argparse.ArgumentParser(description=__doc__, formatter_class=argparse.RawDescriptionHelpFormatter)
     parser.add_argument("binary", metavar="BINARY", help="the built program, crates/g1pause/out/g1pause")
     parser.add_argument("images", metavar="IMAGE", nargs="*", type=pathlib.Path, default=[])
+    parser.add_argument("--first", action="store_true", help="end at the first failure")
     options = parser.parse_args()
     binary = str(pathlib.Path(options.binary).resolve())
     examples = pathlib.Path(__file__).resolve().parent.parent / "examples"
@@ -70,8 +98,7 @@ def main():
     tries = Tries(binary)
     for image in images:
         tries.pauses(image.name, image.read_bytes())
-    print(f"{tries.passed} passed, {tries.failed} failed")
-    return 1 if tries.failed or not tries.passed else 0
+    return tries.end()
 
 
 if __name__ == "__main__":

@@ -1,11 +1,44 @@
 //! The readers and writers of std as sources and sinks.
 ghost use Rattle.std.specs.Prelude.{◌≡◌, false, IfErr};
-ghost use Rattle.std.specs.Io.KnownBytes.{Keeps};
+ghost use Rattle.std.specs.Io.KnownBytes.{Keeps, ReadConsumes, WriteAppends};
+ghost use Rattle.std.specs.Io.{ReadsAtMost, WritesAtMost};
 ghost use Rattle.g1_pause.specs.Streams.{marked};
 
 use crate::streams::{Sink, Source};
 use g1_words::{Device, Fault};
-use std::io::{Read, Write};
+use std::io;
+use std::io::{ErrorKind, Read, Write};
+
+/// How often a call is made that a signal interrupts: without end, as far as anyone can tell.
+const TRIES: u64 = u64::MAX;
+
+/// One read, made again where a signal interrupted it.
+fn read_again<R: Read>(reader: &mut R, buf: &mut [u8]) -> io::Result<usize>
+    ensures bound { ReadsAtMost result buf.new }
+    ensures bytes { ReadConsumes (R.remaining reader.old) (R.remaining reader.new) result buf.new }
+{
+    for _ in 0..TRIES {
+        match reader.read(buf) {
+            Err(e) if e.kind() == ErrorKind::Interrupted => {}
+            done => return done,
+        }
+    }
+    Err(io::Error::from(ErrorKind::Interrupted))
+}
+
+/// One write, made again where a signal interrupted it.
+fn write_again<W: Write>(writer: &mut W, bytes: &[u8]) -> io::Result<usize>
+    ensures bound { WritesAtMost result bytes.now }
+    ensures bytes { WriteAppends (W.contents writer.old) (W.contents writer.new) result bytes.now }
+{
+    for _ in 0..TRIES {
+        match writer.write(bytes) {
+            Err(e) if e.kind() == ErrorKind::Interrupted => {}
+            done => return done,
+        }
+    }
+    Err(io::Error::from(ErrorKind::Interrupted))
+}
 
 /// A reader as a source.
 #[derive(Drop)]
@@ -33,7 +66,7 @@ impl<R: Read> Source for FromReader<R> {
     ghost failed = { λ s. s.failed };
 
     fn read(&mut self, buf: &mut [u8]) -> Result<usize, Fault> {
-        match self.inner.read(buf) {
+        match read_again(&mut self.inner, buf) {
             Ok(n) => Ok(n),
             Err(_) => {
                 self.failed = true;
@@ -96,7 +129,7 @@ impl<W: Write> Sink for ToWriter<W> {
     ghost failed = { λ s. s.failed };
 
     fn write(&mut self, bytes: &[u8]) -> Result<usize, Fault> {
-        match self.inner.write(bytes) {
+        match write_again(&mut self.inner, bytes) {
             Ok(n) if n > 0 || bytes.is_empty() => Ok(n),
             _ => {
                 self.failed = true;

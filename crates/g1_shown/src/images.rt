@@ -1,0 +1,91 @@
+//! Texts of images, some of them large.
+use std::alloc::{AllocError, Global};
+
+/// The roots name 21 and 16 in region 1, two slots outside name 21, and so do all three slots of 16.
+pub static SHARED: [u32; 50] = [
+    16, 4, 4, 2, 0, 4, 1, 6, 1, 7, 0, 0, 0, 0, 22, 0, 17, 0, 0, 2, 0, 1, 0, 0, 1, 4, 22, 0, 1, 0,
+    2, 0, 1, 2, 22, 0, 3, 5, 22, 0, 22, 0, 22, 0, 1, 0, 0, 2, 8, 0,
+];
+
+/// 21 is at 32 and 16 at 34.
+pub static SHARED_AFTER: [u32; 50] = [
+    16, 4, 4, 2, 0, 4, 1, 6, 0, 0, 1, 7, 0, 0, 33, 0, 35, 0, 0, 0, 2, 0, 1, 0, 1, 4, 33, 0, 1, 0,
+    2, 0, 1, 2, 33, 0, 0, 2, 8, 0, 3, 5, 33, 0, 33, 0, 33, 0, 1, 0,
+];
+
+/// Region 1 holds one object of four words, which the one root names.
+pub static ONE_OBJECT: [u32; 28] = [
+    16, 4, 4, 1, 0, 4, 0, 0, 1, 4, 0, 0, 0, 0, 17, 0, 0, 0, 0, 0, 1, 4, 0, 0, 7, 0, 9, 0,
+];
+
+/// The same object at the start of region 0.
+pub static ONE_OBJECT_AFTER: [u32; 28] = [
+    16, 4, 4, 1, 0, 4, 1, 4, 0, 0, 0, 0, 0, 0, 1, 0, 0, 0, 0, 0, 1, 4, 0, 0, 7, 0, 9, 0,
+];
+
+/// The text with these numbers behind the magic.
+pub fn text(alloc: Global, numbers: &[u32]) -> Result<Vec<u8>, AllocError> {
+    let mut bytes = Vec::from_slice(alloc, b"G1IMAGE1")?;
+    for number in numbers {
+        bytes.extend_from_slice(&number.to_le_bytes())?;
+    }
+    Ok(bytes)
+}
+
+/// A text that is written part by part.
+#[derive(Drop)]
+pub struct Writing {
+    pub bytes: Vec<u8>,
+}
+
+impl Writing {
+    /// The magic and the heading: words a region, words a card, regions, roots, dirty cards; no region
+    /// is current.
+    pub fn new(alloc: Global, sizes: [u32; 5]) -> Result<Writing, AllocError> {
+        let mut writing = Writing {
+            bytes: Vec::from_slice(alloc, b"G1IMAGE1")?,
+        };
+        writing.numbers(&sizes)?;
+        writing.number(sizes[2])?;
+        Ok(writing)
+    }
+
+    pub fn number(&mut self, number: u32) -> Result<(), AllocError> {
+        self.bytes.extend_from_slice(&number.to_le_bytes())
+    }
+
+    pub fn numbers(&mut self, numbers: &[u32]) -> Result<(), AllocError> {
+        for number in numbers {
+            self.number(*number)?;
+        }
+        Ok(())
+    }
+
+    pub fn word(&mut self, word: u64) -> Result<(), AllocError> {
+        self.bytes.extend_from_slice(&word.to_le_bytes())
+    }
+
+    /// So many regions of a kind, with this top.
+    pub fn regions(&mut self, count: u32, kind: u32, top: u32) -> Result<(), AllocError> {
+        for _region in 0..count {
+            self.numbers(&[kind, top])?;
+        }
+        Ok(())
+    }
+
+    /// So many cards, one after another, with no count before them.
+    pub fn cards(&mut self, from: u32, count: u32) -> Result<(), AllocError> {
+        let mut card = from;
+        for _card in 0..count {
+            self.number(card)?;
+            card = card.wrapping_add(1);
+        }
+        Ok(())
+    }
+
+    /// An object of two words, of which the second is a slot that holds this word.
+    pub fn pair(&mut self, word: u64) -> Result<(), AllocError> {
+        self.numbers(&[1, 2])?;
+        self.word(word)
+    }
+}

@@ -1,0 +1,19 @@
+//! What no clause can say, shown by tests over the public calls of the crates below.
+//!
+//! - That memory is there: images of some size meet no `Memory` (`tests_sizes`).
+//! - Faults that want of memory could hide (`tests_faults`).
+//! - Which call of a reader or of a writer failed (`tests_devices`).
+//! - That workers work at the same time, in each round and in more than two, and when the gate is told
+//!   (`tests_workers`).
+#![tactic(auto)]
+
+#[cfg(test)]
+mod images;
+#[cfg(test)]
+mod tests_devices;
+#[cfg(test)]
+mod tests_faults;
+#[cfg(test)]
+mod tests_sizes;
+#[cfg(test)]
+mod tests_workers;

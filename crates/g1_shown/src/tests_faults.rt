@@ -1,0 +1,71 @@
+//! Faults that want of memory could hide.
+use crate::images::{SHARED, Writing};
+use g1_image::decode;
+use g1_rem::verify;
+use g1_words::{Fault, Stand};
+use std::alloc::{AllocError, Global};
+use std::test::Fail;
+
+#[test]
+fn a_dirty_card_in_a_free_region_is_told(rt: HostRuntime) -> Result<(), Fail> {
+    let alloc = rt.alloc();
+    // Region 0 has one object of one word; the cards 0 to 3 lie in it, and the heap has the cards 0 to 7.
+    for (card, place) in [(4, 1), (7, 1), (8, 1), (u32::MAX, 1), (0, 1)] {
+        let mut writing = Writing::new(alloc, [16, 4, 2, 0, 2])?;
+        writing.numbers(&[1, 1, 0, 0, 0, card, 0, 0, 0, 1])?;
+        let told = decode(alloc, &writing.bytes).err();
+        assert!(rt; told == Some(Fault::Card(Stand::Dirty(place))), "{card}");
+    }
+    Ok(())
+}
+
+/// Where the heading, the regions and the roots of `SHARED` end, and where its words begin.
+const SETS: usize = 18;
+
+const WORDS: usize = 24;
+
+/// `SHARED` with another remembered set of region 1: how many cards it has, and which.
+fn shared_with(alloc: Global, set: &[u32]) -> Result<Vec<u8>, AllocError> {
+    let mut writing = Writing {
+        bytes: Vec::from_slice(alloc, b"G1IMAGE1")?,
+    };
+    writing.numbers(&SHARED[..SETS])?;
+    writing.number(0)?;
+    writing.numbers(set)?;
+    writing.numbers(&[0, 0])?;
+    writing.numbers(&SHARED[WORDS..])?;
+    Ok(writing.bytes)
+}
+
+/// A humongous object over regions 0 to 2, whose slot at 17 names the object at 48; no card is
+/// remembered.
+fn humongous(alloc: Global) -> Result<Vec<u8>, AllocError> {
+    let mut writing = Writing::new(alloc, [16, 4, 6, 1, 0])?;
+    writing.numbers(&[2, 16, 3, 16, 3, 8, 1, 2, 0, 0, 0, 0])?;
+    writing.word(1)?;
+    writing.numbers(&[0; 6])?;
+    writing.numbers(&[20, 40])?;
+    writing.numbers(&[0; 32])?;
+    writing.word(49)?;
+    writing.numbers(&[0; 44])?;
+    writing.numbers(&[0, 2])?;
+    writing.word(4)?;
+    Ok(writing.bytes)
+}
+
+#[test]
+fn the_lowest_slot_without_cover_is_told(rt: HostRuntime) -> Result<(), Fail> {
+    let alloc = rt.alloc();
+    for (text, slot) in [
+        (shared_with(alloc, &[1, 0])?, 5),
+        (shared_with(alloc, &[1, 1])?, 1),
+        (shared_with(alloc, &[0])?, 1),
+        (humongous(alloc)?, 17),
+    ] {
+        match verify(&rt, alloc, decode(alloc, &text)?) {
+            Ok(_) => panic!(rt; "slot {slot}"),
+            Err((_, fault)) => assert_eq!(rt; fault, Fault::Uncovered(slot)),
+        }
+    }
+    Ok(())
+}

@@ -1,0 +1,70 @@
+"""Small image texts, written as tokens: N is a number of 4 bytes, =N a word, S/R the header of an object of S words
+with R references, C*T stands C times for T. The magic stands before them. Their values are written by hand."""
+import struct
+
+
+def packed(token):
+    if "*" in token:
+        count, rest = token.split("*")
+        return int(count) * packed(rest)
+    if "/" in token:
+        size, refs = token.split("/")
+        return struct.pack("<2I", int(refs), int(size))
+    return struct.pack("<Q", int(token[1:])) if token[0] == "=" else struct.pack("<I", int(token))
+
+
+def image(tokens):
+    return b"G1IMAGE1" + b"".join(packed(token) for token in tokens.split())
+
+
+ONE_OBJECT = image("16 4 4 1 0 4  0 0 1 4 0 0 0 0  =17  4*0  4/1 =0 =7 =9")
+ONE_OBJECT_AFTER = image("16 4 4 1 0 4  1 4 0 0 0 0 0 0  =1  4*0  4/1 =0 =7 =9")
+OUTSIDE_SLOT = image("16 4 4 0 0 4  1 2 1 3 0 0 0 0  0 1 0 0 0  2/1 =17 3/0 =1 =2")
+OUTSIDE_SLOT_AFTER = image("16 4 4 0 0 4  1 2 0 0 1 3 0 0  0 0 1 0 0  2/1 =33 3/0 =1 =2")
+UNCOVERED = image("16 4 4 0 0 4  1 2 1 3 0 0 0 0  4*0  2/1 =17 3/0 =1 =2")
+LOGGED = image("16 4 4 0 1 4  1 2 1 3 0 0 0 0  0  4*0  2/1 =17 3/0 =1 =2")
+DIRTY = image("16 4 4 1 1 0  1 2 0 0 0 0 0 0  =1  0  4*0  2/1 =0")
+SHARED = image("16 4 4 2 0 4  1 6 1 7 0 0 0 0  =22 =17  0 2 0 1 0 0  4/1 =22 =1 =2 2/1 =22 5/3 3*=22 =1 2/0 =8")
+SHARED_AFTER = image("16 4 4 2 0 4  1 6 0 0 1 7 0 0  =33 =35  0 0 2 0 1 0  4/1 =33 =1 =2 2/1 =33 2/0 =8 5/3 3*=33 =1")
+GAP = image("16 4 4 3 0 4  1 12 1 9 0 0 0 0  =1 =17 =22  4*0  12/0 11*=0 5/0 4*=0 4/0 3*=0")
+GAP_AFTER = image("16 4 4 3 0 4  0 0 0 0 1 12 1 9  =33 =49 =54  4*0  12/0 11*=0 5/0 4*=0 4/0 3*=0")
+THREE = image("16 4 6 3 0 6  1 4 1 4 1 2 6*0  =1 =17 =33  0 0 1 0 0 0 0  2/0 =1 2/0 =1 2/0 =1 2/0 =1 1/0 1/0")
+THREE_AFTER = image("16 4 6 3 0 6  4*0 1 2 1 4 4*0  =49 =51 =33  6*0  1/0 1/0 2/0 =1 2/0 =1")
+NO_ROOM = image("16 4 3 2 1 3  1 12 1 5 0 0  =1 =17  0  3*0  12/0 11*=0 5/0 4*=0")
+HUMONGOUS = image("16 4 6 1 0 6  2 16 3 16 3 8 1 2 4*0  =1  3*0 1 4 0 0  40/20 16*=0 =49 22*=0 2/0 =4")
+HUMONGOUS_AFTER = image("16 4 6 1 0 6  2 16 3 16 3 8 2*0 1 2 2*0  =1  4*0 1 4 0  40/20 16*=0 =65 22*=0 2/0 =4")
+MANY_DIRTY = b"G1IMAGE1" + struct.pack("<6I", 16, 4, 4, 0, (1 << 32) - 1, 4)
+TRACE = b"""heap 16 4 4 3
+new 0 1 1
+new 1 0 4
+set 0 0 11
+drop 1
+new 1 1 10
+put 0 0 1
+put 1 0 0
+set 1 9 77
+drop 1
+pause 1000
+say 0 0
+get 1 0 0
+say 1 9
+get 2 1 0
+same 0 2
+same 0 1
+new 2 0 4
+drop 2
+pause 1000
+new 2 0 4
+set 2 3 5
+copy 1 2
+drop 0
+pause 1000
+say 1 3
+same 1 2
+say 0 0
+new 0 0 39
+new 0 0 0
+say 0 39
+say 0 38
+"""
+REPLIES = ("ok ok ok ok ok ok ok ok ok ok 11 ok 77 ok 1 0 ok ok ok ok ok ok ok ok 5 1 null ok full range 0").split()

@@ -1,0 +1,194 @@
+#!/usr/bin/env python3
+"""real_machine.py BINARY
+
+Runs the built program against what a real machine does: streams that are closed, full or broken, limits on files, on
+memory and on threads, a process that is stopped and goes on, and calls that a signal interrupts. What the program has
+to do in each case stands in docs/HOSTILE.md. It needs Linux; a case that this machine cannot make is named as left
+out. The last line is 'N passed, M failed'.
+"""
+import ctypes
+import os
+import pathlib
+import resource
+import signal
+import struct
+import subprocess
+import sys
+import tempfile
+import time
+
+from images import ONE_OBJECT, ONE_OBJECT_AFTER, SHARED, SHARED_AFTER
+from refusing import Judge, compiled
+
+INPUT = (b"", b"g1pause: fault 14: input\n", 6)
+OUTPUT = (b"", b"g1pause: fault 14: output\n", 6)
+MEMORY = (b"", b"g1pause: fault 13: memory\n", 6)
+STEPS = 40
+
+
+def chain(before):
+    """An image of 2 MB, whose answer is as long: 256 full regions of pairs, each of which names the next. Nothing but
+    where they stand differs: the pause of all of them moves them into the 256 free regions, in the same order."""
+    used, free, empty = struct.pack("<2I", 1, 1024) * 256, struct.pack("<2I", 0, 0) * 256, bytes(4 * 256)
+    shift = 0 if before else 256
+    # The last pair of a region names the first of the next: one card a region, its last.
+    cards = empty[:4] + b"".join(struct.pack("<2I", 1, 16 * (shift + r) + 15) for r in range(255))
+    pairs = b"".join(struct.pack("<2IQ", 1, 2, shift * 1024 + 2 * (i + 1) + 1) for i in range(256 * 512 - 1))
+    heading = b"G1IMAGE1" + struct.pack("<6I", 1024, 64, 512, 1, 0, 512)
+    table, sets = (used + free, cards + empty) if before else (free + used, empty + cards)
+    return heading + table + struct.pack("<Q", shift * 1024 + 1) + sets + pairs + struct.pack("<2IQ", 1, 2, 0)
+
+
+# Each second read and write, from the first on, is told to be interrupted by a signal.
+INTERRUPTS = r"""
+#define _GNU_SOURCE
+#include <dlfcn.h>
+#include <errno.h>
+#include <unistd.h>
+
+ssize_t read(int file, void *into, size_t size) {
+    static ssize_t (*real)(int, void *, size_t);
+    static int calls;
+    if (!real) real = dlsym(RTLD_NEXT, "read");
+    if (file == 0 && ++calls % 2) { errno = EINTR; return -1; }
+    return real(file, into, size > 100 ? 100 : size);
+}
+
+ssize_t write(int file, const void *from, size_t size) {
+    static ssize_t (*real)(int, const void *, size_t);
+    static int calls;
+    if (!real) real = dlsym(RTLD_NEXT, "write");
+    if (file == 1 && ++calls % 2) { errno = EINTR; return -1; }
+    return real(file, from, size > 100 ? 100 : size);
+}
+"""
+
+
+class Machine(Judge):
+    def __init__(self, binary):
+        super().__init__()
+        self.binary = binary
+        self.large, self.large_after = chain(True), chain(False)
+        self.all = [str(r) for r in range(256)]
+
+    def run(self, words, data=b"", before=None, **streams):
+        streams.setdefault("stdout", subprocess.PIPE)
+        if "stdin" not in streams:
+            streams["input"] = data
+        done = subprocess.run([self.binary, *words], stderr=subprocess.PIPE, timeout=120, preexec_fn=before, **streams)
+        return done.stdout or b"", done.stderr, done.returncode
+
+    def streams(self):
+        self.judge("closed standard input", self.run(["pause", "1"], before=lambda: os.close(0)) == INPUT)
+        with open(os.devnull, "wb") as sink:
+            self.judge("an input that can't be read", self.run(["pause", "1"], stdin=sink) == INPUT)
+        folder = os.open("/", os.O_RDONLY)
+        self.judge("a folder as input", self.run(["pause", "1"], stdin=folder) == INPUT)
+        os.close(folder)
+        with open(os.devnull, "rb") as nothing:
+            self.judge("an empty input", self.run(["pause", "1"], stdin=nothing) == (b"", b"g1pause: fault 3: short\n", 3))
+        for words in (["pause", "1"], ["show"], ["show", "--repack"], ["check"], ["live"], ["--help"]):
+            name = " ".join(words)
+            self.judge(f"closed standard output, {name}", self.run(words, ONE_OBJECT, before=lambda: os.close(1)) == OUTPUT)
+            with open("/dev/full", "wb") as full:
+                self.judge(f"full standard output, {name}", self.run(words, ONE_OBJECT, stdout=full) == OUTPUT)
+        self.judge("closed standard error", self.run(["pause", "9"], ONE_OBJECT, before=lambda: os.close(2)) == (b"", b"", 5))
+        self.judge("all closed", self.run(["pause", "1"], before=lambda: os.closerange(0, 3)) == (b"", b"", 6))
+
+    def broken_pipe(self, ignored):
+        """The reader of a pipe goes away after a few bytes. The program ignores SIGPIPE, whatever it was started with."""
+        def before():
+            signal.signal(signal.SIGPIPE, signal.SIG_IGN if ignored else signal.SIG_DFL)
+
+        child = subprocess.Popen([self.binary, "pause", *self.all], stdin=subprocess.PIPE, stdout=subprocess.PIPE,
+                                 stderr=subprocess.PIPE, preexec_fn=before, bufsize=0)
+        child.stdin.write(self.large)
+        child.stdin.close()
+        begun = child.stdout.read(10)
+        child.stdout.close()
+        errors = child.stderr.read()
+        status = child.wait(60)
+        told = (errors, status)
+        self.judge(f"a pipe that closes, SIGPIPE {'ignored' if ignored else 'not ignored'}: {told}",
+                   self.large_after.startswith(begun) and told == OUTPUT[1:])
+
+    def file_size(self):
+        path = pathlib.Path(tempfile.gettempdir()) / f"real_machine_{os.getpid()}"
+
+        def before():
+            signal.signal(signal.SIGXFSZ, signal.SIG_IGN)
+            resource.setrlimit(resource.RLIMIT_FSIZE, (50, 50))
+
+        with open(path, "wb") as file:
+            _, errors, status = self.run(["pause", "1"], ONE_OBJECT, before=before, stdout=file)
+        self.judge("a file-size limit of 50 bytes", (errors, status) == OUTPUT[1:] and path.read_bytes() == ONE_OBJECT_AFTER[:50])
+        path.unlink()
+
+    def memory(self):
+        """An address-space limit, from too little to enough: the answer or Memory, never a crash or a hang."""
+        low, high, told = 4 << 20, 96 << 20, []
+        for step in range(STEPS):
+            limit = low + (high - low) * step // (STEPS - 1)
+            answer = self.run(["pause", *self.all], self.large, before=lambda: resource.setrlimit(resource.RLIMIT_AS, (limit, limit)))
+            good = answer == (self.large_after, b"", 0)
+            self.judge(f"{limit} bytes of address space: {answer[1:]}", good or answer == MEMORY)
+            told.append(good)
+        self.judge(f"too little at first, enough at last: {told.count(True)} answers", not told[0] and told[-1])
+
+    def threads(self):
+        wanted = (self.large_after, b"", 0)
+        words = ["pause", "--workers", "64", "--chunk", "1", *self.all]
+        self.judge("64 workers", self.run(words, self.large) == wanted)
+        self.judge("64 workers, no thread to be had", self.run(words, self.large, before=no_threads) == wanted)
+        self.judge("64 workers, no thread, small", self.run(["pause", "--workers", "64", "1"], SHARED, before=no_threads) == (SHARED_AFTER, b"", 0))
+
+    def signals(self):
+        child = subprocess.Popen([self.binary, "pause", "1"], stdin=subprocess.PIPE, stdout=subprocess.PIPE, stderr=subprocess.PIPE, bufsize=0)
+        child.stdin.write(SHARED[:40])
+        time.sleep(0.1)
+        child.send_signal(signal.SIGSTOP)
+        time.sleep(0.1)
+        child.stdin.write(SHARED[40:])
+        child.stdin.close()
+        child.send_signal(signal.SIGCONT)
+        out, errors = child.stdout.read(), child.stderr.read()
+        self.judge("stopped and continued", (out, errors, child.wait(60)) == (SHARED_AFTER, b"", 0))
+
+
+    def interrupted(self, folder):
+        library = compiled(folder, "interrupts.so", INTERRUPTS, "-shared", "-fPIC", "-ldl")
+        os.environ["LD_PRELOAD"] = str(library)
+        for words, answer in ((["pause", "1"], SHARED_AFTER), (["show", "--repack"], SHARED), (["check"], b"covered\n")):
+            self.judge(f"interrupted calls, {' '.join(words)}", self.run(words, SHARED) == (answer, b"", 0))
+        del os.environ["LD_PRELOAD"]
+
+
+def no_threads():
+    """From here on `clone` and `clone3` fail, as where the right to start threads is gone. Root is not held by a limit on
+    processes, so a filter of system calls does it."""
+    libc = ctypes.CDLL(None, use_errno=True)
+    refuse = 0x00050000 | 11  # EAGAIN
+    code = [(0x20, 0, 0, 0), (0x15, 2, 0, 56), (0x15, 1, 0, 435), (0x06, 0, 0, 0x7FFF0000), (0x06, 0, 0, refuse)]
+    filter_ = b"".join(struct.pack("<HBBI", *line) for line in code)
+    held = ctypes.create_string_buffer(filter_, len(filter_))
+    program = struct.pack("<HxxxxxxQ", len(code), ctypes.addressof(held))
+    if libc.prctl(38, 1, 0, 0, 0) or libc.prctl(22, 2, program, 0, 0):
+        os._exit(90)
+
+
+def main():
+    machine = Machine(str(pathlib.Path(sys.argv[1]).resolve()))
+    machine.streams()
+    for ignored in (False, True):
+        machine.broken_pipe(ignored)
+    machine.file_size()
+    machine.memory()
+    machine.threads()
+    machine.signals()
+    with tempfile.TemporaryDirectory() as room:
+        machine.interrupted(pathlib.Path(room))
+    return machine.end()
+
+
+if __name__ == "__main__":
+    sys.exit(main())

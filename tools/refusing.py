@@ -1,0 +1,124 @@
+"""Programs run while memory is refused, for the scripts beside it.
+
+A small C library stands before the allocator. It refuses the requests from one number to another; with `marked` it
+counts only those between an allocation of BEGIN bytes and one of END bytes, which `crates/g1_refusals` makes before
+and after the call that is watched. It needs a C compiler.
+"""
+import os
+import subprocess
+import sys
+
+BEGIN, END = 7_000_003, 7_000_033
+ENDLESS = 1 << 40
+LIBRARY = r"""
+#include <errno.h>
+#include <fcntl.h>
+#include <stdatomic.h>
+#include <stdlib.h>
+#include <unistd.h>
+
+extern void *__libc_malloc(size_t);
+extern void *__libc_calloc(size_t, size_t);
+extern void *__libc_realloc(void *, size_t);
+extern void *__libc_memalign(size_t, size_t);
+
+static atomic_long seen;
+static atomic_int counts = 1;
+static long from = -1, to = -1;
+
+__attribute__((constructor)) static void begin(void) {
+    const char *first = getenv("REFUSE_FROM"), *last = getenv("REFUSE_TO");
+    if (first) from = atol(first);
+    if (last) to = atol(last);
+    atomic_store(&counts, !getenv("REFUSE_MARKED"));
+    atomic_store(&seen, 0);
+}
+
+/* A file tells that a request was refused: standard error stays the program's own. */
+static int refused(size_t size) {
+    if (size == BEGIN || size == END) {
+        atomic_store(&counts, size == BEGIN);
+        return 0;
+    }
+    if (!atomic_load(&counts)) return 0;
+    long n = 1 + atomic_fetch_add(&seen, 1);
+    if (from <= 0 || n < from || n > to) return 0;
+    const char *path = getenv("REFUSE_REPORT");
+    int file = path ? open(path, O_CREAT | O_WRONLY, 0600) : -1;
+    if (file >= 0) close(file);
+    errno = ENOMEM;
+    return 1;
+}
+
+void *malloc(size_t size) { return refused(size) ? 0 : __libc_malloc(size); }
+void *calloc(size_t count, size_t size) { return refused(count * size) ? 0 : __libc_calloc(count, size); }
+void *realloc(void *old, size_t size) { return refused(size) ? 0 : __libc_realloc(old, size); }
+void *aligned_alloc(size_t align, size_t size) { return refused(size) ? 0 : __libc_memalign(align, size); }
+void *memalign(size_t align, size_t size) { return refused(size) ? 0 : __libc_memalign(align, size); }
+
+int posix_memalign(void **place, size_t align, size_t size) {
+    if (refused(size)) return ENOMEM;
+    *place = __libc_memalign(align, size);
+    return *place ? 0 : ENOMEM;
+}
+"""
+
+
+def compiled(folder, name, source, *words):
+    """A program or library of these C lines."""
+    (folder / f"{name}.c").write_text(source)
+    made = folder / name
+    subprocess.run(["cc", "-O2", *words, "-o", made, folder / f"{name}.c"], check=True)
+    return made
+
+
+def run(command, data, environment=None):
+    done = subprocess.run(command, input=data, capture_output=True, timeout=120, env=environment)
+    return done.stdout, done.stderr, done.returncode
+
+
+class Refusing:
+    """Runs with requests refused, and whether one was."""
+
+    def __init__(self, folder, marked=False):
+        words = ["-shared", "-fPIC", f"-DBEGIN={BEGIN}", f"-DEND={END}"]
+        self.library, self.report, self.marked = compiled(folder, "refuse.so", LIBRARY, *words), folder / "refused", marked
+
+    def run(self, command, data, first, last):
+        self.report.unlink(missing_ok=True)
+        environment = dict(os.environ, LD_PRELOAD=str(self.library), REFUSE_REPORT=str(self.report),
+                           REFUSE_FROM=str(first), REFUSE_TO=str(last))
+        if self.marked:
+            environment["REFUSE_MARKED"] = "1"
+        return run(command, data, environment), self.report.exists()
+
+    def sweep(self, command, data):
+        """All requests from the Nth on, then the Nth alone, for N from 1 until a run meets no refusal."""
+        for last, what in ((ENDLESS, "all from"), (0, "only")):
+            n, met = 1, True
+            while met:
+                answer, met = self.run(command, data, n, last or n)
+                yield f"{what} request {n}", answer, met
+                n += 1
+
+
+class Judge:
+    """Counts what is as it has to be, and tells what is not. With the word --first the first such ends the script."""
+
+    def __init__(self):
+        self.passed = self.failed = 0
+        self.first = "--first" in sys.argv
+
+    def judge(self, name, good):
+        if good:
+            self.passed += 1
+        else:
+            self.failed += 1
+            print(f"failed: {name}")
+            if self.first:
+                sys.exit(1)
+        return good
+
+    def end(self):
+        print(f"{self.passed} passed, {self.failed} failed")
+        return 1 if self.failed or not self.passed else 0

@@ -1,0 +1,130 @@
+#!/usr/bin/env python3
+"""test_scripts.py BINARY [DRIVER]
+
+Tests the scripts beside it: each has to fail a program that is broken in one way. BINARY is the built g1pause, DRIVER
+the built g1_refusals, for the script that takes it. The broken programs run the real one, and change what it says; they are written in C, since they
+run while memory is refused, and take none. The last line is 'N passed, M failed'.
+"""
+import pathlib
+import subprocess
+import sys
+import tempfile
+
+from refusing import Judge, compiled
+
+TOOLS = pathlib.Path(__file__).resolve().parent
+# `real` runs the program with its outputs caught; `say` answers in its place.
+HEAD = r"""
+#include <string.h>
+#include <sys/wait.h>
+#include <unistd.h>
+
+static char out[1 << 22], err[1 << 16];
+static long out_size, err_size;
+static int status;
+
+static long all(int file, char *into, long most) {
+    long size = 0, n;
+    while (size < most && (n = read(file, into + size, most - size)) > 0) size += n;
+    return size;
+}
+
+static void real(char **words) {
+    int outs[2], errs[2], ended;
+    if (pipe(outs) || pipe(errs)) _exit(99);
+    int child = fork();
+    if (!child) {
+        dup2(outs[1], 1), dup2(errs[1], 2);
+        close(outs[0]), close(errs[0]);
+        execv(REAL, words);
+        _exit(98);
+    }
+    close(outs[1]), close(errs[1]);
+    out_size = all(outs[0], out, sizeof out), err_size = all(errs[0], err, sizeof err);
+    waitpid(child, &ended, 0);
+    status = WIFEXITED(ended) ? WEXITSTATUS(ended) : 97;
+}
+
+static void say(const char *text, long size, const char *error, int ended) {
+    if (write(1, text, size) != size || write(2, error, strlen(error)) < 0) _exit(96);
+    _exit(ended);
+}
+
+static int is(char **words, const char *command) { return words[1] && !strcmp(words[1], command); }
+
+static int memory(void) { return memmem(err, err_size, "fault 13", 8) || memmem(out, out_size, "fault 13", 8); }
+"""
+TAIL = r"""
+int main(int count, char **words) {
+    (void)count;
+    BODY
+    real(words);
+    if (write(1, out, out_size) != out_size || write(2, err, err_size) != err_size) _exit(96);
+    return status;
+}
+"""
+MEMORY = 'say("", 0, "g1pause: fault 13: memory\\n", 6);'
+ROOM = 'say("", 0, "g1pause: fault 11: room need 1 free 0\\n", 5);'
+ECHO = "{ long size = all(0, out, sizeof out); say(out, size, \"\", 0); }"
+TOLD = 'memmem(out, out_size, "watched", 7)'
+# What is broken, and which script has to see it.
+BROKEN = {
+    "always_memory": (MEMORY, ["refuse_memory.py", "second_pause.py", "malicious_images.py"]),
+    "always_room": (ROOM, ["refuse_memory.py", "second_pause.py"]),
+    "echoes_its_input": (ECHO, ["refuse_memory.py", "second_pause.py", "malicious_images.py"]),
+    "pause_always_memory": (f'if (is(words, "pause")) {MEMORY}', ["refuse_memory.py", "second_pause.py"]),
+    "pause_always_room": (f'if (is(words, "pause")) {ROOM}', ["refuse_memory.py", "second_pause.py"]),
+    "pause_echoes": (f'if (is(words, "pause")) {ECHO}', ["refuse_memory.py", "second_pause.py"]),
+    "room_for_memory": (f"real(words); if (memory()) {ROOM} else say(out, out_size, err, status);", ["refuse_memory.py"]),
+    "nothing_for_memory": ('real(words); if (memory()) say("", 0, "", 0); else say(out, out_size, err, status);', ["refuse_memory.py"]),
+    "an_image_for_memory": ('real(words); if (memory()) say("G1IMAGE1", 8, "", 0); else say(out, out_size, err, status);',
+                            ["refuse_memory.py"]),
+    "short_for_all": ('say("", 0, "g1pause: fault 3: short\\n", 3);', ["malicious_images.py"]),
+}
+# The same of the driver: another answer in the place of Memory, and an image that is not the one handed in.
+DRIVERS = {
+    "always_memory": 'say("watched\\nfault 13: memory\\n", 25, "", 0);',
+    "room_for_memory": 'real(words); if (memory()) say("watched\\nfault 11: room need 1 free 0\\n", 38, "", 0);',
+    "empty_set_for_memory": 'real(words); if (memory()) say("watched\\nset\\n", 12, "", 0);',
+    "another_image_after_memory": "real(words); if (memory()) out[out_size - 1] ^= 1;"
+                                  "if (write(1, out, out_size) != out_size) _exit(96); return status;",
+}
+
+
+# A script ends with the first answer that it fails.
+FIRST = {script: ["--first"] for script in ("refuse_memory.py", "second_pause.py", "refuse_calls.py")}
+
+
+def passes(script, *words):
+    """Whether a script is content."""
+    done = subprocess.run([sys.executable, TOOLS / script, *words, *FIRST.get(script, [])], stdout=subprocess.DEVNULL, stderr=subprocess.DEVNULL, timeout=1800)
+    return done.returncode == 0
+
+
+def broken(folder, name, real, body):
+    words = [f'-DREAL="{real}"', f"-DBODY={body}", "-D_GNU_SOURCE", "-Wno-unused-function"]
+    return str(compiled(folder, name, HEAD + TAIL, *words))
+
+
+def main():
+    binary, *drivers = (str(pathlib.Path(x).resolve()) for x in sys.argv[1:3])
+    judge = Judge()
+    with tempfile.TemporaryDirectory() as room:
+        folder = pathlib.Path(room)
+        few = {"malicious_images.py": ["300"]}
+        whole = broken(folder, "whole", binary, ";")
+        for script in ("second_pause.py", "malicious_images.py"):
+            judge.judge(f"{script} passes the program behind a pipe", passes(script, whole, *few.get(script, [])))
+        for name, (body, scripts) in BROKEN.items():
+            program = broken(folder, name, binary, body)
+            for script in scripts:
+                judge.judge(f"{script} fails {name}", not passes(script, program, *few.get(script, [])))
+        for driver in drivers:
+            for name, body in DRIVERS.items():
+                program = broken(folder, f"driver_{name}", driver, body)
+                judge.judge(f"refuse_calls.py fails {name}", not passes("refuse_calls.py", program))
+    return judge.end()
+
+
+if __name__ == "__main__":
+    sys.exit(main())
