@@ -3,7 +3,7 @@ ghost use Rattle.std.specs.Prelude.{◌≡◌, ◌≤◌, ◌<◌, ◌*◌, ℕ}
 
 use g1_image::Image;
 use g1_pause::Settings;
-use g1_words::{Fault, Kind, Region, objects_in};
+use g1_words::{Fault, Region, objects_in};
 use g1_work::{Open, Task, each_chunk};
 use std::alloc::{AllocError, Global};
 use std::thread::Threads;
@@ -86,7 +86,6 @@ fn lines(alloc: Global, image: &Image, from: u32, to: u32) -> Result<String, Fau
     let mut text = String::new(alloc);
     for region in from..to {
         let Region { kind, top, .. } = heap.region(region);
-        let kind = word(kind);
         let objects = objects_in(alloc, heap, region)?.len();
         let cards = image.sets()[region as usize].len();
         writeln!(
@@ -95,13 +94,4 @@ fn lines(alloc: Global, image: &Image, from: u32, to: u32) -> Result<String, Fau
         )?;
     }
     Ok(text)
-}
-
-fn word(kind: Kind) -> &'static str {
-    match kind {
-        Kind::Free => "free",
-        Kind::Ordinary => "ordinary",
-        Kind::HumongousFirst => "humongous",
-        Kind::Continuation => "continuation",
-    }
 }
