@@ -1,6 +1,6 @@
 //! That workers work at the same time: in each round, with more chunks than workers, with more than two
 //! workers; and that the gate is told before a run.
-ghost use Rattle.std.specs.Prelude.{◌≡◌, ◌<◌, ◌≤◌, ◌^◌, ℕ};
+ghost use Rattle.std.specs.Prelude.{◌≡◌};
 
 use crate::images::{SHARED, SHARED_AFTER, text};
 use g1_choose::Cost;
