@@ -116,7 +116,7 @@ def main():
             if image is None:
                 sys.exit(f"{error}: the image has no place for it")
             (pathlib.Path(folder) / "after.img").write_bytes(image.to_bytes())
-            done = subprocess.run([options.g1heap, "same", str(before.resolve()), "after.img"], cwd=folder,
+            done = subprocess.run([str(pathlib.Path(options.g1heap).resolve()), "same", str(before.resolve()), "after.img"], cwd=folder,
                                   capture_output=True, text=True)
             line = (done.stdout + done.stderr).strip()
             print(f"{error.replace('_', ' ')}: status {done.returncode}\n    {line}")
