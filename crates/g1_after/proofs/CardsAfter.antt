@@ -12,8 +12,8 @@ use Rattle.g1_after.proofs.ObjectsOf.{used_not_to_space}
 use Rattle.g1_after.proofs.RulesAfter.{valid_after}
 use Rattle.g1_after.proofs.ValidAfter.{other_shape, sound_before}
 use Rattle.g1_image.specs.Cards.{IsTracked, cards_where, exact, is_exact, is_refined, leads_into}
-use Rattle.g1_image.specs.Image.{Image, IsImage, IsLog, IsSetOf, IsUsedCard, MayHoldCards, region_of_card, set_of}
-use Rattle.g1_after.specs.Moved.{IsMoved, card_in, new_set}
+use Rattle.g1_image.specs.Image.{Image, IsImage, IsLog, IsRememberedSet, IsUsedCard, MayHoldCards, region_of_card, remembered_of}
+use Rattle.g1_after.specs.Moved.{IsMoved, card_in, remembered_after}
 use Rattle.g1_words.proofs.Bounds.{card_in_region, cards_in_region}
 use Rattle.g1_words.proofs.Indices.{range_bounds}
 use Rattle.g1_words.proofs.Members.{Contains-from_in, In, In-from_contains, and_true, any_member, filter_member, flat_map_cases, in_from_has, map_cases, or_true}
@@ -64,10 +64,10 @@ may_hold Continuation (inl e) = cc
 may_hold Continuation (inr e) = cc
 
 -- a card of a remembered set, and its owner
-card_of_set : (i : Image) → IsImage i → (r c : ℕ) → r < i.heap.geometry.n → Contains (set_of i r) c
+card_of_set : (i : Image) → IsImage i → (r c : ℕ) → r < i.heap.geometry.n → Contains (remembered_of i r) c
     → (kind i.heap (c * i.heap.geometry.k / i.heap.geometry.w) ≢ Free) × (c * i.heap.geometry.k / i.heap.geometry.w ≢ r) × ((kind i.heap r ≡ Ordinary) ⊎ (kind i.heap r ≡ HumongousFirst))
 card_of_set i image r c lt m =
-    let s = image.sets r lt in
+    let s = image.remembered r lt in
     let e = subst (λ x. IsUsedCard i.heap x × (region_of_card i.heap x ≢ r)) m.2 (s.elsewhere m.0 c m.1) in
     (e.0.used, e.1, holder (kind i.heap r) (s.owner (omega (arith, m.1))))
 
@@ -110,16 +110,16 @@ module _ (i : Image) (set l : List ℕ) (j : Image) (valid : IsBuilt i.heap) (or
   abbrev test : ℕ → ℕ → Bool
   test r c = (is_refined i r c && not (card_in i.heap set c)) || (card_in i.heap (to_space i.heap l) c && is_exact j.heap r c)
 
-  rem_is : (r : ℕ) → r < i.heap.geometry.n → set_of j r ≡ new_set i set l j.heap r
-  rem_is r lt = ap (λ xs. get_or xs r []) moved.sets ∙ get_or-map-range_with_len (new_set i set l j.heap) 0 i.heap.geometry.n r r [] lt (omega arith)
+  rem_is : (r : ℕ) → r < i.heap.geometry.n → remembered_of j r ≡ remembered_after i set l j.heap r
+  rem_is r lt = ap (λ xs. get_or xs r []) moved.remembered ∙ get_or-map-range_with_len (remembered_after i set l j.heap) 0 i.heap.geometry.n r r [] lt (omega arith)
 
-  rem_set : (r : ℕ) → r < i.heap.geometry.n → has set r ≡ true → set_of j r ≡ []
-  rem_set r lt t = rem_is r lt ∙ (λ q. cond (t q) [] (cond (has (to_space i.heap l) r) (exact j.heap r) (cards_where i.heap (test r))))
+  remembered_set : (r : ℕ) → r < i.heap.geometry.n → has set r ≡ true → remembered_of j r ≡ []
+  remembered_set r lt t = rem_is r lt ∙ (λ q. cond (t q) [] (cond (has (to_space i.heap l) r) (exact j.heap r) (cards_where i.heap (test r))))
 
-  rem_goal : (r : ℕ) → r < i.heap.geometry.n → has set r ≡ false → has (to_space i.heap l) r ≡ true → set_of j r ≡ exact j.heap r
+  rem_goal : (r : ℕ) → r < i.heap.geometry.n → has set r ≡ false → has (to_space i.heap l) r ≡ true → remembered_of j r ≡ exact j.heap r
   rem_goal r lt a t = rem_is r lt ∙ (λ q. cond (a q) [] (cond (t q) (exact j.heap r) (cards_where i.heap (test r))))
 
-  rem_other : (r : ℕ) → r < i.heap.geometry.n → has set r ≡ false → has (to_space i.heap l) r ≡ false → set_of j r ≡ cards_where i.heap (test r)
+  rem_other : (r : ℕ) → r < i.heap.geometry.n → has set r ≡ false → has (to_space i.heap l) r ≡ false → remembered_of j r ≡ cards_where i.heap (test r)
   rem_other r lt a b = rem_is r lt ∙ (λ q. cond (a q) [] (cond (b q) (exact j.heap r) (cards_where i.heap (test r))))
 
   same_kc : (c : ℕ) → c * j.heap.geometry.k / j.heap.geometry.w ≡ c * i.heap.geometry.k / i.heap.geometry.w
@@ -147,10 +147,10 @@ module _ (i : Image) (set l : List ℕ) (j : Image) (valid : IsBuilt i.heap) (or
   in_heap q used = elim (cases_lt q i.heap.geometry.n) [ inl lt ↦ lt | inr ge ↦ absurd (used (ap (λ (x : Region). x.kind) (get_or_past i.heap.regions q free_region (let k = valid.region_count in omega arith)))) ]
 
   by_refined : (r c : ℕ) → r < i.heap.geometry.n → has set r ≡ false → has (to_space i.heap l) r ≡ false → c < j.heap.geometry.n * j.heap.geometry.w / j.heap.geometry.k → is_refined i r c ≡ true → card_in i.heap set c ≡ false → Right r c
-  by_refined r c lt a b below t out = elim (or_true (has (set_of i r) c) (has i.log c && is_exact i.heap r c) t) [
+  by_refined r c lt a b below t out = elim (or_true (has (remembered_of i r) c) (has i.log c && is_exact i.heap r c) t) [
     | inl x ↦
-        let m : In (set_of i r) c = in_from_has (set_of i r) c x in
-        let u = card_of_set i image r c lt (Contains-from_in (set_of i r) c m) in
+        let m : In (remembered_of i r) c = in_from_has (remembered_of i r) c x in
+        let u = card_of_set i image r c lt (Contains-from_in (remembered_of i r) c m) in
         let shape = other_shape i set l j valid ordinary survivors room moved r lt a b in
         ((below, stays_used c (in_heap (c * i.heap.geometry.k / i.heap.geometry.w) u.0) u.0 out), (λ z. u.1 (sym (same_kc c) ∙ z)), (elim u.2 [ inl y ↦ inl (shape.0 ∙ y) | inr y ↦ inr (shape.0 ∙ y) ]))
     | inr x ↦
@@ -159,9 +159,9 @@ module _ (i : Image) (set l : List ℕ) (j : Image) (valid : IsBuilt i.heap) (or
         ((below, stays_used c (in_heap (c * i.heap.geometry.k / i.heap.geometry.w) e.0) e.0 out), (λ z. e.1 (sym (same_kc c) ∙ z)), (elim e.2 [ inl y ↦ inl (shape.0 ∙ y) | inr y ↦ inr (shape.0 ∙ y) ]))
   ]
 
-  right_in : (r c : ℕ) → r < i.heap.geometry.n → In (set_of j r) c → Right r c
+  right_in : (r c : ℕ) → r < i.heap.geometry.n → In (remembered_of j r) c → Right r c
   right_in r c lt m = elim (cases_Bool (has set r)) [
-    | inl t ↦ absurd (subst (λ xs. In xs c) (rem_set r lt t) m)
+    | inl t ↦ absurd (subst (λ xs. In xs c) (remembered_set r lt t) m)
     | inr a ↦ elim (cases_Bool (has (to_space i.heap l) r)) [
       | inl t ↦
           let f = filter_member (is_exact j.heap r) (range_with_len 0 (j.heap.geometry.n * j.heap.geometry.w / j.heap.geometry.k)) c (subst (λ xs. In xs c) (rem_goal r lt a t) m) in
@@ -179,9 +179,9 @@ module _ (i : Image) (set l : List ℕ) (j : Image) (valid : IsBuilt i.heap) (or
     ]
   ]
 
-  rising_after : (r : ℕ) → r < i.heap.geometry.n → IsStrictlyIncreasing (set_of j r)
+  rising_after : (r : ℕ) → r < i.heap.geometry.n → IsStrictlyIncreasing (remembered_of j r)
   rising_after r lt = elim (cases_Bool (has set r)) [
-    | inl t ↦ subst IsStrictlyIncreasing (sym (rem_set r lt t)) (λ k less. absurd (omega (arith, less)))
+    | inl t ↦ subst IsStrictlyIncreasing (sym (remembered_set r lt t)) (λ k less. absurd (omega (arith, less)))
     | inr a ↦ elim (cases_Bool (has (to_space i.heap l) r)) [
       | inl t ↦ subst IsStrictlyIncreasing (sym (rem_goal r lt a t)) (cards_rise j.heap (is_exact j.heap r))
       | inr b ↦ subst IsStrictlyIncreasing (sym (rem_other r lt a b)) (cards_rise i.heap (test r))
@@ -196,9 +196,9 @@ module _ (i : Image) (set l : List ℕ) (j : Image) (valid : IsBuilt i.heap) (or
       let most = b.limits.words_most in
       omega arith
 
-  few_after : (r : ℕ) → r < i.heap.geometry.n → length (set_of j r) < 2 ^ 32
+  few_after : (r : ℕ) → r < i.heap.geometry.n → length (remembered_of j r) < 2 ^ 32
   few_after r lt = elim (cases_Bool (has set r)) [
-    | inl t ↦ subst (λ xs. length xs < 2 ^ 32) (sym (rem_set r lt t)) (lit< tt)
+    | inl t ↦ subst (λ xs. length xs < 2 ^ 32) (sym (remembered_set r lt t)) (lit< tt)
     | inr a ↦ elim (cases_Bool (has (to_space i.heap l) r)) [
       | inl t ↦ subst (λ xs. length xs < 2 ^ 32) (sym (rem_goal r lt a t)) (few j.heap v (is_exact j.heap r))
       | inr b ↦ subst (λ xs. length xs < 2 ^ 32) (sym (rem_other r lt a b)) (few i.heap valid (test r))
@@ -208,23 +208,23 @@ module _ (i : Image) (set l : List ℕ) (j : Image) (valid : IsBuilt i.heap) (or
   below_n : (r : ℕ) → r < j.heap.geometry.n → r < i.heap.geometry.n
   below_n r lt = let n = (ap (λ (g : Geometry). g.n) moved.geometry) in omega (arith, n)
 
-  there : (r k d : ℕ) → k < length (set_of j r) → In (set_of j r) (get_or (set_of j r) k d)
-  there r k d lt = In-from_contains (set_of j r) (get_or (set_of j r) k d) (k, lt, get_or_default (set_of j r) k (get_or (set_of j r) k d) d lt)
+  there : (r k d : ℕ) → k < length (remembered_of j r) → In (remembered_of j r) (get_or (remembered_of j r) k d)
+  there r k d lt = In-from_contains (remembered_of j r) (get_or (remembered_of j r) k d) (k, lt, get_or_default (remembered_of j r) k (get_or (remembered_of j r) k d) d lt)
 
-  set_after : (r : ℕ) → r < j.heap.geometry.n → IsSetOf j.heap r (set_of j r)
+  set_after : (r : ℕ) → r < j.heap.geometry.n → IsRememberedSet j.heap r (remembered_of j r)
   set_after r lt = record {
     rising = rising_after r (below_n r lt);
-    elsewhere = λ k d less. let right = right_in r (get_or (set_of j r) k d) (below_n r lt) (there r k d less) in
-        (record { in_heap = card_starts j.heap.geometry.w j.heap.geometry.k j.heap.geometry.n (get_or (set_of j r) k d) (card_positive j.heap.geometry.w j.heap.geometry.k j.heap.geometry.n v.limits) right.0.0; used = right.0.1 }, right.1);
+    elsewhere = λ k d less. let right = right_in r (get_or (remembered_of j r) k d) (below_n r lt) (there r k d less) in
+        (record { in_heap = card_starts j.heap.geometry.w j.heap.geometry.k j.heap.geometry.n (get_or (remembered_of j r) k d) (card_positive j.heap.geometry.w j.heap.geometry.k j.heap.geometry.n v.limits) right.0.0; used = right.0.1 }, right.1);
     count = few_after r (below_n r lt);
-    owner = λ some. let right = right_in r (get_or (set_of j r) 0 0) (below_n r lt) (there r 0 0 some) in may_hold (kind j.heap r) right.2;
+    owner = λ some. let right = right_in r (get_or (remembered_of j r) 0 0) (below_n r lt) (there r 0 0 some) in may_hold (kind j.heap r) right.2;
   }
 
   pub image_after_is : IsImage j
   image_after_is = record {
     heap = valid_of j.heap v;
-    one_each = ap length moved.sets ∙ length-map-range_with_len (new_set i set l j.heap) 0 i.heap.geometry.n ∙ sym (ap (λ (g : Geometry). g.n) moved.geometry);
-    sets = set_after;
+    one_each = ap length moved.remembered ∙ length-map-range_with_len (remembered_after i set l j.heap) 0 i.heap.geometry.n ∙ sym (ap (λ (g : Geometry). g.n) moved.geometry);
+    remembered = set_after;
     log = subst (IsLog j.heap) (sym moved.log) (record { used = λ k d less. absurd (omega (arith, less)); distinct = pairs_from_ordered (λ c d. c ≢ d) [] tt; count = lit< tt });
   }
 

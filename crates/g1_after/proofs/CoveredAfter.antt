@@ -7,8 +7,8 @@ use Rattle.g1_after.proofs.RulesAfter.{RefAfter, before_kept, ref_after}
 use Rattle.g1_after.proofs.ToSpace.{goal_in_to_space, goal_is_free, goal_not_in_set}
 use Rattle.g1_after.proofs.ValidAfter.{kept_refs, moved_below, outside_word, sound_before, survivor_word}
 use Rattle.g1_image.specs.Cards.{Covered, cards_where, exact, is_covered, is_exact, is_refined, leads_into}
-use Rattle.g1_image.specs.Image.{Image, set_of}
-use Rattle.g1_after.specs.Moved.{IsMoved, card_in, new_set}
+use Rattle.g1_image.specs.Image.{Image, remembered_of}
+use Rattle.g1_after.specs.Moved.{IsMoved, card_in, remembered_after}
 use Rattle.g1_words.proofs.Bounds.{card_below, card_in_region, cards_in_region}
 use Rattle.g1_words.proofs.Computed.{In-range}
 use Rattle.g1_words.proofs.Members.{In, In-filter, In-flat_map, In-map, has_from_in, or_true}
@@ -145,17 +145,17 @@ module _ (i : Image) (set l : List ℕ) (j : Image) (valid : IsBuilt i.heap) (or
             let k : In (refs_at i.heap e.slot) e = In-map (λ a. record { slot = e.slot; target = a }) (named (word i.heap e.slot)) e.target (subst (λ x. In (named x) e.target) (sym w) (inl refl)) in
             let there : In (refs i.heap) e = In-flat_map (λ o. flat_map (refs_at i.heap) (slots o)) (objects i.heap) r.owner e o.1 (In-flat_map (refs_at i.heap) (slots r.owner) e.slot e (In-range (r.owner.at + 1) r.owner.refs e.slot (omega arith) (omega arith)) k) in
             let c : is_covered i e ≡ true = covered_each i covered e there in
-            elim (or_true (eqb from to || has (set_of i to) card) (has i.log card) c) [
-              | inl x ↦ elim (or_true (eqb from to) (has (set_of i to) card) x) [
+            elim (or_true (eqb from to || has (remembered_of i to) card) (has i.log card) c) [
+              | inl x ↦ elim (or_true (eqb from to) (has (remembered_of i to) card) x) [
                 | inl y ↦ absurd (false≢true (sym differ ∙ y))
-                | inr y ↦ or_left (has (set_of i to) card) (has i.log card && is_exact i.heap to card) y
+                | inr y ↦ or_left (has (remembered_of i to) card) (has i.log card && is_exact i.heap to card) y
               ]
-              | inr x ↦ or_right (has (set_of i to) card) (has i.log card && is_exact i.heap to card) (and_both (has i.log card) (is_exact i.heap to card) x (exact_by i.heap to card e there refl differ refl))
+              | inr x ↦ or_right (has (remembered_of i to) card) (has i.log card && is_exact i.heap to card) (and_both (has i.log card) (is_exact i.heap to card) x (exact_by i.heap to card e there refl differ refl))
             ]
       ]
     ]
 
-    in_new_rem : has (new_set i set l j.heap to) card ≡ true
+    in_new_rem : has (remembered_after i set l j.heap to) card ≡ true
     in_new_rem = elim (cases_Bool (has (to_space i.heap l) to)) [
       | inl t ↦ (λ q. has (cond (to_region.1 q) [] (cond (t q) (exact j.heap to) (cards_where i.heap (λ c. (is_refined i to c && not (card_in i.heap set c)) || (card_in i.heap (to_space i.heap l) c && is_exact j.heap to c))))) card) ∙ has_exact
       | inr f ↦
@@ -169,10 +169,10 @@ module _ (i : Image) (set l : List ℕ) (j : Image) (valid : IsBuilt i.heap) (or
           ])
     ]
 
-    rem_after : set_of j to ≡ new_set i set l j.heap to
-    rem_after = ap (λ xs. get_or xs to []) moved.sets ∙ get_or-map-range_with_len (new_set i set l j.heap) 0 i.heap.geometry.n to to [] to_region.0 (omega arith)
+    rem_after : remembered_of j to ≡ remembered_after i set l j.heap to
+    rem_after = ap (λ xs. get_or xs to []) moved.remembered ∙ get_or-map-range_with_len (remembered_after i set l j.heap) 0 i.heap.geometry.n to to [] to_region.0 (omega arith)
 
-    in_rem_after : has (set_of j to) card ≡ true
+    in_rem_after : has (remembered_of j to) card ≡ true
     in_rem_after = ap (λ xs. has xs card) rem_after ∙ in_new_rem
 
   -- each reference of the image after is covered
@@ -181,11 +181,11 @@ module _ (i : Image) (set l : List ℕ) (j : Image) (valid : IsBuilt i.heap) (or
       let s : e.slot / j.heap.geometry.w ≡ e.slot / i.heap.geometry.w = ap (λ y. e.slot / y) (ap (λ (g : Geometry). g.w) moved.geometry) in
       let t : e.target / j.heap.geometry.w ≡ e.target / i.heap.geometry.w = ap (λ y. e.target / y) (ap (λ (g : Geometry). g.w) moved.geometry) in
       let k : e.slot / j.heap.geometry.k ≡ e.slot / i.heap.geometry.k = ap (λ y. e.slot / y) (ap (λ (g : Geometry). g.k) moved.geometry) in
-      (λ q. (eqb (s q) (t q) || has (set_of j (t q)) (k q)) || has j.log (k q))
-      ∙ or_left (eqb (e.slot / i.heap.geometry.w) (e.target / i.heap.geometry.w) || has (set_of j (e.target / i.heap.geometry.w)) (e.slot / i.heap.geometry.k)) (has j.log (e.slot / i.heap.geometry.k))
+      (λ q. (eqb (s q) (t q) || has (remembered_of j (t q)) (k q)) || has j.log (k q))
+      ∙ or_left (eqb (e.slot / i.heap.geometry.w) (e.target / i.heap.geometry.w) || has (remembered_of j (e.target / i.heap.geometry.w)) (e.slot / i.heap.geometry.k)) (has j.log (e.slot / i.heap.geometry.k))
       (elim (cases_Bool (eqb (e.slot / i.heap.geometry.w) (e.target / i.heap.geometry.w))) [
-        | inl a ↦ or_left (eqb (e.slot / i.heap.geometry.w) (e.target / i.heap.geometry.w)) (has (set_of j (e.target / i.heap.geometry.w)) (e.slot / i.heap.geometry.k)) a
-        | inr a ↦ or_right (eqb (e.slot / i.heap.geometry.w) (e.target / i.heap.geometry.w)) (has (set_of j (e.target / i.heap.geometry.w)) (e.slot / i.heap.geometry.k)) (in_rem_after c e here a)
+        | inl a ↦ or_left (eqb (e.slot / i.heap.geometry.w) (e.target / i.heap.geometry.w)) (has (remembered_of j (e.target / i.heap.geometry.w)) (e.slot / i.heap.geometry.k)) a
+        | inr a ↦ or_right (eqb (e.slot / i.heap.geometry.w) (e.target / i.heap.geometry.w)) (has (remembered_of j (e.target / i.heap.geometry.w)) (e.slot / i.heap.geometry.k)) (in_rem_after c e here a)
       ])
 
   pub covered_after : Covered i → Covered j

@@ -13,7 +13,7 @@ pub fn same_graph()
 {}
 
 /// What holds of the image after a pause.
-pub fn after()
+pub fn image_after()
     ensures to_space { ToSpaceObjects }
     ensures objects { ObjectsAfter }
     ensures valid { ValidAfter }

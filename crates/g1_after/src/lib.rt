@@ -10,6 +10,4 @@
 //! No definition here knows a byte, a worker or a step of the pause.
 #![tactic(auto)]
 
-mod laws;
-
-pub use laws::{after, one_image, same_graph};
+pub mod laws;

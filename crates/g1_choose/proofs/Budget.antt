@@ -16,16 +16,16 @@ sum_front f xs (suc i) zero le = absurd (omega arith)
 sum_front f [] (suc i) (suc j) le = omega arith
 sum_front f (x ∷ xs) (suc i) (suc j) le = omega (arith, sum_front f xs i j (omega arith), sum_by-cons f x (take i xs), sum_by-cons f x (take j xs))
 
-module _ (c : Cost) (h : Heap) (sets : List (List ℕ)) (lives : List ℕ) where
+module _ (c : Cost) (h : Heap) (remembered : List (List ℕ)) (lives : List ℕ) where
   -- a longer beginning costs no less
-  pub pause_cost-front : (d : ℕ) (order : List ℕ) (i j : ℕ) → i ≤ j → pause_cost c h sets lives d (take i order) ≤ pause_cost c h sets lives d (take j order)
+  pub pause_cost-front : (d : ℕ) (order : List ℕ) (i j : ℕ) → i ≤ j → pause_cost c h remembered lives d (take i order) ≤ pause_cost c h remembered lives d (take j order)
   pause_cost-front d order i j le =
-      let cost = cost_of c h sets lives in
+      let cost = cost_of c h remembered lives in
       omega (arith, sum_front cost order i j le, sum-map cost (take i order), sum-map cost (take j order))
 
   -- a beginning that the budget pays, and that can't take one more, is the longest
-  pub longest_from_walk : (d budget : ℕ) (order : List ℕ) (m : ℕ) → m ≤ length order → (0 < m → pause_cost c h sets lives d (take m order) ≤ budget)
-      → (m < length order → budget < pause_cost c h sets lives d (take (m + 1) order)) → IsLongest c h sets lives d budget order m
+  pub longest_from_walk : (d budget : ℕ) (order : List ℕ) (m : ℕ) → m ≤ length order → (0 < m → pause_cost c h remembered lives d (take m order) ≤ budget)
+      → (m < length order → budget < pause_cost c h remembered lives d (take (m + 1) order)) → IsLongest c h remembered lives d budget order m
   longest_from_walk d budget order m le pays stop =
       record {
         within = le;
@@ -37,21 +37,21 @@ module _ (c : Cost) (h : Heap) (sets : List (List ℕ)) (lives : List ℕ) where
       }
 
   -- the costs of a beginning, as the candidates tell them
-  told_costs : (m : ℕ) (xs : List Candidate) → All (TellsRegion c h sets lives) xs → map (cost_of c h sets lives) (take m (map (λ x. x.region) xs)) ≡ map (λ x. x.cost) (take m xs)
+  told_costs : (m : ℕ) (xs : List Candidate) → All (TellsRegion c h remembered lives) xs → map (cost_of c h remembered lives) (take m (map (λ x. x.region) xs)) ≡ map (λ x. x.cost) (take m xs)
   told_costs zero xs t = refl
   told_costs (suc m) [] t = refl
   told_costs (suc m) (x ∷ xs) t =
-      let first : x.cost ≡ cost_of c h sets lives x.region = (All-head (TellsRegion c h sets lives) x xs t).cost in
-      let rest = told_costs m xs (All-tail (TellsRegion c h sets lives) x xs t) in
+      let first : x.cost ≡ cost_of c h remembered lives x.region = (All-head (TellsRegion c h remembered lives) x xs t).cost in
+      let rest = told_costs m xs (All-tail (TellsRegion c h remembered lives) x xs t) in
       λ i. sym first i ∷ rest i
 
-  pub pause_cost-told : (d m : ℕ) (xs : List Candidate) → All (TellsRegion c h sets lives) xs
-      → pause_cost c h sets lives d (take m (map (λ x. x.region) xs)) ≡ c.fixed + c.dirty * d + sum_by (λ x. x.cost) (take m xs)
+  pub pause_cost-told : (d m : ℕ) (xs : List Candidate) → All (TellsRegion c h remembered lives) xs
+      → pause_cost c h remembered lives d (take m (map (λ x. x.region) xs)) ≡ c.fixed + c.dirty * d + sum_by (λ x. x.cost) (take m xs)
   pause_cost-told d m xs t = ap (λ s. c.fixed + c.dirty * d + s) (ap sum (told_costs m xs t) ∙ sum-map (λ (x : Candidate). x.cost) (take m xs))
 
   -- the longest beginning, as the candidates tell it
-  pub longest_from_paid : (d budget fixed m : ℕ) (xs : List Candidate) → All (TellsRegion c h sets lives) xs → fixed ≡ c.fixed + c.dirty * d → IsPaid xs fixed budget m
-      → IsLongest c h sets lives d budget (map (λ x. x.region) xs) m
+  pub longest_from_paid : (d budget fixed m : ℕ) (xs : List Candidate) → All (TellsRegion c h remembered lives) xs → fixed ≡ c.fixed + c.dirty * d → IsPaid xs fixed budget m
+      → IsLongest c h remembered lives d budget (map (λ x. x.region) xs) m
   longest_from_paid d budget fixed m xs t e p =
       let count = length-map xs (λ (x : Candidate). x.region) in
       longest_from_walk d budget (map (λ x. x.region) xs) m (omega (arith, p.within, count))

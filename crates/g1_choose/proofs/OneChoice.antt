@@ -22,18 +22,18 @@ kept_before R strict (suc m) (x ∷ xs) r q o (inl e) k b = inl e
 kept_before R strict (suc m) (x ∷ xs) r q o (inr i) (inl f) b = absurd (strict r x (subst (R r) (sym f) b) (o.0 r i))
 kept_before R strict (suc m) (x ∷ xs) r q o (inr i) (inr k) b = inr (kept_before R strict m xs r q o.1 i k b)
 
-module _ (c : Cost) (h : Heap) (sets : List (List ℕ)) (lives : List ℕ) where
+module _ (c : Cost) (h : Heap) (remembered : List (List ℕ)) (lives : List ℕ) where
   abbrev First : ℕ → ℕ → Type 0
-  First r q = IsTrue (comes_before c h sets lives r q)
+  First r q = IsTrue (comes_before c h remembered lives r q)
 
   abbrev cost : ℕ → ℕ
-  cost = cost_of c h sets lives
+  cost = cost_of c h remembered lives
 
   abbrev waste : ℕ → ℕ
-  waste = garbage c h sets lives
+  waste = garbage c h remembered lives
 
   abbrev Candidates : ℕ → Type 0
-  Candidates r = Contains (candidates c h sets lives) r
+  Candidates r = Contains (candidates c h remembered lives) r
 
   pub comes_before-any_two : (r q : ℕ) → r ≢ q → First r q ⊎ First q r
   comes_before-any_two r q ne = elim (one_of_two (cost r) (waste r) r (cost q) (waste q) q ne) [
@@ -43,7 +43,7 @@ module _ (c : Cost) (h : Heap) (sets : List (List ℕ)) (lives : List ℕ) where
 
   some_waste : (r : ℕ) → Candidates r → 0 < waste r
   some_waste r k =
-      let passes = (filter_member (is_candidate c h sets lives) (regions h) r (In-from_contains (candidates c h sets lives) r k)).1 in
+      let passes = (filter_member (is_candidate c h remembered lives) (regions h) r (In-from_contains (candidates c h remembered lives) r k)).1 in
       ltb-true 0 (waste r) (and_true (is_ordinary (kind h r)) (ltb 0 (waste r)) passes).1
 
   pub comes_before-chain : (r q s : ℕ) → Candidates r → Candidates q → Candidates s → First r q → First q s → First r s
@@ -54,10 +54,10 @@ module _ (c : Cost) (h : Heap) (sets : List (List ℕ)) (lives : List ℕ) where
       (before (cost q) (waste q) q (cost s) (waste s) s b))
 
   -- the candidates put in order
-  pub order_exists : (order : List ℕ) × IsOrder c h sets lives order
+  pub order_exists : (order : List ℕ) × IsOrder c h remembered lives order
   order_exists =
-      let test = comes_before c h sets lives in
-      let all = candidates c h sets lives in
+      let test = comes_before c h remembered lives in
+      let all = candidates c h remembered lives in
       let moved = sorted_moves test all in (
         sorted test all,
         record {
@@ -65,13 +65,13 @@ module _ (c : Cost) (h : Heap) (sets : List (List ℕ)) (lives : List ℕ) where
           sorted = pairs_from_ordered First (sorted test all)
               (sorted_ordered test Candidates (λ r q x y ne. comes_before-any_two r q ne) comes_before-chain all
               (λ r i. Contains-from_in all r i)
-              (Ordered-from_pairs (λ r q. r ≢ q) all (apart_by_number (is_candidate c h sets lives) h.geometry.n)));
+              (Ordered-from_pairs (λ r q. r ≢ q) all (apart_by_number (is_candidate c h remembered lives) h.geometry.n)));
         },
       )
 
-  pub one_order : (xs ys : List ℕ) → IsOrder c h sets lives xs → IsOrder c h sets lives ys → xs ≡ ys
+  pub one_order : (xs ys : List ℕ) → IsOrder c h remembered lives xs → IsOrder c h remembered lives ys → xs ≡ ys
   one_order xs ys a b =
-      same_order First (comes_before-one_way c h sets lives) xs ys
+      same_order First (comes_before-one_way c h remembered lives) xs ys
       (Ordered-from_pairs First xs a.sorted)
       (Ordered-from_pairs First ys b.sorted)
       (λ z k. In-from_contains ys z ((b.all z).1 ((a.all z).0 (Contains-from_in xs z k))))
@@ -79,59 +79,59 @@ module _ (c : Cost) (h : Heap) (sets : List (List ℕ)) (lives : List ℕ) where
 
   -- of the beginnings up to a length, the longest that the budget pays
   longest_up_to : (d budget : ℕ) (order : List ℕ) (n : ℕ) → n ≤ length order
-      → (m : ℕ) × (m ≤ n) × (0 < m → pause_cost c h sets lives d (take m order) ≤ budget) × ((j : ℕ) → j ≤ n → pause_cost c h sets lives d (take j order) ≤ budget → j ≤ m)
+      → (m : ℕ) × (m ≤ n) × (0 < m → pause_cost c h remembered lives d (take m order) ≤ budget) × ((j : ℕ) → j ≤ n → pause_cost c h remembered lives d (take j order) ≤ budget → j ≤ m)
   longest_up_to d budget order zero le = (0, omega arith, (λ some. absurd (omega arith)), (λ j within paid. within))
   longest_up_to d budget order (suc n) le =
       let r = longest_up_to d budget order n (omega arith) in
-      elim (cases_lt budget (pause_cost c h sets lives d (take (suc n) order))) [
+      elim (cases_lt budget (pause_cost c h remembered lives d (take (suc n) order))) [
         | inl more ↦ (
           r.0,
           omega (arith, r.1),
           r.2,
           (λ j within paid. elim (cases_order j (suc n)) [
-            | inl e ↦ let same = ap (λ k. pause_cost c h sets lives d (take k order)) e in absurd (omega arith)
+            | inl e ↦ let same = ap (λ k. pause_cost c h remembered lives d (take k order)) e in absurd (omega arith)
             | inr o ↦ elim o [ inl lt ↦ r.3 j (omega arith) paid | inr gt ↦ absurd (omega arith) ]
           ]),
         )
         | inr pays ↦ (suc n, omega arith, (λ some. pays), (λ j within paid. within))
       ]
 
-  pub set_exists : (d budget : ℕ) → (set : List ℕ) × IsChosen c h sets lives d budget set
+  pub set_exists : (d budget : ℕ) → (set : List ℕ) × IsChosen c h remembered lives d budget set
   set_exists d budget =
       let o = order_exists in
       let l = longest_up_to d budget o.0 (length o.0) (omega arith) in
       (filter (has (take l.0 o.0)) (regions h), record { order = o.0; is_order = o.1; taken = l.0; longest = record { within = l.1; paid = l.2; longest = l.3 }; rising = refl })
 
-  one_longest : (d budget : ℕ) (order : List ℕ) (m k : ℕ) → IsLongest c h sets lives d budget order m → IsLongest c h sets lives d budget order k → m ≤ k
+  one_longest : (d budget : ℕ) (order : List ℕ) (m k : ℕ) → IsLongest c h remembered lives d budget order m → IsLongest c h remembered lives d budget order k → m ≤ k
   one_longest d budget order zero k a b = omega arith
   one_longest d budget order (suc m) k a b = b.longest (suc m) a.within (a.paid (omega arith))
 
-  pub one_set : (d budget : ℕ) (xs ys : List ℕ) → IsChosen c h sets lives d budget xs → IsChosen c h sets lives d budget ys → xs ≡ ys
+  pub one_set : (d budget : ℕ) (xs ys : List ℕ) → IsChosen c h remembered lives d budget xs → IsChosen c h remembered lives d budget ys → xs ≡ ys
   one_set d budget xs ys a b =
       let e : b.order ≡ a.order = one_order b.order a.order b.is_order a.is_order in
-      let other : IsLongest c h sets lives d budget a.order b.taken = subst (λ o. IsLongest c h sets lives d budget o b.taken) e b.longest in
+      let other : IsLongest c h remembered lives d budget a.order b.taken = subst (λ o. IsLongest c h remembered lives d budget o b.taken) e b.longest in
       let n : b.taken ≡ a.taken = le_antisymm (one_longest d budget a.order b.taken a.taken other a.longest) (one_longest d budget a.order a.taken b.taken a.longest other) in
       a.rising ∙ sym (b.rising ∙ (λ t. filter (has (take (n t) (e t))) (regions h)))
 
   -- the regions of a set are those of the beginning
-  set_member : (d budget : ℕ) (set : List ℕ) (r : ℕ) (a : IsChosen c h sets lives d budget set) → Contains set r → In (take a.taken a.order) r
+  set_member : (d budget : ℕ) (set : List ℕ) (r : ℕ) (a : IsChosen c h remembered lives d budget set) → Contains set r → In (take a.taken a.order) r
   set_member d budget set r a k =
       let i : In (filter (has (take a.taken a.order)) (regions h)) r = subst (λ l. In l r) a.rising (In-from_contains set r k) in
       in_from_has (take a.taken a.order) r (filter_member (has (take a.taken a.order)) (regions h) r i).1
 
-  pub only_candidates : (d budget : ℕ) (set : List ℕ) (r : ℕ) → IsChosen c h sets lives d budget set → Contains set r → Candidates r
+  pub only_candidates : (d budget : ℕ) (set : List ℕ) (r : ℕ) → IsChosen c h remembered lives d budget set → Contains set r → Candidates r
   only_candidates d budget set r a k = (a.is_order.all r).0 (Contains-from_in a.order r (In-take_all a.taken a.order r (set_member d budget set r a k)))
 
-  pub none_skipped : (d budget : ℕ) (set : List ℕ) (r q : ℕ) → IsChosen c h sets lives d budget set → Candidates r → First r q → Contains set q → Contains set r
+  pub none_skipped : (d budget : ℕ) (set : List ℕ) (r q : ℕ) → IsChosen c h remembered lives d budget set → Candidates r → First r q → Contains set q → Contains set r
   none_skipped d budget set r q a k b t =
       let there : In a.order r = In-from_contains a.order r ((a.is_order.all r).1 k) in
       let first : In (take a.taken a.order) r =
-      kept_before First (comes_before-one_way c h sets lives) a.taken a.order r q (Ordered-from_pairs First a.order a.is_order.sorted) there (set_member d budget set q a t) b in
-      let i = In-filter (has (take a.taken a.order)) (regions h) r (order_within c h sets lives a.order a.taken r a.is_order first) (has_from_in (take a.taken a.order) r first) in
+      kept_before First (comes_before-one_way c h remembered lives) a.taken a.order r q (Ordered-from_pairs First a.order a.is_order.sorted) there (set_member d budget set q a t) b in
+      let i = In-filter (has (take a.taken a.order)) (regions h) r (order_within c h remembered lives a.order a.taken r a.is_order first) (has_from_in (take a.taken a.order) r first) in
       Contains-from_in set r (subst (λ l. In l r) (sym a.rising) i)
 
   -- the set costs what the beginning costs
-  same_cost : (d budget : ℕ) (set : List ℕ) (a : IsChosen c h sets lives d budget set) → pause_cost c h sets lives d set ≡ pause_cost c h sets lives d (take a.taken a.order)
+  same_cost : (d budget : ℕ) (set : List ℕ) (a : IsChosen c h remembered lives d budget set) → pause_cost c h remembered lives d set ≡ pause_cost c h remembered lives d (take a.taken a.order)
   same_cost d budget set a =
       let front = take a.taken a.order in
       let up = sorted ltb front in
@@ -139,8 +139,8 @@ module _ (c : Cost) (h : Heap) (sets : List (List ℕ)) (lives : List ℕ) where
       let Any : ℕ → Type 0 = λ r. Unit {0} in
       let rises : Ordered (λ r q. IsTrue (ltb r q)) up =
       sorted_ordered ltb Any (λ r q x y ne. either r q ne) (λ r q s x y z e f. lt-ltb r s (omega (arith, ltb-true r q e, ltb-true q s f)))
-      front (λ r i. tt) (Ordered-from_pairs (λ r q. r ≢ q) front (order_apart c h sets lives a.order a.taken a.is_order)) in
-      let is : up ≡ set = rising_is h front up moved (weaker up rises) (λ r i. order_within c h sets lives a.order a.taken r a.is_order i) ∙ sym a.rising in
+      front (λ r i. tt) (Ordered-from_pairs (λ r q. r ≢ q) front (order_apart c h remembered lives a.order a.taken a.is_order)) in
+      let is : up ≡ set = rising_is h front up moved (weaker up rises) (λ r i. order_within c h remembered lives a.order a.taken r a.is_order i) ∙ sym a.rising in
       let sums = sum_by-IsPermutation cost front up moved in
       omega (arith, sums, ap (λ s. sum (map cost s)) is, sum-map cost front, sum-map cost up)
     where
@@ -154,7 +154,7 @@ module _ (c : Cost) (h : Heap) (sets : List (List ℕ)) (lives : List ℕ) where
       weaker [] o = tt
       weaker (x ∷ xs) o = ((λ y i. ltb-true x y (o.0 y i)), weaker xs o.1)
 
-  pub within_budget : (d budget : ℕ) (set : List ℕ) → IsChosen c h sets lives d budget set → 0 < length set → pause_cost c h sets lives d set ≤ budget
+  pub within_budget : (d budget : ℕ) (set : List ℕ) → IsChosen c h remembered lives d budget set → 0 < length set → pause_cost c h remembered lives d set ≤ budget
   within_budget d budget set a some = omega (arith, same_cost d budget set a, a.longest.paid (taken_some a.taken a.order set a.rising some))
     where
       some_taken : (n : ℕ) (order : List ℕ) (x : ℕ) → In (take n order) x → 0 < n

@@ -50,23 +50,23 @@ Ordered-take R zero xs o = tt
 Ordered-take R (suc m) [] o = tt
 Ordered-take R (suc m) (x ∷ xs) o = ((λ y i. o.0 y (In-take_all m xs y i)), Ordered-take R m xs o.1)
 
-module _ (c : Cost) (h : Heap) (sets : List (List ℕ)) (lives : List ℕ) where
+module _ (c : Cost) (h : Heap) (remembered : List (List ℕ)) (lives : List ℕ) where
   -- of two regions one at most comes before the other
-  pub comes_before-one_way : (r q : ℕ) → IsTrue (comes_before c h sets lives r q) → IsTrue (comes_before c h sets lives q r) → ⊥
+  pub comes_before-one_way : (r q : ℕ) → IsTrue (comes_before c h remembered lives r q) → IsTrue (comes_before c h remembered lives q r) → ⊥
   comes_before-one_way r q a b =
-      let cost = cost_of c h sets lives in
-      let waste = garbage c h sets lives in
+      let cost = cost_of c h remembered lives in
+      let waste = garbage c h remembered lives in
       one_way (cost r) (waste r) r (cost q) (waste q) q (before (cost r) (waste r) r (cost q) (waste q) q a) (before (cost q) (waste q) q (cost r) (waste r) r b)
 
   -- the regions of an order are the heap's, each once
-  pub order_apart : (order : List ℕ) (m : ℕ) → IsOrder c h sets lives order → AllPairs (λ r q. r ≢ q) (take m order)
+  pub order_apart : (order : List ℕ) (m : ℕ) → IsOrder c h remembered lives order → AllPairs (λ r q. r ≢ q) (take m order)
   order_apart order m o i j d lt len e =
-      let R : ℕ → ℕ → Type 0 = λ r q. IsTrue (comes_before c h sets lives r q) in
+      let R : ℕ → ℕ → Type 0 = λ r q. IsTrue (comes_before c h remembered lives r q) in
       let front = pairs_from_ordered R (take m order) (Ordered-take R m order (Ordered-from_pairs R order o.sorted)) in
       let x : ℕ = get_or (take m order) i d in
       let self : R x x = subst (R x) (sym e) (front i j d lt len) in
       comes_before-one_way x x self self
 
-  pub order_within : (order : List ℕ) (m r : ℕ) → IsOrder c h sets lives order → In (take m order) r → In (regions h) r
+  pub order_within : (order : List ℕ) (m r : ℕ) → IsOrder c h remembered lives order → In (take m order) r → In (regions h) r
   order_within order m r o i =
-      (filter_member (is_candidate c h sets lives) (regions h) r (In-from_contains (candidates c h sets lives) r ((o.all r).0 (Contains-from_in order r (In-take_all m order r i))))).0
+      (filter_member (is_candidate c h remembered lives) (regions h) r (In-from_contains (candidates c h remembered lives) r ((o.all r).0 (Contains-from_in order r (In-take_all m order r i))))).0

@@ -71,28 +71,28 @@ apart_regions ys apart i j d lt len e =
     apart i j d.region lt (omega (arith, length-map ys region))
     (get_or-map region ys i d d.region (omega arith) ∙ e ∙ sym (get_or-map region ys j d d.region len))
 
-module _ (c : Cost) (h : Heap) (sets : List (List ℕ)) (lives : List ℕ) where
-  by_region : (xs : List Candidate) → All (TellsRegion c h sets lives) xs → Ordered (λ x y. IsTrue (goes_first x y)) xs → Ordered (λ x y. IsTrue (comes_before c h sets lives x.region y.region)) xs
+module _ (c : Cost) (h : Heap) (remembered : List (List ℕ)) (lives : List ℕ) where
+  by_region : (xs : List Candidate) → All (TellsRegion c h remembered lives) xs → Ordered (λ x y. IsTrue (goes_first x y)) xs → Ordered (λ x y. IsTrue (comes_before c h remembered lives x.region y.region)) xs
   by_region [] t o = tt
   by_region (x ∷ xs) t o = (
     (λ y i.
-        let a = all_in (TellsRegion c h sets lives) (x ∷ xs) x t (inl refl) in
-        let b = all_in (TellsRegion c h sets lives) (x ∷ xs) y t (inr i) in
-        let same : goes_first x y ≡ comes_before c h sets lives x.region y.region = λ i. is_before (a.cost i) (a.garbage i) x.region (b.cost i) (b.garbage i) y.region in
+        let a = all_in (TellsRegion c h remembered lives) (x ∷ xs) x t (inl refl) in
+        let b = all_in (TellsRegion c h remembered lives) (x ∷ xs) y t (inr i) in
+        let same : goes_first x y ≡ comes_before c h remembered lives x.region y.region = λ i. is_before (a.cost i) (a.garbage i) x.region (b.cost i) (b.garbage i) y.region in
         subst IsTrue same (o.0 y i)),
-    by_region xs (All-tail (TellsRegion c h sets lives) x xs t) o.1,
+    by_region xs (All-tail (TellsRegion c h remembered lives) x xs t) o.1,
   )
 
   -- the candidates, sorted by efficiency
-  pub in_order : (xs ys : List Candidate) → map (λ x. x.region) xs ≡ candidates c h sets lives → All (TellsRegion c h sets lives) xs
-      → IsPermutation xs ys → IsSortedBy goes_first ys → IsCandidateOrder c h sets lives ys
+  pub in_order : (xs ys : List Candidate) → map (λ x. x.region) xs ≡ candidates c h remembered lives → All (TellsRegion c h remembered lives) xs
+      → IsPermutation xs ys → IsSortedBy goes_first ys → IsCandidateOrder c h remembered lives ys
   in_order xs ys e t p s =
       let region : Candidate → ℕ = λ x. x.region in
-      let R : ℕ → ℕ → Type 0 = λ r q. IsTrue (comes_before c h sets lives r q) in
+      let R : ℕ → ℕ → Type 0 = λ r q. IsTrue (comes_before c h remembered lives r q) in
       let moved : IsPermutation (map region xs) (map region ys) = IsPermutation-map region xs ys p in
-      let numbers : AllPairs (λ r q. r ≢ q) (map region xs) = subst (AllPairs (λ r q. r ≢ q)) (sym e) (apart_by_number (is_candidate c h sets lives) h.geometry.n) in
+      let numbers : AllPairs (λ r q. r ≢ q) (map region xs) = subst (AllPairs (λ r q. r ≢ q)) (sym e) (apart_by_number (is_candidate c h remembered lives) h.geometry.n) in
       let apart = apart_permuted (map region xs) (map region ys) moved numbers in
-      let told : All (TellsRegion c h sets lives) ys = All-permutation (TellsRegion c h sets lives) xs ys p t in
+      let told : All (TellsRegion c h remembered lives) ys = All-permutation (TellsRegion c h remembered lives) xs ys p t in
       let pairs = strictly ys s (apart_regions ys apart) in
       record {
         order = record {

@@ -12,15 +12,15 @@ goes_first a b =
     || (a.cost * b.garbage == b.cost * a.garbage && nat_lt a.region b.region)
 
 -- by the regions' remembered sets and live bytes
-module _ (c : Cost) (h : Heap) (sets : List (List ℕ)) (lives : List ℕ) where
+module _ (c : Cost) (h : Heap) (remembered : List (List ℕ)) (lives : List ℕ) where
   -- the candidate has its region's cost and garbage
   pub record TellsRegion (x : Candidate) : Type 0 where
-    pub cost : x.cost ≡ cost_of c h sets lives x.region
-    pub garbage : x.garbage ≡ garbage c h sets lives x.region
+    pub cost : x.cost ≡ cost_of c h remembered lives x.region
+    pub garbage : x.garbage ≡ garbage c h remembered lives x.region
 
   -- all candidates in their order, each with its cost and garbage
   pub record IsCandidateOrder (xs : List Candidate) : Type 0 where
-    pub order : IsOrder c h sets lives (map (λ x. x.region) xs)
+    pub order : IsOrder c h remembered lives (map (λ x. x.region) xs)
     pub tells : All TellsRegion xs
 
 -- the first m candidates are the longest beginning that the budget pays, where this much is spent in any case

@@ -12,10 +12,10 @@ pub record MayBeLive (h : Heap) (lives : List ℕ) : Type 0 where
   pub at_most_used : (r : ℕ) → kind h r ≡ Ordinary → slice_index lives r ≤ 8 * top h r
 
 -- by the regions' remembered sets and live bytes
-module _ (c : Cost) (h : Heap) (sets : List (List ℕ)) (lives : List ℕ) where
+module _ (c : Cost) (h : Heap) (remembered : List (List ℕ)) (lives : List ℕ) where
   -- the cost of region r
   abbrev pub cost_of : ℕ → ℕ
-  cost_of r = cost c (length (slice_index_or sets r [])) (slice_index lives r)
+  cost_of r = cost c (length (slice_index_or remembered r [])) (slice_index lives r)
 
   -- the bytes of region r that are used and not live
   abbrev pub garbage : ℕ → ℕ

@@ -9,52 +9,52 @@ use Rattle.g1_choose.specs.Named.{AreDistinctOrdinary, IsFirstBad}
 
 -- of two regions at most one comes before the other
 abbrev pub OneWay : Type 0
-OneWay = (c : Cost) (h : Heap) (sets : List (List ℕ)) (lives : List ℕ) (r q : ℕ)
-    → IsTrue (comes_before c h sets lives r q) → IsTrue (comes_before c h sets lives q r) → ⊥
+OneWay = (c : Cost) (h : Heap) (remembered : List (List ℕ)) (lives : List ℕ) (r q : ℕ)
+    → IsTrue (comes_before c h remembered lives r q) → IsTrue (comes_before c h remembered lives q r) → ⊥
 
 -- and at least one, if they are two
 abbrev pub AnyTwo : Type 0
-AnyTwo = (c : Cost) (h : Heap) (sets : List (List ℕ)) (lives : List ℕ) (r q : ℕ)
-    → r ≢ q → IsTrue (comes_before c h sets lives r q) ⊎ IsTrue (comes_before c h sets lives q r)
+AnyTwo = (c : Cost) (h : Heap) (remembered : List (List ℕ)) (lives : List ℕ) (r q : ℕ)
+    → r ≢ q → IsTrue (comes_before c h remembered lives r q) ⊎ IsTrue (comes_before c h remembered lives q r)
 
 -- a candidate before one that is before a third is before the third
-abbrev pub Chain : Type 0
-Chain = (c : Cost) (h : Heap) (sets : List (List ℕ)) (lives : List ℕ) (r q s : ℕ)
-    → Contains (candidates c h sets lives) r → Contains (candidates c h sets lives) q → Contains (candidates c h sets lives) s
-    → IsTrue (comes_before c h sets lives r q) → IsTrue (comes_before c h sets lives q s) → IsTrue (comes_before c h sets lives r s)
+abbrev pub EfficiencyChain : Type 0
+EfficiencyChain = (c : Cost) (h : Heap) (remembered : List (List ℕ)) (lives : List ℕ) (r q s : ℕ)
+    → Contains (candidates c h remembered lives) r → Contains (candidates c h remembered lives) q → Contains (candidates c h remembered lives) s
+    → IsTrue (comes_before c h remembered lives r q) → IsTrue (comes_before c h remembered lives q s) → IsTrue (comes_before c h remembered lives r s)
 
 -- the candidates of a heap have an order
 abbrev pub OrderExists : Type 0
-OrderExists = (c : Cost) (h : Heap) (sets : List (List ℕ)) (lives : List ℕ) → (order : List ℕ) × IsOrder c h sets lives order
+OrderExists = (c : Cost) (h : Heap) (remembered : List (List ℕ)) (lives : List ℕ) → (order : List ℕ) × IsOrder c h remembered lives order
 
 -- and no second one
 abbrev pub OneOrder : Type 0
-OneOrder = (c : Cost) (h : Heap) (sets : List (List ℕ)) (lives : List ℕ) (xs ys : List ℕ)
-    → IsOrder c h sets lives xs → IsOrder c h sets lives ys → xs ≡ ys
+OneOrder = (c : Cost) (h : Heap) (remembered : List (List ℕ)) (lives : List ℕ) (xs ys : List ℕ)
+    → IsOrder c h remembered lives xs → IsOrder c h remembered lives ys → xs ≡ ys
 
 -- a budget buys a set
 abbrev pub SetExists : Type 0
-SetExists = (c : Cost) (h : Heap) (sets : List (List ℕ)) (lives : List ℕ) (d budget : ℕ) → (set : List ℕ) × IsChosen c h sets lives d budget set
+SetExists = (c : Cost) (h : Heap) (remembered : List (List ℕ)) (lives : List ℕ) (d budget : ℕ) → (set : List ℕ) × IsChosen c h remembered lives d budget set
 
 -- and no second one
 abbrev pub OneSet : Type 0
-OneSet = (c : Cost) (h : Heap) (sets : List (List ℕ)) (lives : List ℕ) (d budget : ℕ) (xs ys : List ℕ)
-    → IsChosen c h sets lives d budget xs → IsChosen c h sets lives d budget ys → xs ≡ ys
+OneSet = (c : Cost) (h : Heap) (remembered : List (List ℕ)) (lives : List ℕ) (d budget : ℕ) (xs ys : List ℕ)
+    → IsChosen c h remembered lives d budget xs → IsChosen c h remembered lives d budget ys → xs ≡ ys
 
 -- a candidate that comes before a region of the set is in the set: none is left out for a later one that fits
 abbrev pub NoneSkipped : Type 0
-NoneSkipped = (c : Cost) (h : Heap) (sets : List (List ℕ)) (lives : List ℕ) (d budget : ℕ) (set : List ℕ) (r q : ℕ)
-    → IsChosen c h sets lives d budget set → Contains (candidates c h sets lives) r → IsTrue (comes_before c h sets lives r q) → Contains set q → Contains set r
+NoneSkipped = (c : Cost) (h : Heap) (remembered : List (List ℕ)) (lives : List ℕ) (d budget : ℕ) (set : List ℕ) (r q : ℕ)
+    → IsChosen c h remembered lives d budget set → Contains (candidates c h remembered lives) r → IsTrue (comes_before c h remembered lives r q) → Contains set q → Contains set r
 
 -- a set with a region costs no more than the budget
 abbrev pub WithinBudget : Type 0
-WithinBudget = (c : Cost) (h : Heap) (sets : List (List ℕ)) (lives : List ℕ) (d budget : ℕ) (set : List ℕ)
-    → IsChosen c h sets lives d budget set → 0 < length set → pause_cost c h sets lives d set ≤ budget
+WithinBudget = (c : Cost) (h : Heap) (remembered : List (List ℕ)) (lives : List ℕ) (d budget : ℕ) (set : List ℕ)
+    → IsChosen c h remembered lives d budget set → 0 < length set → pause_cost c h remembered lives d set ≤ budget
 
 -- the regions of the set are candidates
 abbrev pub OnlyCandidates : Type 0
-OnlyCandidates = (c : Cost) (h : Heap) (sets : List (List ℕ)) (lives : List ℕ) (d budget : ℕ) (set : List ℕ) (r : ℕ)
-    → IsChosen c h sets lives d budget set → Contains set r → Contains (candidates c h sets lives) r
+OnlyCandidates = (c : Cost) (h : Heap) (remembered : List (List ℕ)) (lives : List ℕ) (d budget : ℕ) (set : List ℕ) (r : ℕ)
+    → IsChosen c h remembered lives d budget set → Contains set r → Contains (candidates c h remembered lives) r
 
 -- a list that isn't one of distinct ordinary regions has a first bad place
 abbrev pub AcceptedOrBad : Type 0

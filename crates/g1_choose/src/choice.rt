@@ -8,25 +8,25 @@ use crate::candidate::Candidate;
 use crate::parameters::Cost;
 use crate::pricing::{cost, total};
 use g1_words::{Fault, Heap, Region};
-use std::alloc::Global;
+use std::alloc::{AllocError, Global};
 
 /// The candidate that a region is, if it is one.
 fn candidate(
     heap: &Heap,
-    sets: &[Vec<u32>],
+    remembered: &[Vec<u32>],
     live: &[u64],
     parameters: &Cost,
     region: u32,
 ) -> Option<Candidate>
     requires parameters { IsCost parameters.now }
-    requires sets { length sets.now ≡ heap.now.geometry.n }
+    requires remembered { length remembered.now ≡ heap.now.geometry.n }
     requires live_bytes { MayBeLive heap.now live.now }
     requires there { region < heap.now.geometry.n }
     requires valid { IsValid heap.now }
     ensures same { IfSome result (λ x. x.region ≡ region) }
-    ensures found { IfSome result (λ x. IsTrue (is_candidate parameters.now heap.now (map (λ s. s.items) sets.now) live.now region)) }
-    ensures tells { IfSome result (TellsRegion parameters.now heap.now (map (λ s. s.items) sets.now) live.now) }
-    ensures none { IfNone result (IsTrue (is_candidate parameters.now heap.now (map (λ s. s.items) sets.now) live.now region) → ⊥) }
+    ensures found { IfSome result (λ x. IsTrue (is_candidate parameters.now heap.now (map (λ s. s.items) remembered.now) live.now region)) }
+    ensures tells { IfSome result (TellsRegion parameters.now heap.now (map (λ s. s.items) remembered.now) live.now) }
+    ensures none { IfNone result (IsTrue (is_candidate parameters.now heap.now (map (λ s. s.items) remembered.now) live.now region) → ⊥) }
 {
     let Region { kind, top, .. } = heap.region(region);
     if !kind.is_ordinary() {
@@ -37,7 +37,7 @@ fn candidate(
     if garbage == 0 {
         return None;
     }
-    let cost = cost(parameters, sets[place].len() as u64, live[place]);
+    let cost = cost(parameters, remembered[place].len() as u64, live[place]);
     Some(Candidate {
         region,
         cost,
@@ -49,20 +49,19 @@ fn candidate(
 fn candidates(
     alloc: Global,
     heap: &Heap,
-    sets: &[Vec<u32>],
+    remembered: &[Vec<u32>],
     live: &[u64],
     parameters: &Cost,
-) -> Result<Vec<Candidate>, Fault>
+) -> Result<Vec<Candidate>, AllocError>
     requires parameters { IsCost parameters.now }
-    requires sets { length sets.now ≡ heap.now.geometry.n }
+    requires remembered { length remembered.now ≡ heap.now.geometry.n }
     requires live_bytes { MayBeLive heap.now live.now }
-    ensures all { IfOk result (λ v. map (λ x. x.region) v.items ≡ candidates parameters.now heap.now (map (λ s. s.items) sets.now) live.now) }
-    ensures tells { IfOk result (λ v. All (TellsRegion parameters.now heap.now (map (λ s. s.items) sets.now) live.now) v.items) }
-    ensures memory { IfErr result (λ e. e ≡ Fault.Memory) }
+    ensures all { IfOk result (λ v. map (λ x. x.region) v.items ≡ candidates parameters.now heap.now (map (λ s. s.items) remembered.now) live.now) }
+    ensures tells { IfOk result (λ v. All (TellsRegion parameters.now heap.now (map (λ s. s.items) remembered.now) live.now) v.items) }
 {
     let mut candidates = Vec::new(alloc);
     for region in 0..heap.geometry().regions() as u32 {
-        if let Some(found) = candidate(heap, sets, live, parameters, region) {
+        if let Some(found) = candidate(heap, remembered, live, parameters, region) {
             candidates.push(found)?;
         }
     }
@@ -70,7 +69,7 @@ fn candidates(
 }
 
 /// The ordinary regions with garbage, by efficiency: most garbage for its cost first, and of equals
-/// the lower region. `sets` and `live` have one entry a region, `live` in bytes.
+/// the lower region. `remembered` and `live` have one entry a region, `live` in bytes.
 ///
 /// # Errors
 ///
@@ -78,17 +77,17 @@ fn candidates(
 pub fn order(
     alloc: Global,
     heap: &Heap,
-    sets: &[Vec<u32>],
+    remembered: &[Vec<u32>],
     live: &[u64],
     parameters: &Cost,
 ) -> Result<Vec<Candidate>, Fault>
     requires parameters { IsCost parameters.now }
-    requires sets { length sets.now ≡ heap.now.geometry.n }
+    requires remembered { length remembered.now ≡ heap.now.geometry.n }
     requires live_bytes { MayBeLive heap.now live.now }
-    ensures ok { IfOk result (λ v. IsCandidateOrder parameters.now heap.now (map (λ s. s.items) sets.now) live.now v.items) }
+    ensures ok { IfOk result (λ v. IsCandidateOrder parameters.now heap.now (map (λ s. s.items) remembered.now) live.now v.items) }
     ensures memory { IfErr result (λ e. e ≡ Fault.Memory) }
 {
-    let mut candidates = candidates(alloc, heap, sets, live, parameters)?;
+    let mut candidates = candidates(alloc, heap, remembered, live, parameters)?;
     candidates.sort_unstable_by(|a, b| a.efficiency(b));
     Ok(candidates)
 }
@@ -99,10 +98,9 @@ fn affordable(
     order: &[Candidate],
     fixed: u128,
     budget: u64,
-) -> Result<Vec<u32>, Fault>
+) -> Result<Vec<u32>, AllocError>
     requires { fixed < 2 ^ 97 }
-    ensures ok { IfOk result (λ v. (m : ℕ) × (v.items ≡ map (λ x. x.region) (take m order.now)) × IsPaid order.now fixed budget m) }
-    ensures memory { IfErr result (λ e. e ≡ Fault.Memory) }
+    ensures { IfOk result (λ v. (m : ℕ) × (v.items ≡ map (λ x. x.region) (take m order.now)) × IsPaid order.now fixed budget m) }
 {
     let mut set = Vec::new(alloc);
     let mut spent = fixed;
@@ -126,18 +124,18 @@ pub fn choose(
     alloc: Global,
     heap: &Heap,
     d: u64,
-    sets: &[Vec<u32>],
+    remembered: &[Vec<u32>],
     live: &[u64],
     parameters: &Cost,
     budget: u64,
 ) -> Result<Vec<u32>, Fault>
     requires parameters { IsCost parameters.now }
-    requires sets { length sets.now ≡ heap.now.geometry.n }
+    requires remembered { length remembered.now ≡ heap.now.geometry.n }
     requires live_bytes { MayBeLive heap.now live.now }
-    ensures ok { IfOk result (λ v. IsChosen parameters.now heap.now (map (λ s. s.items) sets.now) live.now d budget v.items) }
+    ensures ok { IfOk result (λ v. IsChosen parameters.now heap.now (map (λ s. s.items) remembered.now) live.now d budget v.items) }
     ensures memory { IfErr result (λ e. e ≡ Fault.Memory) }
 {
-    let order = order(alloc, heap, sets, live, parameters)?;
+    let order = order(alloc, heap, remembered, live, parameters)?;
     let mut set = affordable(alloc, &order, total(parameters, d, &[]), budget)?;
     set.sort_unstable();
     Ok(set)

@@ -1,10 +1,10 @@
-ghost use Rattle.g1_choose.specs.Laws.{OneWay, AnyTwo, Chain, OrderExists, OneOrder, SetExists, OneSet, NoneSkipped, WithinBudget, OnlyCandidates, AcceptedOrBad, AcceptedNotBad, OneFirstBad, LiveWithinUsed};
+ghost use Rattle.g1_choose.specs.Laws.{OneWay, AnyTwo, EfficiencyChain, OrderExists, OneOrder, SetExists, OneSet, NoneSkipped, WithinBudget, OnlyCandidates, AcceptedOrBad, AcceptedNotBad, OneFirstBad, LiveWithinUsed};
 
 /// Efficiency orders the candidates: of any two, one comes before the other.
 pub fn efficiency()
     ensures one_way { OneWay }
     ensures any_two { AnyTwo }
-    ensures chain { Chain }
+    ensures chain { EfficiencyChain }
 {}
 
 /// A heap's candidates have one order, and a budget buys one set.

@@ -14,14 +14,13 @@
 
 mod candidate;
 mod choice;
-mod laws;
+pub mod laws;
 mod named;
 mod parameters;
 mod pricing;
 
 pub use candidate::Candidate;
 pub use choice::{choose, order};
-pub use laws::{accepted_or_bad, bought, efficiency, live_within_used, one_choice};
 pub use named::given;
 pub use parameters::Cost;
 pub use pricing::{cost, total};

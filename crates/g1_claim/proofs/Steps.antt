@@ -9,8 +9,8 @@ use Rattle.atomic_table.specs.Table.{step, keeps, Allows, Splits, Joins}
 use Rattle.atomic_table.proofs.Lists.{at_set, at_snoc, set_again, set_here, set_else}
 use Rattle.g1_claim.specs.declared.rule.Hand.{Hand}
 use Rattle.g1_claim.specs.Claims.{empty, offer, sight, least_rank, least_value, one_if, times_offered, times_won, IsWordOf, IsWonOnce, IsSettled}
-use Rattle.g1_claim.specs.Rule.{hand, first_hand, total, offers_at, wins_of, least_offered, AreBacked, IsWord, IsIdle, Claiming, Claimed, Sat, after_offer, after_sight, left_hand, right_hand, both_hands, spent_hand, Found, lowered, saw, looked, Won, Beaten, IsKnown}
-use Rattle.g1_claim.proofs.Totals.{least_rank_top, least_rank-append, least_value_top, least_value-append, times_offered-append, times_won-append, total-set, total-snoc, total_le, lowest-set, lowest-set_top, lowest-snoc, lowest_le, lowest_top, shares_of, total_alone, lowest_alone, none_below_all, backed_on, backed-append}
+use Rattle.g1_claim.specs.Rule.{hand, first_hand, hands_total, offers_at, wins_of, least_offered, AreBacked, IsWord, IsIdle, Claiming, Claimed, Sat, after_offer, after_sight, left_hand, right_hand, both_hands, spent_hand, Found, lowered, saw, looked, Won, Beaten, IsKnown}
+use Rattle.g1_claim.proofs.Totals.{least_rank_top, least_rank-append, least_value_top, least_value-append, times_offered-append, times_won-append, hands_total-set, hands_total-snoc, total_le, lowest-set, lowest-set_top, lowest-snoc, lowest_le, lowest_top, shares_of, total_alone, lowest_alone, none_below_all, backed_on, backed-append}
 
 -- what holds of each view
 
@@ -38,7 +38,7 @@ record Same (l m : List Hand) : Type 0 where
   wins : (p q : ℕ) → wins_of p q m ≡ wins_of p q l
   made : (p : ℕ) → offers_at p m ≡ offers_at p l
 
-rekept : (words : List ℕ) (l m : List Hand) → Claiming words l → Same l m → total shares_of m ≡ 64 → AllAt Idle m → AllAt (Floor words) m → AllAt (Backed l) m → Claiming words m
+rekept : (words : List ℕ) (l m : List Hand) → Claiming words l → Same l m → hands_total shares_of m ≡ 64 → AllAt Idle m → AllAt (Floor words) m → AllAt (Backed l) m → Claiming words m
 rekept words l m r s shares idle floors backed = record {
   shares = shares;
   idle = idle;
@@ -74,10 +74,10 @@ module _ (words : List ℕ) (vs : List Hand) (id : ℕ) (v : Hand) (i r : ℕ) (
   vs' = set vs id w
 
   wins' : (p q : ℕ) → wins_of p q vs' ≡ wins_of p q vs + one_if (eqb i p && (eqb r q && ltb r x))
-  wins' p q = let t = total-set (λ u. times_won p q u.offers) vs id v w at in let a = times_won-append p q v.offers (offer i r (ltb r x) ∷ []) in omega arith
+  wins' p q = let t = hands_total-set (λ u. times_won p q u.offers) vs id v w at in let a = times_won-append p q v.offers (offer i r (ltb r x) ∷ []) in omega arith
 
   made' : (p : ℕ) → offers_at p vs' ≡ offers_at p vs + one_if (eqb i p)
-  made' p = let t = total-set (λ u. times_offered p u.offers) vs id v w at in let a = times_offered-append p v.offers (offer i r (ltb r x) ∷ []) in omega arith
+  made' p = let t = hands_total-set (λ u. times_offered p u.offers) vs id v w at in let a = times_offered-append p v.offers (offer i r (ltb r x) ∷ []) in omega arith
 
   least' : (p : ℕ) → least_offered p vs' ≡ min (least_offered p vs) (min (cond (eqb i p) r empty) empty)
   least' p = lowest-set (λ u. least_rank p u.offers) vs id v w (min (cond (eqb i p) r empty) empty) at (least_rank-append p v.offers (offer i r (ltb r x) ∷ []))
@@ -143,7 +143,7 @@ module _ (words : List ℕ) (vs : List Hand) (id : ℕ) (v : Hand) (i r : ℕ) (
 
   pub offer_keeps : 0 < v.shares → Claiming words' vs'
   offer_keeps some_share = record {
-    shares = let t = total-set shares_of vs id v w at in let k = kept.shares in omega arith;
+    shares = let t = hands_total-set shares_of vs id v w at in let k = kept.shares in omega arith;
     idle = all_set Idle Idle vs id w (λ none_left. absurd (omega arith)) (λ u h. h) kept.idle;
     words_least = λ p lt. word' p (subst (λ (n : ℕ). p < n) (length-set words i (min x r)) lt);
     outside = λ p far. let old : length words ≤ p = subst (λ (n : ℕ). n ≤ p) (length-set words i (min x r)) far in let a = apart p (λ (e : i ≡ p). absurd (omega arith)) in a.1 ∙ kept.outside p old;
@@ -158,8 +158,8 @@ module _ (vs : List Hand) (id : ℕ) (v w : Hand) (at : get_elem? vs id ≡ some
   revised = record {
     least = λ p. let t = lowest_top (λ u. least_rank p u.offers) vs in let e : least_rank p w.offers ≡ least_rank p v.offers = ap (least_rank p) same in let o = least_rank_top p v.offers in
         let r = lowest-set (λ u. least_rank p u.offers) vs id v w empty at (omega arith) in omega arith;
-    wins = λ p q. let e : times_won p q w.offers ≡ times_won p q v.offers = ap (times_won p q) same in let t = total-set (λ u. times_won p q u.offers) vs id v w at in omega arith;
-    made = λ p. let e : times_offered p w.offers ≡ times_offered p v.offers = ap (times_offered p) same in let t = total-set (λ u. times_offered p u.offers) vs id v w at in omega arith;
+    wins = λ p q. let e : times_won p q w.offers ≡ times_won p q v.offers = ap (times_won p q) same in let t = hands_total-set (λ u. times_won p q u.offers) vs id v w at in omega arith;
+    made = λ p. let e : times_offered p w.offers ≡ times_offered p v.offers = ap (times_offered p) same in let t = hands_total-set (λ u. times_offered p u.offers) vs id v w at in omega arith;
   }
 
 at_word : (l : List ℕ) (i : ℕ) → i < length l → get_elem? l i ≡ some (get_or l i 0)
@@ -187,7 +187,7 @@ module _ (words : List ℕ) (vs : List Hand) (id : ℕ) (v : Hand) (i : ℕ) (ke
 
   pub sight_keeps : 0 < v.shares → Claiming words (set vs id (after_sight v i found))
   sight_keeps some_share = let w : Hand = after_sight v i found in rekept words vs (set vs id w) kept (revised vs id v w at refl)
-      (let t = total-set shares_of vs id v w at in let k = kept.shares in omega arith)
+      (let t = hands_total-set shares_of vs id v w at in let k = kept.shares in omega arith)
       (all_set Idle Idle vs id w (λ none_left. absurd (omega arith)) (λ u h. h) kept.idle)
       (all_set (Floor words) (Floor words) vs id w floor_seen (λ u h. h) kept.floors)
       (all_set (Backed vs) (Backed vs) vs id w backed_seen (λ u h. h) kept.backed)
@@ -203,13 +203,13 @@ module _ (words : List ℕ) (vs : List Hand) (id : ℕ) (v : Hand) (kept : Claim
   split_same : Same vs (mid ++ right_hand v ∷ [])
   split_same = let s = revised vs id v l at refl in record {
     least = λ p. let a = s.least p in let t = lowest_top (λ u. least_rank p u.offers) mid in let b = lowest-snoc (λ u. least_rank p u.offers) mid (right_hand v) in omega arith;
-    wins = λ p q. let a = s.wins p q in let b = total-snoc (λ u. times_won p q u.offers) mid (right_hand v) in omega arith;
-    made = λ p. let a = s.made p in let b = total-snoc (λ u. times_offered p u.offers) mid (right_hand v) in omega arith;
+    wins = λ p q. let a = s.wins p q in let b = hands_total-snoc (λ u. times_won p q u.offers) mid (right_hand v) in omega arith;
+    made = λ p. let a = s.made p in let b = hands_total-snoc (λ u. times_offered p u.offers) mid (right_hand v) in omega arith;
   }
 
   pub after_split : Claiming words (mid ++ right_hand v ∷ [])
   after_split = rekept words vs (mid ++ right_hand v ∷ []) kept split_same
-      (let t = total-set shares_of vs id v l at in let u = total-snoc shares_of mid (right_hand v) in let k = kept.shares in omega arith)
+      (let t = hands_total-set shares_of vs id v l at in let u = hands_total-snoc shares_of mid (right_hand v) in let k = kept.shares in omega arith)
       (all_snoc Idle mid (right_hand v) (λ none_left. absurd (omega arith)) (all_set Idle Idle vs id l (λ none_left. absurd (omega arith)) (λ u h. h) kept.idle))
       (all_snoc (Floor words) mid (right_hand v) (kept.floors id v at) (all_set (Floor words) (Floor words) vs id l (kept.floors id v at) (λ u h. h) kept.floors))
       (all_snoc (Backed vs) mid (right_hand v) tt (all_set (Backed vs) (Backed vs) vs id l (kept.backed id v at) (λ u h. h) kept.backed))
@@ -244,8 +244,8 @@ module _ (words : List ℕ) (vs : List Hand) (id : ℕ) (v : Hand) (other : ℕ)
     least = λ p. let f = λ (y : Hand). least_rank p y.offers in let a = least_rank-append p v.offers u.offers in
         let b = lowest-set (λ y. least_rank p y.offers) vs id v both (least_rank p u.offers) at a in let c = lowest_le (λ y. least_rank p y.offers) vs other u was_at in
         let d = lowest-set_top (λ y. least_rank p y.offers) half other u spent at' refl in let e = lowest_le (λ y. least_rank p y.offers) whole id both still_both in omega arith;
-    wins = λ p q. let a = times_won-append p q v.offers u.offers in let b = total-set (λ y. times_won p q y.offers) vs id v both at in let c = total-set (λ y. times_won p q y.offers) half other u spent at' in omega arith;
-    made = λ p. let a = times_offered-append p v.offers u.offers in let b = total-set (λ y. times_offered p y.offers) vs id v both at in let c = total-set (λ y. times_offered p y.offers) half other u spent at' in omega arith;
+    wins = λ p q. let a = times_won-append p q v.offers u.offers in let b = hands_total-set (λ y. times_won p q y.offers) vs id v both at in let c = hands_total-set (λ y. times_won p q y.offers) half other u spent at' in omega arith;
+    made = λ p. let a = times_offered-append p v.offers u.offers in let b = hands_total-set (λ y. times_offered p y.offers) vs id v both at in let c = hands_total-set (λ y. times_offered p y.offers) half other u spent at' in omega arith;
   }
 
   floor_both : Floor words both
@@ -256,7 +256,7 @@ module _ (words : List ℕ) (vs : List Hand) (id : ℕ) (v : Hand) (other : ℕ)
 
   pub after_join : 0 < v.shares → Claiming words whole
   after_join some_share = rekept words vs whole kept join_same
-      (let t = total-set shares_of vs id v both at in let s = total-set shares_of half other u spent at' in let k = kept.shares in omega arith)
+      (let t = hands_total-set shares_of vs id v both at in let s = hands_total-set shares_of half other u spent at' in let k = kept.shares in omega arith)
       (all_set Idle Idle half other spent (λ _. (refl, refl)) (λ y h. h) (all_set Idle Idle vs id both (λ none_left. absurd (omega arith)) (λ y h. h) kept.idle))
       (all_set (Floor words) (Floor words) half other spent floor_spent (λ y h. h) (all_set (Floor words) (Floor words) vs id both floor_both (λ y h. h) kept.floors))
       (all_set (Backed vs) (Backed vs) half other spent tt (λ y h. h) (all_set (Backed vs) (Backed vs) vs id both (backed-append v.sights u.sights vs (kept.backed id v at) (kept.backed other u was_at)) (λ y h. h) kept.backed))
@@ -294,7 +294,7 @@ module _ (v : Hand) (words : List ℕ) (vs : List Hand) (kept : Claiming words v
   once_each p q = let a = total_le (λ u. times_won p q u.offers) vs id v at in let b = kept.once p q in omega arith
 
   module _ (whole : v.shares ≡ 64) where
-    alone : total shares_of vs ≡ v.shares
+    alone : hands_total shares_of vs ≡ v.shares
     alone = kept.shares ∙ sym whole
 
     pub word_of : (p : ℕ) → p < length words → IsWordOf p (get_or words p 0) v.offers

@@ -8,7 +8,7 @@ use Rattle.g1_claim.specs.declared.rule.Offer.{Offer}
 use Rattle.g1_claim.specs.declared.rule.Sight.{Sight}
 use Rattle.g1_claim.specs.declared.rule.Hand.{Hand}
 use Rattle.g1_claim.specs.Claims.{empty, least_rank, least_value, one_if, times_offered, times_won}
-use Rattle.g1_claim.specs.Rule.{total, lowest, wins_of, least_offered, AreBacked}
+use Rattle.g1_claim.specs.Rule.{hands_total, lowest, wins_of, least_offered, AreBacked}
 
 -- the lists of one seat
 
@@ -51,16 +51,16 @@ none_below p q (o ∷ os) h = let n : ℕ = cond (eqb o.place p) o.rank empty in
 -- totals
 
 module _ (f : Hand → ℕ) where
-  pub total-set : (l : List Hand) (i : ℕ) (v w : Hand) → get_elem? l i ≡ some v → total f (set l i w) + f v ≡ total f l + f w
-  total-set [] i v w e = absurd (some-ne-none v (sym e))
-  total-set (x ∷ xs) zero v w e = let is : f x ≡ f v = ap f (some-injective x v e) in omega arith
-  total-set (x ∷ xs) (suc i) v w e = let r = total-set xs i v w e in omega arith
+  pub hands_total-set : (l : List Hand) (i : ℕ) (v w : Hand) → get_elem? l i ≡ some v → hands_total f (set l i w) + f v ≡ hands_total f l + f w
+  hands_total-set [] i v w e = absurd (some-ne-none v (sym e))
+  hands_total-set (x ∷ xs) zero v w e = let is : f x ≡ f v = ap f (some-injective x v e) in omega arith
+  hands_total-set (x ∷ xs) (suc i) v w e = let r = hands_total-set xs i v w e in omega arith
 
-  pub total-snoc : (l : List Hand) (v : Hand) → total f (l ++ v ∷ []) ≡ total f l + f v
-  total-snoc [] v = omega arith
-  total-snoc (x ∷ xs) v = let r = total-snoc xs v in omega arith
+  pub hands_total-snoc : (l : List Hand) (v : Hand) → hands_total f (l ++ v ∷ []) ≡ hands_total f l + f v
+  hands_total-snoc [] v = omega arith
+  hands_total-snoc (x ∷ xs) v = let r = hands_total-snoc xs v in omega arith
 
-  pub total_le : (l : List Hand) (i : ℕ) (v : Hand) → get_elem? l i ≡ some v → f v ≤ total f l
+  pub total_le : (l : List Hand) (i : ℕ) (v : Hand) → get_elem? l i ≡ some v → f v ≤ hands_total f l
   total_le [] i v e = absurd (some-ne-none v (sym e))
   total_le (x ∷ xs) zero v e = let is : f x ≡ f v = ap f (some-injective x v e) in omega arith
   total_le (x ∷ xs) (suc i) v e = let r = total_le xs i v e in omega arith
@@ -98,22 +98,22 @@ module _ (f : Hand → ℕ) (n : ℕ) where
   abbrev Rests : List Hand → Type 0
   Rests l = (k : ℕ) (u : Hand) → get_elem? l k ≡ some u → u.shares ≡ 0 → f u ≡ n
 
-  total_none : (l : List Hand) → n ≡ 0 → Rests l → total shares_of l ≡ 0 → total f l ≡ 0
+  total_none : (l : List Hand) → n ≡ 0 → Rests l → hands_total shares_of l ≡ 0 → hands_total f l ≡ 0
   total_none [] z r h = refl
   total_none (x ∷ xs) z r h = let a = r 0 x refl (omega arith) in let b = total_none xs z (λ k u e s. r (suc k) u e s) (omega arith) in omega arith
 
-  pub total_alone : (l : List Hand) (i : ℕ) (v : Hand) → get_elem? l i ≡ some v → n ≡ 0 → Rests l → total shares_of l ≡ v.shares → total f l ≡ f v
+  pub total_alone : (l : List Hand) (i : ℕ) (v : Hand) → get_elem? l i ≡ some v → n ≡ 0 → Rests l → hands_total shares_of l ≡ v.shares → hands_total f l ≡ f v
   total_alone [] i v e z r h = absurd (some-ne-none v (sym e))
   total_alone (x ∷ xs) zero v e z r h = let is : f x ≡ f v = ap f (some-injective x v e) in let part : x.shares ≡ v.shares = ap shares_of (some-injective x v e) in
       let b = total_none xs z (λ k u e' s. r (suc k) u e' s) (omega arith) in omega arith
   total_alone (x ∷ xs) (suc i) v e z r h = let le = total_le shares_of xs i v e in let a = r 0 x refl (omega arith) in
       let b = total_alone xs i v e z (λ k u e' s. r (suc k) u e' s) (omega arith) in omega arith
 
-  lowest_none : (l : List Hand) → n ≡ empty → Rests l → total shares_of l ≡ 0 → lowest f l ≡ empty
+  lowest_none : (l : List Hand) → n ≡ empty → Rests l → hands_total shares_of l ≡ 0 → lowest f l ≡ empty
   lowest_none [] z r h = refl
   lowest_none (x ∷ xs) z r h = let a = r 0 x refl (omega arith) in let b = lowest_none xs z (λ k u e s. r (suc k) u e s) (omega arith) in omega arith
 
-  pub lowest_alone : (l : List Hand) (i : ℕ) (v : Hand) → get_elem? l i ≡ some v → n ≡ empty → f v ≤ empty → Rests l → total shares_of l ≡ v.shares → lowest f l ≡ f v
+  pub lowest_alone : (l : List Hand) (i : ℕ) (v : Hand) → get_elem? l i ≡ some v → n ≡ empty → f v ≤ empty → Rests l → hands_total shares_of l ≡ v.shares → lowest f l ≡ f v
   lowest_alone [] i v e z t r h = absurd (some-ne-none v (sym e))
   lowest_alone (x ∷ xs) zero v e z t r h = let is : f x ≡ f v = ap f (some-injective x v e) in let part : x.shares ≡ v.shares = ap shares_of (some-injective x v e) in
       let b = lowest_none xs z (λ k u e' s. r (suc k) u e' s) (omega arith) in omega arith

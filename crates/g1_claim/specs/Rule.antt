@@ -17,9 +17,9 @@ abbrev pub first_hand : Hand
 first_hand = hand 64 [] [] []
 
 -- f of each hand, added up
-abbrev pub total : (Hand → ℕ) → List Hand → ℕ
-total f [] = 0
-total f (v ∷ vs) = f v + total f vs
+abbrev pub hands_total : (Hand → ℕ) → List Hand → ℕ
+hands_total f [] = 0
+hands_total f (v ∷ vs) = f v + hands_total f vs
 
 -- the least f of a hand, or empty
 abbrev pub lowest : (Hand → ℕ) → List Hand → ℕ
@@ -28,11 +28,11 @@ lowest f (v ∷ vs) = min (f v) (lowest f vs)
 
 -- how many offers the hands made at the place
 abbrev pub offers_at : ℕ → List Hand → ℕ
-offers_at p vs = total (λ v. times_offered p v.offers) vs
+offers_at p vs = hands_total (λ v. times_offered p v.offers) vs
 
 -- how many of the hands' offers of the rank at the place answered true
 abbrev pub wins_of : ℕ → ℕ → List Hand → ℕ
-wins_of p r vs = total (λ v. times_won p r v.offers) vs
+wins_of p r vs = hands_total (λ v. times_won p r v.offers) vs
 
 -- the least rank that any hand offered at the place, or empty
 abbrev pub least_offered : ℕ → List Hand → ℕ
@@ -53,7 +53,7 @@ IsIdle v = (v.offers ≡ []) × (v.sights ≡ [])
 
 -- between any two steps, over the hands of all seats that ever were, dropped ones too: together they have 64 shares; each word is the least rank offered at its place, or empty; at no place two offers of one rank answered true; no word is above what a hand knows of it; what a hand saw is empty or an offer that answered true
 pub record Claiming (words : List ℕ) (views : List Hand) : Type 0 where
-  pub shares : total (λ v. v.shares) views ≡ 64
+  pub shares : hands_total (λ v. v.shares) views ≡ 64
   pub idle : (k : ℕ) (v : Hand) → get_elem? views k ≡ some v → v.shares ≡ 0 → IsIdle v
   pub words_least : (p : ℕ) → p < length words → IsWord p (slice_index words p) views
   pub outside : (p : ℕ) → length words ≤ p → offers_at p views ≡ 0

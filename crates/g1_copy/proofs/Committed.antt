@@ -83,7 +83,7 @@ module _ (p : Prepared) (i : Image) (set l : List ℕ) (valid : IsValid i.heap) 
   is_after : committed p i ≡ image_after i set l
   is_after = λ q. record {
     heap = record { geometry = i.heap.geometry; words = words_are q; regions = made.table q; roots = made.roots q; current = None };
-    sets = made.sets q;
+    remembered = made.remembered q;
     log = [];
   }
 

@@ -17,10 +17,10 @@ use Rattle.g1_image.specs.Image.{Image}
 use Rattle.g1_image.specs.Cards.{is_refined, refined}
 use Rattle.g1_image.proofs.Covers.{card_region, cards_rise, covered_tells, exact_tells, refined_tells}
 use Rattle.g1_rem.specs.Starts.{card_count}
-use Rattle.g1_copy.specs.Cards.{cards_into, is_listed}
+use Rattle.g1_rem.specs.EntryCards.{cards_into, is_listed}
 use Rattle.g1_copy.specs.Laws.{CardsLeadIn, CardsStandOutside, RefinedFindPatches}
 use Rattle.g1_copy.specs.Patches.{patch}
-use Rattle.g1_copy.proofs.CardMarks.{filter_same_in}
+use Rattle.g1_rem.proofs.EntryCards.{filter_same_in}
 
 not_true : (b : Bool) → not b ≡ true → b ≡ false
 not_true true e = cc
@@ -47,22 +47,22 @@ ordinary_in_heap h r valid e = elim (cases_lt r h.geometry.n) [
 
 -- ---- the cards
 
-module _ (h : Heap) (sets : List (List ℕ)) (set : List ℕ) where
+module _ (h : Heap) (remembered : List (List ℕ)) (set : List ℕ) where
   abbrev leads : ℕ → Bool
-  leads c = is_listed sets set c && not (in_set h set (c * h.geometry.k))
+  leads c = is_listed remembered set c && not (in_set h set (c * h.geometry.k))
 
   -- what a listed card is
-  listed_is : (c : ℕ) → In (cards_into h sets set) c → (c < card_count h) × (is_listed sets set c ≡ true) × (in_set h set (c * h.geometry.k) ≡ false)
+  listed_is : (c : ℕ) → In (cards_into h remembered set) c → (c < card_count h) × (is_listed remembered set c ≡ true) × (in_set h set (c * h.geometry.k) ≡ false)
   listed_is c i =
       let m = filter_member leads (range_with_len 0 (card_count h)) c i in
-      let t = and_true (is_listed sets set c) (not (in_set h set (c * h.geometry.k))) m.1 in
+      let t = and_true (is_listed remembered set c) (not (in_set h set (c * h.geometry.k))) m.1 in
       (omega (arith, range_below 0 (card_count h) c m.0), t.0, not_true (in_set h set (c * h.geometry.k)) t.1)
 
 pub cards_stand_outside : CardsStandOutside
-cards_stand_outside h sets set = (
-  cards_rise h (λ c. is_listed sets set c && not (in_set h set (c * h.geometry.k))),
-  (λ k d lt. (listed_is h sets set (slice_index_or (cards_into h sets set) k d) (get_or-In (cards_into h sets set) k d lt)).0),
-  (λ k d lt. (listed_is h sets set (slice_index_or (cards_into h sets set) k d) (get_or-In (cards_into h sets set) k d lt)).2),
+cards_stand_outside h remembered set = (
+  cards_rise h (λ c. is_listed remembered set c && not (in_set h set (c * h.geometry.k))),
+  (λ k d lt. (listed_is h remembered set (slice_index_or (cards_into h remembered set) k d) (get_or-In (cards_into h remembered set) k d lt)).0),
+  (λ k d lt. (listed_is h remembered set (slice_index_or (cards_into h remembered set) k d) (get_or-In (cards_into h remembered set) k d lt)).2),
 )
 
 -- the refined set of a region, read from the list of all
@@ -71,16 +71,16 @@ refined_at i r lt = get_or-map-range_with_len (refined i) 0 i.heap.geometry.n r 
 
 pub cards_lead : CardsLeadIn
 cards_lead i set good ordinary c = (to, from) where
-  sets : List (List ℕ)
-  sets = map (refined i) (regions i.heap)
+  remembered : List (List ℕ)
+  remembered = map (refined i) (regions i.heap)
 
   at : (r : ℕ) → In set r → slice_index_or (map (refined i) (regions i.heap)) r [] ≡ refined i r
   at r k = refined_at i r (ordinary_in_heap i.heap r good.heap (ordinary r (Contains-from_in set r k)))
 
   to : Contains (cards_into i.heap (map (refined i) (regions i.heap)) set) c → (((r : ℕ) × Contains set r × Contains (refined i r) c) × (in_set i.heap set (c * i.heap.geometry.k) ≡ false))
   to k =
-      let t = listed_is i.heap sets set c (In-from_contains (cards_into i.heap sets set) c k) in
-      let m = any_member (λ r. has (slice_index_or sets r []) c) set t.1 in
+      let t = listed_is i.heap remembered set c (In-from_contains (cards_into i.heap remembered set) c k) in
+      let m = any_member (λ r. has (slice_index_or remembered r []) c) set t.1 in
       let there : In (refined i m.0) c = in_from_has (refined i m.0) c (ap (λ l. has l c) (sym (at m.0 m.1)) ∙ m.2) in
       ((m.0, Contains-from_in set m.0 m.1, Contains-from_in (refined i m.0) c there), t.2)
 
@@ -89,9 +89,9 @@ cards_lead i set good ordinary c = (to, from) where
       let j : In set r = In-from_contains set r k in
       let n : In (refined i r) c = In-from_contains (refined i r) c m in
       let listed : is_listed (map (refined i) (regions i.heap)) set c ≡ true =
-      any_by_member (λ r. has (slice_index_or sets r []) c) set r j (ap (λ l. has l c) (at r j) ∙ has_from_in (refined i r) c n) in
-      Contains-from_in (cards_into i.heap sets set) c
-      (In-filter (leads i.heap sets set) (range_with_len 0 (card_count i.heap)) c (filter_member (is_refined i r) (range_with_len 0 (card_count i.heap)) c n).0 (rw (listed, out) refl))
+      any_by_member (λ r. has (slice_index_or remembered r []) c) set r j (ap (λ l. has l c) (at r j) ∙ has_from_in (refined i r) c n) in
+      Contains-from_in (cards_into i.heap remembered set) c
+      (In-filter (leads i.heap remembered set) (range_with_len 0 (card_count i.heap)) c (filter_member (is_refined i r) (range_with_len 0 (card_count i.heap)) c n).0 (rw (listed, out) refl))
 
 -- ---- the patches
 

@@ -62,7 +62,7 @@ module _ (h : Heap) (chosen : List ℕ) (p : Plan) (valid : IsValid h) (pause : 
 
   -- an image with this heap
   abbrev image : Image
-  image = record { heap = h; sets = []; log = [] }
+  image = record { heap = h; remembered = []; log = [] }
 
   w_positive : 0 < h.geometry.w
   w_positive = let k = valid.limits.w_least in omega arith

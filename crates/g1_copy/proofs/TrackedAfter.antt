@@ -26,7 +26,7 @@ module _ (p : Prepared) (i : Image) (tracked : IsTracked i) where
   abbrev pub put_together : Prepared → Geometry → List ℕ → List ℕ → Image
   put_together q geometry words log = record {
     heap = record { geometry = geometry; words = words; regions = q.regions; roots = q.roots; current = None };
-    sets = q.sets;
+    remembered = q.remembered;
     log = log;
   }
 

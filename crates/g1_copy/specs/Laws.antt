@@ -13,7 +13,7 @@ use Rattle.g1_words.specs.Lists.{has}
 use Rattle.g1_copy.specs.Links.{is_linked, copied_slots}
 use Rattle.g1_words.specs.Valid.{IsValid}
 use Rattle.g1_rem.specs.Starts.{card_count}
-use Rattle.g1_copy.specs.Cards.{cards_into}
+use Rattle.g1_rem.specs.EntryCards.{cards_into}
 use Rattle.g1_copy.specs.Gathered.{IsGatheredAt, size_of, start_of, to_space_words}
 use Rattle.g1_copy.specs.Plans.{IsPlanOf}
 use Rattle.g1_copy.specs.Patches.{all_patches, patches_on}
@@ -26,8 +26,8 @@ CardsLeadIn = (i : Image) (set : List ℕ) → IsImage i → AllOrdinary i.heap 
 
 -- they rise, each is a card of the heap, and none lies in a region of the set
 abbrev pub CardsStandOutside : Type 0
-CardsStandOutside = (h : Heap) (sets : List (List ℕ)) (set : List ℕ)
-    → IsStrictlyIncreasing (cards_into h sets set) × All (λ c. c < card_count h) (cards_into h sets set) × All (λ c. in_set h set (c * h.geometry.k) ≡ false) (cards_into h sets set)
+CardsStandOutside = (h : Heap) (remembered : List (List ℕ)) (set : List ℕ)
+    → IsStrictlyIncreasing (cards_into h remembered set) × All (λ c. c < card_count h) (cards_into h remembered set) × All (λ c. in_set h set (c * h.geometry.k) ≡ false) (cards_into h remembered set)
 
 -- the slots on the cards of the refined sets that name a survivor are all slots outside the set that do
 abbrev pub RefinedFindPatches : Type 0

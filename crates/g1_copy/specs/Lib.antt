@@ -3,9 +3,8 @@ pub mod Gathered
 pub mod Patches
 pub mod Links
 pub mod Filled
-pub mod Cards
 pub mod Fates
 pub mod Slices
-pub mod Sets
+pub mod Remembered
 pub mod Prepared
 pub mod Laws

@@ -7,7 +7,7 @@ use Rattle.g1_words.specs.Layout.{HasRoom, forward, to_space}
 use Rattle.g1_image.specs.Image.{Image}
 use Rattle.g1_words.specs.Copy.{renamed}
 use Rattle.g1_after.specs.Made.{heap_after}
-use Rattle.g1_after.specs.Moved.{new_region, new_set}
+use Rattle.g1_after.specs.Moved.{new_region, remembered_after}
 use Rattle.g1_work.specs.Regions.{slice_of}
 use Rattle.g1_copy.specs.declared.fates.Fate.{Fate}
 use Rattle.g1_copy.specs.Fates.{AreFates, fate_at}
@@ -23,7 +23,7 @@ pub record Prepared : Type 0 where
   pub firsts : List ℕ
   pub regions : List Region
   pub roots : List ℕ
-  pub sets : List (List ℕ)
+  pub remembered : List (List ℕ)
 
 -- the words that a commit makes of these, in regions of w words
 abbrev pub written : Prepared → ℕ → List ℕ → List ℕ
@@ -33,7 +33,7 @@ written p w xs = flat_map (λ r. by_fate w p.gathered p.patches r (fate_at p.fat
 abbrev pub committed : Prepared → Image → Image
 committed p i = record {
   heap = record { geometry = i.heap.geometry; words = written p i.heap.geometry.w i.heap.words; regions = p.regions; roots = p.roots; current = None };
-  sets = p.sets;
+  remembered = p.remembered;
   log = [];
 }
 
@@ -46,4 +46,4 @@ pub record IsMadeFor (p : Prepared) (i : Image) (set l : List ℕ) : Type 0 wher
   pub firsts : AreFirsts i.heap.geometry.w i.heap.geometry.n p.patches p.firsts
   pub table : p.regions ≡ map (new_region i.heap set l) (regions i.heap)
   pub roots : p.roots ≡ map (renamed (forward i.heap l)) i.heap.roots
-  pub sets : p.sets ≡ map (new_set i set l (heap_after i.heap set l)) (regions i.heap)
+  pub remembered : p.remembered ≡ map (remembered_after i set l (heap_after i.heap set l)) (regions i.heap)

@@ -4,7 +4,6 @@ ghost use Rattle.g1_copy.specs.Prepared.{IsMadeFor};
 
 use crate::filling::write;
 use crate::preparing::Prepared;
-use g1_after::after;
 use g1_image::Image;
 use g1_rem::Tracked;
 use g1_words::Heap;
@@ -24,11 +23,11 @@ pub fn commit<R: Threads + Sync, G: Gate + Sync>(
     requires made { (set : List ℕ) × (l : List ℕ) × IsMadeFor prepared tracked set l }
     ensures moved { (set l : List ℕ) → IsMadeFor prepared tracked set l → IsMoved tracked set l result }
 {
-    after();
+    g1_after::laws::image_after();
     let Tracked { image } = tracked;
     let Image {
         heap,
-        sets: _,
+        remembered: _,
         mut log,
     } = image;
     let mut words = heap.words;
@@ -45,7 +44,7 @@ pub fn commit<R: Threads + Sync, G: Gate + Sync>(
     Tracked {
         image: Image {
             heap,
-            sets: prepared.sets,
+            remembered: prepared.remembered,
             log,
         },
     }

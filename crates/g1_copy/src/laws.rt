@@ -1,4 +1,4 @@
-ghost use Rattle.g1_copy.specs.Laws.{CardsLeadIn, CardsStandOutside, RefinedFindPatches, WrittenInPlace, GatheredAtPlaces, GatheredElsewhere};
+ghost use Rattle.g1_copy.specs.Laws.{CardsLeadIn, CardsStandOutside, CardsOfToSpace, CardsInToSpace, RefinedFindPatches, WrittenInPlace, GatheredAtPlaces, GatheredElsewhere};
 
 /// What the cards that lead into a set are, and that they meet what `patches` asks.
 pub fn cards_lead_in()
@@ -21,4 +21,10 @@ pub fn written_in_place()
 pub fn gathered()
     ensures places { GatheredAtPlaces }
     ensures elsewhere { GatheredElsewhere }
+{}
+
+/// Which slots the exact cards of the heap after a pause come from.
+pub fn cards_after()
+    ensures of_to_space { CardsOfToSpace }
+    ensures in_to_space { CardsInToSpace }
 {}

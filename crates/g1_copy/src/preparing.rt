@@ -5,20 +5,20 @@ ghost use Rattle.g1_image.specs.Cards.{refined};
 ghost use Rattle.g1_words.specs.Copy.{renamed};
 ghost use Rattle.g1_after.specs.Moved.{new_region};
 ghost use Rattle.g1_layout.specs.declared.plan.Run.{Run};
+ghost use Rattle.g1_rem.specs.EntryCards.{cards_into};
 ghost use Rattle.g1_rem.specs.Starts.{IsStartsOf};
 ghost use Rattle.g1_copy.specs.Fates.{AreFates, region_by_fate};
 ghost use Rattle.g1_copy.specs.Plans.{IsPauseOf};
 ghost use Rattle.g1_copy.specs.Prepared.{IsMadeFor};
 ghost use Rattle.g1_copy.specs.declared.fates.Fate.TheVariants.{Filled};
 
-use crate::entering::cards_into;
 use crate::fates::{Fate, fates};
 use crate::gathering::{gather, renamed};
-use crate::laws::all_patches;
+use crate::laws;
 use crate::patching::{firsts, patches};
-use crate::sets::sets_by_fate;
+use crate::remembering::remembered_by_fate;
 use g1_layout::{Plan, Run};
-use g1_rem::{Starts, Tracked, image};
+use g1_rem::{Starts, Tracked, cards_into, image};
 use g1_words::{Fault, Heap, Kind, Region};
 use std::alloc::Global;
 use std::marker::Model;
@@ -40,7 +40,7 @@ pub struct Prepared {
     /// The roots after.
     pub(crate) roots: Vec<u64>,
     /// The remembered sets after.
-    pub(crate) sets: Vec<Vec<u32>>,
+    pub(crate) remembered: Vec<Vec<u32>>,
 }
 
 impl Model for Prepared {
@@ -56,7 +56,7 @@ impl Model for Prepared {
       firsts = p.firsts.items;
       regions = p.regions.items;
       roots = p.roots.items;
-      sets = map (λ s. s.items) p.sets.items;
+      remembered = map (λ s. s.items) p.remembered.items;
     } };
 }
 
@@ -115,7 +115,7 @@ fn new_roots(alloc: Global, heap: &Heap, set: &[u32], plan: &Plan) -> Result<Vec
     Ok(roots)
 }
 
-/// All that the pause of a collection set writes. `sets` are the refined sets; the plan was made from
+/// All that the pause of a collection set writes. `remembered` are the refined sets; the plan was made from
 /// this heap, this set and its survivors.
 ///
 /// # Errors
@@ -126,27 +126,54 @@ pub fn prepare(
     alloc: Global,
     tracked: &Tracked,
     starts: &Starts,
-    sets: &[Vec<u32>],
+    remembered: &[Vec<u32>],
     set: &[u32],
     plan: &Plan,
 ) -> Result<Prepared, Fault>
     requires starts { IsStartsOf tracked.now.heap starts.now }
-    requires sets { map (λ s. s.items) sets.now ≡ map (refined tracked.now) (regions tracked.now.heap) }
+    requires remembered { map (λ s. s.items) remembered.now ≡ map (refined tracked.now) (regions tracked.now.heap) }
     requires plan { IsPauseOf tracked.now.heap set.now plan.now }
     ensures ok { IfOk result (λ p. IsMadeFor p tracked.now set.now plan.now.survivors) }
     ensures memory { IfErr result (λ e. e ≡ Fault.Memory) }
 {
-    all_patches();
+    let cards = cards_into(alloc, image(tracked).heap(), remembered, set)?;
+    prepare_on(rt, alloc, tracked, starts, remembered, set, plan, &cards)
+}
+
+/// As `prepare`, for a caller that has listed the cards that lead into the set.
+///
+/// # Errors
+///
+/// `Fault::Memory` alone.
+pub fn prepare_on(
+    rt: &(impl Threads + Sync),
+    alloc: Global,
+    tracked: &Tracked,
+    starts: &Starts,
+    remembered: &[Vec<u32>],
+    set: &[u32],
+    plan: &Plan,
+    cards: &[u32],
+) -> Result<Prepared, Fault>
+    requires starts { IsStartsOf tracked.now.heap starts.now }
+    requires remembered { map (λ s. s.items) remembered.now ≡ map (refined tracked.now) (regions tracked.now.heap) }
+    requires plan { IsPauseOf tracked.now.heap set.now plan.now }
+    requires cards { cards.now ≡ cards_into tracked.now.heap (map (λ s. s.items) remembered.now) set.now }
+    ensures ok { IfOk result (λ p. IsMadeFor p tracked.now set.now plan.now.survivors) }
+    ensures memory { IfErr result (λ e. e ≡ Fault.Memory) }
+{
+    laws::all_patches();
     let heap = image(tracked).heap();
-    let cards = cards_into(alloc, heap, sets, set)?;
-    let patches = patches(rt, alloc, heap, starts, plan, &cards)?;
+    let patches = patches(rt, alloc, heap, starts, plan, cards)?;
     let gathered = gather(rt, alloc, heap, plan)?;
     let fates = fates(alloc, heap, set, plan)?;
     Ok(Prepared {
         firsts: firsts(alloc, heap, &patches)?,
         regions: new_regions(alloc, heap, &fates, plan)?,
         roots: new_roots(alloc, heap, set, plan)?,
-        sets: sets_by_fate(rt, alloc, tracked, sets, &fates, plan, &patches, &gathered)?,
+        remembered: remembered_by_fate(
+            rt, alloc, tracked, remembered, &fates, plan, &patches, &gathered,
+        )?,
         fates,
         gathered,
         patches,

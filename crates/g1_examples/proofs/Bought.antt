@@ -6,21 +6,21 @@ use Rattle.g1_words.proofs.Members.{In, In-from_contains, Contains-from_in}
 use Rattle.g1_choose.specs.Choice.{comes_before, pause_cost}
 use Rattle.g1_choose.proofs.Budget.{longest_from_walk}
 use Rattle.g1_examples.specs.Examples.{three_regions}
-use Rattle.g1_examples.specs.Choices.{unit_prices, three_sets, three_lives, Orders, Buys}
+use Rattle.g1_examples.specs.Choices.{unit_prices, three_remembered, three_lives, Orders, Buys}
 use Rattle.g1_examples.proofs.Sorted.{sorted_by_test}
 
 pub in_order : Orders (0 ∷ 1 ∷ 2 ∷ [])
-in_order = record { all = λ r. ((λ k. k), (λ k. k)); sorted = sorted_by_test (comes_before unit_prices three_regions three_sets three_lives) (0 ∷ 1 ∷ 2 ∷ []) refl }
+in_order = record { all = λ r. ((λ k. k), (λ k. k)); sorted = sorted_by_test (comes_before unit_prices three_regions three_remembered three_lives) (0 ∷ 1 ∷ 2 ∷ []) refl }
 
 -- the first m regions, where they are paid and one more isn't
-pub buys : (budget m : ℕ) (set : List ℕ) → m ≤ 3 → (0 < m → pause_cost unit_prices three_regions three_sets three_lives 0 (take m (0 ∷ 1 ∷ 2 ∷ [])) ≤ budget)
-    → (m < 3 → budget < pause_cost unit_prices three_regions three_sets three_lives 0 (take (m + 1) (0 ∷ 1 ∷ 2 ∷ [])))
+pub buys : (budget m : ℕ) (set : List ℕ) → m ≤ 3 → (0 < m → pause_cost unit_prices three_regions three_remembered three_lives 0 (take m (0 ∷ 1 ∷ 2 ∷ [])) ≤ budget)
+    → (m < 3 → budget < pause_cost unit_prices three_regions three_remembered three_lives 0 (take (m + 1) (0 ∷ 1 ∷ 2 ∷ [])))
     → set ≡ filter (has (take m (0 ∷ 1 ∷ 2 ∷ []))) (regions three_regions) → Buys budget set
 buys budget m set le pays stop e = record {
   order = 0 ∷ 1 ∷ 2 ∷ [];
   is_order = in_order;
   taken = m;
-  longest = longest_from_walk unit_prices three_regions three_sets three_lives 0 budget (0 ∷ 1 ∷ 2 ∷ []) m le pays stop;
+  longest = longest_from_walk unit_prices three_regions three_remembered three_lives 0 budget (0 ∷ 1 ∷ 2 ∷ []) m le pays stop;
   rising = e;
 }
 

@@ -9,7 +9,7 @@ use Rattle.g1_words.specs.Heap.{top, start, word, objects, object_at}
 use Rattle.g1_words.specs.Valid.{IsObject, HasObject, IsSlotOf, IsReference, IsShaped, IsShapedBy, IsValid}
 use Rattle.g1_words.proofs.Members.{In, In-from_contains}
 use Rattle.g1_words.proofs.Computed.{has_contains}
-use Rattle.g1_image.specs.Image.{IsUsedCard, IsSetOf, IsImage, set_of, region_of_card}
+use Rattle.g1_image.specs.Image.{IsUsedCard, IsRememberedSet, IsImage, remembered_of, region_of_card}
 use Rattle.g1_examples.specs.Examples.{dead_owner, dead_owner_image}
 use Rattle.g1_examples.proofs.Sorted.{all_members}
 use Rattle.g1_examples.proofs.Closed.{each_member, each_below}
@@ -86,7 +86,7 @@ dead_owner_is_valid = record {
   current_in = tt;
 }
 
-sets5 : (r : ℕ) → r < 4 → IsSetOf dead_owner r (set_of dead_owner_image r)
+sets5 : (r : ℕ) → r < 4 → IsRememberedSet dead_owner r (remembered_of dead_owner_image r)
 sets5 zero lt = record { rising = λ k lt. absurd (omega arith); elsewhere = λ k d lt. absurd (omega arith); count = lit< tt; owner = λ lt. tt }
 sets5 (suc zero) lt =
     record {
@@ -103,6 +103,6 @@ pub dead_owner_is_image : IsImage dead_owner_image
 dead_owner_is_image = record {
   heap = dead_owner_is_valid;
   one_each = refl;
-  sets = sets5;
+  remembered = sets5;
   log = record { used = λ k d lt. absurd (omega arith); distinct = λ i j d lt len. absurd (omega arith); count = lit< tt };
 }

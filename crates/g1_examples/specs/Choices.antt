@@ -10,8 +10,8 @@ abbrev pub unit_prices : Cost
 unit_prices = record { fixed = 10; dirty = 1; card = 1; byte = 1 }
 
 -- the refined sets of the three regions
-abbrev pub three_sets : List (List ℕ)
-three_sets = [] ∷ [] ∷ (0 ∷ []) ∷ [] ∷ [] ∷ [] ∷ []
+abbrev pub three_remembered : List (List ℕ)
+three_remembered = [] ∷ [] ∷ (0 ∷ []) ∷ [] ∷ [] ∷ [] ∷ []
 
 -- and their live bytes
 abbrev pub three_lives : List ℕ
@@ -19,11 +19,11 @@ three_lives = 16 ∷ 16 ∷ 8 ∷ 0 ∷ 0 ∷ 0 ∷ []
 
 -- the three regions in their order
 abbrev pub Orders : List ℕ → Type 0
-Orders order = IsOrder unit_prices three_regions three_sets three_lives order
+Orders order = IsOrder unit_prices three_regions three_remembered three_lives order
 
 -- what a budget buys of them
 abbrev pub Buys : ℕ → List ℕ → Type 0
-Buys budget set = IsChosen unit_prices three_regions three_sets three_lives 0 budget set
+Buys budget set = IsChosen unit_prices three_regions three_remembered three_lives 0 budget set
 
 -- the greatest price of a live byte, and no other
 abbrev pub byte_prices : Cost

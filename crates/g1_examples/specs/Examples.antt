@@ -52,7 +52,7 @@ with_a_gap = heap16 (filled 16 (head 12 0 ∷ []) ++ filled 48 (head 5 0 ∷ 0 �
 
 -- an image of its parts
 abbrev pub image : Heap → List (List ℕ) → List ℕ → Image
-image h sets log = record { heap = h; sets = sets; log = log }
+image h remembered log = record { heap = h; remembered = remembered; log = log }
 
 -- three regions with live and dead objects, and a remembered card that is out of date
 abbrev pub three_regions : Heap

@@ -2,11 +2,11 @@ ghost use Rattle.std.specs.Prelude.{◌≡◌, [], ◌∷◌};
 ghost use Rattle.g1_choose.specs.Choice.{candidates, IsOrder};
 ghost use Rattle.g1_choose.specs.Named.{AreDistinctOrdinary, IsFirstBad};
 ghost use Rattle.g1_examples.specs.Examples.{three_regions, humongous_owner};
-ghost use Rattle.g1_examples.specs.Choices.{unit_prices, three_sets, three_lives, Orders, Buys, byte_prices, two_full_regions};
+ghost use Rattle.g1_examples.specs.Choices.{unit_prices, three_remembered, three_lives, Orders, Buys, byte_prices, two_full_regions};
 
 /// Which regions budgets buy. Of the three regions the third alone would still fit 35.
 pub fn choices()
-    ensures candidates { candidates unit_prices three_regions three_sets three_lives ≡ 0 ∷ 1 ∷ 2 ∷ [] }
+    ensures candidates { candidates unit_prices three_regions three_remembered three_lives ≡ 0 ∷ 1 ∷ 2 ∷ [] }
     ensures order { Orders (0 ∷ 1 ∷ 2 ∷ []) }
     ensures not_the_pause { Buys 9 [] }
     ensures one_short { Buys 25 [] }

@@ -55,11 +55,11 @@ fn may_be_live(heap: &Heap, live: &[u64]) -> bool
 /// What a budget buys where these are the live bytes, and the remembered sets are the refined ones.
 fn bought(alloc: Global, image: &Image, live: &[u64], budget: u64) -> Result<Vec<u32>, Fault> {
     let heap = image.heap();
-    let sets = image.sets();
-    if !may_be_live(heap, live) || sets.len() as u64 != heap.geometry().regions() {
+    let remembered = image.remembered();
+    if !may_be_live(heap, live) || remembered.len() as u64 != heap.geometry().regions() {
         return Err(Fault::Geometry);
     }
-    choose(alloc, heap, 0, sets, live, &UNIT, budget)
+    choose(alloc, heap, 0, remembered, live, &UNIT, budget)
 }
 
 /// The candidates by efficiency where these are the live bytes: region, cost, garbage.
@@ -72,11 +72,11 @@ fn ordered(
     requires { IsCost prices.now }
 {
     let heap = image.heap();
-    let sets = image.sets();
-    if !may_be_live(heap, live) || sets.len() as u64 != heap.geometry().regions() {
+    let remembered = image.remembered();
+    if !may_be_live(heap, live) || remembered.len() as u64 != heap.geometry().regions() {
         return Err(Fault::Geometry);
     }
-    let candidates = order(alloc, heap, sets, live, prices)?;
+    let candidates = order(alloc, heap, remembered, live, prices)?;
     Ok(
         candidates
             .iter()

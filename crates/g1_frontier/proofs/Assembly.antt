@@ -12,9 +12,9 @@ use Rattle.g1_claim.specs.Claims.{TableView, SeatView, IsSeatOf}
 use Rattle.g1_words.proofs.Members.{In}
 use Rattle.g1_words.proofs.Ordered.{Ordered, pairs_from_ordered}
 use Rattle.g1_frontier.specs.declared.offering.Holder.{Holder}
-use Rattle.g1_frontier.specs.Offering.{Try, pair_of, lowered, offer_of, HasTried}
+use Rattle.g1_frontier.specs.Offering.{Try, pair_of, answered_true, offer_of, HasTried}
 use Rattle.g1_frontier.specs.Items.{piece}
-use Rattle.g1_frontier.specs.Round.{IsFresh, IsGivenOut, HasTaken, HasOffered, Rises}
+use Rattle.g1_frontier.specs.Round.{IsFreshHolder, IsGivenOut, HasTaken, HasOffered, Rises}
 use Rattle.g1_frontier.proofs.Offerings.{tried_none, tried_append}
 use Rattle.g1_frontier.proofs.Pieces.{all_pieces, some_pieces}
 use Rattle.g1_frontier.proofs.Scopes.{all_in, all_map}
@@ -36,24 +36,24 @@ module _ (place : ℕ → ℕ) (P : ℕ → List (ℕ × ℕ)) {O : Type 0} (run
     pub made : List Try
     pub each : map pair_of made ≡ ps
     pub offers : flat_map (λ h. h.seat.hand.offers) after ≡ map (offer_of place) made
-    pub kept : flat_map (λ h. h.kept.items) after ≡ map pair_of (filter lowered made)
+    pub kept : flat_map (λ h. h.kept.items) after ≡ map pair_of (filter answered_true made)
     pub shares : sum_by (λ h. h.seat.hand.shares) after ≡ length before
 
   module _ (n : ℕ) (t : TableView) where
-    pub others_together : (ss : List Holder) (ps : List (List (ℕ × O))) (ts : List Holder) → EachRan runs n ss ps ts → All (IsFresh t) ss → Together (flat_map (λ x. P x.0) (joined ps)) ss ts
+    pub others_together : (ss : List Holder) (ps : List (List (ℕ × O))) (ts : List Holder) → EachRan runs n ss ps ts → All (IsFreshHolder t) ss → Together (flat_map (λ x. P x.0) (joined ps)) ss ts
     others_together [] [] [] r f = record { made = []; each = refl; offers = refl; kept = refl; shares = refl }
     others_together [] [] (u ∷ us) r f = absurd r
     others_together [] (p ∷ ps) us r f = absurd r
     others_together (s ∷ ss) [] us r f = absurd r
     others_together (s ∷ ss) (p ∷ ps) [] r f = absurd r
     others_together (s ∷ ss) (p ∷ ps) (u ∷ us) r f =
-        let fresh : IsFresh t s = f 0 s (omega arith) in
+        let fresh : IsFreshHolder t s = f 0 s (omega arith) in
         let one = ran_tried s p u r.0 in
         let rest = others_together ss ps us r.2 (λ k d lt. f (suc k) d (omega (arith, lt))) in record {
           made = one.made ++ rest.made;
           each = map-append pair_of one.made rest.made ∙ (λ i. one.each i ++ rest.each i) ∙ sym (flat_map-append (λ (x : ℕ × O). P x.0) p (joined ps));
           offers = (λ i. (one.offers ∙ ap (λ os. os ++ map (offer_of place) one.made) fresh.no_offers) i ++ rest.offers i) ∙ sym (map-append (offer_of place) one.made rest.made);
-          kept = (λ i. (one.kept ∙ ap (λ os. os ++ map pair_of (filter lowered one.made)) fresh.none_kept) i ++ rest.kept i) ∙ sym (ap (map pair_of) (filter_append lowered one.made rest.made) ∙ map-append pair_of (filter lowered one.made) (filter lowered rest.made));
+          kept = (λ i. (one.kept ∙ ap (λ os. os ++ map pair_of (filter answered_true one.made)) fresh.none_kept) i ++ rest.kept i) ∙ sym (ap (map pair_of) (filter_append answered_true one.made rest.made) ∙ map-append pair_of (filter answered_true one.made) (filter answered_true rest.made));
           shares = let a = one.shares ∙ fresh.share in let b = rest.shares in let c = sum_by-cons (λ (h : Holder). h.seat.hand.shares) u us in omega (arith, a, b, c);
         }
 
@@ -81,14 +81,14 @@ module _ (place : ℕ → ℕ) (P : ℕ → List (ℕ × ℕ)) {O : Type 0} (run
       in_kept_at m ms ks q f true (inr k) = inr (f k)
       in_kept_at m ms ks q f false k = inr (f k)
 
-      in_kept : (ms : List Try) (q : ℕ × ℕ) → In (map pair_of (filter lowered ms)) q → In (map pair_of ms) q
+      in_kept : (ms : List Try) (q : ℕ × ℕ) → In (map pair_of (filter answered_true ms)) q → In (map pair_of ms) q
       in_kept [] q i = i
-      in_kept (m ∷ ms) q i = in_kept_at m ms (filter lowered ms) q (in_kept ms q) m.1 i
+      in_kept (m ∷ ms) q i = in_kept_at m ms (filter answered_true ms) q (in_kept ms q) m.1 i
 
-      kept_ordered : (ms : List Try) → Ordered RankLess (map pair_of ms) → Ordered RankLess (map pair_of (filter lowered ms))
+      kept_ordered : (ms : List Try) → Ordered RankLess (map pair_of ms) → Ordered RankLess (map pair_of (filter answered_true ms))
       kept_ordered [] o = tt
       kept_ordered (m ∷ ms) o =
-          elim m.1 as (λ b. Ordered RankLess (map pair_of (cond b (m ∷ filter lowered ms) (filter lowered ms)))) [
+          elim m.1 as (λ b. Ordered RankLess (map pair_of (cond b (m ∷ filter answered_true ms) (filter answered_true ms)))) [
             | true ↦ ((λ q i. o.0 q (in_kept ms q i)), kept_ordered ms o.1)
             | false ↦ kept_ordered ms o.1
           ]
@@ -96,16 +96,16 @@ module _ (place : ℕ → ℕ) (P : ℕ → List (ℕ × ℕ)) {O : Type 0} (run
       pub one_rises : (s : Holder) (p : List (ℕ × O)) (u : Holder) → Ran runs s p u → RisesBelow n (chunks_of p) → s.kept.items ≡ [] → Ordered RankLess u.kept.items
       one_rises s p u r rise none =
           let one = ran_tried s p u r in
-          subst (Ordered RankLess) (sym (one.kept ∙ ap (λ l. l ++ map pair_of (filter lowered one.made)) none)) (kept_ordered one.made (subst (Ordered RankLess) (sym one.each) (ordered p rise)))
+          subst (Ordered RankLess) (sym (one.kept ∙ ap (λ l. l ++ map pair_of (filter answered_true one.made)) none)) (kept_ordered one.made (subst (Ordered RankLess) (sym one.each) (ordered p rise)))
 
-      pub all_rise : (ss : List Holder) (ps : List (List (ℕ × O))) (ts : List Holder) → EachRan runs n ss ps ts → All (IsFresh t) ss → All (λ (h : Holder). Ordered RankLess h.kept.items) ts
+      pub all_rise : (ss : List Holder) (ps : List (List (ℕ × O))) (ts : List Holder) → EachRan runs n ss ps ts → All (IsFreshHolder t) ss → All (λ (h : Holder). Ordered RankLess h.kept.items) ts
       all_rise [] [] [] r f = All-nil (λ (h : Holder). Ordered RankLess h.kept.items)
       all_rise [] [] (u ∷ us) r f = absurd r
       all_rise [] (p ∷ ps) us r f = absurd r
       all_rise (s ∷ ss) [] us r f = absurd r
       all_rise (s ∷ ss) (p ∷ ps) [] r f = absurd r
       all_rise (s ∷ ss) (p ∷ ps) (u ∷ us) r f =
-          let fresh : IsFresh t s = f 0 s (omega arith) in
+          let fresh : IsFreshHolder t s = f 0 s (omega arith) in
           All-cons (λ (h : Holder). Ordered RankLess h.kept.items) u us (one_rises s p u r.0 r.1 fresh.none_kept) (all_rise ss ps us r.2 (λ k d lt. f (suc k) d (omega (arith, lt))))
 
   -- the last worker beside the others
@@ -181,8 +181,8 @@ module _ {A : Type 0} (t : TableView) (place : ℕ → ℕ) (f : A → List (ℕ
             ∙ ap (λ os. seat.hand.offers ++ os) (sym (map-append (offer_of place) one.made rest.made));
         kept =
             ap (flat_map (λ (l : List (ℕ × ℕ)). l)) k.kept
-            ∙ (λ i. (one.kept ∙ ap (λ ks. ks ++ map pair_of (filter lowered one.made)) g.none_kept) i ++ (flat_of_map (λ (l : List (ℕ × ℕ)). l) (λ (h : Holder). h.kept.items) k.others ∙ rest.kept) i)
-            ∙ sym (ap (map pair_of) (filter_append lowered one.made rest.made) ∙ map-append pair_of (filter lowered one.made) (filter lowered rest.made));
+            ∙ (λ i. (one.kept ∙ ap (λ ks. ks ++ map pair_of (filter answered_true one.made)) g.none_kept) i ++ (flat_of_map (λ (l : List (ℕ × ℕ)). l) (λ (h : Holder). h.kept.items) k.others ∙ rest.kept) i)
+            ∙ sym (ap (map pair_of) (filter_append answered_true one.made rest.made) ∙ map-append pair_of (filter answered_true one.made) (filter answered_true rest.made));
         rise = subst (All Rises) (sym k.kept) (All-cons Rises k.last.kept.items (map (λ (h : Holder). h.kept.items) k.others)
             (pairs_from_ordered RankLess k.last.kept.items (one_rises place P runs says n t ordered g.last l.last k.last l.ran_last l.rises g.none_kept))
             (all_map Rises (λ (h : Holder). h.kept.items) k.others (λ h i. pairs_from_ordered RankLess h.kept.items (all_in (λ (h : Holder). Ordered RankLess h.kept.items) k.others h (all_rise place P runs says n t ordered g.others l.others k.others l.ran g.fresh) i))));

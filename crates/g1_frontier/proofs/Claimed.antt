@@ -17,8 +17,8 @@ use Rattle.g1_rem.specs.Slots.{slots_on}
 use Rattle.g1_frontier.specs.declared.item.Item.{Item}
 use Rattle.g1_frontier.specs.declared.item.Item.TheVariants.{Root, Card, Object}
 use Rattle.g1_frontier.specs.Items.{aims, pairs, all_pairs}
-use Rattle.g1_frontier.specs.Offering.{Try, pair_of, lowered, offer_of}
-use Rattle.g1_frontier.specs.Round.{Rises, AreAbove, bid_of, bid, AddsOffers, winners, HasOffered, IsMerged}
+use Rattle.g1_frontier.specs.Offering.{Try, pair_of, answered_true, offer_of}
+use Rattle.g1_frontier.specs.Round.{Rises, AreAbove, bid_of, bid, AddsOffers, winners, HasOffered, IsByRank}
 use Rattle.g1_frontier.proofs.Assembly.{RankLess}
 use Rattle.g1_frontier.proofs.Winning.{RanksDiffer, in_permuted, merged_won}
 use Rattle.g1_frontier.proofs.Merges.{rises_strictly}
@@ -84,14 +84,14 @@ in_some_at m ms ks q f true (inl e) = inl e
 in_some_at m ms ks q f true (inr k) = inr (f k)
 in_some_at m ms ks q f false k = inr (f k)
 
-pub in_some : (ms : List Try) (q : ℕ × ℕ) → In (map pair_of (filter lowered ms)) q → In (map pair_of ms) q
+pub in_some : (ms : List Try) (q : ℕ × ℕ) → In (map pair_of (filter answered_true ms)) q → In (map pair_of ms) q
 in_some [] q i = i
-in_some (m ∷ ms) q i = in_some_at m ms (filter lowered ms) q (in_some ms q) m.1 i
+in_some (m ∷ ms) q i = in_some_at m ms (filter answered_true ms) q (in_some ms q) m.1 i
 
-some_differ : (ms : List Try) → Ordered RanksDiffer (map pair_of ms) → Ordered RanksDiffer (map pair_of (filter lowered ms))
+some_differ : (ms : List Try) → Ordered RanksDiffer (map pair_of ms) → Ordered RanksDiffer (map pair_of (filter answered_true ms))
 some_differ [] o = tt
 some_differ (m ∷ ms) o =
-    elim m.1 as (λ b. Ordered RanksDiffer (map pair_of (cond b (m ∷ filter lowered ms) (filter lowered ms)))) [
+    elim m.1 as (λ b. Ordered RanksDiffer (map pair_of (cond b (m ∷ filter answered_true ms) (filter answered_true ms)))) [
       | true ↦ ((λ q i. o.0 q (in_some ms q i)), some_differ ms o.1)
       | false ↦ some_differ ms o.1
     ]
@@ -111,17 +111,17 @@ module _ (t : TableView) (place : ℕ → ℕ) (ps : List (ℕ × ℕ)) (before 
   )
 
   module _ (merged : List (ℕ × ℕ)) (perm : IsPermutation (flat_map (λ l. l) lists) merged) where
-    kept_all : IsPermutation (map pair_of (filter lowered o.made)) merged
+    kept_all : IsPermutation (map pair_of (filter answered_true o.made)) merged
     kept_all = subst (λ l. IsPermutation l merged) o.kept perm
 
     pub merged_from : (q : ℕ × ℕ) → In merged q → In ps q
-    merged_from q i = in_permuted (map pair_of o.made) ps q o.each (in_some o.made q (in_permuted merged (map pair_of (filter lowered o.made)) q (IsPermutation-sym (map pair_of (filter lowered o.made)) merged kept_all) i))
+    merged_from q i = in_permuted (map pair_of o.made) ps q o.each (in_some o.made q (in_permuted merged (map pair_of (filter answered_true o.made)) q (IsPermutation-sym (map pair_of (filter answered_true o.made)) merged kept_all) i))
 
-    pub round_won : Rises ps → AreAbove before.hand.offers ps → IsMerged merged → winners place after.hand.offers merged ≡ winners place after.hand.offers ps
+    pub round_won : Rises ps → AreAbove before.hand.offers ps → IsByRank merged → winners place after.hand.offers merged ≡ winners place after.hand.offers ps
     round_won rise above in_order =
         let risen : Ordered RankLess ps = Ordered-from_pairs RankLess ps rise in
         let differ : Ordered RanksDiffer (map pair_of o.made) = differ_permuted ps (map pair_of o.made) (IsPermutation-sym (map pair_of o.made) ps o.each) (rises_differ ps risen) in
         let strictly : Ordered RankLess merged =
-        rises_strictly merged (Ordered-from_pairs (λ (q r : ℕ × ℕ). q.0 ≤ r.0) merged in_order) (differ_permuted (map pair_of (filter lowered o.made)) merged kept_all (some_differ o.made differ)) in
+        rises_strictly merged (Ordered-from_pairs (λ (q r : ℕ × ℕ). q.0 ≤ r.0) merged in_order) (differ_permuted (map pair_of (filter answered_true o.made)) merged kept_all (some_differ o.made differ)) in
         merged_won place ps merged before.hand.offers after.hand.offers o.made o.offers o.each risen differ
         (λ a q i j e. let lt = all_in (λ q. a.rank < q.0) ps q (all_in (λ a. All (λ q. a.rank < q.0) ps) before.hand.offers a above i) j in omega (arith, lt, e)) o.settled kept_all strictly

@@ -11,7 +11,7 @@ use Rattle.g1_words.specs.Survivors.{in_set}
 use Rattle.g1_words.proofs.Bounds.{cards_in_region, card_in_region}
 use Rattle.g1_words.proofs.Computed.{range_below}
 use Rattle.g1_words.proofs.Members.{In, In-from_contains, Contains-from_in, filter_member, in_from_has}
-use Rattle.g1_image.specs.Image.{Image, IsImage, set_of, region_of_card}
+use Rattle.g1_image.specs.Image.{Image, IsImage, remembered_of, region_of_card}
 use Rattle.g1_image.specs.Cards.{refined, is_refined, Covered}
 use Rattle.g1_image.proofs.Covers.{cards_rise, exact_tells, refined_tells, covered_tells}
 use Rattle.g1_rem.specs.Starts.{card_count}
@@ -39,7 +39,7 @@ module _ (i : Image) (good : IsImage i) where
   -- no card of a refined set lies in its region
   refined_elsewhere : (r c : ℕ) → r < i.heap.geometry.n → Contains (refined i r) c → c * i.heap.geometry.k / i.heap.geometry.w ≢ r
   refined_elsewhere r c lt k = elim ((refined_tells i good r c lt).0 k) [
-    | inl m ↦ (all_in (λ x. Rattle.g1_image.specs.Image.IsUsedCard i.heap x × (region_of_card i.heap x ≢ r)) (set_of i r) c (good.sets r lt).elsewhere (In-from_contains (set_of i r) c m)).1
+    | inl m ↦ (all_in (λ x. Rattle.g1_image.specs.Image.IsUsedCard i.heap x × (region_of_card i.heap x ≢ r)) (remembered_of i r) c (good.remembered r lt).elsewhere (In-from_contains (remembered_of i r) c m)).1
     | inr m ↦ (let e = (exact_tells i.heap good.heap r c).0 m.1 in λ z. e.3 (sym (card_home e.0.slot) ∙ ap (λ x. x * i.heap.geometry.k / i.heap.geometry.w) e.4 ∙ z))
   ]
 
@@ -89,22 +89,22 @@ get_of_map f [] n v d lt = absurd (omega (arith, lt))
 get_of_map f (x ∷ xs) zero v d lt = refl
 get_of_map f (x ∷ xs) (suc n) v d lt = get_of_map f xs n v d (omega (arith, lt))
 
-module _ {A : Type 0} (f : A → List ℕ) (t i : Image) (h : Heap) (sets : List A) (same : i ≡ t) (heap : h ≡ i.heap) (all : map f sets ≡ map (refined t) (regions t.heap)) where
-  pub sets_one_each : length sets ≡ h.geometry.n
-  sets_one_each =
-      let a : length (map f sets) ≡ length sets = length-map sets f in
+module _ {A : Type 0} (f : A → List ℕ) (t i : Image) (h : Heap) (remembered : List A) (same : i ≡ t) (heap : h ≡ i.heap) (all : map f remembered ≡ map (refined t) (regions t.heap)) where
+  pub remembered_one_each : length remembered ≡ h.geometry.n
+  remembered_one_each =
+      let a : length (map f remembered) ≡ length remembered = length-map remembered f in
       let b : length (map (refined t) (regions t.heap)) ≡ t.heap.geometry.n = length-map (regions t.heap) (refined t) ∙ length-range_with_len 0 t.heap.geometry.n in
       sym a ∙ ap length all ∙ b ∙ ap (λ (j : Image). j.heap.geometry.n) (sym same) ∙ ap (λ (j : Heap). j.geometry.n) (sym heap)
 
-  pub one_leads_in : (r : ℕ) (v : A) (cards : List ℕ) → IsImage i → Covered t → r < h.geometry.n → v ≡ get_or sets r v → cards ≡ f v
+  pub one_leads_in : (r : ℕ) (v : A) (cards : List ℕ) → IsImage i → Covered t → r < h.geometry.n → v ≡ get_or remembered r v → cards ≡ f v
       → AreCards h cards × AreOutside h (r ∷ []) cards × LeadIn h (r ∷ []) cards
   one_leads_in r v cards good covered lt at its =
-      let low : r < length sets = omega (arith, lt, sets_one_each) in
+      let low : r < length remembered = omega (arith, lt, remembered_one_each) in
       let there : r < t.heap.geometry.n = subst (λ n. r < n) (ap (λ (j : Heap). j.geometry.n) heap ∙ ap (λ (j : Image). j.heap.geometry.n) same) lt in
       let count : length (regions t.heap) ≡ t.heap.geometry.n = length-range_with_len 0 t.heap.geometry.n in
       let number : get_or (regions t.heap) r 0 ≡ r = get_or-range_with_len 0 t.heap.geometry.n r 0 there ∙ (let e : 0 + r ≡ r = omega arith in e) in
       let read : cards ≡ refined t r =
-      its ∙ ap f at ∙ sym (get_of_map f sets r v [] low) ∙ ap (λ l. get_or l r []) all ∙ read_at t (regions t.heap) r (omega (arith, there, count)) ∙ ap (refined t) number in
+      its ∙ ap f at ∙ sym (get_of_map f remembered r v [] low) ∙ ap (λ l. get_or l r []) all ∙ read_at t (regions t.heap) r (omega (arith, there, count)) ∙ ap (refined t) number in
       let good' : IsImage t = subst IsImage same good in
       let k = refined_leads_in t r good' covered there in
       let to_heap : t.heap ≡ h = ap (λ (j : Image). j.heap) (sym same) ∙ sym heap in

@@ -6,7 +6,7 @@ use Rattle.g1_words.specs.Heap.{Heap}
 use Rattle.g1_words.specs.Survivors.{in_set}
 use Rattle.g1_frontier.specs.declared.offering.Holder.{Holder}
 use Rattle.g1_frontier.specs.Items.{aims}
-use Rattle.g1_frontier.specs.Offering.{pair_of, lowered, offer_of, HasTried}
+use Rattle.g1_frontier.specs.Offering.{pair_of, answered_true, offer_of, HasTried}
 use Rattle.g1_frontier.proofs.Seeds.{filter_append}
 
 module _ (place : ℕ → ℕ) where
@@ -28,8 +28,8 @@ module _ (place : ℕ → ℕ) where
         y.offers ∙ ap (λ os. os ++ map (offer_of place) y.made) x.offers ∙ append_assoc a.seat.hand.offers (map (offer_of place) x.made) (map (offer_of place) y.made)
         ∙ ap (λ os. a.seat.hand.offers ++ os) (sym (map-append (offer_of place) x.made y.made));
     kept =
-        y.kept ∙ ap (λ is. is ++ map pair_of (filter lowered y.made)) x.kept ∙ append_assoc a.kept.items (map pair_of (filter lowered x.made)) (map pair_of (filter lowered y.made))
-        ∙ ap (λ is. a.kept.items ++ is) (sym (ap (map pair_of) (filter_append lowered x.made y.made) ∙ map-append pair_of (filter lowered x.made) (filter lowered y.made)));
+        y.kept ∙ ap (λ is. is ++ map pair_of (filter answered_true y.made)) x.kept ∙ append_assoc a.kept.items (map pair_of (filter answered_true x.made)) (map pair_of (filter answered_true y.made))
+        ∙ ap (λ is. a.kept.items ++ is) (sym (ap (map pair_of) (filter_append answered_true x.made y.made) ∙ map-append pair_of (filter answered_true x.made) (filter answered_true y.made)));
     table = y.table ∙ x.table;
     shares = y.shares ∙ x.shares;
   }
@@ -46,7 +46,7 @@ module _ (place : ℕ → ℕ) where
     shares = shares;
   }
     where
-      at : (b : Bool) → cond b ((rank, a) ∷ []) [] ≡ map pair_of (filter lowered (((rank, a), b) ∷ []))
+      at : (b : Bool) → cond b ((rank, a) ∷ []) [] ≡ map pair_of (filter answered_true (((rank, a), b) ∷ []))
       at true = refl
       at false = refl
 

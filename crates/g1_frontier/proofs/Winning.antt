@@ -7,7 +7,7 @@ use Rattle.g1_claim.proofs.Totals.{times_offered-append, times_won-append}
 use Rattle.g1_words.proofs.Members.{In, In-append_cases, In-map, map_cases, In-filter, filter_member}
 use Rattle.g1_words.proofs.Ordered.{Ordered, same_order}
 use Rattle.g1_words.proofs.Rising.{Ordered-filter}
-use Rattle.g1_frontier.specs.Offering.{Try, pair_of, lowered, offer_of}
+use Rattle.g1_frontier.specs.Offering.{Try, pair_of, answered_true, offer_of}
 use Rattle.g1_frontier.specs.Round.{is_least, winners}
 use Rattle.g1_frontier.proofs.Assembly.{RankLess}
 use Rattle.g1_frontier.proofs.Scopes.{all_in, In-get}
@@ -73,7 +73,7 @@ offers_differ place (m ∷ ms) o = (
 
 -- of what the workers kept and was merged, that which is still there is what won, by rising rank
 pub merged_won : (place : ℕ → ℕ) (ps merged : List (ℕ × ℕ)) (before after : List Offer) (made : List Try) → after ≡ before ++ map (offer_of place) made → IsPermutation (map pair_of made) ps → Ordered RankLess ps → Ordered RanksDiffer (map pair_of made)
-    → ((o : Offer) (q : ℕ × ℕ) → In before o → In ps q → o.rank ≢ q.0) → IsSettled after → IsPermutation (map pair_of (filter lowered made)) merged → Ordered RankLess merged
+    → ((o : Offer) (q : ℕ × ℕ) → In before o → In ps q → o.rank ≢ q.0) → IsSettled after → IsPermutation (map pair_of (filter answered_true made)) merged → Ordered RankLess merged
     → winners place after merged ≡ winners place after ps
 merged_won place ps merged before after made is perm rise differ above settled kept in_order =
     let test : ℕ × ℕ → Bool = is_least place after in
@@ -81,13 +81,13 @@ merged_won place ps merged before after made is perm rise differ above settled k
     (Ordered-filter RankLess (is_least place after) merged in_order) (Ordered-filter RankLess (is_least place after) ps rise)
     (λ q i.
     let f = filter_member (is_least place after) merged q i in
-    let m = map_cases pair_of (filter lowered made) q (in_permuted merged (map pair_of (filter lowered made)) q (IsPermutation-sym (map pair_of (filter lowered made)) merged kept) f.0) in
-    let t = filter_member lowered made m.0 m.1 in
+    let m = map_cases pair_of (filter answered_true made) q (in_permuted merged (map pair_of (filter answered_true made)) q (IsPermutation-sym (map pair_of (filter answered_true made)) merged kept) f.0) in
+    let t = filter_member answered_true made m.0 m.1 in
     In-filter (is_least place after) ps q (in_permuted (map pair_of made) ps q perm (subst (In (map pair_of made)) m.2 (In-map pair_of made m.0 t.0))) f.1)
     (λ q i.
     let f = filter_member (is_least place after) ps q i in
     let m = map_cases pair_of made q (in_permuted ps (map pair_of made) q (IsPermutation-sym (map pair_of made) ps perm) f.0) in
-    let won : lowered m.0 ≡ true =
+    let won : answered_true m.0 ≡ true =
     winner_won after before (map (offer_of place) made) is
     (λ a b k l.
     let c = map_cases (offer_of place) made b l in
@@ -95,4 +95,4 @@ merged_won place ps merged before after made is perm rise differ above settled k
     (offers_differ place made differ) settled (offer_of place m.0) (In-map (offer_of place) made m.0 m.1)
     (subst (λ (r : ℕ × ℕ). is_least place after r ≡ true) (sym m.2) f.1) in
     In-filter (is_least place after) merged q
-    (in_permuted (map pair_of (filter lowered made)) merged q kept (subst (In (map pair_of (filter lowered made))) m.2 (In-map pair_of (filter lowered made) m.0 (In-filter lowered made m.0 m.1 won)))) f.1)
+    (in_permuted (map pair_of (filter answered_true made)) merged q kept (subst (In (map pair_of (filter answered_true made))) m.2 (In-map pair_of (filter answered_true made) m.0 (In-filter answered_true made m.0 m.1 won)))) f.1)

@@ -15,8 +15,8 @@ abbrev pub pair_of : Try → ℕ × ℕ
 pair_of t = t.0
 
 -- whether the offer answered true
-abbrev pub lowered : Try → Bool
-lowered t = t.1
+abbrev pub answered_true : Try → Bool
+answered_true t = t.1
 
 -- the offer, at the address's place
 abbrev pub offer_of : (ℕ → ℕ) → Try → Offer
@@ -27,7 +27,7 @@ pub record HasTried (place : ℕ → ℕ) (ps : List (ℕ × ℕ)) (before after
   pub made : List Try
   pub each : map pair_of made ≡ ps
   pub offers : after.seat.hand.offers ≡ before.seat.hand.offers ++ map (offer_of place) made
-  pub kept : after.kept.items ≡ before.kept.items ++ map pair_of (filter lowered made)
+  pub kept : after.kept.items ≡ before.kept.items ++ map pair_of (filter answered_true made)
   pub table : after.seat.table ≡ before.seat.table
   pub shares : after.seat.hand.shares ≡ before.seat.hand.shares
 

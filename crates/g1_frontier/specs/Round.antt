@@ -4,7 +4,7 @@ use Rattle.std.specs.List.{All, AllPairs}
 use Rattle.g1_claim.specs.declared.rule.Offer.{Offer}
 use Rattle.g1_claim.specs.Claims.{TableView, SeatView, IsSeatOf, IsSettled, least_rank}
 use Rattle.g1_frontier.specs.declared.offering.Holder.{Holder}
-use Rattle.g1_frontier.specs.Offering.{Try, pair_of, lowered, offer_of}
+use Rattle.g1_frontier.specs.Offering.{Try, pair_of, answered_true, offer_of}
 
 -- the ranks rise
 abbrev pub Rises : List (ℕ × ℕ) → Type 0
@@ -35,7 +35,7 @@ abbrev pub winners : (ℕ → ℕ) → List Offer → List (ℕ × ℕ) → List
 winners place os ps = filter (is_least place os) ps
 
 -- a worker that has offered and kept nothing, with one share
-pub record IsFresh (t : TableView) (h : Holder) : Type 0 where
+pub record IsFreshHolder (t : TableView) (h : Holder) : Type 0 where
   pub seat : IsSeatOf t h.seat
   pub share : h.seat.hand.shares ≡ 1
   pub no_offers : h.seat.hand.offers ≡ []
@@ -47,7 +47,7 @@ pub record IsGivenOut (t : TableView) (before : SeatView) (count : ℕ) (holders
   pub last : Holder
   pub are : holders ≡ others ++ last ∷ []
   pub count_is : length holders ≡ count
-  pub fresh : All (IsFresh t) others
+  pub fresh : All (IsFreshHolder t) others
   pub seat : IsSeatOf t last.seat
   pub shares : length others + last.seat.hand.shares ≡ 64
   pub offers : last.seat.hand.offers ≡ before.hand.offers
@@ -69,12 +69,12 @@ pub record HasOffered (t : TableView) (place : ℕ → ℕ) (ps : List (ℕ × �
   pub made : List Try
   pub each : IsPermutation (map pair_of made) ps
   pub offers : after.hand.offers ≡ before.hand.offers ++ map (offer_of place) made
-  pub kept : flat_map (λ l. l) lists ≡ map pair_of (filter lowered made)
+  pub kept : flat_map (λ l. l) lists ≡ map pair_of (filter answered_true made)
   pub rise : All Rises lists
   pub seat : IsSeatOf t after
   pub whole : after.hand.shares ≡ 64
   pub settled : IsSettled after.hand.offers
 
 -- no rank is above a later one
-abbrev pub IsMerged : List (ℕ × ℕ) → Type 0
-IsMerged ps = AllPairs (λ q r. q.0 ≤ r.0) ps
+abbrev pub IsByRank : List (ℕ × ℕ) → Type 0
+IsByRank ps = AllPairs (λ q r. q.0 ≤ r.0) ps

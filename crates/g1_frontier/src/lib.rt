@@ -24,14 +24,13 @@
 #![tactic(auto)]
 
 mod item;
-mod laws;
+pub mod laws;
 mod offering;
 mod round;
 mod scope;
 mod survivors;
 
 pub use item::Item;
-pub use laws::refined_sets_lead_in;
 pub use round::claim_round;
 pub use survivors::discover;
 

@@ -34,13 +34,13 @@ pub struct Offers<'a> {
 // Keeps a rank and an address, if so told.
 pub(crate) fn keep_if(
     kept: &mut Vec<(u64, u64)>,
-    lowered: bool,
+    answered_true: bool,
     rank: u64,
     address: u64,
 ) -> Result<(), AllocError>
-    ensures { OnOk result (kept.new.items ≡ kept.old.items ++ cond lowered ((rank, address) ∷ []) []) }
+    ensures { OnOk result (kept.new.items ≡ kept.old.items ++ cond answered_true ((rank, address) ∷ []) []) }
 {
-    if lowered {
+    if answered_true {
         kept.push((rank, address))?;
     }
     Ok(())
@@ -79,8 +79,8 @@ impl<'a> Offers<'a> {
             None => Ok(()),
             Some(place) => {
                 let rank = base + offset;
-                let lowered = self.claims.offer(&mut holder.seat, place, rank);
-                keep_if(&mut holder.kept, lowered, rank, address)?;
+                let answered_true = self.claims.offer(&mut holder.seat, place, rank);
+                keep_if(&mut holder.kept, answered_true, rank, address)?;
                 Ok(())
             }
         }

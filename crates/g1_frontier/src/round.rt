@@ -7,7 +7,7 @@ ghost use Rattle.g1_frontier.specs.Window.{AreRegions, place};
 ghost use Rattle.g1_frontier.specs.Items.{IsItem, IsOutside, all_pairs, AreRanks};
 ghost use Rattle.g1_frontier.specs.Scope.{inside, place_in, all_pairs_in};
 ghost use Rattle.g1_frontier.specs.Offering.{HasPlaces};
-ghost use Rattle.g1_frontier.specs.Round.{Rises, AreAbove, AddsOffers, winners, IsGivenOut, HasTaken, HasOffered, IsMerged};
+ghost use Rattle.g1_frontier.specs.Round.{Rises, AreAbove, AddsOffers, winners, IsGivenOut, HasTaken, HasOffered, IsByRank};
 
 use crate::item::Item;
 use crate::offering::{Holder, Offers, Round, keep_if};
@@ -15,7 +15,7 @@ use crate::scope::Scope;
 use g1_claim::{ClaimSeat, Claims, shares};
 use g1_rem::Starts;
 use g1_words::{Fault, Heap};
-use g1_work::{Gate, each_chunk};
+use g1_work::{Gate, Team, each_chunk};
 use itertools::Itertools;
 use std::alloc::{AllocError, Global};
 use std::thread::Threads;
@@ -99,8 +99,7 @@ fn offer_all<R: Threads + Sync, G: Gate + Sync>(
     claims: &Claims,
     seat: ClaimSeat,
     items: &[Item],
-    workers: u64,
-    chunk: u64,
+    team: Team,
     gate: &G,
 ) -> Result<(ClaimSeat, Vec<Vec<(u64, u64)>>), Fault>
     requires places { HasPlaces scope.now claims.now }
@@ -109,14 +108,13 @@ fn offer_all<R: Threads + Sync, G: Gate + Sync>(
     requires ranks { AreRanks (all_pairs_in scope.now items.now) }
     requires rise { Rises (all_pairs_in scope.now items.now) }
     requires few { length items.now < 2 ^ 32 }
-    requires workers { (0 < workers) × (workers ≤ 64) }
-    requires chunk { (0 < chunk) × (chunk ≤ 65536) }
     ensures ok { IfOk result (λ r. HasOffered claims.now (place_in scope.now) (all_pairs_in scope.now items.now) seat r.0 (map (λ l. l.items) r.1.items)) }
     ensures memory { IfErr result (λ e. e ≡ Memory) }
 {
-    let chunk = chunk as usize;
+    let chunk = team.chunk() as usize;
     let count = (items.len() + chunk - 1) / chunk;
-    let holders = give_out(alloc, claims, seat, (workers as usize).min(count).max(1))?;
+    let workers = team.workers() as usize;
+    let holders = give_out(alloc, claims, seat, workers.min(count).max(1))?;
     let round = Round {
         offers: Offers { scope, claims },
         items,
@@ -131,7 +129,7 @@ fn offer_all<R: Threads + Sync, G: Gate + Sync>(
 fn merged(alloc: Global, lists: Vec<Vec<(u64, u64)>>) -> Result<Vec<(u64, u64)>, AllocError>
     requires rise { All (λ l. Rises l.items) lists.items }
     ensures same { IfOk result (λ v. IsPermutation (flat_map (λ l. l.items) lists.items) v.items) }
-    ensures in_order { IfOk result (λ v. IsMerged v.items) }
+    ensures in_order { IfOk result (λ v. IsByRank v.items) }
 {
     let pairs = lists.into_iter().kmerge(alloc)?;
     let merged = pairs.collect(alloc)?;
@@ -145,7 +143,7 @@ fn in_rank_order(
 ) -> Result<Vec<(u64, u64)>, AllocError>
     requires rise { All (λ l. Rises l.items) lists.items }
     ensures same { IfOk result (λ v. IsPermutation (flat_map (λ l. l.items) lists.items) v.items) }
-    ensures in_order { IfOk result (λ v. IsMerged v.items) }
+    ensures in_order { IfOk result (λ v. IsByRank v.items) }
 {
     if lists.len() != 1 {
         return merged(alloc, lists);
@@ -234,9 +232,8 @@ pub fn claim_round<R: Threads + Sync, G: Gate + Sync>(
         starts,
         window,
     };
-    let (mut seat, lists) = offer_all(
-        rt, alloc, &scope, &claims, seat, items, workers, chunk, gate,
-    )?;
+    let team = Team::new(workers, chunk);
+    let (mut seat, lists) = offer_all(rt, alloc, &scope, &claims, seat, items, team, gate)?;
     let kept = in_rank_order(alloc, lists)?;
     let won = still_there(alloc, &scope, &claims, &mut seat, kept.as_slice())?;
     Ok((claims, seat, won))

@@ -13,7 +13,7 @@ use crate::round::claim_round;
 use g1_claim::{ClaimSeat, Claims};
 use g1_rem::Starts;
 use g1_words::{Fault, Heap, REFS_RANGE};
-use g1_work::Gate;
+use g1_work::{Gate, Team};
 use std::alloc::{AllocError, Global};
 use std::thread::Threads;
 
@@ -35,14 +35,11 @@ const ITEMS_A_WORKER: usize = 2048;
 
 const ROUNDS_OF_TWO: u64 = 16;
 
-// How many of the workers a round of so many items hires.
-fn hired(workers: u64, items: usize, round: u64) -> u64
-    requires { (0 < workers) × (workers ≤ 64) }
-    ensures { (0 < result) × (result ≤ 64) }
-{
+// Those of the team that a round of so many items hires.
+fn hired(team: Team, items: usize, round: u64) -> Team {
     let fed = (items / ITEMS_A_WORKER) as u64;
     let fewest = if round < ROUNDS_OF_TWO { 2 } else { 1 };
-    workers.min(fed.max(fewest))
+    Team::new(team.workers().min(fed.max(fewest)), team.chunk())
 }
 
 // The roots, by number, then the cards.
@@ -107,8 +104,7 @@ pub(crate) fn first_round<R: Threads + Sync, G: Gate + Sync>(
     starts: &Starts,
     window: &[u32],
     cards: &[u32],
-    workers: u64,
-    chunk: u64,
+    team: Team,
     gate: &G,
 ) -> Result<Search, Fault>
     requires starts { IsStartsOf heap.now starts.now }
@@ -116,8 +112,6 @@ pub(crate) fn first_round<R: Threads + Sync, G: Gate + Sync>(
     requires cards { AreCards heap.now cards.now }
     requires outside { AreOutside heap.now window.now cards.now }
     requires lead_in { LeadIn heap.now window.now cards.now }
-    requires workers { (0 < workers) × (workers ≤ 64) }
-    requires chunk { (0 < chunk) × (chunk ≤ 65536) }
     ensures ok { IfOk result (IsSearching heap.now window.now) }
     ensures memory { IfErr result (λ e. e ≡ Memory) }
 {
@@ -126,9 +120,10 @@ pub(crate) fn first_round<R: Threads + Sync, G: Gate + Sync>(
     let (claims, seat) = Claims::new(alloc, places)?;
     let first = first_items(alloc, roots, cards)?;
     let items = first.as_slice();
-    let hired = hired(workers, items.len(), 0);
+    let hired = hired(team, items.len(), 0);
+    let (workers, chunk) = (hired.workers(), hired.chunk());
     let (claims, seat, won) = claim_round(
-        rt, alloc, heap, starts, window, claims, seat, items, hired, chunk, gate,
+        rt, alloc, heap, starts, window, claims, seat, items, workers, chunk, gate,
     )?;
     let mut found = Vec::new(alloc);
     push_addresses(&mut found, won.as_slice())?;
@@ -149,15 +144,12 @@ pub(crate) fn next_round<R: Threads + Sync, G: Gate + Sync>(
     starts: &Starts,
     window: &[u32],
     search: Search,
-    workers: u64,
-    chunk: u64,
+    team: Team,
     gate: &G,
 ) -> Result<Search, Fault>
     requires starts { IsStartsOf heap.now starts.now }
     requires window { AreRegions heap.now window.now }
     requires search { IsSearching heap.now window.now search }
-    requires workers { (0 < workers) × (workers ≤ 64) }
-    requires chunk { (0 < chunk) × (chunk ≤ 65536) }
     ensures ok { IfOk result (IsSearching heap.now window.now) }
     ensures from { IfOk result (λ s. s.from ≡ vec_len search.found) }
     ensures memory { IfErr result (λ e. e ≡ Memory) }
@@ -173,6 +165,7 @@ pub(crate) fn next_round<R: Threads + Sync, G: Gate + Sync>(
     } = search;
     let (items, next) = object_items(alloc, heap, &found[from..], next)?;
     let items = items.as_slice();
+    let (workers, chunk) = (team.workers(), team.chunk());
     let (claims, seat, won) = claim_round(
         rt, alloc, heap, starts, window, claims, seat, items, workers, chunk, gate,
     )?;
@@ -223,11 +216,12 @@ pub fn discover<R: Threads + Sync, G: Gate + Sync>(
 {
     // Tells that the heap is valid.
     heap.geometry();
-    let mut search = first_round(rt, alloc, heap, starts, window, cards, workers, chunk, gate)?;
+    let team = Team::new(workers, chunk);
+    let mut search = first_round(rt, alloc, heap, starts, window, cards, team, gate)?;
     let mut round: u64 = 1;
     while search.from < search.found.len() {
-        let hired = hired(workers, search.found.len() - search.from, round);
-        search = next_round(rt, alloc, heap, starts, window, search, hired, chunk, gate)?;
+        let hired = hired(team, search.found.len() - search.from, round);
+        search = next_round(rt, alloc, heap, starts, window, search, hired, gate)?;
         round = round.saturating_add(1);
     }
     Ok(search.found)

@@ -6,7 +6,7 @@ use g1_claim::EMPTY;
 use g1_image::decode;
 use g1_rem::{Starts, image, refine, verify};
 use g1_words::Fault;
-use g1_work::{Gate, Open, Part};
+use g1_work::{Gate, Open, Part, Team};
 use std::alloc::{AllocError, Global};
 use std::sync::atomic::{AtomicBool, AtomicU64, Ordering};
 use std::test::Fail;
@@ -90,7 +90,7 @@ fn survivors<R: Threads + Sync, G: Gate + Sync>(
         return Err(Fault::Set(1));
     }
     let starts = Starts::build(alloc, heap)?;
-    let sets = refine(rt, alloc, &tracked, &starts)?;
+    let remembered = refine(rt, alloc, &tracked, &starts)?;
     let window: [u32; 1] = [1];
     discover(
         rt,
@@ -98,7 +98,7 @@ fn survivors<R: Threads + Sync, G: Gate + Sync>(
         heap,
         &starts,
         &window,
-        sets[1].as_slice(),
+        remembered[1].as_slice(),
         workers,
         chunk,
         gate,
@@ -231,12 +231,8 @@ fn two_rounds<R: Threads + Sync>(
     rt: &R,
     alloc: Global,
     text: &[u8],
-    workers: u64,
-    chunk: u64,
-) -> Result<Rounds, Fault>
-    requires workers { (0 < workers) × (workers ≤ 64) }
-    requires chunk { (0 < chunk) × (chunk ≤ 65536) }
-{
+    team: Team,
+) -> Result<Rounds, Fault> {
     let tracked = match verify(rt, alloc, decode(alloc, text)?) {
         Ok(tracked) => tracked,
         Err((_, fault)) => return Err(fault),
@@ -246,16 +242,12 @@ fn two_rounds<R: Threads + Sync>(
         return Err(Fault::Set(1));
     }
     let starts = Starts::build(alloc, heap)?;
-    let sets = refine(rt, alloc, &tracked, &starts)?;
+    let remembered = refine(rt, alloc, &tracked, &starts)?;
     let window: [u32; 1] = [1];
-    let cards = sets[1].as_slice();
-    let search = first_round(
-        rt, alloc, heap, &starts, &window, cards, workers, chunk, &Open,
-    )?;
+    let cards = remembered[1].as_slice();
+    let search = first_round(rt, alloc, heap, &starts, &window, cards, team, &Open)?;
     let first = search.found.clone()?;
-    let search = next_round(
-        rt, alloc, heap, &starts, &window, search, workers, chunk, &Open,
-    )?;
+    let search = next_round(rt, alloc, heap, &starts, &window, search, team, &Open)?;
     let Search {
         claims,
         seat,
@@ -274,7 +266,7 @@ fn two_rounds<R: Threads + Sync>(
 #[test]
 fn the_least_rank_of_each_place_stays_its_word(rt: HostRuntime) -> Result<(), Fail> {
     let text = text_of(rt.alloc(), &SHARED, &shared_words())?;
-    let two = two_rounds(&rt, rt.alloc(), &text, 8, 1)?;
+    let two = two_rounds(&rt, rt.alloc(), &text, Team::new(8, 1))?;
     assert_eq!(rt; two.first.as_slice(), [21, 16].as_slice());
     assert_eq!(rt; two.both.as_slice(), [21, 16].as_slice());
     assert_eq!(rt; two.next, 69);

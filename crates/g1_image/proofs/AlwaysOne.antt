@@ -16,7 +16,7 @@ use Rattle.g1_image.specs.Image.{Image, IsTextOf, heap_of, all_words, region_of_
 use Rattle.g1_image.specs.Draft.{IsDraft}
 use Rattle.g1_image.specs.Judged.{IsGoodHeap}
 use Rattle.g1_image.specs.Plain.{plain_file, PlainIs}
-use Rattle.g1_image.specs.Faults.{FileFits, FileFault, FaultOf, KindKnown, RootGood, SlotGood, LogGood, SetGood}
+use Rattle.g1_image.specs.Faults.{FileFits, FileFault, FaultOf, KindKnown, RootGood, SlotGood, LogGood, RememberedGood}
 use Rattle.g1_image.proofs.Drafts.{length-laid, bounded_laid}
 use Rattle.g1_image.proofs.Assembled.{is_image, file_again}
 use Rattle.g1_image.proofs.NoFault.{IsGoodFile}
@@ -40,9 +40,9 @@ judged f fits =
             | inr b ↦ inr (fault.Reference (place.Slot b.0), (kinds, shaped, roots, b.1))
             | inl slots ↦ elim (first_breach (LogGood f) (decided_logged (heap_of f) f.log) (length f.log)) [
               | inr b ↦ inr (fault.Card (stand.Dirty b.0), (kinds, shaped, roots, slots, b.1))
-              | inl log ↦ elim (first_breach (SetGood f) (λ r. decided_set (heap_of f) r (slice_index_or f.sets r [])) f.n) [
+              | inl log ↦ elim (first_breach (RememberedGood f) (λ r. decided_set (heap_of f) r (slice_index_or f.remembered r [])) f.n) [
                 | inr b ↦ inr (fault.Card (stand.Region b.0), (kinds, shaped, roots, slots, log, b.1))
-                | inl sets ↦ inl (record { kinds = kinds; shaped = shaped; roots = roots; slots = slots; log = log; sets = sets })
+                | inl remembered ↦ inl (record { kinds = kinds; shaped = shaped; roots = roots; slots = slots; log = log; remembered = remembered })
               ]
             ]
           ]
@@ -68,9 +68,9 @@ current_in c n = by (nat_lt c n) refl where
     | inr ge ↦ (let clash : true ≡ false = sym e ∙ le-ltb c n ge in cc)
   ]
 
-module _ (bytes : List ℕ) (h : Heading) (table : List Entry) (roots log : List ℕ) (sets : List (List ℕ)) (words : List ℕ) (p : PlainIs bytes h table roots log sets words) where
+module _ (bytes : List ℕ) (h : Heading) (table : List Entry) (roots log : List ℕ) (remembered : List (List ℕ)) (words : List ℕ) (p : PlainIs bytes h table roots log remembered words) where
   -- the heap of a whole file, its regions and references aside
-  draft : IsDraft (heap_of (plain_file h table roots log sets words))
+  draft : IsDraft (heap_of (plain_file h table roots log remembered words))
   draft = record {
     limits = p.good.sizes;
     word_count = length-laid h.w table words ∙ ap (λ n. n * h.w) p.fits.table.how_many;
@@ -81,17 +81,17 @@ module _ (bytes : List ℕ) (h : Heading) (table : List Entry) (roots log : List
   }
 
   -- the image of a file that keeps all rules
-  image_of : IsGoodFile (plain_file h table roots log sets words) → (i : Image) × IsTextOf bytes i
+  image_of : IsGoodFile (plain_file h table roots log remembered words) → (i : Image) × IsTextOf bytes i
   image_of g =
-      let f : File = plain_file h table roots log sets words in
+      let f : File = plain_file h table roots log remembered words in
       let good : IsGoodHeap (heap_of f) = record { shaped = g.shaped; roots = g.roots; slots = g.slots } in
-      let i : Image = record { heap = heap_of f; sets = sets; log = log } in
-      (i, (is_image f p.fits draft good g.log g.sets, p.text ∙ ap file_text (sym (file_again f p.fits good g.kinds))))
+      let i : Image = record { heap = heap_of f; remembered = remembered; log = log } in
+      (i, (is_image f p.fits draft good g.log g.remembered, p.text ∙ ap file_text (sym (file_again f p.fits good g.kinds))))
 
   -- a whole file is an image's, or its bytes have a fault
   told_plain : ((i : Image) × IsTextOf bytes i) ⊎ AnyFault bytes
   told_plain =
-      let f : File = plain_file h table roots log sets words in
+      let f : File = plain_file h table roots log remembered words in
       elim (judged f p.fits) [ inl g ↦ inl (image_of g) | inr x ↦ inr (x.0, file_fault bytes f x.0 p.fits p.text x.1) ]
 
 -- bytes are an image's text or have a fault

@@ -15,8 +15,8 @@ use Rattle.g1_words.specs.declared.fault.Place.TheVariants as place
 use Rattle.g1_words.specs.declared.fault.Stand.TheVariants as stand
 use Rattle.g1_image.specs.Text.{File, Entry, file_text, table_words}
 use Rattle.g1_words.specs.Kind.{kind_of, kind_number}
-use Rattle.g1_image.specs.Image.{IsImage, IsLog, IsUsedCard, all_words, used_words, heap_of, file_of, region_of_entry, entry_of}
-use Rattle.g1_image.specs.Faults.{FileFits, MayFail, IsKnownKind, KindsKnown, IsFirstBreach, IsGoodLogged, LogGood, SetGood}
+use Rattle.g1_image.specs.Image.{IsImage, IsLog, IsUsedCard, IsRememberedSet, all_words, used_words, heap_of, file_of, region_of_entry, entry_of}
+use Rattle.g1_image.specs.Faults.{FileFits, MayFail, IsKnownKind, KindsKnown, IsFirstBreach, IsGoodLogged, LogGood, LogsGood, RememberedGood}
 use Rattle.g1_image.specs.Judged.{IsGoodHeap, HeapFault}
 use Rattle.g1_image.specs.Draft.{IsDraft}
 use Rattle.g1_image.proofs.Words.{table_words-cons}
@@ -28,13 +28,30 @@ heap_fault bytes f (fault.Reference (place.Root i)) fits text known h = inr (f, 
 heap_fault bytes f (fault.Reference (place.Slot p)) fits text known h = inr (f, fits, text, (known, h.0, h.1, h.2))
 heap_fault bytes f _ fits text known h = absurd h
 
-pub log_fault : (bytes : List ℕ) (f : File) (e : Fault) (i : ℕ) → FileFits f → bytes ≡ file_text f → KindsKnown f → IsGoodHeap (heap_of f) → e ≡ fault.Card (stand.Dirty i) →
-    IsFirstBreach (LogGood f) (length f.log) i → MayFail bytes e
-log_fault bytes f e i fits text known g is b = subst (MayFail bytes) (sym is) (inr (f, fits, text, (known, g.shaped, g.roots, g.slots, b)))
+pub log_fault : (bytes : List ℕ) (f : File) (h : Heap) (log : List ℕ) (e : Fault) (i : ℕ) → FileFits f → bytes ≡ file_text f → KindsKnown f → h ≡ heap_of f → log ≡ f.log → IsGoodHeap h →
+    e ≡ fault.Card (stand.Dirty i) → IsFirstBreach (IsGoodLogged h log) (length log) i → MayFail bytes e
+log_fault bytes f h log e i fits text known same logs g is b =
+    let good : IsGoodHeap (heap_of f) = subst IsGoodHeap same g in
+    let first : IsFirstBreach (LogGood f) (length f.log) i = subst (λ l. IsFirstBreach (IsGoodLogged (heap_of f) l) (length l) i) logs (subst (λ x. IsFirstBreach (IsGoodLogged x log) (length log) i) same b) in
+    subst (MayFail bytes) (sym is) (inr (f, fits, text, (known, good.shaped, good.roots, good.slots, first)))
 
-pub set_fault : (bytes : List ℕ) (f : File) (e : Fault) (r : ℕ) → FileFits f → bytes ≡ file_text f → KindsKnown f → IsGoodHeap (heap_of f) →
-    ((i : ℕ) → i < length f.log → LogGood f i) → e ≡ fault.Card (stand.Region r) → IsFirstBreach (SetGood f) f.n r → MayFail bytes e
-set_fault bytes f e r fits text known g logged is b = subst (MayFail bytes) (sym is) (inr (f, fits, text, (known, g.shaped, g.roots, g.slots, logged, b)))
+-- the log of a file is good where the one that was checked is its own
+pub logs_good : (f : File) (h : Heap) (log : List ℕ) → h ≡ heap_of f → log ≡ f.log → ((i : ℕ) → i < length log → IsGoodLogged h log i) → LogsGood f
+logs_good f h log same logs good = subst (λ l. (i : ℕ) → i < length l → IsGoodLogged (heap_of f) l i) logs (subst (λ x. (i : ℕ) → i < length log → IsGoodLogged x log i) same good)
+
+pub remembered_fault : (bytes : List ℕ) (f : File) (h : Heap) (remembered : List (List ℕ)) (e : Fault) (r : ℕ) → FileFits f → bytes ≡ file_text f → KindsKnown f → h ≡ heap_of f → remembered ≡ f.remembered →
+    IsGoodHeap h → LogsGood f → e ≡ fault.Card (stand.Region r) → IsFirstBreach (λ q. IsRememberedSet h q (slice_index_or remembered q [])) h.geometry.n r → MayFail bytes e
+remembered_fault bytes f h remembered e r fits text known same own g logged is b =
+    let good : IsGoodHeap (heap_of f) = subst IsGoodHeap same g in
+    let first : IsFirstBreach (RememberedGood f) f.n r = subst (λ l. IsFirstBreach (λ q. IsRememberedSet (heap_of f) q (slice_index_or l q [])) f.n r) own
+    (subst (λ x. IsFirstBreach (λ q. IsRememberedSet x q (slice_index_or remembered q [])) x.geometry.n r) same b) in
+    subst (MayFail bytes) (sym is) (inr (f, fits, text, (known, good.shaped, good.roots, good.slots, logged, first)))
+
+-- the remembered sets of a file are good where those that were checked are its own
+pub all_remembered_good : (f : File) (h : Heap) (remembered : List (List ℕ)) → h ≡ heap_of f → remembered ≡ f.remembered →
+    ((r : ℕ) → r < h.geometry.n → IsRememberedSet h r (slice_index_or remembered r [])) → (r : ℕ) → r < f.n → RememberedGood f r
+all_remembered_good f h remembered same own good = subst (λ l. (r : ℕ) → r < f.n → IsRememberedSet (heap_of f) r (slice_index_or l r [])) own
+    (subst (λ x. (r : ℕ) → r < x.geometry.n → IsRememberedSet x r (slice_index_or remembered r [])) same good)
 
 -- no more words are used than a region has
 top_of : (k : Kind) (h : Heap) (r : ℕ) → IsShapedBy k h r → (region h r).top ≤ h.geometry.w
@@ -166,7 +183,7 @@ module _ (f : File) (fits : FileFits f) (g : IsGoodHeap (heap_of f)) where
       | inr ge ↦ (let s : n ≡ c = omega (arith, ge, le) in s)
     ]
 
-  pub file_again : KindsKnown f → file_of (record { heap = heap_of f; sets = f.sets; log = f.log }) ≡ f
+  pub file_again : KindsKnown f → file_of (record { heap = heap_of f; remembered = f.remembered; log = f.log }) ≡ f
   file_again known = λ t. record {
     w = f.w;
     k = f.k;
@@ -175,7 +192,7 @@ module _ (f : File) (fits : FileFits f) (g : IsGoodHeap (heap_of f)) where
     table = table_again f.table (λ r lt. known r (omega (arith, lt, fits.table.how_many))) t;
     roots = f.roots;
     log = f.log;
-    sets = f.sets;
+    remembered = f.remembered;
     words = used_all f.w f.table f.words fits.words.how_many tops t;
   }
 
@@ -186,11 +203,22 @@ is_log h log count good = record {
   count = count;
 }
 
-pub is_image : (f : File) → FileFits f → IsDraft (heap_of f) → IsGoodHeap (heap_of f) → ((i : ℕ) → i < length f.log → LogGood f i) → ((r : ℕ) → r < f.n → SetGood f r) →
-    IsImage (record { heap = heap_of f; sets = f.sets; log = f.log })
-is_image f fits d g logged sets = record {
+pub is_image : (f : File) → FileFits f → IsDraft (heap_of f) → IsGoodHeap (heap_of f) → ((i : ℕ) → i < length f.log → LogGood f i) → ((r : ℕ) → r < f.n → RememberedGood f r) →
+    IsImage (record { heap = heap_of f; remembered = f.remembered; log = f.log })
+is_image f fits d g logged remembered = record {
   heap = valid_heap (heap_of f) d g (zeros f fits g);
-  one_each = fits.sets.how_many;
-  sets = sets;
+  one_each = fits.remembered.how_many;
+  remembered = remembered;
   log = is_log (heap_of f) f.log fits.heading.dirty logged;
 }
+
+-- an image made of the heap, the remembered sets and the log of a file that keeps all rules
+pub made_image : (f : File) (h : Heap) (log : List ℕ) → FileFits f → IsDraft h → h ≡ heap_of f → log ≡ f.log → IsGoodHeap (heap_of f) → LogsGood f → ((r : ℕ) → r < f.n → RememberedGood f r) →
+    IsImage (record { heap = h; remembered = f.remembered; log = log })
+made_image f h log fits d same logs good logged remembered =
+    subst (λ l. IsImage (record { heap = h; remembered = f.remembered; log = l })) (sym logs)
+    (subst (λ x. IsImage (record { heap = x; remembered = f.remembered; log = f.log })) (sym same) (is_image f fits (subst IsDraft same d) good logged remembered))
+
+pub made_text : (f : File) (h : Heap) (log : List ℕ) → FileFits f → h ≡ heap_of f → log ≡ f.log → IsGoodHeap (heap_of f) → KindsKnown f →
+    file_text f ≡ file_text (file_of (record { heap = h; remembered = f.remembered; log = log }))
+made_text f h log fits same logs good known = ap file_text (sym ((λ t. file_of (record { heap = same t; remembered = f.remembered; log = logs t })) ∙ file_again f fits good known))

@@ -5,7 +5,7 @@ use Rattle.std.specs.List.Sorted.{IsStrictlyIncreasing}
 use Rattle.g1_words.specs.declared.region.Kind.{Kind}
 use Rattle.g1_words.specs.declared.region.Kind.TheVariants.{Free, Ordinary, HumongousFirst, Continuation}
 use Rattle.g1_words.specs.Heap.{Heap, region}
-use Rattle.g1_image.specs.Image.{IsUsedCard, IsSetOf, MayHoldCards, region_of_card}
+use Rattle.g1_image.specs.Image.{IsUsedCard, IsRememberedSet, MayHoldCards, region_of_card}
 use Rattle.g1_image.specs.Faults.{IsGoodLogged}
 use Rattle.g1_image.proofs.Decided.{Decided, decided_as, decided_both, decided_under, decided_not, decided_lt, decided_eq, decided_kind, decided_all, decided_each}
 
@@ -54,10 +54,10 @@ module _ (h : Heap) where
       (λ c. decided_both (IsUsedCard h c) (region_of_card h c ≢ r) (decided_used c) (decided_not (region_of_card h c ≡ r) (decided_eq (region_of_card h c) r))) cards
 
   -- a remembered set
-  pub decided_set : (r : ℕ) (cards : List ℕ) → Decided (IsSetOf h r cards)
+  pub decided_set : (r : ℕ) (cards : List ℕ) → Decided (IsRememberedSet h r cards)
   decided_set r cards =
       let Owned : Type 0 = 0 < length cards → MayHoldCards (region h r).kind in
-      decided_as (IsStrictlyIncreasing cards × (Elsewhere r cards × ((length cards < 2 ^ 32) × Owned))) (IsSetOf h r cards)
+      decided_as (IsStrictlyIncreasing cards × (Elsewhere r cards × ((length cards < 2 ^ 32) × Owned))) (IsRememberedSet h r cards)
       (λ p. record { rising = p.0; elsewhere = p.1.0; count = p.1.1.0; owner = p.1.1.1 })
       (λ s. (s.rising, (s.elsewhere, (s.count, s.owner))))
       (decided_both (IsStrictlyIncreasing cards) (Elsewhere r cards × ((length cards < 2 ^ 32) × Owned)) (decided_rising cards)

@@ -14,9 +14,9 @@ use Rattle.g1_words.specs.declared.region.Kind.TheVariants.{Free, Ordinary, Humo
 use Rattle.g1_words.proofs.Objects.{object_stands, stands_within, region_in_words, tops_fit}
 use Rattle.g1_image.specs.Text.{Entry, table_words}
 use Rattle.g1_image.specs.Reading.{IsU32, IsU64}
-use Rattle.g1_image.specs.Faults.{EntryFits, SetFits, FileFits}
+use Rattle.g1_image.specs.Faults.{EntryFits, RememberedFits, FileFits}
 use Rattle.g1_words.specs.Kind.{kind_number, kind_of}
-use Rattle.g1_image.specs.Image.{Image, IsImage, IsTextOf, IsUsedCard, region_of_card, set_of, entry_of, region_of_entry, used_words, all_words, file_of, heap_of}
+use Rattle.g1_image.specs.Image.{Image, IsImage, IsTextOf, IsUsedCard, region_of_card, remembered_of, entry_of, region_of_entry, used_words, all_words, file_of, heap_of}
 use Rattle.g1_image.proofs.Words.{table_words-cons}
 use Rattle.g1_image.proofs.OneFile.{one_file}
 use Rattle.g1_image.proofs.Drafts.{Bounded, bounded_append, bounded_take}
@@ -173,13 +173,13 @@ file_fits i image =
       table = record { how_many = length-map i.heap.regions entry_of ∙ valid.region_count; each = entry_fits };
       roots = λ k d lt. reference_fits i.heap (slice_index_or i.heap.roots k d) valid (valid.roots k d lt);
       log = cards_fit i.heap (IsUsedCard i.heap) i.log valid image.log.used (λ c u. u);
-      sets = record {
+      remembered = record {
         how_many = image.one_each;
         each = λ k d lt.
             let there : k < i.heap.geometry.n = omega (arith, lt, image.one_each) in
-            let is : slice_index_or i.sets k d ≡ set_of i k = get_or_default i.sets k d [] lt in
-            let good = image.sets k there in
-            subst SetFits (sym is) (good.count, cards_fit i.heap (λ c. IsUsedCard i.heap c × (region_of_card i.heap c ≢ k)) (set_of i k) valid good.elsewhere (λ c u. u.0));
+            let is : slice_index_or i.remembered k d ≡ remembered_of i k = get_or_default i.remembered k d [] lt in
+            let good = image.remembered k there in
+            subst RememberedFits (sym is) (good.count, cards_fit i.heap (λ c. IsUsedCard i.heap c × (region_of_card i.heap c ≢ k)) (remembered_of i k) valid good.elsewhere (λ c u. u.0));
       };
       words = record {
         how_many = length-used_words i.heap.geometry.w i.heap.regions i.heap.words tops size;
@@ -192,4 +192,4 @@ pub one_image : (bytes : List ℕ) (i j : Image) → IsTextOf bytes i → IsText
 one_image bytes i j is it =
     let file : file_of i ≡ file_of j = one_file bytes (file_of i) (file_of j) (file_fits i is.0) (file_fits j it.0) is.1 it.1 in
     let heap : i.heap ≡ j.heap = sym (heap_of_file i is.0) ∙ ap heap_of file ∙ heap_of_file j it.0 in
-    λ t. record { heap = heap t; sets = (file t).sets; log = (file t).log }
+    λ t. record { heap = heap t; remembered = (file t).remembered; log = (file t).log }

@@ -4,9 +4,9 @@ use Rattle.std.proofs.lemmas.List.{append-nil, append_cancel_left, drop_all}
 use Rattle.g1_words.specs.declared.fault.Fault.{Fault}
 use Rattle.g1_words.specs.declared.fault.Fault.TheVariants as fault
 use Rattle.g1_image.specs.declared.cursor.Heading.{Heading}
-use Rattle.g1_image.specs.Text.{File, Entry, magic, heading_text, heading_of, body_text, file_text, table_text, words_text, numbers_text, sets_text, entry_text, set_text, u32, u64, words_of, table_words}
+use Rattle.g1_image.specs.Text.{File, Entry, magic, heading_text, heading_of, body_text, file_text, table_text, words_text, numbers_text, remembered_texts, entry_text, remembered_text, u32, u64, words_of, table_words}
 use Rattle.g1_image.specs.Reading.{Are, IsU32, IsU64, IsBytes, EndsWithin, FailsIf}
-use Rattle.g1_image.specs.Faults.{HeadingFits, IsGoodHeading, EntryFits, SetFits, FileFits, FaultOf, MayFail}
+use Rattle.g1_image.specs.Faults.{HeadingFits, IsGoodHeading, EntryFits, RememberedFits, FileFits, FaultOf, MayFail}
 use Rattle.g1_image.specs.Plain.{plain_file, PlainIs}
 use Rattle.g1_image.proofs.Numbers.{u32_once, u64_once}
 use Rattle.g1_image.proofs.PrefixFree.{IsPrefixFree, Are-free}
@@ -30,16 +30,16 @@ abbrev pub Is : Heading → File → Type 0
 Is h f = heading_of f ≡ h
 
 abbrev after_table : File → List ℕ
-after_table f = words_text f.roots ++ (numbers_text f.log ++ (sets_text f.sets ++ words_text f.words))
+after_table f = words_text f.roots ++ (numbers_text f.log ++ (remembered_texts f.remembered ++ words_text f.words))
 
 abbrev after_roots : File → List ℕ
-after_roots f = numbers_text f.log ++ (sets_text f.sets ++ words_text f.words)
+after_roots f = numbers_text f.log ++ (remembered_texts f.remembered ++ words_text f.words)
 
 abbrev after_log : File → List ℕ
-after_log f = sets_text f.sets ++ words_text f.words
+after_log f = remembered_texts f.remembered ++ words_text f.words
 
-abbrev after_sets : File → List ℕ
-after_sets f = words_text f.words
+abbrev after_remembered : File → List ℕ
+after_remembered f = words_text f.words
 
 pub are_table : (h : Heading) (f : File) → FileFits f → Is h f → Are EntryFits h.n f.table
 are_table h f fits is = subst (λ (x : Heading). Are EntryFits x.n f.table) is fits.table
@@ -50,8 +50,8 @@ are_roots h f fits is = record { how_many = ap (λ (x : Heading). x.roots) is; e
 pub are_log : (h : Heading) (f : File) → FileFits f → Is h f → Are IsU32 h.dirty f.log
 are_log h f fits is = record { how_many = ap (λ (x : Heading). x.dirty) is; each = fits.log }
 
-pub are_sets : (h : Heading) (f : File) → FileFits f → Is h f → Are SetFits h.n f.sets
-are_sets h f fits is = subst (λ (x : Heading). Are SetFits x.n f.sets) is fits.sets
+pub are_remembered : (h : Heading) (f : File) → FileFits f → Is h f → Are RememberedFits h.n f.remembered
+are_remembered h f fits is = subst (λ (x : Heading). Are RememberedFits x.n f.remembered) is fits.remembered
 
 pub words_as : (table : List Entry) (f : File) → FileFits f → f.table ≡ table → Are IsU64 (table_words table) f.words
 words_as table f fits is = subst (λ t. Are IsU64 (table_words t) f.words) is fits.words
@@ -62,6 +62,12 @@ suffix bytes xs ys e b = of xs ys (subst IsBytes e b) where
   of : (xs ys : List ℕ) → IsBytes (xs ++ ys) → IsBytes ys
   of [] ys b = b
   of (x ∷ xs) ys b = of xs ys (λ i. b (suc i))
+
+-- the parts before the words were read: what the bytes are by how many are left for the words
+pub record PartsRead (bytes : List ℕ) (h : Heading) (table : List Entry) (roots log : List ℕ) (remembered : List (List ℕ)) (left : List ℕ) : Type 0 where
+  pub short : length left < 8 * table_words table → FaultOf bytes fault.Short
+  pub trailing : 8 * table_words table < length left → FaultOf bytes fault.Trailing
+  pub whole : length left ≡ 8 * table_words table → PlainIs bytes h table roots log remembered left
 
 module _ (bytes rest : List ℕ) (h : Heading) (hf : HeadingFits h) (good : IsGoodHeading h) (e : bytes ≡ magic ++ (heading_text h ++ rest)) where
   known : Left FileFits file_text bytes (λ f. Unit {0} × Is h f) body_text rest
@@ -103,68 +109,77 @@ module _ (bytes rest : List ℕ) (h : Heading) (hf : HeadingFits h) (good : IsGo
         known3 = Left-step FileFits file_text bytes (λ f. ((Unit {0} × Is h f) × (f.table ≡ table)) × (f.roots ≡ roots)) after_roots r2 (λ f. f.log) (Are IsU32 h.dirty) numbers_text after_log known2
             (λ f fits k. refl) (λ f fits k. are_log h f fits k.0.0.1) (numbers_free h.dirty) log r3 fl el
 
-        pub short_sets : EndsWithin (Are SetFits h.n) sets_text r3 → FaultOf bytes fault.Short
-        short_sets w = short (Left-short FileFits file_text bytes (λ f. (((Unit {0} × Is h f) × (f.table ≡ table)) × (f.roots ≡ roots)) × (f.log ≡ log)) after_log r3 (λ f. f.sets) (Are SetFits h.n) sets_text after_sets known3
-            (λ f fits k. refl) (λ f fits k. are_sets h f fits k.0.0.0.1) w)
+        pub short_remembered : EndsWithin (Are RememberedFits h.n) remembered_texts r3 → FaultOf bytes fault.Short
+        short_remembered w = short (Left-short FileFits file_text bytes (λ f. (((Unit {0} × Is h f) × (f.table ≡ table)) × (f.roots ≡ roots)) × (f.log ≡ log)) after_log r3 (λ f. f.remembered) (Are RememberedFits h.n) remembered_texts after_remembered known3
+            (λ f fits k. refl) (λ f fits k. are_remembered h f fits k.0.0.0.1) w)
 
-        module _ (sets : List (List ℕ)) (r4 : List ℕ) (fs : Are SetFits h.n sets) (es : r3 ≡ sets_text sets ++ r4) where
-          known4 : Left FileFits file_text bytes (λ f. ((((Unit {0} × Is h f) × (f.table ≡ table)) × (f.roots ≡ roots)) × (f.log ≡ log)) × (f.sets ≡ sets)) after_sets r4
-          known4 = Left-step FileFits file_text bytes (λ f. (((Unit {0} × Is h f) × (f.table ≡ table)) × (f.roots ≡ roots)) × (f.log ≡ log)) after_log r3 (λ f. f.sets) (Are SetFits h.n) sets_text after_sets known3
-              (λ f fits k. refl) (λ f fits k. are_sets h f fits k.0.0.0.1) (Are-free SetFits set_text set_free h.n) sets r4 fs es
+        module _ (remembered : List (List ℕ)) (r4 : List ℕ) (fs : Are RememberedFits h.n remembered) (es : r3 ≡ remembered_texts remembered ++ r4) where
+          known4 : Left FileFits file_text bytes (λ f. ((((Unit {0} × Is h f) × (f.table ≡ table)) × (f.roots ≡ roots)) × (f.log ≡ log)) × (f.remembered ≡ remembered)) after_remembered r4
+          known4 = Left-step FileFits file_text bytes (λ f. (((Unit {0} × Is h f) × (f.table ≡ table)) × (f.roots ≡ roots)) × (f.log ≡ log)) after_log r3 (λ f. f.remembered) (Are RememberedFits h.n) remembered_texts after_remembered known3
+              (λ f fits k. refl) (λ f fits k. are_remembered h f fits k.0.0.0.1) (Are-free RememberedFits remembered_text set_free h.n) remembered r4 fs es
 
           are_words : (f : File) → FileFits f → f.table ≡ table → Are IsU64 (table_words table) f.words
           are_words f fits is = subst (λ t. Are IsU64 (table_words t) f.words) is fits.words
 
           -- the words aren't all there
           pub short_words : length r4 < 8 * table_words table → FaultOf bytes fault.Short
-          short_words lt = short (Left-short FileFits file_text bytes (λ f. ((((Unit {0} × Is h f) × (f.table ≡ table)) × (f.roots ≡ roots)) × (f.log ≡ log)) × (f.sets ≡ sets)) after_sets r4
+          short_words lt = short (Left-short FileFits file_text bytes (λ f. ((((Unit {0} × Is h f) × (f.table ≡ table)) × (f.roots ≡ roots)) × (f.log ≡ log)) × (f.remembered ≡ remembered)) after_remembered r4
               (λ f. f.words) (Are IsU64 (table_words table)) words_text (λ f. []) known4
               (λ f fits k. sym (append-nil (words_text f.words))) (λ f fits k. are_words f fits k.0.0.0.1) (words_short (table_words table) r4 lt))
 
           file : File
-          file = plain_file h table roots log sets r4
+          file = plain_file h table roots log remembered r4
 
-          header : heading_of (plain_file h table roots log sets r4) ≡ h
+          header : heading_of (plain_file h table roots log remembered r4) ≡ h
           header = λ t. record { w = h.w; k = h.k; n = h.n; roots = fr.how_many t; dirty = fl.how_many t; current = h.current }
 
-          fits : IsBytes r4 → FileFits (plain_file h table roots log sets r4)
+          fits : IsBytes r4 → FileFits (plain_file h table roots log remembered r4)
           fits b = record {
             heading = subst HeadingFits (sym header) hf;
             limits = subst IsGoodHeading (sym header) good;
             table = ft;
             roots = fr.each;
             log = fl.each;
-            sets = fs;
+            remembered = fs;
             words = words_of-are (table_words table) r4 b;
           }
 
-          pub words_are_bytes : IsBytes bytes → IsBytes r4
+          words_are_bytes : IsBytes bytes → IsBytes r4
           words_are_bytes b =
-              suffix r3 (sets_text sets) r4 es (suffix r2 (numbers_text log) r3 el (suffix r1 (words_text roots) r2 er (suffix rest (table_text table) r1 et
+              suffix r3 (remembered_texts remembered) r4 es (suffix r2 (numbers_text log) r3 el (suffix r1 (words_text roots) r2 er (suffix rest (table_text table) r1 et
               (suffix (heading_text h ++ rest) (heading_text h) rest refl (suffix bytes magic (heading_text h ++ rest) e b)))))
 
           module _ (b : IsBytes r4) (le : 8 * table_words table ≤ length r4) where
-            text : bytes ≡ file_text (plain_file h table roots log sets r4) ++ drop (8 * table_words table) r4
+            text : bytes ≡ file_text (plain_file h table roots log remembered r4) ++ drop (8 * table_words table) r4
             text =
                 let tail : List ℕ = drop (8 * table_words table) r4 in
                 let ws : List ℕ = words_text (words_of (table_words table) r4) in
                 let e4 : r4 ≡ ws ++ tail = words_of-text (table_words table) r4 le b in
                 e ∙ (λ t. magic ++ (heading_text (sym header t) ++ rest))
-                ∙ ap (λ l. magic ++ (heading_text (heading_of (plain_file h table roots log sets r4)) ++ l))
-                (et ∙ ap (λ l. table_text table ++ l) (er ∙ ap (λ l. words_text roots ++ l) (el ∙ ap (λ l. numbers_text log ++ l) (es ∙ ap (λ l. sets_text sets ++ l) e4))))
+                ∙ ap (λ l. magic ++ (heading_text (heading_of (plain_file h table roots log remembered r4)) ++ l))
+                (et ∙ ap (λ l. table_text table ++ l) (er ∙ ap (λ l. words_text roots ++ l) (el ∙ ap (λ l. numbers_text log ++ l) (es ∙ ap (λ l. remembered_texts remembered ++ l) e4))))
                 ∙ (simp append_assoc)
 
             pub trailing : 8 * table_words table < length r4 → FaultOf bytes fault.Trailing
-            trailing lt = (plain_file h table roots log sets r4, drop (8 * table_words table) r4, fits b, text, omega (arith, lt, length-drop (8 * table_words table) r4))
+            trailing lt = (plain_file h table roots log remembered r4, drop (8 * table_words table) r4, fits b, text, omega (arith, lt, length-drop (8 * table_words table) r4))
 
-            pub plain_is : length r4 ≡ 8 * table_words table → PlainIs bytes h table roots log sets r4
+            pub plain_is : length r4 ≡ 8 * table_words table → PlainIs bytes h table roots log remembered r4
             plain_is whole =
                 let none : drop (8 * table_words table) r4 ≡ [] = drop_all (8 * table_words table) r4 (omega (arith, whole)) in
                 record {
                   good = good;
                   root_count = fr.how_many;
                   fits = fits b;
-                  text = text ∙ ap (λ l. file_text (plain_file h table roots log sets r4) ++ l) none ∙ append-nil (file_text (plain_file h table roots log sets r4));
+                  text = text ∙ ap (λ l. file_text (plain_file h table roots log remembered r4) ++ l) none ∙ append-nil (file_text (plain_file h table roots log remembered r4));
                   whole = whole;
                   are_bytes = b;
                 }
+
+          pub parts_read : IsBytes bytes → PartsRead bytes h table roots log remembered r4
+          parts_read b =
+              let left : IsBytes r4 = words_are_bytes b in
+              record {
+                short = short_words;
+                trailing = λ more. trailing left (omega (arith, more)) more;
+                whole = λ all. plain_is left (omega (arith, all)) all;
+              }

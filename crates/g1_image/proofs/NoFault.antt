@@ -11,9 +11,9 @@ use Rattle.g1_words.specs.declared.fault.Place.TheVariants as place
 use Rattle.g1_words.specs.declared.fault.Stand.TheVariants as stand
 use Rattle.g1_image.specs.Text.{File}
 use Rattle.g1_words.specs.Kind.{kind_number}
-use Rattle.g1_image.specs.Image.{Image, IsImage, IsLog, IsSetOf, IsTextOf, heap_of, file_of, entry_of}
+use Rattle.g1_image.specs.Image.{Image, IsImage, IsLog, IsRememberedSet, IsTextOf, heap_of, file_of, entry_of}
 use Rattle.g1_image.specs.Judged.{IsGoodRoot}
-use Rattle.g1_image.specs.Faults.{FileFault, FaultOf, IsKnownKind, KindsKnown, Shaped, RootsGood, SlotsGood, LogsGood, SetGood, IsGoodSlot, IsGoodLogged}
+use Rattle.g1_image.specs.Faults.{FileFault, FaultOf, IsKnownKind, KindsKnown, Shaped, RootsGood, SlotsGood, LogsGood, RememberedGood, IsGoodSlot, IsGoodLogged}
 use Rattle.g1_image.proofs.FileOf.{file_fits, heap_of_file}
 use Rattle.g1_image.proofs.OneVerdict.{fault_of_whole}
 
@@ -24,7 +24,7 @@ pub record IsGoodFile (f : File) : Type 0 where
   pub roots : RootsGood f
   pub slots : SlotsGood f
   pub log : LogsGood f
-  pub sets : (r : ℕ) → r < f.n → SetGood f r
+  pub remembered : (r : ℕ) → r < f.n → RememberedGood f r
 
 -- a file that keeps all rules has no fault
 pub good_file : (f : File) (e : Fault) → IsGoodFile f → FileFault f e → ⊥
@@ -33,7 +33,7 @@ good_file f (fault.Shape r) g x = x.1.breach (g.shaped r x.1.within)
 good_file f (fault.Reference (place.Root i)) g x = x.2.breach (g.roots i x.2.within)
 good_file f (fault.Reference (place.Slot p)) g x = x.3.breach (g.slots p x.3.within)
 good_file f (fault.Card (stand.Dirty i)) g x = x.4.breach (g.log i x.4.within)
-good_file f (fault.Card (stand.Region r)) g x = x.5.breach (g.sets r x.5.within)
+good_file f (fault.Card (stand.Region r)) g x = x.5.breach (g.remembered r x.5.within)
 good_file f _ g x = x
 
 -- a kind's number is at most 3
@@ -69,7 +69,7 @@ file_good i g e = record {
   roots = λ k lt. subst (λ h. IsReference h (slice_index i.heap.roots k)) (sym e) (roots_good i.heap g.heap k lt);
   slots = λ p lt. subst (λ h. IsGoodSlot h p) (sym e) (slots_good i.heap g.heap p);
   log = λ k lt. subst (λ h. IsGoodLogged h i.log k) (sym e) (log_good i.heap i.log g.log k lt);
-  sets = λ r lt. subst (λ h. IsSetOf h r (slice_index_or i.sets r [])) (sym e) (g.sets r lt);
+  remembered = λ r lt. subst (λ h. IsRememberedSet h r (slice_index_or i.remembered r [])) (sym e) (g.remembered r lt);
 }
 
 -- an image's text has no fault

@@ -8,7 +8,7 @@ use Rattle.g1_words.specs.declared.fault.Place.TheVariants as place
 use Rattle.g1_words.specs.declared.fault.Stand.TheVariants as stand
 use Rattle.g1_image.specs.Text.{File}
 use Rattle.g1_image.specs.Image.{heap_of}
-use Rattle.g1_image.specs.Faults.{FileFault, IsFirstBreach, KindKnown, RootGood, SlotGood, LogGood, SetGood}
+use Rattle.g1_image.specs.Faults.{FileFault, IsFirstBreach, KindKnown, RootGood, SlotGood, LogGood, RememberedGood}
 
 pub one_breach : (P : ℕ → Type 0) (end a b : ℕ) → IsFirstBreach P end a → IsFirstBreach P end b → a ≡ b
 one_breach P end a b x y = elim (cases_lt a b) [
@@ -57,6 +57,6 @@ one_file_fault f (fault.Card (stand.Region a)) (fault.Shape b) x y = absurd (y.1
 one_file_fault f (fault.Card (stand.Region a)) (fault.Reference (place.Root b)) x y = absurd (y.2.breach (x.2 b y.2.within))
 one_file_fault f (fault.Card (stand.Region a)) (fault.Reference (place.Slot b)) x y = absurd (y.3.breach (x.3 b y.3.within))
 one_file_fault f (fault.Card (stand.Region a)) (fault.Card (stand.Dirty b)) x y = absurd (y.4.breach (x.4 b y.4.within))
-one_file_fault f (fault.Card (stand.Region a)) (fault.Card (stand.Region b)) x y = ap (λ k. fault.Card (stand.Region k)) (one_breach (SetGood f) f.n a b x.5 y.5)
+one_file_fault f (fault.Card (stand.Region a)) (fault.Card (stand.Region b)) x y = ap (λ k. fault.Card (stand.Region k)) (one_breach (RememberedGood f) f.n a b x.5 y.5)
 one_file_fault f (fault.Card (stand.Region a)) _ x y = absurd y
 one_file_fault f _ d x y = absurd x

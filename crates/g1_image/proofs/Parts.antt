@@ -1,8 +1,8 @@
 -- The parts of a file: none begins another.
 use Rattle.std.proofs.Common.{◌≡◌, ℕ, List, ◌++◌, length, refl, sym, ◌∙◌, append_assoc}
-use Rattle.g1_image.specs.Text.{u32, entry_text, set_text, numbers_text, heading_text}
+use Rattle.g1_image.specs.Text.{u32, entry_text, remembered_text, numbers_text, heading_text}
 use Rattle.g1_image.specs.Reading.{IsU32}
-use Rattle.g1_image.specs.Faults.{EntryFits, SetFits, HeadingFits}
+use Rattle.g1_image.specs.Faults.{EntryFits, RememberedFits, HeadingFits}
 use Rattle.g1_image.proofs.Numbers.{u32_once}
 use Rattle.g1_image.proofs.PrefixFree.{IsPrefixFree, Are-free}
 use Rattle.g1_image.specs.declared.cursor.Heading.{Heading}
@@ -13,7 +13,7 @@ entry_free x y s t fx fy e =
     let two = u32_once x.top y.top s t fx.1 fy.1 one.1 in
     ((λ i. record { kind = one.0 i; top = two.0 i }), two.1)
 
-pub set_free : IsPrefixFree SetFits set_text
+pub set_free : IsPrefixFree RememberedFits remembered_text
 set_free x y s t fx fy e =
     let one = u32_once (length x) (length y) (numbers_text x ++ s) (numbers_text y ++ t) fx.0 fy.0
     (sym (append_assoc (u32 (length x)) (numbers_text x) s) ∙ e ∙ append_assoc (u32 (length y)) (numbers_text y) t) in

@@ -9,14 +9,14 @@ use Rattle.g1_words.proofs.Powers.{power_of_ones, ones_of_power}
 use Rattle.g1_words.specs.declared.fault.Fault.{Fault}
 use Rattle.g1_words.specs.declared.fault.Fault.TheVariants as fault
 use Rattle.g1_image.specs.declared.cursor.Heading.{Heading}
-use Rattle.g1_image.specs.Text.{Entry, u32, u64, magic, heading_text, table_text, words_text, numbers_text, sets_text, entry_text, set_text, table_words}
+use Rattle.g1_image.specs.Text.{Entry, u32, u64, magic, heading_text, table_text, words_text, numbers_text, remembered_texts, entry_text, remembered_text, table_words}
 use Rattle.g1_image.specs.Reading.{IsU64, IsBytes}
-use Rattle.g1_image.specs.Faults.{HeadingFits, IsGoodHeading, EntryFits, SetFits, FaultOf}
+use Rattle.g1_image.specs.Faults.{HeadingFits, IsGoodHeading, EntryFits, RememberedFits, FaultOf}
 use Rattle.g1_image.specs.Plain.{PlainIs}
 use Rattle.g1_image.proofs.Numbers.{u32_read, u64_once}
 use Rattle.g1_image.proofs.Parts.{entry_free, set_free}
 use Rattle.g1_image.proofs.Used.{agree}
-use Rattle.g1_image.proofs.Files.{suffix, short_table, short_roots, short_log, short_sets, short_words, trailing, plain_is}
+use Rattle.g1_image.proofs.Files.{suffix, short_table, short_roots, short_log, short_remembered, short_words, trailing, plain_is}
 use Rattle.g1_image.proofs.Decided.{Decided, decided_as, decided_both, decided_under, decided_lt, decided_le, decided_eq, first_breach}
 use Rattle.g1_image.proofs.ToldTexts.{told_u64, told_many, told_numbers, told_entry, told_set}
 
@@ -156,7 +156,7 @@ told_opening bytes b =
 
 -- the bytes are those of a whole file
 abbrev pub IsPlain : List ℕ → Type 0
-IsPlain bytes = (h : Heading) × (table : List Entry) × (roots : List ℕ) × (log : List ℕ) × (sets : List (List ℕ)) × (words : List ℕ) × PlainIs bytes h table roots log sets words
+IsPlain bytes = (h : Heading) × (table : List Entry) × (roots : List ℕ) × (log : List ℕ) × (remembered : List (List ℕ)) × (words : List ℕ) × PlainIs bytes h table roots log remembered words
 
 -- what stands behind the heading
 told_body : (bytes : List ℕ) → IsBytes bytes → Opened bytes → IsPlain bytes ⊎ AnyFault bytes
@@ -176,10 +176,10 @@ told_body bytes b o =
                   | inr s ↦ inr (fault.Short, short_log bytes rest h o.2 o.3 o.4 t.0 t.1 t.2 t.3 r.0 r.1 r.2 r.3 s)
                   | inl l ↦
                       let b3 : IsBytes l.1 = suffix r.1 (numbers_text l.0) l.1 l.3 b2 in
-                      elim (told_many SetFits set_text set_free told_set h.n l.1 b3) [
-                        | inr s ↦ inr (fault.Short, short_sets bytes rest h o.2 o.3 o.4 t.0 t.1 t.2 t.3 r.0 r.1 r.2 r.3 l.0 l.1 l.2 l.3 s)
+                      elim (told_many RememberedFits remembered_text set_free told_set h.n l.1 b3) [
+                        | inr s ↦ inr (fault.Short, short_remembered bytes rest h o.2 o.3 o.4 t.0 t.1 t.2 t.3 r.0 r.1 r.2 r.3 l.0 l.1 l.2 l.3 s)
                         | inl s ↦
-                            let b4 : IsBytes s.1 = suffix l.1 (sets_text s.0) s.1 s.3 b3 in
+                            let b4 : IsBytes s.1 = suffix l.1 (remembered_texts s.0) s.1 s.3 b3 in
                             elim (cases_lt (length s.1) (8 * table_words t.0)) [
                               | inl lt ↦ inr (fault.Short, short_words bytes rest h o.2 o.3 o.4 t.0 t.1 t.2 t.3 r.0 r.1 r.2 r.3 l.0 l.1 l.2 l.3 s.0 s.1 s.2 s.3 lt)
                               | inr ge ↦ elim (cases_lt (8 * table_words t.0) (length s.1)) [

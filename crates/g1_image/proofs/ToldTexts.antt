@@ -4,9 +4,9 @@ use Rattle.std.specs.Prelude.{flat_map}
 use Rattle.std.proofs.lemmas.Bool.{cases_lt}
 use Rattle.std.proofs.lemmas.List.{append-nil}
 use Rattle.byteorder.specs.Endian.{little_number}
-use Rattle.g1_image.specs.Text.{Entry, u32, u64, entry_text, set_text, numbers_text}
+use Rattle.g1_image.specs.Text.{Entry, u32, u64, entry_text, remembered_text, numbers_text}
 use Rattle.g1_image.specs.Reading.{Are, IsU32, IsU64, IsBytes, EndsWithin}
-use Rattle.g1_image.specs.Faults.{EntryFits, SetFits}
+use Rattle.g1_image.specs.Faults.{EntryFits, RememberedFits}
 use Rattle.g1_image.proofs.Numbers.{u32_read, u32_short, u32_once, u64_read, u64_short}
 use Rattle.g1_image.proofs.PrefixFree.{IsPrefixFree, Are-none, Came-start, Came-short}
 use Rattle.g1_image.proofs.Sequence.{Left, Left-start, Left-step, Left-short}
@@ -92,15 +92,15 @@ told_entry bytes b = elim (told_u32 bytes b) [
 ]
 
 -- a remembered set
-pub told_set : (bytes : List ℕ) → IsBytes bytes → Told SetFits set_text bytes
+pub told_set : (bytes : List ℕ) → IsBytes bytes → Told RememberedFits remembered_text bytes
 told_set bytes b = elim (told_u32 bytes b) [
   | inr short ↦ inr (λ y tail fy ey. short (length y) (numbers_text y ++ tail) fy.0 (ey ∙ append_assoc (u32 (length y)) (numbers_text y) tail))
   | inl one ↦
-      let known : Left SetFits set_text bytes (λ y. Unit {0} × (length y ≡ one.0)) numbers_text one.1 =
-      Left-step SetFits set_text bytes (λ _. Unit {0}) set_text bytes (λ y. length y) IsU32 u32 numbers_text
-      (Left-start SetFits set_text bytes) (λ y f h. refl) (λ y f h. f.0) (λ x y s t fx fy e. u32_once x y s t fx fy e) one.0 one.1 one.2 one.3 in
+      let known : Left RememberedFits remembered_text bytes (λ y. Unit {0} × (length y ≡ one.0)) numbers_text one.1 =
+      Left-step RememberedFits remembered_text bytes (λ _. Unit {0}) remembered_text bytes (λ y. length y) IsU32 u32 numbers_text
+      (Left-start RememberedFits remembered_text bytes) (λ y f h. refl) (λ y f h. f.0) (λ x y s t fx fy e. u32_once x y s t fx fy e) one.0 one.1 one.2 one.3 in
       elim (told_numbers one.0 one.1 (suffix bytes (u32 one.0) one.1 one.3 b)) [
-        | inr short ↦ inr (Left-short SetFits set_text bytes (λ y. Unit {0} × (length y ≡ one.0)) numbers_text one.1 (λ y. y) (Are IsU32 one.0) numbers_text (λ _. [])
+        | inr short ↦ inr (Left-short RememberedFits remembered_text bytes (λ y. Unit {0} × (length y ≡ one.0)) numbers_text one.1 (λ y. y) (Are IsU32 one.0) numbers_text (λ _. [])
             known (λ y f h. sym (append-nil (numbers_text y))) (λ y f h. record { how_many = h.1; each = f.1 }) short)
         | inl cards ↦
             let count : length cards.0 ≡ one.0 = cards.2.how_many in

@@ -1,6 +1,6 @@
 -- Words of 64 bits in bytes, and the words of regions.
 use Rattle.std.proofs.Common.{◌≡◌, ◌≤◌, ◌<◌, ℕ, zero, suc, ◌+◌, ◌-◌, ◌*◌, ◌^◌, List, [], ◌∷◌, ◌++◌, length, take, drop, replicate, arith, refl, sym, ap, ◌∙◌, append_assoc, length-append, length-drop, get_or-drop, slice_index, slice_index_or, add-one, drop-cons, min, flat_map}
-use Rattle.std.proofs.lemmas.List.{append-nil, drop-drop, drop-take, drop_all, take_at}
+use Rattle.std.proofs.lemmas.List.{append-nil, take_all, drop-drop, drop-take, drop_all, take_at}
 use borrow.Rule.Slice.PartMut.{put_mid, post_of}
 use Rattle.std.proofs.lemmas.List.Sums.{sum_by-append}
 use Rattle.g1_image.specs.Text.{Entry, u32, u64, words_text, numbers_text, read_word, words_of, table_words}
@@ -96,6 +96,13 @@ tail_written s n len old items d dst a e f many l m =
     let back : post_of s (length d - s) d ≡ [] = drop_all (length d - s) (drop s d) (omega (arith, length-drop s d)) in
     let whole : put_mid s (length d - s) d dst ≡ old ++ dst = (λ t. front t ++ (dst ++ back t)) ∙ ap (λ x. old ++ x) (append-nil dst) in
     take_at (put_mid s (length d - s) d dst) (drop (length (put_mid s (length d - s) d dst)) items) len (omega (arith, ap length whole, length-append old dst, a, l, m)) ∙ whole
+
+-- words written over the zeros by which a list grew
+pub tail_grown : (s n had len : ℕ) (old items d dst : List ℕ) → s ≡ had → s ≡ length old → items ≡ take (s + n) old ++ replicate (s + n - had) 0 → d ≡ items → length d ≡ s + n → len ≡ s + n → length dst ≡ n →
+    take len (put_mid s (length d - s) d dst ++ drop (length (put_mid s (length d - s) d dst)) items) ≡ old ++ dst
+tail_grown s n had len old items d dst same start grown f many l m =
+    let more : s + n - had ≡ n = omega (arith, same) in
+    tail_written s n len old items d dst start (grown ∙ (λ t. take_all (s + n) old (omega (arith, start)) t ++ replicate (more t) 0)) f many l m
 
 -- what a writer of many numbers writes
 pub words_text-is : (xs : List ℕ) → flat_map (little_bytes 8) xs ≡ words_text xs

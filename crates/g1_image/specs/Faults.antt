@@ -5,7 +5,7 @@ use Rattle.g1_words.specs.Valid.{IsShaped, AllShaped, IsReference, HasObject, Is
 use Rattle.g1_image.specs.Text.{File, Entry, magic, heading_text, heading_of, file_text, table_words}
 use Rattle.g1_words.specs.Heap.{Heap}
 use Rattle.g1_image.specs.Reading.{Are, IsU32, IsU64, EndsWithin}
-use Rattle.g1_image.specs.Image.{heap_of, IsUsedCard, IsSetOf}
+use Rattle.g1_image.specs.Image.{heap_of, IsUsedCard, IsRememberedSet}
 use Rattle.g1_words.specs.declared.object.Object.{Object}
 use Rattle.g1_words.specs.declared.fault.Fault.{Fault}
 use Rattle.g1_words.specs.declared.fault.Fault.TheVariants as fault
@@ -33,8 +33,8 @@ abbrev pub EntryFits : Entry → Type 0
 EntryFits e = (e.kind < 2 ^ 32) × (e.top < 2 ^ 32)
 
 -- the count and the cards of the set have 32 bits
-abbrev pub SetFits : List ℕ → Type 0
-SetFits cards = (length cards < 2 ^ 32) × All IsU32 cards
+abbrev pub RememberedFits : List ℕ → Type 0
+RememberedFits cards = (length cards < 2 ^ 32) × All IsU32 cards
 
 -- every number of the file has the bits that its text gives it, and there are as many as are announced
 pub record FileFits (f : File) : Type 0 where
@@ -43,7 +43,7 @@ pub record FileFits (f : File) : Type 0 where
   pub table : Are EntryFits f.n f.table
   pub roots : All IsU64 f.roots
   pub log : All IsU32 f.log
-  pub sets : Are SetFits f.n f.sets
+  pub remembered : Are RememberedFits f.n f.remembered
   pub words : Are IsU64 (table_words f.table) f.words
 
 -- the first of the numbers below an end of which P doesn't hold
@@ -105,8 +105,8 @@ abbrev pub LogsGood : File → Type 0
 LogsGood f = (i : ℕ) → i < length f.log → LogGood f i
 
 -- region r's remembered set is one that it may have
-abbrev pub SetGood : File → ℕ → Type 0
-SetGood f r = IsSetOf (heap_of f) r (slice_index_or f.sets r [])
+abbrev pub RememberedGood : File → ℕ → Type 0
+RememberedGood f r = IsRememberedSet (heap_of f) r (slice_index_or f.remembered r [])
 
 -- the fault that a file has which is read whole
 abbrev pub FileFault : File → Fault → Type 0
@@ -115,7 +115,7 @@ FileFault f (fault.Shape r) = KindsKnown f × IsFirstBreach (IsShaped (heap_of f
 FileFault f (fault.Reference (place.Root i)) = KindsKnown f × Shaped f × IsFirstBreach (RootGood f) (length f.roots) i
 FileFault f (fault.Reference (place.Slot p)) = KindsKnown f × Shaped f × RootsGood f × IsFirstBreach (SlotGood f) (f.n * f.w) p
 FileFault f (fault.Card (stand.Dirty i)) = KindsKnown f × Shaped f × RootsGood f × SlotsGood f × IsFirstBreach (LogGood f) (length f.log) i
-FileFault f (fault.Card (stand.Region r)) = KindsKnown f × Shaped f × RootsGood f × SlotsGood f × LogsGood f × IsFirstBreach (SetGood f) f.n r
+FileFault f (fault.Card (stand.Region r)) = KindsKnown f × Shaped f × RootsGood f × SlotsGood f × LogsGood f × IsFirstBreach (RememberedGood f) f.n r
 FileFault _ _ = ⊥
 
 -- THE FAULT of bytes

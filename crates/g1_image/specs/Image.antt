@@ -12,7 +12,7 @@ use Rattle.g1_words.specs.declared.region.Kind.TheVariants.{Free}
 -- a heap, the remembered set of each region, and the dirty log
 pub record Image : Type 0 where
   pub heap : Heap
-  pub sets : List (List ℕ)
+  pub remembered : List (List ℕ)
   pub log : List ℕ
 
 -- the region that a card lies in
@@ -25,7 +25,7 @@ pub record IsUsedCard (h : Heap) (c : ℕ) : Type 0 where
   pub used : (region h (region_of_card h c)).kind ≢ Free
 
 -- a remembered set that region r may have
-pub record IsSetOf (h : Heap) (r : ℕ) (cards : List ℕ) : Type 0 where
+pub record IsRememberedSet (h : Heap) (r : ℕ) (cards : List ℕ) : Type 0 where
   pub rising : IsStrictlyIncreasing cards
   pub elsewhere : All (λ c. IsUsedCard h c × (region_of_card h c ≢ r)) cards
   pub count : length cards < 2 ^ 32
@@ -38,14 +38,14 @@ pub record IsLog (h : Heap) (cards : List ℕ) : Type 0 where
   pub count : length cards < 2 ^ 32
 
 -- the remembered set of a region
-abbrev pub set_of : Image → ℕ → List ℕ
-set_of i r = slice_index_or i.sets r []
+abbrev pub remembered_of : Image → ℕ → List ℕ
+remembered_of i r = slice_index_or i.remembered r []
 
 -- the rules of an image
 pub record IsImage (i : Image) : Type 0 where
   pub heap : IsValid i.heap
-  pub one_each : length i.sets ≡ i.heap.geometry.n
-  pub sets : (r : ℕ) → r < i.heap.geometry.n → IsSetOf i.heap r (set_of i r)
+  pub one_each : length i.remembered ≡ i.heap.geometry.n
+  pub remembered : (r : ℕ) → r < i.heap.geometry.n → IsRememberedSet i.heap r (remembered_of i r)
   pub log : IsLog i.heap i.log
 
 -- a region's entry of the table
@@ -67,7 +67,7 @@ file_of i = record {
   table = map entry_of i.heap.regions;
   roots = i.heap.roots;
   log = i.log;
-  sets = i.sets;
+  remembered = i.remembered;
   words = used_words i.heap.geometry.w i.heap.regions i.heap.words;
 }
 

@@ -4,7 +4,7 @@ use Rattle.std.specs.List.Sorted.{IsStrictlyIncreasing}
 use Rattle.g1_words.specs.Heap.{Heap, region_of, card_of}
 use Rattle.g1_words.specs.Valid.{IsValid}
 use Rattle.g1_words.specs.References.{Ref, refs}
-use Rattle.g1_image.specs.Image.{Image, IsImage, set_of, region_of_card, IsTextOf}
+use Rattle.g1_image.specs.Image.{Image, IsImage, remembered_of, region_of_card, IsTextOf}
 use Rattle.g1_image.specs.Cards.{cards_where, exact, refined, Covered, uncovered}
 use Rattle.g1_image.specs.Text.{File, file_text}
 use Rattle.g1_image.specs.Faults.{FileFits}
@@ -18,20 +18,20 @@ abbrev pub CardsRise : Type 0
 CardsRise = (h : Heap) (test : ℕ → Bool) → IsStrictlyIncreasing (cards_where h test)
 
 -- the exact set of a region has the cards of those references that lead into it from outside
-abbrev pub ExactSet : Type 0
-ExactSet = (h : Heap) (r c : ℕ) → IsValid h → Contains (exact h r) c
+abbrev pub ExactRemembered : Type 0
+ExactRemembered = (h : Heap) (r c : ℕ) → IsValid h → Contains (exact h r) c
     ↔ ((e : Ref) × Contains (refs h) e × (region_of h e.target ≡ r) × (region_of h e.slot ≢ r) × (card_of h e.slot ≡ c))
 
 -- the refined set has the remembered cards and those dirty ones that are exact
-abbrev pub RefinedSet : Type 0
-RefinedSet = (i : Image) (r c : ℕ) → IsImage i → r < i.heap.geometry.n → Contains (refined i r) c
-    ↔ (Contains (set_of i r) c ⊎ (Contains i.log c × Contains (exact i.heap r) c))
+abbrev pub RefinedRemembered : Type 0
+RefinedRemembered = (i : Image) (r c : ℕ) → IsImage i → r < i.heap.geometry.n → Contains (refined i r) c
+    ↔ (Contains (remembered_of i r) c ⊎ (Contains i.log c × Contains (exact i.heap r) c))
 
 -- the reference stays in its region, or its slot's card is remembered or dirty
 abbrev pub HasCover : Image → Ref → Type 0
 HasCover i e =
     (region_of i.heap e.slot ≡ region_of i.heap e.target)
-    ⊎ (Contains (set_of i (region_of i.heap e.target)) (card_of i.heap e.slot) ⊎ Contains i.log (card_of i.heap e.slot))
+    ⊎ (Contains (remembered_of i (region_of i.heap e.target)) (card_of i.heap e.slot) ⊎ Contains i.log (card_of i.heap e.slot))
 
 -- an image is covered where each reference is
 abbrev pub CoveredImage : Type 0

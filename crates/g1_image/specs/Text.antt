@@ -13,7 +13,7 @@ pub record File : Type 0 where
   pub table : List Entry
   pub roots : List ℕ
   pub log : List ℕ
-  pub sets : List (List ℕ)
+  pub remembered : List (List ℕ)
   pub words : List ℕ
 
 -- four bytes, the low one first
@@ -45,12 +45,12 @@ abbrev pub table_text : List Entry → List ℕ
 table_text es = flat_map entry_text es
 
 -- a remembered set: how many cards, and the cards
-abbrev pub set_text : List ℕ → List ℕ
-set_text cards = u32 (length cards) ++ numbers_text cards
+abbrev pub remembered_text : List ℕ → List ℕ
+remembered_text cards = u32 (length cards) ++ numbers_text cards
 
 -- the remembered sets, one after another
-abbrev pub sets_text : List (List ℕ) → List ℕ
-sets_text sets = flat_map set_text sets
+abbrev pub remembered_texts : List (List ℕ) → List ℕ
+remembered_texts remembered = flat_map remembered_text remembered
 
 -- the heading: the sizes, how many roots and logged cards, the current region
 abbrev pub heading_text : Heading → List ℕ
@@ -62,7 +62,7 @@ heading_of f = record { w = f.w; k = f.k; n = f.n; roots = length f.roots; dirty
 
 -- what stands behind the heading
 abbrev pub body_text : File → List ℕ
-body_text f = table_text f.table ++ (words_text f.roots ++ (numbers_text f.log ++ (sets_text f.sets ++ words_text f.words)))
+body_text f = table_text f.table ++ (words_text f.roots ++ (numbers_text f.log ++ (remembered_texts f.remembered ++ words_text f.words)))
 
 -- the whole text of a file
 abbrev pub file_text : File → List ℕ

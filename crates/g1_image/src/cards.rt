@@ -1,5 +1,5 @@
 ghost use Rattle.std.specs.Prelude.{◌≡◌, ◌≤◌, ◌<◌, ◌+◌, ◌*◌, ◌/◌, ◌^◌, ◌⊎◌, ℕ, List, [], All, map, length, slice_index, slice_index_or, IsTrue, ◌↔◌, OnOk, IfOk, IfErr};
-ghost use Rattle.g1_image.specs.Image.{IsUsedCard, IsSetOf};
+ghost use Rattle.g1_image.specs.Image.{IsUsedCard, IsRememberedSet};
 ghost use Rattle.g1_image.specs.Faults.{IsFirstBreach, IsGoodLogged};
 
 use crate::draft::Draft;
@@ -20,7 +20,7 @@ fn is_used(draft: &Draft, c: u32) -> bool
 }
 
 /// The log's cards, or the first that isn't good.
-pub(crate) fn good_log(alloc: Global, draft: &Draft, log: &[u32]) -> Result<IndexSet<u32>, Fault>
+pub(crate) fn check_log(alloc: Global, draft: &Draft, log: &[u32]) -> Result<IndexSet<u32>, Fault>
     requires { length log.now < 2 ^ 32 }
     ensures ok { IfOk result (λ s. (s.keys ≡ log.now) × ((i : ℕ) → i < length log.now → IsGoodLogged draft.now log.now i)) }
     ensures err { IfErr result (λ e. (e ≡ Fault.Memory) ⊎ ((i : ℕ) × (e ≡ Fault.Card (Stand.Dirty i)) × IsFirstBreach (IsGoodLogged draft.now log.now) (length log.now) i)) }
@@ -39,10 +39,10 @@ pub(crate) fn good_log(alloc: Global, draft: &Draft, log: &[u32]) -> Result<Inde
 }
 
 /// Tells whether a remembered set may be that of a region.
-fn is_set_of(draft: &Draft, r: u32, cards: &[u32]) -> bool
+fn is_remembered_set(draft: &Draft, r: u32, cards: &[u32]) -> bool
     requires there { r < draft.now.geometry.n }
     requires count { length cards.now < 2 ^ 32 }
-    ensures { IsTrue result ↔ IsSetOf draft.now r cards.now }
+    ensures { IsTrue result ↔ IsRememberedSet draft.now r cards.now }
 {
     if cards.len() > 0 && !draft.region(r).kind.may_hold_cards() {
         return false;
@@ -64,15 +64,15 @@ fn is_set_of(draft: &Draft, r: u32, cards: &[u32]) -> bool
 }
 
 /// Tells the first region whose remembered set isn't good.
-pub(crate) fn good_sets(draft: &Draft, sets: &[Vec<u32>]) -> Result<(), Fault>
-    requires one_each { length sets.now ≡ draft.now.geometry.n }
-    requires counts { All (λ s. length s < 2 ^ 32) (map (λ s. s.items) sets.now) }
-    ensures ok { OnOk result ((r : ℕ) → r < draft.now.geometry.n → IsSetOf draft.now r (slice_index_or (map (λ s. s.items) sets.now) r [])) }
-    ensures err { IfErr result (λ e. (r : ℕ) × (e ≡ Fault.Card (Stand.Region r)) × IsFirstBreach (λ r. IsSetOf draft.now r (slice_index_or (map (λ s. s.items) sets.now) r [])) draft.now.geometry.n r) }
+pub(crate) fn check_remembered(draft: &Draft, remembered: &[Vec<u32>]) -> Result<(), Fault>
+    requires one_each { length remembered.now ≡ draft.now.geometry.n }
+    requires counts { All (λ s. length s < 2 ^ 32) (map (λ s. s.items) remembered.now) }
+    ensures ok { OnOk result ((r : ℕ) → r < draft.now.geometry.n → IsRememberedSet draft.now r (slice_index_or (map (λ s. s.items) remembered.now) r [])) }
+    ensures err { IfErr result (λ e. (r : ℕ) × (e ≡ Fault.Card (Stand.Region r)) × IsFirstBreach (λ r. IsRememberedSet draft.now r (slice_index_or (map (λ s. s.items) remembered.now) r [])) draft.now.geometry.n r) }
 {
     let regions = draft.geometry().regions() as u32;
     for r in 0..regions {
-        if !is_set_of(draft, r, &sets[r as usize]) {
+        if !is_remembered_set(draft, r, &remembered[r as usize]) {
             return Err(Fault::Card(Stand::Region(r)));
         }
     }

@@ -122,15 +122,12 @@ impl<'a> Cursor<'a> {
         ensures ok { IfOk result (λ h. HeadingFits h × IsGoodHeading h × (self.old ≡ magic ++ (heading_text h ++ self.new))) }
         ensures err { IfErr result (FaultOf self.old) }
     {
-        match self.magic() {
-            Ok(()) => {}
-            Err(fault) => return Err(fault),
-        }
+        self.magic()?;
         let heading = match self.heading() {
             Some(heading) => heading,
             None => return Err(Fault::Short),
         };
-        if !is_good(&heading) {
+        if !is_good_heading(&heading) {
             return Err(Fault::Geometry);
         }
         Ok(heading)
@@ -138,7 +135,7 @@ impl<'a> Cursor<'a> {
 }
 
 /// Tells whether a heading is within the limits.
-fn is_good(h: &Heading) -> bool
+fn is_good_heading(h: &Heading) -> bool
     ensures { IsTrue result ↔ IsGoodHeading h.now }
 {
     match Geometry::new(u64::from(h.w), u64::from(h.k), u64::from(h.n)) {

@@ -5,43 +5,32 @@ ghost use Rattle.g1_image.specs.Text.{table_words};
 ghost use Rattle.g1_image.specs.Plain.{plain_file};
 ghost use Rattle.g1_image.specs.Judged.{IsGoodHeap, HeapFault};
 
-use crate::cards::{good_log, good_sets};
+use crate::cards::{check_log, check_remembered};
 use crate::cursor::{Entry, Heading};
 use crate::draft::Draft;
 use crate::image::Image;
-use crate::laid::{laid, regions};
+use crate::laying::lay_words;
 use crate::plain::{Plain, whole};
-use crate::refs::{good_roots, good_slots, starts};
-use crate::shape::shaped;
+use crate::refs::{check_roots, check_slots, starts};
+use crate::shape::check_shapes;
+use crate::table::regions;
 use g1_words::{Fault, Geometry, Heap};
 use std::alloc::Global;
 
 /// Tells the first fault of a heap's regions and references.
-fn judged(alloc: Global, draft: &Draft) -> Result<(), Fault>
+fn check_heap(alloc: Global, draft: &Draft) -> Result<(), Fault>
     ensures ok { OnOk result (IsGoodHeap draft.now) }
     ensures err { IfErr result (λ e. (e ≡ Fault.Memory) ⊎ HeapFault draft.now e) }
 {
-    match shaped(draft) {
-        Ok(()) => {}
-        Err(fault) => return Err(fault),
-    }
-    let marks = match starts(alloc, draft) {
-        Ok(marks) => marks,
-        Err(fault) => return Err(fault),
-    };
-    match good_roots(draft, &marks) {
-        Ok(()) => {}
-        Err(fault) => return Err(fault),
-    }
-    match good_slots(draft, &marks) {
-        Ok(()) => {}
-        Err(fault) => return Err(fault),
-    }
+    check_shapes(draft)?;
+    let marks = starts(alloc, draft)?;
+    check_roots(draft, &marks)?;
+    check_slots(draft, &marks)?;
     Ok(())
 }
 
 /// The heap that a file tells, before it is looked at.
-fn drafted(
+fn draft_heap(
     alloc: Global,
     h: &Heading,
     table: &[Entry],
@@ -55,18 +44,9 @@ fn drafted(
     ensures ok { IfOk result (λ d. (d ≡ heap_of (plain_file h.now table.now roots.items [] [] words.now)) × ((r : ℕ) → r < h.now.n → IsKnownKind table.now r)) }
     ensures err { IfErr result (λ e. (e ≡ Fault.Memory) ⊎ ((r : ℕ) × (e ≡ Fault.Kind r) × IsFirstBreach (IsKnownKind table.now) h.now.n r)) }
 {
-    let regions = match regions(alloc, table) {
-        Ok(regions) => regions,
-        Err(fault) => return Err(fault),
-    };
-    let words = match laid(alloc, h.w, table, words) {
-        Ok(words) => words,
-        Err(fault) => return Err(fault),
-    };
-    let geometry = match Geometry::new(u64::from(h.w), u64::from(h.k), u64::from(h.n)) {
-        Ok(geometry) => geometry,
-        Err(fault) => return Err(fault),
-    };
+    let regions = regions(alloc, table)?;
+    let words = lay_words(alloc, h.w, table, words)?;
+    let geometry = Geometry::new(u64::from(h.w), u64::from(h.k), u64::from(h.n))?;
     let current = if h.current < h.n {
         Some(h.current)
     } else {
@@ -86,34 +66,19 @@ pub fn decode(alloc: Global, bytes: &[u8]) -> Result<Image, Fault>
     ensures ok { IfOk result (λ i. IsTextOf bytes.now i) }
     ensures err { IfErr result (MayFail bytes.now) }
 {
-    let plain = match whole(alloc, bytes) {
-        Ok(plain) => plain,
-        Err(fault) => return Err(fault),
-    };
+    let plain = whole(alloc, bytes)?;
     let Plain {
         heading,
         table,
         roots,
         log: cards,
-        sets,
+        remembered,
         words,
     } = plain;
-    let draft = match drafted(alloc, &heading, &table, roots, words) {
-        Ok(draft) => draft,
-        Err(fault) => return Err(fault),
-    };
-    match judged(alloc, &draft) {
-        Ok(()) => {}
-        Err(fault) => return Err(fault),
-    }
-    let log = match good_log(alloc, &draft, &cards) {
-        Ok(log) => log,
-        Err(fault) => return Err(fault),
-    };
-    match good_sets(&draft, &sets) {
-        Ok(()) => {}
-        Err(fault) => return Err(fault),
-    }
+    let draft = draft_heap(alloc, &heading, &table, roots, words)?;
+    check_heap(alloc, &draft)?;
+    let log = check_log(alloc, &draft, &cards)?;
+    check_remembered(&draft, &remembered)?;
     let heap = Heap {
         geometry: draft.geometry,
         words: draft.words,
@@ -121,5 +86,9 @@ pub fn decode(alloc: Global, bytes: &[u8]) -> Result<Image, Fault>
         roots: draft.roots,
         current: draft.current,
     };
-    Ok(Image { heap, sets, log })
+    Ok(Image {
+        heap,
+        remembered,
+        log,
+    })
 }

@@ -4,13 +4,14 @@ ghost use Rattle.g1_image.specs.Image.{entry_of, IsTextOf};
 
 use crate::cursor::Heading;
 use crate::image::Image;
-use crate::writing::{push_heading, push_number, push_numbers, push_sets, push_used, push_words};
+use crate::writing::{
+    push_heading, push_number, push_numbers, push_remembered, push_used, push_words,
+};
 use g1_words::{Fault, Region};
-use std::alloc::Global;
+use std::alloc::{AllocError, Global};
 
-fn push_table(out: &mut Vec<u8>, regions: &[Region]) -> Result<(), Fault>
-    ensures ok { OnOk result (out.new.items ≡ out.old.items ++ table_text (map entry_of regions.now)) }
-    ensures err { IfErr result (λ e. e ≡ Fault.Memory) }
+fn push_table(out: &mut Vec<u8>, regions: &[Region]) -> Result<(), AllocError>
+    ensures { OnOk result (out.new.items ≡ out.old.items ++ table_text (map entry_of regions.now)) }
 {
     for region in regions {
         push_number(out, region.kind.number())?;
@@ -56,7 +57,7 @@ pub fn encode_into(out: &mut Vec<u8>, image: &Image) -> Result<(), Fault>
     push_table(out, heap.regions())?;
     push_words(out, heap.roots())?;
     push_numbers(out, log)?;
-    push_sets(out, image.sets())?;
+    push_remembered(out, image.remembered())?;
     push_used(
         out,
         geometry.region_words() as usize,

@@ -1,12 +1,12 @@
-ghost use Rattle.g1_image.specs.Laws.{CardsInRegions, CardsRise, ExactSet, RefinedSet, CoveredImage, UncoveredSlots, UncoveredRise, OneFile, OneImage, OneText};
+ghost use Rattle.g1_image.specs.Laws.{CardsInRegions, CardsRise, ExactRemembered, RefinedRemembered, CoveredImage, UncoveredSlots, UncoveredRise, OneFile, OneImage, OneText};
 ghost use Rattle.g1_image.specs.Verdict.{OneFault, NoFaultOfText, AlwaysOne};
 
 /// What the cards of an image tell.
-pub fn card_sets()
+pub fn remembered_cards()
     ensures regions { CardsInRegions }
     ensures rising { CardsRise }
-    ensures exact { ExactSet }
-    ensures refined { RefinedSet }
+    ensures exact { ExactRemembered }
+    ensures refined { RefinedRemembered }
 {}
 
 /// Which references of an image are covered.

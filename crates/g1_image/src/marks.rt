@@ -1,7 +1,6 @@
-ghost use Rattle.std.specs.Prelude.{◌≡◌, ◌≤◌, ◌<◌, ◌*◌, length, set, replicate, slice_index_or, true, false, IfOk, IfErr};
+ghost use Rattle.std.specs.Prelude.{◌≡◌, ◌≤◌, ◌<◌, ◌*◌, length, set, replicate, slice_index_or, true, false, IfOk};
 
-use g1_words::Fault;
-use std::alloc::Global;
+use std::alloc::{AllocError, Global};
 use std::marker::Model;
 
 /// A mark for each number below a bound, one bit each.
@@ -24,9 +23,8 @@ impl Model for Marks {
 
 impl Marks {
     /// So many marks, none of them set.
-    pub(crate) fn none(alloc: Global, count: usize) -> Result<Marks, Fault>
-        ensures ok { IfOk result (λ m. m ≡ replicate count false) }
-        ensures err { IfErr result (λ e. e ≡ Fault.Memory) }
+    pub(crate) fn none(alloc: Global, count: usize) -> Result<Marks, AllocError>
+        ensures { IfOk result (λ m. m ≡ replicate count false) }
     {
         let words = count / 64 + 1;
         Ok(Marks {

@@ -9,7 +9,7 @@ ghost use Rattle.g1_image.specs.Faults.{IsFirstBreach, IsGoodSlot};
 use crate::draft::Draft;
 use crate::marks::Marks;
 use g1_words::{Fault, Kind, Place, header};
-use std::alloc::Global;
+use std::alloc::{AllocError, Global};
 
 /// Marks the objects that fill the words between two addresses.
 fn mark_row(marks: &mut Marks, words: &[u64], from: u64, to: u64)
@@ -27,10 +27,9 @@ fn mark_row(marks: &mut Marks, words: &[u64], from: u64, to: u64)
 }
 
 /// Marks the addresses where objects start.
-pub(crate) fn starts(alloc: Global, draft: &Draft) -> Result<Marks, Fault>
+pub(crate) fn starts(alloc: Global, draft: &Draft) -> Result<Marks, AllocError>
     requires { ShapedBelow draft.now draft.now.geometry.n }
-    ensures ok { IfOk result (λ v. StartsAre draft.now v) }
-    ensures err { IfErr result (λ e. e ≡ Fault.Memory) }
+    ensures { IfOk result (λ v. StartsAre draft.now v) }
 {
     let geometry = draft.geometry();
     let regions = geometry.regions() as u32;
@@ -68,7 +67,7 @@ fn is_reference(draft: &Draft, marks: &Marks, x: u64) -> bool
 }
 
 /// Tells the first root that names no object.
-pub(crate) fn good_roots(draft: &Draft, marks: &Marks) -> Result<(), Fault>
+pub(crate) fn check_roots(draft: &Draft, marks: &Marks) -> Result<(), Fault>
     requires { StartsAre draft.now marks.now }
     ensures ok { OnOk result ((i : ℕ) → i < length draft.now.roots → IsReference draft.now (slice_index draft.now.roots i)) }
     ensures err { IfErr result (λ e. (i : ℕ) × (e ≡ Fault.Reference (Place.Root i)) × IsFirstBreach (λ i. IsReference draft.now (slice_index draft.now.roots i)) (length draft.now.roots) i) }
@@ -96,7 +95,7 @@ fn first_stray(draft: &Draft, marks: &Marks, words: &[u64]) -> Option<usize>
 }
 
 /// Tells the first slot that names no object.
-pub(crate) fn good_slots(draft: &Draft, marks: &Marks) -> Result<(), Fault>
+pub(crate) fn check_slots(draft: &Draft, marks: &Marks) -> Result<(), Fault>
     requires starts { StartsAre draft.now marks.now }
     requires shaped { ShapedBelow draft.now draft.now.geometry.n }
     ensures ok { OnOk result ((p : ℕ) → p < draft.now.geometry.n * draft.now.geometry.w → IsGoodSlot draft.now p) }

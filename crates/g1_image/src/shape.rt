@@ -72,7 +72,7 @@ fn ordinary_shaped(draft: &Draft, r: u32) -> bool
     is_tiled(draft.words(), start, start + top, region_words)
 }
 
-fn first_shaped(draft: &Draft, r: u32) -> bool
+fn humongous_shaped(draft: &Draft, r: u32) -> bool
     requires there { r < draft.now.geometry.n }
     requires kind { (region draft.now r).kind ≡ HumongousFirst }
     ensures { IsTrue result ↔ IsShapedBy HumongousFirst draft.now r }
@@ -98,7 +98,7 @@ fn first_shaped(draft: &Draft, r: u32) -> bool
     is_run(draft, r, o.size)
 }
 
-fn continued(draft: &Draft, r: u32, first: u32, size: u64) -> bool
+fn continuation_shaped(draft: &Draft, r: u32, first: u32, size: u64) -> bool
     requires there { r < draft.now.geometry.n }
     requires latest { Latest draft.now r first size }
     requires shaped { ShapedBelow draft.now r }
@@ -134,8 +134,8 @@ fn kind_shaped(draft: &Draft, r: u32, first: u32, size: u64) -> bool
     match region.kind {
         Kind::Free => region.top == 0,
         Kind::Ordinary => ordinary_shaped(draft, r),
-        Kind::HumongousFirst => first_shaped(draft, r),
-        Kind::Continuation => continued(draft, r, first, size),
+        Kind::HumongousFirst => humongous_shaped(draft, r),
+        Kind::Continuation => continuation_shaped(draft, r, first, size),
     }
 }
 
@@ -167,7 +167,7 @@ fn region_shaped(draft: &Draft, r: u32, first: u32, size: u64) -> bool
 }
 
 /// Tells the first region that breaks a rule.
-pub(crate) fn shaped(draft: &Draft) -> Result<(), Fault>
+pub(crate) fn check_shapes(draft: &Draft) -> Result<(), Fault>
     ensures ok { OnOk result (ShapedBelow draft.now draft.now.geometry.n) }
     ensures err { IfErr result (λ e. (r : ℕ) × (e ≡ Fault.Shape r) × IsFirstBreach (IsShaped draft.now) draft.now.geometry.n r) }
 {

@@ -1,30 +1,26 @@
 -- The positions of a set's regions, the addresses of its words, and the table that they make.
-use Rattle.std.proofs.Common.{◌≡◌, ◌≢◌, ◌⊎◌, ℕ, zero, suc, ◌+◌, ◌*◌, ◌/◌, ◌%◌, ◌^◌, ◌<◌, ◌≤◌, inl, inr, List, [], ◌++◌, Option, Some, None, All, Contains, length, get_or, set, replicate, refl, sym, ◌∙◌, ap, arith, length-append, mod-lt, div-add-mod', mod-eq_of_lt}
+use Rattle.std.proofs.Common.{◌≡◌, ◌≢◌, ◌⊎◌, ℕ, zero, suc, ◌+◌, ◌*◌, ◌/◌, ◌%◌, ◌<◌, ◌≤◌, inl, inr, List, Option, Some, None, All, Contains, length, get_or, set, replicate, refl, sym, ◌∙◌, ap, arith, mod-lt, div-add-mod', mod-eq_of_lt}
 use Rattle.std.proofs.lemmas.Bool.{cases_lt}
-use Rattle.std.proofs.lemmas.List.{get_or-set_same, get_or-set_other, get_or_append_left, get_or-append-add, get_or_default, get_or-replicate}
-use Rattle.std.proofs.lemmas.List.FromFn.{get_or-range_with_len, length-range_with_len}
+use Rattle.std.proofs.lemmas.List.{get_or-set_same, get_or-set_other, get_or_default}
 use Rattle.std.proofs.lemmas.List.Kept.{AllPairs-from_increasing}
 use Rattle.std.proofs.Math.Nat.{mul-le-mul_right, mul-add-div_right, mul-add-mod_self_right, div-eq_of_lt}
-use Rattle.std.specs.List.{range_with_len}
 use Rattle.std.specs.List.Sorted.{IsStrictlyIncreasing}
-use Rattle.g1_layout.specs.Words.{ArePositions, AreWords, HasIndex, IsTable, goes_to, index_at, word_or}
+use Rattle.g1_layout.specs.Words.{ArePositions, HasIndex, IsTable, goes_to, index_at, told, told_at}
 
 -- the first n regions of the set have their positions
 pub record Positioned (rs : List ℕ) (n : ℕ) (positions : List (Option ℕ)) : Type 0 where
   pub sound : (r p : ℕ) → get_or positions r None ≡ Some p → (p < n) × (get_or rs p 0 ≡ r)
   pub whole : (p : ℕ) → p < n → get_or positions (get_or rs p 0) None ≡ Some p
 
-none_there : (n r : ℕ) → get_or (replicate {A = Option ℕ} n None) r None ≡ None
-none_there n r = elim (cases_lt r n) [ inl lt ↦ get_or-replicate n r None None lt | inr ge ↦ past n r ge ]
-  where
-    past : (n r : ℕ) → n ≤ r → get_or (replicate {A = Option ℕ} n None) r None ≡ None
-    past zero r ge = refl
-    past (suc n) zero ge = absurd (omega arith)
-    past (suc n) (suc r) ge = past n r (omega arith)
+-- a list of one value has it everywhere, and past its end
+same_there : {A : Type 0} (d : A) (n r : ℕ) → get_or (replicate n d) r d ≡ d
+same_there d zero r = refl
+same_there d (suc n) zero = refl
+same_there d (suc n) (suc r) = same_there d n r
 
 pub Positioned-start : (rs : List ℕ) (n : ℕ) (positions : List (Option ℕ)) → positions ≡ replicate n None → Positioned rs 0 positions
 Positioned-start rs n positions e = record {
-  sound = λ r p k. let clash : None ≡ Some p = sym (none_there n r) ∙ ap (λ xs. get_or xs r None) (sym e) ∙ k in cc;
+  sound = λ r p k. let clash : None ≡ Some p = sym (same_there None n r) ∙ ap (λ xs. get_or xs r None) (sym e) ∙ k in cc;
   whole = λ p lt. absurd (omega arith);
 }
 
@@ -62,43 +58,9 @@ Positioned-end rs n positions e k = record {
   whole = λ p lt. k.whole p (omega arith);
 }
 
--- the words are the addresses of the first n regions
-pub record Addressed (w : ℕ) (rs : List ℕ) (n : ℕ) (words : List ℕ) : Type 0 where
-  pub count : length words ≡ n * w
-  pub each : (p o : ℕ) → p < n → o < w → get_or words (p * w + o) 0 ≡ get_or rs p 0 * w + o
-
-pub Addressed-start : (w : ℕ) (rs : List ℕ) → Addressed w rs 0 []
-Addressed-start w rs = record { count = omega arith; each = λ p o lt k. absurd (omega arith) }
-
-pub Addressed-step : (w : ℕ) (rs : List ℕ) (n start : ℕ) (words : List ℕ) → start ≡ get_or rs n 0 * w → Addressed w rs n words → Addressed w rs (n + 1) (words ++ range_with_len start w)
-Addressed-step w rs n start words e k = record {
-  count = let a = length-append words (range_with_len start w) in let b = length-range_with_len start w in let c = k.count in omega arith;
-  each = λ p o below lt. elim (cases_lt p n) [
-    | inl less ↦
-        let rows : (p + 1) * w ≤ n * w = mul-le-mul_right w (omega arith) in
-        let c = k.count in
-        let inside : p * w + o < length words = omega arith in
-        get_or_append_left words (range_with_len start w) 0 (p * w + o) inside ∙ k.each p o less lt
-    | inr ge ↦
-        let is : p ≡ n = omega arith in
-        let c = k.count in
-        let place : p * w + o ≡ length words + o = ap (λ x. x * w + o) is ∙ ap (λ x. x + o) (sym c) in
-        ap (λ x. get_or (words ++ range_with_len start w) x 0) place
-        ∙ get_or-append-add words (range_with_len start w) o 0
-        ∙ get_or-range_with_len start w o 0 lt
-        ∙ ap (λ x. x + o) (e ∙ ap (λ x. get_or rs x 0 * w) (sym is))
-  ];
-}
-
-pub Addressed-end : (w : ℕ) (rs : List ℕ) (n : ℕ) (words : List ℕ) → n ≡ length rs → Addressed w rs n words → AreWords w rs words
-Addressed-end w rs n words e k = record {
-  count = k.count ∙ ap (λ x. x * w) e;
-  each = λ p o lt below. k.each p o (omega arith) below;
-}
-
 -- ---- the table
 
-module _ (w : ℕ) (rs : List ℕ) (positions : List (Option ℕ)) (words : List ℕ) (pos : 0 < w) (p : ArePositions rs positions) (a : AreWords w rs words) where
+module _ (w : ℕ) (rs : List ℕ) (positions : List (Option ℕ)) (pos : 0 < w) (p : ArePositions rs positions) where
   alike : (x y i : ℕ) (m n : Option ℕ) → get_or positions (x / w) None ≡ m → get_or positions (y / w) None ≡ n → index_at m w (x % w) ≡ Some i → index_at n w (y % w) ≡ Some i → x ≡ y
   alike x y i None n e f g k = cc
   alike x y i (Some q) None e f g k = cc
@@ -119,34 +81,21 @@ module _ (w : ℕ) (rs : List ℕ) (positions : List (Option ℕ)) (words : List
       by_offset : (q x : ℕ) → (q * w + x % w) % w ≡ x % w
       by_offset q x = mul-add-mod_self_right q w (x % w) ∙ mod-eq_of_lt (mod-lt x pos)
 
-  inside : (x i : ℕ) (m : Option ℕ) → get_or positions (x / w) None ≡ m → index_at m w (x % w) ≡ Some i → i < length words
+  inside : (x i : ℕ) (m : Option ℕ) → get_or positions (x / w) None ≡ m → index_at m w (x % w) ≡ Some i → i < length rs * w
   inside x i None e g = cc
   inside x i (Some q) e g =
       let s = p.sound (x / w) q e in
       let rows : (q + 1) * w ≤ length rs * w = mul-le-mul_right w (omega (arith, s.0)) in
       let l : x % w < w = mod-lt x pos in
       let xi : q * w + x % w ≡ i = cc in
-      let c = a.count in
       omega arith
 
-  -- positions and addresses make a table
-  pub table_of : w < 2 ^ 31 → IsTable w positions words
-  table_of small = record {
-    some = pos;
-    small = small;
+  -- with a word for each word of the regions they make a table
+  pub table_of : (words : List ℕ) → length words ≡ length rs * w → IsTable w positions words
+  table_of words count = record {
     one_to_one = λ x y i e f. alike x y i (get_or positions (x / w) None) (get_or positions (y / w) None) refl refl e f;
-    within = λ x i e. inside x i (get_or positions (x / w) None) refl e;
+    within = λ x i e. let k = inside x i (get_or positions (x / w) None) refl e in omega (arith, count);
   }
-
-  stays_at : (x : ℕ) (m : Option ℕ) → get_or positions (x / w) None ≡ m → word_or (index_at m w (x % w)) words x ≡ x
-  stays_at x None e = refl
-  stays_at x (Some q) e =
-      let s = p.sound (x / w) q e in
-      a.each q (x % w) s.0 (mod-lt x pos) ∙ ap (λ z. z * w + x % w) s.1 ∙ div-add-mod' x w
-
-  -- it tells of each address the address itself
-  pub table_stays : (x : ℕ) → goes_to w positions words x ≡ x
-  table_stays x = stays_at x (get_or positions (x / w) None) refl
 
   -- each address in the set has an index
   pub table_has : (l : List ℕ) → All (λ x. Contains rs (x / w)) l → All (HasIndex w positions) l
@@ -156,3 +105,11 @@ module _ (w : ℕ) (rs : List ℕ) (positions : List (Option ℕ)) (words : List
       let e : get_or positions (x / w) None ≡ Some c.0 =
       ap (λ z. get_or positions z None) (sym (get_or_default rs c.0 0 (x / w) c.1 ∙ c.2)) ∙ p.whole c.0 c.1 in
       (c.0 * w + x % w, ap (λ m. index_at m w (x % w)) e)
+
+-- a table of zeros tells of each address the address itself
+pub zeros_stay : (w n : ℕ) (positions : List (Option ℕ)) (x : ℕ) → goes_to w positions (replicate n 0) x ≡ x
+zeros_stay w n positions x = stays_at (get_or positions (x / w) None)
+  where
+    stays_at : (m : Option ℕ) → told_at (index_at m w (x % w)) (replicate n 0) x ≡ x
+    stays_at None = refl
+    stays_at (Some q) = ap (λ word. told word x) (same_there 0 n (q * w + x % w))

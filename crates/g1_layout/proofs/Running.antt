@@ -1,16 +1,17 @@
 -- The survivors that stand in one region are a stretch of the list.
-use Rattle.std.proofs.Common.{◌≡◌, ℕ, zero, suc, ◌+◌, ◌-◌, ◌*◌, ◌/◌, ◌%◌, ◌<◌, ◌≤◌, ◌⊎◌, inl, inr, Bool, true, false, cond, List, [], ◌∷◌, length, get_or, map, filter, fold, max, zip, count_by, refl, sym, ◌∙◌, ap, subst, arith, eqb, eqb-true, eq-eqb, ltb, div-add-mod'}
+use Rattle.std.proofs.Common.{◌≡◌, ℕ, zero, suc, ◌+◌, ◌-◌, ◌*◌, ◌/◌, ◌%◌, ◌<◌, ◌≤◌, ◌^◌, ◌⊎◌, inl, inr, Bool, true, false, cond, List, [], ◌∷◌, All, length, get_or, map, filter, fold, max, zip, count_by, refl, sym, ◌∙◌, ap, subst, arith, eqb, eqb-true, eq-eqb, ltb, mod-lt, div-add-mod'}
 use Rattle.std.proofs.lemmas.Bool.{cases_lt, lt-ltb, le-ltb, ltb-true}
 use Rattle.std.proofs.lemmas.List.{get_or-map, length-map, get_or_default}
 use Rattle.std.proofs.lemmas.List.Sums.{count_by-le-length, sum_by-cons}
 use Rattle.std.proofs.lemmas.Nat.{le-div}
 use Rattle.std.proofs.lemmas.Slice.Zip.{get_or-zip, length-zip}
-use Rattle.std.proofs.Math.Nat.{div-mul-le_self}
+use Rattle.std.proofs.Math.Nat.{div-mul-le_self, mul-le-mul_right}
+use Rattle.g1_words.proofs.Computed.{range_below}
 use Rattle.g1_words.proofs.Indices.{get_or-In}
 use Rattle.g1_words.proofs.Members.{In, In-filter, In-map, Contains-from_in, filter_member, map_cases}
 use Rattle.g1_words.proofs.NextFit.{distinct_places, free_distinct, region_below, region_of_row, spot_below, spot_fits, spots, spots_apart}
 use Rattle.g1_words.proofs.Ordered.{Ordered, Ordered-from_pairs, pairs_from_ordered}
-use Rattle.g1_words.specs.Heap.{Heap, object_at, region_of, start}
+use Rattle.g1_words.specs.Heap.{Heap, is_free, kind, object_at, region_of, regions, start}
 use Rattle.g1_words.specs.Layout.{end_in, free_regions, laid, laid_end, need, next_fit, places, row_address, sizes_of}
 use Rattle.g1_layout.proofs.Laying.{all_fitting}
 use Rattle.g1_layout.specs.Placed.{CanLay}
@@ -158,6 +159,26 @@ module _ (h : Heap) (l : List ℕ) (pos : 0 < h.geometry.w) (can : CanLay h l) (
       let a = needed k lt in
       distinct_places (free_regions h) (row k / h.geometry.w) t 0 (free_distinct h pos) (omega arith) (omega arith) (sym (place_region k lt) ∙ e)
 
+  place_low : (k : ℕ) → k < length l → get_or (places h l) k 0 < h.geometry.n * h.geometry.w
+  place_low k lt =
+      let t : ℕ = row k / h.geometry.w in
+      let r : ℕ = get_or (free_regions h) t 0 in
+      let a = needed k lt in
+      let there = filter_member (λ r. is_free (kind h r)) (regions h) r (get_or-In (free_regions h) t 0 (omega arith)) in
+      let below = range_below 0 h.geometry.n r there.0 in
+      let rows : (r + 1) * h.geometry.w ≤ h.geometry.n * h.geometry.w = mul-le-mul_right h.geometry.w (omega arith) in
+      let offset = mod-lt (row k) pos in
+      let is = place_is k lt in
+      omega arith
+
+  -- places are addresses of the heap
+  pub places_low : h.geometry.n * h.geometry.w ≤ 2 ^ 24 → All (λ p. p < 2 ^ 24) (places h l)
+  places_low most k d lt =
+      let count = count_places in
+      let is = get_or_default (places h l) k d 0 lt in
+      let below = place_low k (omega arith) in
+      omega arith
+
   module _ (t : ℕ) (there : t < need h l) where
     -- the survivors from the first to the last of region t are those that are laid there
     pub in_stretch : (k : ℕ) → k < length l → row k / h.geometry.w ≡ t → (laid_before h l t ≤ k) × (k < laid_before h l (t + 1))
@@ -257,37 +278,40 @@ module _ (h : Heap) (l : List ℕ) (pos : 0 < h.geometry.w) (can : CanLay h l) (
     ]))
 
 -- a run up to the survivor at an index
-pub record Running (h : Heap) (l ps : List ℕ) (r from to end : ℕ) : Type 0 where
+pub record Running (h : Heap) (ps : List ℕ) (r from to : ℕ) : Type 0 where
   pub order : from ≤ to
   pub same : (k : ℕ) → from ≤ k → k < to → (k < length ps) × (get_or ps k 0 / h.geometry.w ≡ r)
-  pub none : to ≡ from → end ≡ 0
-  pub last : (k : ℕ) → k + 1 ≡ to → from ≤ k → end ≡ get_or ps k 0 + (object_at h (get_or l k 0)).size - r * h.geometry.w
 
-pub Running-start : (h : Heap) (l ps : List ℕ) (r from : ℕ) → Running h l ps r from from 0
-Running-start h l ps r from = record {
+pub Running-start : (h : Heap) (ps : List ℕ) (r from : ℕ) → Running h ps r from from
+Running-start h ps r from = record {
   order = omega arith;
   same = λ k ge lt. absurd (omega arith);
-  none = λ e. refl;
-  last = λ k e ge. absurd (omega arith);
 }
 
-pub Running-step : (h : Heap) (l ps : List ℕ) (r from to end s : ℕ) → Running h l ps r from to end → to < length ps → get_or ps to 0 / h.geometry.w ≡ r
-    → s ≡ get_or ps to 0 + (object_at h (get_or l to 0)).size - r * h.geometry.w → Running h l ps r from (to + 1) s
-Running-step h l ps r from to end s k lt here e = record {
+pub Running-step : (h : Heap) (ps : List ℕ) (r from to : ℕ) → Running h ps r from to → to < length ps → get_or ps to 0 / h.geometry.w ≡ r → Running h ps r from (to + 1)
+Running-step h ps r from to k lt here = record {
   order = let o = k.order in omega arith;
   same = λ j ge less. elim (cases_lt j to) [
     | inl before ↦ k.same j ge before
     | inr now ↦ let is : j ≡ to = omega arith in (omega arith, ap (λ x. get_or ps x 0 / h.geometry.w) is ∙ here)
   ];
-  none = λ f. let o = k.order in absurd (omega arith);
-  last = λ j f ge. let is : to ≡ j = omega arith in e ∙ ap (λ x. get_or ps x 0 + (object_at h (get_or l x 0)).size - r * h.geometry.w) is;
 }
 
+-- its last survivor stands in the region
+pub Running-last : (h : Heap) (ps : List ℕ) (r from to : ℕ) → Running h ps r from to → from < to → (to - 1 < length ps) × (r * h.geometry.w ≤ get_or ps (to - 1) 0)
+Running-last h ps r from to k lt =
+    let s = k.same (to - 1) (omega arith) (omega arith) in
+    let rows : r * h.geometry.w ≡ get_or ps (to - 1) 0 / h.geometry.w * h.geometry.w = ap (λ q. q * h.geometry.w) (sym s.1) in
+    let m = div-mul-le_self (get_or ps (to - 1) 0) h.geometry.w in
+    (s.0, omega arith)
+
 -- the run is whole where the next survivor stands elsewhere
-pub Running-end : (h : Heap) (l ps : List ℕ) (r from to end : ℕ) → 0 < h.geometry.w → CanLay h l → need h l ≤ length (free_regions h) → ps ≡ places h l → Running h l ps r from to end
+pub Running-end : (h : Heap) (l ps : List ℕ) (r from to end : ℕ) → 0 < h.geometry.w → CanLay h l → need h l ≤ length (free_regions h) → ps ≡ places h l → Running h ps r from to
+    → (to ≡ from → end ≡ 0)
+    → (from < to → end ≡ get_or ps (to - 1) 0 + (object_at h (get_or l (to - 1) 0)).size - r * h.geometry.w)
     → (to < length ps → get_or ps to 0 / h.geometry.w ≡ r → ⊥)
     → (t : ℕ) → t < need h l → r ≡ get_or (free_regions h) t 0 → from ≡ laid_before h l t → record { region = r; from = from; to = to; end = end } ≡ run_at h l t
-Running-end h l ps r from to end pos can room is k stop t there e f =
+Running-end h l ps r from to end pos can room is k none last stop t there e f =
     let count = ap length is ∙ count_places h l pos can room in
     let o = k.order in
     let stands : (j : ℕ) → from ≤ j → j < to → (j < length l) × (get_or (laid h.geometry.w 0 (sizes_of h l)) j 0 / h.geometry.w ≡ t) =
@@ -304,9 +328,10 @@ Running-end h l ps r from to end pos can room is k stop t there e f =
     ] in
     let g : to ≡ laid_before h l (t + 1) = omega arith in
     let ends : end ≡ end_in h l (get_or (free_regions h) t 0) = end_is h l pos can room t there from to end f g o (
-      k.none,
+      none,
       λ j n ge.
           let s = stands j ge (omega arith) in
-          k.last j n ge ∙ (λ i. get_or (is i) j 0 + sym (size_is h l pos can room j s.0) i - e i * h.geometry.w),
+          let before : to - 1 ≡ j = omega arith in
+          last (omega arith) ∙ ap (λ x. get_or ps x 0 + (object_at h (get_or l x 0)).size - r * h.geometry.w) before ∙ (λ i. get_or (is i) j 0 + sym (size_is h l pos can room j s.0) i - e i * h.geometry.w),
     ) in
     λ i. record { region = e i; from = f i; to = g i; end = ends i }

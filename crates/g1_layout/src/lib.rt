@@ -13,12 +13,11 @@
 //!    `Plan::forward` answers by one look-up.
 #![tactic(auto)]
 
-mod laws;
+pub mod laws;
+mod measuring;
+mod new_addresses;
 mod placing;
 mod plan;
-mod row;
-mod table;
 
-pub use laws::{placeable, runs_cover, within_regions};
 pub use placing::place;
 pub use plan::{Plan, Run};

@@ -3,11 +3,11 @@ ghost use Rattle.g1_words.specs.Layout.{need, free_regions, to_space as to_space
 ghost use Rattle.g1_layout.specs.Placed.{CanLay, CanPlace};
 ghost use Rattle.g1_layout.specs.Plan.{laid_before, run_at, runs, plan_of};
 
+use crate::measuring::{free_count, free_regions, need, next_fit};
+use crate::new_addresses::Table;
 use crate::plan::{Plan, Run};
-use crate::row::{free_count, free_regions, need, next_fit};
-use crate::table::Table;
 use g1_words::{Fault, Heap, region_of, size_at};
-use std::alloc::Global;
+use std::alloc::{AllocError, Global};
 
 /// The survivors' new addresses.
 fn places(
@@ -15,12 +15,11 @@ fn places(
     heap: &Heap,
     to_space: &[u32],
     survivors: &[u64],
-) -> Result<Vec<u64>, Fault>
+) -> Result<Vec<u64>, AllocError>
     requires fits { CanLay heap.now survivors.now }
     requires regions { to_space.now ≡ to_space_of heap.now survivors.now }
     requires room { need heap.now survivors.now ≤ length (free_regions heap.now) }
-    ensures ok { IfOk result (λ v. v.items ≡ places_of heap.now survivors.now) }
-    ensures memory { IfErr result (λ e. e ≡ Fault.Memory) }
+    ensures { IfOk result (λ v. v.items ≡ places_of heap.now survivors.now) }
 {
     let geometry = heap.geometry();
     let region_words = geometry.region_words();
@@ -46,11 +45,14 @@ fn run_from(heap: &Heap, survivors: &[u64], places: &[u64], region: u32, from: u
     let geometry = heap.geometry();
     let start = geometry.start(region);
     let mut to = from;
-    let mut end: u64 = 0;
     while to < places.len() && region_of(&geometry, places[to]) == u64::from(region) {
-        end = places[to] + size_at(heap, survivors[to]) - start;
         to += 1;
     }
+    let end = if from < to {
+        places[to - 1] + size_at(heap, survivors[to - 1]) - start
+    } else {
+        0
+    };
     Run {
         region,
         from,
@@ -66,13 +68,12 @@ fn runs(
     to_space: &[u32],
     survivors: &[u64],
     places: &[u64],
-) -> Result<Vec<Run>, Fault>
+) -> Result<Vec<Run>, AllocError>
     requires fits { CanLay heap.now survivors.now }
     requires regions { to_space.now ≡ to_space_of heap.now survivors.now }
     requires placed { places.now ≡ places_of heap.now survivors.now }
     requires room { need heap.now survivors.now ≤ length (free_regions heap.now) }
-    ensures ok { IfOk result (λ v. v.items ≡ runs heap.now survivors.now) }
-    ensures memory { IfErr result (λ e. e ≡ Fault.Memory) }
+    ensures { IfOk result (λ v. v.items ≡ runs heap.now survivors.now) }
 {
     let mut runs = Vec::with_capacity(alloc, to_space.len())?;
     let mut from: usize = 0;

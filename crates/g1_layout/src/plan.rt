@@ -1,7 +1,7 @@
 ghost use Rattle.std.specs.Prelude.{◌≡◌, ◌*◌, length};
 ghost use Rattle.g1_words.specs.Layout.{moved_to};
 
-use crate::table::Table;
+use crate::new_addresses::Table;
 use std::marker::Model;
 
 /// The survivors that stand in one region of to-space.

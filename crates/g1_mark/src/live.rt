@@ -10,7 +10,7 @@ use crate::bytes::{bytes_at, used_regions};
 use g1_frontier::discover;
 use g1_rem::Starts;
 use g1_words::{Fault, Heap};
-use g1_work::Gate;
+use g1_work::{Gate, Team};
 use std::alloc::Global;
 use std::thread::Threads;
 
@@ -20,13 +20,10 @@ pub fn live_objects<R: Threads + Sync, G: Gate + Sync>(
     alloc: Global,
     heap: &Heap,
     starts: &Starts,
-    workers: u64,
-    chunk: u64,
+    team: Team,
     gate: &G,
 ) -> Result<Vec<u64>, Fault>
     requires starts { IsStartsOf heap.now starts.now }
-    requires workers { (0 < workers) × (workers ≤ 64) }
-    requires chunk { (0 < chunk) × (chunk ≤ 65536) }
     ensures valid { IsValid heap.now }
     ensures ok { IfOk result (λ v. Survivors heap.now (used heap.now) v.items) }
     ensures memory { IfErr result (λ e. e ≡ Memory) }
@@ -40,8 +37,8 @@ pub fn live_objects<R: Threads + Sync, G: Gate + Sync>(
         starts,
         window.as_slice(),
         &cards,
-        workers,
-        chunk,
+        team.workers(),
+        team.chunk(),
         gate,
     )
 }
@@ -69,6 +66,7 @@ pub fn live_bytes<R: Threads + Sync, G: Gate + Sync>(
     ensures only { IfOk result (λ v. (l : List ℕ) → IsLiveBytes heap.now l → l ≡ v.items) }
     ensures memory { IfErr result (λ e. e ≡ Memory) }
 {
-    let live = live_objects(rt, alloc, heap, starts, workers, chunk, gate)?;
+    let team = Team::new(workers, chunk);
+    let live = live_objects(rt, alloc, heap, starts, team, gate)?;
     Ok(bytes_at(alloc, heap, live.as_slice())?)
 }

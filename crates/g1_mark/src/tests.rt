@@ -3,7 +3,7 @@ use crate::live_bytes;
 use g1_image::decode;
 use g1_rem::Starts;
 use g1_words::Fault;
-use g1_work::{Gate, Open, Part};
+use g1_work::{Gate, Open, Part, Team};
 use std::alloc::{AllocError, Global};
 use std::sync::atomic::{AtomicBool, Ordering};
 use std::test::Fail;
@@ -113,10 +113,10 @@ fn are_live_objects<R: Threads + Sync>(
     let image = decode(alloc, &text_of(alloc, numbers, words)?)?;
     let heap = image.heap();
     let starts = Starts::build(alloc, heap)?;
-    let one = live_objects(rt, alloc, heap, &starts, 1, 1, &Open)?;
-    let one_large = live_objects(rt, alloc, heap, &starts, 1, 65_536, &Open)?;
-    let eight = live_objects(rt, alloc, heap, &starts, 8, 1, &Open)?;
-    let eight_large = live_objects(rt, alloc, heap, &starts, 8, 65_536, &Open)?;
+    let one = live_objects(rt, alloc, heap, &starts, Team::new(1, 1), &Open)?;
+    let one_large = live_objects(rt, alloc, heap, &starts, Team::new(1, 65_536), &Open)?;
+    let eight = live_objects(rt, alloc, heap, &starts, Team::new(8, 1), &Open)?;
+    let eight_large = live_objects(rt, alloc, heap, &starts, Team::new(8, 65_536), &Open)?;
     let equal = one == one_large && one == eight && one == eight_large;
     Ok(equal && one.as_slice() == expected)
 }

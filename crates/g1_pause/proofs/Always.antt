@@ -28,7 +28,7 @@ use Rattle.g1_choose.proofs.Naming.{accepted_or_bad}
 use Rattle.g1_choose.proofs.OneChoice.{set_exists}
 use Rattle.g1_mark.proofs.Counting.{live_counted}
 use Rattle.g1_pause.proofs.Following.{evacuation_follows}
-use Rattle.g1_pause.proofs.SetsFor.{set_ordinary}
+use Rattle.g1_pause.proofs.CollectionSets.{set_ordinary}
 
 -- a heap has live bytes
 pub live_bytes_exist : (h : Heap) → IsValid h → (lives : List ℕ) × IsLiveBytes h lives

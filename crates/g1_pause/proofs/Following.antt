@@ -22,7 +22,7 @@ use Rattle.g1_after.proofs.ObjectsOf.{objects_after}
 use Rattle.g1_after.proofs.RefsMoved.{refs_after, slot_word}
 use Rattle.g1_after.proofs.SameGraphs.{no_root_into_set, no_slot_into_set, same_graph}
 use Rattle.g1_after.proofs.CardsAfter.{tracked_after}
-use Rattle.g1_pause.proofs.SetsFor.{set_ordinary}
+use Rattle.g1_pause.proofs.CollectionSets.{set_ordinary}
 
 module _ (i : Image) (set l : List ℕ) (j : Image) (tracked : IsTracked i) (ordinary : AllOrdinary i.heap set) (survivors : Survivors i.heap set l) (room : need i.heap l ≤ length (free_regions i.heap)) (moved : IsMoved i set l j) where
   -- no slot after leads into the set

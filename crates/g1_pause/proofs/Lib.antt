@@ -2,7 +2,7 @@ mod NamedPauses
 mod NoDevice
 mod Pieces
 pub mod OneAnswer
-pub mod SetsFor
+pub mod CollectionSets
 pub mod Following
 pub mod Always
 pub mod Counted

@@ -21,7 +21,7 @@ use Rattle.g1_choose.specs.Named.{AreDistinctOrdinary}
 use Rattle.g1_layout.specs.Laws.{SurvivorsPlaceable}
 use Rattle.g1_layout.specs.Placed.{CanPlace}
 use Rattle.g1_layout.specs.Plan.{Plan, plan_of}
-use Rattle.g1_copy.specs.Cards.{cards_into}
+use Rattle.g1_rem.specs.EntryCards.{cards_into}
 use Rattle.g1_copy.specs.Laws.{CardsLeadIn, CardsStandOutside, RefinedFindPatches}
 use Rattle.g1_copy.specs.Patches.{all_patches, patches_on}
 use Rattle.g1_copy.specs.Plans.{IsPauseOf}
@@ -51,9 +51,9 @@ module _ (i t : Image) (image : i ≡ t) (h : Heap) (its : h ≡ i.heap) (good :
   set_there = subst (λ g. AreRegions g set) (sym heap) known
 
   -- the cards lead into it
-  pub set_leads : (cards : List ℕ) (sets : List (List ℕ)) → CardsLeadIn → RefinedLeadIn → cards ≡ cards_into h sets set
-      → sets ≡ map (refined t) (regions t.heap) → AreOutside h set cards × LeadIn h set cards
-  set_leads cards sets cards_lead refined_lead e s =
+  pub set_leads : (cards : List ℕ) (remembered : List (List ℕ)) → CardsLeadIn → RefinedLeadIn → cards ≡ cards_into h remembered set
+      → remembered ≡ map (refined t) (regions t.heap) → AreOutside h set cards × LeadIn h set cards
+  set_leads cards remembered cards_lead refined_lead e s =
       let same : cards ≡ cards_into t.heap (map (refined t) (regions t.heap)) set = e ∙ (λ z. cards_into (heap z) (s z) set) in
       let are : AreRefinedOf t set cards = subst (AreRefinedOf t set) (sym same) (cards_lead t set whole ordinary) in
       let lead = refined_lead t set cards whole covered known.below are in
@@ -82,17 +82,17 @@ module _ (i t : Image) (image : i ≡ t) (h : Heap) (its : h ≡ i.heap) (good :
       within (inl lt) = let clash : Ok p ≡ Err (Room (need h l) (length (free_regions h))) = sym is ∙ room lt in cc
 
   -- the cards lie in none of the plan's regions
-  pub set_outside : (cards : List ℕ) (sets : List (List ℕ)) (p : Plan) → CardsStandOutside → cards ≡ cards_into h sets set → IsPauseOf h set p
+  pub set_outside : (cards : List ℕ) (remembered : List (List ℕ)) (p : Plan) → CardsStandOutside → cards ≡ cards_into h remembered set → IsPauseOf h set p
       → All (λ c. in_set h p.set (c * h.geometry.k) ≡ false) cards
-  set_outside cards sets p outside e pause =
+  set_outside cards remembered p outside e pause =
       subst (λ xs. All (λ c. in_set h xs (c * h.geometry.k) ≡ false) cards) (sym pause.same)
-      (subst (All (λ c. in_set h set (c * h.geometry.k) ≡ false)) (sym e) (outside h sets set).2)
+      (subst (All (λ c. in_set h set (c * h.geometry.k) ≡ false)) (sym e) (outside h remembered set).2)
 
   -- the patches on them are all that there are
-  pub set_patched : (cards : List ℕ) (sets : List (List ℕ)) (p : Plan) (xs : List (ℕ × ℕ)) → RefinedFindPatches → cards ≡ cards_into h sets set
-      → sets ≡ map (refined t) (regions t.heap) → IsPauseOf h set p → xs ≡ patches_on h p.survivors cards
+  pub set_patched : (cards : List ℕ) (remembered : List (List ℕ)) (p : Plan) (xs : List (ℕ × ℕ)) → RefinedFindPatches → cards ≡ cards_into h remembered set
+      → remembered ≡ map (refined t) (regions t.heap) → IsPauseOf h set p → xs ≡ patches_on h p.survivors cards
       → xs ≡ all_patches t.heap set p.survivors
-  set_patched cards sets p xs law e s pause told =
+  set_patched cards remembered p xs law e s pause told =
       let same : cards ≡ cards_into t.heap (map (refined t) (regions t.heap)) set = e ∙ (λ z. cards_into (heap z) (s z) set) in
       told ∙ (λ z. patches_on (heap z) p.survivors (same z))
       ∙ law t set p.survivors whole covered known.rise ordinary (subst (λ g. Survivors g set p.survivors) heap pause.survivors)

@@ -18,17 +18,17 @@ use Rattle.g1_choose.specs.declared.parameters.Cost.{Cost}
 use Rattle.g1_layout.specs.Laws.{SurvivorsPlaceable}
 use Rattle.g1_layout.specs.Placed.{CanPlace}
 use Rattle.g1_layout.specs.Plan.{Plan, plan_of}
-use Rattle.g1_copy.specs.Cards.{cards_into}
+use Rattle.g1_rem.specs.EntryCards.{cards_into}
 use Rattle.g1_copy.specs.Laws.{CardsLeadIn, CardsStandOutside}
 use Rattle.g1_copy.specs.Plans.{IsPauseOf}
 use Rattle.g1_pause.specs.declared.settings.Choice.{Choice}
 use Rattle.g1_pause.specs.Answer.{IsSetFor, IsEvacuated, no_room}
-use Rattle.g1_pause.proofs.SetsFor.{set_ordinary, set_regions}
+use Rattle.g1_pause.proofs.CollectionSets.{set_ordinary, set_regions}
 
 -- the cards are cards of the heap, rising
-pub cards_there : (h : Heap) (cards set : List ℕ) (sets : List (List ℕ)) → CardsStandOutside → cards ≡ cards_into h sets set → AreCards h cards
-cards_there h cards set sets outside e =
-    let k = outside h sets set in
+pub cards_there : (h : Heap) (cards set : List ℕ) (remembered : List (List ℕ)) → CardsStandOutside → cards ≡ cards_into h remembered set → AreCards h cards
+cards_there h cards set remembered outside e =
+    let k = outside h remembered set in
     record { rise = subst IsStrictlyIncreasing (sym e) k.0; below = subst (All (λ c. c < card_count h)) (sym e) k.1 }
 
 module _ (cost : Cost) (choice : Choice) (i : Image) (h : Heap) (heap : h ≡ i.heap) (set : List ℕ) (chosen : IsSetFor cost i choice set) where
@@ -37,9 +37,9 @@ module _ (cost : Cost) (choice : Choice) (i : Image) (h : Heap) (heap : h ≡ i.
   set_there xs e = subst (λ g. AreRegions g xs) (sym heap) (subst (AreRegions i.heap) (sym e) (set_regions cost i choice set chosen))
 
   -- the cards lead into the set
-  pub set_leads : (cards xs ys : List ℕ) (sets : List (List ℕ)) → IsTracked i → CardsLeadIn → RefinedLeadIn → cards ≡ cards_into h sets ys → ys ≡ set → xs ≡ set
-      → sets ≡ map (refined i) (regions i.heap) → AreOutside h xs cards × LeadIn h xs cards
-  set_leads cards xs ys sets tracked cards_lead refined_lead e f k s =
+  pub set_leads : (cards xs ys : List ℕ) (remembered : List (List ℕ)) → IsTracked i → CardsLeadIn → RefinedLeadIn → cards ≡ cards_into h remembered ys → ys ≡ set → xs ≡ set
+      → remembered ≡ map (refined i) (regions i.heap) → AreOutside h xs cards × LeadIn h xs cards
+  set_leads cards xs ys remembered tracked cards_lead refined_lead e f k s =
       let same : cards ≡ cards_into i.heap (map (refined i) (regions i.heap)) set = e ∙ (λ t. cards_into (heap t) (s t) (f t)) in
       let are : AreRefinedOf i set cards = subst (AreRefinedOf i set) (sym same) (cards_lead i set tracked.image (set_ordinary cost i choice set chosen)) in
       let lead = refined_lead i set cards tracked.image tracked.covered (set_regions cost i choice set chosen).below are in

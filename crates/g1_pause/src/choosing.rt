@@ -5,7 +5,7 @@ ghost use Rattle.g1_rem.specs.Starts.{IsStartsOf};
 ghost use Rattle.g1_pause.specs.Answer.{IsSetFor, IsEvacuated};
 
 use crate::settings::{Choice, Settings};
-use g1_choose::{choose, given, live_within_used};
+use g1_choose::{choose, given};
 use g1_image::Image;
 use g1_mark::live_bytes;
 use g1_rem::Starts;
@@ -14,7 +14,7 @@ use g1_work::Gate;
 use std::alloc::Global;
 use std::thread::Threads;
 
-/// The collection set, rising: what the budget buys, or the regions that are named. `sets` are the
+/// The collection set, rising: what the budget buys, or the regions that are named. `remembered` are the
 /// refined sets. Only a budget asks for the live bytes.
 ///
 /// # Errors
@@ -25,12 +25,12 @@ pub(crate) fn collection_set<R: Threads + Sync, G: Gate + Sync>(
     alloc: Global,
     image: &Image,
     starts: &Starts,
-    sets: &[Vec<u32>],
+    remembered: &[Vec<u32>],
     settings: &Settings,
     gate: &G,
 ) -> Result<Vec<u32>, Fault>
     requires starts { IsStartsOf image.now.heap starts.now }
-    requires sets { map (λ s. s.items) sets.now ≡ map (refined image.now) (regions image.now.heap) }
+    requires remembered { map (λ s. s.items) remembered.now ≡ map (refined image.now) (regions image.now.heap) }
     ensures set { IfOk result (λ v. IsSetFor settings.now.cost image.now settings.now.choice v.items) }
     ensures refused { IfErr result (λ e. (e ≡ Fault.Memory) ⊎ IsEvacuated settings.now.cost settings.now.choice image.now (Err e)) }
 {
@@ -41,8 +41,16 @@ pub(crate) fn collection_set<R: Threads + Sync, G: Gate + Sync>(
             let (workers, chunk) = (settings.workers(), settings.chunk());
             let live = live_bytes(rt, alloc, heap, starts, workers, chunk, gate)?;
             let dirty = image.log().len() as u64;
-            live_within_used();
-            choose(alloc, heap, dirty, sets, &live, &settings.cost(), *budget)
+            g1_choose::laws::live_within_used();
+            choose(
+                alloc,
+                heap,
+                dirty,
+                remembered,
+                &live,
+                &settings.cost(),
+                *budget,
+            )
         }
     }
 }

@@ -8,13 +8,13 @@ ghost use Rattle.g1_pause.specs.Planned.{IsPlanned};
 ghost use Rattle.g1_pause.specs.Report.{IsReport};
 
 use crate::choosing::collection_set;
-use crate::laws::{one_answer, what_follows};
+use crate::laws;
 use crate::report::{Report, report_of};
 use crate::settings::Settings;
-use g1_copy::{Prepared, cards_into, cards_lead_in, commit, prepare};
-use g1_frontier::{discover, refined_sets_lead_in};
-use g1_layout::{place, placeable};
-use g1_rem::{Starts, Tracked, image, refine};
+use g1_copy::{Prepared, commit, prepare_on};
+use g1_frontier::discover;
+use g1_layout::place;
+use g1_rem::{Starts, Tracked, cards_into, image, refine};
 use g1_words::Fault;
 use g1_work::Gate;
 use std::alloc::Global;
@@ -38,15 +38,15 @@ fn planned<R: Threads + Sync, G: Gate + Sync>(
     let heap = image.heap();
     let (workers, chunk) = (settings.workers(), settings.chunk());
     let starts = Starts::build(alloc, heap)?;
-    let sets = refine(rt, alloc, tracked, &starts)?;
-    let set = collection_set(rt, alloc, image, &starts, &sets, settings, gate)?;
-    let cards = cards_into(alloc, heap, &sets, &set)?;
-    cards_lead_in();
-    refined_sets_lead_in();
+    let remembered = refine(rt, alloc, tracked, &starts)?;
+    let set = collection_set(rt, alloc, image, &starts, &remembered, settings, gate)?;
+    let cards = cards_into(alloc, heap, &remembered, &set)?;
+    g1_copy::laws::cards_lead_in();
+    g1_frontier::laws::refined_lead_in();
     let survivors = discover(rt, alloc, heap, &starts, &set, &cards, workers, chunk, gate)?;
-    placeable();
+    g1_layout::laws::placeable();
     let plan = place(alloc, heap, &set, &survivors)?;
-    let prepared = prepare(rt, alloc, tracked, &starts, &sets, &set, &plan)?;
+    let prepared = prepare_on(rt, alloc, tracked, &starts, &remembered, &set, &plan, &cards)?;
     let report = report_of(alloc, image, set, &plan)?;
     Ok((prepared, report))
 }
@@ -75,8 +75,8 @@ pub fn evacuate<R: Threads + Sync, G: Gate + Sync>(
     ensures refused { IfErr result (λ e. (e.1 ≡ Fault.Memory) ⊎ IsEvacuated settings.now.cost settings.now.choice tracked (Err e.1)) }
     ensures only_refused { IfErr result (λ e. (e.1 ≡ Fault.Memory) ⊎ ((y : Result ImageOf FaultOf) → IsEvacuated settings.now.cost settings.now.choice tracked y → y ≡ Err e.1)) }
 {
-    one_answer();
-    what_follows();
+    laws::one_answer();
+    laws::what_follows();
     match planned(rt, alloc, &tracked, settings, gate) {
         Err(fault) => Err((tracked, fault)),
         Ok((prepared, report)) => {

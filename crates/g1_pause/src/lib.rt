@@ -18,31 +18,22 @@
 //! no trace in it.
 #![tactic(auto)]
 
+mod bytes;
 mod choosing;
 mod evacuating;
-mod laws;
+pub mod laws;
 mod report;
-mod running;
+mod run_streams;
 mod settings;
+mod std_streams;
 mod streams;
 #[cfg(test)]
 mod tests;
-#[cfg(test)]
-mod tests_images;
-#[cfg(test)]
-mod tests_pauses;
-#[cfg(test)]
-mod tests_pieces;
-#[cfg(test)]
-mod tests_streams;
-mod whole;
-mod wraps;
 
+pub use bytes::pause_bytes;
 pub use evacuating::evacuate;
-pub use laws::{always_one, live_bytes_exist, one_answer, same_choice, what_follows};
 pub use report::Report;
-pub use running::pause_run;
+pub use run_streams::pause_run;
 pub use settings::{Choice, Settings};
+pub use std_streams::{FromReader, ToWriter};
 pub use streams::{Sink, Source};
-pub use whole::pause_bytes;
-pub use wraps::{FromReader, ToWriter};

@@ -4,6 +4,7 @@ ghost use Rattle.g1_pause.specs.Settings.{AreWorkers, IsChunk, IsRefused};
 
 use g1_choose::Cost;
 use g1_words::Fault;
+use g1_work::{MOST_CHUNK, MOST_WORKERS};
 use std::marker::Model;
 
 /// Which regions a pause collects.
@@ -39,13 +40,13 @@ impl Model for Settings {
 fn are_workers(workers: u64) -> bool
     ensures { IsTrue result ↔ AreWorkers workers }
 {
-    1 <= workers && workers <= 64
+    1 <= workers && workers <= MOST_WORKERS
 }
 
 fn is_chunk(chunk: u64) -> bool
     ensures { IsTrue result ↔ IsChunk chunk }
 {
-    1 <= chunk && chunk <= 65_536
+    1 <= chunk && chunk <= MOST_CHUNK
 }
 
 const COST_RANGE: u64 = 4_294_967_296;

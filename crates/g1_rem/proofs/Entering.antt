@@ -29,12 +29,12 @@ use Rattle.g1_words.proofs.Members.{In, In-from_contains, Contains-from_in, In-f
 use Rattle.g1_words.proofs.Indices.{get_or-In}
 use Rattle.g1_words.proofs.Sound.{sound}
 use Rattle.g1_words.proofs.Computed.{In-range, contains_has, range_above, range_below}
-use Rattle.g1_image.specs.Image.{Image, IsImage, IsUsedCard, set_of}
+use Rattle.g1_image.specs.Image.{Image, IsImage, IsUsedCard, remembered_of}
 use Rattle.g1_image.specs.Cards.{leads_into, is_exact, is_refined, refined}
 use Rattle.g1_rem.specs.Starts.{card_count}
 use Rattle.g1_rem.specs.Slots.{slots_on, all_slots}
 use Rattle.g1_rem.specs.Leads.{IsLedInto}
-use Rattle.g1_rem.specs.Entering.{enters, with_card, IsGrown, AreEntering, IsRefining, AreRefining, IsRefinedSet}
+use Rattle.g1_rem.specs.Entering.{enters, with_card, IsGrown, AreEntering, IsRefining, AreRefining, IsRefinedRemembered}
 use Rattle.g1_rem.specs.Merging.{IsMerged}
 use Rattle.g1_rem.proofs.Lists.{same_test, eqb_false}
 use Rattle.g1_rem.proofs.Rising.{Rises-range, Rises-filter, Rises-one, increasing-Rises}
@@ -213,12 +213,12 @@ card_inside h c valid used = elim (cases_lt c (card_count h)) [
 
 -- a refined card is one of the heap's
 refined_inside : (i : Image) (r c : ℕ) → IsImage i → r < i.heap.geometry.n → is_refined i r c ≡ true → c < card_count i.heap
-refined_inside i r c valid lt e = elim (or_true (has (set_of i r) c) (has i.log c && is_exact i.heap r c) e) [
-  | inl f ↦ card_inside i.heap c valid.heap (in_set (Contains-from_in (set_of i r) c (in_from_has (set_of i r) c f)))
+refined_inside i r c valid lt e = elim (or_true (has (remembered_of i r) c) (has i.log c && is_exact i.heap r c) e) [
+  | inl f ↦ card_inside i.heap c valid.heap (in_set (Contains-from_in (remembered_of i r) c (in_from_has (remembered_of i r) c f)))
   | inr f ↦ card_inside i.heap c valid.heap (in_all (IsUsedCard i.heap) i.log c valid.log.used (in_from_has i.log c (and_true (has i.log c) (is_exact i.heap r c) f).0))
 ] where
-  in_set : Contains (set_of i r) c → IsUsedCard i.heap c
-  in_set k = in_all (IsUsedCard i.heap) (set_of i r) c (λ j d lt'. ((valid.sets r lt).elsewhere j d lt').0) (In-from_contains (set_of i r) c k)
+  in_set : Contains (remembered_of i r) c → IsUsedCard i.heap c
+  in_set k = in_all (IsUsedCard i.heap) (remembered_of i r) c (λ j d lt'. ((valid.remembered r lt).elsewhere j d lt').0) (In-from_contains (remembered_of i r) c k)
 
 -- the one rising list with these members is the refined set
 pub refined_is : (i : Image) (r : ℕ) (zs : List ℕ) → IsImage i → r < i.heap.geometry.n → IsStrictlyIncreasing zs → ((c : ℕ) → has zs c ≡ is_refined i r c) → zs ≡ refined i r
@@ -275,34 +275,34 @@ refining_all i dirty lists rising same a = record {
 }
 
 -- a merged set is the refined one
-pub refined_answer : (i : Image) (r : ℕ) (set entering : List ℕ) (answer : Result (Vec ℕ) Fault) → IsImage i → r < i.heap.geometry.n → set ≡ set_of i r → IsRefining i r entering
-    → IfOk answer (λ v. IsMerged set entering v.items) → IfErr answer (λ e. e ≡ Memory) → IsRefinedSet i r answer
+pub refined_answer : (i : Image) (r : ℕ) (set entering : List ℕ) (answer : Result (Vec ℕ) Fault) → IsImage i → r < i.heap.geometry.n → set ≡ remembered_of i r → IsRefining i r entering
+    → IfOk answer (λ v. IsMerged set entering v.items) → IfErr answer (λ e. e ≡ Memory) → IsRefinedRemembered i r answer
 refined_answer i r set entering (Ok v) valid lt e new ok err =
-    refined_is i r v.items valid lt ok.rising (λ c. ok.members c ∙ ap (λ l. has l c || has entering c) e ∙ ap (λ b. has (set_of i r) c || b) (new.members c))
+    refined_is i r v.items valid lt ok.rising (λ c. ok.members c ∙ ap (λ l. has l c || has entering c) e ∙ ap (λ b. has (remembered_of i r) c || b) (new.members c))
 refined_answer i r set entering (Err fault) valid lt e new ok err = err
 
 -- the answers of all regions, gathered
 module _ (i : Image) where
   -- where no region wants memory, each has its refined set
-  all_ok : (rs : List ℕ) (ys : List (Vec ℕ)) → AllZip (IsRefinedSet i) rs (map (λ y. Ok y) ys) → map (λ s. s.items) ys ≡ map (refined i) rs
+  all_ok : (rs : List ℕ) (ys : List (Vec ℕ)) → AllZip (IsRefinedRemembered i) rs (map (λ y. Ok y) ys) → map (λ s. s.items) ys ≡ map (refined i) rs
   all_ok [] [] z = refl
   all_ok [] (y ∷ ys) z = absurd z
   all_ok (r ∷ rs) [] z = absurd z
   all_ok (r ∷ rs) (y ∷ ys) z = let rest = all_ok rs ys z.1 in λ t. z.0 t ∷ rest t
 
   -- the only fault is a want of memory
-  a_fault : (rs : List ℕ) (xs : List (Result (Vec ℕ) Fault)) (e : Fault) → AllZip (IsRefinedSet i) rs xs → In xs (Err e) → e ≡ Memory
+  a_fault : (rs : List ℕ) (xs : List (Result (Vec ℕ) Fault)) (e : Fault) → AllZip (IsRefinedRemembered i) rs xs → In xs (Err e) → e ≡ Memory
   a_fault rs [] e z k = absurd k
   a_fault [] (x ∷ xs) e z k = absurd z
-  a_fault (r ∷ rs) (x ∷ xs) e z (inl same) = let f : IsRefinedSet i r (Err e) = subst (IsRefinedSet i r) same z.0 in f
+  a_fault (r ∷ rs) (x ∷ xs) e z (inl same) = let f : IsRefinedRemembered i r (Err e) = subst (IsRefinedRemembered i r) same z.0 in f
   a_fault (r ∷ rs) (x ∷ xs) e z (inr k) = a_fault rs xs e z.1 k
 
-  module _ (rs : List ℕ) (xs : List (Result (Vec ℕ) Fault)) (z : AllZip (IsRefinedSet i) rs xs) where
+  module _ (rs : List ℕ) (xs : List (Result (Vec ℕ) Fault)) (z : AllZip (IsRefinedRemembered i) rs xs) where
     -- the sets, as they were gathered
-    pub gathered_sets : (answer : Result (Vec (Vec ℕ)) Fault) → MatchResult answer (λ v. (ys : List (Vec ℕ)) × (xs ≡ map (λ y. Ok y) ys) × (v.items ≡ ys)) (λ e. Contains xs (Err e))
+    pub gathered_remembered : (answer : Result (Vec (Vec ℕ)) Fault) → MatchResult answer (λ v. (ys : List (Vec ℕ)) × (xs ≡ map (λ y. Ok y) ys) × (v.items ≡ ys)) (λ e. Contains xs (Err e))
         → IfOk answer (λ v. map (λ s. s.items) v.items ≡ map (refined i) rs)
-    gathered_sets (Ok v) (ys, e, f) = ap (map (λ s. s.items)) f ∙ all_ok rs ys (subst (AllZip (IsRefinedSet i) rs) e z)
-    gathered_sets (Err fault) m = tt
+    gathered_remembered (Ok v) (ys, e, f) = ap (map (λ s. s.items)) f ∙ all_ok rs ys (subst (AllZip (IsRefinedRemembered i) rs) e z)
+    gathered_remembered (Err fault) m = tt
 
     -- the fault, as it was gathered
     pub gathered_fault : (answer : Result (Vec (Vec ℕ)) Fault) → MatchResult answer (λ v. (ys : List (Vec ℕ)) × (xs ≡ map (λ y. Ok y) ys) × (v.items ≡ ys)) (λ e. Contains xs (Err e))

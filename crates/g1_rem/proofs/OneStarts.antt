@@ -1,12 +1,12 @@
 -- A heap has one list of starts.
-use Rattle.std.proofs.Common.{◌≡◌, ◌<◌, ◌≤◌, ℕ, ◌+◌, ◌*◌, inl, inr, List, Contains, arith, refl, sym, ap, ◌∙◌, slice_index_or}
+use Rattle.std.proofs.Common.{◌≡◌, ℕ, ◌*◌, inl, inr, arith, refl, sym, ap, ◌∙◌, slice_index_or}
 use Rattle.std.specs.Prelude.{Option, Some, None}
 use Rattle.std.proofs.lemmas.Bool.{cases_lt}
 use Rattle.std.proofs.lemmas.List.{ext_get_or}
 use Rattle.g1_words.specs.Heap.{Heap, objects, object_at}
 use Rattle.g1_words.specs.Valid.{IsValid}
 use Rattle.g1_words.proofs.Members.{In-from_contains}
-use Rattle.g1_rem.specs.Starts.{IsOver, IsStartsOf}
+use Rattle.g1_rem.specs.Starts.{IsOver}
 use Rattle.g1_rem.specs.Laws.{OneStarts}
 use Rattle.g1_rem.proofs.Order.{Chain-apart, objects_chain}
 

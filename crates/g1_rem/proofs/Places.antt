@@ -14,7 +14,7 @@ use Rattle.g1_words.specs.Lists.{has}
 use Rattle.g1_words.specs.Valid.{IsValid}
 use Rattle.g1_words.proofs.Members.{In-from_contains, Contains-from_in, has_from_in}
 use Rattle.g1_words.proofs.Indices.{not_has}
-use Rattle.g1_image.specs.Image.{Image, set_of}
+use Rattle.g1_image.specs.Image.{Image, remembered_of}
 use Rattle.g1_rem.specs.Marks.{Chain, objects_from}
 use Rattle.g1_rem.specs.Places.{IsBehind, AreBehind, AreReadyFor}
 use Rattle.g1_rem.specs.Cover.{IsFirstOf}
@@ -55,7 +55,7 @@ behind_later i places p q valid le b = record {
   some = omega (arith, valid.limits.k_least)
 
 -- one place moved on
-pub behind_set : (i : Image) (places : List ℕ) (p r place : ℕ) → r < i.heap.geometry.n → AreBehind i places p → IsBehind (set_of i r) place (card_of i.heap p) → AreBehind i (set places r place) p
+pub behind_set : (i : Image) (places : List ℕ) (p r place : ℕ) → r < i.heap.geometry.n → AreBehind i places p → IsBehind (remembered_of i r) place (card_of i.heap p) → AreBehind i (set places r place) p
 behind_set i places p r place lt b here = record {
   one_each = length-set places r place ∙ b.one_each;
   each = λ q lt'. elim (cases_lt q r) [
@@ -66,12 +66,12 @@ behind_set i places p r place lt b here = record {
           let e : r ≡ q = omega (arith, from, to) in
           let inside : r < length places = omega (arith, lt, b.one_each) in
           let now : slice_index (set places r place) r ≡ place = get_or-set_same places r place 0 inside in
-          subst (λ z. IsBehind (set_of i z) (slice_index (set places r place) z) (card_of i.heap p)) e (subst (λ z. IsBehind (set_of i r) z (card_of i.heap p)) (sym now) here))
+          subst (λ z. IsBehind (remembered_of i z) (slice_index (set places r place) z) (card_of i.heap p)) e (subst (λ z. IsBehind (remembered_of i r) z (card_of i.heap p)) (sym now) here))
     ]
   ];
 } where
-  other : (q : ℕ) → q < i.heap.geometry.n → q ≢ r → IsBehind (set_of i q) (slice_index (set places r place) q) (card_of i.heap p)
-  other q lt' ne = subst (λ z. IsBehind (set_of i q) z (card_of i.heap p)) (sym (get_or-set_other places r q place 0 ne)) (b.each q lt')
+  other : (q : ℕ) → q < i.heap.geometry.n → q ≢ r → IsBehind (remembered_of i q) (slice_index (set places r place) q) (card_of i.heap p)
+  other q lt' ne = subst (λ z. IsBehind (remembered_of i q) z (card_of i.heap p)) (sym (get_or-set_other places r q place 0 ne)) (b.each q lt')
 
 -- before the first slot
 pub ready_start : (i : Image) (places : List ℕ) (n : ℕ) → IsValid i.heap → places ≡ replicate n 0 → n ≡ i.heap.geometry.n → AreReadyFor i places (objects_from i.heap 0)

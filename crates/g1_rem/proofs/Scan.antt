@@ -142,7 +142,7 @@ scan_end words from to lo hi at items s over os t =
     empty (o ∷ os) le p i = omega (arith, le)
 
 -- a range with the next number
-range_push : (a n : ℕ) → range_with_len a n ++ (a + n) ∷ [] ≡ range_with_len a (suc n)
+pub range_push : (a n : ℕ) → range_with_len a n ++ (a + n) ∷ [] ≡ range_with_len a (suc n)
 range_push a zero = let e : a + 0 ≡ a = omega arith in ap (λ x. x ∷ []) e
 range_push a (suc n) =
     let e : a + suc n ≡ a + 1 + n = omega arith in

@@ -40,6 +40,6 @@ pub record AreRefining (i : Image) (lists : List (List ℕ)) : Type 0 where
   pub each : (r : ℕ) → r < i.heap.geometry.n → IsRefining i r (slice_index_or lists r [])
 
 -- the answer is the region's refined set, or a want of memory
-abbrev pub IsRefinedSet : Image → ℕ → Result (Vec ℕ) Fault → Type 0
-IsRefinedSet i r (Ok v) = v.items ≡ refined i r
-IsRefinedSet i r (Err fault) = fault ≡ Memory
+abbrev pub IsRefinedRemembered : Image → ℕ → Result (Vec ℕ) Fault → Type 0
+IsRefinedRemembered i r (Ok v) = v.items ≡ refined i r
+IsRefinedRemembered i r (Err fault) = fault ≡ Memory

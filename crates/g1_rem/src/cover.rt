@@ -39,7 +39,7 @@ fn is_uncovered(image: &Image, places: &mut [usize], p: u64) -> bool
         None => false,
         Some(region) => {
             let card = card_of(&heap.geometry(), p) as u32;
-            let set = &image.sets()[region as usize];
+            let set = &image.remembered()[region as usize];
             let place = place_of(set, places[region as usize], card);
             places[region as usize] = place;
             if place < set.len() && set[place] == card {

@@ -11,13 +11,16 @@
 //! 4. `refine` looks at the dirty cards alone: it adds to each region's remembered set those that
 //!    hold a slot of another region that names an object in it.
 //! 5. `merged` makes one rising list of two, each card once: a set and the cards that join it.
+//! 6. `cards_into` lists the cards that lead into a set of regions: those of the remembered sets of
+//!    its regions that lie outside it.
 //!
 //! The sets and the log are those of Detlefs, Flood, Heller, Printezis, "Garbage-First Garbage
 //! Collection", 2004.
 #![tactic(auto)]
 
 mod cover;
-mod laws;
+mod entry_cards;
+pub mod laws;
 mod leads;
 mod merging;
 mod refining;
@@ -28,7 +31,7 @@ mod tests;
 mod tracked;
 
 pub use cover::verify;
-pub use laws::{card_slots, one_table};
+pub use entry_cards::cards_into;
 pub use merging::merged;
 pub use refining::refine;
 pub use slots::slots_on;

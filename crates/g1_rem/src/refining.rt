@@ -6,7 +6,7 @@ ghost use Rattle.g1_words.specs.Valid.{IsReference, IsValid};
 ghost use Rattle.g1_image.specs.Cards.{refined};
 ghost use Rattle.g1_image.specs.Image.{IsImage};
 ghost use Rattle.g1_rem.specs.Starts.{IsStartsOf, card_count};
-ghost use Rattle.g1_rem.specs.Entering.{with_card, IsGrown, AreEntering, IsRefining, AreRefining, IsRefinedSet};
+ghost use Rattle.g1_rem.specs.Entering.{with_card, IsGrown, AreEntering, IsRefining, AreRefining, IsRefinedRemembered};
 
 use crate::leads::led_into;
 use crate::merging::merged;
@@ -92,11 +92,11 @@ fn no_cards(alloc: Global, regions: u64) -> Result<Vec<Vec<u32>>, Fault>
     ensures ok { IfOk result (λ v. map (λ s. s.items) v.items ≡ replicate regions []) }
     ensures memory { IfErr result (λ e. e ≡ Fault.Memory) }
 {
-    let mut sets: Vec<Vec<u32>> = Vec::new(alloc);
+    let mut remembered: Vec<Vec<u32>> = Vec::new(alloc);
     for _i in 0..regions {
-        sets.push(Vec::new(alloc))?;
+        remembered.push(Vec::new(alloc))?;
     }
-    Ok(sets)
+    Ok(remembered)
 }
 
 /// For each region the dirty cards, rising, that hold a slot which leads into it.
@@ -118,7 +118,7 @@ fn entering_cards(
 }
 
 /// A region's remembered set with the dirty cards that lead into the region.
-fn refined_set(
+fn refined_one(
     alloc: Global,
     image: &Image,
     region: u32,
@@ -126,14 +126,14 @@ fn refined_set(
 ) -> Result<Vec<u32>, Fault>
     requires region { region < image.now.heap.geometry.n }
     requires entering { IsRefining image.now region entering.now }
-    ensures { IsRefinedSet image.now region result }
+    ensures { IsRefinedRemembered image.now region result }
 {
     let heap = image.heap();
-    merged(alloc, &image.sets()[region as usize], entering)
+    merged(alloc, &image.remembered()[region as usize], entering)
 }
 
 /// Each region's remembered set with the dirty cards that lead into the region.
-fn refined_sets(
+fn refined_remembered(
     rt: &(impl Threads + Sync),
     alloc: Global,
     image: &Image,
@@ -150,8 +150,8 @@ fn refined_sets(
         .map(
             |region: u32| -> Result<Vec<u32>, Fault>
                 requires { (region < image.now.heap.geometry.n) × AreRefining image.now (map (λ s. s.items) entering.now) }
-                ensures { IsRefinedSet image.entry.now region result }
-            { refined_set(alloc, image, region, &entering[region as usize]) },
+                ensures { IsRefinedRemembered image.entry.now region result }
+            { refined_one(alloc, image, region, &entering[region as usize]) },
         )
         .collect::<Result<Vec<Vec<u32>>, Fault>>(rt, alloc)?
 }
@@ -175,5 +175,5 @@ pub fn refine(
 {
     let image = image(tracked);
     let entering = entering_cards(rt, alloc, image, starts)?;
-    refined_sets(rt, alloc, image, &entering)
+    refined_remembered(rt, alloc, image, &entering)
 }

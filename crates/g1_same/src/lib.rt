@@ -25,14 +25,13 @@
 
 mod comparing;
 mod difference;
-mod laws;
+pub mod laws;
 mod meeting;
 mod renaming;
 mod walk;
 
 pub use comparing::compare;
 pub use difference::{Difference, How};
-pub use laws::{never_both, one_first, one_renaming};
 pub use renaming::Renaming;
 
 #[cfg(test)]

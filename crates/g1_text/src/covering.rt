@@ -5,7 +5,7 @@ use std::alloc::AllocError;
 
 /// Gives each region the cards of other regions that hold a slot which leads into it.
 pub(crate) fn cover(draft: &mut Draft) -> Result<(), Wrong> {
-    for (set, line) in draft.sets.iter().zip(draft.lines.sets.iter()) {
+    for (set, line) in draft.remembered.iter().zip(draft.lines.remembered.iter()) {
         if !set.is_empty() {
             return Err(Wrong::Line {
                 number: *line,
@@ -18,14 +18,14 @@ pub(crate) fn cover(draft: &mut Draft) -> Result<(), Wrong> {
         let words = draft.words.as_slice();
         let (_, from) = words.split_at(words.len().min(object.place.saturating_add(1)));
         let (slots, _) = from.split_at(from.len().min(object.slots as usize));
-        cover_slots(&mut draft.sets, &geometry, object, slots)?;
+        cover_slots(&mut draft.remembered, &geometry, object, slots)?;
     }
     Ok(())
 }
 
 // Slots come by rising address, so the card of a slot is new in a set where it is not the last one.
 fn cover_slots(
-    sets: &mut Vec<Vec<u32>>,
+    remembered: &mut Vec<Vec<u32>>,
     geometry: &Geometry,
     object: &Placed,
     slots: &[u64],
@@ -38,14 +38,14 @@ fn cover_slots(
         };
         let region = region_of(geometry, target);
         if region != region_of(geometry, address) {
-            add_card(sets, region, card_of(geometry, address))?;
+            add_card(remembered, region, card_of(geometry, address))?;
         }
     }
     Ok(())
 }
 
-fn add_card(sets: &mut Vec<Vec<u32>>, region: u64, card: u64) -> Result<(), AllocError> {
-    let (Some(set), Ok(card)) = (sets.get_mut(region as usize), u32::try_from(card)) else {
+fn add_card(remembered: &mut Vec<Vec<u32>>, region: u64, card: u64) -> Result<(), AllocError> {
+    let (Some(set), Ok(card)) = (remembered.get_mut(region as usize), u32::try_from(card)) else {
         return Ok(());
     };
     if set.last() != Some(&card) {

@@ -12,7 +12,7 @@ pub(crate) struct Draft {
     /// The regions up to the one that takes objects.
     pub(crate) regions: Vec<Region>,
     /// The remembered cards of each region of the heap.
-    pub(crate) sets: Vec<Vec<u32>>,
+    pub(crate) remembered: Vec<Vec<u32>>,
     /// The used words, of one region after the other.
     pub(crate) words: Vec<u64>,
     pub(crate) objects: Vec<Placed>,
@@ -40,7 +40,7 @@ pub(crate) struct Lines {
     pub(crate) roots: Vec<u64>,
     pub(crate) log: Vec<u64>,
     /// The last line with cards of a region.
-    pub(crate) sets: Vec<u64>,
+    pub(crate) remembered: Vec<u64>,
     pub(crate) regions: Vec<Told>,
 }
 
@@ -77,7 +77,7 @@ impl Draft {
             heading,
             roots: Vec::new(alloc),
             log: Vec::new(alloc),
-            sets: vec![in alloc; heading.line; count]?,
+            remembered: vec![in alloc; heading.line; count]?,
             regions: Vec::new(alloc),
         };
         Ok(Draft {
@@ -86,7 +86,7 @@ impl Draft {
             roots: Vec::new(alloc),
             log: Vec::new(alloc),
             regions: Vec::new(alloc),
-            sets: empty_sets(alloc, count)?,
+            remembered: empty_remembered(alloc, count)?,
             words: Vec::new(alloc),
             objects: Vec::new(alloc),
             beyond: 0,
@@ -163,12 +163,12 @@ impl Draft {
     }
 }
 
-fn empty_sets(alloc: Global, count: usize) -> Result<Vec<Vec<u32>>, AllocError> {
-    let mut sets = Vec::new(alloc);
+fn empty_remembered(alloc: Global, count: usize) -> Result<Vec<Vec<u32>>, AllocError> {
+    let mut remembered = Vec::new(alloc);
     for _ in 0..count {
-        sets.push(Vec::new(alloc))?;
+        remembered.push(Vec::new(alloc))?;
     }
-    Ok(sets)
+    Ok(remembered)
 }
 
 // The top of an ordinary region of this width behind an object more.

@@ -40,7 +40,7 @@ fn traced(draft: &Draft, fault: Fault) -> Wrong {
         Fault::Reference(Place::Root(root)) => at(&lines.roots, root, Expected::Root, fault),
         Fault::Reference(Place::Slot(slot)) => slot_line(draft, slot, fault),
         Fault::Card(Stand::Dirty(place)) => at(&lines.log, place, Expected::Dirty, fault),
-        Fault::Card(Stand::Region(region)) => at(&lines.sets, region, Expected::Cards, fault),
+        Fault::Card(Stand::Region(region)) => at(&lines.remembered, region, Expected::Cards, fault),
         other => Wrong::Fault(other),
     }
 }

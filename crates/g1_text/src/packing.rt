@@ -9,7 +9,7 @@ pub(crate) fn packed(alloc: Global, draft: &Draft) -> Result<Vec<u8>, AllocError
     push_table(&mut out, &draft.regions)?;
     push_words(&mut out, &draft.roots)?;
     push_numbers(&mut out, &draft.log)?;
-    for set in &draft.sets {
+    for set in &draft.remembered {
         push_numbers(&mut out, &[count(set.len())])?;
         push_numbers(&mut out, set)?;
     }

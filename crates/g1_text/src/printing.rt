@@ -120,7 +120,7 @@ fn push_region(alloc: Global, text: &mut String, image: &Image, region: u32) -> 
     let kind = kind_word(kind);
     let starts = objects_in(alloc, heap, region)?;
     let objects = starts.len();
-    let remembered = image.sets()[region as usize].as_slice();
+    let remembered = image.remembered()[region as usize].as_slice();
     let cards = remembered.len();
     writeln!(
         text,

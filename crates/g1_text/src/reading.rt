@@ -147,14 +147,14 @@ impl Draft {
         let mut words = words;
         let region = words.number("region")?;
         let last = self.geometry.regions().saturating_sub(1);
-        let Some(set) = self.sets.get_mut(region as usize) else {
+        let Some(set) = self.remembered.get_mut(region as usize) else {
             return Err(Expected::Region(0, last).into());
         };
         words.word("cards")?;
         for _ in 0..words.len() {
             set.push(words.short_number("card")?)?;
         }
-        if let Some(told) = self.lines.sets.get_mut(region as usize) {
+        if let Some(told) = self.lines.remembered.get_mut(region as usize) {
             *told = line;
         }
         Ok(())

@@ -41,7 +41,7 @@ fn settle_region(draft: &Draft, told: &Told) -> Result<(), Expected> {
     }
     follows(told.top, "top", u64::from(*top))?;
     follows(told.objects, "objects", told.found)?;
-    let cards = match draft.sets.get(told.region) {
+    let cards = match draft.remembered.get(told.region) {
         Some(set) => set.len(),
         None => 0,
     };

@@ -22,7 +22,7 @@ pub mod Finding
 pub mod Tables
 pub mod Placed
 pub mod Carrying
-pub mod Leads
+pub mod GoesOn
 pub mod Numerals
 pub mod Words
 pub mod Names

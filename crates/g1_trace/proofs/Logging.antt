@@ -16,7 +16,7 @@ use Rattle.g1_words.proofs.Members.{In, In-from_contains, Contains-from_in, In-a
 use Rattle.g1_words.proofs.Ordered.{Ordered-from_pairs, pairs_from_ordered}
 use Rattle.g1_words.proofs.Rising.{Ordered-append}
 use Rattle.g1_words.proofs.Shapes.{IsBuilt, valid_of}
-use Rattle.g1_image.specs.Image.{Image, IsUsedCard, MayHoldCards, IsSetOf, IsLog, IsImage, region_of_card, set_of}
+use Rattle.g1_image.specs.Image.{Image, IsUsedCard, MayHoldCards, IsRememberedSet, IsLog, IsImage, region_of_card, remembered_of}
 use Rattle.g1_trace.specs.Mutator.{logged}
 
 all_in : {A : Type 0} (P : A → Type 0) (xs : List A) → All P xs → (x : A) → In xs x → P x
@@ -112,7 +112,7 @@ module _ (i j : Image) (g : j.heap.geometry ≡ i.heap.geometry) (stay : (r : �
         used = λ e. u.used (sym (stay (region_of_card i.heap c) u.used) ∙ ap (kind j.heap) (sym at) ∙ e);
       }
 
-  set_stays : (r : ℕ) (cards : List ℕ) → IsSetOf i.heap r cards → IsSetOf j.heap r cards
+  set_stays : (r : ℕ) (cards : List ℕ) → IsRememberedSet i.heap r cards → IsRememberedSet j.heap r cards
   set_stays r cards s = record {
     rising = s.rising;
     elsewhere = λ k d lt.
@@ -126,10 +126,10 @@ module _ (i j : Image) (g : j.heap.geometry ≡ i.heap.geometry) (stay : (r : �
   log_stays cards l = record { used = λ k d lt. used_stays (get_or cards k d) (l.used k d lt); distinct = l.distinct; count = l.count }
 
   -- such an image keeps the rules of its cards
-  pub image_kept : IsImage i → IsBuilt j.heap → j.sets ≡ i.sets → IsLog i.heap j.log → IsImage j
-  image_kept good b sets log = record {
+  pub image_kept : IsImage i → IsBuilt j.heap → j.remembered ≡ i.remembered → IsLog i.heap j.log → IsImage j
+  image_kept good b remembered log = record {
     heap = valid_of j.heap b;
-    one_each = ap length sets ∙ good.one_each ∙ ap (λ (x : Geometry). x.n) (sym g);
-    sets = λ r lt. subst (IsSetOf j.heap r) (ap (λ s. get_or s r []) (sym sets)) (set_stays r (set_of i r) (good.sets r (subst (λ (x : Geometry). r < x.n) g lt)));
+    one_each = ap length remembered ∙ good.one_each ∙ ap (λ (x : Geometry). x.n) (sym g);
+    remembered = λ r lt. subst (IsRememberedSet j.heap r) (ap (λ s. get_or s r []) (sym remembered)) (set_stays r (remembered_of i r) (good.remembered r (subst (λ (x : Geometry). r < x.n) g lt)));
     log = log_stays j.log log;
   }

@@ -21,34 +21,34 @@ use Rattle.g1_trace.proofs.Tables.{same_list}
 
 -- ---- the image put together again
 
-pub ordinary_parts : (i : Image) (r size refs root : ℕ) (heap : Heap) (sets : List (List ℕ)) (log : List ℕ) (at used : ℕ) → record { heap = heap; sets = sets; log = log } ≡ i → at ≡ end i.heap r → used ≡ top i.heap r + size
+pub ordinary_parts : (i : Image) (r size refs root : ℕ) (heap : Heap) (remembered : List (List ℕ)) (log : List ℕ) (at used : ℕ) → record { heap = heap; remembered = remembered; log = log } ≡ i → at ≡ end i.heap r → used ≡ top i.heap r + size
     → IsTracked (with_heap i (ordinary_heap i.heap r size refs root))
     → IsTracked (record {
       heap = record { geometry = heap.geometry; words = set heap.words at (size * 2 ^ 32 + refs); regions = set heap.regions r (record { kind = Ordinary; top = used }); roots = set heap.roots root (at + 1); current = Some r };
-      sets = sets;
+      remembered = remembered;
       log = log;
     })
-ordinary_parts i r size refs root heap sets log at used e a u t =
+ordinary_parts i r size refs root heap remembered log at used e a u t =
     let h : heap ≡ i.heap = ap (λ (x : Image). x.heap) e in
     let next : suc (end i.heap r) ≡ at + 1 = omega (arith, a) in
     let whole : (x : Heap) (p q n : ℕ) → Heap = λ x p q n. record { geometry = x.geometry; words = set x.words p (size * 2 ^ 32 + refs); regions = set x.regions r (record { kind = Ordinary; top = q }); roots = set x.roots root n; current = Some r } in
-    let image : (x : Image) (p q n : ℕ) → Image = λ x p q n. record { heap = whole x.heap p q n; sets = x.sets; log = x.log } in
-    let same : image i (end i.heap r) (top i.heap r + size) (suc (end i.heap r)) ≡ image (record { heap = heap; sets = sets; log = log }) at used (at + 1) = λ s. image (sym e s) (sym a s) (sym u s) (next s) in
+    let image : (x : Image) (p q n : ℕ) → Image = λ x p q n. record { heap = whole x.heap p q n; remembered = x.remembered; log = x.log } in
+    let same : image i (end i.heap r) (top i.heap r + size) (suc (end i.heap r)) ≡ image (record { heap = heap; remembered = remembered; log = log }) at used (at + 1) = λ s. image (sym e s) (sym a s) (sym u s) (next s) in
     subst IsTracked same t
 
-pub humongous_parts : (i : Image) (r size refs root : ℕ) (heap : Heap) (sets : List (List ℕ)) (log : List ℕ) (at : ℕ) (table : List Region) → record { heap = heap; sets = sets; log = log } ≡ i → at ≡ end i.heap r
+pub humongous_parts : (i : Image) (r size refs root : ℕ) (heap : Heap) (remembered : List (List ℕ)) (log : List ℕ) (at : ℕ) (table : List Region) → record { heap = heap; remembered = remembered; log = log } ≡ i → at ≡ end i.heap r
     → table ≡ run_taken i.heap.geometry.w i.heap.regions r size (run_length i.heap size)
     → IsTracked (with_heap i (humongous_heap i.heap r size refs root))
     → IsTracked (record {
       heap = record { geometry = heap.geometry; words = set heap.words at (size * 2 ^ 32 + refs); regions = table; roots = set heap.roots root (at + 1); current = heap.current };
-      sets = sets;
+      remembered = remembered;
       log = log;
     })
-humongous_parts i r size refs root heap sets log at table e a u t =
+humongous_parts i r size refs root heap remembered log at table e a u t =
     let next : suc (end i.heap r) ≡ at + 1 = omega (arith, a) in
     let whole : (x : Heap) (p n : ℕ) (rs : List Region) → Heap = λ x p n rs. record { geometry = x.geometry; words = set x.words p (size * 2 ^ 32 + refs); regions = rs; roots = set x.roots root n; current = x.current } in
-    let image : (x : Image) (p n : ℕ) (rs : List Region) → Image = λ x p n rs. record { heap = whole x.heap p n rs; sets = x.sets; log = x.log } in
-    let same : image i (end i.heap r) (suc (end i.heap r)) (run_taken i.heap.geometry.w i.heap.regions r size (run_length i.heap size)) ≡ image (record { heap = heap; sets = sets; log = log }) at (at + 1) table = λ s. image (sym e s) (sym a s) (next s) (sym u s) in
+    let image : (x : Image) (p n : ℕ) (rs : List Region) → Image = λ x p n rs. record { heap = whole x.heap p n rs; remembered = x.remembered; log = x.log } in
+    let same : image i (end i.heap r) (suc (end i.heap r)) (run_taken i.heap.geometry.w i.heap.regions r size (run_length i.heap size)) ≡ image (record { heap = heap; remembered = remembered; log = log }) at (at + 1) table = λ s. image (sym e s) (sym a s) (next s) (sym u s) in
     subst IsTracked same t
 
 -- ---- the heap with a new object, by its two cases

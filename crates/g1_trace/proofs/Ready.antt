@@ -18,7 +18,7 @@ use Rattle.g1_words.proofs.Sound.{IsSound}
 use Rattle.g1_words.proofs.Standing.{home, word_used, words_apart, built_is_sound, w_pos}
 use Rattle.g1_trace.specs.Mutator.{heap_view, is_humongous, run_length, is_free_region, is_free_run, fits_current}
 use Rattle.g1_trace.specs.Views.{Seen}
-use Rattle.g1_trace.specs.Laid.{Covers, IsLaid, IsUnused, IsReady}
+use Rattle.g1_trace.specs.Laid.{CoversWord, IsLaid, IsUnused, IsReady}
 use Rattle.g1_trace.proofs.GraphViews.{seen_live}
 
 live_object : (h : Heap) → IsSound h → (a : ℕ) → Live h a → Contains (objects h) (object_at h a)
@@ -80,7 +80,7 @@ module _ (h : Heap) (valid : IsBuilt h) where
   }
 
   -- a word above its region's top is 0, and no object's
-  above_top : (r x q : ℕ) → r < h.geometry.n → top h r ≤ x → x < h.geometry.w → q ≡ r * h.geometry.w + x → (word h q ≡ 0) × ((b : ℕ) → Seen (heap_view h) b → Covers h b q → ⊥) × ((o : Object) → Contains (objects h) o → o.at ≤ q → q < o.at + o.size → ⊥)
+  above_top : (r x q : ℕ) → r < h.geometry.n → top h r ≤ x → x < h.geometry.w → q ≡ r * h.geometry.w + x → (word h q ≡ 0) × ((b : ℕ) → Seen (heap_view h) b → CoversWord h b q → ⊥) × ((o : Object) → Contains (objects h) o → o.at ≤ q → q < o.at + o.size → ⊥)
   above_top r x q lt le small e = (
     ap (word h) e ∙ valid.zero_above r x lt le small,
     λ b s c.
@@ -133,7 +133,7 @@ module _ (h : Heap) (valid : IsBuilt h) where
       let s : (r + run_length h size) * h.geometry.w ≤ h.geometry.n * h.geometry.w = mul-le-mul_right h.geometry.w run.0 in
       let t : (r + run_length h size) * h.geometry.w ≡ r * h.geometry.w + run_length h size * h.geometry.w = add-mul r (run_length h size) h.geometry.w in
       let n : length h.words ≡ h.geometry.n * h.geometry.w = valid.word_count in
-      let above : (q : ℕ) → r * h.geometry.w + top h r ≤ q → q < r * h.geometry.w + top h r + size → (word h q ≡ 0) × ((b : ℕ) → Seen (heap_view h) b → Covers h b q → ⊥) × ((o : Object) → Contains (objects h) o → o.at ≤ q → q < o.at + o.size → ⊥) = λ q low high.
+      let above : (q : ℕ) → r * h.geometry.w + top h r ≤ q → q < r * h.geometry.w + top h r + size → (word h q ≡ 0) × ((b : ℕ) → Seen (heap_view h) b → CoversWord h b q → ⊥) × ((o : Object) → Contains (objects h) o → o.at ≤ q → q < o.at + o.size → ⊥) = λ q low high.
       let y : ℕ = q - r * h.geometry.w in
       let c : ℕ = y / h.geometry.w in
       let dy : c * h.geometry.w + y % h.geometry.w ≡ y = div-add-mod' y h.geometry.w in

@@ -11,7 +11,7 @@ use Rattle.g1_words.specs.References.{Ref, refs, refs_at, root_targets}
 use Rattle.g1_words.proofs.Members.{In, In-from_contains, flat_map_cases}
 use Rattle.g1_words.proofs.Ordered.{pairs_from_ordered}
 use Rattle.g1_words.proofs.Shapes.{IsBuiltBy, IsBuilt, valid_of}
-use Rattle.g1_image.specs.Image.{Image, IsSetOf}
+use Rattle.g1_image.specs.Image.{Image, IsRememberedSet}
 use Rattle.g1_image.specs.Cards.{IsTracked}
 use Rattle.g1_image.proofs.Covers.{covered_tells}
 use Rattle.g1_choose.specs.declared.parameters.Cost.{Cost}
@@ -123,7 +123,7 @@ module _ (g : Geometry) (roots : ℕ) (limits : IsWithinLimits g.w g.k g.n) (few
     current = λ r e. let clash : None ≡ Some r = e in cc;
   }
 
-  no_cards : (h : Heap) (r : ℕ) → IsSetOf h r []
+  no_cards : (h : Heap) (r : ℕ) → IsRememberedSet h r []
   no_cards h r = record {
     rising = λ k lt. absurd (omega (arith, lt));
     elsewhere = λ k d lt. absurd (omega (arith, lt));
@@ -136,7 +136,7 @@ module _ (g : Geometry) (roots : ℕ) (limits : IsWithinLimits g.w g.k g.n) (few
     image = record {
       heap = valid_of (empty_image g roots).heap empty_built;
       one_each = length-replicate {A = List ℕ} g.n [];
-      sets = λ r lt. subst (IsSetOf (empty_image g roots).heap r) (sym (zeros_get {X = List ℕ} g.n r [])) (no_cards (empty_image g roots).heap r);
+      remembered = λ r lt. subst (IsRememberedSet (empty_image g roots).heap r) (sym (zeros_get {X = List ℕ} g.n r [])) (no_cards (empty_image g roots).heap r);
       log = record { used = λ k d lt. absurd (omega (arith, lt)); distinct = pairs_from_ordered (λ c d. c ≢ d) [] tt; count = lit< tt };
     };
     covered = (covered_tells (empty_image g roots)).1 (λ e c. absurd (no_refs e (In-from_contains (refs (empty_image g roots).heap) e c)));

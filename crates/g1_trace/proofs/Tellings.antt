@@ -12,9 +12,9 @@ use Rattle.g1_trace.specs.Views.{Shows}
 use Rattle.g1_trace.specs.Run.{Replies, IsRun, empty_store, empty_image}
 use Rattle.g1_trace.specs.Running.{IsHeapSize}
 use Rattle.g1_trace.specs.TraceText.{AllFit, numbers_of, command_line, heap_line, IsCommandLine, IsBadRest, IsFirstBadLine, IsText}
-use Rattle.g1_trace.specs.Telling.{reply_line, reply_lines, IsTold, IsOutside, BeginsWith, IsBegun, BeginsOutside}
+use Rattle.g1_trace.specs.Telling.{reply_line, reply_lines, IsTold, IsOutsideLimits, BeginsWith, IsBegun, BeginsOutside}
 use Rattle.g1_trace.specs.Laws.{OneTold, StartShows}
-use Rattle.g1_trace.proofs.Leads.{append-nil, append-one}
+use Rattle.g1_trace.proofs.GoesOn.{append-nil, append-one}
 use Rattle.g1_trace.proofs.Texts.{IsRead, read_start, read_more, read_end, bad_later, bad_end, bad_line}
 use Rattle.g1_trace.proofs.OneText.{one_first, one_trace}
 use Rattle.g1_trace.proofs.OneRun.{one_run}
@@ -129,7 +129,7 @@ so_far_bad cost bytes i rest text line more lines so e n b = bad_so_far cost byt
 -- ---- numbers outside the limits
 
 -- a text that begins outside the limits is outside them
-pub text_outside : (bytes : List ℕ) (g : Geometry) (roots : ℕ) (commands : List Command) → BeginsOutside bytes → IsText bytes g roots commands → IsOutside bytes
+pub text_outside : (bytes : List ℕ) (g : Geometry) (roots : ℕ) (commands : List Command) → BeginsOutside bytes → IsText bytes g roots commands → IsOutsideLimits bytes
 text_outside bytes g roots commands b t =
     let s = one_first bytes b.sizes g b.roots roots b.rest (flat_map (λ c. command_line c ++ 10 ∷ []) commands) b.begins.first t.first b.begins.text t.text in
     record {

@@ -6,20 +6,20 @@ use Rattle.g1_trace.specs.Mutator.{heap_view, region_for}
 use Rattle.g1_trace.specs.Views.{Seen}
 
 -- the word q is one of the object's at a
-abbrev pub Covers : Heap → ℕ → ℕ → Type 0
-Covers h a q = (a ≤ q) × (q < a + (object_at h a).size)
+abbrev pub CoversWord : Heap → ℕ → ℕ → Type 0
+CoversWord h a q = (a ≤ q) × (q < a + (object_at h a).size)
 
 -- each object that is seen has its words to itself
 pub record IsLaid (h : Heap) : Type 0 where
   pub slots_fit : (a : ℕ) → Seen (heap_view h) a → (object_at h a).refs < (object_at h a).size
   pub inside : (a : ℕ) → Seen (heap_view h) a → a + (object_at h a).size ≤ length h.words
-  pub apart : (a b q : ℕ) → Seen (heap_view h) a → Seen (heap_view h) b → Covers h a q → Covers h b q → a ≡ b
+  pub apart : (a b q : ℕ) → Seen (heap_view h) a → Seen (heap_view h) b → CoversWord h a q → CoversWord h b q → a ≡ b
 
 -- so many words from a on are 0, and none of them is an object's
 pub record IsUnused (h : Heap) (a size : ℕ) : Type 0 where
   pub in_words : a + size ≤ length h.words
   pub zeros : (q : ℕ) → a ≤ q → q < a + size → word h q ≡ 0
-  pub clear : (b q : ℕ) → Seen (heap_view h) b → Covers h b q → a ≤ q → q < a + size → ⊥
+  pub clear : (b q : ℕ) → Seen (heap_view h) b → CoversWord h b q → a ≤ q → q < a + size → ⊥
   pub apart : (o : Object) (q : ℕ) → Contains (objects h) o → o.at ≤ q → q < o.at + o.size → a ≤ q → q < a + size → ⊥
 
 -- every place that the rule of allocation finds is unused

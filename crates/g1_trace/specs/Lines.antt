@@ -7,5 +7,5 @@ IsWordEnd [] = ⊤
 IsWordEnd (b ∷ bs) = b ≡ 32
 
 -- no byte is a space
-abbrev pub IsWord : List ℕ → Type 0
-IsWord bytes = Contains bytes 32 → ⊥
+abbrev pub HasNoSpace : List ℕ → Type 0
+HasNoSpace bytes = Contains bytes 32 → ⊥

@@ -96,7 +96,7 @@ with_roots i roots = record i { heap = record (i.heap) { roots = roots } }
 
 -- the image with other words and another log
 abbrev pub with_words : Image → List ℕ → List ℕ → Image
-with_words i words log = record { heap = record (i.heap) { words = words }; sets = i.sets; log = log }
+with_words i words log = record { heap = record (i.heap) { words = words }; remembered = i.remembered; log = log }
 
 -- the image with another heap
 abbrev pub with_heap : Image → Heap → Image

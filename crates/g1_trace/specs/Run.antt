@@ -24,7 +24,7 @@ empty_store roots = record { entries = []; roots = replicate roots 0 }
 abbrev pub empty_image : Geometry → ℕ → Image
 empty_image g roots = record {
   heap = record { geometry = g; words = replicate (g.n * g.w) 0; regions = replicate g.n free_region; roots = replicate roots 0; current = None };
-  sets = replicate g.n [];
+  remembered = replicate g.n [];
   log = [];
 }
 

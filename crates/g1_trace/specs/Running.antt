@@ -17,5 +17,5 @@ abbrev pub AreLimits : Trace → Type 0
 AreLimits t = IsHeapSize (sizes t) t.roots
 
 -- whatever replies the rest of the commands has from here on, with those so far before them they are replies to all
-abbrev pub Leads : {S : Type 0} → (S → Command → Reply → S → Type 0) → S → List Command → List Reply → S → List Command → Type 0
-Leads step start all replies here rest = (rs : List Reply) → Replies step here rest rs → Replies step start all (replies ++ rs)
+abbrev pub GoesOn : {S : Type 0} → (S → Command → Reply → S → Type 0) → S → List Command → List Reply → S → List Command → Type 0
+GoesOn step start all replies here rest = (rs : List Reply) → Replies step here rest rs → Replies step start all (replies ++ rs)

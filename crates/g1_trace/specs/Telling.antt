@@ -37,7 +37,7 @@ pub record IsTold (cost : Cost) (bytes answer : List ℕ) : Type 0 where
   pub told : answer ≡ reply_lines replies
 
 -- the bytes are the text of a trace whose first line has a number outside the limits
-pub record IsOutside (bytes : List ℕ) : Type 0 where
+pub record IsOutsideLimits (bytes : List ℕ) : Type 0 where
   pub sizes : Geometry
   pub roots : ℕ
   pub commands : List Command
@@ -46,7 +46,7 @@ pub record IsOutside (bytes : List ℕ) : Type 0 where
 
 -- why bytes have no text of replies: memory, the first line that isn't of its form, or a number outside the limits
 abbrev pub IsRefusal : List ℕ → Fault → Type 0
-IsRefusal bytes fault = (fault ≡ Memory) ⊎ (((n : ℕ) × (fault ≡ Line n) × IsFirstBadLine bytes n) ⊎ ((fault ≡ Outside) × IsOutside bytes))
+IsRefusal bytes fault = (fault ≡ Memory) ⊎ (((n : ℕ) × (fault ≡ Line n) × IsFirstBadLine bytes n) ⊎ ((fault ≡ Outside) × IsOutsideLimits bytes))
 
 -- the bytes are a first line with these sizes and so many roots, and the rest
 pub record BeginsWith (bytes : List ℕ) (g : Geometry) (roots : ℕ) (rest : List ℕ) : Type 0 where

@@ -138,7 +138,11 @@ fn place_ordinary(tracked: Tracked, r: u32, root: u64, size: u64, refs: u64) -> 
     ensures { result ≡ with_heap tracked (ordinary_heap tracked.heap r size refs root) }
 {
     let Tracked { image } = tracked;
-    let Image { heap, sets, log } = image;
+    let Image {
+        heap,
+        remembered,
+        log,
+    } = image;
     let Heap {
         geometry,
         mut words,
@@ -162,7 +166,11 @@ fn place_ordinary(tracked: Tracked, r: u32, root: u64, size: u64, refs: u64) -> 
         current: Some(r),
     };
     Tracked {
-        image: Image { heap, sets, log },
+        image: Image {
+            heap,
+            remembered,
+            log,
+        },
     }
 }
 
@@ -180,7 +188,11 @@ fn place_humongous(tracked: Tracked, r: u32, root: u64, size: u64, refs: u64) ->
     ensures { result ≡ with_heap tracked (humongous_heap tracked.heap r size refs root) }
 {
     let Tracked { image } = tracked;
-    let Image { heap, sets, log } = image;
+    let Image {
+        heap,
+        remembered,
+        log,
+    } = image;
     let Heap {
         geometry,
         mut words,
@@ -201,7 +213,11 @@ fn place_humongous(tracked: Tracked, r: u32, root: u64, size: u64, refs: u64) ->
         current,
     };
     Tracked {
-        image: Image { heap, sets, log },
+        image: Image {
+            heap,
+            remembered,
+            log,
+        },
     }
 }
 

@@ -23,7 +23,7 @@ mod allocating;
 mod answering;
 mod command;
 mod effect;
-mod laws;
+pub mod laws;
 mod mutator;
 mod parsing;
 mod running;
@@ -34,7 +34,6 @@ mod trace;
 mod writing;
 
 pub use command::{Command, Reply};
-pub use laws::{kept, one_answer, one_run, one_text, traces};
 pub use mutator::Mutator;
 pub use parsing::parse_trace;
 pub use running::run_trace;

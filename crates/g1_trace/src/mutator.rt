@@ -13,7 +13,7 @@ use crate::allocating::{place_for, place_object};
 use crate::answering::answer;
 use crate::command::{Command, Reply};
 use crate::effect::{Answer, Effect};
-use crate::laws::{one_run, traces};
+use crate::laws;
 use crate::writing::{set_root, set_slot, set_value};
 use g1_choose::Cost;
 use g1_image::Image;
@@ -41,15 +41,15 @@ impl Model for Mutator {
 }
 
 /// An empty remembered set for each region.
-fn no_sets(alloc: Global, regions: u64) -> Result<Vec<Vec<u32>>, Fault>
+fn no_remembered(alloc: Global, regions: u64) -> Result<Vec<Vec<u32>>, Fault>
     ensures ok { IfOk result (λ v. map (λ s. s.items) v.items ≡ replicate regions []) }
     ensures memory { IfErr result (λ e. e ≡ Fault.Memory) }
 {
-    let mut sets: Vec<Vec<u32>> = Vec::new(alloc);
+    let mut remembered: Vec<Vec<u32>> = Vec::new(alloc);
     for _r in 0..regions {
-        sets.push(Vec::new(alloc))?;
+        remembered.push(Vec::new(alloc))?;
     }
-    Ok(sets)
+    Ok(remembered)
 }
 
 /// One pause by a budget.
@@ -178,7 +178,7 @@ impl Mutator {
         };
         let image = Image {
             heap,
-            sets: no_sets(alloc, regions)?,
+            remembered: no_remembered(alloc, regions)?,
             log: IndexSet::new(alloc),
         };
         Ok(Mutator {
@@ -212,8 +212,8 @@ impl Mutator {
         ensures memory { IfErr result.1 (λ e. e ≡ Fault.Memory) }
         ensures same { IfErr result.1 (λ e. result.0 ≡ self) }
     {
-        traces();
-        one_run();
+        laws::traces();
+        laws::one_run();
         let Mutator { tracked } = self;
         let told = answer(image(&tracked).heap(), command);
         let (tracked, outcome) = carry_out(rt, alloc, tracked, told, cost, workers, chunk, gate);

@@ -7,7 +7,7 @@ ghost use Rattle.g1_trace.specs.Running.{AreLimits};
 ghost use Rattle.g1_trace.specs.TraceText.{sizes};
 
 use crate::command::Reply;
-use crate::laws::{one_run, traces};
+use crate::laws;
 use crate::mutator::Mutator;
 use crate::trace::Trace;
 use g1_choose::Cost;
@@ -39,8 +39,8 @@ pub fn run_trace<R: Threads + Sync, G: Gate + Sync>(
     ensures limits { IfOk result (λ replies. AreLimits trace.now) }
     ensures refused { IfErr result (λ e. (e ≡ Fault.Memory) ⊎ ((e ≡ Fault.Geometry) × (AreLimits trace.now → ⊥))) }
 {
-    traces();
-    one_run();
+    laws::traces();
+    laws::one_run();
     let geometry = match Geometry::new(trace.w, trace.k, trace.n) {
         Ok(geometry) => geometry,
         Err(fault) => return Err(fault),

@@ -4,7 +4,7 @@ ghost use Rattle.g1_pause.specs.Settings.{AreWorkers, IsChunk};
 ghost use Rattle.g1_trace.specs.Telling.{reply_line, IsTold, IsRefusal, IsBegun, BeginsOutside};
 
 use crate::command::Reply;
-use crate::laws::{one_answer, traces};
+use crate::laws;
 use crate::mutator::Mutator;
 use crate::parsing::{first_line, later_line, parse_trace, split_line};
 use g1_choose::Cost;
@@ -99,8 +99,8 @@ pub fn run_text<R: Threads + Sync, G: Gate + Sync>(
     ensures only { IfOk result (λ text. (other : List ℕ) → IsTold cost.now bytes.now other → other ≡ text.items) }
     ensures refused { IfErr result (IsRefusal bytes.now) }
 {
-    traces();
-    one_answer();
+    laws::traces();
+    laws::one_answer();
     let (mut mutator, mut rest) = match begin(alloc, bytes) {
         Ok(begun) => begun,
         Err(fault) => return Err(fault),

@@ -14,7 +14,11 @@ pub(crate) fn set_root(tracked: Tracked, root: u64, value: u64) -> Tracked
     ensures { result ≡ with_roots tracked (slice_set tracked.heap.roots root value) }
 {
     let Tracked { image } = tracked;
-    let Image { heap, sets, log } = image;
+    let Image {
+        heap,
+        remembered,
+        log,
+    } = image;
     let Heap {
         geometry,
         words,
@@ -31,7 +35,11 @@ pub(crate) fn set_root(tracked: Tracked, root: u64, value: u64) -> Tracked
         current,
     };
     Tracked {
-        image: Image { heap, sets, log },
+        image: Image {
+            heap,
+            remembered,
+            log,
+        },
     }
 }
 
@@ -42,7 +50,11 @@ pub(crate) fn set_value(tracked: Tracked, at: u64, value: u64) -> Tracked
     ensures { result ≡ with_words tracked (slice_set tracked.heap.words at value) tracked.log }
 {
     let Tracked { image } = tracked;
-    let Image { heap, sets, log } = image;
+    let Image {
+        heap,
+        remembered,
+        log,
+    } = image;
     let Heap {
         geometry,
         mut words,
@@ -59,7 +71,11 @@ pub(crate) fn set_value(tracked: Tracked, at: u64, value: u64) -> Tracked
         current,
     };
     Tracked {
-        image: Image { heap, sets, log },
+        image: Image {
+            heap,
+            remembered,
+            log,
+        },
     }
 }
 
@@ -105,14 +121,18 @@ pub(crate) fn set_slot(tracked: Tracked, at: u64, value: u64) -> Result<Tracked,
     let Tracked { image } = tracked;
     let Image {
         heap,
-        sets,
+        remembered,
         mut log,
     } = image;
     let geometry = heap.geometry();
     if let Err(fault) = log_slot(&mut log, &geometry, at, value) {
         return Err((
             Tracked {
-                image: Image { heap, sets, log },
+                image: Image {
+                    heap,
+                    remembered,
+                    log,
+                },
             },
             fault,
         ));
@@ -133,6 +153,10 @@ pub(crate) fn set_slot(tracked: Tracked, at: u64, value: u64) -> Result<Tracked,
         current,
     };
     Ok(Tracked {
-        image: Image { heap, sets, log },
+        image: Image {
+            heap,
+            remembered,
+            log,
+        },
     })
 }

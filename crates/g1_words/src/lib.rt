@@ -11,14 +11,13 @@
 mod fault;
 mod geometry;
 mod heap;
-mod laws;
+pub mod laws;
 mod object;
 mod region;
 
 pub use fault::{Device, Fault, Place, Stand};
 pub use geometry::Geometry;
 pub use heap::{Heap, MOST_ROOTS};
-pub use laws::{apart, computed_objects, computed_references, one_list};
 pub use object::{
     Object, REFS_RANGE, card_of, header, object_at, objects_in, region_of, size_at, slots_of,
 };

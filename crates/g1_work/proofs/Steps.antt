@@ -9,18 +9,18 @@ use Rattle.atomic_table.proofs.Lists.{at_set, set_here, set_else, at_snoc}
 use Rattle.g1_work.specs.declared.rule.Hand.{Hand}
 use Rattle.g1_work.specs.Dealer.{times, once_below}
 use Rattle.g1_work.proofs.Counts.{times_push, times_append, once_more, once_most}
-use Rattle.g1_work.specs.Rule.{total, weigh, IsSound, Dealing, Dealt, Sat, IsKnown, after_draw, after_none, after_look, drew, saw, looked, left_hand, right_hand, both_hands, spent_hand}
+use Rattle.g1_work.specs.Rule.{hands_total, weigh, IsSound, Dealing, Dealt, Sat, IsKnown, after_draw, after_none, after_look, drew, saw, looked, left_hand, right_hand, both_hands, spent_hand}
 
-total_set : (f : Hand → ℕ) (l : List Hand) (i : ℕ) (v w : Hand) → get_elem? l i ≡ some v → total f (set l i w) + f v ≡ total f l + f w
+total_set : (f : Hand → ℕ) (l : List Hand) (i : ℕ) (v w : Hand) → get_elem? l i ≡ some v → hands_total f (set l i w) + f v ≡ hands_total f l + f w
 total_set f [] i v w e = absurd (some-ne-none v (sym e))
 total_set f (x ∷ xs) zero v w e = let is : f x ≡ f v = ap f (some-injective x v e) in omega arith
 total_set f (x ∷ xs) (suc i) v w e = let r = total_set f xs i v w e in omega arith
 
-total_snoc : (f : Hand → ℕ) (l : List Hand) (w : Hand) → total f (l ++ w ∷ []) ≡ total f l + f w
+total_snoc : (f : Hand → ℕ) (l : List Hand) (w : Hand) → hands_total f (l ++ w ∷ []) ≡ hands_total f l + f w
 total_snoc f [] w = omega arith
 total_snoc f (x ∷ xs) w = let r = total_snoc f xs w in omega arith
 
-total_at : (f : Hand → ℕ) (l : List Hand) (i : ℕ) (v : Hand) → get_elem? l i ≡ some v → f v ≤ total f l
+total_at : (f : Hand → ℕ) (l : List Hand) (i : ℕ) (v : Hand) → get_elem? l i ≡ some v → f v ≤ hands_total f l
 total_at f [] i v e = absurd (some-ne-none v (sym e))
 total_at f (x ∷ xs) zero v e = let is : f x ≡ f v = ap f (some-injective x v e) in omega arith
 total_at f (x ∷ xs) (suc i) v e = let r = total_at f xs i v e in omega arith
@@ -29,18 +29,18 @@ weigh_le : (b : Bool) (n : ℕ) → weigh b n ≤ n
 weigh_le true n = omega arith
 weigh_le false n = omega arith
 
-total_weigh : (l : List Hand) → total (λ v. weigh v.had_none v.shares) l ≤ total (λ v. v.shares) l
+total_weigh : (l : List Hand) → hands_total (λ v. weigh v.had_none v.shares) l ≤ hands_total (λ v. v.shares) l
 total_weigh [] = omega arith
 total_weigh (x ∷ xs) = let r = total_weigh xs in let h = weigh_le x.had_none x.shares in omega arith
 
 -- where no hand has a share, f of each hand is 0
-total_none : (f : Hand → ℕ) (l : List Hand) → ((i : ℕ) (u : Hand) → get_elem? l i ≡ some u → u.shares ≡ 0 → f u ≡ 0) → total (λ v. v.shares) l ≡ 0 → total f l ≡ 0
+total_none : (f : Hand → ℕ) (l : List Hand) → ((i : ℕ) (u : Hand) → get_elem? l i ≡ some u → u.shares ≡ 0 → f u ≡ 0) → hands_total (λ v. v.shares) l ≡ 0 → hands_total f l ≡ 0
 total_none f [] idle e = refl
 total_none f (x ∷ xs) idle e = let r = total_none f xs (λ i u h z. idle (suc i) u h z) (omega arith) in let here = idle zero x refl (omega arith) in omega arith
 
 -- where one hand has all shares, it has all of f
 total_whole : (f : Hand → ℕ) (l : List Hand) (i : ℕ) (v : Hand) → get_elem? l i ≡ some v → ((j : ℕ) (u : Hand) → get_elem? l j ≡ some u → u.shares ≡ 0 → f u ≡ 0)
-    → total (λ u. u.shares) l ≡ v.shares → total f l ≡ f v
+    → hands_total (λ u. u.shares) l ≡ v.shares → hands_total f l ≡ f v
 total_whole f [] i v e idle all = absurd (some-ne-none v (sym e))
 total_whole f (x ∷ xs) zero v e idle all = let is : x ≡ v = some-injective x v e in let same : f x ≡ f v = ap f is in let shares : x.shares ≡ v.shares = ap (λ (u : Hand). u.shares) is in
     let r = total_none f xs (λ j u h z. idle (suc j) u h z) (omega arith) in omega arith
@@ -53,7 +53,7 @@ sound_later chunks n m v le s = record { chunks_is = s.chunks_is; idle_draws = s
 -- the rule after a step of one hand
 updated : (chunks n m : ℕ) (views : List Hand) (id : ℕ) (v w : Hand) → Dealing chunks n views → get_elem? views id ≡ some v → w.shares ≡ v.shares
     → ((x : ℕ) → times x w.draws + once_below x (min n chunks) ≡ times x v.draws + once_below x (min m chunks)) → length w.draws + min n chunks ≡ length v.draws + min m chunks
-    → w.steps + n ≡ v.steps + m → m + weigh v.had_none v.shares ≤ chunks + total (λ u. weigh u.had_none u.shares) views + weigh w.had_none w.shares
+    → w.steps + n ≡ v.steps + m → m + weigh v.had_none v.shares ≤ chunks + hands_total (λ u. weigh u.had_none u.shares) views + weigh w.had_none w.shares
     → min n chunks ≤ min m chunks → IsSound chunks (min m chunks) w → Dealing chunks m (set views id w)
 updated chunks n m views id v w d at shares draws count steps bound le sound = record {
   few = d.few;
@@ -76,10 +76,10 @@ known_at chunks n views id v d at part =
     let sound = d.each id v at in
     let is : v.chunks ≡ chunks = sound.chunks_is part in
     let most = total_weigh views in let bound = d.bound in let shares = d.shares in let floor = sound.floor_seen in (
-      (λ x. let t : times x v.draws ≤ total (λ (u : Hand). times x u.draws) views = total_at (λ (u : Hand). times x u.draws) views id v at in let h = d.draws x in let k = once_most x (min n chunks) v.chunks (omega arith) in omega arith),
-      (let t : v.steps ≤ total (λ (u : Hand). u.steps) views = total_at (λ (u : Hand). u.steps) views id v at in let h = d.steps in omega arith),
+      (λ x. let t : times x v.draws ≤ hands_total (λ (u : Hand). times x u.draws) views = total_at (λ (u : Hand). times x u.draws) views id v at in let h = d.draws x in let k = once_most x (min n chunks) v.chunks (omega arith) in omega arith),
+      (let t : v.steps ≤ hands_total (λ (u : Hand). u.steps) views = total_at (λ (u : Hand). u.steps) views id v at in let h = d.steps in omega arith),
       (λ all.
-          let every : total (λ u. u.shares) views ≡ v.shares = d.shares ∙ sym all in
+          let every : hands_total (λ u. u.shares) views ≡ v.shares = d.shares ∙ sym all in
           let steps : v.steps ≡ n = sym (total_whole (λ u. u.steps) views id v at (λ j u e z. (d.each j u e).idle_steps z) every) ∙ d.steps in
           let ends : min v.steps v.chunks ≡ min n chunks = λ i. min (steps i) (is i) in (
             (λ x. sym (total_whole (λ u. times x u.draws) views id v at (λ j u e z. ap (λ (l : List ℕ). times x l) ((d.each j u e).idle_draws z)) every) ∙ (d.draws x ∙ ap (λ (k : ℕ). once_below x k) (sym ends))),

@@ -4,3 +4,4 @@ pub mod Each
 pub mod Worker
 pub mod Merge
 pub mod Regions
+pub mod Team

@@ -7,9 +7,9 @@ use Rattle.g1_work.specs.declared.rule.Hand.{Hand}
 use Rattle.g1_work.specs.Dealer.{times, once_below, IsEachBelow, IsOnceBelow}
 
 -- f of each hand, added up
-abbrev pub total : (Hand → ℕ) → List Hand → ℕ
-total f [] = 0
-total f (v ∷ vs) = f v + total f vs
+abbrev pub hands_total : (Hand → ℕ) → List Hand → ℕ
+hands_total f [] = 0
+hands_total f (v ∷ vs) = f v + hands_total f vs
 
 -- n where it is true, else 0
 abbrev pub weigh : Bool → ℕ → ℕ
@@ -35,11 +35,11 @@ pub record IsSound (chunks reached : ℕ) (v : Hand) : Type 0 where
 -- between any two steps: all hands have 64 shares, their draws are the numbers below the smaller of the cursor and `chunks`, each once, and their steps are the cursor, which passes `chunks` only by shares of hands that have had None
 pub record Dealing (chunks cursor : ℕ) (views : List Hand) : Type 0 where
   pub few : chunks < 2 ^ 32
-  pub shares : total (λ v. v.shares) views ≡ 64
-  pub draws : (x : ℕ) → total (λ v. times x v.draws) views ≡ once_below x (min cursor chunks)
-  pub count : total (λ v. length v.draws) views ≡ min cursor chunks
-  pub steps : total (λ v. v.steps) views ≡ cursor
-  pub bound : cursor ≤ chunks + total (λ v. weigh v.had_none v.shares) views
+  pub shares : hands_total (λ v. v.shares) views ≡ 64
+  pub draws : (x : ℕ) → hands_total (λ v. times x v.draws) views ≡ once_below x (min cursor chunks)
+  pub count : hands_total (λ v. length v.draws) views ≡ min cursor chunks
+  pub steps : hands_total (λ v. v.steps) views ≡ cursor
+  pub bound : cursor ≤ chunks + hands_total (λ v. weigh v.had_none v.shares) views
   pub each : (id : ℕ) (v : Hand) → get_elem? views id ≡ some v → IsSound chunks (min cursor chunks) v
 
 -- the rule: the cursor is the table's one word

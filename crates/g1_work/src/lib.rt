@@ -15,6 +15,9 @@
 //! 5. `each_chunk` runs a task so: a worker for each state draws chunks until none is left, and
 //!    keeps what each gave. Then each chunk's out is put at its place.
 //!
+//! A `Team` is how many workers share some work and how many items one of them draws at once: each
+//! call that is handed the two numbers makes one, and the functions below it ask for no range again.
+//!
 //! Words that are written in place are not drawn: `each_region_mut` cuts them into runs of regions,
 //! and lends each run to one thread alone.
 //!
@@ -31,6 +34,7 @@ mod merge;
 mod regions;
 mod rule;
 mod task;
+mod team;
 #[cfg(test)]
 mod tests;
 #[cfg(test)]
@@ -43,3 +47,4 @@ pub use fill::Fill;
 pub use gate::{Gate, Open, Part};
 pub use regions::each_region_mut;
 pub use task::Task;
+pub use team::{MOST_CHUNK, MOST_WORKERS, Team};

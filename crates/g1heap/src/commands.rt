@@ -1,9 +1,10 @@
 //! What the program does with a request.
 use crate::comparing::{difference_line, same_line};
-use crate::files::{deliver, read_bytes, read_image};
-use crate::options::{Part, Request, Same, parse};
-use crate::refusal::Refusal;
+use crate::files::{read_bytes, read_image};
+use crate::options::{NAME, Part, Request, Same, parse};
+use crate::refusal::{no_object, no_region, of_file, wrong_line};
 use g1_choose::given;
+use g1_command::{Refusal, deliver, refuse};
 use g1_image::Image;
 use g1_kept::kept;
 use g1_rem::verify;
@@ -29,14 +30,8 @@ pub fn program<T: Threads + Sync + Files, R: Read, W: Write, E: Write>(
 ) -> u8 {
     match perform(rt, alloc, words, reader, writer) {
         Ok(status) => status,
-        Err(refusal) => refuse(&refusal, errors),
+        Err(refusal) => refuse(NAME, &refusal, errors),
     }
-}
-
-/// Tells a refusal, and gives the exit status that stands for it.
-pub fn refuse<E: Write>(refusal: &Refusal, errors: &mut E) -> u8 {
-    refusal.write(errors);
-    refusal.status()
 }
 
 fn perform<T: Threads + Sync + Files, R: Read, W: Write>(
@@ -117,7 +112,7 @@ fn kept_answer(
     let (old, new) = (before.heap(), after.heap());
     let set = match given(alloc, old, same.set.as_slice()) {
         Ok(set) => set,
-        Err(fault) => return Err(Refusal::of(alloc, same.before.as_str(), fault)),
+        Err(fault) => return Err(of_file(alloc, same.before.as_str(), fault)),
     };
     match kept(alloc, old, new, set.as_slice()) {
         Ok(Ok(())) => {
@@ -143,7 +138,7 @@ fn covered<T: Threads + Sync>(
             text.push_str("covered\n")?;
             Ok(text)
         }
-        Err((_, fault)) => Err(Refusal::of(alloc, same.after.as_str(), fault)),
+        Err((_, fault)) => Err(of_file(alloc, same.after.as_str(), fault)),
     }
 }
 
@@ -159,17 +154,13 @@ fn printed<T: Files, R: Read>(
         Part::Whole => image_lines(alloc, &image),
         Part::Region(region) => {
             if u64::from(region) >= image.heap().geometry().regions() {
-                let name = String::from_str(alloc, name)?;
-                return Err(Refusal::NoRegion { name, region });
+                return Err(no_region(alloc, name, region));
             }
             region_lines(alloc, &image, region)
         }
         Part::Object(address) => match object_at(image.heap(), address) {
             Some(object) => object_line(alloc, image.heap(), &object),
-            None => {
-                let name = String::from_str(alloc, name)?;
-                return Err(Refusal::NoObject { name, address });
-            }
+            None => return Err(no_object(alloc, name, address)),
         },
     };
     match text {
@@ -187,11 +178,7 @@ fn made<T: Files, R: Read>(
     let lines = read_bytes(rt, alloc, name, reader)?;
     match make(alloc, lines.as_slice()) {
         Ok(bytes) => Ok(bytes),
-        Err(Wrong::Line { number, expected }) => Err(Refusal::Line {
-            name: String::from_str(alloc, name)?,
-            number,
-            expected,
-        }),
-        Err(Wrong::Fault(fault)) => Err(Refusal::of(alloc, name, fault)),
+        Err(Wrong::Line { number, expected }) => Err(wrong_line(alloc, name, number, &expected)),
+        Err(Wrong::Fault(fault)) => Err(of_file(alloc, name, fault)),
     }
 }

@@ -1,9 +1,11 @@
 //! The command line.
 use crate::files::STANDARD_INPUT;
-use crate::refusal::Refusal;
-use clap::error::ErrorKind;
 use clap::{Arg, ArgAction, ArgMatches, Command, Error};
+use g1_command::{Argument, Misuse, Refusal, explain, number, region, regions};
 use std::alloc::{AllocError, Global};
+
+/// The program's name.
+pub const NAME: &str = "g1heap";
 
 /// What the words ask for.
 #[derive(Debug, Drop)]
@@ -38,6 +40,74 @@ pub enum Part {
     Object(u64),
 }
 
+// The options that take numbers, with the ranges that messages tell.
+const REGION_RANGE: &str = "a region's number, below 4294967296";
+
+static SET: Argument = Argument {
+    id: "set",
+    shown: "--set <REGION>...",
+    range: REGION_RANGE,
+};
+
+static REGION: Argument = Argument {
+    id: "region",
+    shown: "--region <R>",
+    range: REGION_RANGE,
+};
+
+static OBJECT: Argument = Argument {
+    id: "object",
+    shown: "--object <A>",
+    range: "an address, below 18446744073709551616",
+};
+
+// What stands at the end of each command's help.
+const AFTER_SAME: &str = "\
+Statuses:
+  0  the images show the same graph, and what else was asked holds
+  1  they differ
+  2  wrong words
+  3  a file is no image
+  4  a slot of AFTER is not covered
+  5  a region of the set is not there, not ordinary, or named twice
+  6  no memory, or a read or a write that failed
+  7  a file that can't be opened
+
+Example: g1heap same BEFORE - < IMAGE";
+
+const AFTER_PRINT: &str = "\
+Statuses:
+  0  done
+  2  wrong words, or a region or an object that the image doesn't have
+  3  the file is no image
+  6  no memory, or a read or a write that failed
+  7  a file that can't be opened
+
+Example: g1heap print - < IMAGE";
+
+const AFTER_MAKE: &str = "\
+Statuses:
+  0  done
+  2  wrong words
+  3  a line is not as it has to be
+  6  no memory, or a read or a write that failed
+  7  a file that can't be opened
+
+Example: g1heap make < LINES > IMAGE";
+
+const AFTER_ALL: &str = "\
+Statuses:
+  0  done
+  1  two images differ
+  2  wrong words, or a region or an object that the image doesn't have
+  3  a file is no image, or a line is not as it has to be
+  4  a slot is not covered
+  5  a region of the set is not there, not ordinary, or named twice
+  6  no memory, or a read or a write that failed
+  7  a file that can't be opened
+
+Example: g1heap print - < IMAGE";
+
 fn file<'a>(alloc: Global, id: &'a str, name: &'a str, help: &'a str) -> Arg<'a> {
     Arg::new(alloc, id)
         .value_name(name)
@@ -58,6 +128,7 @@ fn same_command<'a>(alloc: Global) -> Result<Command<'a>, AllocError> {
         .help("Also asks that AFTER keeps all that a pause of these regions keeps");
     Command::new(alloc, "same")
         .about("Tells whether two images show the same graph from their roots, or where not")
+        .after_help(AFTER_SAME)
         .arg(file(
             alloc,
             "before",
@@ -84,6 +155,7 @@ fn print_command<'a>(alloc: Global) -> Result<Command<'a>, AllocError> {
         .help("Only the line of the object at this address");
     Command::new(alloc, "print")
         .about("Prints an image as lines")
+        .after_help(AFTER_PRINT)
         .arg(file(alloc, "image", "IMAGE", "An image, or - for standard input").required(true))?
         .arg(region)?
         .arg(object)
@@ -92,6 +164,7 @@ fn print_command<'a>(alloc: Global) -> Result<Command<'a>, AllocError> {
 fn make_command<'a>(alloc: Global) -> Result<Command<'a>, AllocError> {
     Command::new(alloc, "make")
         .about("Writes the image that lines tell")
+        .after_help(AFTER_MAKE)
         .arg(file(
             alloc,
             "lines",
@@ -102,134 +175,86 @@ fn make_command<'a>(alloc: Global) -> Result<Command<'a>, AllocError> {
 }
 
 fn command<'a>(alloc: Global) -> Result<Command<'a>, AllocError> {
-    Command::new(alloc, "g1heap")
+    Command::new(alloc, NAME)
         .no_binary_name(true)
-        .bin_name("g1heap")?
+        .bin_name(NAME)?
         .version("1.0.0")
         .about("Compares, prints and makes heap images")
+        .after_help(AFTER_ALL)
         .subcommand_required(true)
         .subcommand(same_command(alloc)?)?
         .subcommand(print_command(alloc)?)?
         .subcommand(make_command(alloc)?)
 }
 
-// A whole number in decimal digits alone. clap would take a sign.
-fn whole(text: &str) -> Option<u64> {
-    if !text.bytes().all(|b| b.is_ascii_digit()) {
-        return None;
+// The command of a name apart from the program, for its usage.
+fn command_named<'a>(alloc: Global, name: &str) -> Result<Command<'a>, AllocError> {
+    match name {
+        "same" => same_command(alloc),
+        "print" => print_command(alloc),
+        _ => make_command(alloc),
     }
-    text.parse::<u64>().ok()
 }
 
-// The number of a region, which need not be one of the image's.
-fn region(text: &str) -> Option<u32> {
-    u32::try_from(whole(text)?).ok()
-}
-
-fn refused<'a>(
-    alloc: Global,
-    command: &mut Command<'a>,
-    text: &str,
-    id: &str,
-    bits: u32,
-) -> Result<Error, Error> {
-    let message = format!(in alloc;
-        "invalid value '{text}' for '--{id}': not a whole number below 2^{bits}"
-    )?;
-    Ok(command.error(ErrorKind::ValueValidation, message.as_str())?)
-}
-
-fn set_of<'a>(
-    alloc: Global,
-    command: &mut Command<'a>,
-    matches: &ArgMatches<'a>,
-) -> Result<Vec<u32>, Error> {
-    let mut regions = Vec::new(alloc);
-    for text in matches.get_strs("set").unwrap_or(&[]) {
-        match region(text) {
-            Some(region) => regions.push(region)?,
-            None => return Err(refused(alloc, command, text, "set", 32)?),
-        }
+fn part_of(alloc: Global, values: &ArgMatches<'_>) -> Result<Part, Misuse> {
+    if let Some(region) = region(alloc, values, &REGION)? {
+        return Ok(Part::Region(region));
     }
-    Ok(regions)
-}
-
-fn part_of<'a>(
-    alloc: Global,
-    command: &mut Command<'a>,
-    matches: &ArgMatches<'a>,
-) -> Result<Part, Error> {
-    if let Some(text) = matches.get_str("region") {
-        return match region(text) {
-            Some(region) => Ok(Part::Region(region)),
-            None => Err(refused(alloc, command, text, "region", 32)?),
-        };
-    }
-    match matches.get_str("object") {
-        Some(text) => match whole(text) {
-            Some(address) => Ok(Part::Object(address)),
-            None => Err(refused(alloc, command, text, "object", 64)?),
-        },
+    match number(alloc, values, &OBJECT)? {
+        Some(address) => Ok(Part::Object(address)),
         None => Ok(Part::Whole),
     }
 }
 
-fn name_of(alloc: Global, matches: &ArgMatches<'_>, id: &str) -> Result<String, AllocError> {
-    String::from_str(alloc, matches.get_str(id).unwrap_or(STANDARD_INPUT))
+fn name_of(alloc: Global, values: &ArgMatches<'_>, id: &str) -> Result<String, AllocError> {
+    String::from_str(alloc, values.get_str(id).unwrap_or(STANDARD_INPUT))
 }
 
-fn same_of<'a>(
-    alloc: Global,
-    command: &mut Command<'a>,
-    matches: &ArgMatches<'a>,
-) -> Result<Request, Error> {
-    let before = name_of(alloc, matches, "before")?;
-    let after = name_of(alloc, matches, "after")?;
+fn same_of(alloc: Global, values: &ArgMatches<'_>) -> Result<Request, Misuse> {
+    let before = name_of(alloc, values, "before")?;
+    let after = name_of(alloc, values, "after")?;
     if before.as_str() == STANDARD_INPUT && after.as_str() == STANDARD_INPUT {
         let message = "only one of the images can be standard input";
-        return Err(command.error(ErrorKind::ArgumentConflict, message)?);
+        return Err(Misuse::Value(String::from_str(alloc, message)?));
     }
     Ok(Request::Same(Same {
         before,
         after,
-        covered: matches.get_flag("covered"),
-        set: set_of(alloc, command, matches)?,
+        covered: values.get_flag("covered"),
+        set: regions(alloc, values, &SET)?,
     }))
 }
 
-fn requested(alloc: Global, words: &[String]) -> Result<Request, Error> {
-    let mut command = command(alloc)?;
-    let matches = command.try_get_matches_from_mut(words)?;
-    match matches.subcommand() {
-        Some(("same", same)) => same_of(alloc, &mut command, same),
-        Some(("print", print)) => Ok(Request::Print {
-            image: name_of(alloc, print, "image")?,
-            part: part_of(alloc, &mut command, print)?,
+// What the values of a command ask for.
+fn request_of(alloc: Global, name: &str, values: &ArgMatches<'_>) -> Result<Request, Misuse> {
+    match name {
+        "same" => same_of(alloc, values),
+        "print" => Ok(Request::Print {
+            image: name_of(alloc, values, "image")?,
+            part: part_of(alloc, values)?,
         }),
-        Some(("make", make)) => Ok(Request::Make {
-            lines: name_of(alloc, make, "lines")?,
+        _ => Ok(Request::Make {
+            lines: name_of(alloc, values, "lines")?,
         }),
-        _ => Err(command.error(ErrorKind::MissingSubcommand, "a command is required")?),
     }
 }
 
-// What clap prints: a text that was asked for, or why the words are no request.
-fn explained(alloc: Global, error: Error) -> Result<Request, Refusal> {
-    if error.kind() == ErrorKind::OutOfMemory {
-        return Err(Refusal::memory());
-    }
-    let text = format!(in alloc; "{error}")?;
-    if error.use_stderr() {
-        Err(Refusal::Usage(text))
-    } else {
-        Ok(Request::Help(text))
-    }
+fn matched<'a>(alloc: Global, words: &'a [String]) -> Result<ArgMatches<'a>, Error> {
+    command(alloc)?.try_get_matches_from(words)
 }
 
 /// Reads the words after the program's name.
 pub fn parse(alloc: Global, words: &[String]) -> Result<Request, Refusal> {
-    match requested(alloc, words) {
+    let matches = match matched(alloc, words) {
+        Ok(matches) => matches,
+        Err(error) => return Ok(Request::Help(explain(alloc, &error)?)),
+    };
+    let Some((name, values)) = matches.subcommand() else {
+        let text = String::from_str(alloc, "error: a command is required\n")?;
+        return Err(Refusal::usage(text));
+    };
+    match request_of(alloc, name, values) {
         Ok(request) => Ok(request),
-        Err(error) => explained(alloc, error),
+        Err(misuse) => Err(misuse.refusal(alloc, NAME, command_named(alloc, name)?)),
     }
 }

@@ -1,115 +1,50 @@
-//! Why a request is not answered, and the exit status that stands for it.
+//! The refusals that name a file.
+use g1_command::{Refusal, status};
 use g1_text::Expected;
 use g1_words::Fault;
 use std::alloc::{AllocError, Global};
-use std::io::Write;
 
-/// Why a request is not answered.
-#[derive(Debug, Drop)]
-pub enum Refusal {
-    /// The words are no request, as this text tells.
-    Usage(String),
-    /// A file that can't be opened.
-    Closed(String),
-    /// A fault of a file.
-    File {
-        name: String,
-        fault: Fault,
-    },
-    /// A line of a file that is not what is expected there.
-    Line {
-        name: String,
-        number: u64,
-        expected: Expected,
-    },
-    /// A region that the image doesn't have.
-    NoRegion {
-        name: String,
-        region: u32,
-    },
-    /// An address at which no object starts.
-    NoObject {
-        name: String,
-        address: u64,
-    },
-    /// A fault of no file.
-    Fault(Fault),
+/// A fault of the file of this name. A want of memory is of no file.
+pub fn of_file(alloc: Global, name: &str, fault: Fault) -> Refusal {
+    if fault == Fault::Memory {
+        return Refusal::Fault(fault);
+    }
+    let number = fault.number();
+    told(
+        status(&fault),
+        format!(in alloc; "g1heap: {name}: fault {number}: {fault}\n"),
+    )
 }
 
-impl Refusal {
-    pub fn memory() -> Refusal {
-        Refusal::Fault(Fault::Memory)
-    }
-
-    /// A fault of the file of this name.
-    pub fn of(alloc: Global, name: &str, fault: Fault) -> Refusal {
-        match String::from_str(alloc, name) {
-            Ok(name) => Refusal::File { name, fault },
-            Err(_) => Refusal::memory(),
-        }
-    }
-
-    /// Writes the line that tells the refusal.
-    pub fn write<E: Write>(&self, errors: &mut E) {
-        // The status tells the refusal even where its text cannot be written.
-        let _ = match self {
-            Refusal::Usage(text) => errors.write_all(text.as_bytes()),
-            Refusal::Closed(name) => writeln!(errors, "g1heap: {name}: can't be opened"),
-            Refusal::File { name, fault } => {
-                let number = fault.number();
-                writeln!(errors, "g1heap: {name}: fault {number}: {fault}")
-            }
-            Refusal::Line {
-                name,
-                number,
-                expected,
-            } => writeln!(errors, "g1heap: {name}: line {number}: expected {expected}"),
-            Refusal::NoRegion { name, region } => {
-                writeln!(errors, "g1heap: {name}: no region {region}")
-            }
-            Refusal::NoObject { name, address } => {
-                writeln!(errors, "g1heap: {name}: no object starts at {address}")
-            }
-            Refusal::Fault(fault) => {
-                let number = fault.number();
-                writeln!(errors, "g1heap: fault {number}: {fault}")
-            }
-        };
-    }
-
-    /// The exit status that stands for the refusal.
-    pub fn status(&self) -> u8 {
-        match self {
-            Refusal::Usage(_) => 2,
-            Refusal::NoRegion { .. } => 2,
-            Refusal::NoObject { .. } => 2,
-            Refusal::Line { .. } => 3,
-            Refusal::Closed(_) => 7,
-            Refusal::File { fault, .. } => status_of(fault),
-            Refusal::Fault(fault) => status_of(fault),
-        }
-    }
+/// A file that can't be opened.
+pub fn closed(alloc: Global, name: &str) -> Refusal {
+    told(7, format!(in alloc; "g1heap: {name}: can't be opened\n"))
 }
 
-fn status_of(fault: &Fault) -> u8 {
-    match fault {
-        Fault::Settings(_) | Fault::Line(_) => 2,
-        Fault::Magic
-        | Fault::Geometry
-        | Fault::Short
-        | Fault::Trailing
-        | Fault::Kind(_)
-        | Fault::Shape(_)
-        | Fault::Reference(_)
-        | Fault::Card(_) => 3,
-        Fault::Uncovered(_) => 4,
-        Fault::Set(_) | Fault::Room { .. } => 5,
-        Fault::Memory | Fault::Device(_) => 6,
-    }
+/// A line of a file that is not what is expected there.
+pub fn wrong_line(alloc: Global, name: &str, number: u64, expected: &Expected) -> Refusal {
+    told(
+        3,
+        format!(in alloc; "g1heap: {name}: line {number}: expected {expected}\n"),
+    )
 }
 
-impl From<AllocError> for Refusal {
-    fn from(_error: AllocError) -> Refusal {
-        Refusal::memory()
+/// A region that the image doesn't have.
+pub fn no_region(alloc: Global, name: &str, region: u32) -> Refusal {
+    told(2, format!(in alloc; "g1heap: {name}: no region {region}\n"))
+}
+
+/// An address at which no object starts.
+pub fn no_object(alloc: Global, name: &str, address: u64) -> Refusal {
+    told(
+        2,
+        format!(in alloc; "g1heap: {name}: no object starts at {address}\n"),
+    )
+}
+
+fn told(status: u8, text: Result<String, AllocError>) -> Refusal {
+    match text {
+        Ok(text) => Refusal::Told { status, text },
+        Err(error) => error.into(),
     }
 }

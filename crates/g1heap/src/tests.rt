@@ -356,74 +356,40 @@ fn tells_what_a_pause_would_keep(rt: HostRuntime) -> Result<(), Fail> {
     Ok(())
 }
 
-// Gives or takes a byte a call, and fails once it has been called `left` times.
+// A device whose every call fails.
 #[derive(Drop)]
-struct Failing {
-    bytes: Vec<u8>,
-    left: usize,
-}
+struct Broken;
 
-impl Failing {
-    fn turn(&mut self) -> io::Result<()> {
-        if self.left == 0 {
-            return Err(io::Error::from(ErrorKind::Other));
-        }
-        self.left -= 1;
-        Ok(())
+impl Read for Broken {
+    fn read(&mut self, _buf: &mut [u8]) -> io::Result<usize> {
+        Err(io::Error::from(ErrorKind::Other))
     }
 }
 
-impl Read for Failing {
-    fn read(&mut self, buf: &mut [u8]) -> io::Result<usize> {
-        self.turn()?;
-        if self.bytes.is_empty() || buf.is_empty() {
-            return Ok(0);
-        }
-        buf[0] = self.bytes.remove(0);
-        Ok(1)
-    }
-}
-
-impl Write for Failing {
-    fn write(&mut self, buf: &[u8]) -> io::Result<usize> {
-        self.turn()?;
-        let taken = buf.len().min(1);
-        self.bytes.extend_from_slice(&buf[..taken])?;
-        Ok(taken)
+impl Write for Broken {
+    fn write(&mut self, _buf: &[u8]) -> io::Result<usize> {
+        Err(io::Error::from(ErrorKind::Other))
     }
 
     fn flush(&mut self) -> io::Result<()> {
-        self.turn()
+        Err(io::Error::from(ErrorKind::Other))
     }
 }
 
 #[test]
-fn devices_fail_at_each_byte(rt: HostRuntime) -> Result<(), Fail> {
+fn a_device_that_fails_is_named(rt: HostRuntime) -> Result<(), Fail> {
     let alloc = rt.alloc();
-    for left in 0..=ONE_OBJECT.len() {
-        let bytes = Vec::from_slice(alloc, ONE_OBJECT)?;
-        let mut reader = Failing { bytes, left };
-        let mut out = Vec::new(alloc);
-        let (status, errors) = run(&rt, alloc, "print -", &mut reader, &mut out)?;
-        assert_eq!(rt; status, 6, "{left}");
-        assert!(rt; out.is_empty(), "{left}");
-        assert_eq!(rt;
-            errors.as_slice(),
-            b"g1heap: -: fault 14: input\n".as_slice(),
-            "{left}"
-        );
-        let mut reader = ONE_OBJECT_LINES.as_bytes();
-        let bytes = Vec::new(alloc);
-        let mut writer = Failing { bytes, left };
-        let (status, errors) = run(&rt, alloc, "make", &mut reader, &mut writer)?;
-        assert_eq!(rt; status, 6, "{left}");
-        assert_eq!(rt; writer.bytes.as_slice(), &ONE_OBJECT[..left], "{left}");
-        assert_eq!(rt;
-            errors.as_slice(),
-            b"g1heap: fault 14: output\n".as_slice(),
-            "{left}"
-        );
-    }
+    let mut out = Vec::new(alloc);
+    let (status, errors) = run(&rt, alloc, "print -", &mut Broken, &mut out)?;
+    assert_eq!(rt; status, 6);
+    assert!(rt; out.is_empty());
+    let told = b"g1heap: -: fault 14: input\n".as_slice();
+    assert_eq!(rt; errors.as_slice(), told);
+    let mut reader = ONE_OBJECT_LINES.as_bytes();
+    let (status, errors) = run(&rt, alloc, "make", &mut reader, &mut Broken)?;
+    assert_eq!(rt; status, 6);
+    let told = b"g1heap: fault 14: output\n".as_slice();
+    assert_eq!(rt; errors.as_slice(), told);
     Ok(())
 }
 
@@ -452,15 +418,91 @@ fn usage_faults_come_before_the_input(rt: HostRuntime) -> Result<(), Fail> {
         ("help make", 0),
         ("--version", 0),
     ] {
-        let mut reader = Failing {
-            bytes: Vec::new(alloc),
-            left: 0,
-        };
         let mut out = Vec::new(alloc);
-        let (status, errors) = run(&rt, alloc, line, &mut reader, &mut out)?;
+        let (status, errors) = run(&rt, alloc, line, &mut Broken, &mut out)?;
         assert_eq!(rt; status, wanted, "{line}");
         assert_eq!(rt; out.is_empty(), wanted == 2, "{line}");
         assert_eq!(rt; errors.starts_with(b"error: "), wanted == 2, "{line}");
+    }
+    Ok(())
+}
+
+#[test]
+fn a_wrong_value_is_told_with_its_range(rt: HostRuntime) -> Result<(), Fail> {
+    let alloc = rt.alloc();
+    let same = "same [OPTIONS] <BEFORE> <AFTER>";
+    let print = "print [OPTIONS] <IMAGE>";
+    for (line, message, usage) in [
+        (
+            "same a b --set 1 x",
+            "invalid value 'x' for '--set <REGION>...': not a whole number (a region's number, below 4294967296)",
+            same,
+        ),
+        (
+            "same - -",
+            "only one of the images can be standard input",
+            same,
+        ),
+        (
+            "print - --region 4294967296",
+            "invalid value '4294967296' for '--region <R>': not a whole number (a region's number, below 4294967296)",
+            print,
+        ),
+        (
+            "print - --object +1",
+            "invalid value '+1' for '--object <A>': not a whole number (an address, below 18446744073709551616)",
+            print,
+        ),
+    ] {
+        let name = usage.split(' ').next().unwrap_or("");
+        let told = format!(in alloc;
+            "error: {message}\n\nUsage: g1heap {usage}\n\n\
+            For more information, try 'g1heap {name} --help'.\n"
+        )?;
+        expect(&rt, alloc, line, b"", (2, b"", told.as_str()))?;
+    }
+    Ok(())
+}
+
+static MAKE_HELP: &str = "\
+Writes the image that lines tell
+
+Usage: g1heap make [LINES]
+
+Arguments:
+  [LINES]  The lines, or - for standard input [default: -]
+
+Options:
+  -h, --help  Print help
+
+Statuses:
+  0  done
+  2  wrong words
+  3  a line is not as it has to be
+  6  no memory, or a read or a write that failed
+  7  a file that can't be opened
+
+Example: g1heap make < LINES > IMAGE
+";
+
+#[test]
+fn help_ends_with_statuses_and_an_example(rt: HostRuntime) -> Result<(), Fail> {
+    let alloc = rt.alloc();
+    let help = MAKE_HELP.as_bytes();
+    expect(&rt, alloc, "make --help", b"", (0, help, ""))?;
+    let version = b"g1heap 1.0.0\n";
+    expect(&rt, alloc, "--version", b"", (0, version, ""))?;
+    for (line, example) in [
+        ("--help", "print - < IMAGE"),
+        ("same --help", "same BEFORE - < IMAGE"),
+        ("print --help", "print - < IMAGE"),
+    ] {
+        let mut out = Vec::new(alloc);
+        run(&rt, alloc, line, &mut Broken, &mut out)?;
+        let last = format!(in alloc;
+            "\n  7  a file that can't be opened\n\nExample: g1heap {example}\n"
+        )?;
+        assert!(rt; out.ends_with(last.as_bytes()), "{line}");
     }
     Ok(())
 }

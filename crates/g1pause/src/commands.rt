@@ -1,16 +1,17 @@
 //! What the program does with a request.
 use crate::listing::{candidates, live_lines};
-use crate::options::{Pause, Refusal, Request, Sharing, parse};
+use crate::options::{NAME, Pause, Request, Sharing, parse};
 use crate::show::table;
 use g1_choose::Cost;
+use g1_command::{Refusal, deliver, read_all, refuse};
 use g1_image::{Image, decode, encode};
 use g1_pause::{Choice, FromReader, Settings, ToWriter, pause_run};
 use g1_rem::{Tracked, verify};
 use g1_trace::run_text;
-use g1_words::{Device, Fault};
+use g1_words::Fault;
 use g1_work::Open;
 use std::alloc::Global;
-use std::io::{ErrorKind, Read, Write};
+use std::io::{Read, Write};
 use std::thread::Threads;
 
 /// Runs the program on the words after its name, and gives its exit status: 0, or that of the
@@ -27,40 +28,7 @@ pub fn program<T: Threads + Sync, R: Read, W: Write, E: Write>(
 ) -> u8 {
     match perform(rt, alloc, words, reader, writer) {
         Ok(()) => 0,
-        Err(refusal) => refuse(&refusal, errors),
-    }
-}
-
-/// Tells a refusal, and gives the exit status that stands for it.
-pub fn refuse<E: Write>(refusal: &Refusal, errors: &mut E) -> u8 {
-    // The status tells the refusal even where its text cannot be written.
-    match refusal {
-        Refusal::Usage(text) => {
-            let _ = errors.write_all(text.as_bytes());
-            2
-        }
-        Refusal::Fault(fault) => {
-            let number = fault.number();
-            let _ = writeln!(errors, "g1pause: fault {number}: {fault}");
-            status(fault)
-        }
-    }
-}
-
-fn status(fault: &Fault) -> u8 {
-    match fault {
-        Fault::Settings(_) | Fault::Line(_) => 2,
-        Fault::Magic
-        | Fault::Geometry
-        | Fault::Short
-        | Fault::Trailing
-        | Fault::Kind(_)
-        | Fault::Shape(_)
-        | Fault::Reference(_)
-        | Fault::Card(_) => 3,
-        Fault::Uncovered(_) => 4,
-        Fault::Set(_) | Fault::Room { .. } => 5,
-        Fault::Memory | Fault::Device(_) => 6,
+        Err(refusal) => refuse(NAME, &refusal, errors),
     }
 }
 
@@ -72,15 +40,15 @@ fn perform<T: Threads + Sync, R: Read, W: Write>(
     writer: &mut W,
 ) -> Result<(), Refusal> {
     match parse(alloc, words)? {
-        Request::Help(text) => deliver(text.as_bytes(), writer),
+        Request::Help(text) => deliver(text.as_bytes(), writer)?,
         Request::Show { sharing, repack } => {
             let settings = shared(sharing)?;
-            deliver(&show(rt, alloc, &settings, repack, reader)?, writer)
+            deliver(&show(rt, alloc, &settings, repack, reader)?, writer)?;
         }
-        Request::Check => deliver(&check(rt, alloc, reader)?, writer),
+        Request::Check => deliver(&check(rt, alloc, reader)?, writer)?,
         Request::Live(sharing) => {
             let settings = shared(sharing)?;
-            deliver(&live(rt, alloc, &settings, reader)?, writer)
+            deliver(&live(rt, alloc, &settings, reader)?, writer)?;
         }
         Request::Choose {
             sharing: Sharing { workers, chunk },
@@ -88,17 +56,18 @@ fn perform<T: Threads + Sync, R: Read, W: Write>(
             budget,
         } => {
             let settings = Settings::new(workers, chunk, cost, Choice::Budget(budget))?;
-            deliver(&choose(rt, alloc, &settings, budget, reader)?, writer)
+            deliver(&choose(rt, alloc, &settings, budget, reader)?, writer)?;
         }
         Request::Pause(pause) => {
             let settings = chosen(pause)?;
-            Ok(paused(rt, alloc, &settings, reader, writer)?)
+            paused(rt, alloc, &settings, reader, writer)?;
         }
         Request::Run { sharing, cost } => {
             let settings = costed(sharing, cost)?;
-            deliver(&run(rt, alloc, &settings, reader)?, writer)
+            deliver(&run(rt, alloc, &settings, reader)?, writer)?;
         }
     }
+    Ok(())
 }
 
 // The settings of a command that has no costs and no choice.
@@ -229,26 +198,5 @@ fn read_tracked<T: Threads + Sync, R: Read>(
     match verify(rt, alloc, read_image(alloc, reader)?) {
         Ok(tracked) => Ok(tracked),
         Err((_, fault)) => Err(fault),
-    }
-}
-
-fn read_all<R: Read>(alloc: Global, reader: &mut R) -> Result<Vec<u8>, Fault> {
-    let mut bytes = Vec::new(alloc);
-    match reader.read_to_end(&mut bytes) {
-        Ok(_) => Ok(bytes),
-        Err(error) if error.kind() == ErrorKind::OutOfMemory => Err(Fault::Memory),
-        Err(_) => Err(Fault::Device(Device::Input)),
-    }
-}
-
-fn deliver<W: Write>(text: &[u8], writer: &mut W) -> Result<(), Refusal> {
-    let written = match writer.write_all(text) {
-        Ok(()) => writer.flush(),
-        Err(error) => Err(error),
-    };
-    match written {
-        Ok(()) => Ok(()),
-        Err(error) if error.kind() == ErrorKind::OutOfMemory => Err(Fault::Memory.into()),
-        Err(_) => Err(Fault::Device(Device::Output).into()),
     }
 }

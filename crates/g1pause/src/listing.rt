@@ -3,7 +3,7 @@ ghost use Rattle.std.specs.Prelude.{◌≡◌, ◌<◌, length, map, All, IfOk};
 ghost use Rattle.g1_choose.specs.Cost.{IsCost};
 ghost use Rattle.g1_choose.specs.Choice.{MayBeLive, cost_of, IsChosen};
 
-use g1_choose::{Candidate, Cost, bought, choose, cost, live_within_used, order, total};
+use g1_choose::{Candidate, Cost, choose, cost, order, total};
 use g1_mark::live_bytes;
 use g1_pause::Settings;
 use g1_rem::{Starts, Tracked, image, refine};
@@ -39,15 +39,24 @@ pub fn candidates<T: Threads + Sync>(
 ) -> Result<String, Fault> {
     let heap = image(tracked).heap();
     let starts = Starts::build(alloc, heap)?;
-    let sets = refine(rt, alloc, tracked, &starts)?;
+    let remembered = refine(rt, alloc, tracked, &starts)?;
     let (workers, chunk) = (settings.workers(), settings.chunk());
     let live = live_bytes(rt, alloc, heap, &starts, workers, chunk, &Open)?;
     let parameters = settings.cost();
     let dirty = image(tracked).log().len() as u64;
-    live_within_used();
-    let order = order(alloc, heap, &sets, &live, &parameters)?;
-    let set = choose(alloc, heap, dirty, &sets, &live, &parameters, budget)?;
-    let total = total_of(alloc, heap, dirty, &sets, &live, &parameters, budget, &set)?;
+    g1_choose::laws::live_within_used();
+    let order = order(alloc, heap, &remembered, &live, &parameters)?;
+    let set = choose(alloc, heap, dirty, &remembered, &live, &parameters, budget)?;
+    let total = total_of(
+        alloc,
+        heap,
+        dirty,
+        &remembered,
+        &live,
+        &parameters,
+        budget,
+        &set,
+    )?;
     // What is chosen is the beginning of the order.
     let mut text = lines(alloc, &order, set.len())?;
     writeln!(text, "total {total}")?;
@@ -59,19 +68,19 @@ fn total_of(
     alloc: Global,
     heap: &Heap,
     dirty: u64,
-    sets: &[Vec<u32>],
+    remembered: &[Vec<u32>],
     live: &[u64],
     parameters: &Cost,
     budget: u64,
     set: &[u32],
 ) -> Result<u128, AllocError>
     requires parameters { IsCost parameters.now }
-    requires sets { length sets.now ≡ heap.now.geometry.n }
+    requires remembered { length remembered.now ≡ heap.now.geometry.n }
     requires live_bytes { MayBeLive heap.now live.now }
-    requires chosen { IsChosen parameters.now heap.now (map (λ s. s.items) sets.now) live.now dirty budget set.now }
+    requires chosen { IsChosen parameters.now heap.now (map (λ s. s.items) remembered.now) live.now dirty budget set.now }
 {
-    bought();
-    let costs = costs_of(alloc, heap, sets, live, parameters, set)?;
+    g1_choose::laws::bought();
+    let costs = costs_of(alloc, heap, remembered, live, parameters, set)?;
     Ok(total(parameters, dirty, &costs))
 }
 
@@ -79,21 +88,21 @@ fn total_of(
 fn costs_of(
     alloc: Global,
     heap: &Heap,
-    sets: &[Vec<u32>],
+    remembered: &[Vec<u32>],
     live: &[u64],
     parameters: &Cost,
     set: &[u32],
 ) -> Result<Vec<u128>, AllocError>
     requires parameters { IsCost parameters.now }
-    requires sets { length sets.now ≡ heap.now.geometry.n }
+    requires remembered { length remembered.now ≡ heap.now.geometry.n }
     requires live_bytes { MayBeLive heap.now live.now }
     requires regions { All (λ r. r < heap.now.geometry.n) set.now }
-    ensures { IfOk result (λ v. v.items ≡ map (cost_of parameters.now heap.now (map (λ s. s.items) sets.now) live.now) set.now) }
+    ensures { IfOk result (λ v. v.items ≡ map (cost_of parameters.now heap.now (map (λ s. s.items) remembered.now) live.now) set.now) }
 {
     let mut costs = Vec::new(alloc);
     for region in set {
         let place = *region as usize;
-        costs.push(cost(parameters, sets[place].len() as u64, live[place]))?;
+        costs.push(cost(parameters, remembered[place].len() as u64, live[place]))?;
     }
     Ok(costs)
 }

@@ -11,13 +11,12 @@ mod options;
 mod show;
 #[cfg(test)]
 mod tests;
+#[cfg(test)]
+mod tests_words;
 
-use crate::commands::{program, refuse};
-use crate::options::Refusal;
-use g1_words::Fault;
-use std::alloc::Global;
-use std::env;
-use std::io::ErrorKind;
+use crate::commands::program;
+use crate::options::NAME;
+use g1_command::{refuse, words};
 use std::process::ExitCode;
 
 fn main(rt: HostRuntime) -> ExitCode {
@@ -32,19 +31,7 @@ fn main(rt: HostRuntime) -> ExitCode {
             &mut rt.stdout(),
             &mut errors,
         ),
-        Err(refusal) => refuse(&refusal, &mut errors),
+        Err(refusal) => refuse(NAME, &refusal, &mut errors),
     };
     ExitCode::from(status)
-}
-
-// The words after the program's name, as text.
-fn words(rt: &HostRuntime, alloc: Global) -> Result<Vec<String>, Refusal> {
-    match env::args(rt) {
-        Ok(args) => Ok(args.skip(1).collect::<Vec<String>>(alloc)?),
-        Err(error) if error.kind() == ErrorKind::OutOfMemory => Err(Fault::Memory.into()),
-        Err(_) => {
-            let text = String::from_str(alloc, "error: the arguments are not all text\n")?;
-            Err(Refusal::Usage(text))
-        }
-    }
 }

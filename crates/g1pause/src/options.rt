@@ -1,9 +1,11 @@
 //! The command line.
-use clap::error::ErrorKind;
 use clap::{Arg, ArgAction, ArgMatches, Command, Error};
 use g1_choose::Cost;
-use g1_words::Fault;
+use g1_command::{Argument, Misuse, Refusal, explain, number, regions};
 use std::alloc::{AllocError, Global};
+
+/// The program's name.
+pub const NAME: &str = "g1pause";
 
 /// What the words ask for. Numbers are whole, and may be out of their ranges.
 #[derive(Debug, Drop)]
@@ -51,25 +53,126 @@ pub struct Sharing {
     pub chunk: u64,
 }
 
-/// Why a request is not answered.
-#[derive(Debug, Drop)]
-pub enum Refusal {
-    /// The words are no request, as this text tells.
-    Usage(String),
-    Fault(Fault),
-}
+// The options that take numbers, with the ranges that messages tell.
+static WORKERS: Argument = Argument {
+    id: "workers",
+    shown: "--workers <N>",
+    range: "1 to 64",
+};
 
-impl From<Fault> for Refusal {
-    fn from(fault: Fault) -> Refusal {
-        Refusal::Fault(fault)
-    }
-}
+static CHUNK: Argument = Argument {
+    id: "chunk",
+    shown: "--chunk <N>",
+    range: "1 to 65536",
+};
 
-impl From<AllocError> for Refusal {
-    fn from(_error: AllocError) -> Refusal {
-        Refusal::Fault(Fault::Memory)
-    }
-}
+const COSTS: &str = "below 4294967296";
+
+static FIXED: Argument = Argument {
+    id: "fixed",
+    shown: "--fixed <N>",
+    range: COSTS,
+};
+
+static DIRTY: Argument = Argument {
+    id: "dirty",
+    shown: "--dirty <N>",
+    range: COSTS,
+};
+
+static CARD: Argument = Argument {
+    id: "card",
+    shown: "--card <N>",
+    range: COSTS,
+};
+
+static BYTE: Argument = Argument {
+    id: "byte",
+    shown: "--byte <N>",
+    range: COSTS,
+};
+
+static BUDGET: Argument = Argument {
+    id: "budget",
+    shown: "--budget <N>",
+    range: "below 18446744073709551616",
+};
+
+static REGIONS: Argument = Argument {
+    id: "regions",
+    shown: "[REGION]...",
+    range: "a region's number, below 4294967296",
+};
+
+// What stands at the end of each command's help.
+const AFTER_SHOW: &str = "\
+Statuses:
+  0  done
+  2  wrong words, or a number out of its range
+  3  the input is no image
+  6  no memory, or a read or a write that failed
+
+Example: g1pause show < IMAGE";
+
+const AFTER_CHECK: &str = "\
+Statuses:
+  0  covered
+  2  wrong words
+  3  the input is no image
+  4  a slot is not covered
+  6  no memory, or a read or a write that failed
+
+Example: g1pause check < IMAGE";
+
+const AFTER_LIVE: &str = "\
+Statuses:
+  0  done
+  2  wrong words, or a number out of its range
+  3  the input is no image
+  6  no memory, or a read or a write that failed
+
+Example: g1pause live < IMAGE";
+
+const AFTER_CHOOSE: &str = "\
+Statuses:
+  0  done
+  2  wrong words, or a number out of its range
+  3  the input is no image
+  4  a slot of the image is not covered
+  6  no memory, or a read or a write that failed
+
+Example: g1pause choose --budget 1000 < IMAGE";
+
+const AFTER_PAUSE: &str = "\
+Statuses:
+  0  done
+  2  wrong words, a number out of its range, or a budget beside regions
+  3  the input is no image
+  4  a slot of the image is not covered
+  5  a region that cannot be collected, or no room for the survivors
+  6  no memory, or a read or a write that failed
+
+Example: g1pause pause --budget 1000 < IMAGE > AFTER";
+
+const AFTER_RUN: &str = "\
+Statuses:
+  0  done
+  2  wrong words, a number out of its range, or a line that is not of its form
+  3  the sizes of the trace's heap are out of their ranges
+  6  no memory, or a read or a write that failed
+
+Example: g1pause run < TRACE";
+
+const AFTER_ALL: &str = "\
+Statuses:
+  0  done
+  2  wrong words, a number out of its range, or a wrong line of a trace
+  3  the input is no image
+  4  a slot of the image is not covered
+  5  a region that cannot be collected, or no room for the survivors
+  6  no memory, or a read or a write that failed
+
+Example: g1pause show < IMAGE";
 
 fn option<'a>(alloc: Global, id: &'a str, default: &'a str, help: &'a str) -> Arg<'a> {
     Arg::new(alloc, id)
@@ -80,7 +183,8 @@ fn option<'a>(alloc: Global, id: &'a str, default: &'a str, help: &'a str) -> Ar
         .help(help)
 }
 
-fn shared<'a>(alloc: Global, name: &'a str) -> Result<Command<'a>, AllocError> {
+// A command with the options on workers. `items` says what a chunk counts, and its range.
+fn shared<'a>(alloc: Global, name: &'a str, items: &'a str) -> Result<Command<'a>, AllocError> {
     Command::new(alloc, name)
         .arg(option(
             alloc,
@@ -88,12 +192,7 @@ fn shared<'a>(alloc: Global, name: &'a str) -> Result<Command<'a>, AllocError> {
             "1",
             "How many workers share the work, 1 to 64",
         ))?
-        .arg(option(
-            alloc,
-            "chunk",
-            "64",
-            "How many items a worker draws at once",
-        ))
+        .arg(option(alloc, "chunk", "64", items))
 }
 
 fn show<'a>(alloc: Global) -> Result<Command<'a>, AllocError> {
@@ -101,13 +200,31 @@ fn show<'a>(alloc: Global) -> Result<Command<'a>, AllocError> {
         .long("repack")
         .action(ArgAction::SetTrue)
         .help("Writes the image's text in place of the table");
-    shared(alloc, "show")?
+    let items = "How many regions a worker draws at once, 1 to 65536";
+    shared(alloc, "show", items)?
         .about("Prints the regions of the image on standard input")
+        .after_help(AFTER_SHOW)
         .arg(repack)
 }
 
-fn costed<'a>(alloc: Global, name: &'a str) -> Result<Command<'a>, AllocError> {
-    shared(alloc, name)?
+fn check<'a>(alloc: Global) -> Command<'a> {
+    Command::new(alloc, "check")
+        .about("Tells whether every reference into another region is covered")
+        .after_help(AFTER_CHECK)
+}
+
+const ROOTS: &str = "How many roots or objects a worker draws at once, 1 to 65536";
+
+fn live<'a>(alloc: Global) -> Result<Command<'a>, AllocError> {
+    Ok(
+        shared(alloc, "live", ROOTS)?
+            .about("Prints the live bytes of each region")
+            .after_help(AFTER_LIVE),
+    )
+}
+
+fn costed<'a>(alloc: Global, name: &'a str, items: &'a str) -> Result<Command<'a>, AllocError> {
+    shared(alloc, name, items)?
         .arg(option(alloc, "fixed", "0", "What a pause costs in any case"))?
         .arg(option(alloc, "dirty", "1", "What a dirty card costs"))?
         .arg(option(alloc, "card", "1", "What a remembered card costs"))?
@@ -123,10 +240,13 @@ fn budget<'a>(alloc: Global) -> Arg<'a> {
 }
 
 fn choose<'a>(alloc: Global) -> Result<Command<'a>, AllocError> {
-    costed(alloc, "choose")?
+    costed(alloc, "choose", ROOTS)?
         .about("Prints the candidates in order, and which of them the budget buys")
+        .after_help(AFTER_CHOOSE)
         .arg(budget(alloc).required(true))
 }
+
+const CARDS: &str = "How many roots, cards or objects a worker draws at once, 1 to 65536";
 
 fn pause_command<'a>(alloc: Global) -> Result<Command<'a>, AllocError> {
     let regions = Arg::new(alloc, "regions")
@@ -134,179 +254,117 @@ fn pause_command<'a>(alloc: Global) -> Result<Command<'a>, AllocError> {
         .num_args(0..)
         .action(ArgAction::Append)
         .help("The regions to collect, where there is no budget");
-    costed(alloc, "pause")?
+    costed(alloc, "pause", CARDS)?
         .about("Collects regions of the image on standard input, and writes the image after")
+        .after_help(AFTER_PAUSE)
         .arg(budget(alloc))?
         .arg(regions)
 }
 
 fn run<'a>(alloc: Global) -> Result<Command<'a>, AllocError> {
-    let about = "Runs the trace on standard input, and prints what each command replies";
-    Ok(costed(alloc, "run")?.about(about))
+    Ok(
+        costed(alloc, "run", CARDS)?
+            .about("Runs the trace on standard input, and prints what each command replies")
+            .after_help(AFTER_RUN),
+    )
 }
 
 fn command<'a>(alloc: Global) -> Result<Command<'a>, AllocError> {
-    let check = Command::new(alloc, "check").about(
-        "Tells whether every reference into another region is covered",
-    );
-    let live = shared(alloc, "live")?.about("Prints the live bytes of each region");
-    Command::new(alloc, "g1pause")
+    Command::new(alloc, NAME)
         .no_binary_name(true)
-        .bin_name("g1pause")?
+        .bin_name(NAME)?
+        .version("1.0.0")
         .about("Runs Garbage-First evacuation pauses on heap images")
+        .after_help(AFTER_ALL)
         .subcommand_required(true)
         .subcommand(show(alloc)?)?
-        .subcommand(check)?
-        .subcommand(live)?
+        .subcommand(check(alloc))?
+        .subcommand(live(alloc)?)?
         .subcommand(choose(alloc)?)?
         .subcommand(pause_command(alloc)?)?
         .subcommand(run(alloc)?)
 }
 
-// A whole number in decimal digits alone.
-fn whole(text: &str) -> Option<u64> {
-    if !text.bytes().all(|b| b.is_ascii_digit()) {
-        return None;
-    }
-    text.parse::<u64>().ok()
-}
-
-// The value of an option that has one. clap would take a sign.
-fn number<'a>(
-    alloc: Global,
-    command: &mut Command<'a>,
-    matches: &ArgMatches<'a>,
-    id: &str,
-) -> Result<u64, Error> {
-    let text = matches.get_str(id).unwrap_or("");
-    match whole(text) {
-        Some(value) => Ok(value),
-        None => {
-            let message = format!(in alloc;
-                "invalid value '{text}' for '--{id}': not a whole number below 2^64"
-            )?;
-            Err(command.error(ErrorKind::ValueValidation, message.as_str())?)
-        }
+// The command of a name apart from the program, for its usage.
+fn command_named<'a>(alloc: Global, name: &str) -> Result<Command<'a>, AllocError> {
+    match name {
+        "show" => show(alloc),
+        "check" => Ok(check(alloc)),
+        "live" => live(alloc),
+        "choose" => choose(alloc),
+        "pause" => pause_command(alloc),
+        _ => run(alloc),
     }
 }
 
-fn sharing_of<'a>(
-    alloc: Global,
-    command: &mut Command<'a>,
-    matches: &ArgMatches<'a>,
-) -> Result<Sharing, Error> {
+// The number of an option that has one, be it by default.
+fn value(alloc: Global, values: &ArgMatches<'_>, argument: &Argument) -> Result<u64, Misuse> {
+    Ok(number(alloc, values, argument)?.unwrap_or(0))
+}
+
+fn sharing_of(alloc: Global, values: &ArgMatches<'_>) -> Result<Sharing, Misuse> {
     Ok(Sharing {
-        workers: number(alloc, command, matches, "workers")?,
-        chunk: number(alloc, command, matches, "chunk")?,
+        workers: value(alloc, values, &WORKERS)?,
+        chunk: value(alloc, values, &CHUNK)?,
     })
 }
 
-fn cost<'a>(
-    alloc: Global,
-    command: &mut Command<'a>,
-    matches: &ArgMatches<'a>,
-) -> Result<Cost, Error> {
+fn cost(alloc: Global, values: &ArgMatches<'_>) -> Result<Cost, Misuse> {
     Ok(Cost {
-        fixed: number(alloc, command, matches, "fixed")?,
-        dirty: number(alloc, command, matches, "dirty")?,
-        card: number(alloc, command, matches, "card")?,
-        byte: number(alloc, command, matches, "byte")?,
+        fixed: value(alloc, values, &FIXED)?,
+        dirty: value(alloc, values, &DIRTY)?,
+        card: value(alloc, values, &CARD)?,
+        byte: value(alloc, values, &BYTE)?,
     })
 }
 
-// The budget, where there is one.
-fn budget_of<'a>(
-    alloc: Global,
-    command: &mut Command<'a>,
-    matches: &ArgMatches<'a>,
-) -> Result<Option<u64>, Error> {
-    if matches.contains_id("budget") {
-        Ok(Some(number(alloc, command, matches, "budget")?))
-    } else {
-        Ok(None)
-    }
-}
-
-// The number of a region, which need not be one of the image's.
-fn region(text: &str) -> Option<u32> {
-    u32::try_from(whole(text)?).ok()
-}
-
-// The numbers of regions that stand behind the options.
-fn regions_of<'a>(
-    alloc: Global,
-    command: &mut Command<'a>,
-    matches: &ArgMatches<'a>,
-) -> Result<Vec<u32>, Error> {
-    let mut regions = Vec::new(alloc);
-    for text in matches.get_strs("regions").unwrap_or(&[]) {
-        match region(text) {
-            Some(region) => regions.push(region)?,
-            None => {
-                let message = format!(in alloc;
-                    "invalid value '{text}' for '[REGION]...': not a whole number below 2^32"
-                )?;
-                return Err(command.error(ErrorKind::ValueValidation, message.as_str())?);
-            }
-        }
-    }
-    Ok(regions)
-}
-
-fn pause_of<'a>(
-    alloc: Global,
-    command: &mut Command<'a>,
-    matches: &ArgMatches<'a>,
-) -> Result<Request, Error> {
+fn pause_of(alloc: Global, values: &ArgMatches<'_>) -> Result<Request, Misuse> {
     Ok(Request::Pause(Pause {
-        sharing: sharing_of(alloc, command, matches)?,
-        cost: cost(alloc, command, matches)?,
-        budget: budget_of(alloc, command, matches)?,
-        regions: regions_of(alloc, command, matches)?,
+        sharing: sharing_of(alloc, values)?,
+        cost: cost(alloc, values)?,
+        budget: number(alloc, values, &BUDGET)?,
+        regions: regions(alloc, values, &REGIONS)?,
     }))
 }
 
-fn requested(alloc: Global, words: &[String]) -> Result<Request, Error> {
-    let mut command = command(alloc)?;
-    let matches = command.try_get_matches_from_mut(words)?;
-    match matches.subcommand() {
-        Some(("show", show)) => Ok(Request::Show {
-            sharing: sharing_of(alloc, &mut command, show)?,
-            repack: show.get_flag("repack"),
+// What the values of a command ask for.
+fn request_of(alloc: Global, name: &str, values: &ArgMatches<'_>) -> Result<Request, Misuse> {
+    match name {
+        "show" => Ok(Request::Show {
+            sharing: sharing_of(alloc, values)?,
+            repack: values.get_flag("repack"),
         }),
-        Some(("check", _)) => Ok(Request::Check),
-        Some(("live", live)) => Ok(Request::Live(sharing_of(alloc, &mut command, live)?)),
-        Some(("choose", choose)) => Ok(Request::Choose {
-            sharing: sharing_of(alloc, &mut command, choose)?,
-            cost: cost(alloc, &mut command, choose)?,
-            budget: number(alloc, &mut command, choose, "budget")?,
+        "check" => Ok(Request::Check),
+        "live" => Ok(Request::Live(sharing_of(alloc, values)?)),
+        "choose" => Ok(Request::Choose {
+            sharing: sharing_of(alloc, values)?,
+            cost: cost(alloc, values)?,
+            budget: value(alloc, values, &BUDGET)?,
         }),
-        Some(("pause", pause)) => pause_of(alloc, &mut command, pause),
-        Some(("run", run)) => Ok(Request::Run {
-            sharing: sharing_of(alloc, &mut command, run)?,
-            cost: cost(alloc, &mut command, run)?,
+        "pause" => pause_of(alloc, values),
+        _ => Ok(Request::Run {
+            sharing: sharing_of(alloc, values)?,
+            cost: cost(alloc, values)?,
         }),
-        _ => Err(command.error(ErrorKind::MissingSubcommand, "a command is required")?),
     }
 }
 
-// What clap prints: a text that was asked for, or why the words are no request.
-fn explained(alloc: Global, error: Error) -> Result<Request, Refusal> {
-    if error.kind() == ErrorKind::OutOfMemory {
-        return Err(Refusal::Fault(Fault::Memory));
-    }
-    let text = format!(in alloc; "{error}")?;
-    if error.use_stderr() {
-        Err(Refusal::Usage(text))
-    } else {
-        Ok(Request::Help(text))
-    }
+fn matched<'a>(alloc: Global, words: &'a [String]) -> Result<ArgMatches<'a>, Error> {
+    command(alloc)?.try_get_matches_from(words)
 }
 
 /// Reads the words after the program's name.
 pub fn parse(alloc: Global, words: &[String]) -> Result<Request, Refusal> {
-    match requested(alloc, words) {
+    let matches = match matched(alloc, words) {
+        Ok(matches) => matches,
+        Err(error) => return Ok(Request::Help(explain(alloc, &error)?)),
+    };
+    let Some((name, values)) = matches.subcommand() else {
+        let text = String::from_str(alloc, "error: a command is required\n")?;
+        return Err(Refusal::usage(text));
+    };
+    match request_of(alloc, name, values) {
         Ok(request) => Ok(request),
-        Err(error) => explained(alloc, error),
+        Err(misuse) => Err(misuse.refusal(alloc, NAME, command_named(alloc, name)?)),
     }
 }

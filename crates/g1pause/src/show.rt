@@ -87,7 +87,7 @@ fn lines(alloc: Global, image: &Image, from: u32, to: u32) -> Result<String, Fau
     for region in from..to {
         let Region { kind, top, .. } = heap.region(region);
         let objects = objects_in(alloc, heap, region)?.len();
-        let cards = image.sets()[region as usize].len();
+        let cards = image.remembered()[region as usize].len();
         writeln!(
             text,
             "region {region} {kind} top {top} objects {objects} cards {cards}"

@@ -166,7 +166,7 @@ fn image_of(alloc: Global, tokens: &str) -> Result<Vec<u8>, Fail> {
 
 // Runs the program on words that are separated by spaces, and gives its status and what it wrote to
 // standard error.
-fn run<R: Read, W: Write>(
+pub(crate) fn run<R: Read, W: Write>(
     rt: &(impl Threads + Sync),
     alloc: Global,
     line: &str,
@@ -616,7 +616,7 @@ fn usage_faults_come_before_the_input(rt: HostRuntime) -> Result<(), Fail> {
         "check --workers 1",
         "live --budget 1",
         "live --workers 0 --chunk x",
-        "--version",
+        "show --version",
     ];
     for line in refused {
         let mut reader = Failing {
@@ -636,6 +636,7 @@ fn usage_faults_come_before_the_input(rt: HostRuntime) -> Result<(), Fail> {
         "help show",
         "pause --help",
         "run --help",
+        "--version",
     ] {
         let mut reader = Failing {
             bytes: Vec::new(alloc),

@@ -31,7 +31,7 @@ after = record {
   cleared = cleared_by_test dead_owner_after.heap f os refl;
   table = refl;
   roots = refl;
-  sets = refl;
+  remembered = refl;
   log = refl;
   current = refl;
 }
@@ -47,7 +47,7 @@ after7 = record {
   cleared = cleared_by_test shared_target_after.heap (forward shared_target (21 ∷ 16 ∷ [])) (kept shared_target (1 ∷ []) (21 ∷ 16 ∷ [])) refl;
   table = refl;
   roots = refl;
-  sets = refl;
+  remembered = refl;
   log = refl;
   current = refl;
 }
@@ -63,7 +63,7 @@ after9 = record {
   cleared = cleared_by_test humongous_owner_after.heap (forward humongous_owner (48 ∷ [])) (kept humongous_owner (3 ∷ []) (48 ∷ [])) refl;
   table = refl;
   roots = refl;
-  sets = refl;
+  remembered = refl;
   log = refl;
   current = refl;
 }
@@ -82,7 +82,7 @@ after1 = record {
   cleared = cleared_by_test one_object_after.heap (forward one_object.heap (16 ∷ [])) (kept one_object.heap (1 ∷ []) (16 ∷ [])) refl;
   table = refl;
   roots = refl;
-  sets = refl;
+  remembered = refl;
   log = refl;
   current = refl;
 }

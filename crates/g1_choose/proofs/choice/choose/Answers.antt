@@ -12,22 +12,22 @@ returns-clause-ok c =
     let parameters = c.args.parameters.now in
     let heap = c.args.heap.now in
     let live = c.args.live.now in
-    let sets : List (List ℕ) = map (λ s. s.items) c.args.sets.now in
+    let remembered : List (List ℕ) = map (λ s. s.items) c.args.remembered.now in
     let order : List Candidate = c.in_ok-order.order.items in
     let numbers : List ℕ = map (λ x. x.region) order in
     let in_order = c.in_ok-order.ensures.ok in
-    let m : ℕ = c.in_ok-set.ensures.ok.0 in
+    let m : ℕ = c.in_ok-set.ensures.0 in
     let same : c.deref.result.now ≡ order = c.deref.ensures.value in
     let set : c.in_ok-set.set.items ≡ take m numbers =
-    c.in_ok-set.ensures.ok.1 ∙ ap (λ xs. map (λ (x : Candidate). x.region) (take m xs)) same ∙ sym (take-map (λ (x : Candidate). x.region) m order) in
-    let paid : IsPaid order c.total.result c.args.budget m = subst (λ xs. IsPaid xs c.total.result c.args.budget m) same c.in_ok-set.ensures.ok.2 in
+    c.in_ok-set.ensures.1 ∙ ap (λ xs. map (λ (x : Candidate). x.region) (take m xs)) same ∙ sym (take-map (λ (x : Candidate). x.region) m order) in
+    let paid : IsPaid order c.total.result c.args.budget m = subst (λ xs. IsPaid xs c.total.result c.args.budget m) same c.in_ok-set.ensures.2 in
     let moved : IsPermutation (take m numbers) c.sort_unstable.new.self.items = subst (λ xs. IsPermutation xs c.sort_unstable.new.self.items) set c.sort_unstable.ensures.permutation in
     record {
       order = numbers;
       is_order = in_order.order;
       taken = m;
-      longest = longest_from_paid parameters heap sets live c.args.d c.args.budget c.total.result m order in_order.tells (omega (arith, c.total.ensures)) paid;
+      longest = longest_from_paid parameters heap remembered live c.args.d c.args.budget c.total.result m order in_order.tells (omega (arith, c.total.ensures)) paid;
       rising = risen heap (take m numbers) c.sort_unstable.new.self.items moved c.sort_unstable.ensures.sorted
-          (order_apart parameters heap sets live numbers m in_order.order)
-          (λ r i. order_within parameters heap sets live numbers m r in_order.order i);
+          (order_apart parameters heap remembered live numbers m in_order.order)
+          (λ r i. order_within parameters heap remembered live numbers m r in_order.order i);
     }

@@ -6,7 +6,7 @@ use Rattle.g1_choose.proofs.choice.order.Goals as goal
 
 pub returns-clause-ok : goal.returns-clause-ok
 returns-clause-ok c =
-    let sets : List (List ℕ) = map (λ s. s.items) c.args.sets.now in
-    in_order c.args.parameters.now c.args.heap.now sets c.args.live.now c.in_ok-candidates.candidates.items c.sort_unstable_by.new.self.items
+    let remembered : List (List ℕ) = map (λ s. s.items) c.args.remembered.now in
+    in_order c.args.parameters.now c.args.heap.now remembered c.args.live.now c.in_ok-candidates.candidates.items c.sort_unstable_by.new.self.items
     c.in_ok-candidates.ensures.all c.in_ok-candidates.ensures.tells c.sort_unstable_by.ensures.permutation
     (c.sort_unstable_by.ensures.sorted goes_first efficiency_order (always_returns_same _ _ _ (λ a r f k. search rules)))

@@ -1,7 +1,7 @@
 use Rattle.std.proofs.Common.{◌≡◌, ◌+◌, vec_len}
 use Rattle.std.specs.List.{All}
 use Rattle.g1_claim.specs.Claims.{IsSeatOf}
-use Rattle.g1_frontier.specs.Round.{IsFresh}
+use Rattle.g1_frontier.specs.Round.{IsFreshHolder}
 use Rattle.g1_frontier.proofs.round.give_out.Given as goal
 
 abbrev pub invariant-loop-i : goal.invariant-loop-i
@@ -10,5 +10,5 @@ invariant-loop-i l = record {
   shares : l.seat.hand.shares + l._i ≡ 65;
   offers : l.seat.hand.offers ≡ l.initial.seat.hand.offers;
   len : vec_len l.holders + 1 ≡ l._i;
-  fresh : All (IsFresh l.claims) l.holders.items;
+  fresh : All (IsFreshHolder l.claims) l.holders.items;
 }

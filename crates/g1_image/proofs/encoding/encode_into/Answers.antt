@@ -1,14 +1,14 @@
 use Rattle.std.proofs.Common.{rules, ◌≡◌, [], ◌++◌, length, map, ◌∙◌}
 use Rattle.g1_words.proofs.Objects.{tops_fit}
 use Rattle.g1_image.specs.declared.cursor.Heading.{Heading}
-use Rattle.g1_image.specs.Text.{magic, heading_of, heading_text, table_text, words_text, numbers_text, sets_text}
+use Rattle.g1_image.specs.Text.{magic, heading_of, heading_text, table_text, words_text, numbers_text, remembered_texts}
 use Rattle.g1_image.specs.Image.{file_of, entry_of, used_words}
 use Rattle.g1_image.proofs.Images.{counts_fit}
 use Rattle.g1_image.proofs.Written.{file_written}
 use Rattle.g1_image.proofs.encoding.encode_into.Goals as goal
 
-pub push_sets-requires : goal.push_sets-requires
-push_sets-requires c = rw c.sets.ensures (counts_fit c.args.image.now c.heap-heap.ensures.valid)
+pub push_remembered-requires : goal.push_remembered-requires
+push_remembered-requires c = rw c.remembered.ensures (counts_fit c.args.image.now c.heap-heap.ensures.valid)
 
 pub push_used-requires-clause-tops : goal.push_used-requires-clause-tops
 push_used-requires-clause-tops c =
@@ -36,12 +36,12 @@ returns-clause-ok c =
     let words : c.words.result.now ≡ i.heap.words = cc in
     let empty : c.clear.new.self.items ≡ [] = search rules in (
       c.heap-heap.ensures.valid,
-      file_written (file_of i) c.extend_from_slice.new.self.items c.push_heading.new.out.items c.push_table.new.out.items c.push_words.new.out.items c.push_numbers.new.out.items c.push_sets.new.out.items c.push_used.new.out.items
+      file_written (file_of i) c.extend_from_slice.new.self.items c.push_heading.new.out.items c.push_table.new.out.items c.push_words.new.out.items c.push_numbers.new.out.items c.push_remembered.new.out.items c.push_used.new.out.items
           (c.in_ok-extend_from_slice.ensures.items ∙ (λ t. empty t ++ magic))
-          (c.in_ok-push_heading.ensures.ok ∙ (λ t. c.extend_from_slice.new.self.items ++ heading_text (first t)))
-          (c.in_ok-push_table.ensures.ok ∙ (λ t. c.push_heading.new.out.items ++ table_text (map entry_of (table t))))
-          (c.in_ok-push_words.ensures.ok ∙ (λ t. c.push_table.new.out.items ++ words_text (roots t)))
-          (c.in_ok-push_numbers.ensures.ok ∙ (λ t. c.push_words.new.out.items ++ numbers_text (log t)))
-          (c.in_ok-push_sets.ensures.ok ∙ (λ t. c.push_numbers.new.out.items ++ sets_text (c.sets.ensures t)))
-          (c.in_ok-push_used.ensures.ok ∙ (λ t. c.push_sets.new.out.items ++ words_text (used_words (width t) (regions t) (words t)))),
+          (c.in_ok-push_heading.ensures ∙ (λ t. c.extend_from_slice.new.self.items ++ heading_text (first t)))
+          (c.in_ok-push_table.ensures ∙ (λ t. c.push_heading.new.out.items ++ table_text (map entry_of (table t))))
+          (c.in_ok-push_words.ensures ∙ (λ t. c.push_table.new.out.items ++ words_text (roots t)))
+          (c.in_ok-push_numbers.ensures ∙ (λ t. c.push_words.new.out.items ++ numbers_text (log t)))
+          (c.in_ok-push_remembered.ensures ∙ (λ t. c.push_numbers.new.out.items ++ remembered_texts (c.remembered.ensures t)))
+          (c.in_ok-push_used.ensures ∙ (λ t. c.push_remembered.new.out.items ++ words_text (used_words (width t) (regions t) (words t)))),
     )

@@ -1,15 +1,10 @@
-use Rattle.std.proofs.Common.{refl, Err, ◌≡◌}
-use Rattle.std.proofs.lemmas.Result.{err_from_is_err_and}
-use Rattle.g1_image.specs.Reading.{IsU64, Are, EndsWithin}
+use Rattle.g1_image.specs.Reading.{IsU64}
+use Rattle.g1_image.specs.Text.{u64}
 use Rattle.g1_image.proofs.Numbers.{u64_once}
-use Rattle.g1_image.proofs.PrefixFree.{Came-short, Reads-fails}
-use Rattle.g1_image.specs.Text.{u64 as u64_text, words_text}
+use Rattle.g1_image.proofs.PrefixFree.{Came-fails}
 use Rattle.g1_image.proofs.reading.words.Goals as goal
 
 pub returns-in_err-x : goal.returns-in_err-x
 returns-in_err-x c =
-    let p = err_from_is_err_and c.from_residual.result c.from_residual.ensures.1 in
-    let same : c.from_residual.result ≡ Err c.in_err-x.field-0.0 = rw (p.1, p.2) refl in
-    Reads-fails (Are IsU64 c.args.count) words_text (λ x. (x.0.items, x.1.now)) c.args.bytes.now c.from_residual.result c.in_err-x.field-0.0
-    (EndsWithin IsU64 u64_text c.loop-i.rest.now) same c.in_err-x.ensures
-    (Came-short IsU64 u64_text (λ x y s t fx fy e. u64_once x y s t fx fy e) c.args.bytes.now c.loop-i._i c.args.count c.loop-i.words.items c.loop-i.rest.now c.loop-i.invariant c.loop-i-test.true)
+    Came-fails IsU64 u64 (λ x y s t fx fy e. u64_once x y s t fx fy e) (λ x. (x.0.items, x.1.now)) c.args.bytes.now c.from_residual.result c.in_err-x.field-0.0 c.loop-i._i c.args.count c.loop-i.words.items c.loop-i.rest.now
+    c.from_residual.ensures.1 c.in_err-x.ensures c.loop-i.invariant c.loop-i-test.true

@@ -51,8 +51,8 @@ loop-r-preserved c =
           unmarked h r marks new w.marks-is (λ a s. subst (λ k. StartsIn k h r a) kind s) c.loop-r.invariant.0 c.loop-r.invariant.1
     ]
 
-pub returns-clause-ok : goal.returns-clause-ok
-returns-clause-ok c =
+pub returns : goal.returns
+returns c =
     let h = c.args.draft.now in
     let nn : c.regions-regions.result ≡ h.geometry.n = cc in
     let e : c.loop-r.r ≡ h.geometry.n = omega (arith, nn, c.loop-r-test.false, c.loop-r.auto.r-end) in

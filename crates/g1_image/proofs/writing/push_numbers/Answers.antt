@@ -1,10 +1,9 @@
-use Rattle.std.proofs.Common.{arith, rules, ◌≡◌, ◌+◌, ◌-◌, ◌*◌, ◌++◌, length, replicate, ap, ◌∙◌}
-use Rattle.std.proofs.lemmas.List.{take_all}
-use Rattle.g1_image.proofs.Words.{tail_written, numbers_text-is}
+use Rattle.std.proofs.Common.{rules, ◌≡◌, ◌+◌, ◌*◌, ◌++◌, length, ap, ◌∙◌}
+use Rattle.g1_image.proofs.Words.{tail_grown, numbers_text-is}
 use Rattle.g1_image.proofs.writing.push_numbers.Goals as goal
 
-pub returns-clause-ok : goal.returns-clause-ok
-returns-clause-ok c =
+pub returns : goal.returns
+returns c =
     let xs = c.args.xs.now in
     let n = 4 * length xs in
     let s = c.len-start.result in
@@ -12,10 +11,7 @@ returns-clause-ok c =
     let dst = c.write_u32_into.new.dst in
     let start : s ≡ length old = search rules in
     let len : c.resize.new.self.len ≡ s + n = search rules in
-    let more : s + n - c.args.out.now.len ≡ n = omega (arith, c.len-start.ensures) in
-    let items : c.resize.new.self.items ≡ old ++ replicate n 0 =
-    c.in_ok-resize.ensures.items ∙ (λ t. take_all (s + n) old (omega (arith, start)) t ++ replicate (more t) 0) in
     let whole : length c.deref_mut.result.now ≡ s + n = search rules in
     let many : length dst ≡ n = search rules in
-    tail_written s n c.resize.new.self.len old c.resize.new.self.items c.deref_mut.result.now dst start items c.deref_mut.ensures.value whole len many
+    tail_grown s n c.args.out.now.len c.resize.new.self.len old c.resize.new.self.items c.deref_mut.result.now dst c.len-start.ensures start c.in_ok-resize.ensures.items c.deref_mut.ensures.value whole len many
     ∙ ap (λ l. old ++ l) (c.write_u32_into.ensures ∙ numbers_text-is xs)

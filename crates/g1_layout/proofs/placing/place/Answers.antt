@@ -1,7 +1,7 @@
-use Rattle.std.proofs.Common.{◌/◌, ◌<◌, ◌≤◌, All, Contains, length, subst, sym, ap, ◌∙◌, arith}
+use Rattle.std.proofs.Common.{◌/◌, ◌<◌, ◌≤◌, ◌^◌, All, Contains, length, subst, sym, ap, ◌∙◌, arith}
 use Rattle.g1_words.specs.Layout.{free_regions, need}
 use Rattle.g1_layout.proofs.Conditions.{can_lay, set_in_heap}
-use Rattle.g1_layout.proofs.Running.{count_places}
+use Rattle.g1_layout.proofs.Running.{count_places, places_low}
 use Rattle.g1_layout.proofs.placing.place.Goals as goal
 
 pub need-need-requires : goal.need-need-requires
@@ -27,4 +27,12 @@ new-requires-clause-one_each c =
     let l = c.args.survivors.now in
     let valid = c.geometry-geometry.ensures.valid in
     let room : need h l ≤ length (free_regions h) = omega (arith, c.if-need-free.false, c.need-need.ensures, c.free_count-free.ensures) in
-    ap length (c.deref-4.ensures.value ∙ c.in_ok-places.ensures.ok) ∙ count_places h l (omega (arith, valid.limits.w_least)) (can_lay h c.args.set.now l valid c.requires) room
+    ap length (c.deref-4.ensures.value ∙ c.in_ok-places.ensures) ∙ count_places h l (omega (arith, valid.limits.w_least)) (can_lay h c.args.set.now l valid c.requires) room
+
+pub new-requires-clause-low : goal.new-requires-clause-low
+new-requires-clause-low c =
+    let h = c.args.heap.now in
+    let l = c.args.survivors.now in
+    let valid = c.geometry-geometry.ensures.valid in
+    let room : need h l ≤ length (free_regions h) = omega (arith, c.if-need-free.false, c.need-need.ensures, c.free_count-free.ensures) in
+    subst (All (λ p. p < 2 ^ 24)) (sym (c.deref-4.ensures.value ∙ c.in_ok-places.ensures)) (places_low h l (omega (arith, valid.limits.w_least)) (can_lay h c.args.set.now l valid c.requires) room valid.limits.words_most)

@@ -1,23 +1,45 @@
-use Rattle.std.proofs.Common.{◌/◌, length, get_or, ap, sym, ◌∙◌, arith}
-use Rattle.g1_layout.proofs.Running.{Running-end, count_places}
+use Rattle.std.proofs.Common.{◌≡◌, ◌+◌, ◌-◌, ◌*◌, ◌/◌, ◌<◌, ℕ, length, get_or, refl, ap, sym, ◌∙◌, arith}
+use Rattle.g1_layout.proofs.Running.{Running-end, Running-last, count_places}
 use Rattle.g1_layout.proofs.placing.run_from.Goals as goal
+use Rattle.g1_layout.proofs.placing.run_from.Goals.{Left-loop-to, then-loop-to-test+else-region_of-from, else-loop-to-test}
 
 pub bounds-survivors-to : goal.bounds-survivors-to
 bounds-survivors-to c =
     let h = c.args.heap.now in
     let l = c.args.survivors.now in
     let count = ap length c.requires.placed ∙ count_places h l (omega (arith, c.geometry-geometry.ensures.valid.limits.w_least)) c.requires.fits c.requires.room in
-    omega (arith, count, c.loop-to-test.true)
+    let last = Running-last h c.args.places.now c.args.region c.args.from c.loop-to.to c.loop-to.invariant c.if-from-to.true in
+    omega (arith, count, last.0)
 
-pub returns-else-region_of-from : goal.returns-else-region_of-from
-returns-else-region_of-from c =
-    let ps = c.args.places.now in
-    Running-end c.args.heap.now c.args.survivors.now ps c.args.region c.args.from c.loop-to.to c.loop-to.end (omega (arith, c.geometry-geometry.ensures.valid.limits.w_least)) c.requires.fits c.requires.room c.requires.placed
-    c.loop-to.invariant
-    (λ lt here. c.if-region_of-from.false (c.region_of.ensures ∙ ap (λ g. get_or ps c.loop-to.to 0 / g.w) c.geometry-geometry.ensures.same ∙ here ∙ sym c.from.ensures))
+pub overflow_sub-end-then-from-to : goal.overflow_sub-end-then-from-to
+overflow_sub-end-then-from-to c =
+    let last = Running-last c.args.heap.now c.args.places.now c.args.region c.args.from c.loop-to.to c.loop-to.invariant c.if-from-to.true in
+    let start = c.start-start.ensures.value ∙ ap (λ g. c.args.region * g.w) c.geometry-geometry.ensures.same in
+    omega (arith, start, last.1)
 
-pub returns-after-loop-to : goal.returns-after-loop-to
-returns-after-loop-to c =
-    Running-end c.args.heap.now c.args.survivors.now c.args.places.now c.args.region c.args.from c.loop-to.to c.loop-to.end (omega (arith, c.geometry-geometry.ensures.valid.limits.w_least)) c.requires.fits c.requires.room c.requires.placed
+-- the loop ends where no survivor is left or the next one stands elsewhere
+stops : (c : Left-loop-to) → c.loop-to.to < length c.args.places.now → get_or c.args.places.now c.loop-to.to 0 / c.args.heap.now.geometry.w ≡ c.args.region → ⊥
+stops c lt here = elim c.loop-to-test.branch [
+  | then-loop-to-test+else-region_of-from w ↦
+      w.if-region_of-from.false (w.region_of.ensures ∙ ap (λ g. get_or c.args.places.now c.loop-to.to 0 / g.w) c.geometry-geometry.ensures.same ∙ here ∙ sym w.from.ensures)
+  | else-loop-to-test w ↦ absurd (omega (arith, lt, w.loop-to-test.false))
+]
+
+pub returns-then-from-to : goal.returns-then-from-to
+returns-then-from-to c =
+    let h = c.args.heap.now in
+    let start = c.start-start.ensures.value ∙ ap (λ g. c.args.region * g.w) c.geometry-geometry.ensures.same in
+    let before : ℕ = get_or c.args.places.now (c.loop-to.to - 1) 0 in
+    Running-end h c.args.survivors.now c.args.places.now c.args.region c.args.from c.loop-to.to (before + c.size_at.result - c.start-start.result) (omega (arith, c.geometry-geometry.ensures.valid.limits.w_least))
+    c.requires.fits c.requires.room c.requires.placed c.loop-to.invariant
+    (λ e. absurd (omega (arith, e, c.if-from-to.true)))
+    (λ lt. λ t. before + c.size_at.ensures t - start t)
+    (stops (goal.at.returns-then-from-to c).Left-loop-to)
+
+pub returns-else-from-to : goal.returns-else-from-to
+returns-else-from-to c =
+    Running-end c.args.heap.now c.args.survivors.now c.args.places.now c.args.region c.args.from c.loop-to.to 0 (omega (arith, c.geometry-geometry.ensures.valid.limits.w_least)) c.requires.fits c.requires.room c.requires.placed
     c.loop-to.invariant
-    (λ lt here. absurd (omega (arith, lt, c.loop-to-test.false)))
+    (λ e. refl)
+    (λ lt. absurd (omega (arith, lt, c.if-from-to.false)))
+    (stops (goal.at.returns-else-from-to c).Left-loop-to)

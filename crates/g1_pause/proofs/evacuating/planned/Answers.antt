@@ -7,15 +7,16 @@ use Rattle.g1_words.specs.Heap.{regions}
 use Rattle.g1_image.specs.Image.{Image}
 use Rattle.g1_image.specs.Cards.{Covered, IsTracked, refined}
 use Rattle.g1_copy.specs.Plans.{IsPauseOf}
-use Rattle.g1_frontier.proofs.Leading.{sets_one_each}
+use Rattle.g1_rem.specs.EntryCards.{cards_into}
+use Rattle.g1_frontier.proofs.Leading.{remembered_one_each}
 use Rattle.g1_pause.specs.Answer.{IsEvacuated}
 use Rattle.g1_pause.proofs.Planning.{cards_there, set_there, set_leads, set_places, set_refused, set_planned}
 use Rattle.g1_pause.proofs.evacuating.planned.Goals as goal
 
-pub cards_into-requires-clause-sets : goal.cards_into-requires-clause-sets
-cards_into-requires-clause-sets g c =
-    sets_one_each (λ s. s.items) c.args.tracked.now c.image-image.result.now c.heap-heap.result.now c.deref-2.result.now c.image-image.ensures.same c.heap-heap.ensures.same
-    (ap (map (λ s. s.items)) c.deref-2.ensures.value ∙ c.in_ok-sets.ensures.ok)
+pub cards_into-requires-clause-remembered : goal.cards_into-requires-clause-remembered
+cards_into-requires-clause-remembered g c =
+    remembered_one_each (λ s. s.items) c.args.tracked.now c.image-image.result.now c.heap-heap.result.now c.deref-2.result.now c.image-image.ensures.same c.heap-heap.ensures.same
+    (ap (map (λ s. s.items)) c.deref-2.ensures.value ∙ c.in_ok-remembered.ensures.ok)
 
 pub cards_into-requires-clause-set : goal.cards_into-requires-clause-set
 cards_into-requires-clause-set g c =
@@ -37,18 +38,18 @@ discover-requires-clause-outside g c κs within =
     let i : Image = c.image-image.result.now in
     let tracked : IsTracked i = record { image = c.heap-heap.ensures.valid; covered = subst Covered (sym c.image-image.ensures.same) c.image-image.ensures.covered } in
     (set_leads c.args.settings.now.cost c.args.settings.now.choice i c.heap-heap.result.now c.heap-heap.ensures.same c.in_ok-set.set.items c.in_ok-set.ensures.set
-    c.deref-5.result.now c.deref-4.result.now c.deref-3.result.now (map (λ s. s.items) c.deref-2.result.now) tracked c.cards_lead_in.ensures.refined c.refined_sets_lead_in.ensures.window
+    c.deref-5.result.now c.deref-4.result.now c.deref-3.result.now (map (λ s. s.items) c.deref-2.result.now) tracked c.cards_lead_in.ensures.refined c.refined_lead_in.ensures.window
     (c.deref-5.ensures.value ∙ c.in_ok-cards.ensures.ok) c.deref-3.ensures.value c.deref-4.ensures.value
-    (ap (map (λ s. s.items)) c.deref-2.ensures.value ∙ c.in_ok-sets.ensures.ok ∙ ap (λ (j : Image). map (refined j) (regions j.heap)) (sym c.image-image.ensures.same))).0
+    (ap (map (λ s. s.items)) c.deref-2.ensures.value ∙ c.in_ok-remembered.ensures.ok ∙ ap (λ (j : Image). map (refined j) (regions j.heap)) (sym c.image-image.ensures.same))).0
 
 pub discover-requires-clause-lead_in : goal.discover-requires-clause-lead_in
 discover-requires-clause-lead_in g c κs within =
     let i : Image = c.image-image.result.now in
     let tracked : IsTracked i = record { image = c.heap-heap.ensures.valid; covered = subst Covered (sym c.image-image.ensures.same) c.image-image.ensures.covered } in
     (set_leads c.args.settings.now.cost c.args.settings.now.choice i c.heap-heap.result.now c.heap-heap.ensures.same c.in_ok-set.set.items c.in_ok-set.ensures.set
-    c.deref-5.result.now c.deref-4.result.now c.deref-3.result.now (map (λ s. s.items) c.deref-2.result.now) tracked c.cards_lead_in.ensures.refined c.refined_sets_lead_in.ensures.window
+    c.deref-5.result.now c.deref-4.result.now c.deref-3.result.now (map (λ s. s.items) c.deref-2.result.now) tracked c.cards_lead_in.ensures.refined c.refined_lead_in.ensures.window
     (c.deref-5.ensures.value ∙ c.in_ok-cards.ensures.ok) c.deref-3.ensures.value c.deref-4.ensures.value
-    (ap (map (λ s. s.items)) c.deref-2.ensures.value ∙ c.in_ok-sets.ensures.ok ∙ ap (λ (j : Image). map (refined j) (regions j.heap)) (sym c.image-image.ensures.same))).1
+    (ap (map (λ s. s.items)) c.deref-2.ensures.value ∙ c.in_ok-remembered.ensures.ok ∙ ap (λ (j : Image). map (refined j) (regions j.heap)) (sym c.image-image.ensures.same))).1
 
 pub place-requires : goal.place-requires
 place-requires g c =
@@ -70,14 +71,21 @@ returns-in_err-plan-clause-refused g c =
     subst (λ r. IfErr r (λ e. (e ≡ Memory) ⊎ IsEvacuated c.args.settings.now.cost c.args.settings.now.choice c.args.tracked.now (Err e))) (sym same)
     (subst (λ (j : Image). (fault ≡ Memory) ⊎ IsEvacuated c.args.settings.now.cost c.args.settings.now.choice j (Err fault)) c.image-image.ensures.same told)
 
-pub prepare-requires-clause-plan : goal.prepare-requires-clause-plan
-prepare-requires-clause-plan g c κs within =
+pub prepare_on-requires-clause-plan : goal.prepare_on-requires-clause-plan
+prepare_on-requires-clause-plan g c κs within =
     let i : Image = c.image-image.result.now in
     let tracked : IsTracked i = record { image = c.heap-heap.ensures.valid; covered = subst Covered (sym c.image-image.ensures.same) c.image-image.ensures.covered } in
     subst (λ (j : Image). IsPauseOf j.heap c.deref-9.result.now c.in_ok-plan.plan) c.image-image.ensures.same
     (set_planned c.args.settings.now.cost c.args.settings.now.choice i c.heap-heap.result.now c.heap-heap.ensures.same c.in_ok-set.set.items c.in_ok-set.ensures.set
     c.deref-6.result.now c.deref-4.result.now c.deref-9.result.now c.deref-7.result.now c.in_ok-survivors.survivors.items c.in_ok-plan.plan c.place.result tracked c.placeable.ensures
     c.deref-6.ensures.value c.deref-4.ensures.value c.deref-9.ensures.value c.deref-7.ensures.value c.in_ok-survivors.ensures.ok c.in_ok-plan.was c.in_ok-plan.ensures.plan c.place.ensures.room)
+
+pub prepare_on-requires-clause-cards : goal.prepare_on-requires-clause-cards
+prepare_on-requires-clause-cards g c κs within =
+    let he : c.heap-heap.result.now ≡ c.args.tracked.now.heap = c.heap-heap.ensures.same ∙ ap (λ (j : Image). j.heap) c.image-image.ensures.same in
+    let refined_same : c.deref-2.result.now ≡ c.deref-8.result.now = c.deref-2.ensures.value ∙ sym c.deref-8.ensures.value in
+    let set_same : c.deref-3.result.now ≡ c.deref-9.result.now = c.deref-3.ensures.value ∙ sym c.deref-9.ensures.value in
+    c.deref-10.ensures.value ∙ c.in_ok-cards.ensures.ok ∙ (λ q. cards_into (he q) (map (λ s. s.items) (refined_same q)) (set_same q))
 
 pub report_of-requires : goal.report_of-requires
 report_of-requires g c =

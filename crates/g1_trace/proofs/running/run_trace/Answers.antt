@@ -10,7 +10,7 @@ use Rattle.g1_trace.specs.Mutator.{IsStep}
 use Rattle.g1_trace.specs.Views.{Shows}
 use Rattle.g1_trace.specs.Run.{Replies, IsRun, empty_image, empty_store}
 use Rattle.g1_trace.specs.TraceText.{sizes}
-use Rattle.g1_trace.proofs.Leads.{leads_start, leads_on, leads_end}
+use Rattle.g1_trace.proofs.GoesOn.{leads_start, leads_on, leads_end}
 use Rattle.g1_trace.proofs.running.run_trace.Goals as goal
 
 pub loop-command-init : goal.loop-command-init

@@ -26,22 +26,22 @@ none_fits p d fits below =
     omega (arith, fits.fixed, fits.dirty, product)
 
 -- what was chosen is within the budget, or it is nothing
-total_fits : (p : Cost) (h : Heap) (sets : List (List ℕ)) (lives : List ℕ) (d budget : ℕ) (set : List ℕ) → IsCost p → d < 2 ^ 64 → budget < 2 ^ 64
-    → (0 < length set → pause_cost p h sets lives d set ≤ budget) → total p d (map (cost_of p h sets lives) set) < 2 ^ 128
-total_fits p h sets lives d budget [] fits below some within = none_fits p d fits below
-total_fits p h sets lives d budget (r ∷ set) fits below some within =
-    let paid : total p d (map (cost_of p h sets lives) (r ∷ set)) ≤ budget = within (omega arith) in
+total_fits : (p : Cost) (h : Heap) (remembered : List (List ℕ)) (lives : List ℕ) (d budget : ℕ) (set : List ℕ) → IsCost p → d < 2 ^ 64 → budget < 2 ^ 64
+    → (0 < length set → pause_cost p h remembered lives d set ≤ budget) → total p d (map (cost_of p h remembered lives) set) < 2 ^ 128
+total_fits p h remembered lives d budget [] fits below some within = none_fits p d fits below
+total_fits p h remembered lives d budget (r ∷ set) fits below some within =
+    let paid : total p d (map (cost_of p h remembered lives) (r ∷ set)) ≤ budget = within (omega arith) in
     omega (arith, paid, some)
 
 pub total-requires : goal.total-requires
 total-requires c =
     let p = c.args.parameters.now in
     let h = c.args.heap.now in
-    let sets : List (List ℕ) = map (λ s. s.items) c.args.sets.now in
+    let remembered : List (List ℕ) = map (λ s. s.items) c.args.remembered.now in
     let lives = c.args.live.now in
     let d = c.args.dirty in
     let set = c.args.set.now in
-    let same : c.deref.result.now ≡ map (cost_of p h sets lives) set = c.deref.ensures.value ∙ c.in_ok-costs.ensures in
+    let same : c.deref.result.now ≡ map (cost_of p h remembered lives) set = c.deref.ensures.value ∙ c.in_ok-costs.ensures in
     subst (λ xs. total p d xs < 2 ^ 128) (sym same)
-    (total_fits p h sets lives d c.args.budget set c.requires.parameters (omega (arith, c.ranges.dirty.fits)) (omega (arith, c.ranges.budget.fits))
-    (c.bought.ensures.within_budget p h sets lives d c.args.budget set c.requires.chosen))
+    (total_fits p h remembered lives d c.args.budget set c.requires.parameters (omega (arith, c.ranges.dirty.fits)) (omega (arith, c.ranges.budget.fits))
+    (c.bought.ensures.within_budget p h remembered lives d c.args.budget set c.requires.chosen))

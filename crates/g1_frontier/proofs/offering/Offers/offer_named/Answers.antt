@@ -14,13 +14,13 @@ returns-in_ok-keep_if-in-Some c =
     let rank : ℕ = c.args.base + c.args.offset in
     let e : c.args.word ≡ a + 1 = omega (arith, c.if-word-eq0.false) in
     let f = c.in-Some.ensures.found in
-    let t : Holder = record { seat = c.offer-lowered.new.seat; kept = c.keep_if.new.kept } in
+    let t : Holder = record { seat = c.offer-answered_true.new.seat; kept = c.keep_if.new.kept } in
     subst (λ ps. HasTried (place_in s) ps c.args.holder.now t) (sym (aims_inside s.heap.now s.window.now rank c.args.word a e f.0))
-    (tried_one (place_in s) rank a c.offer-lowered.result c.args.holder.now t
-    (ap (λ (h : Hand). h.offers) c.offer-lowered.ensures.offered ∙ ap (λ p. c.args.holder.now.seat.hand.offers ++ offer p rank c.offer-lowered.result ∷ []) f.1)
+    (tried_one (place_in s) rank a c.offer-answered_true.result c.args.holder.now t
+    (ap (λ (h : Hand). h.offers) c.offer-answered_true.ensures.offered ∙ ap (λ p. c.args.holder.now.seat.hand.offers ++ offer p rank c.offer-answered_true.result ∷ []) f.1)
     c.in_ok-keep_if-in-Some.ensures
-    (c.offer-lowered.ensures.table ∙ sym c.requires.seat)
-    (ap (λ (h : Hand). h.shares) c.offer-lowered.ensures.offered))
+    (c.offer-answered_true.ensures.table ∙ sym c.requires.seat)
+    (ap (λ (h : Hand). h.shares) c.offer-answered_true.ensures.offered))
 
 pub returns-in-None : goal.returns-in-None
 returns-in-None c =

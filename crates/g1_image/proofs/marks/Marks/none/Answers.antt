@@ -3,7 +3,7 @@ use Rattle.g1_image.specs.Bits.{marks_of}
 use Rattle.g1_image.proofs.Bits.{marks_of-none}
 use Rattle.g1_image.proofs.marks.Marks.none.Goals as goal
 
-pub returns-clause-ok : goal.returns-clause-ok
-returns-clause-ok c =
+pub returns : goal.returns
+returns c =
     let words : c.in_ok-vec.field-0.items ≡ replicate (c.args.count / 64 + 1) 0 = search rules in
     ap (marks_of c.args.count) words ∙ marks_of-none c.args.count (c.args.count / 64 + 1) (omega arith)

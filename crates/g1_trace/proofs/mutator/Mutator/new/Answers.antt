@@ -15,7 +15,7 @@ invariant_of-result c =
     let words : c.in_ok-vec.field-0.items ≡ replicate (g.n * g.w) 0 = c.in_ok-vec.ensures.items_if_clones_equal (λ y e. e) ∙ ap (λ m. replicate m 0) total in
     let regions : c.in_ok-vec-2.field-0.items ≡ replicate g.n free_region = c.in_ok-vec-2.ensures.items_if_clones_equal (λ y e. e) ∙ ap (λ m. replicate m free_region) c.regions-regions.ensures.value in
     let roots : c.in_ok-vec-3.field-0.items ≡ replicate c.args.roots 0 = c.in_ok-vec-3.ensures.items_if_clones_equal (λ y e. e) in
-    let sets : map (λ s. s.items) c.in_ok-no_sets.field-0.items ≡ replicate {A = List ℕ} g.n [] = c.in_ok-no_sets.ensures.ok ∙ ap (λ m. replicate {A = List ℕ} m []) c.regions-regions.ensures.value in
-    let made : (ws : List ℕ) (qs : List Region) (rs : List ℕ) (ss : List (List ℕ)) (log : List ℕ) → Image = λ ws qs rs ss log. record { heap = record { geometry = g; words = ws; regions = qs; roots = rs; current = None }; sets = ss; log = log } in
-    let same : made c.in_ok-vec.field-0.items c.in_ok-vec-2.field-0.items c.in_ok-vec-3.field-0.items (map (λ s. s.items) c.in_ok-no_sets.field-0.items) c.new.result.keys ≡ empty_image g c.args.roots = λ t. made (words t) (regions t) (roots t) (sets t) (c.new.ensures.empty t) in
+    let remembered : map (λ s. s.items) c.in_ok-no_remembered.field-0.items ≡ replicate {A = List ℕ} g.n [] = c.in_ok-no_remembered.ensures.ok ∙ ap (λ m. replicate {A = List ℕ} m []) c.regions-regions.ensures.value in
+    let made : (ws : List ℕ) (qs : List Region) (rs : List ℕ) (ss : List (List ℕ)) (log : List ℕ) → Image = λ ws qs rs ss log. record { heap = record { geometry = g; words = ws; regions = qs; roots = rs; current = None }; remembered = ss; log = log } in
+    let same : made c.in_ok-vec.field-0.items c.in_ok-vec-2.field-0.items c.in_ok-vec-3.field-0.items (map (λ s. s.items) c.in_ok-no_remembered.field-0.items) c.new.result.keys ≡ empty_image g c.args.roots = λ t. made (words t) (regions t) (roots t) (remembered t) (c.new.ensures.empty t) in
     subst Covered (sym same) (start_tracked g c.args.roots c.regions-regions.ensures.limits (omega (arith, c.if-roots-gt65536.false))).covered

@@ -8,7 +8,7 @@ use Rattle.g1_trace.specs.Mutator.{heap_view, IsEffect, IsStep}
 use Rattle.g1_trace.specs.Store.{Store, IsPlainStep}
 use Rattle.g1_trace.specs.Views.{EffectFits, Shows}
 use Rattle.g1_trace.proofs.Views.{answer_fits}
-use Rattle.g1_trace.proofs.Leads.{IfOk-weaken}
+use Rattle.g1_trace.proofs.GoesOn.{IfOk-weaken}
 use Rattle.g1_trace.proofs.mutator.Mutator.step.Goals as goal
 
 pub carry_out-tracked-requires-clause-fits : goal.carry_out-tracked-requires-clause-fits

@@ -1,0 +1,21 @@
+//! What the programs have in common: their words, the values among them, the streams, and how a
+//! refusal is told.
+//!
+//! 1. `words` gives the words behind a program's name, as text.
+//! 2. `number`, `region` and `regions` read the whole numbers among the values that clap found; a
+//!    `Misuse` is told with the usage of its command.
+//! 3. `read_all` reads the whole input, `deliver` writes the whole answer.
+//! 4. `refuse` tells a refusal, in one write, and gives its exit status.
+#![tactic(auto)]
+
+mod arguments;
+mod refusal;
+mod streams;
+#[cfg(test)]
+mod tests;
+mod values;
+
+pub use arguments::words;
+pub use refusal::{Refusal, refuse, status};
+pub use streams::{deliver, read_all};
+pub use values::{Argument, Misuse, explain, number, region, regions, whole};

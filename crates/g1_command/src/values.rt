@@ -1,0 +1,142 @@
+//! Whole numbers among the values that clap found.
+use crate::refusal::Refusal;
+use clap::error::ErrorKind;
+use clap::{ArgMatches, Command, Error};
+use g1_words::Fault;
+use std::alloc::{AllocError, AllocFailed, Global};
+
+/// An argument that takes whole numbers: its name for clap, how messages show it, and the range that
+/// they tell.
+#[derive(Debug, Clone, Copy)]
+pub struct Argument {
+    pub id: &'static str,
+    pub shown: &'static str,
+    pub range: &'static str,
+}
+
+impl Argument {
+    /// A value that is no number of this argument's.
+    pub fn refuse(&self, alloc: Global, value: &str) -> Misuse {
+        let Argument { shown, range, .. } = *self;
+        match format!(in alloc;
+            "invalid value '{value}' for '{shown}': not a whole number ({range})"
+        ) {
+            Ok(message) => Misuse::Value(message),
+            Err(_) => Misuse::Memory,
+        }
+    }
+}
+
+/// Why the values of a command are no request.
+#[derive(Debug, Drop)]
+pub enum Misuse {
+    /// A value is wrong, as this message tells.
+    Value(String),
+    /// The machine refused memory.
+    Memory,
+}
+
+impl From<AllocError> for Misuse {
+    fn from(_error: AllocError) -> Misuse {
+        Misuse::Memory
+    }
+}
+
+impl<T: Drop> From<AllocFailed<T>> for Misuse {
+    fn from(_error: AllocFailed<T>) -> Misuse {
+        Misuse::Memory
+    }
+}
+
+impl Misuse {
+    /// The refusal, with the usage of the command whose values these are.
+    pub fn refusal(self, alloc: Global, program: &str, command: Command<'_>) -> Refusal {
+        match self {
+            Misuse::Value(message) => match with_usage(alloc, program, command, message.as_str()) {
+                Ok(text) => Refusal::usage(text),
+                Err(_) => Refusal::Fault(Fault::Memory),
+            },
+            Misuse::Memory => Refusal::Fault(Fault::Memory),
+        }
+    }
+}
+
+fn with_usage(
+    alloc: Global,
+    program: &str,
+    command: Command<'_>,
+    message: &str,
+) -> Result<String, AllocError> {
+    let name = command.get_name();
+    let path = format!(in alloc; "{program} {name}")?;
+    let usage = command.bin_name(path.as_str())?.render_usage()?;
+    format!(in alloc; "error: {message}\n\n{usage}\n\nFor more information, try '{path} --help'.\n")
+}
+
+/// What clap says in place of matches: a text that was asked for, or why the words are no request.
+pub fn explain(alloc: Global, error: &Error) -> Result<String, Refusal> {
+    if error.kind() == ErrorKind::OutOfMemory {
+        return Err(Refusal::Fault(Fault::Memory));
+    }
+    let text = format!(in alloc; "{error}")?;
+    if error.use_stderr() {
+        Err(Refusal::usage(text))
+    } else {
+        Ok(text)
+    }
+}
+
+/// A whole number in decimal digits alone. clap would take a sign.
+pub fn whole(text: &str) -> Option<u64> {
+    if !text.bytes().all(|b| b.is_ascii_digit()) {
+        return None;
+    }
+    text.parse::<u64>().ok()
+}
+
+/// The number of an argument, where it has one.
+pub fn number(
+    alloc: Global,
+    values: &ArgMatches<'_>,
+    argument: &Argument,
+) -> Result<Option<u64>, Misuse> {
+    match values.get_str(argument.id) {
+        None => Ok(None),
+        Some(text) => match whole(text) {
+            Some(value) => Ok(Some(value)),
+            None => Err(argument.refuse(alloc, text)),
+        },
+    }
+}
+
+/// The region that an argument names, where it has one. It need not be one of an image's.
+pub fn region(
+    alloc: Global,
+    values: &ArgMatches<'_>,
+    argument: &Argument,
+) -> Result<Option<u32>, Misuse> {
+    match values.get_str(argument.id) {
+        None => Ok(None),
+        Some(text) => Ok(Some(region_in(alloc, argument, text)?)),
+    }
+}
+
+/// The regions that an argument names. They need not be those of an image.
+pub fn regions(
+    alloc: Global,
+    values: &ArgMatches<'_>,
+    argument: &Argument,
+) -> Result<Vec<u32>, Misuse> {
+    let mut regions = Vec::new(alloc);
+    for text in values.get_strs(argument.id).unwrap_or(&[]) {
+        regions.push(region_in(alloc, argument, text)?)?;
+    }
+    Ok(regions)
+}
+
+fn region_in(alloc: Global, argument: &Argument, text: &str) -> Result<u32, Misuse> {
+    match whole(text).map(u32::try_from) {
+        Some(Ok(region)) => Ok(region),
+        _ => Err(argument.refuse(alloc, text)),
+    }
+}

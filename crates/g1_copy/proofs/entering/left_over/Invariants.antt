@@ -1,7 +1,0 @@
-use Rattle.std.proofs.Common.{◌≡◌, filter}
-use Rattle.std.specs.List.{range_with_len}
-use Rattle.g1_copy.specs.Cards.{is_left}
-use Rattle.g1_copy.proofs.entering.left_over.Given as goal
-
-abbrev pub invariant-loop-card : goal.invariant-loop-card
-invariant-loop-card l = l.left.items ≡ filter (is_left l.heap l.cards l.regions) (range_with_len 0 l.card)

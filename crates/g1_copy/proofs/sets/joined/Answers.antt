@@ -1,9 +1,0 @@
-use Rattle.std.proofs.Common.{subst, sym, ◌∙◌}
-use Rattle.std.specs.List.Sorted.{IsStrictlyIncreasing}
-use Rattle.std.proofs.lemmas.List.Kept.{IsStrictlyIncreasing-filter}
-use Rattle.g1_copy.specs.Sets.{stays}
-use Rattle.g1_copy.proofs.sets.joined.Goals as goal
-
-pub merged-requires-in-Kept-clause-left : goal.merged-requires-in-Kept-clause-left
-merged-requires-in-Kept-clause-left c =
-    subst IsStrictlyIncreasing (sym (c.deref.ensures.value ∙ c.in_ok-kept-in-Kept.ensures.ok)) (IsStrictlyIncreasing-filter (stays c.args.heap.now c.args.fates.now) c.args.refined.now c.requires.refined)

@@ -1,0 +1,27 @@
+use Rattle.std.proofs.Common.{arith, ◌≡◌, ◌*◌, ◌-◌, min, sym, ◌∙◌, eq-eqb, eqb-true}
+use Rattle.g1_words.specs.Heap.{region}
+use Rattle.g1_image.proofs.Tests.{never}
+use Rattle.g1_image.proofs.Runs.{continues, continued_by}
+use Rattle.g1_image.proofs.shape.continuation_shaped.Goals as goal
+use Rattle.g1_image.proofs.shape.continuation_shaped.Goals.{then-left-region_words, else-left-region_words}
+
+pub returns-then-before-size : goal.returns-then-before-size
+returns-then-before-size c = never (λ s.
+    let h = c.args.draft.now in
+    let w : c.region_words-region_words.result ≡ h.geometry.w = cc in
+    let e : c.from.result * c.region_words-region_words.result ≡ (c.args.r - c.args.first) * h.geometry.w = λ t. c.from.ensures t * w t in
+    let k = continues h c.args.r c.args.first c.args.size c.requires.latest c.requires.shaped (omega arith) s in
+    omega (arith, e, k.0, c.if-before-size.true))
+
+pub returns : goal.returns
+returns c =
+    let h = c.args.draft.now in
+    let w : c.region_words-region_words.result ≡ h.geometry.w = cc in
+    let e : c.from.result * c.region_words-region_words.result ≡ (c.args.r - c.args.first) * h.geometry.w = λ t. c.from.ensures t * w t in
+    let top : c.from-top.result ≡ (region h c.args.r).top = cc in
+    let least : c.if-left-region_words.least ≡ min h.geometry.w (c.args.size - (c.args.r - c.args.first) * h.geometry.w) =
+    elim c.if-left-region_words.branch [ then-left-region_words b ↦ omega (arith, b.least-is, b.if-left-region_words.true, e, w) | else-left-region_words b ↦ omega (arith, b.least-is, b.if-left-region_words.false, e, w) ] in (
+      (λ t. continued_by h c.args.r c.args.first c.args.size c.requires.latest c.requires.shaped (omega arith) (omega (arith, e, c.if-before-size.false))
+          (sym top ∙ eqb-true c.from-top.result c.if-left-region_words.least t ∙ least)),
+      (λ s. eq-eqb c.from-top.result c.if-left-region_words.least (top ∙ (continues h c.args.r c.args.first c.args.size c.requires.latest c.requires.shaped (omega arith) s).1 ∙ sym least)),
+    )

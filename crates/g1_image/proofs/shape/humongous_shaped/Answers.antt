@@ -1,0 +1,30 @@
+use Rattle.std.proofs.Common.{◌≡◌, ◌+◌, ◌*◌, ◌^◌, slice_index, min, sym, subst, ◌∙◌, arith}
+use Rattle.g1_words.specs.Heap.{region, start}
+use Rattle.g1_words.specs.Valid.{IsWholeRun}
+use Rattle.g1_image.proofs.Tiled.{header_is}
+use Rattle.g1_image.proofs.shape.humongous_shaped.Goals as goal
+use Rattle.g1_image.proofs.shape.humongous_shaped.Goals.{then-o-region_words-2, else-o-region_words-2}
+
+pub returns : goal.returns
+returns c =
+    let h = c.args.draft.now in
+    let r = c.args.r in
+    let q = c.header-o.result in
+    let w : c.region_words-region_words.result ≡ h.geometry.w = cc in
+    let place : c.start.result ≡ start h r = cc in
+    let word : slice_index h.words (start h r) ≡ q.size * 2 ^ 32 + q.refs = sym (λ t. slice_index (c.words.ensures.same t) (place t)) ∙ c.header-o.ensures.word in
+    let at : q.at ≡ start h r = c.header-o.ensures.at ∙ place in
+    let top : c.from-top.result ≡ (region h r).top = cc in
+    let least : c.if-o-region_words-2.least ≡ min h.geometry.w q.size = elim c.if-o-region_words-2.branch [
+      | then-o-region_words-2 b ↦ omega (arith, b.least-is, b.if-o-region_words-2.true, w)
+      | else-o-region_words-2 b ↦ omega (arith, b.least-is, b.if-o-region_words-2.false, w)
+    ] in (
+      (λ t. (
+        q,
+        record { kind = c.requires.kind; at = at; object = record { header = (λ u. slice_index h.words (at u)) ∙ word; refs_fit = c.if-o.false; size_fits = c.header-o.ensures.size } },
+        omega (arith, w, c.if-o-region_words.false),
+        omega (arith, top, least, c.if-top-least.false),
+        c.is_run.ensures.0 t,
+      )),
+      (λ s. c.is_run.ensures.1 (subst (λ n. IsWholeRun h r n) (header_is h.words (start h r) q word c.header-o.ensures.refs c.header-o.ensures.size s.0 s.1.at s.1.object).0 s.4)),
+    )

@@ -1,0 +1,29 @@
+use Rattle.std.proofs.Common.{◌≡◌, ◌+◌, ℕ, true, false, length, filter, arith, ap, ◌∙◌}
+use Rattle.std.specs.List.{range_with_len}
+use Rattle.g1_words.specs.Heap.{is_free, kind}
+use Rattle.g1_layout.proofs.Lists.{filter_more_no, filter_more_yes, length-snoc}
+use Rattle.g1_layout.proofs.measuring.free_count.Goals as goal
+use Rattle.g1_layout.proofs.measuring.free_count.Goals.{then-is_free, else-is_free}
+
+pub loop-r-preserved : goal.loop-r-preserved
+loop-r-preserved c =
+    let h = c.args.heap.now in
+    let r = c.loop-r.r in
+    let p = λ (r : ℕ). is_free (kind h r) in
+    elim c.if-is_free.branch [
+      | then-is_free w ↦
+          let e : is_free (kind h r) ≡ true = cc in
+          let n : length (filter p (range_with_len 0 (r + 1))) ≡ length (filter p (range_with_len 0 r)) + 1 = ap length (filter_more_yes p r e) ∙ length-snoc (filter p (range_with_len 0 r)) r in
+          record { counted = omega (arith, n, w.count-is, c.loop-r.invariant.counted); few = omega (arith, w.count-is, c.loop-r.invariant.few) }
+      | else-is_free w ↦
+          let e : is_free (kind h r) ≡ false = cc in
+          let n : length (filter p (range_with_len 0 (r + 1))) ≡ length (filter p (range_with_len 0 r)) = ap length (filter_more_no p r e) in
+          record { counted = omega (arith, n, w.count-is, c.loop-r.invariant.counted); few = omega (arith, w.count-is, c.loop-r.invariant.few) }
+    ]
+
+pub returns : goal.returns
+returns c =
+    let h = c.args.heap.now in
+    let nn : c.regions-regions.result ≡ h.geometry.n = cc in
+    let e : c.loop-r.r ≡ h.geometry.n = omega (arith, nn, c.loop-r-test.false, c.loop-r.auto.r-end) in
+    c.loop-r.invariant.counted ∙ ap (λ n. length (filter (λ r. is_free (kind h r)) (range_with_len 0 n))) e

@@ -1,0 +1,24 @@
+use Rattle.g1_pause.proofs.Answered.{only_told, memory_told, text_told, only_written, written_follows}
+use Rattle.g1_pause.proofs.bytes.pause_bytes.Goals as goal
+
+pub returns-in-Ok-clause-answer : goal.returns-in-Ok-clause-answer
+returns-in-Ok-clause-answer g c =
+    text_told c.args.settings.now.cost c.args.settings.now.choice c.args.bytes.now c.in-Ok.after c.image.result.now c.encode.result c.in-Ok.ensures.answer c.image.ensures.same c.encode.ensures.ok
+
+pub returns-in-Ok-clause-only : goal.returns-in-Ok-clause-only
+returns-in-Ok-clause-only g c =
+    only_written c.args.settings.now.cost c.args.settings.now.choice c.args.bytes.now c.one_answer.ensures.answer c.encode.result (returns-in-Ok-clause-answer g c)
+
+pub returns-in-Ok-clause-follows : goal.returns-in-Ok-clause-follows
+returns-in-Ok-clause-follows g c =
+    written_follows c.args.settings.now.cost c.args.settings.now.choice c.args.bytes.now c.what_follows.ensures.answer c.encode.result (returns-in-Ok-clause-answer g c)
+
+pub returns-in-Ok-clause-fault : goal.returns-in-Ok-clause-fault
+returns-in-Ok-clause-fault g c = (memory_told c.args.settings.now.cost c.args.settings.now.choice c.args.bytes.now c.encode.result c.encode.ensures.err).0
+
+pub returns-in-Ok-clause-only_fault : goal.returns-in-Ok-clause-only_fault
+returns-in-Ok-clause-only_fault g c = (memory_told c.args.settings.now.cost c.args.settings.now.choice c.args.bytes.now c.encode.result c.encode.ensures.err).1
+
+pub returns-in-Err-clause-only_fault : goal.returns-in-Err-clause-only_fault
+returns-in-Err-clause-only_fault g c =
+    only_told c.args.settings.now.cost c.args.settings.now.choice c.args.bytes.now c.one_answer.ensures.answer c.in-Err.fault c.in-Err.ensures.fault

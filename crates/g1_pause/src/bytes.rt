@@ -1,0 +1,65 @@
+ghost use Rattle.std.specs.Prelude.{◌≡◌, ◌⊎◌, ℕ, List, Ok, Err, Result, IfOk, IfErr};
+ghost use Rattle.g1_words.specs.declared.fault.Fault.{Fault as FaultOf};
+ghost use Rattle.g1_image.specs.Image.{IsTextOf};
+ghost use Rattle.g1_pause.specs.Answer.{IsAnswer};
+ghost use Rattle.g1_pause.specs.Follows.{TextFollows};
+
+use crate::evacuating::evacuate;
+use crate::laws;
+use crate::settings::Settings;
+use g1_image::{decode, encode};
+use g1_rem::{Tracked, image, verify};
+use g1_words::Fault;
+use g1_work::Gate;
+use std::alloc::Global;
+use std::thread::Threads;
+
+/// The image after the pause of the one whose text the bytes are.
+pub(crate) fn paused<R: Threads + Sync, G: Gate + Sync>(
+    rt: &R,
+    alloc: Global,
+    bytes: &[u8],
+    settings: &Settings,
+    gate: &G,
+) -> Result<Tracked, Fault>
+    ensures answer { IfOk result (λ t. (out : List ℕ) → IsTextOf out t → IsAnswer settings.now.cost settings.now.choice bytes.now (Ok out)) }
+    ensures fault { IfErr result (λ e. (e ≡ Fault.Memory) ⊎ IsAnswer settings.now.cost settings.now.choice bytes.now (Err e)) }
+{
+    let tracked = match verify(rt, alloc, decode(alloc, bytes)?) {
+        Ok(tracked) => tracked,
+        Err((_, fault)) => return Err(fault),
+    };
+    match evacuate(rt, alloc, tracked, settings, gate) {
+        Ok((after, _)) => Ok(after),
+        Err((_, fault)) => Err(fault),
+    }
+}
+
+/// The whole pause, from the text of an image to the text of the image after: exactly the answer that
+/// the definitions give to these bytes, this choice and this cost, whatever the workers, the chunk and
+/// the gate.
+///
+/// # Errors
+///
+/// The fault of bytes that are no image's text; `Fault::Uncovered` with the lowest slot that isn't
+/// covered; `Fault::Set` and `Fault::Room` as `evacuate` tells them; `Fault::Memory`.
+pub fn pause_bytes<R: Threads + Sync, G: Gate + Sync>(
+    rt: &R,
+    alloc: Global,
+    bytes: &[u8],
+    settings: &Settings,
+    gate: &G,
+) -> Result<Vec<u8>, Fault>
+    ensures answer { IfOk result (λ v. IsAnswer settings.now.cost settings.now.choice bytes.now (Ok v.items)) }
+    ensures only { IfOk result (λ v. (y : Result (List ℕ) FaultOf) → IsAnswer settings.now.cost settings.now.choice bytes.now y → y ≡ Ok v.items) }
+    ensures follows { IfOk result (λ v. TextFollows settings.now.cost settings.now.choice bytes.now v.items) }
+    ensures fault { IfErr result (λ e. (e ≡ Fault.Memory) ⊎ IsAnswer settings.now.cost settings.now.choice bytes.now (Err e)) }
+    ensures only_fault { IfErr result (λ e. (e ≡ Fault.Memory) ⊎ ((y : Result (List ℕ) FaultOf) → IsAnswer settings.now.cost settings.now.choice bytes.now y → y ≡ Err e)) }
+{
+    laws::one_answer();
+    laws::what_follows();
+    match paused(rt, alloc, bytes, settings, gate) {
+        Ok(after) => encode(alloc, image(&after)),
+        Err(fault) => Err(fault),
+    }
+}

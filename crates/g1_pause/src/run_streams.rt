@@ -1,0 +1,47 @@
+//! A pause from a source to a sink.
+ghost use Rattle.std.specs.Prelude.{◌≡◌, IfSome, OnOk};
+ghost use Rattle.std.specs.Io.KnownBytes.{IsAtEnd};
+ghost use Rattle.g1_pause.specs.Streams.{RunGives, WritesNoFault, input_mark, output_mark};
+
+use crate::bytes::paused;
+use crate::settings::Settings;
+use crate::streams::{Sink, Source, read_to_end, write_all};
+use g1_image::encode_into;
+use g1_rem::image;
+use g1_words::Fault;
+use g1_work::Gate;
+use std::alloc::Global;
+use std::thread::Threads;
+
+/// The whole pause from a source to a sink: reads the text of an image to its end, then writes the
+/// text of the image after. A sink that keeps bytes back is not flushed.
+///
+/// # Errors
+///
+/// `Fault::Device(Device::Input)` where a read failed, `Fault::Memory`, and the refusals of
+/// `pause_bytes`: nothing was written. `Fault::Device(Device::Output)` where a write failed: a
+/// beginning of the answer was written.
+pub fn pause_run<R: Threads + Sync, I: Source, O: Sink, G: Gate + Sync>(
+    rt: &R,
+    alloc: Global,
+    reader: &mut I,
+    writer: &mut O,
+    settings: &Settings,
+    gate: &G,
+) -> Result<(), Fault>
+    ensures answer { IfSome (I.left reader.old) (λ xs. RunGives settings.now.cost settings.now.choice xs (O.written writer.old) (O.written writer.new) result) }
+    ensures end { OnOk result (IsAtEnd (I.left reader.new)) }
+    ensures unwritten { WritesNoFault (O.written writer.old) (O.written writer.new) result }
+    ensures input { I.failed reader.new ≡ input_mark (I.failed reader.old) result }
+    ensures output { O.failed writer.new ≡ output_mark (O.failed writer.old) result }
+{
+    let mut bytes = read_to_end(alloc, reader)?;
+    match paused(rt, alloc, bytes.as_slice(), settings, gate) {
+        Ok(after) => {
+            // What was read is of no more use: the answer takes its room.
+            encode_into(&mut bytes, image(&after))?;
+            write_all(writer, bytes.as_slice())
+        }
+        Err(fault) => Err(fault),
+    }
+}

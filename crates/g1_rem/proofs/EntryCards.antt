@@ -1,0 +1,161 @@
+-- Marks, and the list of those that are left.
+use Rattle.std.proofs.Common.{◌≡◌, ◌≤◌, ◌<◌, ℕ, zero, suc, ◌+◌, ◌*◌, ◌/◌, inl, inr, Bool, true, false, not, ◌&&◌, ◌||◌, List, [], ◌∷◌, ◌++◌, length, slice_index_or, set, filter, replicate, arith, refl, sym, ap, ◌∙◌, eqb, eqb-true, eq-eqb, ne_eqb, length-set, append-nil}
+use Rattle.std.specs.List.{range_with_len, list_any}
+use Rattle.std.proofs.lemmas.List.{get_or-set_same, get_or-set_other, length-replicate}
+use Rattle.std.proofs.lemmas.List.Elements.{filter-append}
+use Rattle.std.proofs.Math.Nat.{mul-le-mul_right, div-lt_iff_lt-mul}
+use Rattle.g1_words.specs.Heap.{Heap}
+use Rattle.g1_words.specs.Valid.{IsValid}
+use Rattle.g1_words.specs.Lists.{has}
+use Rattle.g1_words.specs.Survivors.{in_set}
+use Rattle.g1_words.proofs.Computed.{range_below}
+use Rattle.g1_words.proofs.Members.{In}
+use Rattle.g1_image.specs.Cards.{cards_where}
+use Rattle.g1_rem.proofs.Scan.{range_push}
+use Rattle.g1_rem.specs.Starts.{card_count}
+use Rattle.g1_rem.proofs.Marks.{cards_fill}
+use Rattle.g1_rem.specs.EntryCards.{AreMarked, cards_into, is_left, is_listed}
+
+-- a test of one more
+any_more : (p : ℕ → Bool) (xs : List ℕ) (x : ℕ) → list_any p (xs ++ x ∷ []) ≡ (list_any p xs || p x)
+any_more p [] x = or_false (p x) where
+  or_false : (b : Bool) → (b || false) ≡ (false || b)
+  or_false true = refl
+  or_false false = refl
+any_more p (y ∷ ys) x = ap (λ z. p y || z) (any_more p ys x) ∙ or_assoc (p y) (list_any p ys) (p x) where
+  or_assoc : (a b c : Bool) → (a || (b || c)) ≡ ((a || b) || c)
+  or_assoc true b c = refl
+  or_assoc false b c = refl
+
+-- no mark was set
+pub marked_none : (marks : List Bool) (test : ℕ → Bool) → ((x : ℕ) → test x ≡ false) → AreMarked test marks marks
+marked_none marks test never = record {
+  one_each = refl;
+  each = λ x lt. same (slice_index_or marks x false) (test x) (never x);
+} where
+  same : (a b : Bool) → b ≡ false → a ≡ (a || b)
+  same true b e = refl
+  same false b e = sym e
+
+-- marks set after marks
+pub marked_then : (first then both : ℕ → Bool) (old mid new : List Bool) → AreMarked first old mid → AreMarked then mid new → ((x : ℕ) → both x ≡ (first x || then x)) → AreMarked both old new
+marked_then first then both old mid new a b e = record {
+  one_each = b.one_each ∙ a.one_each;
+  each = λ x lt.
+      b.each x (omega (arith, lt, a.one_each)) ∙ ap (λ z. z || then x) (a.each x lt) ∙ or_assoc (slice_index_or old x false) (first x) (then x) ∙ ap (λ z. slice_index_or old x false || z) (sym (e x));
+} where
+  or_assoc : (a b c : Bool) → ((a || b) || c) ≡ (a || (b || c))
+  or_assoc true b c = refl
+  or_assoc false b c = refl
+
+-- one mark was set
+pub marked_one : (old : List Bool) (n : ℕ) → n < length old → AreMarked (λ x. eqb x n) old (set old n true)
+marked_one old n lt = record {
+  one_each = length-set old n true;
+  each = λ x low. by x (eqb x n) refl low;
+} where
+  or_true : (b : Bool) → true ≡ (b || true)
+  or_true true = refl
+  or_true false = refl
+
+  or_false : (b : Bool) → b ≡ (b || false)
+  or_false true = refl
+  or_false false = refl
+
+  by : (x : ℕ) (b : Bool) → eqb x n ≡ b → x < length old → slice_index_or (set old n true) x false ≡ (slice_index_or old x false || eqb x n)
+  by x true e low =
+      ap (λ y. slice_index_or (set old n true) y false) (eqb-true x n e) ∙ get_or-set_same old n true false lt
+      ∙ or_true (slice_index_or old x false) ∙ ap (λ z. slice_index_or old x false || z) (sym e)
+  by x false e low =
+      get_or-set_other old n x true false (λ s. let t : eqb x n ≡ true = eq-eqb x n s in let clash : true ≡ false = sym t ∙ e in cc)
+      ∙ or_false (slice_index_or old x false) ∙ ap (λ z. slice_index_or old x false || z) (sym e)
+
+-- a mark past the last there isn't
+pub marked_past : (old : List Bool) (n : ℕ) → length old ≤ n → AreMarked (λ x. eqb x n) old old
+marked_past old n le = record {
+  one_each = refl;
+  each = λ x low. same (slice_index_or old x false) (eqb x n) (ne_eqb x n (λ s. let e : x ≡ n = s in omega (arith, e, low, le)));
+} where
+  same : (a b : Bool) → b ≡ false → a ≡ (a || b)
+  same true b e = refl
+  same false b e = sym e
+
+-- the marks of one more of these numbers
+pub marked_more : (old mid new : List Bool) (xs : List ℕ) (n : ℕ) → AreMarked (has xs) old mid → AreMarked (λ x. eqb x n) mid new → AreMarked (has (xs ++ n ∷ [])) old new
+marked_more old mid new xs n a b = marked_then (has xs) (λ x. eqb x n) (has (xs ++ n ∷ [])) old mid new a b (λ x. any_more (λ y. eqb x y) xs n)
+
+-- the marks of one more set
+pub listed_more : (remembered : List (List ℕ)) (old mid new : List Bool) (rs : List ℕ) (r : ℕ) → AreMarked (λ c. list_any (λ r. has (slice_index_or remembered r []) c) rs) old mid
+    → AreMarked (has (slice_index_or remembered r [])) mid new → AreMarked (λ c. list_any (λ r. has (slice_index_or remembered r []) c) (rs ++ r ∷ [])) old new
+listed_more remembered old mid new rs r a b =
+    marked_then (λ c. list_any (λ r. has (slice_index_or remembered r []) c) rs) (has (slice_index_or remembered r [])) (λ c. list_any (λ r. has (slice_index_or remembered r []) c) (rs ++ r ∷ [])) old mid new a b
+    (λ c. any_more (λ r. has (slice_index_or remembered r []) c) rs r)
+
+-- marks none of which was set at first
+pub marked_from_none : (test : ℕ → Bool) (n : ℕ) (old marks : List Bool) → old ≡ replicate n false → AreMarked test old marks → (x : ℕ) → x < n → slice_index_or marks x false ≡ test x
+marked_from_none test n old marks e m x lt =
+    m.each x (omega (arith, lt, ap length e, length-replicate n false)) ∙ ap (λ z. z || test x) (ap (λ l. slice_index_or l x false) e ∙ unset n x)
+  where
+    unset : (n x : ℕ) → slice_index_or (replicate n false) x false ≡ false
+    unset zero x = refl
+    unset (suc n) zero = refl
+    unset (suc n) (suc x) = unset n x
+
+-- ---- the list of those that pass a test
+
+-- one number more
+range_more : (n : ℕ) → range_with_len 0 (n + 1) ≡ range_with_len 0 n ++ n ∷ []
+range_more n =
+    let one : n + 1 ≡ suc n = omega arith in
+    let last : 0 + n ≡ n = omega arith in
+    ap (range_with_len 0) one ∙ sym (range_push 0 n) ∙ ap (λ x. range_with_len 0 n ++ x ∷ []) last
+
+-- a number more that passes
+pub filtered_push : (p : ℕ → Bool) (n : ℕ) → p n ≡ true → filter p (range_with_len 0 (n + 1)) ≡ filter p (range_with_len 0 n) ++ n ∷ []
+filtered_push p n e = ap (filter p) (range_more n) ∙ filter-append p (range_with_len 0 n) (n ∷ []) ∙ ap (λ l. filter p (range_with_len 0 n) ++ l) (rw e refl)
+
+-- and one that doesn't
+pub filtered_pass : (p : ℕ → Bool) (n : ℕ) → p n ≡ false → filter p (range_with_len 0 (n + 1)) ≡ filter p (range_with_len 0 n)
+filtered_pass p n e = ap (filter p) (range_more n) ∙ filter-append p (range_with_len 0 n) (n ∷ []) ∙ ap (λ l. filter p (range_with_len 0 n) ++ l) (rw e refl) ∙ append-nil (filter p (range_with_len 0 n))
+
+-- tests that the members don't tell apart
+pub filter_same_in : {A : Type 0} (p q : A → Bool) (xs : List A) → ((x : A) → In xs x → p x ≡ q x) → filter p xs ≡ filter q xs
+filter_same_in p q [] f = refl
+filter_same_in p q (x ∷ xs) f = rw (f x (inl refl), filter_same_in p q xs (λ y i. f y (inr i))) refl
+
+module _ (h : Heap) (valid : IsValid h) where
+  -- a card lies in one of the regions
+  pub card_home : (c : ℕ) → c < card_count h → c * h.geometry.k / h.geometry.w < h.geometry.n
+  card_home c lt =
+      let next : (c + 1) * h.geometry.k ≤ card_count h * h.geometry.k = mul-le-mul_right h.geometry.k (let e : c + 1 ≤ card_count h = omega (arith, lt) in e) in
+      let whole = cards_fill h valid in
+      let some : 0 < h.geometry.k = omega (arith, valid.limits.k_least) in
+      let wide : 0 < h.geometry.w = omega (arith, valid.limits.w_least) in
+      (div-lt_iff_lt-mul wide).1 (omega (arith, next, whole, some))
+
+  -- the marks of a set's cards and of its regions tell the cards that lead into it
+  pub left_is : (remembered : List (List ℕ)) (set : List ℕ) (count n : ℕ) (old cards before regions : List Bool) → count ≡ card_count h → n ≡ h.geometry.n
+      → old ≡ replicate count false → AreMarked (is_listed remembered set) old cards → before ≡ replicate n false → AreMarked (has set) before regions
+      → cards_where h (is_left h cards regions) ≡ cards_into h remembered set
+  left_is remembered set count n old cards before regions e f none_cards listed none_regions inside =
+      filter_same_in (is_left h cards regions) (λ c. is_listed remembered set c && not (in_set h set (c * h.geometry.k))) (range_with_len 0 (card_count h))
+      (λ c i.
+      let lt : c < card_count h = omega (arith, range_below 0 (card_count h) c i) in
+      let home = card_home c lt in
+      let card = marked_from_none (is_listed remembered set) count old cards none_cards listed c (omega (arith, lt, e)) in
+      let region = marked_from_none (has set) n before regions none_regions inside (c * h.geometry.k / h.geometry.w) (omega (arith, home, f)) in
+      ap (λ z. z && not (slice_index_or regions (c * h.geometry.k / h.geometry.w) false)) card ∙ ap (λ z. is_listed remembered set c && not z) region)
+
+  -- one card more, and the region that it lies in
+  module _ (cards regions : List Bool) (c home : ℕ) (e : home ≡ c * h.geometry.k / h.geometry.w) where
+    -- that is marked, in a region that isn't
+    pub left_there : slice_index_or cards c false ≡ true → slice_index_or regions home false ≡ false → is_left h cards regions c ≡ true
+    left_there a b = rw (a, sym (ap (λ x. slice_index_or regions x false) e) ∙ b) refl
+
+    -- that isn't marked
+    pub left_unmarked : slice_index_or cards c false ≡ false → is_left h cards regions c ≡ false
+    left_unmarked a = rw a refl
+
+    -- in a region that is marked
+    pub left_inside : slice_index_or cards c false ≡ true → slice_index_or regions home false ≡ true → is_left h cards regions c ≡ false
+    left_inside a b = rw (a, sym (ap (λ x. slice_index_or regions x false) e) ∙ b) refl

@@ -1,0 +1,88 @@
+ghost use Rattle.std.specs.Prelude.{◌≡◌, ◌<◌, map, length, replicate, false, All, IfOk, IfErr};
+ghost use Rattle.g1_words.specs.Lists.{has};
+ghost use Rattle.g1_image.specs.Cards.{cards_where};
+ghost use Rattle.g1_rem.specs.Starts.{card_count};
+ghost use Rattle.g1_rem.specs.EntryCards.{AreMarked, cards_into, is_left, is_listed};
+
+use g1_words::{Fault, Heap};
+use std::alloc::Global;
+
+/// So many marks, none of them set.
+fn unmarked(alloc: Global, count: u64) -> Result<Vec<bool>, Fault>
+    ensures ok { IfOk result (λ v. v.items ≡ replicate count false) }
+    ensures memory { IfErr result (λ e. e ≡ Fault.Memory) }
+{
+    Ok(vec![in alloc; false; count as usize]?)
+}
+
+/// Sets the marks of these numbers. One past the last mark has none.
+fn mark_each(marks: &mut [bool], numbers: &[u32])
+    ensures { AreMarked (has numbers.now) marks.old marks.new }
+{
+    for number in numbers {
+        let place = *number as usize;
+        if place < marks.len() {
+            marks[place] = true;
+        }
+    }
+}
+
+/// Sets the marks of the cards in the remembered sets of these regions.
+fn mark_remembered(marks: &mut [bool], remembered: &[Vec<u32>], set: &[u32])
+    requires { All (λ r. r < length remembered.now) set.now }
+    ensures { AreMarked (is_listed (map (λ s. s.items) remembered.now) set.now) marks.old marks.new }
+{
+    for region in set {
+        mark_each(marks, remembered[*region as usize].as_slice());
+    }
+}
+
+/// The marked cards whose region isn't marked, rising.
+fn left_over(
+    alloc: Global,
+    heap: &Heap,
+    cards: &[bool],
+    regions: &[bool],
+) -> Result<Vec<u32>, Fault>
+    requires cards { length cards.now ≡ card_count heap.now }
+    requires regions { length regions.now ≡ heap.now.geometry.n }
+    ensures ok { IfOk result (λ v. v.items ≡ cards_where heap.now (is_left heap.now cards.now regions.now)) }
+    ensures memory { IfErr result (λ e. e ≡ Fault.Memory) }
+{
+    let geometry = heap.geometry();
+    let mut left = Vec::new(alloc);
+    for card in 0..cards.len() {
+        let region = geometry.region_of_card(card as u32);
+        if cards[card] && !regions[region as usize] {
+            left.push(card as u32)?;
+        }
+    }
+    Ok(left)
+}
+
+/// The cards outside a set of regions that stand in the remembered set of one of them, rising:
+/// these lead into the set. `remembered` has one entry a region.
+///
+/// Linear in the cards of the heap and in the remembered sets of the set's regions.
+///
+/// # Errors
+///
+/// `Fault::Memory` alone.
+pub fn cards_into(
+    alloc: Global,
+    heap: &Heap,
+    remembered: &[Vec<u32>],
+    set: &[u32],
+) -> Result<Vec<u32>, Fault>
+    requires remembered { length remembered.now ≡ heap.now.geometry.n }
+    requires set { All (λ r. r < heap.now.geometry.n) set.now }
+    ensures ok { IfOk result (λ v. v.items ≡ cards_into heap.now (map (λ s. s.items) remembered.now) set.now) }
+    ensures memory { IfErr result (λ e. e ≡ Fault.Memory) }
+{
+    let geometry = heap.geometry();
+    let mut cards = unmarked(alloc, geometry.cards())?;
+    mark_remembered(&mut cards, remembered, set);
+    let mut regions = unmarked(alloc, geometry.regions())?;
+    mark_each(&mut regions, set);
+    left_over(alloc, heap, &cards, &regions)
+}

@@ -1,0 +1,43 @@
+-- A run that goes on: its beginning, one step more, its end.
+use Rattle.std.proofs.Common.{◌≡◌, ℕ, zero, suc, ◌+◌, ◌<◌, List, [], ◌∷◌, ◌++◌, length, get_or, drop, refl, sym, ◌∙◌, ap, subst, arith}
+use Rattle.std.specs.Prelude.{IfOk, Result, Ok, Err}
+use Rattle.g1_trace.specs.declared.command.Command.{Command}
+use Rattle.g1_trace.specs.declared.command.Reply.{Reply}
+use Rattle.g1_trace.specs.Run.{Replies}
+use Rattle.g1_trace.specs.Running.{GoesOn}
+
+pub append-nil : {A : Type 0} (xs : List A) → xs ++ [] ≡ xs
+append-nil [] = refl
+append-nil (x ∷ xs) = ap (λ ys. x ∷ ys) (append-nil xs)
+
+pub append-one : {A : Type 0} (xs ys : List A) (x : A) → (xs ++ x ∷ []) ++ ys ≡ xs ++ (x ∷ ys)
+append-one [] ys x = refl
+append-one (z ∷ xs) ys x = ap (λ zs. z ∷ zs) (append-one xs ys x)
+
+drop-here : {A : Type 0} (xs : List A) (k : ℕ) (d : A) → k < length xs → drop k xs ≡ get_or xs k d ∷ drop (k + 1) xs
+drop-here [] k d lt = absurd (omega (arith, lt))
+drop-here (x ∷ xs) zero d lt = refl
+drop-here (x ∷ xs) (suc k) d lt = let n : suc k + 1 ≡ suc (k + 1) = omega arith in drop-here xs k d (omega (arith, lt)) ∙ ap (λ m. get_or xs k d ∷ drop m (x ∷ xs)) (sym n)
+
+drop-past : {A : Type 0} (xs : List A) (k : ℕ) → (k < length xs → ⊥) → drop k xs ≡ []
+drop-past [] zero n = refl
+drop-past [] (suc k) n = refl
+drop-past (x ∷ xs) zero n = absurd (n (omega arith))
+drop-past (x ∷ xs) (suc k) n = drop-past xs k (λ lt. n (omega (arith, lt)))
+
+module _ {S : Type 0} (step : S → Command → Reply → S → Type 0) (start : S) (all : List Command) where
+  pub leads_start : (replies : List Reply) → replies ≡ [] → GoesOn step start all replies start all
+  leads_start replies e = λ rs k. subst (λ xs. Replies step start all (xs ++ rs)) (sym e) k
+
+  pub leads_on : (replies : List Reply) (here t : S) (k : ℕ) (d : Command) (r : Reply) (longer : List Reply) → k < length all → GoesOn step start all replies here (drop k all) → step here (get_or all k d) r t → longer ≡ replies ++ r ∷ []
+      → GoesOn step start all longer t (drop (k + 1) all)
+  leads_on replies here t k d r longer lt f st e = λ rs m.
+      subst (λ xs. Replies step start all (xs ++ rs)) (sym e) (subst (Replies step start all) (sym (append-one replies rs r)) (f (r ∷ rs) (subst (λ cs. Replies step here cs (r ∷ rs)) (sym (drop-here all k d lt)) (t, st, m))))
+
+  pub leads_end : (replies : List Reply) (here : S) (k : ℕ) → (k < length all → ⊥) → GoesOn step start all replies here (drop k all) → Replies step start all replies
+  leads_end replies here k n f = subst (Replies step start all) (append-nil replies) (f [] (subst (λ cs. Replies step here cs []) (sym (drop-past all k n)) tt))
+
+-- what holds of the value in an Ok gives what follows from it
+pub IfOk-weaken : {A E : Type 0} (o : Result A E) (P Q : A → Type 0) → ((a : A) → P a → Q a) → IfOk o P → IfOk o Q
+IfOk-weaken (Ok a) P Q f h = f a h
+IfOk-weaken (Err e) P Q f h = h

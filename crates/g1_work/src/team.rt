@@ -1,0 +1,65 @@
+ghost use Rattle.std.specs.Prelude.{◌≡◌, ◌<◌, ◌≤◌};
+ghost use Rattle.g1_work.specs.Team.{AreWorkers, IsChunk};
+
+use std::marker::Model;
+
+/// Each worker needs a share of a dealer, which has as many.
+pub const MOST_WORKERS: u64 = 64;
+
+/// A draw costs nothing beside so many items: larger chunks would only leave other workers idle.
+pub const MOST_CHUNK: u64 = 65_536;
+
+/// How many workers share some work, and how many items one of them draws at once: 1 to 64 and 1 to
+/// 65,536, by the type.
+pub struct Team {
+    workers: u64,
+    chunk: u64,
+}
+
+impl Model for Team {
+    ghost use Rattle.g1_work.specs.Team.{Team as Sizes, AreWorkers, IsChunk};
+
+    ghost Value = { Sizes };
+
+    ghost view = { λ t. record { workers = t.workers; chunk = t.chunk } };
+
+    ghost invariant = { λ t. AreWorkers t.workers × IsChunk t.chunk };
+
+    ghost inverse = { λ v. record { workers = v.workers; chunk = v.chunk } };
+}
+
+impl Clone for Team {
+    fn clone(&self) -> Result<Self, std::alloc::AllocError> {
+        Ok(*self)
+    }
+}
+
+impl Copy for Team {}
+
+impl Team {
+    /// A team of so many workers that draw so many items at once.
+    pub fn new(workers: u64, chunk: u64) -> Team
+        requires workers { (0 < workers) × (workers ≤ 64) }
+        requires chunk { (0 < chunk) × (chunk ≤ 65536) }
+        ensures workers { result.workers ≡ workers }
+        ensures chunk { result.chunk ≡ chunk }
+    {
+        Team { workers, chunk }
+    }
+
+    /// How many workers share the work.
+    pub fn workers(&self) -> u64
+        ensures value { result ≡ self.now.workers }
+        ensures range { (0 < result) × (result ≤ 64) }
+    {
+        self.workers
+    }
+
+    /// How many items a worker draws at once.
+    pub fn chunk(&self) -> u64
+        ensures value { result ≡ self.now.chunk }
+        ensures range { (0 < result) × (result ≤ 65536) }
+    {
+        self.chunk
+    }
+}
