@@ -131,20 +131,24 @@ class Heap:
                     sets[target].add(slot // self.card_words)
 
     def write(self, file):
-        file.write(b"G1IMAGE1")
-        none = self.regions
-        file.write(struct.pack("<6I", self.region_words, self.card_words, self.regions, len(self.roots),
-                               len(self.log), none))
-        for kind, top in zip(self.kinds, self.tops):
-            file.write(struct.pack("<2I", kind, top))
-        write_array(file, array.array("Q", self.roots))
-        write_array(file, array.array("I", self.log))
-        for cards in self.sets:
-            file.write(struct.pack("<I", len(cards)))
-            write_array(file, array.array("I", sorted(cards)))
-        for region, top in enumerate(self.tops):
-            start = region * self.region_words
-            write_array(file, self.words[start:start + top])
+        write_image(file, (self.region_words, self.card_words), list(zip(self.kinds, self.tops)), self.roots, self.log,
+                    [array.array("I", sorted(cards)) for cards in self.sets], self.words)
+
+
+def write_image(file, sizes, regions, roots, log, remembered, words):
+    """Sizes are the words of a region and of a card, regions have a kind and a top each, words are those of the heap."""
+    width, card_words = sizes
+    file.write(b"G1IMAGE1")
+    file.write(struct.pack("<6I", width, card_words, len(regions), len(roots), len(log), len(regions)))
+    for kind, top in regions:
+        file.write(struct.pack("<2I", kind, top))
+    write_array(file, array.array("Q", roots))
+    write_array(file, array.array("I", log))
+    for cards in remembered:
+        file.write(struct.pack("<I", len(cards)))
+        write_array(file, cards)
+    for region, (_kind, top) in enumerate(regions):
+        write_array(file, words[region * width:region * width + top])
 
 
 def write_array(file, numbers):

@@ -49,6 +49,9 @@ def main():
     parser.add_argument("--rounds", type=int, default=5, metavar="R")
     parser.add_argument("--seed", default="1", metavar="S")
     options = parser.parse_args()
+    for program in (options.g1heap, options.g1pause):
+        if not pathlib.Path(program).is_file():
+            parser.error(f"{program} is not there: build it by rt run in its crate, or name it by --g1heap or --g1pause")
     with tempfile.TemporaryDirectory() as folder:
         image, after = pathlib.Path(folder) / "before.img", pathlib.Path(folder) / "after.img"
         for width in (65536, 4096):

@@ -1,0 +1,267 @@
+#!/usr/bin/env python3
+"""Tests of bench/ that need no program of ours: test_bench.py [-v]
+
+Programs of a few lines of shell stand in for the two that are compared: one that gives back its input is the reference,
+and each that differs from it in one way has to be told. The hostile images are judged by image_text.py, an independent
+reading of docs/IMAGE.md.
+"""
+import io
+import os
+import pathlib
+import re
+import socket
+import subprocess
+import sys
+import tempfile
+import unittest
+import unittest.mock
+
+TOP = pathlib.Path(__file__).resolve().parent.parent
+sys.dont_write_bytecode = True
+sys.path[:0] = [str(TOP / "bench"), str(TOP / "tools")]
+
+import compare  # noqa: E402
+import hostile  # noqa: E402
+from image_text import fault_of, graph, read  # noqa: E402
+
+ECHO = "cat"
+# What a program does in the place of `cat`, and what has to be said of it.
+BROKEN = {
+    "cat; echo": "other bytes",
+    "head -c -1": "other bytes",
+    "tr A-Z B-ZA": "other bytes",
+    "true": "other bytes",
+    "cat; exit 5": "status 5, not 0",
+    "cat; kill -9 $$": "status -9, not 0",
+    "cat; echo 'g1pause: fault 3: short' >&2": "another fault",
+    "cat; exec sleep 20": "cut off",
+}
+BOTH_FAIL = "echo 'g1pause: fault {}' >&2; exit 5"
+
+
+class Folder(unittest.TestCase):
+    """A folder with programs, and one with an image and a trace."""
+
+    def setUp(self):
+        room = tempfile.TemporaryDirectory()
+        self.addCleanup(room.cleanup)
+        self.room = pathlib.Path(room.name)
+        self.inputs = self.room / "inputs"
+        self.inputs.mkdir()
+        (self.inputs / "small.img").write_bytes((TOP / "examples/one_object.img").read_bytes())
+        (self.inputs / "small.trace").write_text("heap 16 4 4 3\nnew 0 1 1\n")
+        (self.inputs / "other.txt").write_text("neither an image nor a trace\n")
+
+    def program(self, name, body):
+        path = self.room / name
+        path.write_text(f"#!/bin/sh\n{body}\n")
+        path.chmod(0o755)
+        return str(path)
+
+    def compared(self, ours, *words, theirs=ECHO):
+        """The status, and what is told."""
+        words = words or ("--images", str(self.inputs))
+        command = [sys.executable, str(TOP / "bench/compare.py"), "--program", self.program("ours", ours), "--reference",
+                   self.program("theirs", theirs), "--rounds", "1", *words]
+        done = subprocess.run(command, capture_output=True, text=True)
+        self.assertEqual(done.stderr, "")
+        return done.returncode, done.stdout
+
+
+class Answers(Folder):
+    def test_a_program_that_answers_the_same_is_told_so(self):
+        status, text = self.compared(ECHO)
+        self.assertEqual(status, 0)
+        self.assertNotIn("DIFFERS", text)
+        self.assertIn("Answers: 23 the same, 0 not, 0 cut off.", text)  # three settings of eight commands, but for check, which has no workers
+
+    def test_every_difference_is_told(self):
+        for body, told in BROKEN.items():
+            status, text = self.compared(body, "--images", str(self.inputs), "--only", "small live", "--cut", "2")
+            self.assertEqual(status, 1, body)
+            unended = told == compare.CUT
+            self.assertIn("cut off (1 worker)" if unended else f"DIFFERS (1 worker): {told}", text, body)
+            self.assertIn("Answers: 0 the same, 0 not, 3 cut off." if unended else "Answers: 0 the same, 3 not, 0 cut off.", text, body)
+
+    def test_a_difference_in_one_setting_is_told_of_it_alone(self):
+        for body, setting in (('cat; case "$*" in *workers*) echo;; esac', "4 workers"),
+                              ('cat; case "$GLIBC_TUNABLES" in glibc.malloc.hugetlb=1) echo;; esac', "huge pages")):
+            status, text = self.compared(body, "--images", str(self.inputs), "--only", "small live")
+            self.assertEqual(status, 1)
+            self.assertIn(f"| DIFFERS ({setting}): other bytes |", text)
+            self.assertIn("Answers: 2 the same, 1 not, 0 cut off.", text)
+
+    def test_a_difference_in_one_round_is_told(self):
+        body = f"cat; test -e {self.room}/seen && echo; touch {self.room}/seen; true"
+        status, text = self.compared(body, "--images", str(self.inputs), "--only", "small check", "--rounds", "2")
+        self.assertEqual(status, 1)
+        self.assertIn("DIFFERS", text)
+
+    def test_equal_faults_are_the_same_and_others_are_not(self):
+        for fault, wanted in (("11: room need 2 free 1", 0), ("11: room need 3 free 1", 1), ("10: set region 1", 1)):
+            theirs = BOTH_FAIL.format("11: room need 2 free 1")
+            status, _text = self.compared(BOTH_FAIL.format(fault), "--images", str(self.inputs), "--only", "pause", theirs=theirs)
+            self.assertEqual(status, wanted, fault)
+
+    def test_a_status_that_both_answer_is_told(self):
+        fault = BOTH_FAIL.format("11: room need 2 free 1")
+        status, text = self.compared(fault, "--images", str(self.inputs), "--only", "pause by", theirs=fault)
+        self.assertEqual(status, 0)
+        self.assertIn("| same, status 5 |", text)
+
+    def test_an_environment_with_huge_pages_is_not_handed_on(self):
+        body = 'cat; test -n "$GLIBC_TUNABLES" && echo; true'
+        with unittest.mock.patch.dict(os.environ, compare.HUGE):
+            _status, text = self.compared(body, "--images", str(self.inputs), "--only", "small live")
+        self.assertIn("| DIFFERS (huge pages): other bytes |", text)
+
+    def test_the_words_of_a_reference_stand_before_its_command(self):
+        theirs = 'test "$1 $2" = "--stage two" && shift 2; case $1 in --*) exit 9;; esac; cat'
+        words = ["--program", self.program("ours", ECHO), "--reference", self.program("theirs", theirs) + " --stage two"]
+        done = subprocess.run([sys.executable, str(TOP / "bench/compare.py"), *words, "--images", str(self.inputs), "--rounds", "1"],
+                              capture_output=True, text=True)
+        self.assertEqual((done.returncode, done.stderr), (0, ""))
+
+    def test_nothing_compared_is_a_failure(self):
+        self.assertEqual(self.compared(ECHO, "--images", str(self.inputs), "--only", "nothing of this name")[0], 1)
+
+    def test_a_broken_program_is_told_on_hostile_inputs_too(self):
+        for body, wanted in ((ECHO, 0), ('cat; case "$*" in *"--chunk 1") echo;; esac', 1)):
+            status, text = self.compared(body, "--hostile", "--share", "1000", "--only", "two_chains live")
+            self.assertEqual(status, wanted)
+            self.assertEqual("DIFFERS (4 x 1): other bytes; DIFFERS (64 x 1): other bytes" in text, wanted == 1)
+
+
+class Words(Folder):
+    def test_no_words_and_help_tell_what_is_wanted(self):
+        for words, status in (([], 2), (["--help"], 0)):
+            done = subprocess.run([sys.executable, str(TOP / "bench/compare.py"), *words], capture_output=True, text=True)
+            self.assertEqual(done.returncode, status)
+            for option in ("--program FILE", "--reference WORDS", "--images FOLDER", "--hostile", "--write PAGE"):
+                self.assertIn(option, done.stdout)
+
+    def test_a_program_that_is_not_there_is_told(self):
+        done = subprocess.run([sys.executable, str(TOP / "bench/compare.py"), "--program", "./nothing", "--reference", "cat"],
+                              capture_output=True, text=True)
+        self.assertEqual(done.returncode, 2)
+        self.assertIn("--program: no program at ./nothing", done.stderr)
+
+    def test_figures_are_written_between_the_marks_alone(self):
+        page = self.room / "page.md"
+        page.write_text(f"Before\n{compare.BEGIN}\nold\n{compare.END}\nAfter\n")
+        _status, text = self.compared(ECHO, "--images", str(self.inputs), "--write", str(page))
+        written = page.read_text()
+        self.assertTrue(written.startswith(f"Before\n{compare.BEGIN}\n\nSeen on "))
+        self.assertTrue(written.endswith(f"Answers: 23 the same, 0 not, 0 cut off.\n\n{compare.END}\nAfter\n"))
+        self.assertNotIn("old", written)
+        self.assertIn("### Geometric means", written)
+        for secret in (socket.gethostname(), str(self.room), str(TOP), "/dev/shm"):
+            self.assertNotIn(secret, written)
+            self.assertNotIn(secret, text)
+
+    def test_a_page_without_marks_is_refused_first(self):
+        page = self.room / "page.md"
+        page.write_text("Before\n")
+        done = subprocess.run([sys.executable, str(TOP / "bench/compare.py"), "--program", self.program("ours", ECHO), "--reference",
+                               "cat", "--write", str(page)], capture_output=True, text=True)
+        self.assertEqual(done.returncode, 2)
+        self.assertEqual(page.read_text(), "Before\n")
+
+
+class Numbers(unittest.TestCase):
+    def row(self, theirs, ours):
+        row = compare.Row("input", ["live"])
+        row.theirs = [compare.Measured(*each, 0) for each in theirs]
+        row.ours[compare.ONE.name] = [compare.Measured(*each, 0) for each in ours]
+        return row
+
+    def test_ratios_are_of_the_least_times_and_the_greatest_peaks(self):
+        row = self.row([(2.0, 5.0, 1e12), (4.0, 3.0, 2e12)], [(9.0, 6.0, 8e12), (8.0, 7.0, 1e12)])
+        self.assertEqual([row.ratio(field, compare.ONE) for field in ("cpu", "wall", "peak")], [4.0, 2.0, 4.0])
+
+    def test_a_peak_below_that_of_this_process_is_not_told(self):
+        self.assertIsNone(self.row([(1.0, 1.0, 4096)], [(1.0, 1.0, 1e12)]).ratio("peak", compare.ONE))
+
+    def test_the_mean_is_geometric(self):
+        self.assertAlmostEqual(compare.mean([1.0, None, 2.0, 4.0]), 2.0)
+        self.assertIsNone(compare.mean([None]))
+
+    def test_growth_is_told_as_a_power(self):
+        self.assertAlmostEqual(compare.exponent([1, 2, 4, 8], [3, 12, 48, 192]), 2.0)
+
+    def test_processor_time_wall_time_and_memory_are_those_of_the_run(self):
+        with tempfile.TemporaryDirectory() as room:
+            bench = compare.Bench.__new__(compare.Bench)
+            bench.room, bench.cut = pathlib.Path(room), 60
+            slept = bench.run(["sleep", "0.5"], "/dev/null", "one")
+            took = bench.run([sys.executable, "-c", "x = bytearray(200_000_000)\nfor _ in range(5_000_000): pass"], "/dev/null", "one")
+        self.assertGreater(slept.wall, 0.5)
+        self.assertLess(slept.cpu, 0.3)
+        self.assertGreater(took.cpu, 0.05)
+        self.assertGreater(took.peak, 200_000_000)
+
+
+class Images(unittest.TestCase):
+    def text(self, heap):
+        file = io.BytesIO()
+        heap.write(file)
+        return file.getvalue()
+
+    def setUp(self):
+        self.texts = {name: self.text(hostile.made(name, "1", 1000)) for name in hostile.IMAGES}
+
+    def test_each_is_legal_and_covered(self):
+        for name, text in self.texts.items():
+            self.assertIsNone(fault_of(text, True), name)
+
+    def test_the_same_seed_gives_the_same_bytes(self):
+        for name, text in self.texts.items():
+            self.assertEqual(self.text(hostile.made(name, "1", 1000)), text)
+
+    def test_a_chain_is_one_object_a_round(self):
+        for name, length in (("chain100k", 100), ("chain1m", 1000), ("chain1m_far", 1000)):
+            roots, found = graph(self.texts[name])
+            self.assertEqual((len(roots), len(found)), (1, length))
+            self.assertEqual([slots for _size, slots, _data in found], [[i + 1] for i in range(length - 1)] + [[None]])
+
+    def test_chains_side_by_side_are_of_one_length(self):
+        for name, count, length in (("two_chains", 2, 100), ("chains65", 65, 10)):
+            roots, found = graph(self.texts[name])
+            self.assertEqual((len(roots), len(found)), (count, count * length))
+
+    def test_dirty_cards_are_all_and_shuffled(self):
+        w, k, _n, regions, _roots, log, remembered, _used, _current = read(self.texts["dirty1m"])
+        used = sum(1 for kind, _top in regions if kind)
+        self.assertEqual(sorted(log), list(range(used * w // k)))
+        self.assertNotEqual(log, sorted(log))
+        self.assertEqual(sum(map(len, remembered)), 0)
+
+    def test_full_sets_hold_every_card_of_the_others(self):
+        heap = hostile.made("full_sets", "1", 100)
+        _w, _k, _n, _regions, _roots, _log, remembered, _used, _current = read(self.text(heap))
+        self.assertEqual(heap.used, 16)
+        for region, cards in enumerate(remembered[:16]):
+            self.assertEqual(cards, [card for card in range(64) if card // 4 != region])
+
+    def test_objects_of_one_word_fill_their_regions(self):
+        for name in ("ones16m", "roots64k"):
+            _w, _k, _n, regions, _roots, _log, _remembered, used, _current = read(self.texts[name])
+            self.assertEqual({word for words in used for word in words}, {1 << 32})
+            self.assertEqual({top for kind, top in regions if kind}, {64})
+
+    def test_the_whole_images_have_the_sizes_that_are_told(self):
+        told = {name: [int(number.replace(",", "")) for number in re.findall(r"\d[\d,]*", what)]
+                for name, (_maker, what, _narrow) in hostile.IMAGES.items()}
+        heap = hostile.made("full_sets", "1")
+        self.assertEqual([heap.used, len(heap.remembered[5])], [told["full_sets"][0], told["full_sets"][1]])
+        heap = hostile.made("regions16", "1")
+        self.assertEqual([heap.used, heap.width, len(heap.commands[-1]) - 1], told["regions16"])
+        heap = hostile.made("roots64k", "1")
+        self.assertEqual(len(heap.roots), told["roots64k"][0])
+        self.assertEqual(len(heap.words), 6_553_600)
+        heap = hostile.made("two_chains", "1")
+        self.assertEqual([len(heap.roots), len(heap.words) // 4 // 1000], [2, 100])
+
+
+if __name__ == "__main__":
+    unittest.main()
