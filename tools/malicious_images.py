@@ -12,6 +12,7 @@ cut, references into headers, data, slots, continuations and free regions, cards
 bytes aren't there, bytes cut off, added or changed. Two wrongs at once show the order of the stages. At the end it
 tells how often each fault was met, and fails if one was never met. The last line is 'N passed, M failed'.
 """
+import argparse
 import collections
 import random
 import struct
@@ -309,9 +310,12 @@ def kind_of(wanted):
 
 
 def main():
-    binary = sys.argv[1]
-    count = int(sys.argv[2]) if len(sys.argv) > 2 else 50_000
-    seed = int(sys.argv[3]) if len(sys.argv) > 3 else 1
+    parser = argparse.ArgumentParser(description=__doc__, formatter_class=argparse.RawDescriptionHelpFormatter)
+    parser.add_argument("binary", metavar="BINARY", help="the built program, crates/g1pause/out/g1pause")
+    parser.add_argument("count", nargs="?", type=int, default=50_000, metavar="COUNT")
+    parser.add_argument("seed", nargs="?", type=int, default=1, metavar="SEED")
+    options = parser.parse_args()
+    binary, count, seed = options.binary, options.count, options.seed
     met, passed, failed = collections.Counter(), 0, 0
 
     def one(number):

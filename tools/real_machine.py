@@ -6,6 +6,7 @@ memory and on threads, a process that is stopped and goes on, and calls that a s
 to do in each case stands in docs/HOSTILE.md. It needs Linux; a case that this machine cannot make is named as left
 out. The last line is 'N passed, M failed'.
 """
+import argparse
 import ctypes
 import os
 import pathlib
@@ -177,7 +178,9 @@ def no_threads():
 
 
 def main():
-    machine = Machine(str(pathlib.Path(sys.argv[1]).resolve()))
+    parser = argparse.ArgumentParser(description=__doc__, formatter_class=argparse.RawDescriptionHelpFormatter)
+    parser.add_argument("binary", metavar="BINARY", help="the built program, crates/g1pause/out/g1pause")
+    machine = Machine(str(pathlib.Path(parser.parse_args().binary).resolve()))
     machine.streams()
     for ignored in (False, True):
         machine.broken_pipe(ignored)

@@ -17,8 +17,9 @@ import pathlib
 import sys
 import tempfile
 
-from images import (DIRTY, GAP, GAP_AFTER, HUMONGOUS, HUMONGOUS_AFTER, LOGGED, NO_ROOM, ONE_OBJECT, ONE_OBJECT_AFTER,
-                    OUTSIDE_SLOT, OUTSIDE_SLOT_AFTER, SHARED, SHARED_AFTER, THREE, THREE_AFTER, UNCOVERED)
+from images import (DIRTY, GAP, GAP_AFTER, HUMONGOUS, HUMONGOUS_AFTER, HUMONGOUS_WITHOUT_CARDS, LOGGED, NO_ROOM,
+                    ONE_OBJECT, ONE_OBJECT_AFTER, OUTSIDE_SLOT, OUTSIDE_SLOT_AFTER, SHARED, SHARED_AFTER,
+                    SHARED_BUT_CARD_0, SHARED_BUT_CARD_1, SHARED_WITHOUT_CARDS, THREE, THREE_AFTER, UNCOVERED)
 from refusing import Judge, Refusing, run
 
 MEMORY = (b"", b"g1pause: fault 13: memory\n", 6)
@@ -55,6 +56,10 @@ ANSWERS = [
 FAULTS = [
     ("show", ONE_OBJECT[:-1], "3: short", 3),
     ("check", UNCOVERED, "9: uncovered slot 1", 4),
+    ("check", SHARED_BUT_CARD_1, "9: uncovered slot 5", 4),
+    ("check", SHARED_BUT_CARD_0, "9: uncovered slot 1", 4),
+    ("check", SHARED_WITHOUT_CARDS, "9: uncovered slot 1", 4),
+    ("check", HUMONGOUS_WITHOUT_CARDS, "9: uncovered slot 17", 4),
     ("pause 1", UNCOVERED, "9: uncovered slot 1", 4),
     ("pause 1 1", SHARED, "10: set region 1", 5),
     ("pause 0 1", NO_ROOM, "11: room need 2 free 1", 5),

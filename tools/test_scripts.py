@@ -2,9 +2,11 @@
 """test_scripts.py BINARY [DRIVER]
 
 Tests the scripts beside it: each has to fail a program that is broken in one way. BINARY is the built g1pause, DRIVER
-the built g1_refusals, for the script that takes it. The broken programs run the real one, and change what it says; they are written in C, since they
-run while memory is refused, and take none. The last line is 'N passed, M failed'.
+a program that makes single calls while memory is refused, for a script that takes it; neither is in the repository yet. The
+broken programs run the real one, and change what it says; they are written in C, since they run while memory is
+refused, and take none. The last line is 'N passed, M failed'.
 """
+import argparse
 import pathlib
 import subprocess
 import sys
@@ -107,7 +109,11 @@ def broken(folder, name, real, body):
 
 
 def main():
-    binary, *drivers = (str(pathlib.Path(x).resolve()) for x in sys.argv[1:3])
+    parser = argparse.ArgumentParser(description=__doc__, formatter_class=argparse.RawDescriptionHelpFormatter)
+    parser.add_argument("binary", metavar="BINARY", help="the built program, crates/g1pause/out/g1pause")
+    parser.add_argument("driver", nargs="?", metavar="DRIVER", help="a program that makes single calls; there is none yet")
+    options = parser.parse_args()
+    binary, *drivers = (str(pathlib.Path(x).resolve()) for x in (options.binary, options.driver) if x)
     judge = Judge()
     with tempfile.TemporaryDirectory() as room:
         folder = pathlib.Path(room)

@@ -4,6 +4,7 @@
 Heap dumps are made here by hand, with identifiers of 4 and of 8 bytes, and the images expected of them were laid out by
 hand. Pages with a wrong output, a command that fails, a file left behind or a picture that changed have to fail.
 A picture is made of what a stand-in for g1pause says. The examples have to be those that examples/make.py makes.
+Each script has to answer --help, and to say what it wants where it is called without arguments.
 """
 import contextlib
 import io
@@ -272,6 +273,50 @@ class Examples(unittest.TestCase):
             for path in made:
                 kept = TOP / "examples" / path.relative_to(room)
                 self.assertEqual(path.read_bytes(), kept.read_bytes(), kept)
+
+
+class Scripts(unittest.TestCase):
+    """All scripts, in a copy where no program is built, so that none has all that it wants."""
+
+    @classmethod
+    def setUpClass(cls):
+        cls.room = tempfile.TemporaryDirectory()
+        cls.folder = pathlib.Path(cls.room.name)
+        cls.scripts = []
+        for path in sorted([*TOP.glob("tools/*.py"), *TOP.glob("bench/*.py"), *TOP.glob("examples/**/*.py"), *TOP.glob("examples/**/*.sh")]):
+            copy = cls.folder / path.relative_to(TOP)
+            copy.parent.mkdir(parents=True, exist_ok=True)
+            copy.write_bytes(path.read_bytes())
+            if copy.read_bytes().startswith(b"#!"):
+                cls.scripts.append(copy)
+
+    @classmethod
+    def tearDownClass(cls):
+        cls.room.cleanup()
+
+    def run_script(self, path, *words):
+        command = ["sh"] if path.suffix == ".sh" else [sys.executable]
+        done = subprocess.run([*command, str(path), *words], cwd=self.folder, stdin=subprocess.DEVNULL, capture_output=True, timeout=60)
+        return done.returncode, done.stdout.decode(), done.stderr.decode()
+
+    def test_each_answers_help(self):
+        self.assertGreater(len(self.scripts), 15)
+        for path in self.scripts:
+            with self.subTest(path.name):
+                status, out, errors = self.run_script(path, "--help")
+                self.assertEqual((status, errors), (0, ""))
+                self.assertIn(path.name, out)
+                self.assertGreater(len(out.splitlines()), 4)
+
+    def test_each_says_what_it_wants(self):
+        for path in self.scripts:
+            if path.name == "test_tools.py":  # it wants nothing
+                continue
+            with self.subTest(path.name):
+                status, out, errors = self.run_script(path)
+                self.assertEqual((status, out), (2, ""))
+                self.assertIn(path.name, errors)
+                self.assertNotIn("Traceback", errors)
 
 
 if __name__ == "__main__":
