@@ -46,7 +46,16 @@ fn planned<R: Threads + Sync, G: Gate + Sync>(
     let survivors = discover(rt, alloc, heap, &starts, &set, &cards, workers, chunk, gate)?;
     g1_layout::laws::placeable();
     let plan = place(alloc, heap, &set, &survivors)?;
-    let prepared = prepare_on(rt, alloc, tracked, &starts, &remembered, &set, &plan, &cards)?;
+    let prepared = prepare_on(
+        rt,
+        alloc,
+        tracked,
+        &starts,
+        &remembered,
+        &set,
+        &plan,
+        &cards,
+    )?;
     let report = report_of(alloc, image, set, &plan)?;
     Ok((prepared, report))
 }
