@@ -410,7 +410,7 @@ def options_of(words):
     parser.add_argument("--share", type=int, default=1, metavar="N", help="hostile inputs that are N times smaller, to try it out")
     parser.add_argument("--write", metavar="PAGE", help=f"also put the figures into a page, between '{BEGIN}' and '{END}'")
     if not words:
-        parser.print_help()
+        parser.print_help(sys.stderr)
         sys.exit(2)
     options = parser.parse_args(words)
     for name, program in (("--program", options.program), ("--reference", *shlex.split(options.reference)[:1])):

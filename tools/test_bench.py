@@ -138,7 +138,7 @@ class Words(Folder):
             done = subprocess.run([sys.executable, str(TOP / "bench/compare.py"), *words], capture_output=True, text=True)
             self.assertEqual(done.returncode, status)
             for option in ("--program FILE", "--reference WORDS", "--images FOLDER", "--hostile", "--write PAGE"):
-                self.assertIn(option, done.stdout)
+                self.assertIn(option, done.stderr if status else done.stdout)
 
     def test_a_program_that_is_not_there_is_told(self):
         done = subprocess.run([sys.executable, str(TOP / "bench/compare.py"), "--program", "./nothing", "--reference", "cat"],
