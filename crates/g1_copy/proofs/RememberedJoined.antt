@@ -1,11 +1,12 @@
 -- Lists of cards put together, region by region.
-use Rattle.std.proofs.Common.{◌≡◌, ℕ, zero, suc, ◌+◌, ◌*◌, ◌/◌, ◌<◌, ◌≤◌, inl, inr, Bool, true, false, cond, not, ◌&&◌, ◌||◌, List, [], ◌∷◌, length, get_or, map, filter, All, Contains, refl, sym, ◌∙◌, ap, subst, arith}
+use Rattle.std.proofs.Common.{◌≡◌, ℕ, zero, suc, ◌+◌, ◌*◌, ◌/◌, ◌<◌, ◌≤◌, inl, inr, Bool, true, false, cond, not, ◌&&◌, ◌||◌, List, [], ◌∷◌, ◌++◌, length, get_or, map, filter, All, Contains, refl, sym, ◌∙◌, ap, subst, arith, length-append}
 use Rattle.std.specs.Prelude.{Result, Ok, Err, IfOk, IfErr, MatchResult}
 use Rattle.std.specs.Global.{Vec}
 use Rattle.std.specs.List.{range_with_len, AllZip}
 use Rattle.std.specs.List.Sorted.{IsStrictlyIncreasing}
 use Rattle.std.proofs.Math.Nat.{div-lt_iff_lt-mul, div-mul-le_self, mul-le-mul_right}
-use Rattle.std.proofs.lemmas.List.{ext_get_or, get_or-map}
+use Rattle.std.proofs.lemmas.Bool.{cases_lt}
+use Rattle.std.proofs.lemmas.List.{ext_get_or, get_or-map, get_or_append_left, get_or_push, map-append}
 use Rattle.std.proofs.lemmas.List.FromFn.{get_or-map-range_with_len, length-map-range_with_len}
 use Rattle.g1_words.specs.declared.fault.Fault.{Fault}
 use Rattle.g1_words.specs.declared.fault.Fault.TheVariants.{Memory}
@@ -189,6 +190,34 @@ module _ (i : Image) (set l : List ℕ) (valid : IsBuilt i.heap) (ordinary : All
 -- a list that was read from its vector
 pub read_at : (xs : List (Vec ℕ)) (r : ℕ) (v : Vec ℕ) → r < length xs → v ≡ get_or xs r v → v.items ≡ cards_at (map (λ s. s.items) xs) r
 read_at xs r v lt e = ap (λ s. s.items) e ∙ sym (get_or-map (λ s. s.items) xs r v [] lt)
+
+-- ---- region by region
+
+-- the first n regions have their sets
+pub record JoinedTo (h : Heap) (fates : List Fate) (remembered outer inner : List (List ℕ)) (n : ℕ) (news : List (List ℕ)) : Type 0 where
+  pub so_many : length news ≡ n
+  pub each : (r : ℕ) → r < n → IsJoined h fates (fate_at fates r) (cards_at remembered r) (cards_at outer r) (cards_at inner r) (cards_at news r)
+
+module _ (h : Heap) (fates : List Fate) (remembered outer inner : List (List ℕ)) where
+  pub JoinedTo-more : (n : ℕ) (sets : List (Vec ℕ)) (v : Vec ℕ) → JoinedTo h fates remembered outer inner n (map (λ s. s.items) sets)
+      → IsJoined h fates (fate_at fates n) (cards_at remembered n) (cards_at outer n) (cards_at inner n) v.items
+      → JoinedTo h fates remembered outer inner (n + 1) (map (λ s. s.items) (sets ++ v ∷ []))
+  JoinedTo-more n sets v m e = subst (JoinedTo h fates remembered outer inner (n + 1)) (sym (map-append (λ (s : Vec ℕ). s.items) sets (v ∷ []))) (record {
+    so_many = length-append (map (λ s. s.items) sets) (v.items ∷ []) ∙ ap (λ x. x + 1) m.so_many;
+    each = λ r lt. elim (cases_lt r n) [
+      | inl low ↦
+          let at : cards_at (map (λ s. s.items) sets) r ≡ cards_at (map (λ s. s.items) sets ++ v.items ∷ []) r = sym (get_or_append_left (map (λ s. s.items) sets) (v.items ∷ []) [] r (omega (arith, low, m.so_many))) in
+          subst (IsJoined h fates (fate_at fates r) (cards_at remembered r) (cards_at outer r) (cards_at inner r)) at (m.each r low)
+      | inr ge ↦
+          let same : n ≡ r = omega (arith, ge, lt) in
+          let at : v.items ≡ cards_at (map (λ s. s.items) sets ++ v.items ∷ []) r = sym (get_or_push (map (λ s. s.items) sets) v.items [] r (m.so_many ∙ same)) in
+          subst (IsJoined h fates (fate_at fates r) (cards_at remembered r) (cards_at outer r) (cards_at inner r)) at
+          (subst (λ q. IsJoined h fates (fate_at fates q) (cards_at remembered q) (cards_at outer q) (cards_at inner q) v.items) same e)
+    ];
+  })
+
+  pub JoinedTo-all : (n : ℕ) (news : List (List ℕ)) → n ≡ h.geometry.n → JoinedTo h fates remembered outer inner n news → AreJoined h fates remembered outer inner news
+  JoinedTo-all n news e m = record { one_each = m.so_many ∙ e; each = λ r lt. m.each r (omega (arith, lt, e)) }
 
 -- ---- the answers of all regions, gathered
 

@@ -1,5 +1,5 @@
 -- The words of to-space after the pause.
-use Rattle.std.specs.Prelude.{◌≡◌, ◌≤◌, ◌<◌, ℕ, ◌+◌, ◌-◌, ◌*◌, List, length, map, flat_map, slice_index}
+use Rattle.std.specs.Prelude.{◌≡◌, ◌≤◌, ◌<◌, ℕ, ◌+◌, ◌-◌, ◌*◌, List, map, flat_map, slice_index}
 use Rattle.std.specs.List.{range_with_len}
 use Rattle.g1_words.specs.Heap.{Heap, object_at, start}
 use Rattle.g1_words.specs.Layout.{forward, need, to_space}

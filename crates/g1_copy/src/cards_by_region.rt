@@ -3,13 +3,12 @@ ghost use Rattle.std.specs.List.Sorted.{IsStrictlyIncreasing};
 ghost use Rattle.g1_rem.specs.Entering.{with_card};
 ghost use Rattle.g1_copy.specs.Links.{cards_by_region};
 
-use g1_words::{Fault, Heap, card_of, region_of};
-use std::alloc::Global;
+use g1_words::{Heap, card_of, region_of};
+use std::alloc::{AllocError, Global};
 
 /// An empty list of cards for each region.
-fn no_cards(alloc: Global, regions: u64) -> Result<Vec<Vec<u32>>, Fault>
-    ensures ok { IfOk result (λ v. map (λ s. s.items) v.items ≡ replicate regions []) }
-    ensures memory { IfErr result (λ e. e ≡ Fault.Memory) }
+fn no_cards(alloc: Global, regions: u64) -> Result<Vec<Vec<u32>>, AllocError>
+    ensures { IfOk result (λ v. map (λ s. s.items) v.items ≡ replicate regions []) }
 {
     let mut lists: Vec<Vec<u32>> = Vec::new(alloc);
     for _i in 0..regions {
@@ -19,9 +18,8 @@ fn no_cards(alloc: Global, regions: u64) -> Result<Vec<Vec<u32>>, Fault>
 }
 
 /// Adds a card to a list that ends below it, unless the card stands there already.
-fn push_once(cards: &mut Vec<u32>, card: u32) -> Result<(), Fault>
-    ensures ok { OnOk result ((before : List ℕ) (b : Bool) → All (λ c. c < card) before → cards.old.items ≡ with_card before card b → cards.new.items ≡ with_card before card true) }
-    ensures memory { IfErr result (λ e. e ≡ Fault.Memory) }
+fn push_once(cards: &mut Vec<u32>, card: u32) -> Result<(), AllocError>
+    ensures { OnOk result ((before : List ℕ) (b : Bool) → All (λ c. c < card) before → cards.old.items ≡ with_card before card b → cards.new.items ≡ with_card before card true) }
 {
     let count = cards.len();
     if count > 0 && cards[count - 1] == card {
@@ -33,13 +31,12 @@ fn push_once(cards: &mut Vec<u32>, card: u32) -> Result<(), Fault>
 
 /// Adds a slot's card to the list of the region that its word leads into, where that is another one.
 /// Where the lists are those of slots that don't stand above it, it goes to a list's end.
-fn add_slot(heap: &Heap, slot: u64, word: u64, lists: &mut [Vec<u32>]) -> Result<(), Fault>
+fn add_slot(heap: &Heap, slot: u64, word: u64, lists: &mut [Vec<u32>]) -> Result<(), AllocError>
     requires inside { slot < heap.now.geometry.n * heap.now.geometry.w }
     requires some { 0 < word }
     requires within { word ≤ heap.now.geometry.n * heap.now.geometry.w }
     requires one_each { length lists.old ≡ heap.now.geometry.n }
-    ensures ok { OnOk result ((before : List (ℕ × ℕ)) → All (λ x. x.0 ≤ slot) before → map (λ s. s.items) lists.old ≡ cards_by_region heap.now before → map (λ s. s.items) lists.new ≡ cards_by_region heap.now (before ++ (slot, word) ∷ [])) }
-    ensures memory { IfErr result (λ e. e ≡ Fault.Memory) }
+    ensures { OnOk result ((before : List (ℕ × ℕ)) → All (λ x. x.0 ≤ slot) before → map (λ s. s.items) lists.old ≡ cards_by_region heap.now before → map (λ s. s.items) lists.new ≡ cards_by_region heap.now (before ++ (slot, word) ∷ [])) }
 {
     let geometry = heap.geometry();
     let region = region_of(&geometry, word - 1);
@@ -50,12 +47,11 @@ fn add_slot(heap: &Heap, slot: u64, word: u64, lists: &mut [Vec<u32>]) -> Result
 }
 
 /// Adds the cards of the slots to the lists of the regions that they lead into.
-fn add_slots(heap: &Heap, slots: &[(u64, u64)], lists: &mut [Vec<u32>]) -> Result<(), Fault>
+fn add_slots(heap: &Heap, slots: &[(u64, u64)], lists: &mut [Vec<u32>]) -> Result<(), AllocError>
     requires rising { IsStrictlyIncreasing (map (λ x. x.0) slots.now) }
     requires there { All (λ x. (x.0 < heap.now.geometry.n * heap.now.geometry.w) × (0 < x.1) × (x.1 ≤ heap.now.geometry.n * heap.now.geometry.w)) slots.now }
     requires none { map (λ s. s.items) lists.old ≡ replicate heap.now.geometry.n [] }
-    ensures ok { OnOk result (map (λ s. s.items) lists.new ≡ cards_by_region heap.now slots.now) }
-    ensures memory { IfErr result (λ e. e ≡ Fault.Memory) }
+    ensures { OnOk result (map (λ s. s.items) lists.new ≡ cards_by_region heap.now slots.now) }
 {
     for slot in slots {
         add_slot(heap, slot.0, slot.1, lists)?;
@@ -70,11 +66,10 @@ pub(crate) fn cards_by_region(
     alloc: Global,
     heap: &Heap,
     slots: &[(u64, u64)],
-) -> Result<Vec<Vec<u32>>, Fault>
+) -> Result<Vec<Vec<u32>>, AllocError>
     requires rising { IsStrictlyIncreasing (map (λ x. x.0) slots.now) }
     requires there { All (λ x. (x.0 < heap.now.geometry.n * heap.now.geometry.w) × (0 < x.1) × (x.1 ≤ heap.now.geometry.n * heap.now.geometry.w)) slots.now }
-    ensures ok { IfOk result (λ v. map (λ s. s.items) v.items ≡ cards_by_region heap.now slots.now) }
-    ensures memory { IfErr result (λ e. e ≡ Fault.Memory) }
+    ensures { IfOk result (λ v. map (λ s. s.items) v.items ≡ cards_by_region heap.now slots.now) }
 {
     let mut lists = no_cards(alloc, heap.geometry().regions())?;
     add_slots(heap, slots, &mut lists)?;

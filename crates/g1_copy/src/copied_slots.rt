@@ -6,8 +6,8 @@ ghost use Rattle.g1_copy.specs.Links.{copied_slots, moved_slots};
 ghost use Rattle.g1_copy.specs.Filled.{filled_slots};
 
 use g1_layout::{Plan, Run};
-use g1_words::{Fault, Heap, REFS_RANGE};
-use std::alloc::Global;
+use g1_words::{Heap, REFS_RANGE};
+use std::alloc::{AllocError, Global};
 
 /// Adds the slots of an object that aren't null, each with its word. The object's words begin at an
 /// index of those given, and will stand at a place in the heap.
@@ -16,11 +16,10 @@ fn add_object(
     at: usize,
     place: u64,
     slots: &mut Vec<(u64, u64)>,
-) -> Result<(), Fault>
+) -> Result<(), AllocError>
     requires slots { at + slice_index words.now at % 2 ^ 32 < length words.now }
     requires place { place + slice_index words.now at % 2 ^ 32 < 2 ^ 64 }
-    ensures ok { OnOk result (slots.new.items ≡ slots.old.items ++ filled_slots words.now at place) }
-    ensures memory { IfErr result (λ e. e ≡ Fault.Memory) }
+    ensures { OnOk result (slots.new.items ≡ slots.old.items ++ filled_slots words.now at place) }
 {
     let refs = words[at] % REFS_RANGE;
     for k in 0..refs {
@@ -39,12 +38,11 @@ fn add_run(
     run: &Run,
     words: &[u64],
     slots: &mut Vec<(u64, u64)>,
-) -> Result<(), Fault>
+) -> Result<(), AllocError>
     requires plan { IsPlanOf heap.now plan.now }
     requires run { Contains plan.now.runs run.now }
     requires words { words.now ≡ placed_words heap.now plan.now.survivors run.now.region }
-    ensures ok { OnOk result (slots.new.items ≡ slots.old.items ++ flat_map (moved_slots heap.now plan.now.survivors) (stretch plan.now.survivors run.now)) }
-    ensures memory { IfErr result (λ e. e ≡ Fault.Memory) }
+    ensures { OnOk result (slots.new.items ≡ slots.old.items ++ flat_map (moved_slots heap.now plan.now.survivors) (stretch plan.now.survivors run.now)) }
 {
     let start = u64::from(run.region) * heap.geometry().region_words();
     for i in run.from..run.to {
@@ -61,11 +59,10 @@ pub(crate) fn copied_slots(
     heap: &Heap,
     plan: &Plan,
     gathered: &[u64],
-) -> Result<Vec<(u64, u64)>, Fault>
+) -> Result<Vec<(u64, u64)>, AllocError>
     requires plan { IsPlanOf heap.now plan.now }
     requires gathered { gathered.now ≡ to_space_words heap.now plan.now.survivors }
-    ensures ok { IfOk result (λ v. v.items ≡ copied_slots heap.now plan.now.survivors) }
-    ensures memory { IfErr result (λ e. e ≡ Fault.Memory) }
+    ensures { IfOk result (λ v. v.items ≡ copied_slots heap.now plan.now.survivors) }
 {
     let region_words = heap.geometry().region_words() as usize;
     let runs = plan.runs();

@@ -5,8 +5,8 @@ ghost use Rattle.g1_copy.specs.Fates.{AreFates, AreReplaced};
 ghost use Rattle.g1_copy.specs.declared.fates.Fate.TheVariants.{Freed, Filled, Kept};
 
 use g1_layout::Plan;
-use g1_words::{Fault, Heap};
-use std::alloc::Global;
+use g1_words::Heap;
+use std::alloc::{AllocError, Global};
 
 /// What a pause does with a region.
 #[derive(Clone, Copy)]
@@ -20,9 +20,8 @@ pub(crate) enum Fate {
 }
 
 /// So many regions that are kept.
-fn all_kept(alloc: Global, regions: u64) -> Result<Vec<Fate>, Fault>
-    ensures ok { IfOk result (λ v. v.items ≡ replicate regions Kept) }
-    ensures memory { IfErr result (λ e. e ≡ Fault.Memory) }
+fn all_kept(alloc: Global, regions: u64) -> Result<Vec<Fate>, AllocError>
+    ensures { IfOk result (λ v. v.items ≡ replicate regions Kept) }
 {
     let mut fates = Vec::with_capacity(alloc, regions as usize)?;
     for _region in 0..regions {
@@ -59,10 +58,9 @@ pub(crate) fn fates(
     heap: &Heap,
     set: &[u32],
     plan: &Plan,
-) -> Result<Vec<Fate>, Fault>
+) -> Result<Vec<Fate>, AllocError>
     requires { IsPauseOf heap.now set.now plan.now }
-    ensures ok { IfOk result (λ v. AreFates heap.now set.now (to_space heap.now plan.now.survivors) v.items) }
-    ensures memory { IfErr result (λ e. e ≡ Fault.Memory) }
+    ensures { IfOk result (λ v. AreFates heap.now set.now (to_space heap.now plan.now.survivors) v.items) }
 {
     let mut fates = all_kept(alloc, heap.geometry().regions())?;
     fill(&mut fates, plan.to_space());

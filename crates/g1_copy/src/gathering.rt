@@ -9,9 +9,14 @@ ghost use Rattle.g1_copy.specs.Gathered.{placed_words, to_space_words};
 
 use g1_layout::{Plan, Run};
 use g1_words::{Fault, Heap, Object, REFS_RANGE};
+use g1_work::{MOST_WORKERS, threads_for};
 use rayon::prelude::*;
-use std::alloc::Global;
+use std::alloc::{AllocError, Global};
 use std::thread::Threads;
+
+/// A thread is worth starting for so many words: to copy them takes as long as some threads take to
+/// start.
+const WORDS_A_THREAD: usize = 65_536;
 
 /// The object whose header stands at an address.
 fn object(heap: &Heap, a: u64) -> Object
@@ -95,6 +100,50 @@ fn fill_at(heap: &Heap, plan: &Plan, start: usize, words: &mut [u64])
     fill(heap, plan, plan.runs()[region], words);
 }
 
+/// Fills the regions of to-space, whose words are 0, by this thread alone.
+fn fill_alone(heap: &Heap, plan: &Plan, words: &mut [u64])
+    requires plan { IsPlanOf heap.now plan.now }
+    requires empty { words.old ≡ replicate (length plan.now.runs * heap.now.geometry.w) 0 }
+    ensures { words.new ≡ to_space_words heap.now plan.now.survivors }
+{
+    let region_words = heap.geometry().region_words() as usize;
+    for number in 0..plan.runs().len() {
+        let start = number * region_words;
+        fill_at(heap, plan, start, &mut words[start..start + region_words]);
+    }
+}
+
+/// Fills the regions of to-space, whose words are 0, by as many threads as there are processors.
+fn fill_by_threads(rt: &(impl Threads + Sync), heap: &Heap, plan: &Plan, words: &mut [u64])
+    requires plan { IsPlanOf heap.now plan.now }
+    requires empty { words.old ≡ replicate (length plan.now.runs * heap.now.geometry.w) 0 }
+    ensures { words.new ≡ to_space_words heap.now plan.now.survivors }
+{
+    let region_words = heap.geometry().region_words() as usize;
+    par_chunks_mut_for_each(
+        rt,
+        words,
+        region_words,
+        |start: usize, region: &mut [u64]|
+            requires { IsPlanOf heap.now plan.now × ((t : ℕ) × (t < need heap.now plan.now.survivors) × (start ≡ t * heap.now.geometry.w)) × (region.old ≡ replicate heap.now.geometry.w 0) }
+            ensures { region.new ≡ placed_words heap.entry.now plan.entry.now.survivors (slice_index (free_regions heap.entry.now) (start / heap.entry.now.geometry.w)) }
+        { fill_at(heap, plan, start, region) },
+    );
+}
+
+/// Fills the regions of to-space, whose words are 0.
+fn fill_all(rt: &(impl Threads + Sync), heap: &Heap, plan: &Plan, words: &mut [u64], workers: u64)
+    requires plan { IsPlanOf heap.now plan.now }
+    requires empty { words.old ≡ replicate (length plan.now.runs * heap.now.geometry.w) 0 }
+    ensures { words.new ≡ to_space_words heap.now plan.now.survivors }
+{
+    if threads_for(workers, words.len(), WORDS_A_THREAD) == 1 {
+        fill_alone(heap, plan, words);
+    } else {
+        fill_by_threads(rt, heap, plan, words);
+    }
+}
+
 /// The words of to-space after the pause, its regions one after another: each survivor at its place
 /// with its references renamed, and 0 elsewhere. Linear in these words.
 ///
@@ -111,16 +160,22 @@ pub fn gather(
     ensures ok { IfOk result (λ v. v.items ≡ to_space_words heap.now plan.now.survivors) }
     ensures memory { IfErr result (λ e. e ≡ Fault.Memory) }
 {
+    Ok(gather_by(rt, alloc, heap, plan, MOST_WORKERS)?)
+}
+
+/// As `gather`, with one thread where there is one worker.
+pub(crate) fn gather_by(
+    rt: &(impl Threads + Sync),
+    alloc: Global,
+    heap: &Heap,
+    plan: &Plan,
+    workers: u64,
+) -> Result<Vec<u64>, AllocError>
+    requires { IsPlanOf heap.now plan.now }
+    ensures { IfOk result (λ v. v.items ≡ to_space_words heap.now plan.now.survivors) }
+{
     let region_words = heap.geometry().region_words() as usize;
     let mut words = vec![in alloc; 0u64; plan.runs().len() * region_words]?;
-    par_chunks_mut_for_each(
-        rt,
-        &mut words,
-        region_words,
-        |start: usize, region: &mut [u64]|
-            requires { IsPlanOf heap.now plan.now × ((t : ℕ) × (t < need heap.now plan.now.survivors) × (start ≡ t * heap.now.geometry.w)) × (region.old ≡ replicate heap.now.geometry.w 0) }
-            ensures { region.new ≡ placed_words heap.entry.now plan.entry.now.survivors (slice_index (free_regions heap.entry.now) (start / heap.entry.now.geometry.w)) }
-        { fill_at(heap, plan, start, region) },
-    );
+    fill_all(rt, heap, plan, &mut words, workers);
     Ok(words)
 }

@@ -10,7 +10,7 @@ ghost use Rattle.g1_copy.specs.Patches.{patch_at, patches_at, patches_on, AreBef
 use g1_layout::Plan;
 use g1_rem::{Starts, slots_on};
 use g1_words::{Fault, Heap};
-use std::alloc::Global;
+use std::alloc::{AllocError, Global};
 use std::thread::Threads;
 
 /// Adds a slot with its new word, if it names a survivor.
@@ -19,12 +19,11 @@ fn push_patch(
     plan: &Plan,
     slot: u64,
     patches: &mut Vec<(u64, u64)>,
-) -> Result<(), Fault>
+) -> Result<(), AllocError>
     requires heap { IsValid heap.now }
     requires plan { IsPlanOf heap.now plan.now }
     requires slot { slot < length heap.now.words }
-    ensures ok { OnOk result (patches.new.items ≡ patches.old.items ++ patch_at heap.now plan.now.survivors slot) }
-    ensures memory { IfErr result (λ e. e ≡ Fault.Memory) }
+    ensures { OnOk result (patches.new.items ≡ patches.old.items ++ patch_at heap.now plan.now.survivors slot) }
 {
     let word = heap.words()[slot as usize];
     if word == 0 {
@@ -47,13 +46,12 @@ fn push_card(
     plan: &Plan,
     card: u32,
     patches: &mut Vec<(u64, u64)>,
-) -> Result<(), Fault>
+) -> Result<(), AllocError>
     requires heap { IsValid heap.now }
     requires starts { IsStartsOf heap.now starts.now }
     requires plan { IsPlanOf heap.now plan.now }
     requires card { card < card_count heap.now }
-    ensures ok { OnOk result (patches.new.items ≡ patches.old.items ++ patches_at heap.now plan.now.survivors (slots_on heap.now card)) }
-    ensures memory { IfErr result (λ e. e ≡ Fault.Memory) }
+    ensures { OnOk result (patches.new.items ≡ patches.old.items ++ patches_at heap.now plan.now.survivors (slots_on heap.now card)) }
 {
     let slots = slots_on(alloc, heap, starts, card);
     for slot in slots.as_slice() {
@@ -106,10 +104,9 @@ pub(crate) fn firsts(
     alloc: Global,
     heap: &Heap,
     patches: &[(u64, u64)],
-) -> Result<Vec<usize>, Fault>
+) -> Result<Vec<usize>, AllocError>
     requires { IsStrictlyIncreasing (map (λ x. x.0) patches.now) }
-    ensures ok { IfOk result (λ v. AreFirsts heap.now.geometry.w heap.now.geometry.n patches.now v.items) }
-    ensures memory { IfErr result (λ e. e ≡ Fault.Memory) }
+    ensures { IfOk result (λ v. AreFirsts heap.now.geometry.w heap.now.geometry.n patches.now v.items) }
 {
     let geometry = heap.geometry();
     let count = geometry.regions() + 1;

@@ -13,14 +13,15 @@ ghost use Rattle.g1_copy.specs.Prepared.{IsMadeFor};
 ghost use Rattle.g1_copy.specs.declared.fates.Fate.TheVariants.{Filled};
 
 use crate::fates::{Fate, fates};
-use crate::gathering::{gather, renamed};
+use crate::gathering::{gather_by, renamed};
 use crate::laws;
 use crate::patching::{firsts, patches};
 use crate::remembering::remembered_by_fate;
 use g1_layout::{Plan, Run};
 use g1_rem::{Starts, Tracked, cards_into, image};
 use g1_words::{Fault, Heap, Kind, Region};
-use std::alloc::Global;
+use g1_work::MOST_WORKERS;
+use std::alloc::{AllocError, Global};
 use std::marker::Model;
 use std::thread::Threads;
 
@@ -86,11 +87,10 @@ fn new_regions(
     heap: &Heap,
     fates: &[Fate],
     plan: &Plan,
-) -> Result<Vec<Region>, Fault>
+) -> Result<Vec<Region>, AllocError>
     requires plan { IsPauseOf heap.now plan.now.set plan.now }
     requires fates { AreFates heap.now plan.now.set (to_space heap.now plan.now.survivors) fates.now }
-    ensures ok { IfOk result (λ v. v.items ≡ map (new_region heap.now plan.now.set plan.now.survivors) (regions heap.now)) }
-    ensures memory { IfErr result (λ e. e ≡ Fault.Memory) }
+    ensures { IfOk result (λ v. v.items ≡ map (new_region heap.now plan.now.set plan.now.survivors) (regions heap.now)) }
 {
     let count = heap.geometry().regions() as u32;
     let mut regions = Vec::with_capacity(alloc, count as usize)?;
@@ -101,10 +101,9 @@ fn new_regions(
 }
 
 /// The roots after the pause.
-fn new_roots(alloc: Global, heap: &Heap, set: &[u32], plan: &Plan) -> Result<Vec<u64>, Fault>
+fn new_roots(alloc: Global, heap: &Heap, set: &[u32], plan: &Plan) -> Result<Vec<u64>, AllocError>
     requires { IsPauseOf heap.now set.now plan.now }
-    ensures ok { IfOk result (λ v. v.items ≡ map (renamed (forward heap.now plan.now.survivors)) heap.now.roots) }
-    ensures memory { IfErr result (λ e. e ≡ Fault.Memory) }
+    ensures { IfOk result (λ v. v.items ≡ map (renamed (forward heap.now plan.now.survivors)) heap.now.roots) }
 {
     // Known of every heap whose geometry was asked: it is valid.
     let _geometry = heap.geometry();
@@ -137,10 +136,21 @@ pub fn prepare(
     ensures memory { IfErr result (λ e. e ≡ Fault.Memory) }
 {
     let cards = cards_into(alloc, image(tracked).heap(), remembered, set)?;
-    prepare_on(rt, alloc, tracked, starts, remembered, set, plan, &cards)
+    prepare_on(
+        rt,
+        alloc,
+        tracked,
+        starts,
+        remembered,
+        set,
+        plan,
+        &cards,
+        MOST_WORKERS,
+    )
 }
 
-/// As `prepare`, for a caller that has listed the cards that lead into the set.
+/// As `prepare`, for a caller that has listed the cards that lead into the set, with one thread where
+/// there is one worker.
 ///
 /// # Errors
 ///
@@ -154,6 +164,7 @@ pub fn prepare_on(
     set: &[u32],
     plan: &Plan,
     cards: &[u32],
+    workers: u64,
 ) -> Result<Prepared, Fault>
     requires starts { IsStartsOf tracked.now.heap starts.now }
     requires remembered { map (λ s. s.items) remembered.now ≡ map (refined tracked.now) (regions tracked.now.heap) }
@@ -165,14 +176,14 @@ pub fn prepare_on(
     laws::all_patches();
     let heap = image(tracked).heap();
     let patches = patches(rt, alloc, heap, starts, plan, cards)?;
-    let gathered = gather(rt, alloc, heap, plan)?;
+    let gathered = gather_by(rt, alloc, heap, plan, workers)?;
     let fates = fates(alloc, heap, set, plan)?;
     Ok(Prepared {
         firsts: firsts(alloc, heap, &patches)?,
         regions: new_regions(alloc, heap, &fates, plan)?,
         roots: new_roots(alloc, heap, set, plan)?,
         remembered: remembered_by_fate(
-            rt, alloc, tracked, remembered, &fates, plan, &patches, &gathered,
+            rt, alloc, tracked, remembered, &fates, plan, &patches, &gathered, workers,
         )?,
         fates,
         gathered,

@@ -16,20 +16,22 @@ use crate::cards_by_region::cards_by_region;
 use crate::copied_slots::copied_slots;
 use crate::fates::{Fate, fates};
 use g1_layout::Plan;
-use g1_rem::{Tracked, image, merged};
+use g1_rem::{CARDS_A_THREAD, Tracked, cards_in, image, merged};
 use g1_words::{Fault, Heap};
+use g1_work::{MOST_WORKERS, threads_for};
 use rayon::prelude::*;
-use std::alloc::Global;
+use std::alloc::{AllocError, Global};
 use std::thread::Threads;
 
-/// How many regions are worth a thread of their own: one set alone is a small task.
-const LEAST_PIECE: usize = 64;
-
 /// Those of some cards that don't lie in a freed region.
-fn kept_cards(alloc: Global, heap: &Heap, fates: &[Fate], cards: &[u32]) -> Result<Vec<u32>, Fault>
+fn kept_cards(
+    alloc: Global,
+    heap: &Heap,
+    fates: &[Fate],
+    cards: &[u32],
+) -> Result<Vec<u32>, AllocError>
     requires cards { All (λ c. region_of_card heap.now c < length fates.now) cards.now }
-    ensures ok { IfOk result (λ v. v.items ≡ filter (stays heap.now fates.now) cards.now) }
-    ensures memory { IfErr result (λ e. e ≡ Fault.Memory) }
+    ensures { IfOk result (λ v. v.items ≡ filter (stays heap.now fates.now) cards.now) }
 {
     let geometry = heap.geometry();
     let mut kept = Vec::new(alloc);
@@ -70,10 +72,34 @@ fn joined(
     }
 }
 
-/// The remembered sets after the pause, of the refined sets, the cards of outer slots and those of
-/// copied slots, one list of each a region.
-fn joined_remembered(
-    rt: &(impl Threads + Sync),
+/// The remembered set of the region of this number.
+fn joined_at(
+    alloc: Global,
+    heap: &Heap,
+    fates: &[Fate],
+    remembered: &[Vec<u32>],
+    outer: &[Vec<u32>],
+    inner: &[Vec<u32>],
+    region: u32,
+) -> Result<Vec<u32>, Fault>
+    requires region { region < heap.now.geometry.n }
+    requires sources { AreSources heap.now fates.now (map (λ s. s.items) remembered.now) (map (λ s. s.items) outer.now) (map (λ s. s.items) inner.now) }
+    ensures { IsJoinedAt heap.now fates.now (map (λ s. s.items) remembered.now) (map (λ s. s.items) outer.now) (map (λ s. s.items) inner.now) region result }
+{
+    let at = region as usize;
+    joined(
+        alloc,
+        heap,
+        fates,
+        fates[at],
+        &remembered[at],
+        &outer[at],
+        &inner[at],
+    )
+}
+
+/// The remembered sets after the pause, by this thread alone.
+fn joined_alone(
     alloc: Global,
     heap: &Heap,
     fates: &[Fate],
@@ -86,27 +112,64 @@ fn joined_remembered(
     ensures memory { IfErr result (λ e. e ≡ Fault.Memory) }
 {
     let count = heap.geometry().regions() as u32;
+    let mut sets = Vec::with_capacity(alloc, count as usize)?;
+    for region in 0..count {
+        sets.push(joined_at(alloc, heap, fates, remembered, outer, inner, region)?)?;
+    }
+    Ok(sets)
+}
+
+/// The remembered sets after the pause, by so many threads.
+fn joined_by_threads(
+    rt: &(impl Threads + Sync),
+    alloc: Global,
+    heap: &Heap,
+    fates: &[Fate],
+    remembered: &[Vec<u32>],
+    outer: &[Vec<u32>],
+    inner: &[Vec<u32>],
+    threads: usize,
+) -> Result<Vec<Vec<u32>>, Fault>
+    requires some { 0 < threads }
+    requires sources { AreSources heap.now fates.now (map (λ s. s.items) remembered.now) (map (λ s. s.items) outer.now) (map (λ s. s.items) inner.now) }
+    ensures ok { IfOk result (λ v. AreJoined heap.now fates.now (map (λ s. s.items) remembered.now) (map (λ s. s.items) outer.now) (map (λ s. s.items) inner.now) (map (λ s. s.items) v.items)) }
+    ensures memory { IfErr result (λ e. e ≡ Fault.Memory) }
+{
+    let count = heap.geometry().regions() as u32;
     (0..count)
         .into_par_iter()
-        .with_min_len(LEAST_PIECE)
+        .with_min_len((count as usize).div_ceil(threads))
         .map(
             |region: u32| -> Result<Vec<u32>, Fault>
                 requires { (region < heap.now.geometry.n) × AreSources heap.now fates.now (map (λ s. s.items) remembered.now) (map (λ s. s.items) outer.now) (map (λ s. s.items) inner.now) }
                 ensures { IsJoinedAt heap.entry.now fates.entry.now (map (λ s. s.items) remembered.entry.now) (map (λ s. s.items) outer.entry.now) (map (λ s. s.items) inner.entry.now) region result }
-            {
-                let at = region as usize;
-                joined(
-                    alloc,
-                    heap,
-                    fates,
-                    fates[at],
-                    &remembered[at],
-                    &outer[at],
-                    &inner[at],
-                )
-            },
+            { joined_at(alloc, heap, fates, remembered, outer, inner, region) },
         )
         .collect::<Result<Vec<Vec<u32>>, Fault>>(rt, alloc)?
+}
+
+/// The remembered sets after the pause, of the refined sets, the cards of outer slots and those of
+/// copied slots, one list of each a region.
+fn joined_remembered(
+    rt: &(impl Threads + Sync),
+    alloc: Global,
+    heap: &Heap,
+    fates: &[Fate],
+    remembered: &[Vec<u32>],
+    outer: &[Vec<u32>],
+    inner: &[Vec<u32>],
+    workers: u64,
+) -> Result<Vec<Vec<u32>>, Fault>
+    requires { AreSources heap.now fates.now (map (λ s. s.items) remembered.now) (map (λ s. s.items) outer.now) (map (λ s. s.items) inner.now) }
+    ensures ok { IfOk result (λ v. AreJoined heap.now fates.now (map (λ s. s.items) remembered.now) (map (λ s. s.items) outer.now) (map (λ s. s.items) inner.now) (map (λ s. s.items) v.items)) }
+    ensures memory { IfErr result (λ e. e ≡ Fault.Memory) }
+{
+    let joining = cards_in(outer).saturating_add(cards_in(inner));
+    let cards = cards_in(remembered).saturating_add(joining);
+    match threads_for(workers, cards, CARDS_A_THREAD) {
+        1 => joined_alone(alloc, heap, fates, remembered, outer, inner),
+        threads => joined_by_threads(rt, alloc, heap, fates, remembered, outer, inner, threads),
+    }
 }
 
 /// The remembered sets after the pause, by the fates of the regions.
@@ -119,6 +182,7 @@ pub(crate) fn remembered_by_fate(
     plan: &Plan,
     patches: &[(u64, u64)],
     gathered: &[u64],
+    workers: u64,
 ) -> Result<Vec<Vec<u32>>, Fault>
     requires remembered { map (λ s. s.items) remembered.now ≡ map (refined tracked.now) (regions tracked.now.heap) }
     requires plan { IsPauseOf tracked.now.heap plan.now.set plan.now }
@@ -132,7 +196,7 @@ pub(crate) fn remembered_by_fate(
     let outer = cards_by_region(alloc, heap, patches)?;
     let copies = copied_slots(alloc, heap, plan, gathered)?;
     let inner = cards_by_region(alloc, heap, &copies)?;
-    joined_remembered(rt, alloc, heap, fates, remembered, &outer, &inner)
+    joined_remembered(rt, alloc, heap, fates, remembered, &outer, &inner, workers)
 }
 
 /// The remembered sets after the pause, one a region: of a region of the set none; of one of
@@ -164,6 +228,14 @@ pub fn new_rem(
 {
     let fates = fates(alloc, image(tracked).heap(), set, plan)?;
     remembered_by_fate(
-        rt, alloc, tracked, remembered, &fates, plan, patches, gathered,
+        rt,
+        alloc,
+        tracked,
+        remembered,
+        &fates,
+        plan,
+        patches,
+        gathered,
+        MOST_WORKERS,
     )
 }

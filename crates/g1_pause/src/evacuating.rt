@@ -14,7 +14,7 @@ use crate::settings::Settings;
 use g1_copy::{Prepared, commit, prepare_on};
 use g1_frontier::discover;
 use g1_layout::place;
-use g1_rem::{Starts, Tracked, cards_into, image, refine};
+use g1_rem::{Starts, Tracked, cards_into, image, refine_by};
 use g1_words::Fault;
 use g1_work::Gate;
 use std::alloc::Global;
@@ -38,7 +38,7 @@ fn planned<R: Threads + Sync, G: Gate + Sync>(
     let heap = image.heap();
     let (workers, chunk) = (settings.workers(), settings.chunk());
     let starts = Starts::build(alloc, heap)?;
-    let remembered = refine(rt, alloc, tracked, &starts)?;
+    let remembered = refine_by(rt, alloc, tracked, &starts, workers)?;
     let set = collection_set(rt, alloc, image, &starts, &remembered, settings, gate)?;
     let cards = cards_into(alloc, heap, &remembered, &set)?;
     g1_copy::laws::cards_lead_in();
@@ -55,6 +55,7 @@ fn planned<R: Threads + Sync, G: Gate + Sync>(
         &set,
         &plan,
         &cards,
+        workers,
     )?;
     let report = report_of(alloc, image, set, &plan)?;
     Ok((prepared, report))

@@ -16,12 +16,13 @@ use Rattle.std.proofs.lemmas.Bool.Decides.{Decides-eqb}
 use Rattle.std.proofs.lemmas.List.Sorted.{Contains-permutation, IsPermutation-sym, IsNonDecreasingBy-from_sort}
 use Rattle.std.proofs.lemmas.Map.Keys.{IsDistinct-IsPermutation, IsStrictlyIncreasing-from_distinct}
 use Rattle.std.proofs.lemmas.Map.Made.{IsDistinct-from_AllPairs}
-use Rattle.std.proofs.lemmas.List.{get_or_push, take_all, length-append, length-replicate, get_or-replicate}
+use Rattle.std.proofs.lemmas.List.{get_or_push, take_all, take_more, map-append, length-append, length-replicate, get_or-replicate}
+use Rattle.std.proofs.lemmas.List.FromFn.{get_or-range_with_len, length-range_with_len}
 use Rattle.std.proofs.lemmas.List.Elements.{filter-append}
 use Rattle.std.proofs.lemmas.List.Folds.{list_any-append}
 use Rattle.std.proofs.Math.Nat.{mul-le-mul_right}
 use Rattle.g1_words.specs.declared.object.Object.{Object}
-use Rattle.g1_words.specs.Heap.{Heap, word, objects, slots, region_of, card_of}
+use Rattle.g1_words.specs.Heap.{Heap, word, objects, regions, slots, region_of, card_of}
 use Rattle.g1_words.specs.Lists.{has}
 use Rattle.g1_words.specs.Valid.{IsReference, IsValid}
 use Rattle.g1_words.specs.References.{named, refs_at}
@@ -280,6 +281,21 @@ pub refined_answer : (i : Image) (r : ℕ) (set entering : List ℕ) (answer : R
 refined_answer i r set entering (Ok v) valid lt e new ok err =
     refined_is i r v.items valid lt ok.rising (λ c. ok.members c ∙ ap (λ l. has l c || has entering c) e ∙ ap (λ b. has (remembered_of i r) c || b) (new.members c))
 refined_answer i r set entering (Err fault) valid lt e new ok err = err
+
+-- the refined sets, one more at a time
+pub refined_more : (i : Image) (r : ℕ) (sets : List (Vec ℕ)) (v : Vec ℕ) → r < i.heap.geometry.n → map (λ s. s.items) sets ≡ map (refined i) (take r (regions i.heap)) → v.items ≡ refined i r
+    → map (λ s. s.items) (sets ++ v ∷ []) ≡ map (refined i) (take (r + 1) (regions i.heap))
+refined_more i r sets v lt e f =
+    let size : length (regions i.heap) ≡ i.heap.geometry.n = length-range_with_len 0 i.heap.geometry.n in
+    let at : get_or (regions i.heap) r 0 ≡ r = get_or-range_with_len 0 i.heap.geometry.n r 0 lt ∙ (let e : 0 + r ≡ r = omega arith in e) in
+    let set : v.items ≡ refined i (get_or (regions i.heap) r 0) = f ∙ ap (refined i) (sym at) in
+    map-append (λ (s : Vec ℕ). s.items) sets (v ∷ []) ∙ (λ k. e k ++ set k ∷ []) ∙ sym (map-append (refined i) (take r (regions i.heap)) (get_or (regions i.heap) r 0 ∷ []))
+    ∙ ap (map (refined i)) (sym (take_more (regions i.heap) r 0 (omega (arith, lt, size))))
+
+pub refined_whole : (i : Image) (r : ℕ) (sets : List (Vec ℕ)) → i.heap.geometry.n ≤ r → map (λ s. s.items) sets ≡ map (refined i) (take r (regions i.heap)) → map (λ s. s.items) sets ≡ map (refined i) (regions i.heap)
+refined_whole i r sets le e =
+    let size : length (regions i.heap) ≡ i.heap.geometry.n = length-range_with_len 0 i.heap.geometry.n in
+    e ∙ ap (map (refined i)) (take_all r (regions i.heap) (omega (arith, le, size)))
 
 -- the answers of all regions, gathered
 module _ (i : Image) where

@@ -5,12 +5,11 @@ ghost use Rattle.g1_rem.specs.Starts.{card_count};
 ghost use Rattle.g1_rem.specs.EntryCards.{AreMarked, cards_into, is_left, is_listed};
 
 use g1_words::{Fault, Heap};
-use std::alloc::Global;
+use std::alloc::{AllocError, Global};
 
 /// So many marks, none of them set.
-fn unmarked(alloc: Global, count: u64) -> Result<Vec<bool>, Fault>
-    ensures ok { IfOk result (λ v. v.items ≡ replicate count false) }
-    ensures memory { IfErr result (λ e. e ≡ Fault.Memory) }
+fn unmarked(alloc: Global, count: u64) -> Result<Vec<bool>, AllocError>
+    ensures { IfOk result (λ v. v.items ≡ replicate count false) }
 {
     Ok(vec![in alloc; false; count as usize]?)
 }
@@ -43,11 +42,10 @@ fn left_over(
     heap: &Heap,
     cards: &[bool],
     regions: &[bool],
-) -> Result<Vec<u32>, Fault>
+) -> Result<Vec<u32>, AllocError>
     requires cards { length cards.now ≡ card_count heap.now }
     requires regions { length regions.now ≡ heap.now.geometry.n }
-    ensures ok { IfOk result (λ v. v.items ≡ cards_where heap.now (is_left heap.now cards.now regions.now)) }
-    ensures memory { IfErr result (λ e. e ≡ Fault.Memory) }
+    ensures { IfOk result (λ v. v.items ≡ cards_where heap.now (is_left heap.now cards.now regions.now)) }
 {
     let geometry = heap.geometry();
     let mut left = Vec::new(alloc);
@@ -84,5 +82,5 @@ pub fn cards_into(
     mark_remembered(&mut cards, remembered, set);
     let mut regions = unmarked(alloc, geometry.regions())?;
     mark_each(&mut regions, set);
-    left_over(alloc, heap, &cards, &regions)
+    Ok(left_over(alloc, heap, &cards, &regions)?)
 }

@@ -9,7 +9,8 @@
 //!    that region's remembered set or in the dirty log; else the lowest such slot is the fault. What
 //!    passes is a `Tracked` image, whose type keeps this from then on.
 //! 4. `refine` looks at the dirty cards alone: it adds to each region's remembered set those that
-//!    hold a slot of another region that names an object in it.
+//!    hold a slot of another region that names an object in it. `refine_by` does so with so many
+//!    workers at most.
 //! 5. `merged` makes one rising list of two, each card once: a set and the cards that join it.
 //! 6. `cards_into` lists the cards that lead into a set of regions: those of the remembered sets of
 //!    its regions that lie outside it.
@@ -33,7 +34,7 @@ mod tracked;
 pub use cover::verify;
 pub use entry_cards::cards_into;
 pub use merging::merged;
-pub use refining::refine;
+pub use refining::{CARDS_A_THREAD, cards_in, refine, refine_by};
 pub use slots::slots_on;
 pub use starts::Starts;
 pub use tracked::{Tracked, image};

@@ -1,5 +1,6 @@
-ghost use Rattle.std.specs.Prelude.{◌≡◌, ◌<◌, ℕ, List, [], length, map, replicate, All, Bool, Contains, slice_index, slice_index_or, true, OnOk, IfOk, IfErr};
-ghost use Rattle.std.specs.List.Sorted.{IsStrictlyIncreasing};
+ghost use Rattle.std.specs.Prelude.{◌≡◌, ◌<◌, ◌-◌, ◌^◌, min, sum_by, ℕ, List, [], length, map, replicate, All, Bool, Contains, slice_index, slice_index_or, true, OnOk, IfOk, IfErr};
+ghost use Rattle.std.specs.List.Sorted.{IsStrictlyIncreasing, IsPermutation, IsSorted};
+ghost use Rattle.std.specs.Ordering.{nat_cmp};
 ghost use Rattle.g1_words.specs.Heap.{regions};
 ghost use Rattle.g1_words.specs.Lists.{has};
 ghost use Rattle.g1_words.specs.Valid.{IsReference, IsValid};
@@ -15,30 +16,59 @@ use crate::starts::Starts;
 use crate::tracked::{Tracked, image};
 use g1_image::Image;
 use g1_words::{Fault, Heap};
+use g1_work::{MOST_WORKERS, threads_for};
 use rayon::prelude::*;
-use std::alloc::Global;
+use std::alloc::{AllocError, Global};
 use std::thread::Threads;
 
-/// How many regions are worth a thread of their own: one set alone is a small task.
-const LEAST_PIECE: usize = 64;
+/// A thread is worth starting for so many cards: a merge takes a few nanoseconds a card, and a thread
+/// takes tens of microseconds to start and an arena of its own for what it allocates.
+pub const CARDS_A_THREAD: usize = 32_768;
+
+/// How many cards some lists have, or the greatest number where they have more.
+pub fn cards_in(lists: &[Vec<u32>]) -> usize
+    ensures { result ≡ min (sum_by (λ s. length s.items) lists.now) (2 ^ 64 - 1) }
+{
+    let mut count: usize = 0;
+    for list in lists {
+        count = count.saturating_add(list.len());
+    }
+    count
+}
+
+/// Sorts cards, in as many threads as they feed.
+fn sort(rt: &(impl Threads + Sync), cards: &mut [u32], workers: u64)
+    ensures permutation { IsPermutation cards.old cards.new }
+    ensures len { length cards.new ≡ length cards.old }
+    ensures sorted { IsSorted nat_cmp cards.new }
+{
+    if threads_for(workers, cards.len(), CARDS_A_THREAD) > 1 {
+        par_sort_unstable(rt, cards);
+    } else {
+        cards.sort_unstable();
+    }
+}
 
 /// The dirty cards, rising.
-fn dirty_cards(rt: &(impl Threads + Sync), alloc: Global, image: &Image) -> Result<Vec<u32>, Fault>
+fn dirty_cards(
+    rt: &(impl Threads + Sync),
+    alloc: Global,
+    image: &Image,
+    workers: u64,
+) -> Result<Vec<u32>, AllocError>
     requires { IsImage image.now }
     ensures rising { IfOk result (λ v. IsStrictlyIncreasing v.items) }
     ensures same { IfOk result (λ v. (c : ℕ) → has v.items c ≡ has image.now.log c) }
     ensures inside { IfOk result (λ v. All (λ c. c < card_count image.now.heap) v.items) }
-    ensures memory { IfErr result (λ e. e ≡ Fault.Memory) }
 {
     let mut cards = Vec::from_slice(alloc, image.log().as_slice())?;
-    par_sort_unstable(rt, &mut cards);
+    sort(rt, &mut cards, workers);
     Ok(cards)
 }
 
 /// Adds a card to a list that ends below it, unless the card stands there already.
-fn push_once(cards: &mut Vec<u32>, card: u32) -> Result<(), Fault>
-    ensures ok { OnOk result ((before : List ℕ) (b : Bool) → All (λ c. c < card) before → cards.old.items ≡ with_card before card b → cards.new.items ≡ with_card before card true) }
-    ensures memory { IfErr result (λ e. e ≡ Fault.Memory) }
+fn push_once(cards: &mut Vec<u32>, card: u32) -> Result<(), AllocError>
+    ensures { OnOk result ((before : List ℕ) (b : Bool) → All (λ c. c < card) before → cards.old.items ≡ with_card before card b → cards.new.items ≡ with_card before card true) }
 {
     let count = cards.len();
     if count > 0 && cards[count - 1] == card {
@@ -49,12 +79,16 @@ fn push_once(cards: &mut Vec<u32>, card: u32) -> Result<(), Fault>
 }
 
 /// Adds a card to the list of each region that a slot on it leads into.
-fn add_card(heap: &Heap, slots: &[u64], card: u32, entering: &mut [Vec<u32>]) -> Result<(), Fault>
+fn add_card(
+    heap: &Heap,
+    slots: &[u64],
+    card: u32,
+    entering: &mut [Vec<u32>],
+) -> Result<(), AllocError>
     requires slots { (p : ℕ) → Contains slots.now p → (p < length heap.now.words) × IsReference heap.now (slice_index heap.now.words p) }
     requires one_each { length entering.old ≡ heap.now.geometry.n }
     requires below { (r : ℕ) → r < heap.now.geometry.n → All (λ c. c < card) (slice_index_or (map (λ s. s.items) entering.old) r []) }
-    ensures ok { OnOk result (IsGrown heap.now card slots.now (map (λ s. s.items) entering.old) (map (λ s. s.items) entering.new)) }
-    ensures memory { IfErr result (λ e. e ≡ Fault.Memory) }
+    ensures { OnOk result (IsGrown heap.now card slots.now (map (λ s. s.items) entering.old) (map (λ s. s.items) entering.new)) }
 {
     for p in slots {
         if let Some(region) = led_into(heap, *p) {
@@ -71,14 +105,13 @@ fn add_cards(
     starts: &Starts,
     dirty: &[u32],
     entering: &mut [Vec<u32>],
-) -> Result<(), Fault>
+) -> Result<(), AllocError>
     requires heap { IsValid heap.now }
     requires starts { IsStartsOf heap.now starts.now }
     requires rising { IsStrictlyIncreasing dirty.now }
     requires inside { All (λ c. c < card_count heap.now) dirty.now }
     requires none { map (λ s. s.items) entering.old ≡ replicate heap.now.geometry.n [] }
-    ensures ok { OnOk result (AreEntering heap.now dirty.now (map (λ s. s.items) entering.new)) }
-    ensures memory { IfErr result (λ e. e ≡ Fault.Memory) }
+    ensures { OnOk result (AreEntering heap.now dirty.now (map (λ s. s.items) entering.new)) }
 {
     for card in dirty {
         let slots = slots_on(alloc, heap, starts, *card);
@@ -88,9 +121,8 @@ fn add_cards(
 }
 
 /// An empty list of cards for each region.
-fn no_cards(alloc: Global, regions: u64) -> Result<Vec<Vec<u32>>, Fault>
-    ensures ok { IfOk result (λ v. map (λ s. s.items) v.items ≡ replicate regions []) }
-    ensures memory { IfErr result (λ e. e ≡ Fault.Memory) }
+fn no_cards(alloc: Global, regions: u64) -> Result<Vec<Vec<u32>>, AllocError>
+    ensures { IfOk result (λ v. map (λ s. s.items) v.items ≡ replicate regions []) }
 {
     let mut remembered: Vec<Vec<u32>> = Vec::new(alloc);
     for _i in 0..regions {
@@ -105,13 +137,13 @@ fn entering_cards(
     alloc: Global,
     image: &Image,
     starts: &Starts,
-) -> Result<Vec<Vec<u32>>, Fault>
+    workers: u64,
+) -> Result<Vec<Vec<u32>>, AllocError>
     requires { IsStartsOf image.now.heap starts.now }
-    ensures ok { IfOk result (λ v. AreRefining image.now (map (λ s. s.items) v.items)) }
-    ensures memory { IfErr result (λ e. e ≡ Fault.Memory) }
+    ensures { IfOk result (λ v. AreRefining image.now (map (λ s. s.items) v.items)) }
 {
     let heap = image.heap();
-    let dirty = dirty_cards(rt, alloc, image)?;
+    let dirty = dirty_cards(rt, alloc, image, workers)?;
     let mut entering = no_cards(alloc, heap.geometry().regions())?;
     add_cards(alloc, heap, starts, &dirty, &mut entering)?;
     Ok(entering)
@@ -132,9 +164,8 @@ fn refined_one(
     merged(alloc, &image.remembered()[region as usize], entering)
 }
 
-/// Each region's remembered set with the dirty cards that lead into the region.
-fn refined_remembered(
-    rt: &(impl Threads + Sync),
+/// Each region's remembered set with the dirty cards that lead into the region, by this thread alone.
+fn refined_alone(
     alloc: Global,
     image: &Image,
     entering: &[Vec<u32>],
@@ -144,9 +175,30 @@ fn refined_remembered(
     ensures memory { IfErr result (λ e. e ≡ Fault.Memory) }
 {
     let count = image.heap().geometry().regions() as u32;
+    let mut sets = Vec::with_capacity(alloc, count as usize)?;
+    for region in 0..count {
+        sets.push(refined_one(alloc, image, region, &entering[region as usize])?)?;
+    }
+    Ok(sets)
+}
+
+/// Each region's remembered set with the dirty cards that lead into the region, by so many threads.
+fn refined_by_threads(
+    rt: &(impl Threads + Sync),
+    alloc: Global,
+    image: &Image,
+    entering: &[Vec<u32>],
+    threads: usize,
+) -> Result<Vec<Vec<u32>>, Fault>
+    requires some { 0 < threads }
+    requires entering { AreRefining image.now (map (λ s. s.items) entering.now) }
+    ensures ok { IfOk result (λ v. map (λ s. s.items) v.items ≡ map (refined image.now) (regions image.now.heap)) }
+    ensures memory { IfErr result (λ e. e ≡ Fault.Memory) }
+{
+    let count = image.heap().geometry().regions() as u32;
     (0..count)
         .into_par_iter()
-        .with_min_len(LEAST_PIECE)
+        .with_min_len((count as usize).div_ceil(threads))
         .map(
             |region: u32| -> Result<Vec<u32>, Fault>
                 requires { (region < image.now.heap.geometry.n) × AreRefining image.now (map (λ s. s.items) entering.now) }
@@ -154,6 +206,25 @@ fn refined_remembered(
             { refined_one(alloc, image, region, &entering[region as usize]) },
         )
         .collect::<Result<Vec<Vec<u32>>, Fault>>(rt, alloc)?
+}
+
+/// Each region's remembered set with the dirty cards that lead into the region.
+fn refined_remembered(
+    rt: &(impl Threads + Sync),
+    alloc: Global,
+    image: &Image,
+    entering: &[Vec<u32>],
+    workers: u64,
+) -> Result<Vec<Vec<u32>>, Fault>
+    requires { AreRefining image.now (map (λ s. s.items) entering.now) }
+    ensures ok { IfOk result (λ v. map (λ s. s.items) v.items ≡ map (refined image.now) (regions image.now.heap)) }
+    ensures memory { IfErr result (λ e. e ≡ Fault.Memory) }
+{
+    let cards = cards_in(image.remembered()).saturating_add(cards_in(entering));
+    match threads_for(workers, cards, CARDS_A_THREAD) {
+        1 => refined_alone(alloc, image, entering),
+        threads => refined_by_threads(rt, alloc, image, entering, threads),
+    }
 }
 
 /// The refined remembered set of each region: its remembered set with those dirty cards that hold a
@@ -173,7 +244,25 @@ pub fn refine(
     ensures ok { IfOk result (λ v. map (λ s. s.items) v.items ≡ map (refined tracked.now) (regions tracked.now.heap)) }
     ensures memory { IfErr result (λ e. e ≡ Fault.Memory) }
 {
+    refine_by(rt, alloc, tracked, starts, MOST_WORKERS)
+}
+
+/// As `refine`, with this many workers at most. One where it is 0.
+///
+/// # Errors
+/// `Fault::Memory` where a growth was refused.
+pub fn refine_by(
+    rt: &(impl Threads + Sync),
+    alloc: Global,
+    tracked: &Tracked,
+    starts: &Starts,
+    workers: u64,
+) -> Result<Vec<Vec<u32>>, Fault>
+    requires { IsStartsOf tracked.now.heap starts.now }
+    ensures ok { IfOk result (λ v. map (λ s. s.items) v.items ≡ map (refined tracked.now) (regions tracked.now.heap)) }
+    ensures memory { IfErr result (λ e. e ≡ Fault.Memory) }
+{
     let image = image(tracked);
-    let entering = entering_cards(rt, alloc, image, starts)?;
-    refined_remembered(rt, alloc, image, &entering)
+    let entering = entering_cards(rt, alloc, image, starts, workers)?;
+    refined_remembered(rt, alloc, image, &entering, workers)
 }

@@ -69,7 +69,9 @@ pub fn slots_on(alloc: Global, heap: &Heap, starts: &Starts, card: u32) -> Small
             let region = heap.region(number as u32);
             let end = match region.kind {
                 Kind::Ordinary => number * geometry.region_words() + u64::from(region.top),
-                _ => at + heap.words()[at as usize] / REFS_RANGE,
+                Kind::Free | Kind::HumongousFirst | Kind::Continuation => {
+                    at + heap.words()[at as usize] / REFS_RANGE
+                }
             };
             slots_between(alloc, heap.words(), at, end, lo, lo + geometry.card_words())
         }

@@ -3,7 +3,7 @@ ghost use Rattle.g1_rem.specs.Starts.{IsStartsOf};
 ghost use Rattle.g1_rem.specs.Marks.{IsMarkedTo, Told, objects_from};
 
 use g1_words::{Fault, Heap, objects_in, size_at};
-use std::alloc::Global;
+use std::alloc::{AllocError, Global};
 use std::marker::Model;
 
 /// For each card of a heap the address of the object over the card's first word, if one is there,
@@ -22,13 +22,17 @@ impl Model for Starts {
 }
 
 /// Writes a value for each further card whose first word is below an address.
-fn mark(firsts: &mut Vec<Option<u32>>, k: u64, until: u64, value: Option<u32>) -> Result<(), Fault>
+fn mark(
+    firsts: &mut Vec<Option<u32>>,
+    k: u64,
+    until: u64,
+    value: Option<u32>,
+) -> Result<(), AllocError>
     requires card { (0 < k) × (k ≤ 64) }
     requires address { until ≤ 2 ^ 24 }
     requires room { length firsts.old.items * k ≤ 2 ^ 25 }
     ensures marked { OnOk result (IsMarkedTo firsts.old.items firsts.new.items k until value) }
     ensures room { length firsts.new.items * k ≤ 2 ^ 25 }
-    ensures memory { IfErr result (λ e. e ≡ Fault.Memory) }
 {
     'cards: while firsts.len() as u64 * k < until {
         firsts.push(value)?;

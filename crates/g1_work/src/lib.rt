@@ -17,6 +17,7 @@
 //!
 //! A `Team` is how many workers share some work and how many items one of them draws at once: each
 //! call that is handed the two numbers makes one, and the functions below it ask for no range again.
+//! Work that is not drawn goes by its size: `threads_for` tells how many threads its items feed.
 //!
 //! Words that are written in place are not drawn: `each_region_mut` cuts them into runs of regions,
 //! and lends each run to one thread alone.
@@ -47,4 +48,4 @@ pub use fill::Fill;
 pub use gate::{Gate, Open, Part};
 pub use regions::each_region_mut;
 pub use task::Task;
-pub use team::{MOST_CHUNK, MOST_WORKERS, Team};
+pub use team::{MOST_CHUNK, MOST_WORKERS, Team, threads_for};

@@ -1,4 +1,4 @@
-ghost use Rattle.std.specs.Prelude.{◌≡◌, ◌<◌, ◌≤◌};
+ghost use Rattle.std.specs.Prelude.{◌≡◌, ◌<◌, ◌≤◌, ◌/◌, min, max};
 ghost use Rattle.g1_work.specs.Team.{AreWorkers, IsChunk};
 
 use std::marker::Model;
@@ -8,6 +8,15 @@ pub const MOST_WORKERS: u64 = 64;
 
 /// A draw costs nothing beside so many items: larger chunks would only leave other workers idle.
 pub const MOST_CHUNK: u64 = 65_536;
+
+/// How many threads some items feed: each has the least number of them that is worth a thread, and no
+/// more threads run than there are workers. One runs in any case.
+pub fn threads_for(workers: u64, items: usize, least: usize) -> usize
+    requires { 0 < least }
+    ensures { result ≡ max 1 (min workers (items / least)) }
+{
+    (workers as usize).min(items / least).max(1)
+}
 
 /// How many workers share some work, and how many items one of them draws at once: 1 to 64 and 1 to
 /// 65,536, by the type.

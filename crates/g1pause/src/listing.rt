@@ -6,7 +6,7 @@ ghost use Rattle.g1_choose.specs.Choice.{MayBeLive, cost_of, IsChosen};
 use g1_choose::{Candidate, Cost, choose, cost, order, total};
 use g1_mark::live_bytes;
 use g1_pause::Settings;
-use g1_rem::{Starts, Tracked, image, refine};
+use g1_rem::{Starts, Tracked, image, refine_by};
 use g1_words::{Fault, Heap};
 use g1_work::Open;
 use std::alloc::{AllocError, Global};
@@ -39,8 +39,8 @@ pub fn candidates<T: Threads + Sync>(
 ) -> Result<String, Fault> {
     let heap = image(tracked).heap();
     let starts = Starts::build(alloc, heap)?;
-    let remembered = refine(rt, alloc, tracked, &starts)?;
     let (workers, chunk) = (settings.workers(), settings.chunk());
+    let remembered = refine_by(rt, alloc, tracked, &starts, workers)?;
     let live = live_bytes(rt, alloc, heap, &starts, workers, chunk, &Open)?;
     let parameters = settings.cost();
     let dirty = image(tracked).log().len() as u64;

@@ -7,8 +7,8 @@ use Rattle.g1_copy.proofs.LinkingCards.{pushed_at, stays, target_region}
 use Rattle.g1_copy.proofs.cards_by_region.add_slot.Goals as goal
 
 -- src/linking.rt:47:9
-pub returns-then-region-region_of-clause-ok : goal.returns-then-region-region_of-clause-ok
-returns-then-region-region_of-clause-ok c =
+pub returns-then-region-region_of : goal.returns-then-region-region_of
+returns-then-region-region_of c =
     let h = c.args.heap.now in
     let same = c.geometry-geometry.ensures.same in
     let into : c.region_of-region.result ≡ region_of c.args.heap.now (c.args.word - 1) = c.region_of-region.ensures ∙ ap (λ (g : Geometry). (c.args.word - 1) / g.w) same in
@@ -24,8 +24,8 @@ bounds-lists-region c =
     omega (arith, into, lt, c.requires.one_each)
 
 -- src/linking.rt:36:1
-pub returns-clause-ok : goal.returns-clause-ok
-returns-clause-ok c =
+pub returns : goal.returns
+returns c =
     let h = c.args.heap.now in
     let same = c.geometry-geometry.ensures.same in
     let r = c.region_of-region.result in
@@ -38,4 +38,4 @@ returns-clause-ok c =
     ∙ pushed_at h before c.args.slot c.args.word r c.card_of.result (map (λ s. s.items) c.args.lists.now) (slice_index_or c.args.lists.now r c.index-lists-region.result).items c.push_once.new.cards.items
     c.geometry-geometry.ensures.valid c.requires.inside c.requires.some c.requires.within into card (λ f. c.if-region-region_of.false (into ∙ f ∙ sym own)) below e
     (sym (get_or-map (λ s. s.items) c.args.lists.now r c.index-lists-region.result [] (omega (arith, into, lt, c.requires.one_each)))) push)
-    c.push_once.ensures.ok
+    c.push_once.ensures

@@ -16,5 +16,5 @@ loop-slot-preserved c =
     let i = c.loop-slot.slot-index in
     let slots = c.args.slots.now in
     let lt = c.loop-slot-test.true in
-    c.in_ok-add_slot.ensures.ok (take i slots) (before_below slots i c.requires.rising lt) c.loop-slot.invariant
+    c.in_ok-add_slot.ensures (take i slots) (before_below slots i c.requires.rising lt) c.loop-slot.invariant
     ∙ ap (cards_by_region c.args.heap.now) (sym (take_more slots i (0, 0) lt))

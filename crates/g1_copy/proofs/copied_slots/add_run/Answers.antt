@@ -66,14 +66,14 @@ loop-i-preserved c =
     let before = flat_map (moved_slots h l) (slice_range l c.args.run.now.from c.loop-i.i) in
     let width : c.region_words.result ≡ c.args.heap.now.geometry.w = c.region_words.ensures.value ∙ ap (λ (g : Geometry). g.w) c.geometry.ensures.same in
     let start : c.from.result * c.region_words.result ≡ c.args.run.now.region * c.args.heap.now.geometry.w = λ j. c.from.ensures j * width j in
-    c.in_ok-add_object.ensures.ok ∙ ap (λ ys. ys ++ filled_slots c.args.words.now at place) c.loop-i.invariant
+    c.in_ok-add_object.ensures ∙ ap (λ ys. ys ++ filled_slots c.args.words.now at place) c.loop-i.invariant
     ∙ append_assoc c.args.slots.now.items before (filled_slots c.args.words.now at place)
     ∙ ap (λ ys. c.args.slots.now.items ++ ys)
     (slots_more h c.args.plan.now c.requires.plan c.geometry.ensures.valid c.args.run.now c.requires.run c.loop-i.i c.loop-i.auto.i c.loop-i-test.true
     place (ap (λ xs. slice_index xs c.loop-i.i) c.places.ensures) c.args.words.now at c.requires.words (ap (λ z. slice_index c.places.result.now c.loop-i.i - z) start))
 
-pub returns-clause-ok : goal.returns-clause-ok
-returns-clause-ok c =
+pub returns : goal.returns
+returns c =
     let order = run_order c.args.heap.now c.args.plan.now c.requires.plan c.geometry.ensures.valid c.args.run.now c.requires.run in
     let end : c.loop-i.i ≡ c.args.run.now.to = omega (arith, c.loop-i-test.false, c.loop-i.auto.i-end order) in
     c.loop-i.invariant ∙ ap (λ i. c.args.slots.now.items ++ flat_map (moved_slots c.args.heap.now c.args.plan.now.survivors) (slice_range c.args.plan.now.survivors c.args.run.now.from i)) end

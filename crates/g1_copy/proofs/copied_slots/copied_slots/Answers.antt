@@ -80,11 +80,11 @@ loop-number-preserved c =
     let d : Run = record { region = 0; from = 0; to = 0; end = 0 } in
     let lt : c.loop-number.number < need c.args.heap.now c.args.plan.now.survivors = omega (arith, c.loop-number-test.true, ap length c.runs-runs.ensures, runs_count h p made) in
     let run = ap (λ us. slice_index_or us t d) c.runs-runs.ensures ∙ run_is h p made t d lt in
-    c.in_ok-add_run.ensures.ok ∙ (λ j. c.loop-number.invariant j ++ flat_map (moved_slots h p.survivors) (stretch p.survivors (run j)))
+    c.in_ok-add_run.ensures ∙ (λ j. c.loop-number.invariant j ++ flat_map (moved_slots h p.survivors) (stretch p.survivors (run j)))
     ∙ sym (runs_more h p.survivors t)
 
-pub returns-clause-ok : goal.returns-clause-ok
-returns-clause-ok c =
+pub returns : goal.returns
+returns c =
     let h = c.args.heap.now in
     let p = c.args.plan.now in
     let made = c.requires.plan in

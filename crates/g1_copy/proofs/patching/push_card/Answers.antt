@@ -21,11 +21,11 @@ loop-slot-preserved c =
     let xs = c.as_slice-slot-items.result.now in
     let i = c.loop-slot.slot-index in
     let l = c.args.plan.now.survivors in
-    pushed_more (patch_at c.args.heap.now l) c.args.patches.now.items c.loop-slot.patches.items c.push_patch.new.patches.items (take i xs) (get_or xs i 0) c.loop-slot.invariant c.in_ok-push_patch.ensures.ok
+    pushed_more (patch_at c.args.heap.now l) c.args.patches.now.items c.loop-slot.patches.items c.push_patch.new.patches.items (take i xs) (get_or xs i 0) c.loop-slot.invariant c.in_ok-push_patch.ensures
     ∙ ap (λ ys. c.args.patches.now.items ++ patches_at c.args.heap.now c.args.plan.now.survivors ys) (sym (take_more xs i 0 c.loop-slot-test.true))
 
-pub returns-clause-ok : goal.returns-clause-ok
-returns-clause-ok c =
+pub returns : goal.returns
+returns c =
     c.loop-slot.invariant
     ∙ ap (λ ys. c.args.patches.now.items ++ patches_at c.args.heap.now c.args.plan.now.survivors ys)
     (take_whole c.as_slice-slot-items.result.now c.loop-slot.slot-index c.loop-slot-test.false ∙ c.as_slice-slot-items.ensures ∙ c.slots_on-slots.ensures.items)

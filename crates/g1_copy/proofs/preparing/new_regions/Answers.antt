@@ -32,8 +32,8 @@ loop-r-preserved c =
     ∙ regions_more h p.set p c.geometry.ensures.valid c.requires.plan r c.loop-r.regions.items c.new_region.result lt c.loop-r.invariant
     (c.new_region.ensures none ∙ (λ q. region_by_fate c.runs.result.now none (fate q) (c.region.ensures q)) ∙ region_made h p.set p c.geometry.ensures.valid c.requires.plan c.runs.result.now c.runs.ensures fates none r c.requires.fates lt)
 
-pub returns-clause-ok : goal.returns-clause-ok
-returns-clause-ok c =
+pub returns : goal.returns
+returns c =
     let h = c.args.heap.now in
     let p = c.args.plan.now in
     let n : c.regions-count.result ≡ h.geometry.n = c.regions-count.ensures.value ∙ ap (λ g. g.n) c.geometry.ensures.same in

@@ -22,8 +22,8 @@ loop-root-preserved c =
     ∙ sym (map-append f (take i xs) (get_or xs i 0 ∷ []))
     ∙ ap (map f) (sym (take_more xs i 0 c.loop-root-test.true))
 
-pub returns-clause-ok : goal.returns-clause-ok
-returns-clause-ok c =
+pub returns : goal.returns
+returns c =
     let xs = c.roots-root-items.result.now in
     let f = renamed (moved_to c.args.plan.now.survivors c.args.plan.now.places) in
     roots_made c.args.heap.now c.args.set.now c.args.plan.now c.geometry-geometry.ensures.valid c.requires xs c.loop-root.roots.items c.roots-root-items.ensures

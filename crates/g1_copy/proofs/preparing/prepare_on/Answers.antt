@@ -53,7 +53,7 @@ returns-clause-ok g c =
     let image : IsImage i = subst IsImage c.image.ensures.same c.heap-heap.ensures.valid in
     let here = c.requires.cards ∙ ap (λ h. cards_into h (map (λ s. s.items) c.args.remembered.now) c.args.set.now) (sym he) in
     let found = all_found i c.args.set.now p c.requires.plan h (map (λ s. s.items) c.args.remembered.now) c.args.cards.now ps c.all_patches.ensures image c.image.ensures.covered he c.requires.remembered here c.in_ok-patches.ensures.ok in
-    let firsts = subst (λ xs. AreFirsts h.geometry.w h.geometry.n xs c.in_ok-firsts.field-0.items) c.deref.ensures.value c.in_ok-firsts.ensures.ok in
+    let firsts = subst (λ xs. AreFirsts h.geometry.w h.geometry.n xs c.in_ok-firsts.field-0.items) c.deref.ensures.value c.in_ok-firsts.ensures in
     made_for i c.args.set.now p c.requires.plan
     (record { fates = c.in_ok-fates.fates.items; gathered = c.in_ok-gathered.gathered.items; patches = ps; firsts = c.in_ok-firsts.field-0.items; regions = c.in_ok-new_regions.field-0.items; roots = c.in_ok-new_roots.field-0.items; remembered = map (λ s. s.items) c.in_ok-remembered_by_fate.field-0.items })
-    h p.set he c.requires.plan.same c.in_ok-fates.ensures.ok c.in_ok-gathered.ensures.ok found firsts c.in_ok-new_regions.ensures.ok c.in_ok-new_roots.ensures.ok c.in_ok-remembered_by_fate.ensures.ok
+    h p.set he c.requires.plan.same c.in_ok-fates.ensures c.in_ok-gathered.ensures found firsts c.in_ok-new_regions.ensures c.in_ok-new_roots.ensures c.in_ok-remembered_by_fate.ensures.ok

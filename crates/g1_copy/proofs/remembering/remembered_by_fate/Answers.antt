@@ -24,13 +24,13 @@ cards_by_region-requires-clause-there g c =
 pub cards_by_region-requires-2-clause-rising : goal.cards_by_region-requires-2-clause-rising
 cards_by_region-requires-2-clause-rising g c =
     let b = (goal.at.cards_by_region-requires-2-clause-rising g c).After-heap-heap in
-    let copies = copies_lent c.heap-heap.result.now c.args.tracked.now.heap c.args.plan.now.survivors c.deref.result.now c.in_ok-copies.copies.items (the_heap g b) c.deref.ensures.value c.in_ok-copies.ensures.ok in
+    let copies = copies_lent c.heap-heap.result.now c.args.tracked.now.heap c.args.plan.now.survivors c.deref.result.now c.in_ok-copies.copies.items (the_heap g b) c.deref.ensures.value c.in_ok-copies.ensures in
     subst (λ (xs : List (ℕ × ℕ)). IsStrictlyIncreasing (map (λ x. x.0) xs)) (sym copies) (inner_rise c.args.tracked.now c.args.plan.now.set c.args.plan.now (the_image g b) c.requires.plan)
 
 pub cards_by_region-requires-2-clause-there : goal.cards_by_region-requires-2-clause-there
 cards_by_region-requires-2-clause-there g c =
     let b = (goal.at.cards_by_region-requires-2-clause-there g c).After-heap-heap in
-    let copies = copies_lent c.heap-heap.result.now c.args.tracked.now.heap c.args.plan.now.survivors c.deref.result.now c.in_ok-copies.copies.items (the_heap g b) c.deref.ensures.value c.in_ok-copies.ensures.ok in
+    let copies = copies_lent c.heap-heap.result.now c.args.tracked.now.heap c.args.plan.now.survivors c.deref.result.now c.in_ok-copies.copies.items (the_heap g b) c.deref.ensures.value c.in_ok-copies.ensures in
     subst (λ h. AreThere h c.deref.result.now) (sym (the_heap g b))
     (subst (AreThere c.args.tracked.now.heap) (sym copies) (inner_there c.args.tracked.now c.args.plan.now.set c.args.plan.now (the_image g b) c.requires.plan))
 
@@ -38,9 +38,9 @@ pub joined_remembered-requires-after_bounds : goal.joined_remembered-requires-af
 joined_remembered-requires-after_bounds g c κs within =
     let b = (goal.at.joined_remembered-requires-after_bounds g c).After-heap-heap in
     let h = c.heap-heap.result.now in
-    let copies = copies_lent h c.args.tracked.now.heap c.args.plan.now.survivors c.deref.result.now c.in_ok-copies.copies.items (the_heap g b) c.deref.ensures.value c.in_ok-copies.ensures.ok in
-    let outer = cards_lent h c.args.patches.now c.deref-2.result.now c.in_ok-outer.outer.items c.deref-2.ensures.value c.in_ok-outer.ensures.ok in
-    let inner = cards_lent h c.deref.result.now c.deref-3.result.now c.in_ok-inner.inner.items c.deref-3.ensures.value c.in_ok-inner.ensures.ok in
+    let copies = copies_lent h c.args.tracked.now.heap c.args.plan.now.survivors c.deref.result.now c.in_ok-copies.copies.items (the_heap g b) c.deref.ensures.value c.in_ok-copies.ensures in
+    let outer = cards_lent h c.args.patches.now c.deref-2.result.now c.in_ok-outer.outer.items c.deref-2.ensures.value c.in_ok-outer.ensures in
+    let inner = cards_lent h c.deref.result.now c.deref-3.result.now c.in_ok-inner.inner.items c.deref-3.ensures.value c.in_ok-inner.ensures in
     paused_sources c.args.tracked.now c.args.plan.now.set c.args.plan.now (the_image g b) c.requires.plan h (the_heap g b)
     c.args.patches.now c.deref.result.now c.requires.patches copies c.args.fates.now c.requires.fates
     (map (λ s. s.items) c.args.remembered.now) (map (λ s. s.items) c.deref-2.result.now) (map (λ s. s.items) c.deref-3.result.now) c.requires.remembered outer inner
@@ -49,9 +49,9 @@ pub returns-clause-ok : goal.returns-clause-ok
 returns-clause-ok g c =
     let b = (goal.at.returns-clause-ok g c).After-heap-heap in
     let h = c.heap-heap.result.now in
-    let copies = copies_lent h c.args.tracked.now.heap c.args.plan.now.survivors c.deref.result.now c.in_ok-copies.copies.items (the_heap g b) c.deref.ensures.value c.in_ok-copies.ensures.ok in
-    let outer = cards_lent h c.args.patches.now c.deref-2.result.now c.in_ok-outer.outer.items c.deref-2.ensures.value c.in_ok-outer.ensures.ok in
-    let inner = cards_lent h c.deref.result.now c.deref-3.result.now c.in_ok-inner.inner.items c.deref-3.ensures.value c.in_ok-inner.ensures.ok in
+    let copies = copies_lent h c.args.tracked.now.heap c.args.plan.now.survivors c.deref.result.now c.in_ok-copies.copies.items (the_heap g b) c.deref.ensures.value c.in_ok-copies.ensures in
+    let outer = cards_lent h c.args.patches.now c.deref-2.result.now c.in_ok-outer.outer.items c.deref-2.ensures.value c.in_ok-outer.ensures in
+    let inner = cards_lent h c.deref.result.now c.deref-3.result.now c.in_ok-inner.inner.items c.deref-3.ensures.value c.in_ok-inner.ensures in
     paused_remembered c.args.tracked.now c.args.plan.now.set c.args.plan.now (the_image g b) c.requires.plan h (the_heap g b)
     c.args.patches.now c.deref.result.now c.requires.patches copies c.args.fates.now c.requires.fates
     (map (λ s. s.items) c.args.remembered.now) (map (λ s. s.items) c.deref-2.result.now) (map (λ s. s.items) c.deref-3.result.now) c.requires.remembered outer inner

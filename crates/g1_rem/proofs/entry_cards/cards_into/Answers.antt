@@ -1,4 +1,4 @@
-use Rattle.std.proofs.Common.{◌≡◌, ◌∙◌, ◌*◌, ◌/◌, ap, sym, subst, map, IfOk}
+use Rattle.std.proofs.Common.{◌≡◌, ◌∙◌, ◌*◌, ◌/◌, ap, sym, subst, map}
 use Rattle.g1_words.specs.Lists.{has}
 use Rattle.g1_rem.specs.Starts.{card_count}
 use Rattle.g1_rem.proofs.Entering.{lent_back}
@@ -16,11 +16,11 @@ returns-clause-ok c =
     c.deref.ensures.value ∙ lent_back c.in_ok-cards.cards.len c.deref_mut.result.now c.mark_remembered.new.marks c.in_ok-cards.cards.items c.deref_mut.ensures.value c.mark_remembered.ensures.one_each c.deref_mut.ensures.len in
     let regions : c.deref-2.result.now ≡ c.mark_each.new.marks =
     c.deref-2.ensures.value ∙ lent_back c.in_ok-regions.regions.len c.deref_mut-2.result.now c.mark_each.new.marks c.in_ok-regions.regions.items c.deref_mut-2.ensures.value c.mark_each.ensures.one_each c.deref_mut-2.ensures.len in
-    subst (λ l. IfOk c.left_over.result (λ v. v.items ≡ l))
+    subst (λ l. c.in_ok-left_over.field-0.items ≡ l)
     (left_is h c.geometry-geometry.ensures.valid remembered c.args.set.now c.cards.result c.regions.result
     c.deref_mut.result.now c.deref.result.now c.deref_mut-2.result.now c.deref-2.result.now count n
-    (c.deref_mut.ensures.value ∙ c.in_ok-cards.ensures.ok)
+    (c.deref_mut.ensures.value ∙ c.in_ok-cards.ensures)
     (subst (AreMarked (is_listed (map (λ s. s.items) c.args.remembered.now) c.args.set.now) c.deref_mut.result.now) (sym cards) c.mark_remembered.ensures)
-    (c.deref_mut-2.ensures.value ∙ c.in_ok-regions.ensures.ok)
+    (c.deref_mut-2.ensures.value ∙ c.in_ok-regions.ensures)
     (subst (AreMarked (has c.args.set.now) c.deref_mut-2.result.now) (sym regions) c.mark_each.ensures))
-    c.left_over.ensures.ok
+    c.in_ok-left_over.ensures

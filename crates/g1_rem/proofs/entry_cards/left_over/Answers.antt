@@ -40,7 +40,7 @@ loop-card-preserved c =
           ]))
     ]
 
-pub returns-clause-ok : goal.returns-clause-ok
-returns-clause-ok c =
+pub returns : goal.returns
+returns c =
     let same : c.loop-card.card ≡ card_count c.args.heap.now = omega (arith, c.loop-card-test.false, c.loop-card.auto.card-end, c.requires.cards) in
     c.loop-card.invariant ∙ ap (λ n. filter (is_left c.args.heap.now c.args.cards.now c.args.regions.now) (range_with_len 0 n)) same

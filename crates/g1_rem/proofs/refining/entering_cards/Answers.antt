@@ -4,13 +4,13 @@ use Rattle.g1_rem.specs.Entering.{AreEntering, AreRefining}
 use Rattle.g1_rem.proofs.Entering.{lent_back, refining_all}
 use Rattle.g1_rem.proofs.refining.entering_cards.Goals as goal
 
-pub returns-clause-ok : goal.returns-clause-ok
-returns-clause-ok g c =
+pub returns : goal.returns
+returns g c =
     let new = c.add_cards.new.entering in
     let dirty = c.in_ok-dirty.dirty.items in
     let written = lent_back c.in_ok-entering.entering.len c.deref_mut.result.now new c.in_ok-entering.entering.items c.deref_mut.ensures.value c.add_cards.auto.entering c.deref_mut.ensures.len in
     let told : AreEntering c.args.image.now.heap c.in_ok-dirty.dirty.items (map (λ s. s.items) c.add_cards.new.entering) =
     subst (λ l. AreEntering c.args.image.now.heap l (map (λ s. s.items) c.add_cards.new.entering)) c.deref.ensures.value
-    (subst (λ (h : Heap). AreEntering h c.deref.result.now (map (λ s. s.items) c.add_cards.new.entering)) c.heap-heap.ensures.same c.in_ok-add_cards.ensures.ok) in
+    (subst (λ (h : Heap). AreEntering h c.deref.result.now (map (λ s. s.items) c.add_cards.new.entering)) c.heap-heap.ensures.same c.in_ok-add_cards.ensures) in
     subst (λ l. AreRefining c.args.image.now (map (λ s. s.items) l)) (sym written)
     (refining_all c.args.image.now dirty (map (λ s. s.items) new) c.in_ok-dirty.ensures.rising c.in_ok-dirty.ensures.same told)

@@ -1,4 +1,4 @@
-use Rattle.std.proofs.Common.{arith, ap, sym, subst, refl, ◌≡◌, ◌≢◌, ◌+◌, ◌/◌, ◌*◌, ◌^◌, ◌∙◌, length, filter, flat_map, slice_index, slice_index_or, ℕ}
+use Rattle.std.proofs.Common.{arith, inl, inr, ap, sym, subst, refl, ◌≡◌, ◌≢◌, ◌+◌, ◌/◌, ◌*◌, ◌^◌, ◌∙◌, length, filter, flat_map, slice_index, slice_index_or, ℕ}
 use Rattle.std.specs.Prelude.{Some, None}
 use Rattle.g1_words.specs.Heap.{kind, object_at, end, slots}
 use Rattle.g1_words.specs.declared.region.Kind.TheVariants.{Ordinary}
@@ -8,7 +8,7 @@ use Rattle.g1_rem.specs.Starts.{IsOver}
 use Rattle.g1_rem.specs.Slots.{is_between}
 use Rattle.g1_rem.proofs.Card.{none_on, over_at, RowOn, ordinary_row_on, alone_row_on}
 use Rattle.g1_rem.proofs.slots.slots_on.Goals as goal
-use Rattle.g1_rem.proofs.slots.slots_on.Goals.{in-Ordinary, in_default}
+use Rattle.g1_rem.proofs.slots.slots_on.Goals.{in-Ordinary, in-Free}
 
 pub returns-in-None-clause-items : goal.returns-in-None-clause-items
 returns-in-None-clause-items c =
@@ -41,9 +41,9 @@ row c =
           let until : c.match-region.end ≡ end c.args.heap.now (c.from-at.result / c.args.heap.now.geometry.w) = cc in
           subst (λ x. RowOn c.args.heap.now c.args.card (c.args.card * c.card_words.result) (c.args.card * c.card_words.result + c.card_words-in-Some.result) c.from-at.result x) (sym until)
           (ordinary_row_on h c.args.card lo (lo + c.card_words-in-Some.result) a valid e f over is))
-      | in_default v ↦ (
+      | in-Free v ↦ (
           let is : kind c.args.heap.now (c.from-at.result / c.args.heap.now.geometry.w) ≢ Ordinary =
-          (λ q. v.in_default.not-Ordinary (ap (λ q. q.kind) c.region-region.ensures ∙ ap (λ x. kind c.args.heap.now (c.from-at.result / x)) w ∙ q)) in
+          (λ q. let same = ap (λ q. q.kind) c.region-region.ensures ∙ ap (λ x. kind c.args.heap.now (c.from-at.result / x)) w ∙ q in elim v.in-Free.is [ inl e ↦ cc | inr f ↦ elim f [ inl e ↦ cc | inr e ↦ cc ] ]) in
           let until : c.match-region.end ≡ c.from-at.result + (object_at c.args.heap.now c.from-at.result).size = v.end-is ∙ ap (λ l. c.from-at.result + slice_index l c.from-at.result / 2 ^ 32) v.words.ensures in
           subst (λ x. RowOn c.args.heap.now c.args.card (c.args.card * c.card_words.result) (c.args.card * c.card_words.result + c.card_words-in-Some.result) c.from-at.result x) (sym until)
           (alone_row_on h c.args.card lo (lo + c.card_words-in-Some.result) a valid e f over is))

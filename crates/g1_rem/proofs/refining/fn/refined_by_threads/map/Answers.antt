@@ -1,7 +1,7 @@
 use Rattle.std.proofs.Common.{◌≡◌, ◌<◌, ◌∙◌, [], length, map, arith, ap, sym, subst, slice_index_or}
 use Rattle.std.proofs.lemmas.List.{get_or-map, length-map}
 use Rattle.g1_rem.specs.Entering.{IsRefining}
-use Rattle.g1_rem.proofs.refining.fn.refined_remembered.map.Goals as goal
+use Rattle.g1_rem.proofs.refining.fn.refined_by_threads.map.Goals as goal
 
 pub refined_one-requires : goal.refined_one-requires
 refined_one-requires c =

@@ -4,9 +4,9 @@ use Rattle.rayon.specs.Numbers.{nat_range}
 use Rattle.rayon.proofs.ToStd.{nat_range-All}
 use Rattle.g1_copy.specs.Remembered.{IsJoinedAt}
 use Rattle.g1_copy.proofs.RememberedJoined.{gathered_remembered, gathered_fault}
-use Rattle.g1_copy.proofs.remembering.joined_remembered.Given.{Over}
-use Rattle.g1_copy.proofs.remembering.joined_remembered.Goals as goal
-use Rattle.g1_copy.proofs.remembering.joined_remembered.Goals.{After-regions-count}
+use Rattle.g1_copy.proofs.remembering.joined_by_threads.Given.{Over}
+use Rattle.g1_copy.proofs.remembering.joined_by_threads.Goals as goal
+use Rattle.g1_copy.proofs.remembering.joined_by_threads.Goals.{After-regions-count}
 
 -- the numbers are those of the heap's regions
 count : (g : Over) (c : After-regions-count g) → c.regions-count.result ≡ c.args.heap.now.geometry.n
@@ -17,7 +17,7 @@ collect-requires-clause-ready g c κs within =
     let ends = c.into_par_iter.ensures in
     let n = c.regions-count.ensures.value ∙ ap (λ g. g.n) c.geometry.ensures.same in
     let inside = nat_range-All (λ i. i < c.args.heap.now.geometry.n) 0 c.regions-count.result (λ i low high. omega (arith, high, n)) in
-    rw (c.map.ensures.base, c.with_min_len.ensures.base, c.map.ensures.f, ends.0, ends.1) (λ k d lt. ((inside k d lt, c.requires), λ y p. tt))
+    rw (c.map.ensures.base, c.with_min_len.ensures.base, c.map.ensures.f, ends.0, ends.1) (λ k d lt. ((inside k d lt, c.requires.sources), λ y p. tt))
 
 pub returns-clause-ok : goal.returns-clause-ok
 returns-clause-ok g c =
