@@ -7,6 +7,7 @@ DRIVER, the built crates/g1_refusals, tells where it begins and ends. Each run h
 ample memory, which is written here from the definitions and by hand, or Memory. After Memory `verify` and `evacuate`
 have to hand back the image as it was, and after Memory from a command of a trace the same command is given again: the
 replies have to be those of the trace. The calls that take no memory run with every request refused, and have to answer.
+On two images of some size calls run with ample memory alone, and none may tell Memory.
 It needs a C compiler. The last line is 'N passed, M failed'.
 """
 import argparse
@@ -15,7 +16,7 @@ import sys
 import tempfile
 
 from images import (GAP, GAP_AFTER, NO_ROOM, ONE_OBJECT, ONE_OBJECT_AFTER, OUTSIDE_SLOT, OUTSIDE_SLOT_AFTER,
-                    REPLIES, SHARED, SHARED_AFTER, THREE, THREE_AFTER, TRACE, UNCOVERED)
+                    REPLIES, SHARED, SHARED_AFTER, THREE, THREE_AFTER, TRACE, UNCOVERED, long_chain, many_slots)
 from refusing import ENDLESS, Judge, Refusing
 
 MEMORY = b"fault 13: memory\n"
@@ -73,17 +74,27 @@ FREE = {
     "cost": lists([32]),
     "total": lists([38]),
     "dealer_split": lists([63, 1]),
-    "take": b"watched\n".join(lists([number]) for number in [0, 1, 2, NEVER, NEVER]),
-    "drawn": lists([3]),
+    "take": b"watched\n".join(lists([number]) for number in [0, NEVER]),
+    "drawn": lists([1]),
     "dealer_join": lists([64]),
-    "dealer_close": lists([4]),
+    "dealer_close": lists([2]),
     "claims_split": lists([63, 1]),
-    "offer": b"watched\n".join(lists([answer]) for answer in [1, 0, 0, 1]),
-    "least": lists([4]),
+    "offer": b"watched\n".join(lists([answer]) for answer in [1, 0]),
+    "least": lists([9]),
     "claims_join": lists([64]),
-    "claims_close": lists([4, NEVER]),
+    "claims_close": lists([9, NEVER]),
     "each_region_mut": lists([region for region in range(7) for _ in range(2)]),
 }
+# On images of some size, with ample memory alone: the call, the regions, the image, and what it answers.
+CHAIN = " ".join(str(region) for region in range(49))
+LARGE = [
+    ("discover", CHAIN, long_chain, lambda: lists(range(199_998, -2, -2))),
+    ("place", CHAIN, long_chain, lambda: lists(range(49 * 4096, 49 * 4096 + 200_000, 2))),
+    ("refine", "24", many_slots, lambda: lists(*[[]] * 24, range(24 * 1024), *[[]] * 7)),
+    ("cards_into", "24", many_slots, lambda: lists(range(24 * 1024))),
+    ("patches", "24", many_slots, lambda: lists(n for slot in range(1, 24 * 4096, 2) for n in (slot, 25 * 4096 + 1))),
+    ("new_rem", "24", many_slots, lambda: lists(*[[]] * 25, range(24 * 1024), *[[]] * 6)),
+]
 # Refusals that are not Memory: the call, the words, the image, and what is told.
 REFUSALS = [
     ("evacuate", "0 1", NO_ROOM, b"fault 11: room need 2 free 1\n" + NO_ROOM),
@@ -148,6 +159,13 @@ class Sweep(Judge):
             back = data if told.endswith(data) else b""
             self.sweep(call, f"{sharing} {words}", data, told, back)
 
+    def sizes(self, sharing):
+        for call, words, image, told in LARGE:
+            command = [self.driver, call, *sharing.split(), *words.split()]
+            (out, errors, status), _ = self.refusing.run(command, image(), 0, 0)
+            good = (out, errors, status) == (b"watched\n" + told(), b"", 0)
+            self.judge(f"{call} of some size: {out[:60]} .., {errors}, {status}", good)
+
     def traces(self, sharing):
         lines = [reply.encode() + b"\n" for reply in REPLIES]
         replies = b"".join(lines)
@@ -188,6 +206,7 @@ def main():
         for sharing in SHARING:
             sweep.pauses(sharing)
             sweep.steps(sharing)
+            sweep.sizes(sharing)
             sweep.traces(sharing)
         return sweep.end()
 

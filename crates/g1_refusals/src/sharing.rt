@@ -8,7 +8,7 @@ use g1_claim::{ClaimSeat, Claims};
 use g1_pause::Settings;
 use g1_words::Fault;
 use g1_work::{DealSeat, Dealer, Open, Task, each_chunk};
-use std::alloc::{AllocError, Global};
+use std::alloc::Global;
 use std::thread::Threads;
 
 pub fn run<R: Threads + Sync>(
@@ -22,10 +22,10 @@ pub fn run<R: Threads + Sync>(
     shared(rt, alloc, settings.workers(), watch)
 }
 
-/// A dealer of three chunks, and two seats.
+/// A dealer of one chunk, and two seats.
 fn dealt(alloc: Global, watch: &mut Watch) -> Result<(), Fault> {
     watch.at("dealer_new")?;
-    let (dealer, mut seat) = Dealer::new(alloc, 3)?;
+    let (dealer, mut seat) = Dealer::new(alloc, 1)?;
     watch.numbers(&[u64::from(g1_work::shares(&seat))])?;
     watch.at("dealer_split")?;
     let mut other = dealer.split(&mut seat);
@@ -33,7 +33,12 @@ fn dealt(alloc: Global, watch: &mut Watch) -> Result<(), Fault> {
         u64::from(g1_work::shares(&seat)),
         u64::from(g1_work::shares(&other)),
     ])?;
-    all_taken(&dealer, &mut seat, watch)?;
+    watch.at("take")?;
+    let first = taken(&dealer, &mut seat);
+    watch.numbers(&[first])?;
+    watch.at("take")?;
+    let second = taken(&dealer, &mut seat);
+    watch.numbers(&[second])?;
     watch.at("drawn")?;
     let drawn = dealer.drawn(&mut other);
     watch.numbers(&[drawn])?;
@@ -46,27 +51,13 @@ fn dealt(alloc: Global, watch: &mut Watch) -> Result<(), Fault> {
     Ok(())
 }
 
-/// Two numbers more than there are.
-fn all_taken(dealer: &Dealer, seat: &mut DealSeat, watch: &mut Watch) -> Result<(), AllocError>
+/// What `take` answers. The seat keeps its dealer and its shares: no more of it is needed here.
+fn taken(dealer: &Dealer, seat: &mut DealSeat) -> u64
     requires { IsSeat dealer.now seat.old }
     ensures seat { IsSeat dealer.now seat.new }
     ensures shares { seat.new.shares ≡ seat.old.shares }
 {
-    taken(dealer, seat, watch)?;
-    taken(dealer, seat, watch)?;
-    taken(dealer, seat, watch)?;
-    taken(dealer, seat, watch)?;
-    taken(dealer, seat, watch)
-}
-
-fn taken(dealer: &Dealer, seat: &mut DealSeat, watch: &mut Watch) -> Result<(), AllocError>
-    requires { IsSeat dealer.now seat.old }
-    ensures seat { IsSeat dealer.now seat.new }
-    ensures shares { seat.new.shares ≡ seat.old.shares }
-{
-    watch.at("take")?;
-    let taken = dealer.take(seat);
-    watch.numbers(&[taken.unwrap_or(u64::MAX)])
+    dealer.take(seat).unwrap_or(u64::MAX)
 }
 
 /// A claim word, and two seats.
@@ -80,7 +71,12 @@ fn claimed(alloc: Global, watch: &mut Watch) -> Result<(), Fault> {
         u64::from(g1_claim::shares(&seat)),
         u64::from(g1_claim::shares(&other)),
     ])?;
-    all_offered(&claims, &mut seat, watch)?;
+    watch.at("offer")?;
+    let first = offered(&claims, &mut seat, 9);
+    watch.numbers(&[first])?;
+    watch.at("offer")?;
+    let second = offered(&claims, &mut seat, 12);
+    watch.numbers(&[second])?;
     watch.at("least")?;
     let least = claims.least(&mut other, 0);
     watch.numbers(&[least])?;
@@ -93,34 +89,15 @@ fn claimed(alloc: Global, watch: &mut Watch) -> Result<(), Fault> {
     Ok(())
 }
 
-/// A rank twice, a greater one, and a lower one.
-fn all_offered(claims: &Claims, seat: &mut ClaimSeat, watch: &mut Watch) -> Result<(), AllocError>
-    requires seat { IsClaimSeat claims.now seat.old }
-    requires places { 0 < claims.now.places }
-    ensures seat { IsClaimSeat claims.now seat.new }
-    ensures shares { seat.new.hand.shares ≡ seat.old.hand.shares }
-{
-    offered(claims, seat, 9, watch)?;
-    offered(claims, seat, 9, watch)?;
-    offered(claims, seat, 12, watch)?;
-    offered(claims, seat, 4, watch)
-}
-
-fn offered(
-    claims: &Claims,
-    seat: &mut ClaimSeat,
-    rank: u64,
-    watch: &mut Watch,
-) -> Result<(), AllocError>
+/// What `offer` answers, as 0 or 1. The seat keeps its table and its shares.
+fn offered(claims: &Claims, seat: &mut ClaimSeat, rank: u64) -> u64
     requires seat { IsClaimSeat claims.now seat.old }
     requires places { 0 < claims.now.places }
     requires rank { rank < 16 }
     ensures seat { IsClaimSeat claims.now seat.new }
     ensures shares { seat.new.hand.shares ≡ seat.old.hand.shares }
 {
-    watch.at("offer")?;
-    let lowered = claims.offer(seat, 0, rank);
-    watch.numbers(&[u64::from(lowered)])
+    u64::from(claims.offer(seat, 0, rank))
 }
 
 /// Gives the square of its chunk.
