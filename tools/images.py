@@ -72,3 +72,23 @@ say 0 39
 say 0 38
 """
 REPLIES = ("ok ok ok ok ok ok ok ok ok ok 11 ok 77 ok 1 0 ok ok ok ok ok ok ok ok 5 1 null ok full range 0").split()
+
+
+def numbers(*values):
+    return struct.pack(f"<{len(values)}I", *values)
+
+
+def long_chain():
+    """100,000 objects of two words from address 0 on: each names the one before it, and the root the last."""
+    pairs = b"".join(struct.pack("<2IQ", 1, 2, max(0, 2 * number - 1)) for number in range(100_000))
+    regions = numbers(*[1, 4096] * 48, 1, 3392, *[0, 0] * 79)
+    remembered = numbers(*(number for region in range(48) for number in (1, 64 * (region + 1))), *[0] * 80)
+    return b"G1IMAGE1" + numbers(4096, 64, 128, 1, 0, 128) + regions + struct.pack("<Q", 199_999) + remembered + pairs
+
+
+def many_slots():
+    """49,152 objects of two words over regions 0 to 23: the slot of each names the one object of region 24."""
+    pairs = struct.pack("<2IQ", 1, 2, 24 * 4096 + 1) * (24 * 2048)
+    regions = numbers(*[1, 4096] * 24, 1, 2, *[0, 0] * 7)
+    remembered = numbers(*[0] * 24, 24 * 1024, *range(24 * 1024), *[0] * 7)
+    return b"G1IMAGE1" + numbers(4096, 4, 32, 0, 0, 32) + regions + remembered + pairs + struct.pack("<2IQ", 0, 2, 7)

@@ -1,8 +1,8 @@
 """Programs run while memory is refused, for the scripts beside it.
 
 A small C library stands before the allocator. It refuses the requests from one number to another; with `marked` it
-counts only those between an allocation of BEGIN bytes and one of END bytes, which a program that
-watches one call makes before and after it; there is none in the repository yet. It needs a C compiler.
+counts only those between an allocation of BEGIN bytes and one of END bytes, which the program crates/g1_refusals makes
+before and after the call that it watches. It needs a C compiler.
 """
 import os
 import subprocess

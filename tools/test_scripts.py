@@ -2,9 +2,8 @@
 """test_scripts.py BINARY [DRIVER]
 
 Tests the scripts beside it: each has to fail a program that is broken in one way. BINARY is the built g1pause, DRIVER
-a program that makes single calls while memory is refused, for a script that takes it; neither is in the repository yet. The
-broken programs run the real one, and change what it says; they are written in C, since they run while memory is
-refused, and take none. The last line is 'N passed, M failed'.
+the built g1_refusals, for the script that takes it. The broken programs run the real one, and change what it says; they
+are written in C, since they run while memory is refused, and take none. The last line is 'N passed, M failed'.
 """
 import argparse
 import pathlib
@@ -68,7 +67,6 @@ int main(int count, char **words) {
 MEMORY = 'say("", 0, "g1pause: fault 13: memory\\n", 6);'
 ROOM = 'say("", 0, "g1pause: fault 11: room need 1 free 0\\n", 5);'
 ECHO = "{ long size = all(0, out, sizeof out); say(out, size, \"\", 0); }"
-TOLD = 'memmem(out, out_size, "watched", 7)'
 # What is broken, and which script has to see it.
 BROKEN = {
     "always_memory": (MEMORY, ["refuse_memory.py", "second_pause.py", "malicious_images.py"]),
@@ -86,8 +84,8 @@ BROKEN = {
 # The same of the driver: another answer in the place of Memory, and an image that is not the one handed in.
 DRIVERS = {
     "always_memory": 'say("watched\\nfault 13: memory\\n", 25, "", 0);',
-    "room_for_memory": 'real(words); if (memory()) say("watched\\nfault 11: room need 1 free 0\\n", 38, "", 0);',
-    "empty_set_for_memory": 'real(words); if (memory()) say("watched\\nset\\n", 12, "", 0);',
+    "room_for_memory": 'real(words); if (memory()) say("watched\\nfault 11: room need 1 free 0\\n", 37, "", 0);',
+    "empty_set_for_memory": 'if (is(words, "choose")) { real(words); if (memory()) say("watched\\n\\n", 9, "", 0); }',
     "another_image_after_memory": "real(words); if (memory()) out[out_size - 1] ^= 1;"
                                   "if (write(1, out, out_size) != out_size) _exit(96); return status;",
 }
@@ -111,7 +109,7 @@ def broken(folder, name, real, body):
 def main():
     parser = argparse.ArgumentParser(description=__doc__, formatter_class=argparse.RawDescriptionHelpFormatter)
     parser.add_argument("binary", metavar="BINARY", help="the built program, crates/g1pause/out/g1pause")
-    parser.add_argument("driver", nargs="?", metavar="DRIVER", help="a program that makes single calls; there is none yet")
+    parser.add_argument("driver", nargs="?", metavar="DRIVER", help="the built driver, crates/g1_refusals/out/g1_refusals")
     options = parser.parse_args()
     binary, *drivers = (str(pathlib.Path(x).resolve()) for x in (options.binary, options.driver) if x)
     judge = Judge()
@@ -126,6 +124,8 @@ def main():
             for script in scripts:
                 judge.judge(f"{script} fails {name}", not passes(script, program, *few.get(script, [])))
         for driver in drivers:
+            whole = broken(folder, "whole_driver", driver, ";")
+            judge.judge("refuse_calls.py passes the driver behind a pipe", passes("refuse_calls.py", whole))
             for name, body in DRIVERS.items():
                 program = broken(folder, f"driver_{name}", driver, body)
                 judge.judge(f"refuse_calls.py fails {name}", not passes("refuse_calls.py", program))

@@ -1,4 +1,4 @@
-mod NamedPauses
+pub mod NamedPauses
 mod NoDevice
 mod Pieces
 pub mod OneAnswer

@@ -1,0 +1,85 @@
+//! Images out of bytes, and back.
+use crate::watch::{Watch, text_of};
+use g1_image::{Image, decode, encode_into};
+use g1_rem::{Tracked, image, merged, verify};
+use g1_words::{Fault, Heap, objects_in};
+use std::alloc::Global;
+use std::thread::Threads;
+
+/// The image of the bytes, whose references are covered.
+pub fn run<R: Threads + Sync>(
+    rt: &R,
+    alloc: Global,
+    bytes: &[u8],
+    watch: &mut Watch,
+) -> Result<Tracked, Fault> {
+    watch.at("decode")?;
+    let read = decode(alloc, bytes)?;
+    watch.image(&read)?;
+    written(alloc, &read, watch)?;
+    objects(alloc, read.heap(), watch)?;
+    cards(alloc, watch)?;
+    watch.at("verify")?;
+    match verified(rt, alloc, read) {
+        Ok(tracked) => {
+            watch.image(image(&tracked))?;
+            Ok(tracked)
+        }
+        Err((back, fault)) => {
+            watch.refused(&fault, &back)?;
+            Err(fault)
+        }
+    }
+}
+
+/// What `verify` promises is not needed here.
+fn verified<R: Threads + Sync>(
+    rt: &R,
+    alloc: Global,
+    read: Image,
+) -> Result<Tracked, (Image, Fault)> {
+    verify(rt, alloc, read)
+}
+
+/// The image of the bytes, where no call on the way is watched.
+pub fn tracked<R: Threads + Sync>(rt: &R, alloc: Global, bytes: &[u8]) -> Result<Tracked, Fault> {
+    match verified(rt, alloc, decode(alloc, bytes)?) {
+        Ok(tracked) => Ok(tracked),
+        Err((_, fault)) => Err(fault),
+    }
+}
+
+/// The image as bytes, in a list of its own and in one that is there.
+fn written(alloc: Global, read: &Image, watch: &mut Watch) -> Result<(), Fault> {
+    watch.at("encode")?;
+    let text = text_of(alloc, read)?;
+    watch.bytes(text.as_slice())?;
+    watch.at("encode_into")?;
+    let text = written_into(Vec::new(alloc), read)?;
+    Ok(watch.bytes(text.as_slice())?)
+}
+
+/// The list, with the image's bytes in the place of its own. What `encode_into` promises is not needed
+/// here.
+fn written_into(list: Vec<u8>, read: &Image) -> Result<Vec<u8>, Fault> {
+    let mut list = list;
+    encode_into(&mut list, read)?;
+    Ok(list)
+}
+
+/// The starts of the objects of each region.
+fn objects(alloc: Global, heap: &Heap, watch: &mut Watch) -> Result<(), Fault> {
+    for region in 0..heap.geometry().regions() as u32 {
+        watch.at("objects_in")?;
+        let starts = objects_in(alloc, heap, region)?;
+        watch.numbers(starts.as_slice())?;
+    }
+    Ok(())
+}
+
+/// Two rising lists of cards as one.
+fn cards(alloc: Global, watch: &mut Watch) -> Result<(), Fault> {
+    watch.at("merged")?;
+    let both = merged(alloc, &[1, 4, 6], &[2, 4])?;
+    Ok(watch.regions(both.as_slice())?)
+}

@@ -1,0 +1,136 @@
+//! Words that threads share.
+ghost use Rattle.std.specs.Prelude.{◌≡◌, ◌<◌, ◌≤◌};
+ghost use Rattle.g1_claim.specs.Claims.{IsSeatOf as IsClaimSeat};
+ghost use Rattle.g1_work.specs.Dealer.{IsSeatOf as IsSeat};
+
+use crate::watch::Watch;
+use g1_claim::{ClaimSeat, Claims};
+use g1_pause::Settings;
+use g1_words::Fault;
+use g1_work::{DealSeat, Dealer, Open, Task, each_chunk};
+use std::alloc::Global;
+use std::thread::Threads;
+
+pub fn run<R: Threads + Sync>(
+    rt: &R,
+    alloc: Global,
+    settings: &Settings,
+    watch: &mut Watch,
+) -> Result<(), Fault> {
+    dealt(alloc, watch)?;
+    claimed(alloc, watch)?;
+    shared(rt, alloc, settings.workers(), watch)
+}
+
+/// A dealer of one chunk, and two seats.
+fn dealt(alloc: Global, watch: &mut Watch) -> Result<(), Fault> {
+    watch.at("dealer_new")?;
+    let (dealer, mut seat) = Dealer::new(alloc, 1)?;
+    watch.numbers(&[u64::from(g1_work::shares(&seat))])?;
+    watch.at("dealer_split")?;
+    let mut other = dealer.split(&mut seat);
+    watch.numbers(&[
+        u64::from(g1_work::shares(&seat)),
+        u64::from(g1_work::shares(&other)),
+    ])?;
+    watch.at("take")?;
+    let first = taken(&dealer, &mut seat);
+    watch.numbers(&[first])?;
+    watch.at("take")?;
+    let second = taken(&dealer, &mut seat);
+    watch.numbers(&[second])?;
+    watch.at("drawn")?;
+    let drawn = dealer.drawn(&mut other);
+    watch.numbers(&[drawn])?;
+    watch.at("dealer_join")?;
+    dealer.join(&mut seat, other);
+    watch.numbers(&[u64::from(g1_work::shares(&seat))])?;
+    watch.at("dealer_close")?;
+    let cursor = dealer.close(seat);
+    watch.numbers(&[cursor])?;
+    Ok(())
+}
+
+/// What `take` answers. The seat keeps its dealer and its shares: no more of it is needed here.
+fn taken(dealer: &Dealer, seat: &mut DealSeat) -> u64
+    requires { IsSeat dealer.now seat.old }
+    ensures seat { IsSeat dealer.now seat.new }
+    ensures shares { seat.new.shares ≡ seat.old.shares }
+{
+    dealer.take(seat).unwrap_or(u64::MAX)
+}
+
+/// A claim word, and two seats.
+fn claimed(alloc: Global, watch: &mut Watch) -> Result<(), Fault> {
+    watch.at("claims_new")?;
+    let (claims, mut seat) = Claims::new(alloc, 2)?;
+    watch.numbers(&[u64::from(g1_claim::shares(&seat))])?;
+    watch.at("claims_split")?;
+    let mut other = claims.split(&mut seat);
+    watch.numbers(&[
+        u64::from(g1_claim::shares(&seat)),
+        u64::from(g1_claim::shares(&other)),
+    ])?;
+    watch.at("offer")?;
+    let first = offered(&claims, &mut seat, 9);
+    watch.numbers(&[first])?;
+    watch.at("offer")?;
+    let second = offered(&claims, &mut seat, 12);
+    watch.numbers(&[second])?;
+    watch.at("least")?;
+    let least = claims.least(&mut other, 0);
+    watch.numbers(&[least])?;
+    watch.at("claims_join")?;
+    claims.join(&mut seat, other);
+    watch.numbers(&[u64::from(g1_claim::shares(&seat))])?;
+    watch.at("claims_close")?;
+    let words = claims.close(seat);
+    watch.numbers(words.as_slice())?;
+    Ok(())
+}
+
+/// What `offer` answers, as 0 or 1. The seat keeps its table and its shares.
+fn offered(claims: &Claims, seat: &mut ClaimSeat, rank: u64) -> u64
+    requires seat { IsClaimSeat claims.now seat.old }
+    requires places { 0 < claims.now.places }
+    requires rank { rank < 16 }
+    ensures seat { IsClaimSeat claims.now seat.new }
+    ensures shares { seat.new.hand.shares ≡ seat.old.hand.shares }
+{
+    u64::from(claims.offer(seat, 0, rank))
+}
+
+/// Gives the square of its chunk.
+struct Squares;
+
+impl Task for Squares {
+    type State = ();
+
+    type Out = u64;
+
+    ghost ready = { λ _ _ _. Unit {0} };
+
+    ghost runs = { λ _ _ _ _ _. Unit {0} };
+
+    ghost may_fail = { λ _ _ _. ⊥ };
+
+    fn run(&self, _state: &mut (), chunk: u64) -> Result<u64, Fault> {
+        Ok(chunk.wrapping_mul(chunk))
+    }
+}
+
+/// Nine chunks.
+fn shared<R: Threads + Sync>(
+    rt: &R,
+    alloc: Global,
+    workers: u64,
+    watch: &mut Watch,
+) -> Result<(), Fault>
+    requires { (0 < workers) × (workers ≤ 64) }
+{
+    let states = vec![in alloc; (); workers as usize]?;
+    watch.at("each_chunk")?;
+    let (_, outs) = each_chunk(rt, alloc, states, 9, &Squares, &Open)?;
+    watch.numbers(outs.as_slice())?;
+    Ok(())
+}

@@ -1,0 +1,169 @@
+//! Traces, and one command of them.
+use crate::watch::Watch;
+use g1_choose::Cost;
+use g1_pause::Settings;
+use g1_trace::{Command, Mutator, Reply, Trace, parse_trace, run_text, run_trace};
+use g1_words::{Fault, Geometry};
+use g1_work::Open;
+use std::alloc::{AllocError, Global};
+use std::thread::Threads;
+
+/// The calls that are asked for on a trace.
+pub const CALLS: [&str; 5] = [
+    "parse_trace",
+    "mutator_new",
+    "step",
+    "run_trace",
+    "run_text",
+];
+
+/// What a pause of a trace costs: the cost of the program where no option says another.
+const COST: Cost = Cost {
+    fixed: 0,
+    dirty: 1,
+    card: 1,
+    byte: 1,
+};
+
+pub fn run<R: Threads + Sync>(
+    rt: &R,
+    alloc: Global,
+    settings: &Settings,
+    number: u64,
+    bytes: &[u8],
+    watch: &mut Watch,
+) -> Result<(), Fault> {
+    let trace = parsed(alloc, bytes, watch)?;
+    answered(rt, alloc, settings, bytes, watch)?;
+    replied(rt, alloc, settings, &trace, watch)?;
+    stepped(rt, alloc, settings, number, &trace, watch)
+}
+
+/// The trace that the bytes tell.
+fn parsed(alloc: Global, bytes: &[u8], watch: &mut Watch) -> Result<Trace, Fault> {
+    watch.at("parse_trace")?;
+    let trace = parse_trace(alloc, bytes)?;
+    let commands = trace.commands.len() as u64;
+    watch.numbers(&[trace.w, trace.k, trace.n, trace.roots, commands])?;
+    Ok(trace)
+}
+
+/// The whole trace, from text to text.
+fn answered<R: Threads + Sync>(
+    rt: &R,
+    alloc: Global,
+    settings: &Settings,
+    bytes: &[u8],
+    watch: &mut Watch,
+) -> Result<(), Fault> {
+    let (workers, chunk) = (settings.workers(), settings.chunk());
+    watch.at("run_text")?;
+    let text = run_text(rt, alloc, bytes, &COST, workers, chunk, &Open)?;
+    Ok(watch.bytes(text.as_slice())?)
+}
+
+/// The replies to the whole trace.
+fn replied<R: Threads + Sync>(
+    rt: &R,
+    alloc: Global,
+    settings: &Settings,
+    trace: &Trace,
+    watch: &mut Watch,
+) -> Result<(), Fault> {
+    let (workers, chunk) = (settings.workers(), settings.chunk());
+    watch.at("run_trace")?;
+    let replies = run_trace(rt, alloc, trace, &COST, workers, chunk, &Open)?;
+    if watch.is_over()? {
+        tell_all(alloc, replies.as_slice(), watch)?;
+    }
+    Ok(())
+}
+
+/// Does the trace command by command, and watches the one of this number.
+fn stepped<R: Threads + Sync>(
+    rt: &R,
+    alloc: Global,
+    settings: &Settings,
+    number: u64,
+    trace: &Trace,
+    watch: &mut Watch,
+) -> Result<(), Fault> {
+    let mut mutator = begun(alloc, trace, watch)?;
+    let mut place: u64 = 0;
+    for command in &trace.commands {
+        if place == number {
+            watch.at("step")?;
+        }
+        place = place.saturating_add(1);
+        let (next, reply) = step(rt, alloc, settings, mutator, command, watch)?;
+        mutator = next;
+        if watch.is_of(&["mutator_new", "step"]) {
+            tell(alloc, reply, watch)?;
+        }
+    }
+    Ok(())
+}
+
+fn begun(alloc: Global, trace: &Trace, watch: &mut Watch) -> Result<Mutator, Fault> {
+    let geometry = Geometry::new(trace.w, trace.k, trace.n)?;
+    watch.at("mutator_new")?;
+    let mutator = Mutator::new(alloc, geometry, trace.roots)?;
+    watch.is_over()?;
+    Ok(mutator)
+}
+
+/// One command. Where it is watched, and memory was refused, it is given again.
+fn step<R: Threads + Sync>(
+    rt: &R,
+    alloc: Global,
+    settings: &Settings,
+    mutator: Mutator,
+    command: &Command,
+    watch: &mut Watch,
+) -> Result<(Mutator, Reply), Fault> {
+    let (mutator, outcome) = given(rt, alloc, settings, mutator, command);
+    let on = watch.is_over()?;
+    match outcome {
+        Ok(reply) => Ok((mutator, reply)),
+        Err(fault) => {
+            if on {
+                watch.fault(&fault)?;
+            }
+            let (mutator, again) = given(rt, alloc, settings, mutator, command);
+            Ok((mutator, again?))
+        }
+    }
+}
+
+/// What `step` promises is not needed here.
+fn given<R: Threads + Sync>(
+    rt: &R,
+    alloc: Global,
+    settings: &Settings,
+    mutator: Mutator,
+    command: &Command,
+) -> (Mutator, Result<Reply, Fault>) {
+    let (workers, chunk) = (settings.workers(), settings.chunk());
+    mutator.step(rt, alloc, command, &COST, workers, chunk, &Open)
+}
+
+fn tell_all(alloc: Global, replies: &[Reply], watch: &mut Watch) -> Result<(), AllocError> {
+    for reply in replies {
+        tell(alloc, *reply, watch)?;
+    }
+    Ok(())
+}
+
+fn tell(alloc: Global, reply: Reply, watch: &mut Watch) -> Result<(), AllocError> {
+    match reply {
+        Reply::Ok => watch.line("ok"),
+        Reply::Full => watch.line("full"),
+        Reply::Range => watch.line("range"),
+        Reply::Null => watch.line("null"),
+        Reply::Room => watch.line("room"),
+        Reply::Number(value) => {
+            let line = format!(in alloc; "{value}")?;
+            watch.line(line.as_str())
+        }
+    }
+}
