@@ -30,4 +30,4 @@ pub use preparing::{Prepared, prepare, prepare_on};
 pub use remembering::new_rem;
 
 #[cfg(test)]
-mod tests_gather;
+mod tests;

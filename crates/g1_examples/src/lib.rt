@@ -71,6 +71,4 @@ pub fn texts()
 {}
 
 #[cfg(test)]
-mod layout_tests;
-#[cfg(test)]
 mod tests;

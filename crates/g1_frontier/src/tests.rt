@@ -3,77 +3,29 @@ ghost use Rattle.std.specs.Prelude.{◌≡◌, ◌<◌, ◌≤◌};
 use crate::discover;
 use crate::survivors::{Search, first_round, next_round};
 use g1_claim::EMPTY;
-use g1_image::decode;
-use g1_rem::{Starts, image, refine, verify};
+use g1_rem::{Starts, Tracked, image, refine, verify};
+use g1_testing::pictures::{cycle, dead_outside, shared, two_roots};
 use g1_words::Fault;
 use g1_work::{Gate, Open, Part, Team};
-use std::alloc::{AllocError, Global};
+use std::alloc::Global;
 use std::sync::atomic::{AtomicBool, AtomicU64, Ordering};
 use std::test::Fail;
 use std::thread::Threads;
 
-const MAGIC: [u8; 8] = *b"G1IMAGE1";
-
-/// An object's size in words, as its header holds it.
-const SIZE: u64 = 4_294_967_296;
-
-/// The roots name 18, then 16.
-const TWO_ROOTS: [u32; 22] = [
-    16, 4, 4, 2, 0, 4, 0, 0, 1, 6, 0, 0, 0, 0, 19, 0, 17, 0, 0, 0, 0, 0,
-];
-
-const TWO_ROOTS_WORDS: [u64; 6] = [2 * SIZE, 5, 4 * SIZE, 6, 7, 8];
-
-/// 16 and 18 name one another, and nothing else names them.
-const CYCLE: [u32; 18] = [16, 4, 4, 0, 0, 4, 0, 0, 1, 4, 0, 0, 0, 0, 0, 0, 0, 0];
-
-const CYCLE_WORDS: [u64; 4] = [2 * SIZE + 1, 19, 2 * SIZE + 1, 17];
-
-/// The roots name 21 and 16, two slots outside name 21, and so do all three slots of 16.
-const SHARED: [u32; 24] = [
-    16, 4, 4, 2, 0, 4, 1, 6, 1, 7, 0, 0, 0, 0, 22, 0, 17, 0, 0, 2, 0, 1, 0, 0,
-];
-
-/// Nothing names the object at 1, whose third slot names 16.
-const DEAD_OUTSIDE: [u32; 19] = [16, 4, 4, 0, 0, 4, 1, 6, 1, 2, 0, 0, 0, 0, 0, 1, 1, 0, 0];
-
-const DEAD_OUTSIDE_WORDS: [u64; 8] = [SIZE, 5 * SIZE + 3, 0, 0, 17, 0, 2 * SIZE, 3];
-
-fn shared_words() -> [u64; 13] {
-    [
-        4 * SIZE + 1,
-        22,
-        1,
-        2,
-        2 * SIZE + 1,
-        22,
-        5 * SIZE + 3,
-        22,
-        22,
-        22,
-        1,
-        2 * SIZE,
-        8,
-    ]
+/// The image that the lines draw, if its slots are covered.
+fn tracked<R: Threads + Sync>(rt: &R, alloc: Global, lines: &str) -> Result<Tracked, Fault> {
+    let image = g1_testing::image(alloc, lines)?;
+    match verify(rt, alloc, image) {
+        Ok(tracked) => Ok(tracked),
+        Err((_, fault)) => Err(fault),
+    }
 }
 
-/// The text with these numbers and these words.
-fn text_of(alloc: Global, numbers: &[u32], words: &[u64]) -> Result<Vec<u8>, AllocError> {
-    let mut bytes = Vec::from_slice(alloc, &MAGIC)?;
-    for number in numbers {
-        bytes.extend_from_slice(&number.to_le_bytes())?;
-    }
-    for word in words {
-        bytes.extend_from_slice(&word.to_le_bytes())?;
-    }
-    Ok(bytes)
-}
-
-/// The survivors of region 1 of a text's image, by the cards of its refined set.
+/// The survivors of region 1 of an image, by the cards of its refined set.
 fn survivors<R: Threads + Sync, G: Gate + Sync>(
     rt: &R,
     alloc: Global,
-    text: &[u8],
+    lines: &str,
     workers: u64,
     chunk: u64,
     gate: &G,
@@ -81,10 +33,7 @@ fn survivors<R: Threads + Sync, G: Gate + Sync>(
     requires workers { (0 < workers) × (workers ≤ 64) }
     requires chunk { (0 < chunk) × (chunk ≤ 65536) }
 {
-    let tracked = match verify(rt, alloc, decode(alloc, text)?) {
-        Ok(tracked) => tracked,
-        Err((_, fault)) => return Err(fault),
-    };
+    let tracked = tracked(rt, alloc, lines)?;
     let heap = image(&tracked).heap();
     if heap.geometry().regions() < 2 {
         return Err(Fault::Set(1));
@@ -109,40 +58,38 @@ fn survivors<R: Threads + Sync, G: Gate + Sync>(
 fn are_survivors<R: Threads + Sync>(
     rt: &R,
     alloc: Global,
-    numbers: &[u32],
-    words: &[u64],
+    lines: &str,
     expected: &[u64],
 ) -> Result<bool, Fault> {
-    let text = text_of(alloc, numbers, words)?;
-    let one = survivors(rt, alloc, &text, 1, 1, &Open)?;
-    let one_large = survivors(rt, alloc, &text, 1, 65_536, &Open)?;
-    let eight = survivors(rt, alloc, &text, 8, 1, &Open)?;
-    let eight_large = survivors(rt, alloc, &text, 8, 65_536, &Open)?;
+    let one = survivors(rt, alloc, lines, 1, 1, &Open)?;
+    let one_large = survivors(rt, alloc, lines, 1, 65_536, &Open)?;
+    let eight = survivors(rt, alloc, lines, 8, 1, &Open)?;
+    let eight_large = survivors(rt, alloc, lines, 8, 65_536, &Open)?;
     let equal = one == one_large && one == eight && one == eight_large;
     Ok(equal && one.as_slice() == expected)
 }
 
 #[test]
 fn targets_of_roots_come_by_root_number(rt: HostRuntime) -> Result<(), Fail> {
-    assert!(rt; are_survivors(&rt, rt.alloc(), &TWO_ROOTS, &TWO_ROOTS_WORDS, &[18, 16])?);
+    assert!(rt; are_survivors(&rt, rt.alloc(), two_roots(), &[18, 16])?);
     Ok(())
 }
 
 #[test]
 fn a_cycle_that_keeps_itself_is_not_found(rt: HostRuntime) -> Result<(), Fail> {
-    assert!(rt; are_survivors(&rt, rt.alloc(), &CYCLE, &CYCLE_WORDS, &[])?);
+    assert!(rt; are_survivors(&rt, rt.alloc(), cycle(), &[])?);
     Ok(())
 }
 
 #[test]
 fn an_object_that_many_name_is_found_once(rt: HostRuntime) -> Result<(), Fail> {
-    assert!(rt; are_survivors(&rt, rt.alloc(), &SHARED, &shared_words(), &[21, 16])?);
+    assert!(rt; are_survivors(&rt, rt.alloc(), shared(), &[21, 16])?);
     Ok(())
 }
 
 #[test]
 fn a_dead_outside_slot_keeps_its_target(rt: HostRuntime) -> Result<(), Fail> {
-    assert!(rt; are_survivors(&rt, rt.alloc(), &DEAD_OUTSIDE, &DEAD_OUTSIDE_WORDS, &[16])?);
+    assert!(rt; are_survivors(&rt, rt.alloc(), dead_outside(), &[16])?);
     Ok(())
 }
 
@@ -199,8 +146,7 @@ impl Gate for Meeting {
 /// Tells whether two workers are in a round at the same time, and the survivors are the right ones.
 fn meets<R: Threads + Sync>(rt: &R, alloc: Global, round: u64) -> Result<bool, Fault> {
     let gate = meeting_in(round);
-    let text = text_of(alloc, &SHARED, &shared_words())?;
-    let found = survivors(rt, alloc, &text, 2, 1, &gate)?;
+    let found = survivors(rt, alloc, shared(), 2, 1, &gate)?;
     let both = gate.zero.load(Ordering::SeqCst) && gate.one.load(Ordering::SeqCst);
     Ok(both && !gate.missed.load(Ordering::SeqCst) && found.as_slice() == [21, 16].as_slice())
 }
@@ -230,13 +176,10 @@ struct Rounds {
 fn two_rounds<R: Threads + Sync>(
     rt: &R,
     alloc: Global,
-    text: &[u8],
+    lines: &str,
     team: Team,
 ) -> Result<Rounds, Fault> {
-    let tracked = match verify(rt, alloc, decode(alloc, text)?) {
-        Ok(tracked) => tracked,
-        Err((_, fault)) => return Err(fault),
-    };
+    let tracked = tracked(rt, alloc, lines)?;
     let heap = image(&tracked).heap();
     if heap.geometry().regions() < 2 {
         return Err(Fault::Set(1));
@@ -265,8 +208,7 @@ fn two_rounds<R: Threads + Sync>(
 
 #[test]
 fn the_least_rank_of_each_place_stays_its_word(rt: HostRuntime) -> Result<(), Fail> {
-    let text = text_of(rt.alloc(), &SHARED, &shared_words())?;
-    let two = two_rounds(&rt, rt.alloc(), &text, Team::new(8, 1))?;
+    let two = two_rounds(&rt, rt.alloc(), shared(), Team::new(8, 1))?;
     assert_eq!(rt; two.first.as_slice(), [21, 16].as_slice());
     assert_eq!(rt; two.both.as_slice(), [21, 16].as_slice());
     assert_eq!(rt; two.next, 69);

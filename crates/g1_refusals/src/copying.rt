@@ -117,7 +117,7 @@ fn made<R: Threads + Sync>(
 {
     if watch.is_of(&["prepare_on"]) {
         watch.at("prepare_on")?;
-        let prepared = prepare_on(rt, alloc, tracked, starts, remembered, set, plan, cards)?;
+        let prepared = prepare_on(rt, alloc, tracked, starts, remembered, set, plan, cards, 1)?;
         watch.done()?;
         return Ok(prepared);
     }

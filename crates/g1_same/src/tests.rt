@@ -1,27 +1,14 @@
 use crate::{Difference, compare};
-use g1_image::{Image, decode};
+use g1_testing::image;
 use g1_words::Fault;
 use std::alloc::Global;
 use std::process::Abort;
 use std::test::Fail;
 
-/// An object's size in words, as its header holds it.
-const SIZE: u64 = 4_294_967_296;
-
-/// The image of a text with these numbers and these words. A root takes two numbers, the low one first.
-fn image_of(alloc: Global, numbers: &[u32], words: &[u64]) -> Result<Image, Fault> {
-    let mut bytes = b"G1IMAGE1".to_vec(alloc)?;
-    for number in numbers {
-        bytes.extend_from_slice(&number.to_le_bytes())?;
-    }
-    for word in words {
-        bytes.extend_from_slice(&word.to_le_bytes())?;
-    }
-    decode(alloc, bytes.as_slice())
-}
-
-/// What `compare` tells of two images, as a line.
-fn told(alloc: Global, before: &Image, after: &Image) -> Result<String, Fault> {
+/// What `compare` tells of the images that the lines draw, as a line.
+fn told(alloc: Global, before: &str, after: &str) -> Result<String, Fault> {
+    let before = image(alloc, before)?;
+    let after = image(alloc, after)?;
     Ok(match compare(alloc, before.heap(), after.heap())? {
         Ok(same) => format!(in alloc; "{:?} {:?}", same.before, same.after)?,
         Err(Difference::Roots { before, after }) => format!(in alloc; "roots {before} {after}")?,
@@ -31,213 +18,241 @@ fn told(alloc: Global, before: &Image, after: &Image) -> Result<String, Fault> {
     })
 }
 
-/// Sees that `compare` tells this line of an image and one with these numbers and words.
+/// Sees that `compare` tells this line.
 fn expect<T: Abort>(
     rt: &T,
     alloc: Global,
-    before: &Image,
-    numbers: &[u32],
-    words: &[u64],
+    before: &str,
+    after: &str,
     line: &str,
 ) -> Result<(), Fault> {
-    let after = image_of(alloc, numbers, words)?;
-    let found = told(alloc, before, &after)?;
+    let found = told(alloc, before, after)?;
     assert_eq!(rt; found.as_str(), line);
     Ok(())
 }
 
 /// Two objects that name one another, with one data word each, at 0 and 3, and a dead one. The first
 /// root names the one at 3, the second nothing.
-const PAIR: [u32; 16] = [16, 4, 2, 2, 0, 2, 1, 8, 0, 0, 4, 0, 0, 0, 0, 0];
-
-const PAIR_WORDS: [u64; 8] = [3 * SIZE + 1, 4, 7, 3 * SIZE + 1, 1, 8, 2 * SIZE, 9];
+const PAIR: &str = "heap 16 4 2
+    root 3
+    root -
+    region 0 ordinary
+    object 3/1 3 7
+    object 3/1 0 8
+    object 2/0 9";
 
 /// The pair at 19 and 16, in the second region, without the dead object.
-const MOVED: [u32; 16] = [16, 4, 2, 2, 0, 2, 0, 0, 1, 6, 17, 0, 0, 0, 0, 0];
-
-const MOVED_WORDS: [u64; 6] = [3 * SIZE + 1, 20, 8, 3 * SIZE + 1, 17, 7];
+const MOVED: &str = "heap 16 4 2
+    root 16
+    root -
+    region 1 ordinary
+    object 3/1 19 8
+    object 3/1 16 7";
 
 /// The pair at 3 and 0, in one region of 32 words.
-const WIDE: [u32; 13] = [32, 8, 1, 2, 0, 1, 1, 6, 1, 0, 0, 0, 0];
-
-const WIDE_WORDS: [u64; 6] = [3 * SIZE + 1, 4, 8, 3 * SIZE + 1, 1, 7];
+const WIDE: &str = "heap 32 8 1
+    root 0
+    root -
+    region 0 ordinary
+    object 3/1 3 8
+    object 3/1 0 7";
 
 #[test]
 fn the_same_graph(rt: HostRuntime) -> Result<(), Fail> {
     let alloc = rt.alloc();
-    let pair = image_of(alloc, &PAIR, &PAIR_WORDS)?;
-    expect(&rt, alloc, &pair, &PAIR, &PAIR_WORDS, "[3, 0] [3, 0]")?;
-    expect(&rt, alloc, &pair, &MOVED, &MOVED_WORDS, "[3, 0] [16, 19]")?;
-    expect(&rt, alloc, &pair, &WIDE, &WIDE_WORDS, "[3, 0] [0, 3]")?;
+    expect(&rt, alloc, PAIR, PAIR, "[3, 0] [3, 0]")?;
+    expect(&rt, alloc, PAIR, MOVED, "[3, 0] [16, 19]")?;
+    expect(&rt, alloc, PAIR, WIDE, "[3, 0] [0, 3]")?;
     Ok(())
 }
 
-/// The moved pair with one root, with both roots on one object, with none, and with the first on the
-/// other object.
-const ONE_ROOT: [u32; 14] = [16, 4, 2, 1, 0, 2, 0, 0, 1, 6, 17, 0, 0, 0];
+/// The moved pair with one root.
+const ONE_ROOT: &str = "heap 16 4 2
+    root 16
+    region 1 ordinary
+    object 3/1 19 8
+    object 3/1 16 7";
 
-const BOTH_ROOTS: [u32; 16] = [16, 4, 2, 2, 0, 2, 0, 0, 1, 6, 17, 0, 17, 0, 0, 0];
+/// With both roots on one object.
+const BOTH_ROOTS: &str = "heap 16 4 2
+    root 16
+    root 16
+    region 1 ordinary
+    object 3/1 19 8
+    object 3/1 16 7";
 
-const NULL_ROOTS: [u32; 16] = [16, 4, 2, 2, 0, 2, 0, 0, 1, 6, 0, 0, 0, 0, 0, 0];
+/// With none.
+const NULL_ROOTS: &str = "heap 16 4 2
+    root -
+    root -
+    region 1 ordinary
+    object 3/1 19 8
+    object 3/1 16 7";
 
-const OTHER_ROOT: [u32; 16] = [16, 4, 2, 2, 0, 2, 0, 0, 1, 6, 20, 0, 0, 0, 0, 0];
+/// With the first on the other object.
+const OTHER_ROOT: &str = "heap 16 4 2
+    root 19
+    root -
+    region 1 ordinary
+    object 3/1 19 8
+    object 3/1 16 7";
 
 #[test]
 fn other_roots(rt: HostRuntime) -> Result<(), Fail> {
     let alloc = rt.alloc();
-    let pair = image_of(alloc, &PAIR, &PAIR_WORDS)?;
-    expect(&rt, alloc, &pair, &ONE_ROOT, &MOVED_WORDS, "roots 2 1")?;
+    expect(&rt, alloc, PAIR, ONE_ROOT, "roots 2 1")?;
     let line = "1 [] NullBefore";
-    expect(&rt, alloc, &pair, &BOTH_ROOTS, &MOVED_WORDS, line)?;
+    expect(&rt, alloc, PAIR, BOTH_ROOTS, line)?;
     let line = "0 [] NullAfter";
-    expect(&rt, alloc, &pair, &NULL_ROOTS, &MOVED_WORDS, line)?;
+    expect(&rt, alloc, PAIR, NULL_ROOTS, line)?;
     let line = "0 [] Data { word: 0 }";
-    expect(&rt, alloc, &pair, &OTHER_ROOT, &MOVED_WORDS, line)?;
+    expect(&rt, alloc, PAIR, OTHER_ROOT, line)?;
     Ok(())
 }
 
 /// The second object of the moved pair has one word more.
-const LARGER: [u32; 16] = [16, 4, 2, 2, 0, 2, 0, 0, 1, 7, 17, 0, 0, 0, 0, 0];
+const LARGER: &str = "heap 16 4 2
+    root 16
+    root -
+    region 1 ordinary
+    object 3/1 19 8
+    object 4/1 16 7 0";
 
-const LARGER_WORDS: [u64; 7] = [3 * SIZE + 1, 20, 8, 4 * SIZE + 1, 17, 7, 0];
+/// It has no slot.
+const SLOTLESS: &str = "heap 16 4 2
+    root 16
+    root -
+    region 1 ordinary
+    object 3/1 19 8
+    object 3/0 17 7";
 
-/// It has no slot; and it names nothing.
-const SLOTLESS_WORDS: [u64; 6] = [3 * SIZE + 1, 20, 8, 3 * SIZE, 17, 7];
-
-const CUT_WORDS: [u64; 6] = [3 * SIZE + 1, 20, 8, 3 * SIZE + 1, 0, 7];
+/// It names nothing.
+const CUT: &str = "heap 16 4 2
+    root 16
+    root -
+    region 1 ordinary
+    object 3/1 19 8
+    object 3/1 - 7";
 
 #[test]
 fn other_objects(rt: HostRuntime) -> Result<(), Fail> {
     let alloc = rt.alloc();
-    let pair = image_of(alloc, &PAIR, &PAIR_WORDS)?;
     let line = "0 [0] Size { before: 3, after: 4 }";
-    expect(&rt, alloc, &pair, &LARGER, &LARGER_WORDS, line)?;
+    expect(&rt, alloc, PAIR, LARGER, line)?;
     let line = "0 [0] Slots { before: 1, after: 0 }";
-    expect(&rt, alloc, &pair, &MOVED, &SLOTLESS_WORDS, line)?;
+    expect(&rt, alloc, PAIR, SLOTLESS, line)?;
     let line = "0 [0, 0] NullAfter";
-    expect(&rt, alloc, &pair, &MOVED, &CUT_WORDS, line)?;
+    expect(&rt, alloc, PAIR, CUT, line)?;
     Ok(())
 }
 
-/// The second object of the moved pair names a second copy of the first one, at 22.
-const COPIED: [u32; 16] = [16, 4, 2, 2, 0, 2, 0, 0, 1, 9, 17, 0, 0, 0, 0, 0];
-
-const COPIED_WORDS: [u64; 9] = [
-    3 * SIZE + 1,
-    20,
-    8,
-    3 * SIZE + 1,
-    23,
-    7,
-    3 * SIZE + 1,
-    17,
-    8,
-];
+/// It names a second copy of the first one, at 22.
+const COPIED: &str = "heap 16 4 2
+    root 16
+    root -
+    region 1 ordinary
+    object 3/1 19 8
+    object 3/1 22 7
+    object 3/1 16 8";
 
 /// The first object of the moved pair names itself.
-const MERGED_WORDS: [u64; 6] = [3 * SIZE + 1, 17, 8, 3 * SIZE + 1, 17, 7];
+const MERGED: &str = "heap 16 4 2
+    root 16
+    root -
+    region 1 ordinary
+    object 3/1 16 8
+    object 3/1 16 7";
 
 #[test]
 fn copies_and_merges(rt: HostRuntime) -> Result<(), Fail> {
     let alloc = rt.alloc();
-    let pair = image_of(alloc, &PAIR, &PAIR_WORDS)?;
     let line = "0 [0, 0] Split { object: 3, first: 16, second: 22 }";
-    expect(&rt, alloc, &pair, &COPIED, &COPIED_WORDS, line)?;
+    expect(&rt, alloc, PAIR, COPIED, line)?;
     let line = "0 [0] Joined { first: 3, second: 0, object: 16 }";
-    expect(&rt, alloc, &pair, &MOVED, &MERGED_WORDS, line)?;
+    expect(&rt, alloc, PAIR, MERGED, line)?;
     Ok(())
 }
 
-/// Two roots that name two objects, and two that name one.
-const TWINS: [u32; 16] = [16, 4, 2, 2, 0, 2, 1, 4, 0, 0, 1, 0, 3, 0, 0, 0];
+/// Two roots that name two objects.
+const TWINS: &str = "heap 16 4 2
+    root 0
+    root 2
+    region 0 ordinary
+    object 2/0 5
+    object 2/0 5";
 
-const TWIN_WORDS: [u64; 4] = [2 * SIZE, 5, 2 * SIZE, 5];
-
-const ONE_OBJECT: [u32; 16] = [16, 4, 2, 2, 0, 2, 0, 0, 1, 2, 17, 0, 17, 0, 0, 0];
-
-const ONE_OBJECT_WORDS: [u64; 2] = [2 * SIZE, 5];
+/// Two roots that name one object.
+const ONE_OBJECT: &str = "heap 16 4 2
+    root 16
+    root 16
+    region 1 ordinary
+    object 2/0 5";
 
 #[test]
 fn two_roots(rt: HostRuntime) -> Result<(), Fail> {
     let alloc = rt.alloc();
-    let one = image_of(alloc, &ONE_OBJECT, &ONE_OBJECT_WORDS)?;
     let line = "[16] [16]";
-    expect(&rt, alloc, &one, &ONE_OBJECT, &ONE_OBJECT_WORDS, line)?;
+    expect(&rt, alloc, ONE_OBJECT, ONE_OBJECT, line)?;
     let line = "1 [] Split { object: 16, first: 0, second: 2 }";
-    expect(&rt, alloc, &one, &TWINS, &TWIN_WORDS, line)?;
-    let twins = image_of(alloc, &TWINS, &TWIN_WORDS)?;
+    expect(&rt, alloc, ONE_OBJECT, TWINS, line)?;
     let line = "1 [] Joined { first: 0, second: 2, object: 16 }";
-    expect(&rt, alloc, &twins, &ONE_OBJECT, &ONE_OBJECT_WORDS, line)?;
+    expect(&rt, alloc, TWINS, ONE_OBJECT, line)?;
     Ok(())
 }
 
-/// An object that names itself, in the first region and in the second.
-const ITSELF: [u32; 14] = [16, 4, 2, 1, 0, 2, 1, 2, 0, 0, 1, 0, 0, 0];
+/// An object that names itself, in the first region.
+const ITSELF: &str = "heap 16 4 2
+    root 0
+    region 0 ordinary
+    object 2/1 0";
 
-const ITSELF_WORDS: [u64; 2] = [2 * SIZE + 1, 1];
+/// In the second.
+const ITSELF_MOVED: &str = "heap 16 4 2
+    root 16
+    region 1 ordinary
+    object 2/1 16";
 
-const ITSELF_MOVED: [u32; 14] = [16, 4, 2, 1, 0, 2, 0, 0, 1, 2, 17, 0, 0, 0];
+/// No root, and an object that is dead.
+const NO_ROOTS: &str = "heap 16 4 2
+    region 1 ordinary
+    object 2/0 5";
 
-const ITSELF_MOVED_WORDS: [u64; 2] = [2 * SIZE + 1, 17];
-
-/// No root, and one object or another that is dead.
-const NO_ROOTS: [u32; 12] = [16, 4, 2, 0, 0, 2, 0, 0, 1, 2, 0, 0];
-
-const OTHER_WORDS: [u64; 2] = [2 * SIZE, 6];
+/// Another one.
+const OTHER_DEAD: &str = "heap 16 4 2
+    region 1 ordinary
+    object 2/0 6";
 
 #[test]
 fn self_references_and_no_roots(rt: HostRuntime) -> Result<(), Fail> {
     let alloc = rt.alloc();
-    let itself = image_of(alloc, &ITSELF, &ITSELF_WORDS)?;
     let line = "[0] [16]";
-    expect(
-        &rt,
-        alloc,
-        &itself,
-        &ITSELF_MOVED,
-        &ITSELF_MOVED_WORDS,
-        line,
-    )?;
-    let none = image_of(alloc, &NO_ROOTS, &ONE_OBJECT_WORDS)?;
-    expect(&rt, alloc, &none, &NO_ROOTS, &OTHER_WORDS, "[] []")?;
+    expect(&rt, alloc, ITSELF, ITSELF_MOVED, line)?;
+    expect(&rt, alloc, NO_ROOTS, OTHER_DEAD, "[] []")?;
     Ok(())
 }
 
 /// An object with two slots, its two children, and the first child's child, in the first region.
-const FAMILY: [u32; 14] = [16, 4, 2, 1, 0, 2, 1, 9, 0, 0, 1, 0, 0, 0];
-
-const FAMILY_WORDS: [u64; 9] = [
-    3 * SIZE + 2,
-    4,
-    6,
-    2 * SIZE + 1,
-    8,
-    2 * SIZE,
-    7,
-    2 * SIZE,
-    8,
-];
+const FAMILY: &str = "heap 16 4 2
+    root 0
+    region 0 ordinary
+    object 3/2 3 5
+    object 2/1 7
+    object 2/0 7
+    object 2/0 8";
 
 /// The same in the second region, with other data in the second child and in the grandchild.
-const FAMILY_MOVED: [u32; 14] = [16, 4, 2, 1, 0, 2, 0, 0, 1, 9, 17, 0, 0, 0];
-
-const TORN_WORDS: [u64; 9] = [
-    3 * SIZE + 2,
-    20,
-    22,
-    2 * SIZE + 1,
-    24,
-    2 * SIZE,
-    1,
-    2 * SIZE,
-    2,
-];
+const TORN: &str = "heap 16 4 2
+    root 16
+    region 1 ordinary
+    object 3/2 19 21
+    object 2/1 23
+    object 2/0 1
+    object 2/0 2";
 
 #[test]
 fn the_shorter_path_is_first(rt: HostRuntime) -> Result<(), Fail> {
     let alloc = rt.alloc();
-    let family = image_of(alloc, &FAMILY, &FAMILY_WORDS)?;
     let line = "0 [1] Data { word: 0 }";
-    expect(&rt, alloc, &family, &FAMILY_MOVED, &TORN_WORDS, line)?;
+    expect(&rt, alloc, FAMILY, TORN, line)?;
     Ok(())
 }

@@ -7,31 +7,6 @@ pub static SHARED: [u32; 50] = [
     2, 0, 1, 2, 22, 0, 3, 5, 22, 0, 22, 0, 22, 0, 1, 0, 0, 2, 8, 0,
 ];
 
-/// 21 is at 32 and 16 at 34.
-pub static SHARED_AFTER: [u32; 50] = [
-    16, 4, 4, 2, 0, 4, 1, 6, 0, 0, 1, 7, 0, 0, 33, 0, 35, 0, 0, 0, 2, 0, 1, 0, 1, 4, 33, 0, 1, 0,
-    2, 0, 1, 2, 33, 0, 0, 2, 8, 0, 3, 5, 33, 0, 33, 0, 33, 0, 1, 0,
-];
-
-/// Region 1 holds one object of four words, which the one root names.
-pub static ONE_OBJECT: [u32; 28] = [
-    16, 4, 4, 1, 0, 4, 0, 0, 1, 4, 0, 0, 0, 0, 17, 0, 0, 0, 0, 0, 1, 4, 0, 0, 7, 0, 9, 0,
-];
-
-/// The same object at the start of region 0.
-pub static ONE_OBJECT_AFTER: [u32; 28] = [
-    16, 4, 4, 1, 0, 4, 1, 4, 0, 0, 0, 0, 0, 0, 1, 0, 0, 0, 0, 0, 1, 4, 0, 0, 7, 0, 9, 0,
-];
-
-/// The text with these numbers behind the magic.
-pub fn text(alloc: Global, numbers: &[u32]) -> Result<Vec<u8>, AllocError> {
-    let mut bytes = Vec::from_slice(alloc, b"G1IMAGE1")?;
-    for number in numbers {
-        bytes.extend_from_slice(&number.to_le_bytes())?;
-    }
-    Ok(bytes)
-}
-
 /// A text that is written part by part.
 #[derive(Drop)]
 pub struct Writing {

@@ -1,84 +1,24 @@
 //! Readers and writers that fail once, and what is told of each of their calls.
-use crate::images::{ONE_OBJECT, ONE_OBJECT_AFTER, text};
 use g1_choose::Cost;
 use g1_pause::{Choice, FromReader, Settings, Sink, Source, ToWriter, pause_run};
+use g1_testing::pictures::{one_object, one_object_after};
+use g1_testing::{Stream, Trouble, text};
 use g1_words::{Device, Fault};
 use g1_work::Open;
 use std::alloc::Global;
-use std::io;
-use std::io::{ErrorKind, Read, Write};
+use std::io::{Read, Write};
 use std::test::Fail;
 use std::thread::Threads;
 
 /// Buffers of each length below this are tried.
 const LONGEST: usize = 70_000;
 
-/// What a call that doesn't go well answers.
-#[derive(Clone, Copy, PartialEq, Eq, Debug)]
-enum Trouble {
-    /// An error that another call doesn't give.
-    Error,
-    /// An error of a call that a signal interrupted.
-    Interrupted,
-    /// No byte taken, and no error.
-    Nothing,
-}
-
-/// Gives or takes a byte a call, counts its calls, and has trouble at one of them alone.
-#[derive(Drop)]
-struct Once {
-    bytes: Vec<u8>,
-    calls: usize,
-    trouble_at: usize,
-    trouble: Trouble,
-}
-
-impl Once {
-    fn turn(&mut self) -> io::Result<bool> {
-        let troubled = self.calls == self.trouble_at;
-        self.calls = self.calls.wrapping_add(1);
-        if !troubled {
-            return Ok(true);
-        }
-        match self.trouble {
-            Trouble::Error => Err(io::Error::from(ErrorKind::Other)),
-            Trouble::Interrupted => Err(io::Error::from(ErrorKind::Interrupted)),
-            Trouble::Nothing => Ok(false),
-        }
-    }
-}
-
-impl Read for Once {
-    fn read(&mut self, buf: &mut [u8]) -> io::Result<usize> {
-        if !self.turn()? || self.bytes.is_empty() || buf.is_empty() {
-            return Ok(0);
-        }
-        buf[0] = self.bytes.remove(0);
-        Ok(1)
-    }
-}
-
-impl Write for Once {
-    fn write(&mut self, buf: &[u8]) -> io::Result<usize> {
-        if !self.turn()? {
-            return Ok(0);
-        }
-        let taken = buf.len().min(1);
-        self.bytes.extend_from_slice(&buf[..taken])?;
-        Ok(taken)
-    }
-
-    fn flush(&mut self) -> io::Result<()> {
-        Ok(())
-    }
-}
-
 /// The pause that collects region 1, from the reader to the writer.
 fn pause<R: Threads + Sync>(
     rt: &R,
     alloc: Global,
-    reader: &mut Once,
-    writer: &mut Once,
+    reader: &mut Stream,
+    writer: &mut Stream,
 ) -> Result<(), Fault> {
     let cost = Cost {
         fixed: 0,
@@ -92,22 +32,13 @@ fn pause<R: Threads + Sync>(
     pause_run(rt, alloc, &mut source, &mut sink, &settings, &Open)
 }
 
-fn troubled(bytes: Vec<u8>, trouble_at: usize, trouble: Trouble) -> Once {
-    Once {
-        bytes,
-        calls: 0,
-        trouble_at,
-        trouble,
-    }
-}
-
 #[test]
 fn a_read_that_fails_once_is_told(rt: HostRuntime) -> Result<(), Fail> {
     let alloc = rt.alloc();
-    let before = text(alloc, &ONE_OBJECT)?;
+    let before = text(alloc, one_object())?;
     for at in 0..=before.len() {
-        let mut reader = troubled(before.clone()?, at, Trouble::Error);
-        let mut writer = troubled(Vec::new(alloc), usize::MAX, Trouble::Error);
+        let mut reader = Stream::new(before.clone()?, at, Trouble::Error);
+        let mut writer = Stream::new(Vec::new(alloc), usize::MAX, Trouble::Error);
         let told = pause(&rt, alloc, &mut reader, &mut writer);
         assert!(rt; told == Err(Fault::Device(Device::Input)), "{at}");
         assert_eq!(rt; (reader.calls, writer.calls), (at + 1, 0));
@@ -118,12 +49,12 @@ fn a_read_that_fails_once_is_told(rt: HostRuntime) -> Result<(), Fail> {
 #[test]
 fn a_write_that_fails_once_is_told(rt: HostRuntime) -> Result<(), Fail> {
     let alloc = rt.alloc();
-    let before = text(alloc, &ONE_OBJECT)?;
-    let after = text(alloc, &ONE_OBJECT_AFTER)?;
+    let before = text(alloc, one_object())?;
+    let after = text(alloc, one_object_after())?;
     for trouble in [Trouble::Error, Trouble::Nothing] {
         for at in 0..after.len() {
-            let mut reader = troubled(before.clone()?, usize::MAX, Trouble::Error);
-            let mut writer = troubled(Vec::new(alloc), at, trouble);
+            let mut reader = Stream::new(before.clone()?, usize::MAX, Trouble::Error);
+            let mut writer = Stream::new(Vec::new(alloc), at, trouble);
             let told = pause(&rt, alloc, &mut reader, &mut writer);
             assert!(rt; told == Err(Fault::Device(Device::Output)), "{at}");
             assert_eq!(rt; writer.bytes.as_slice(), &after[..at]);
@@ -136,11 +67,11 @@ fn a_write_that_fails_once_is_told(rt: HostRuntime) -> Result<(), Fail> {
 #[test]
 fn an_interrupted_call_is_made_again(rt: HostRuntime) -> Result<(), Fail> {
     let alloc = rt.alloc();
-    let before = text(alloc, &ONE_OBJECT)?;
-    let after = text(alloc, &ONE_OBJECT_AFTER)?;
+    let before = text(alloc, one_object())?;
+    let after = text(alloc, one_object_after())?;
     for at in 0..=before.len() {
-        let mut reader = troubled(before.clone()?, at, Trouble::Interrupted);
-        let mut writer = troubled(Vec::new(alloc), at, Trouble::Interrupted);
+        let mut reader = Stream::new(before.clone()?, at, Trouble::Interrupted);
+        let mut writer = Stream::new(Vec::new(alloc), at, Trouble::Interrupted);
         assert!(rt;
             pause(&rt, alloc, &mut reader, &mut writer) == Ok(()),
             "{at}"
@@ -174,8 +105,8 @@ fn a_device_is_told_only_of_a_call_that_failed(rt: HostRuntime) -> Result<(), Fa
     let alloc = rt.alloc();
     let mut buffer = vec![in alloc; 0u8; LONGEST]?;
     let seven = vec![in alloc; 7u8; 1]?;
-    let mut source = FromReader::new(troubled(seven, usize::MAX, Trouble::Error));
-    let mut sink = ToWriter::new(troubled(Vec::new(alloc), usize::MAX, Trouble::Error));
+    let mut source = FromReader::new(Stream::new(seven, usize::MAX, Trouble::Error));
+    let mut sink = ToWriter::new(Stream::new(Vec::new(alloc), usize::MAX, Trouble::Error));
     assert!(rt; read_front(&mut source, &mut buffer, 1) == Ok(1));
     for length in 0..LONGEST {
         assert!(rt;

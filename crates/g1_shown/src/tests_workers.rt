@@ -2,12 +2,13 @@
 //! workers; and that the gate is told before a run.
 ghost use Rattle.std.specs.Prelude.{◌≡◌};
 
-use crate::images::{SHARED, SHARED_AFTER, text};
 use g1_choose::Cost;
 use g1_image::{decode, encode};
 use g1_mark::live_bytes;
 use g1_pause::{Choice, Settings, evacuate};
 use g1_rem::{Starts, image, verify};
+use g1_testing::pictures::{shared, shared_after};
+use g1_testing::text;
 use g1_words::Fault;
 use g1_work::{Gate, Part, Task, each_chunk};
 use std::alloc::Global;
@@ -125,14 +126,14 @@ fn together_in_each_round(rt: HostRuntime) -> Result<(), Fail> {
     for (part, workers, parties, times) in [(Part::Deal, 2, 2, 2), (Part::Fill, 4, 4, 1)] {
         let gate = meeting_of(part, parties);
         let settings = Settings::new(workers, 1, cost, Choice::Given(vec![in alloc; 1]?))?;
-        let before = match verify(&rt, alloc, decode(alloc, &text(alloc, &SHARED)?)?) {
+        let before = match verify(&rt, alloc, decode(alloc, &text(alloc, shared())?)?) {
             Ok(tracked) => tracked,
             Err((_, fault)) => return Err(fault.into()),
         };
         match evacuate(&rt, alloc, before, &settings, &gate) {
             Ok((after, _)) => assert_eq!(rt;
                 encode(alloc, image(&after))?.as_slice(),
-                text(alloc, &SHARED_AFTER)?.as_slice()
+                text(alloc, shared_after())?.as_slice()
             ),
             Err((_, fault)) => return Err(fault.into()),
         }
@@ -144,7 +145,7 @@ fn together_in_each_round(rt: HostRuntime) -> Result<(), Fail> {
 #[test]
 fn together_when_live_bytes_are_counted(rt: HostRuntime) -> Result<(), Fail> {
     let alloc = rt.alloc();
-    let image = decode(alloc, &text(alloc, &SHARED)?)?;
+    let image = decode(alloc, &text(alloc, shared())?)?;
     let starts = Starts::build(alloc, image.heap())?;
     let gate = meeting_of(Part::Deal, 2);
     let live = live_bytes(&rt, alloc, image.heap(), &starts, 2, 1, &gate)?;

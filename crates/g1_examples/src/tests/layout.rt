@@ -4,33 +4,12 @@ ghost use Rattle.g1_words.specs.Heap.{object_at, objects, region_of};
 ghost use Rattle.g1_words.specs.Survivors.{AllOrdinary};
 ghost use Rattle.g1_layout.specs.Placed.{CanPlace};
 
-use g1_image::{Image, decode};
 use g1_layout::{Plan, Run, place};
+use g1_testing::image;
+use g1_testing::pictures::{fitted, gap, no_room, no_survivor, two_roots};
 use g1_words::{Fault, Heap, Kind, object_at, region_of};
 use std::alloc::Global;
 use std::test::Fail;
-
-/// The value of a hexadecimal digit.
-fn digit(c: u8) -> u8
-    ensures { result < 16 }
-{
-    if c >= b'0' && c <= b'9' {
-        c - b'0'
-    } else if c >= b'a' && c <= b'f' {
-        c - b'a' + 10
-    } else {
-        0
-    }
-}
-
-/// The image whose text has these hexadecimal digits.
-fn image_of(alloc: Global, digits: &[u8]) -> Result<Image, Fault> {
-    let mut bytes = Vec::new(alloc);
-    for i in 0..digits.len() / 2 {
-        bytes.push(digit(digits[2 * i]) * 16 + digit(digits[2 * i + 1]))?;
-    }
-    decode(alloc, &bytes)
-}
 
 /// Tells that each region's number is above the one before it.
 fn rises(set: &[u32]) -> bool
@@ -138,31 +117,11 @@ fn placed(alloc: Global, heap: &Heap, set: &[u32], survivors: &[u64]) -> Result<
     }
 }
 
-/// Two objects in region 1 of four regions.
-const TWO_OBJECTS: &[u8] =
-    b"4731494d4147453110000000040000000400000002000000000000000400000000000000000000000100000006000000000000000000000000000000000000001300000000000000110000000000000000000000000000000000000000000000000000000200000005000000000000000000000004000000060000000000000007000000000000000800000000000000";
-
-/// Objects of 12, 5 and 4 words in regions 0 and 1 of four.
-const TWELVE_FIVE_FOUR: &[u8] =
-    b"4731494d41474531100000000400000004000000030000000000000004000000010000000c00000001000000090000000000000000000000000000000000000001000000000000001100000000000000160000000000000000000000000000000000000000000000000000000c00000000000000000000000000000000000000000000000000000000000000000000000000000000000000000000000000000000000000000000000000000000000000000000000000000000000000000000000000000000000000000000000500000000000000000000000000000000000000000000000000000000000000000000000000000004000000000000000000000000000000000000000000000000000000";
-
-/// Objects of 12, 4 and 1 words in regions 0 and 1 of four.
-const TWELVE_FOUR_ONE: &[u8] =
-    b"4731494d41474531100000000400000004000000030000000000000004000000010000000c00000001000000050000000000000000000000000000000000000001000000000000001100000000000000150000000000000000000000000000000000000000000000000000000c0000000000000000000000000000000000000000000000000000000000000000000000000000000000000000000000000000000000000000000000000000000000000000000000000000000000000000000000000000000000000000000000040000000000000000000000000000000000000000000000000000000000000001000000";
-
-/// Objects of 12 and 5 words in regions 0 and 1 of three.
-const ONE_FREE: &[u8] =
-    b"4731494d41474531100000000400000003000000020000000100000003000000010000000c000000010000000500000000000000000000000100000000000000110000000000000000000000000000000000000000000000000000000c0000000000000000000000000000000000000000000000000000000000000000000000000000000000000000000000000000000000000000000000000000000000000000000000000000000000000000000000000000000000000000000000050000000000000000000000000000000000000000000000000000000000000000000000";
-
-/// An object of 2 words in the only region.
-const NONE_FREE: &[u8] =
-    b"4731494d4147453110000000040000000100000000000000000000000100000001000000020000000000000000000000020000000300000000000000";
-
 #[test]
 fn survivors_stand_one_after_another_in_the_lowest_free_region(
     rt: HostRuntime,
 ) -> Result<(), Fail> {
-    let image = image_of(rt.alloc(), TWO_OBJECTS)?;
+    let image = image(rt.alloc(), two_roots())?;
     let plan = placed(rt.alloc(), image.heap(), &[1], &[18, 16])?;
     assert!(rt; plan.set() == [1].as_slice());
     assert!(rt; plan.survivors() == [18, 16].as_slice());
@@ -181,7 +140,7 @@ fn survivors_stand_one_after_another_in_the_lowest_free_region(
 
 #[test]
 fn a_gap_that_was_left_is_not_used(rt: HostRuntime) -> Result<(), Fail> {
-    let image = image_of(rt.alloc(), TWELVE_FIVE_FOUR)?;
+    let image = image(rt.alloc(), gap())?;
     let plan = placed(rt.alloc(), image.heap(), &[0, 1], &[0, 16, 21])?;
     assert!(rt; plan.places() == [32, 48, 53].as_slice());
     let first = Run {
@@ -202,7 +161,7 @@ fn a_gap_that_was_left_is_not_used(rt: HostRuntime) -> Result<(), Fail> {
 
 #[test]
 fn a_region_may_be_filled_to_its_last_word(rt: HostRuntime) -> Result<(), Fail> {
-    let image = image_of(rt.alloc(), TWELVE_FOUR_ONE)?;
+    let image = image(rt.alloc(), fitted())?;
     let plan = placed(rt.alloc(), image.heap(), &[0, 1], &[0, 16, 20])?;
     assert!(rt; plan.places() == [32, 44, 48].as_slice());
     assert!(rt; plan.to_space() == [2, 3].as_slice());
@@ -212,7 +171,7 @@ fn a_region_may_be_filled_to_its_last_word(rt: HostRuntime) -> Result<(), Fail> 
 
 #[test]
 fn too_few_free_regions_are_refused_with_both_numbers(rt: HostRuntime) -> Result<(), Fail> {
-    let image = image_of(rt.alloc(), ONE_FREE)?;
+    let image = image(rt.alloc(), no_room())?;
     match placed(rt.alloc(), image.heap(), &[0, 1], &[0, 16]) {
         Ok(_plan) => assert!(rt; false, "placed"),
         Err(fault) => assert_eq!(rt; fault, Fault::Room { need: 2, free: 1 }),
@@ -222,7 +181,7 @@ fn too_few_free_regions_are_refused_with_both_numbers(rt: HostRuntime) -> Result
 
 #[test]
 fn no_survivors_need_no_region(rt: HostRuntime) -> Result<(), Fail> {
-    let image = image_of(rt.alloc(), NONE_FREE)?;
+    let image = image(rt.alloc(), no_survivor())?;
     let plan = placed(rt.alloc(), image.heap(), &[0], &[])?;
     assert_eq!(rt; plan.need(), 0);
     assert!(rt; plan.runs().is_empty());
@@ -232,7 +191,7 @@ fn no_survivors_need_no_region(rt: HostRuntime) -> Result<(), Fail> {
 
 #[test]
 fn only_survivors_are_moved(rt: HostRuntime) -> Result<(), Fail> {
-    let image = image_of(rt.alloc(), TWO_OBJECTS)?;
+    let image = image(rt.alloc(), two_roots())?;
     let plan = placed(rt.alloc(), image.heap(), &[1], &[18])?;
     assert_eq!(rt; plan.forward(18), 0);
     for a in [

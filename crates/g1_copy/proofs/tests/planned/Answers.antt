@@ -7,7 +7,7 @@ use Rattle.g1_words.specs.declared.region.Kind.TheVariants.{Ordinary}
 use Rattle.g1_layout.specs.Placed.{CanPlace}
 use Rattle.g1_layout.specs.Plan.{Plan, plan_of}
 use Rattle.g1_copy.specs.Plans.{IsPlanOf}
-use Rattle.g1_copy.proofs.tests_gather.planned.Goals as goal
+use Rattle.g1_copy.proofs.tests.planned.Goals as goal
 
 -- what holds of two numbers holds of their list
 both : (P : ℕ → Type 0) (a b : ℕ) → P a → P b → All P (a ∷ b ∷ [])

@@ -2,8 +2,8 @@ ghost use Rattle.std.specs.Prelude.{IfOk};
 ghost use Rattle.g1_copy.specs.Plans.{IsPlanOf};
 
 use crate::gather;
-use g1_image::{Image, decode};
 use g1_layout::{Plan, place};
+use g1_testing::image;
 use g1_words::{Fault, Heap, Kind, object_at, region_of};
 use std::alloc::Global;
 use std::test::Fail;
@@ -11,36 +11,16 @@ use std::test::Fail;
 /// An object's size in words, as its header holds it.
 const SIZE: u64 = 4_294_967_296;
 
-/// Four regions of 16 words; the first two hold objects.
-const NUMBERS: [u32; 19] = [16, 4, 4, 0, 0, 4, 1, 2, 1, 9, 0, 0, 0, 0, 0, 1, 0, 0, 0];
-
 /// Slot 1 names the object at 16, which names the one at 20, and that one it. Word 19 is no slot, though
 /// it reads like the slot 17. Nothing names the object at 23.
-const WORDS: [u64; 11] = [
-    2 * SIZE + 1,
-    17,
-    4 * SIZE + 2,
-    21,
-    0,
-    21,
-    3 * SIZE + 1,
-    17,
-    7,
-    2 * SIZE,
-    9,
-];
-
-/// The image of these numbers and words.
-fn image(alloc: Global) -> Result<Image, Fault> {
-    let mut bytes = Vec::from_slice(alloc, b"G1IMAGE1")?;
-    for number in NUMBERS {
-        bytes.extend_from_slice(&number.to_le_bytes())?;
-    }
-    for word in WORDS {
-        bytes.extend_from_slice(&word.to_le_bytes())?;
-    }
-    decode(alloc, &bytes)
-}
+const NEIGHBOURS: &str = "heap 16 4 4
+    region 0 ordinary
+    object 2/1 16
+    region 1 ordinary
+    remembered 1 cards 0
+    object 4/2 20 - 21
+    object 3/1 16 7
+    object 2/0 9";
 
 /// The plan for two survivors of a region, where its conditions hold.
 fn planned(alloc: Global, heap: &Heap, region: u32, first: u64, second: u64) -> Result<Plan, Fault>
@@ -66,7 +46,7 @@ fn planned(alloc: Global, heap: &Heap, region: u32, first: u64, second: u64) -> 
 
 #[test]
 fn survivors_are_copied_with_their_references_renamed(rt: HostRuntime) -> Result<(), Fail> {
-    let image = image(rt.alloc())?;
+    let image = image(rt.alloc(), NEIGHBOURS)?;
     let plan = planned(rt.alloc(), image.heap(), 1, 20, 16)?;
     let words = gather(&rt, rt.alloc(), image.heap(), &plan)?;
     let expected = [
