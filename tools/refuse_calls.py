@@ -1,7 +1,7 @@
 #!/usr/bin/env python3
 """refuse_calls.py DRIVER
 
-Runs every public call of the library on small images and on a trace while requests for memory are refused: all from the
+Runs the library's calls of a pause and of traces, one by one, while requests for memory are refused: all from the
 Nth on, and the Nth alone, for N from 1 until a run meets no refusal. Only the requests of the named call are counted;
 DRIVER, the built crates/g1_refusals, tells where it begins and ends. Each run has to answer what the call answers with
 ample memory, which is written here from the definitions and by hand, or Memory. After Memory `verify` and `evacuate`
