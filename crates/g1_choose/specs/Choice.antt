@@ -1,7 +1,7 @@
 -- Which regions a budget buys: those that give most garbage for their cost come first.
-use Rattle.std.specs.Prelude.{◌≡◌, ◌↔◌, ℕ, Bool, ◌&&◌, ◌||◌, List, [], ◌-◌, ◌*◌, ◌<◌, ◌≤◌, map, filter, take, length, slice_index, slice_index_or, Contains, AllPairs, IsTrue, ◌==◌, nat_lt}
+use Rattle.std.specs.Prelude.{◌≡◌, ◌↔◌, ℕ, Bool, not, ◌&&◌, ◌||◌, List, [], ◌-◌, ◌*◌, ◌<◌, ◌≤◌, map, filter, take, length, slice_index, slice_index_or, Contains, AllPairs, IsTrue, ◌==◌, nat_lt}
 use Rattle.g1_words.specs.declared.region.Kind.TheVariants.{Ordinary}
-use Rattle.g1_words.specs.Heap.{Heap, kind, top, regions, is_ordinary}
+use Rattle.g1_words.specs.Heap.{Heap, kind, pinned, top, regions, is_ordinary}
 use Rattle.g1_words.specs.Lists.{has}
 use Rattle.g1_choose.specs.declared.parameters.Cost.{Cost}
 use Rattle.g1_choose.specs.Cost.{cost, total}
@@ -21,9 +21,9 @@ module _ (c : Cost) (h : Heap) (remembered : List (List ℕ)) (lives : List ℕ)
   abbrev pub garbage : ℕ → ℕ
   garbage r = 8 * top h r - slice_index lives r
 
-  -- region r is ordinary and has garbage
+  -- region r is ordinary, isn't pinned, and has garbage
   abbrev pub is_candidate : ℕ → Bool
-  is_candidate r = is_ordinary (kind h r) && nat_lt 0 (garbage r)
+  is_candidate r = is_ordinary (kind h r) && (not (pinned h r) && nat_lt 0 (garbage r))
 
   -- the regions that a budget may buy, by number
   abbrev pub candidates : List ℕ

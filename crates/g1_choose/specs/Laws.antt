@@ -5,7 +5,7 @@ use Rattle.g1_words.specs.Valid.{IsValid}
 use Rattle.g1_words.specs.Live.{IsLiveBytes}
 use Rattle.g1_choose.specs.declared.parameters.Cost.{Cost}
 use Rattle.g1_choose.specs.Choice.{MayBeLive, candidates, comes_before, pause_cost, IsOrder, IsChosen}
-use Rattle.g1_choose.specs.Named.{AreDistinctOrdinary, IsFirstBad}
+use Rattle.g1_choose.specs.Named.{AreTakeable, IsFirstBad}
 
 -- of two regions at most one comes before the other
 abbrev pub OneWay : Type 0
@@ -58,11 +58,11 @@ OnlyCandidates = (c : Cost) (h : Heap) (remembered : List (List ℕ)) (lives : L
 
 -- a list that isn't one of distinct ordinary regions has a first bad place
 abbrev pub AcceptedOrBad : Type 0
-AcceptedOrBad = (h : Heap) (list : List ℕ) → AreDistinctOrdinary h list ⊎ ((i : ℕ) × IsFirstBad h list i)
+AcceptedOrBad = (h : Heap) (list : List ℕ) → AreTakeable h list ⊎ ((i : ℕ) × IsFirstBad h list i)
 
 -- an accepted list has no bad place
 abbrev pub AcceptedNotBad : Type 0
-AcceptedNotBad = (h : Heap) (list : List ℕ) (i : ℕ) → IsValid h → AreDistinctOrdinary h list → IsFirstBad h list i → ⊥
+AcceptedNotBad = (h : Heap) (list : List ℕ) (i : ℕ) → IsValid h → AreTakeable h list → IsFirstBad h list i → ⊥
 
 -- a list has one first bad place
 abbrev pub OneFirstBad : Type 0

@@ -1,5 +1,5 @@
 -- Small heaps and images on which the definitions are tried: regions of 16 words, cards of 4.
-use Rattle.std.specs.Prelude.{ℕ, List, [], ◌∷◌, ◌++◌, ◌+◌, ◌*◌, ◌-◌, ◌^◌, replicate, length, None}
+use Rattle.std.specs.Prelude.{ℕ, List, [], ◌∷◌, ◌++◌, ◌+◌, ◌*◌, ◌-◌, ◌^◌, replicate, length, None, true}
 use Rattle.g1_words.specs.declared.region.Region.{Region}
 use Rattle.g1_words.specs.declared.region.Kind.TheVariants.{Ordinary, HumongousFirst, Continuation}
 use Rattle.g1_words.specs.Heap.{region_with, free_region, Heap}
@@ -66,6 +66,10 @@ three_regions_image = image three_regions ([] ∷ [] ∷ (0 ∷ []) ∷ [] ∷ [
 -- with the card that covers the reference
 abbrev pub dead_owner_image : Image
 dead_owner_image = image dead_owner ([] ∷ (0 ∷ []) ∷ [] ∷ [] ∷ []) []
+
+-- with its first region pinned
+abbrev pub pinned_owner : Image
+pinned_owner = image (record dead_owner { regions = record { kind = Ordinary; top = 2; pinned = true } ∷ ordinary 3 ∷ free_region ∷ free_region ∷ [] }) ([] ∷ (0 ∷ []) ∷ [] ∷ [] ∷ []) []
 
 -- after the pause that evacuates region 1
 abbrev pub dead_owner_after : Image

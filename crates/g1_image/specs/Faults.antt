@@ -2,7 +2,7 @@
 use Rattle.std.specs.Prelude.{◌≡◌, ◌≢◌, ◌≤◌, ◌<◌, ℕ, ◌*◌, ◌^◌, ◌⊎◌, List, [], ◌++◌, length, slice_index, slice_index_or, All}
 use Rattle.g1_words.specs.Geometry.{IsWithinLimits}
 use Rattle.g1_words.specs.Valid.{IsShaped, AllShaped, IsReference, HasObject, IsSlotOf}
-use Rattle.g1_image.specs.Text.{File, Entry, magic, heading_text, heading_of, file_text, table_words}
+use Rattle.g1_image.specs.Text.{File, Entry, Version, magic, heading_text, heading_of, file_text, table_words}
 use Rattle.g1_words.specs.Heap.{Heap}
 use Rattle.g1_image.specs.Reading.{Are, IsU32, IsU64, EndsWithin}
 use Rattle.g1_image.specs.Image.{heap_of, IsUsedCard, IsRememberedSet}
@@ -12,6 +12,7 @@ use Rattle.g1_words.specs.declared.fault.Fault.TheVariants as fault
 use Rattle.g1_words.specs.declared.fault.Place.TheVariants as place
 use Rattle.g1_words.specs.declared.fault.Stand.TheVariants as stand
 use Rattle.g1_image.specs.declared.cursor.Heading.{Heading}
+use Rattle.g1_image.specs.declared.cursor.Version.TheVariants.{One, Two}
 
 -- each number of the heading has 32 bits
 pub record HeadingFits (h : Heading) : Type 0 where
@@ -28,9 +29,14 @@ pub record IsGoodHeading (h : Heading) : Type 0 where
   pub roots : h.roots ≤ 65536
   pub current : h.current ≤ h.n
 
--- both numbers of the entry have 32 bits
-abbrev pub EntryFits : Entry → Type 0
-EntryFits e = (e.kind < 2 ^ 32) × (e.top < 2 ^ 32)
+-- flags that the version can tell: in version 1 they are 0, in version 2 they have 32 bits
+abbrev pub FlagsFit : Version → ℕ → Type 0
+FlagsFit One flags = flags ≡ 0
+FlagsFit Two flags = flags < 2 ^ 32
+
+-- the numbers of the entry fit
+abbrev pub EntryFits : Version → Entry → Type 0
+EntryFits v e = (e.kind < 2 ^ 32) × (e.top < 2 ^ 32) × FlagsFit v e.flags
 
 -- the count and the cards of the set have 32 bits
 abbrev pub RememberedFits : List ℕ → Type 0
@@ -40,7 +46,7 @@ RememberedFits cards = (length cards < 2 ^ 32) × All IsU32 cards
 pub record FileFits (f : File) : Type 0 where
   pub heading : HeadingFits (heading_of f)
   pub limits : IsGoodHeading (heading_of f)
-  pub table : Are EntryFits f.n f.table
+  pub table : Are (EntryFits f.version) f.n f.table
   pub roots : All IsU64 f.roots
   pub log : All IsU32 f.log
   pub remembered : Are RememberedFits f.n f.remembered
@@ -52,13 +58,17 @@ pub record IsFirstBreach (P : ℕ → Type 0) (end at : ℕ) : Type 0 where
   pub breach : P at → ⊥
   pub before : (q : ℕ) → q < at → P q
 
--- the bytes begin with the magic
-abbrev pub StartsWithMagic : List ℕ → Type 0
-StartsWithMagic bytes = (rest : List ℕ) × (bytes ≡ magic ++ rest)
+-- the entry of region r
+abbrev pub entry : List Entry → ℕ → Entry
+entry es r = slice_index_or es r (record { kind = 0; top = 0; flags = 0 })
 
 -- the region's kind has a meaning
 abbrev pub IsKnownKind : List Entry → ℕ → Type 0
-IsKnownKind es r = (slice_index_or es r (record { kind = 0; top = 0 })).kind ≤ 3
+IsKnownKind es r = (entry es r).kind ≤ 3
+
+-- the region's flags have a meaning: an ordinary region may be pinned
+abbrev pub HasKnownFlags : List Entry → ℕ → Type 0
+HasKnownFlags es r = ((entry es r).flags ≡ 0) ⊎ (((entry es r).flags ≡ 1) × ((entry es r).kind ≡ 1))
 
 -- the kind of region r is one of the four
 abbrev pub KindKnown : File → ℕ → Type 0
@@ -67,6 +77,19 @@ KindKnown f r = IsKnownKind f.table r
 -- every kind is one of the four
 abbrev pub KindsKnown : File → Type 0
 KindsKnown f = (r : ℕ) → r < f.n → KindKnown f r
+
+-- the flags of region r have a meaning
+abbrev pub FlagsKnown : File → ℕ → Type 0
+FlagsKnown f r = HasKnownFlags f.table r
+
+-- the kinds and the flags of the first n regions have a meaning
+pub record AreKnown (table : List Entry) (n : ℕ) : Type 0 where
+  pub kinds : (r : ℕ) → r < n → IsKnownKind table r
+  pub flags : (r : ℕ) → r < n → HasKnownFlags table r
+
+-- the kinds and the flags of all regions have
+abbrev pub TableKnown : File → Type 0
+TableKnown f = AreKnown f.table f.n
 
 -- every region keeps the rules of its kind
 abbrev pub Shaped : File → Type 0
@@ -111,23 +134,24 @@ RememberedGood f r = IsRememberedSet (heap_of f) r (slice_index_or f.remembered 
 -- the fault that a file has which is read whole
 abbrev pub FileFault : File → Fault → Type 0
 FileFault f (fault.Kind r) = IsFirstBreach (KindKnown f) f.n r
-FileFault f (fault.Shape r) = KindsKnown f × IsFirstBreach (IsShaped (heap_of f)) f.n r
-FileFault f (fault.Reference (place.Root i)) = KindsKnown f × Shaped f × IsFirstBreach (RootGood f) (length f.roots) i
-FileFault f (fault.Reference (place.Slot p)) = KindsKnown f × Shaped f × RootsGood f × IsFirstBreach (SlotGood f) (f.n * f.w) p
-FileFault f (fault.Card (stand.Dirty i)) = KindsKnown f × Shaped f × RootsGood f × SlotsGood f × IsFirstBreach (LogGood f) (length f.log) i
-FileFault f (fault.Card (stand.Region r)) = KindsKnown f × Shaped f × RootsGood f × SlotsGood f × LogsGood f × IsFirstBreach (RememberedGood f) f.n r
+FileFault f (fault.Flags r) = KindsKnown f × IsFirstBreach (FlagsKnown f) f.n r
+FileFault f (fault.Shape r) = TableKnown f × IsFirstBreach (IsShaped (heap_of f)) f.n r
+FileFault f (fault.Reference (place.Root i)) = TableKnown f × Shaped f × IsFirstBreach (RootGood f) (length f.roots) i
+FileFault f (fault.Reference (place.Slot p)) = TableKnown f × Shaped f × RootsGood f × IsFirstBreach (SlotGood f) (f.n * f.w) p
+FileFault f (fault.Card (stand.Dirty i)) = TableKnown f × Shaped f × RootsGood f × SlotsGood f × IsFirstBreach (LogGood f) (length f.log) i
+FileFault f (fault.Card (stand.Region r)) = TableKnown f × Shaped f × RootsGood f × SlotsGood f × LogsGood f × IsFirstBreach (RememberedGood f) f.n r
 FileFault _ _ = ⊥
 
 -- THE FAULT of bytes
 abbrev pub FaultOf : List ℕ → Fault → Type 0
--- one of the first bytes that are there isn't the magic's
-FaultOf bytes fault.Magic = (i : ℕ) × (i < 8) × (i < length bytes) × (slice_index bytes i ≢ slice_index magic i)
+-- each version's magic differs from the first bytes that are there
+FaultOf bytes fault.Magic = (v : Version) → (i : ℕ) × (i < 8) × (i < length bytes) × (slice_index bytes i ≢ slice_index (magic v) i)
 -- the magic is good, and a heading that is there is within the limits, but no whole file begins the bytes
 FaultOf bytes fault.Short =
-    ((rest : List ℕ) × (magic ≡ bytes ++ rest) × (0 < length rest))
-    ⊎ ((rest : List ℕ) × (bytes ≡ magic ++ rest) × (length rest < 24))
-    ⊎ ((h : Heading) × (rest : List ℕ) × HeadingFits h × IsGoodHeading h × (bytes ≡ magic ++ (heading_text h ++ rest)) × EndsWithin FileFits file_text bytes)
-FaultOf bytes fault.Geometry = (h : Heading) × (rest : List ℕ) × HeadingFits h × (bytes ≡ magic ++ (heading_text h ++ rest)) × (IsGoodHeading h → ⊥)
+    ((v : Version) × (rest : List ℕ) × (magic v ≡ bytes ++ rest) × (0 < length rest))
+    ⊎ ((v : Version) × (rest : List ℕ) × (bytes ≡ magic v ++ rest) × (length rest < 24))
+    ⊎ ((v : Version) × (h : Heading) × (rest : List ℕ) × HeadingFits h × IsGoodHeading h × (bytes ≡ magic v ++ (heading_text h ++ rest)) × EndsWithin FileFits file_text bytes)
+FaultOf bytes fault.Geometry = (v : Version) × (h : Heading) × (rest : List ℕ) × HeadingFits h × (bytes ≡ magic v ++ (heading_text h ++ rest)) × (IsGoodHeading h → ⊥)
 FaultOf bytes fault.Trailing = (f : File) × (rest : List ℕ) × FileFits f × (bytes ≡ file_text f ++ rest) × (0 < length rest)
 FaultOf bytes e = (f : File) × FileFits f × (bytes ≡ file_text f) × FileFault f e
 

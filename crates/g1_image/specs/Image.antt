@@ -1,11 +1,12 @@
 -- An image: a heap, each region's remembered set, the dirty log. Its text.
-use Rattle.std.specs.Prelude.{◌≡◌, ◌≢◌, ◌<◌, ℕ, ◌-◌, ◌*◌, ◌/◌, ◌^◌, List, [], ◌∷◌, ◌++◌, length, map, take, drop, replicate, slice_index_or, All, AllPairs, Some, None, unwrap_or, if◌then◌else◌, nat_lt, min}
+use Rattle.std.specs.Prelude.{◌≡◌, ◌≢◌, ◌<◌, ◌==◌, ℕ, Bool, true, false, IsFalse, ◌-◌, ◌*◌, ◌/◌, ◌^◌, List, [], ◌∷◌, ◌++◌, length, map, take, drop, replicate, slice_index_or, All, AllPairs, Some, None, unwrap_or, if◌then◌else◌, nat_lt, min}
 use Rattle.std.specs.List.Sorted.{IsStrictlyIncreasing}
-use Rattle.g1_words.specs.Heap.{Heap, region, region_with}
+use Rattle.g1_words.specs.Heap.{Heap, region}
 use Rattle.g1_words.specs.Valid.{IsValid}
 use Rattle.g1_words.specs.Kind.{kind_number, kind_of}
 pub use Rattle.g1_words.specs.Kind.{MayHoldCards}
-use Rattle.g1_image.specs.Text.{File, Entry, file_text}
+use Rattle.g1_image.specs.Text.{File, Entry, Version, file_text}
+use Rattle.g1_image.specs.declared.cursor.Version.TheVariants.{One, Two}
 use Rattle.g1_words.specs.declared.region.Region.{Region}
 use Rattle.g1_words.specs.declared.region.Kind.TheVariants.{Free}
 
@@ -48,18 +49,24 @@ pub record IsImage (i : Image) : Type 0 where
   pub remembered : (r : ℕ) → r < i.heap.geometry.n → IsRememberedSet i.heap r (remembered_of i r)
   pub log : IsLog i.heap i.log
 
+-- the flags that stand for a region that is pinned or isn't
+abbrev pub flags_of : Bool → ℕ
+flags_of false = 0
+flags_of true = 1
+
 -- a region's entry of the table
 abbrev pub entry_of : Region → Entry
-entry_of q = record { kind = kind_number q.kind; top = q.top }
+entry_of q = record { kind = kind_number q.kind; top = q.top; flags = flags_of q.pinned }
 
 -- the used words, of one region after the other
 abbrev pub used_words : ℕ → List Region → List ℕ → List ℕ
 used_words w [] words = []
 used_words w (q ∷ qs) words = take q.top words ++ used_words w qs (drop w words)
 
--- what stands in an image's file
-abbrev pub file_of : Image → File
-file_of i = record {
+-- what stands in an image's file of this version
+abbrev pub file_of : Version → Image → File
+file_of v i = record {
+  version = v;
   w = i.heap.geometry.w;
   k = i.heap.geometry.k;
   n = i.heap.geometry.n;
@@ -71,9 +78,18 @@ file_of i = record {
   words = used_words i.heap.geometry.w i.heap.regions i.heap.words;
 }
 
--- THE RELATION: the bytes are the image's text
+-- the version can tell what is pinned: version 1 has no pinned regions
+abbrev pub CanTell : Version → Heap → Type 0
+CanTell One h = All (λ q. IsFalse q.pinned) h.regions
+CanTell Two h = Unit {0}
+
+-- THE RELATION: the bytes are the image's text of this version
+abbrev pub IsTextIn : Version → List ℕ → Image → Type 0
+IsTextIn v bytes i = IsImage i × CanTell v i.heap × (bytes ≡ file_text (file_of v i))
+
+-- the bytes are a text of the image, in one of the versions
 abbrev pub IsTextOf : List ℕ → Image → Type 0
-IsTextOf bytes i = IsImage i × (bytes ≡ file_text (file_of i))
+IsTextOf bytes i = (v : Version) × IsTextIn v bytes i
 
 -- the regions' words, each region's used words first and zeros after them
 abbrev pub all_words : ℕ → List Entry → List ℕ → List ℕ
@@ -82,7 +98,7 @@ all_words w (e ∷ es) words = take (min e.top w) words ++ (replicate (w - e.top
 
 -- what an entry of the table tells of its region
 abbrev pub region_of_entry : Entry → Region
-region_of_entry e = region_with (kind_of e.kind) e.top
+region_of_entry e = record { kind = kind_of e.kind; top = e.top; pinned = e.flags == 1 }
 
 -- the heap that a file tells
 abbrev pub heap_of : File → Heap

@@ -1,12 +1,19 @@
 -- What a heap that was read whole keeps, or which of its rules it breaks first.
-use Rattle.std.specs.Prelude.{◌<◌, ◌*◌, ℕ, length, slice_index}
+use Rattle.std.specs.Prelude.{◌<◌, ◌*◌, ℕ, List, length, slice_index}
 use Rattle.g1_words.specs.Heap.{Heap}
 use Rattle.g1_words.specs.Valid.{IsShaped, IsReference}
 use Rattle.g1_words.specs.declared.fault.Fault.{Fault}
 use Rattle.g1_words.specs.declared.fault.Fault.TheVariants as fault
 use Rattle.g1_words.specs.declared.fault.Place.TheVariants as place
 use Rattle.g1_image.specs.Draft.{ShapedBelow}
-use Rattle.g1_image.specs.Faults.{IsFirstBreach, IsGoodSlot}
+use Rattle.g1_image.specs.Text.{Entry}
+use Rattle.g1_image.specs.Faults.{IsFirstBreach, IsKnownKind, HasKnownFlags, IsGoodSlot}
+
+-- the first of them that has none: kinds are judged before flags
+abbrev pub TableFault : List Entry → ℕ → Fault → Type 0
+TableFault table n (fault.Kind r) = IsFirstBreach (IsKnownKind table) n r
+TableFault table n (fault.Flags r) = ((q : ℕ) → q < n → IsKnownKind table q) × IsFirstBreach (HasKnownFlags table) n r
+TableFault _ _ _ = ⊥
 
 -- root i is null or names an object
 abbrev pub IsGoodRoot : Heap → ℕ → Type 0

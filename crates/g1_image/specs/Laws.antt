@@ -1,12 +1,13 @@
 -- The laws that public functions of this crate prove.
-use Rattle.std.specs.Prelude.{◌≡◌, ◌≢◌, ◌↔◌, ◌⊎◌, Bool, List, ℕ, ◌<◌, Contains}
+use Rattle.std.specs.Prelude.{◌≡◌, ◌≢◌, ◌↔◌, ◌⊎◌, Bool, List, ℕ, ◌<◌, Contains, IsFalse}
 use Rattle.std.specs.List.Sorted.{IsStrictlyIncreasing}
-use Rattle.g1_words.specs.Heap.{Heap, region_of, card_of}
+use Rattle.g1_words.specs.Heap.{Heap, pinned, region_of, card_of}
 use Rattle.g1_words.specs.Valid.{IsValid}
 use Rattle.g1_words.specs.References.{Ref, refs}
-use Rattle.g1_image.specs.Image.{Image, IsImage, remembered_of, region_of_card, IsTextOf}
+use Rattle.g1_image.specs.Image.{Image, IsImage, remembered_of, region_of_card, IsTextOf, IsTextIn}
 use Rattle.g1_image.specs.Cards.{cards_where, exact, refined, Covered, uncovered}
-use Rattle.g1_image.specs.Text.{File, file_text}
+use Rattle.g1_image.specs.Text.{File, Version, file_text}
+use Rattle.g1_image.specs.declared.cursor.Version.TheVariants.{One, Two}
 use Rattle.g1_image.specs.Faults.{FileFits}
 
 -- an address lies in the region of its card
@@ -53,6 +54,11 @@ OneFile = (bytes : List ℕ) (f g : File) → FileFits f → FileFits g → byte
 abbrev pub OneImage : Type 0
 OneImage = (bytes : List ℕ) (i j : Image) → IsTextOf bytes i → IsTextOf bytes j → i ≡ j
 
--- an image has one text
+-- an image has one text of each version at most
 abbrev pub OneText : Type 0
-OneText = (i : Image) (a b : List ℕ) → IsTextOf a i → IsTextOf b i → a ≡ b
+OneText = (v : Version) (i : Image) (a b : List ℕ) → IsTextIn v a i → IsTextIn v b i → a ≡ b
+
+-- an image has a text of version 2, and one of version 1 exactly where no region is pinned
+abbrev pub TextsExist : Type 0
+TextsExist = (i : Image) → IsImage i →
+    ((a : List ℕ) × IsTextIn Two a i) × (((a : List ℕ) × IsTextIn One a i) ↔ ((r : ℕ) → r < i.heap.geometry.n → IsFalse (pinned i.heap r)))

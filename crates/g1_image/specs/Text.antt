@@ -2,10 +2,13 @@
 use Rattle.std.specs.Prelude.{ℕ, List, [], ◌∷◌, ◌++◌, length, flat_map, zero, suc, drop, sum_by}
 use Rattle.g1_image.specs.declared.cursor.Heading.{Heading}
 pub use Rattle.g1_image.specs.declared.cursor.Entry.{Entry}
+pub use Rattle.g1_image.specs.declared.cursor.Version.{Version}
+use Rattle.g1_image.specs.declared.cursor.Version.TheVariants.{One, Two}
 use Rattle.byteorder.specs.Endian.{little_bytes, little_number}
 
 -- what stands in the file
 pub record File : Type 0 where
+  pub version : Version
   pub w : ℕ
   pub k : ℕ
   pub n : ℕ
@@ -24,13 +27,23 @@ u32 x = little_bytes 4 x
 unfoldable pub u64 : ℕ → List ℕ
 u64 x = little_bytes 8 x
 
--- `G1IMAGE1`
-abbrev pub magic : List ℕ
-magic = 71 ∷ 49 ∷ 73 ∷ 77 ∷ 65 ∷ 71 ∷ 69 ∷ 49 ∷ []
+-- the last byte of the magic, a digit
+abbrev pub digit : Version → ℕ
+digit One = 49
+digit Two = 50
 
--- an entry of the region table: the kind, the top
-abbrev pub entry_text : Entry → List ℕ
-entry_text e = u32 e.kind ++ u32 e.top
+-- `G1IMAGE1` or `G1IMAGE2`
+abbrev pub magic : Version → List ℕ
+magic v = 71 ∷ 49 ∷ 73 ∷ 77 ∷ 65 ∷ 71 ∷ 69 ∷ digit v ∷ []
+
+-- the flags of a region, which version 1 doesn't have
+abbrev pub flags_text : Version → ℕ → List ℕ
+flags_text One flags = []
+flags_text Two flags = u32 flags
+
+-- an entry of the region table: the kind, the top, the flags
+abbrev pub entry_text : Version → Entry → List ℕ
+entry_text v e = u32 e.kind ++ (u32 e.top ++ flags_text v e.flags)
 
 -- numbers of four bytes, one after another
 abbrev pub numbers_text : List ℕ → List ℕ
@@ -41,8 +54,8 @@ abbrev pub words_text : List ℕ → List ℕ
 words_text xs = flat_map u64 xs
 
 -- the region table
-abbrev pub table_text : List Entry → List ℕ
-table_text es = flat_map entry_text es
+abbrev pub table_text : Version → List Entry → List ℕ
+table_text v es = flat_map (entry_text v) es
 
 -- a remembered set: how many cards, and the cards
 abbrev pub remembered_text : List ℕ → List ℕ
@@ -62,11 +75,11 @@ heading_of f = record { w = f.w; k = f.k; n = f.n; roots = length f.roots; dirty
 
 -- what stands behind the heading
 abbrev pub body_text : File → List ℕ
-body_text f = table_text f.table ++ (words_text f.roots ++ (numbers_text f.log ++ (remembered_texts f.remembered ++ words_text f.words)))
+body_text f = table_text f.version f.table ++ (words_text f.roots ++ (numbers_text f.log ++ (remembered_texts f.remembered ++ words_text f.words)))
 
 -- the whole text of a file
 abbrev pub file_text : File → List ℕ
-file_text f = magic ++ (heading_text (heading_of f) ++ body_text f)
+file_text f = magic f.version ++ (heading_text (heading_of f) ++ body_text f)
 
 -- the number of 64 bits in the first bytes
 unfoldable pub read_word : List ℕ → ℕ

@@ -8,13 +8,14 @@ use Rattle.g1_words.specs.Lists.{has}
 use Rattle.g1_words.specs.Survivors.{Survivors}
 use Rattle.g1_words.specs.Live.{IsLiveBytes}
 use Rattle.g1_words.specs.Layout.{need, free_regions}
-use Rattle.g1_image.specs.Image.{Image, IsTextOf}
+use Rattle.g1_image.specs.Image.{Image, IsTextOf, IsTextIn}
+use Rattle.g1_image.specs.declared.cursor.Version.TheVariants.{Two}
 use Rattle.g1_image.specs.Faults.{FaultOf}
 use Rattle.g1_image.specs.Cards.{refined, uncovered, Covered}
 use Rattle.g1_after.specs.Moved.{IsMoved}
 use Rattle.g1_choose.specs.declared.parameters.Cost.{Cost}
 use Rattle.g1_choose.specs.Choice.{IsChosen}
-use Rattle.g1_choose.specs.Named.{AreDistinctOrdinary, IsFirstBad}
+use Rattle.g1_choose.specs.Named.{AreTakeable, IsFirstBad}
 use Rattle.g1_pause.specs.declared.settings.Choice.{Choice}
 use Rattle.g1_pause.specs.declared.settings.Choice.TheVariants.{Budget, Given}
 
@@ -29,7 +30,7 @@ abbrev pub IsSetFor : Cost → Image → Choice → List ℕ → Type 0
 IsSetFor cost i (Budget b) set =
     (lives : List ℕ) × IsLiveBytes i.heap lives
     × IsChosen cost i.heap (map (refined i) (regions i.heap)) lives (length i.log) b set
-IsSetFor cost i (Given list) set = AreDistinctOrdinary i.heap list.items × (set ≡ filter (has list.items) (regions i.heap))
+IsSetFor cost i (Given list) set = AreTakeable i.heap list.items × (set ≡ filter (has list.items) (regions i.heap))
 
 -- what the pause of an image gives: the first region of the list that can't be taken, or that the free regions have no room for the survivors, or the image after
 pub data IsEvacuated (cost : Cost) (choice : Choice) (i : Image) : Result Image Fault → Type 0 where
@@ -40,9 +41,9 @@ pub data IsEvacuated (cost : Cost) (choice : Choice) (i : Image) : Result Image 
       → IsMoved i set l j → IsEvacuated cost choice i (Ok j)
 
 -- THE ANSWER to bytes: the fault of bytes that are no image's text, else that of the lowest slot without cover, else what
--- the pause of the image gives, an image as its text
+-- the pause of the image gives, an image as its text of version 2
 pub data IsAnswer (cost : Cost) (choice : Choice) (bytes : List ℕ) : Result (List ℕ) Fault → Type 0 where
   unread : {f : Fault} → FaultOf bytes f → IsAnswer cost choice bytes (Err f)
   not_covered : {i : Image} {p : ℕ} {ps : List ℕ} → IsTextOf bytes i → uncovered i ≡ p ∷ ps → IsAnswer cost choice bytes (Err (Uncovered p))
   refused : {i : Image} {f : Fault} → IsTextOf bytes i → Covered i → IsEvacuated cost choice i (Err f) → IsAnswer cost choice bytes (Err f)
-  written : {i j : Image} {out : List ℕ} → IsTextOf bytes i → Covered i → IsEvacuated cost choice i (Ok j) → IsTextOf out j → IsAnswer cost choice bytes (Ok out)
+  written : {i j : Image} {out : List ℕ} → IsTextOf bytes i → Covered i → IsEvacuated cost choice i (Ok j) → IsTextIn Two out j → IsAnswer cost choice bytes (Ok out)

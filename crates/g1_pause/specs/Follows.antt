@@ -6,7 +6,8 @@ use Rattle.g1_words.specs.References.{Ref, refs, root_targets}
 use Rattle.g1_words.specs.Survivors.{Survivors, in_set}
 use Rattle.g1_words.specs.Layout.{forward, kept}
 use Rattle.g1_words.specs.Moves.{moved_object}
-use Rattle.g1_image.specs.Image.{Image, IsTextOf}
+use Rattle.g1_image.specs.Image.{Image, IsTextOf, IsTextIn}
+use Rattle.g1_image.specs.declared.cursor.Version.TheVariants.{Two}
 use Rattle.g1_image.specs.Cards.{IsTracked}
 use Rattle.g1_words.specs.Copy.{renamed, IsCopy}
 use Rattle.g1_words.specs.Graph.{SameGraph}
@@ -37,5 +38,5 @@ pub record TextFollows (cost : Cost) (choice : Choice) (bytes out : List ℕ) : 
   pub before : Image
   pub after : Image
   pub read : IsTextOf bytes before
-  pub written : IsTextOf out after
+  pub written : IsTextIn Two out after
   pub follows : Follows cost choice before after

@@ -7,7 +7,7 @@ use Rattle.g1_words.specs.declared.region.Region.{Region}
 use Rattle.g1_words.specs.declared.region.Kind.TheVariants.{Ordinary, HumongousFirst, Continuation}
 use Rattle.g1_words.specs.Geometry.{Geometry}
 use Rattle.g1_words.specs.Lists.{has}
-use Rattle.g1_words.specs.Heap.{Heap, region, region_with, kind, top, end, regions, is_free, object_at}
+use Rattle.g1_words.specs.Heap.{Heap, region, region_with, kind, pinned, top, end, regions, is_free, object_at}
 use Rattle.g1_image.specs.Image.{Image}
 use Rattle.g1_words.specs.Copy.{words_at}
 use Rattle.g1_choose.specs.declared.parameters.Cost.{Cost}
@@ -74,11 +74,15 @@ is_in_run h r size q = nat_le r q && nat_lt q (r + run_length h size)
 abbrev pub run_region : Heap → ℕ → ℕ → ℕ → Region
 run_region h r size q = region_with (if q == r then HumongousFirst else Continuation) (min h.geometry.w (size - (q - r) * h.geometry.w))
 
+-- an ordinary region with so many words more: where it was pinned it stays so
+abbrev pub grown : Heap → ℕ → ℕ → Region
+grown h r size = record { kind = Ordinary; top = top h r + size; pinned = pinned h r }
+
 -- region q after an object of so many words was placed in region r
 abbrev pub region_after : Heap → ℕ → ℕ → ℕ → Region
 region_after h r size q =
     if is_humongous h size then (if is_in_run h r size q then run_region h r size q else region h q) else
-    (if q == r then region_with Ordinary (top h r + size) else region h q)
+    (if q == r then grown h r size else region h q)
 
 -- the heap with a new object in region r, its slots null and its data 0, that a root names
 abbrev pub heap_with : Heap → ℕ → ℕ → ℕ → ℕ → Heap

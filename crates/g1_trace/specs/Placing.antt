@@ -2,9 +2,8 @@
 use Rattle.std.specs.Prelude.{ℕ, suc, List, [], None, Some, ◌+◌, ◌*◌, ◌^◌, map, length, slice_set, nat_le, nat_lt, ◌&&◌, if◌then◌else◌}
 use Rattle.std.specs.List.{range_with_len}
 use Rattle.g1_words.specs.declared.region.Region.{Region}
-use Rattle.g1_words.specs.declared.region.Kind.TheVariants.{Ordinary}
-use Rattle.g1_words.specs.Heap.{Heap, region_with, region, top, end}
-use Rattle.g1_trace.specs.Mutator.{run_length, run_region}
+use Rattle.g1_words.specs.Heap.{Heap, region, end}
+use Rattle.g1_trace.specs.Mutator.{run_length, run_region, grown}
 
 -- a heap of which no more is known than the width and the table of its regions
 abbrev pub table_heap : ℕ → List Region → Heap
@@ -20,7 +19,7 @@ abbrev pub ordinary_heap : Heap → ℕ → ℕ → ℕ → ℕ → Heap
 ordinary_heap h r size refs root = record {
   geometry = h.geometry;
   words = slice_set h.words (end h r) (size * 2 ^ 32 + refs);
-  regions = slice_set h.regions r (region_with Ordinary (top h r + size));
+  regions = slice_set h.regions r (grown h r size);
   roots = slice_set h.roots root (suc (end h r));
   current = Some r;
 }

@@ -1,5 +1,5 @@
 -- The rules that a heap keeps. They speak of its objects as a relation: these objects stand end to end.
-use Rattle.std.specs.Prelude.{◌≡◌, ◌≤◌, ◌<◌, ℕ, ◌+◌, ◌-◌, ◌*◌, ◌^◌, ◌⊎◌, List, [], ◌∷◌, Some, length, min, slice_index, All, Contains, IfSome}
+use Rattle.std.specs.Prelude.{◌≡◌, ◌≤◌, ◌<◌, ℕ, ◌+◌, ◌-◌, ◌*◌, ◌^◌, ◌⊎◌, List, [], ◌∷◌, Some, length, min, slice_index, All, Contains, IfSome, IsTrue}
 use Rattle.g1_words.specs.Geometry.{IsWithinLimits}
 use Rattle.g1_words.specs.Heap.{Heap, region, start, end}
 use Rattle.g1_words.specs.declared.object.Object.{Object}
@@ -82,6 +82,10 @@ pub record IsShaped (h : Heap) (r : ℕ) : Type 0 where
 abbrev pub AllShaped : Heap → Type 0
 AllShaped h = (r : ℕ) → r < h.geometry.n → IsShaped h r
 
+-- only an ordinary region may be pinned
+abbrev pub MayBePinned : Heap → ℕ → Type 0
+MayBePinned h r = IsTrue (region h r).pinned → (region h r).kind ≡ Ordinary
+
 -- the rules of a heap
 pub record IsValid (h : Heap) : Type 0 where
   pub limits : IsWithinLimits h.geometry.w h.geometry.k h.geometry.n
@@ -90,6 +94,7 @@ pub record IsValid (h : Heap) : Type 0 where
   pub region_count : length h.regions ≡ h.geometry.n
   pub root_count : length h.roots ≤ 65536
   pub shaped : AllShaped h
+  pub pins : (r : ℕ) → r < h.geometry.n → MayBePinned h r
   pub zero_above : (r i : ℕ) → r < h.geometry.n → (region h r).top ≤ i → i < h.geometry.w → slice_index h.words (start h r + i) ≡ 0
   pub roots : All (IsReference h) h.roots
   pub slots : (o : Object) (p : ℕ) → HasObject h o → IsSlotOf o p → IsReference h (slice_index h.words p)
