@@ -9,7 +9,7 @@ use Rattle.g1_words.specs.declared.object.Object.{Object}
 use Rattle.g1_words.specs.declared.region.Kind.{Kind}
 use Rattle.g1_words.specs.declared.region.Kind.TheVariants.{Free, Ordinary, HumongousFirst, Continuation}
 use Rattle.g1_words.specs.Heap.{Heap, kind, top, start, end, word, objects, objects_in, object_at, slots}
-use Rattle.g1_words.specs.Valid.{IsObject, Tiles, IsFirst, HoldsBy, HasObject, IsReference, IsSlotOf, IsWholeRun, IsShapedBy, AllShaped, IsValid}
+use Rattle.g1_words.specs.Valid.{IsObject, Tiles, IsFirst, HoldsBy, HasObject, IsReference, IsSlotOf, IsWholeRun, IsShapedBy, AllShaped, MayBePinned, IsValid}
 use Rattle.g1_words.specs.References.{Ref, refs, refs_at, named, root_targets}
 use Rattle.g1_words.proofs.Members.{In, In-from_contains, Contains-from_in, In-flat_map, In-map}
 use Rattle.g1_words.proofs.Computed.{object_is, holds_are, has_contains, contains_has, In-range}
@@ -49,6 +49,7 @@ pub record IsBuilt (h : Heap) : Type 0 where
   pub region_count : length h.regions ≡ h.geometry.n
   pub root_count : length h.roots ≤ 65536
   pub shaped : (r : ℕ) → r < h.geometry.n → IsBuiltBy h r (kind h r)
+  pub pins : (r : ℕ) → r < h.geometry.n → MayBePinned h r
   pub zero_above : (r m : ℕ) → r < h.geometry.n → top h r ≤ m → m < h.geometry.w → word h (r * h.geometry.w + m) ≡ 0
   pub root_named : (a : ℕ) → Contains (root_targets h) a → Contains (objects h) (object_at h a)
   pub slot_named : (e : Ref) → Contains (refs h) e → Contains (objects h) (object_at h e.target)
@@ -148,6 +149,7 @@ module _ (h : Heap) (valid : IsValid h) where
     region_count = valid.region_count;
     root_count = valid.root_count;
     shaped = λ r lt. built_by r (kind h r) lt refl (valid.shaped r lt).by_kind;
+    pins = valid.pins;
     zero_above = valid.zero_above;
     root_named = (sound h valid).root_named;
     slot_named = (sound h valid).slot_named;
@@ -223,6 +225,7 @@ module _ (h : Heap) (b : IsBuilt h) where
     region_count = b.region_count;
     root_count = b.root_count;
     shaped = all_shaped;
+    pins = b.pins;
     zero_above = b.zero_above;
     roots = λ k d lt. reference_of (get_or h.roots k d) (λ a m.
         let x : ℕ = get_or h.roots k d in

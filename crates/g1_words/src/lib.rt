@@ -17,7 +17,7 @@ mod region;
 
 pub use fault::{Device, Fault, Place, Stand};
 pub use geometry::Geometry;
-pub use heap::{Heap, MOST_ROOTS};
+pub use heap::{Heap, MOST_ROOTS, pinned};
 pub use object::{
     Object, REFS_RANGE, card_of, header, object_at, objects_in, region_of, size_at, slots_of,
 };

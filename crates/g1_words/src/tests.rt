@@ -4,7 +4,7 @@ use crate::{
 use std::test::Fail;
 
 #[test]
-fn each_fault_has_its_number_and_its_text(rt: HostRuntime) -> Result<(), Fail> {
+fn each_fault_of_bytes_has_its_number_and_its_text(rt: HostRuntime) -> Result<(), Fail> {
     let faults = [
         (Fault::Magic, 1, "magic"),
         (Fault::Geometry, 2, "geometry"),
@@ -16,6 +16,19 @@ fn each_fault_has_its_number_and_its_text(rt: HostRuntime) -> Result<(), Fail> {
         (Fault::Reference(Place::Slot(21)), 7, "reference in slot 21"),
         (Fault::Card(Stand::Dirty(2)), 8, "card in log place 2"),
         (Fault::Card(Stand::Region(2)), 8, "card of region 2"),
+        (Fault::Flags(3), 16, "flags of region 3"),
+    ];
+    for (fault, number, text) in faults {
+        let told = format!(in rt.alloc(); "{fault}")?;
+        assert_eq!(rt; told.as_str(), text);
+        assert_eq!(rt; fault.number(), number, "{text}");
+    }
+    Ok(())
+}
+
+#[test]
+fn each_fault_of_a_call_has_its_number_and_its_text(rt: HostRuntime) -> Result<(), Fail> {
+    let faults = [
         (Fault::Uncovered(17), 9, "uncovered slot 17"),
         (Fault::Set(4), 10, "set region 4"),
         (Fault::Room { need: 2, free: 1 }, 11, "room need 2 free 1"),
