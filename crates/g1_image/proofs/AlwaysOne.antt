@@ -10,39 +10,55 @@ use Rattle.g1_words.specs.declared.fault.Fault.TheVariants as fault
 use Rattle.g1_words.specs.declared.fault.Place.TheVariants as place
 use Rattle.g1_words.specs.declared.fault.Stand.TheVariants as stand
 use Rattle.g1_image.specs.declared.cursor.Heading.{Heading}
-use Rattle.g1_image.specs.Text.{File, Entry, file_text, words_of, table_words}
+use Rattle.g1_image.specs.Text.{File, Entry, Version, file_text, words_of, table_words}
 use Rattle.g1_image.specs.Reading.{IsBytes}
 use Rattle.g1_image.specs.Image.{Image, IsTextOf, heap_of, all_words, region_of_entry}
 use Rattle.g1_image.specs.Draft.{IsDraft}
 use Rattle.g1_image.specs.Judged.{IsGoodHeap}
 use Rattle.g1_image.specs.Plain.{plain_file, PlainIs}
-use Rattle.g1_image.specs.Faults.{FileFits, FileFault, FaultOf, KindKnown, RootGood, SlotGood, LogGood, RememberedGood}
+use Rattle.g1_image.specs.Faults.{FileFits, FileFault, FaultOf, entry, HasKnownFlags, KindKnown, FlagsKnown, TableKnown, RootGood, SlotGood, LogGood, RememberedGood}
 use Rattle.g1_image.proofs.Drafts.{length-laid, bounded_laid}
-use Rattle.g1_image.proofs.Assembled.{is_image, file_again}
+use Rattle.g1_image.proofs.Assembled.{is_image, can_tell, file_again}
 use Rattle.g1_image.proofs.NoFault.{IsGoodFile}
-use Rattle.g1_image.proofs.Decided.{decided_le, first_breach}
+use Rattle.g1_image.proofs.Decided.{Decided, decided_le, decided_eq, decided_both, decided_either, first_breach}
 use Rattle.g1_image.proofs.DecidedShapes.{decided_shaped}
 use Rattle.g1_image.proofs.DecidedReferences.{decided_reference, decided_good_slot}
 use Rattle.g1_image.proofs.DecidedCards.{decided_logged, decided_set}
 use Rattle.g1_image.proofs.ToldFiles.{AnyFault, told_file}
 
+-- the flags of a region have a meaning or not
+decided_flags : (es : List Entry) (r : ℕ) → Decided (HasKnownFlags es r)
+decided_flags es r =
+    let e : Entry = entry es r in
+    decided_either (e.flags ≡ 0) ((e.flags ≡ 1) × (e.kind ≡ 1)) (decided_eq e.flags 0) (decided_both (e.flags ≡ 1) (e.kind ≡ 1) (decided_eq e.flags 1) (decided_eq e.kind 1))
+
+-- the kinds and the flags of a file's regions have a meaning, or one has none
+told_table : (f : File) → TableKnown f ⊎ ((e : Fault) × FileFault f e)
+told_table f = elim (first_breach (KindKnown f) (λ r. decided_le (entry f.table r).kind 3) f.n) [
+  | inr b ↦ inr (fault.Kind b.0, b.1)
+  | inl kinds ↦ elim (first_breach (FlagsKnown f) (decided_flags f.table) f.n) [
+    | inr b ↦ inr (fault.Flags b.0, (kinds, b.1))
+    | inl flags ↦ inl (record { kinds = kinds; flags = flags })
+  ]
+]
+
 -- a file keeps the rules of every stage, or has a fault
 judged : (f : File) → FileFits f → IsGoodFile f ⊎ ((e : Fault) × FileFault f e)
 judged f fits =
     let wide : 0 < f.w = omega (arith, fits.limits.sizes.w_least) in
-    elim (first_breach (KindKnown f) (λ r. decided_le (slice_index_or f.table r (record { kind = 0; top = 0 })).kind 3) f.n) [
-      | inr b ↦ inr (fault.Kind b.0, b.1)
-      | inl kinds ↦ elim (first_breach (IsShaped (heap_of f)) (decided_shaped (heap_of f) wide) f.n) [
-        | inr b ↦ inr (fault.Shape b.0, (kinds, b.1))
+    elim (told_table f) [
+      | inr b ↦ inr b
+      | inl known ↦ elim (first_breach (IsShaped (heap_of f)) (decided_shaped (heap_of f) wide) f.n) [
+        | inr b ↦ inr (fault.Shape b.0, (known, b.1))
         | inl shaped ↦ elim (first_breach (RootGood f) (λ i. decided_reference (heap_of f) shaped (slice_index f.roots i)) (length f.roots)) [
-          | inr b ↦ inr (fault.Reference (place.Root b.0), (kinds, shaped, b.1))
+          | inr b ↦ inr (fault.Reference (place.Root b.0), (known, shaped, b.1))
           | inl roots ↦ elim (first_breach (SlotGood f) (decided_good_slot (heap_of f) shaped) (f.n * f.w)) [
-            | inr b ↦ inr (fault.Reference (place.Slot b.0), (kinds, shaped, roots, b.1))
+            | inr b ↦ inr (fault.Reference (place.Slot b.0), (known, shaped, roots, b.1))
             | inl slots ↦ elim (first_breach (LogGood f) (decided_logged (heap_of f) f.log) (length f.log)) [
-              | inr b ↦ inr (fault.Card (stand.Dirty b.0), (kinds, shaped, roots, slots, b.1))
+              | inr b ↦ inr (fault.Card (stand.Dirty b.0), (known, shaped, roots, slots, b.1))
               | inl log ↦ elim (first_breach (RememberedGood f) (λ r. decided_set (heap_of f) r (slice_index_or f.remembered r [])) f.n) [
-                | inr b ↦ inr (fault.Card (stand.Region b.0), (kinds, shaped, roots, slots, log, b.1))
-                | inl remembered ↦ inl (record { kinds = kinds; shaped = shaped; roots = roots; slots = slots; log = log; remembered = remembered })
+                | inr b ↦ inr (fault.Card (stand.Region b.0), (known, shaped, roots, slots, log, b.1))
+                | inl remembered ↦ inl (record { known = known; shaped = shaped; roots = roots; slots = slots; log = log; remembered = remembered })
               ]
             ]
           ]
@@ -68,9 +84,9 @@ current_in c n = by (nat_lt c n) refl where
     | inr ge ↦ (let clash : true ≡ false = sym e ∙ le-ltb c n ge in cc)
   ]
 
-module _ (bytes : List ℕ) (h : Heading) (table : List Entry) (roots log : List ℕ) (remembered : List (List ℕ)) (words : List ℕ) (p : PlainIs bytes h table roots log remembered words) where
+module _ (bytes : List ℕ) (v : Version) (h : Heading) (table : List Entry) (roots log : List ℕ) (remembered : List (List ℕ)) (words : List ℕ) (p : PlainIs bytes v h table roots log remembered words) where
   -- the heap of a whole file, its regions and references aside
-  draft : IsDraft (heap_of (plain_file h table roots log remembered words))
+  draft : IsDraft (heap_of (plain_file v h table roots log remembered words))
   draft = record {
     limits = p.good.sizes;
     word_count = length-laid h.w table words ∙ ap (λ n. n * h.w) p.fits.table.how_many;
@@ -81,19 +97,19 @@ module _ (bytes : List ℕ) (h : Heading) (table : List Entry) (roots log : List
   }
 
   -- the image of a file that keeps all rules
-  image_of : IsGoodFile (plain_file h table roots log remembered words) → (i : Image) × IsTextOf bytes i
+  image_of : IsGoodFile (plain_file v h table roots log remembered words) → (i : Image) × IsTextOf bytes i
   image_of g =
-      let f : File = plain_file h table roots log remembered words in
+      let f : File = plain_file v h table roots log remembered words in
       let good : IsGoodHeap (heap_of f) = record { shaped = g.shaped; roots = g.roots; slots = g.slots } in
       let i : Image = record { heap = heap_of f; remembered = remembered; log = log } in
-      (i, (is_image f p.fits draft good g.log g.remembered, p.text ∙ ap file_text (sym (file_again f p.fits good g.kinds))))
+      (i, (v, (is_image f p.fits draft good g.known g.log g.remembered, can_tell f p.fits, p.text ∙ ap file_text (sym (file_again f p.fits good g.known)))))
 
   -- a whole file is an image's, or its bytes have a fault
   told_plain : ((i : Image) × IsTextOf bytes i) ⊎ AnyFault bytes
   told_plain =
-      let f : File = plain_file h table roots log remembered words in
+      let f : File = plain_file v h table roots log remembered words in
       elim (judged f p.fits) [ inl g ↦ inl (image_of g) | inr x ↦ inr (x.0, file_fault bytes f x.0 p.fits p.text x.1) ]
 
 -- bytes are an image's text or have a fault
 pub always_one : (bytes : List ℕ) → IsBytes bytes → ((i : Image) × IsTextOf bytes i) ⊎ ((e : Fault) × FaultOf bytes e)
-always_one bytes b = elim (told_file bytes b) [ inr e ↦ inr e | inl p ↦ told_plain bytes p.0 p.1 p.2 p.3 p.4 p.5 p.6 ]
+always_one bytes b = elim (told_file bytes b) [ inr e ↦ inr e | inl p ↦ told_plain bytes p.0 p.1 p.2 p.3 p.4 p.5 p.6 p.7 ]

@@ -1,34 +1,36 @@
 -- The image of a file that keeps all rules.
 use Rattle.std.proofs.Common.{◌≡◌, ◌≤◌, ◌<◌, ℕ, zero, suc, ◌+◌, ◌-◌, ◌*◌, ◌^◌, inl, inr, List, [], ◌∷◌, ◌++◌, length, take, drop, replicate, slice_index, slice_index_or, min, map, arith, refl, sym, ap, subst, ◌∙◌, append_assoc, length-append, length-drop, length-take, Bool, true, false}
-use Rattle.std.specs.Prelude.{Some, None, unwrap_or, nat_lt, if◌then◌else◌}
-use Rattle.std.proofs.lemmas.List.{length-replicate, get_or_append_left, get_or-append-add, get_or_past, take-append-drop, take-append-le, get_or-replicate}
+use Rattle.std.specs.Prelude.{◌==◌, IsTrue, IsFalse, Some, None, unwrap_or, nat_lt, if◌then◌else◌}
+use Rattle.std.proofs.lemmas.List.{length-map, get_or-map, length-replicate, get_or_append_left, get_or-append-add, get_or_past, take-append-drop, take-append-le, get_or-replicate}
 use Rattle.std.proofs.lemmas.Grind.{get_or_default_zero}
 use Rattle.std.proofs.lemmas.Bool.{cases_lt, lt-ltb}
 use Rattle.std.proofs.Math.Seq.{drop-append_seam}
-use Rattle.g1_words.specs.Heap.{Heap, region, start}
-use Rattle.g1_words.specs.Valid.{IsValid, IsReference, IsShapedBy}
+use Rattle.g1_words.specs.Heap.{Heap, free_region, region, start}
+use Rattle.g1_words.specs.declared.region.Region.{Region}
+use Rattle.g1_words.specs.Valid.{IsValid, IsReference, IsShapedBy, MayBePinned}
 use Rattle.g1_words.specs.declared.region.Kind.{Kind}
 use Rattle.g1_words.specs.declared.region.Kind.TheVariants.{Free, Ordinary, HumongousFirst, Continuation}
 use Rattle.g1_words.specs.declared.fault.Fault.{Fault}
 use Rattle.g1_words.specs.declared.fault.Fault.TheVariants as fault
 use Rattle.g1_words.specs.declared.fault.Place.TheVariants as place
 use Rattle.g1_words.specs.declared.fault.Stand.TheVariants as stand
-use Rattle.g1_image.specs.Text.{File, Entry, file_text, table_words}
+use Rattle.g1_image.specs.declared.cursor.Version.TheVariants.{One, Two}
+use Rattle.g1_image.specs.Text.{File, Entry, Version, file_text, table_words}
 use Rattle.g1_words.specs.Kind.{kind_of, kind_number}
-use Rattle.g1_image.specs.Image.{IsImage, IsLog, IsUsedCard, IsRememberedSet, all_words, used_words, heap_of, file_of, region_of_entry, entry_of}
-use Rattle.g1_image.specs.Faults.{FileFits, MayFail, IsKnownKind, KindsKnown, IsFirstBreach, IsGoodLogged, LogGood, LogsGood, RememberedGood}
+use Rattle.g1_image.specs.Image.{IsImage, CanTell, IsLog, IsUsedCard, IsRememberedSet, flags_of, all_words, used_words, heap_of, file_of, region_of_entry, entry_of}
+use Rattle.g1_image.specs.Faults.{FileFits, EntryFits, MayFail, entry, IsKnownKind, HasKnownFlags, TableKnown, IsFirstBreach, IsGoodLogged, LogGood, LogsGood, RememberedGood}
 use Rattle.g1_image.specs.Judged.{IsGoodHeap, HeapFault}
 use Rattle.g1_image.specs.Draft.{IsDraft}
 use Rattle.g1_image.proofs.Words.{table_words-cons}
 
 -- the fault of a whole file is the bytes'
-pub heap_fault : (bytes : List ℕ) (f : File) (e : Fault) → FileFits f → bytes ≡ file_text f → KindsKnown f → HeapFault (heap_of f) e → MayFail bytes e
+pub heap_fault : (bytes : List ℕ) (f : File) (e : Fault) → FileFits f → bytes ≡ file_text f → TableKnown f → HeapFault (heap_of f) e → MayFail bytes e
 heap_fault bytes f (fault.Shape r) fits text known h = inr (f, fits, text, (known, h))
 heap_fault bytes f (fault.Reference (place.Root i)) fits text known h = inr (f, fits, text, (known, h.0, h.1))
 heap_fault bytes f (fault.Reference (place.Slot p)) fits text known h = inr (f, fits, text, (known, h.0, h.1, h.2))
 heap_fault bytes f _ fits text known h = absurd h
 
-pub log_fault : (bytes : List ℕ) (f : File) (h : Heap) (log : List ℕ) (e : Fault) (i : ℕ) → FileFits f → bytes ≡ file_text f → KindsKnown f → h ≡ heap_of f → log ≡ f.log → IsGoodHeap h →
+pub log_fault : (bytes : List ℕ) (f : File) (h : Heap) (log : List ℕ) (e : Fault) (i : ℕ) → FileFits f → bytes ≡ file_text f → TableKnown f → h ≡ heap_of f → log ≡ f.log → IsGoodHeap h →
     e ≡ fault.Card (stand.Dirty i) → IsFirstBreach (IsGoodLogged h log) (length log) i → MayFail bytes e
 log_fault bytes f h log e i fits text known same logs g is b =
     let good : IsGoodHeap (heap_of f) = subst IsGoodHeap same g in
@@ -39,7 +41,7 @@ log_fault bytes f h log e i fits text known same logs g is b =
 pub logs_good : (f : File) (h : Heap) (log : List ℕ) → h ≡ heap_of f → log ≡ f.log → ((i : ℕ) → i < length log → IsGoodLogged h log i) → LogsGood f
 logs_good f h log same logs good = subst (λ l. (i : ℕ) → i < length l → IsGoodLogged (heap_of f) l i) logs (subst (λ x. (i : ℕ) → i < length log → IsGoodLogged x log i) same good)
 
-pub remembered_fault : (bytes : List ℕ) (f : File) (h : Heap) (remembered : List (List ℕ)) (e : Fault) (r : ℕ) → FileFits f → bytes ≡ file_text f → KindsKnown f → h ≡ heap_of f → remembered ≡ f.remembered →
+pub remembered_fault : (bytes : List ℕ) (f : File) (h : Heap) (remembered : List (List ℕ)) (e : Fault) (r : ℕ) → FileFits f → bytes ≡ file_text f → TableKnown f → h ≡ heap_of f → remembered ≡ f.remembered →
     IsGoodHeap h → LogsGood f → e ≡ fault.Card (stand.Region r) → IsFirstBreach (λ q. IsRememberedSet h q (slice_index_or remembered q [])) h.geometry.n r → MayFail bytes e
 remembered_fault bytes f h remembered e r fits text known same own g logged is b =
     let good : IsGoodHeap (heap_of f) = subst IsGoodHeap same g in
@@ -106,8 +108,8 @@ module _ (w : ℕ) (e : Entry) (es : List Entry) (ws : List ℕ) (le : table_wor
       take-append-le e.top (take (min e.top w) ws) (replicate (w - e.top) 0 ++ all_words w es (drop e.top ws)) (omega (arith, length-front))
       ∙ ap (λ k. take e.top (take k ws)) m ∙ take_same e.top ws
 
-pub zero_at : (w : ℕ) (es : List Entry) (ws : List ℕ) (r i : ℕ) → table_words es ≤ length ws → ((q : ℕ) → q < length es → (slice_index_or es q (record { kind = 0; top = 0 })).top ≤ w) →
-    r < length es → (slice_index_or es r (record { kind = 0; top = 0 })).top ≤ i → i < w → slice_index (all_words w es ws) (r * w + i) ≡ 0
+pub zero_at : (w : ℕ) (es : List Entry) (ws : List ℕ) (r i : ℕ) → table_words es ≤ length ws → ((q : ℕ) → q < length es → (slice_index_or es q (record { kind = 0; top = 0; flags = 0 })).top ≤ w) →
+    r < length es → (slice_index_or es r (record { kind = 0; top = 0; flags = 0 })).top ≤ i → i < w → slice_index (all_words w es ws) (r * w + i) ≡ 0
 zero_at w [] ws r i le tops lt ge il = absurd (omega (arith, lt))
 zero_at w (e ∷ es) ws zero i le tops lt ge il =
     let place : 0 * w + i ≡ i = omega arith in
@@ -117,7 +119,7 @@ zero_at w (e ∷ es) ws (suc r) i le tops lt ge il =
     ap (λ k. slice_index (all_words w (e ∷ es) ws) k) place ∙ later w e es ws le (tops 0 (omega arith)) (r * w + i)
     ∙ zero_at w es (drop e.top ws) r i (omega (arith, le, table_words-cons e es, length-drop e.top ws)) (λ q l. tops (suc q) (omega (arith, l))) (omega (arith, lt)) ge il
 
-pub used_all : (w : ℕ) (es : List Entry) (ws : List ℕ) → length ws ≡ table_words es → ((q : ℕ) → q < length es → (slice_index_or es q (record { kind = 0; top = 0 })).top ≤ w) →
+pub used_all : (w : ℕ) (es : List Entry) (ws : List ℕ) → length ws ≡ table_words es → ((q : ℕ) → q < length es → (slice_index_or es q (record { kind = 0; top = 0; flags = 0 })).top ≤ w) →
     used_words w (map region_of_entry es) (all_words w es ws) ≡ ws
 used_all w [] [] e tops = refl
 used_all w [] (x ∷ ws) e tops = absurd (omega (arith, e))
@@ -135,26 +137,49 @@ kind_again (suc (suc zero)) le = refl
 kind_again (suc (suc (suc zero))) le = refl
 kind_again (suc (suc (suc (suc x)))) le = absurd (omega (arith, le))
 
-pub table_again : (es : List Entry) → ((r : ℕ) → r < length es → IsKnownKind es r) → map entry_of (map region_of_entry es) ≡ es
-table_again [] known = refl
-table_again (e ∷ es) known =
-    let first : kind_number (kind_of e.kind) ≡ e.kind = kind_again e.kind (known 0 (omega arith)) in
-    (λ t. record { kind = first t; top = e.top } ∷ table_again es (λ r lt. known (suc r) (omega (arith, lt))) t)
+flags_again : (x : ℕ) → x ≤ 1 → flags_of (x == 1) ≡ x
+flags_again zero le = refl
+flags_again (suc zero) le = refl
+flags_again (suc (suc x)) le = absurd (omega (arith, le))
 
-pub region_top : (es : List Entry) (r : ℕ) → (slice_index_or (map region_of_entry es) r (record { kind = Free; top = 0 })).top ≡ (slice_index_or es r (record { kind = 0; top = 0 })).top
+-- flags with a meaning are 0 or 1
+small_flags : (es : List Entry) (r : ℕ) → HasKnownFlags es r → (entry es r).flags ≤ 1
+small_flags es r (inl e) = omega (arith, e)
+small_flags es r (inr e) = omega (arith, e.0)
+
+-- an entry that pins is of an ordinary region
+pin_ordinary : (es : List Entry) (r : ℕ) → HasKnownFlags es r → IsTrue ((entry es r).flags == 1) → kind_of (entry es r).kind ≡ Ordinary
+pin_ordinary es r (inl e) t = absurd (let clash : false ≡ true = sym (ap (λ x. x == 1) e) ∙ t in cc)
+pin_ordinary es r (inr e) t = ap kind_of e.1
+
+pub table_again : (es : List Entry) → ((r : ℕ) → r < length es → IsKnownKind es r) → ((r : ℕ) → r < length es → HasKnownFlags es r) → map entry_of (map region_of_entry es) ≡ es
+table_again [] known flags = refl
+table_again (e ∷ es) known flags =
+    let first : kind_number (kind_of e.kind) ≡ e.kind = kind_again e.kind (known 0 (omega arith)) in
+    let last : flags_of (e.flags == 1) ≡ e.flags = flags_again e.flags (small_flags (e ∷ es) 0 (flags 0 (omega arith))) in
+    (λ t. record { kind = first t; top = e.top; flags = last t } ∷ table_again es (λ r lt. known (suc r) (omega (arith, lt))) (λ r lt. flags (suc r) (omega (arith, lt))) t)
+
+-- the region that an entry tells
+region_is : (es : List Entry) (r : ℕ) → slice_index_or (map region_of_entry es) r free_region ≡ region_of_entry (entry es r)
+region_is [] r = refl
+region_is (e ∷ es) zero = refl
+region_is (e ∷ es) (suc r) = region_is es r
+
+pub region_top : (es : List Entry) (r : ℕ) → (slice_index_or (map region_of_entry es) r (record { kind = Free; top = 0; pinned = false })).top ≡ (slice_index_or es r (record { kind = 0; top = 0; flags = 0 })).top
 region_top [] r = refl
 region_top (e ∷ es) zero = refl
 region_top (e ∷ es) (suc r) = region_top es r
 
 -- a heap whose regions and references are good is valid
-pub valid_heap : (h : Heap) → IsDraft h → IsGoodHeap h → ((r i : ℕ) → r < h.geometry.n → (region h r).top ≤ i → i < h.geometry.w → slice_index h.words (start h r + i) ≡ 0) → IsValid h
-valid_heap h d g zeros = record {
+pub valid_heap : (h : Heap) → IsDraft h → IsGoodHeap h → ((r : ℕ) → r < h.geometry.n → MayBePinned h r) → ((r i : ℕ) → r < h.geometry.n → (region h r).top ≤ i → i < h.geometry.w → slice_index h.words (start h r + i) ≡ 0) → IsValid h
+valid_heap h d g pins zeros = record {
   limits = d.limits;
   word_count = d.word_count;
   word_fits = d.word_fits;
   region_count = d.region_count;
   root_count = d.root_count;
   shaped = g.shaped;
+  pins = pins;
   zero_above = zeros;
   roots = λ i x lt. subst (IsReference h) (sym (get_or_default_zero h.roots i x lt)) (g.roots i lt);
   slots = λ o p has slot. elim (cases_lt p (h.geometry.n * h.geometry.w)) [
@@ -165,7 +190,7 @@ valid_heap h d g zeros = record {
 }
 
 module _ (f : File) (fits : FileFits f) (g : IsGoodHeap (heap_of f)) where
-  tops : (q : ℕ) → q < length f.table → (slice_index_or f.table q (record { kind = 0; top = 0 })).top ≤ f.w
+  tops : (q : ℕ) → q < length f.table → (slice_index_or f.table q (record { kind = 0; top = 0; flags = 0 })).top ≤ f.w
   tops q lt =
       let s = g.shaped q (omega (arith, lt, fits.table.how_many)) in
       omega (arith, top_of (region (heap_of f) q).kind (heap_of f) q s.by_kind, region_top f.table q)
@@ -183,13 +208,14 @@ module _ (f : File) (fits : FileFits f) (g : IsGoodHeap (heap_of f)) where
       | inr ge ↦ (let s : n ≡ c = omega (arith, ge, le) in s)
     ]
 
-  pub file_again : KindsKnown f → file_of (record { heap = heap_of f; remembered = f.remembered; log = f.log }) ≡ f
+  pub file_again : TableKnown f → file_of f.version (record { heap = heap_of f; remembered = f.remembered; log = f.log }) ≡ f
   file_again known = λ t. record {
+    version = f.version;
     w = f.w;
     k = f.k;
     n = f.n;
     current = current_again f.current f.n fits.limits.current t;
-    table = table_again f.table (λ r lt. known r (omega (arith, lt, fits.table.how_many))) t;
+    table = table_again f.table (λ r lt. known.kinds r (omega (arith, lt, fits.table.how_many))) (λ r lt. known.flags r (omega (arith, lt, fits.table.how_many))) t;
     roots = f.roots;
     log = f.log;
     remembered = f.remembered;
@@ -203,22 +229,37 @@ is_log h log count good = record {
   count = count;
 }
 
-pub is_image : (f : File) → FileFits f → IsDraft (heap_of f) → IsGoodHeap (heap_of f) → ((i : ℕ) → i < length f.log → LogGood f i) → ((r : ℕ) → r < f.n → RememberedGood f r) →
+-- where flags have a meaning, only ordinary regions are pinned
+pins_known : (f : File) → TableKnown f → (r : ℕ) → r < f.n → MayBePinned (heap_of f) r
+pins_known f known r lt = λ t.
+    ap (λ (q : Region). q.kind) (region_is f.table r) ∙ pin_ordinary f.table r (known.flags r lt) (sym (ap (λ (q : Region). q.pinned) (region_is f.table r)) ∙ t)
+
+-- the version of a file can tell what is pinned
+pub can_tell : (f : File) → FileFits f → CanTell f.version (heap_of f)
+can_tell f fits = by f.version fits.table.each where
+  by : (v : Version) → ((k : ℕ) (d : Entry) → k < length f.table → EntryFits v (slice_index_or f.table k d)) → CanTell v (heap_of f)
+  by One each = λ k d lt.
+      let none : Entry = record { kind = 0; top = 0; flags = 0 } in
+      let within : k < length f.table = omega (arith, lt, length-map f.table region_of_entry) in
+      subst (λ (q : Region). IsFalse q.pinned) (sym (get_or-map region_of_entry f.table k none d within)) (ap (λ x. x == 1) (each k none within).2)
+  by Two each = tt
+
+pub is_image : (f : File) → FileFits f → IsDraft (heap_of f) → IsGoodHeap (heap_of f) → TableKnown f → ((i : ℕ) → i < length f.log → LogGood f i) → ((r : ℕ) → r < f.n → RememberedGood f r) →
     IsImage (record { heap = heap_of f; remembered = f.remembered; log = f.log })
-is_image f fits d g logged remembered = record {
-  heap = valid_heap (heap_of f) d g (zeros f fits g);
+is_image f fits d g known logged remembered = record {
+  heap = valid_heap (heap_of f) d g (pins_known f known) (zeros f fits g);
   one_each = fits.remembered.how_many;
   remembered = remembered;
   log = is_log (heap_of f) f.log fits.heading.dirty logged;
 }
 
 -- an image made of the heap, the remembered sets and the log of a file that keeps all rules
-pub made_image : (f : File) (h : Heap) (log : List ℕ) → FileFits f → IsDraft h → h ≡ heap_of f → log ≡ f.log → IsGoodHeap (heap_of f) → LogsGood f → ((r : ℕ) → r < f.n → RememberedGood f r) →
+pub made_image : (f : File) (h : Heap) (log : List ℕ) → FileFits f → IsDraft h → h ≡ heap_of f → log ≡ f.log → IsGoodHeap (heap_of f) → TableKnown f → LogsGood f → ((r : ℕ) → r < f.n → RememberedGood f r) →
     IsImage (record { heap = h; remembered = f.remembered; log = log })
-made_image f h log fits d same logs good logged remembered =
+made_image f h log fits d same logs good known logged remembered =
     subst (λ l. IsImage (record { heap = h; remembered = f.remembered; log = l })) (sym logs)
-    (subst (λ x. IsImage (record { heap = x; remembered = f.remembered; log = f.log })) (sym same) (is_image f fits (subst IsDraft same d) good logged remembered))
+    (subst (λ x. IsImage (record { heap = x; remembered = f.remembered; log = f.log })) (sym same) (is_image f fits (subst IsDraft same d) good known logged remembered))
 
-pub made_text : (f : File) (h : Heap) (log : List ℕ) → FileFits f → h ≡ heap_of f → log ≡ f.log → IsGoodHeap (heap_of f) → KindsKnown f →
-    file_text f ≡ file_text (file_of (record { heap = h; remembered = f.remembered; log = log }))
-made_text f h log fits same logs good known = ap file_text (sym ((λ t. file_of (record { heap = same t; remembered = f.remembered; log = logs t })) ∙ file_again f fits good known))
+pub made_text : (f : File) (h : Heap) (log : List ℕ) → FileFits f → h ≡ heap_of f → log ≡ f.log → IsGoodHeap (heap_of f) → TableKnown f →
+    file_text f ≡ file_text (file_of f.version (record { heap = h; remembered = f.remembered; log = log }))
+made_text f h log fits same logs good known = ap file_text (sym ((λ t. file_of f.version (record { heap = same t; remembered = f.remembered; log = logs t })) ∙ file_again f fits good known))

@@ -26,6 +26,11 @@ decided_both P Q (inl p) (inr n) = inr (λ x. n x.1)
 decided_both P Q (inr n) d = inr (λ x. n x.0)
 
 -- a fact under another
+pub decided_either : (P Q : Type 0) → Decided P → Decided Q → Decided (P ⊎ Q)
+decided_either P Q (inl p) q = inl (inl p)
+decided_either P Q (inr n) (inl q) = inl (inr q)
+decided_either P Q (inr n) (inr m) = inr (λ e. elim e [ inl p ↦ n p | inr q ↦ m q ])
+
 pub decided_under : (P Q : Type 0) → Decided P → Decided Q → Decided (P → Q)
 decided_under P Q d (inl q) = inl (λ p. q)
 decided_under P Q (inl p) (inr n) = inr (λ f. n (f p))

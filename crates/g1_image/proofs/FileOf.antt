@@ -1,22 +1,23 @@
 -- The file of an image: its numbers fit, and it tells the image's heap.
 use Rattle.std.proofs.Common.{◌≡◌, ◌≢◌, ◌≤◌, ◌<◌, ℕ, zero, suc, ◌+◌, ◌-◌, ◌*◌, ◌/◌, ◌^◌, inl, inr, List, [], ◌∷◌, ◌++◌, length, take, drop, replicate, slice_index, slice_index_or, min, map, arith, refl, sym, ap, subst, ◌∙◌, length-append, length-drop, length-take, get_or-drop}
-use Rattle.std.specs.Prelude.{All, Option, Some, None, IfSome, unwrap_or, nat_lt, if◌then◌else◌}
+use Rattle.std.specs.Prelude.{◌↔◌, ◌==◌, Bool, true, false, IsFalse, All, Option, Some, None, IfSome, unwrap_or, nat_lt, if◌then◌else◌}
 use Rattle.std.proofs.lemmas.List.{length-map, get_or_default, get_or_past, get_or-map, take-append-drop, drop-drop}
 use Rattle.std.proofs.lemmas.Grind.{get_or_default_zero}
 use Rattle.std.proofs.lemmas.Bool.{cases_lt, lt-ltb, le-ltb}
 use Rattle.std.proofs.Math.Nat.{mul-le-mul_left}
 use Rattle.std.proofs.Math.Seq.{drop-append_seam, take-append_seam}
-use Rattle.g1_words.specs.Heap.{Heap, free_region, region}
+use Rattle.g1_words.specs.Heap.{Heap, free_region, region, pinned}
 use Rattle.g1_words.specs.Valid.{IsValid, IsReference}
 use Rattle.g1_words.specs.declared.region.Region.{Region}
 use Rattle.g1_words.specs.declared.region.Kind.{Kind}
 use Rattle.g1_words.specs.declared.region.Kind.TheVariants.{Free, Ordinary, HumongousFirst, Continuation}
 use Rattle.g1_words.proofs.Objects.{object_stands, stands_within, region_in_words, tops_fit}
-use Rattle.g1_image.specs.Text.{Entry, table_words}
+use Rattle.g1_image.specs.Text.{Entry, Version, file_text, table_words}
+use Rattle.g1_image.specs.declared.cursor.Version.TheVariants.{One, Two}
 use Rattle.g1_image.specs.Reading.{IsU32, IsU64}
-use Rattle.g1_image.specs.Faults.{EntryFits, RememberedFits, FileFits}
+use Rattle.g1_image.specs.Faults.{FlagsFit, EntryFits, RememberedFits, FileFits}
 use Rattle.g1_words.specs.Kind.{kind_number, kind_of}
-use Rattle.g1_image.specs.Image.{Image, IsImage, IsTextOf, IsUsedCard, region_of_card, remembered_of, entry_of, region_of_entry, used_words, all_words, file_of, heap_of}
+use Rattle.g1_image.specs.Image.{Image, IsImage, CanTell, IsTextIn, IsTextOf, IsUsedCard, region_of_card, remembered_of, flags_of, entry_of, region_of_entry, used_words, all_words, file_of, heap_of}
 use Rattle.g1_image.proofs.Words.{table_words-cons}
 use Rattle.g1_image.proofs.OneFile.{one_file}
 use Rattle.g1_image.proofs.Drafts.{Bounded, bounded_append, bounded_take}
@@ -34,6 +35,26 @@ kind_there Free = refl
 kind_there Ordinary = refl
 kind_there HumongousFirst = refl
 kind_there Continuation = refl
+
+-- the flags of a region tell whether it is pinned
+pin_there : (b : Bool) → flags_of b == 1 ≡ b
+pin_there false = refl
+pin_there true = refl
+
+-- the version can tell whether one region is pinned
+abbrev TellsPin : Version → Bool → Type 0
+TellsPin One b = IsFalse b
+TellsPin Two b = Unit {0}
+
+told_at : (v : Version) (h : Heap) (k : ℕ) → k < length h.regions → CanTell v h → TellsPin v (slice_index_or h.regions k free_region).pinned
+told_at One h k lt tells = tells k free_region lt
+told_at Two h k lt tells = tt
+
+-- flags that the version can tell
+flags_fit : (v : Version) (b : Bool) → TellsPin v b → FlagsFit v (flags_of b)
+flags_fit One b none = ap flags_of none
+flags_fit Two false any = omega arith
+flags_fit Two true any = omega arith
 
 -- as many used words as the table announces
 length-used_words : (w : ℕ) (qs : List Region) (words : List ℕ) → All (λ q. q.top ≤ w) qs → length words ≡ length qs * w → length (used_words w qs words) ≡ table_words (map entry_of qs)
@@ -97,7 +118,7 @@ words_again w (q ∷ qs) words tops e zeros =
 -- the regions that their entries tell
 regions_again : (qs : List Region) → map region_of_entry (map entry_of qs) ≡ qs
 regions_again [] = refl
-regions_again (q ∷ qs) = λ t. record { kind = kind_there q.kind t; top = q.top } ∷ regions_again qs t
+regions_again (q ∷ qs) = λ t. record { kind = kind_there q.kind t; top = q.top; pinned = pin_there q.pinned t } ∷ regions_again qs t
 
 -- the current region that its number tells
 current_again : (n : ℕ) (c : Option ℕ) → IfSome c (λ r. r < n) → (if nat_lt (unwrap_or c n) n then Some (unwrap_or c n) else None) ≡ c
@@ -105,8 +126,8 @@ current_again n None lt = ap (λ b. if b then Some n else None) (le-ltb n n (ome
 current_again n (Some r) lt = ap (λ b. if b then Some r else None) (lt-ltb r n lt)
 
 -- the file of an image tells its heap
-pub heap_of_file : (i : Image) → IsImage i → heap_of (file_of i) ≡ i.heap
-heap_of_file i image =
+pub heap_of_file : (v : Version) (i : Image) → IsImage i → heap_of (file_of v i) ≡ i.heap
+heap_of_file v i image =
     let valid : IsValid i.heap = image.heap in
     let size : length i.heap.words ≡ length i.heap.regions * i.heap.geometry.w = valid.word_count ∙ ap (λ n. n * i.heap.geometry.w) (sym valid.region_count) in
     let words = words_again i.heap.geometry.w i.heap.regions i.heap.words (tops_fit i.heap valid) size (λ r k lt. valid.zero_above r k (omega (arith, lt, valid.region_count))) in
@@ -143,18 +164,18 @@ current_fits n None lt = omega arith
 current_fits n (Some r) lt = omega (arith, lt)
 
 -- every number of an image's file has the bits that its text gives it
-pub file_fits : (i : Image) → IsImage i → FileFits (file_of i)
-file_fits i image =
+pub file_fits : (v : Version) (i : Image) → IsImage i → CanTell v i.heap → FileFits (file_of v i)
+file_fits v i image tells =
     let valid : IsValid i.heap = image.heap in
     let tops : All (λ q. q.top ≤ i.heap.geometry.w) i.heap.regions = tops_fit i.heap valid in
     let size : length i.heap.words ≡ length i.heap.regions * i.heap.geometry.w = valid.word_count ∙ ap (λ n. n * i.heap.geometry.w) (sym valid.region_count) in
     let current : unwrap_or i.heap.current i.heap.geometry.n ≤ i.heap.geometry.n = current_fits i.heap.geometry.n i.heap.current valid.current_in in
-    let entry_fits : (k : ℕ) (d : Entry) → k < length (map entry_of i.heap.regions) → EntryFits (slice_index_or (map entry_of i.heap.regions) k d) =
+    let entry_fits : (k : ℕ) (d : Entry) → k < length (map entry_of i.heap.regions) → EntryFits v (slice_index_or (map entry_of i.heap.regions) k d) =
     λ k d lt.
     let there : k < length i.heap.regions = omega (arith, lt, length-map i.heap.regions entry_of) in
     let is : slice_index_or (map entry_of i.heap.regions) k d ≡ entry_of (slice_index_or i.heap.regions k free_region) = get_or-map entry_of i.heap.regions k free_region d there in
     let top : (slice_index_or i.heap.regions k free_region).top ≤ i.heap.geometry.w = tops k free_region there in
-    subst EntryFits (sym is) (kind_fits (slice_index_or i.heap.regions k free_region).kind, omega (arith, top, valid.limits.w_most)) in
+    subst (EntryFits v) (sym is) (kind_fits (slice_index_or i.heap.regions k free_region).kind, omega (arith, top, valid.limits.w_most), flags_fit v (slice_index_or i.heap.regions k free_region).pinned (told_at v i.heap k there tells)) in
     let words_fit : Bounded i.heap.words = λ k. elim (cases_lt k (length i.heap.words)) [
       | inl lt ↦ valid.word_fits k 0 lt
       | inr ge ↦ (let e : slice_index i.heap.words k ≡ 0 = get_or_past i.heap.words k 0 ge in omega (arith, e))
@@ -190,6 +211,17 @@ file_fits i image =
 -- bytes are the text of one image at most
 pub one_image : (bytes : List ℕ) (i j : Image) → IsTextOf bytes i → IsTextOf bytes j → i ≡ j
 one_image bytes i j is it =
-    let file : file_of i ≡ file_of j = one_file bytes (file_of i) (file_of j) (file_fits i is.0) (file_fits j it.0) is.1 it.1 in
-    let heap : i.heap ≡ j.heap = sym (heap_of_file i is.0) ∙ ap heap_of file ∙ heap_of_file j it.0 in
+    let file : file_of is.0 i ≡ file_of it.0 j = one_file bytes (file_of is.0 i) (file_of it.0 j) (file_fits is.0 i is.1.0 is.1.1) (file_fits it.0 j it.1.0 it.1.1) is.1.2 it.1.2 in
+    let heap : i.heap ≡ j.heap = sym (heap_of_file is.0 i is.1.0) ∙ ap heap_of file ∙ heap_of_file it.0 j it.1.0 in
     λ t. record { heap = heap t; remembered = (file t).remembered; log = (file t).log }
+
+-- an image has a text of version 2, and one of version 1 exactly where no region is pinned
+pub texts_exist : (i : Image) → IsImage i →
+    ((a : List ℕ) × IsTextIn Two a i) × (((a : List ℕ) × IsTextIn One a i) ↔ ((r : ℕ) → r < i.heap.geometry.n → IsFalse (pinned i.heap r)))
+texts_exist i image = (
+  (file_text (file_of Two i), (image, tt, refl)),
+  (
+    λ x r lt. x.1.1 r free_region (omega (arith, lt, image.heap.region_count)),
+    λ none. (file_text (file_of One i), (image, (λ k d lt. subst (λ q. IsFalse q.pinned) (get_or_default i.heap.regions k free_region d lt) (none k (omega (arith, lt, image.heap.region_count)))), refl)),
+  ),
+)

@@ -1,16 +1,16 @@
 -- A file that is read part by part.
 use Rattle.std.proofs.Common.{◌≡◌, ◌≤◌, ◌<◌, ℕ, suc, ◌*◌, inl, inr, List, [], ◌∷◌, ◌++◌, length, drop, arith, refl, sym, ap, subst, ◌∙◌, append_assoc, length-drop}
-use Rattle.std.proofs.lemmas.List.{append-nil, append_cancel_left, drop_all}
+use Rattle.std.proofs.lemmas.List.{append-nil, drop_all}
 use Rattle.g1_words.specs.declared.fault.Fault.{Fault}
 use Rattle.g1_words.specs.declared.fault.Fault.TheVariants as fault
 use Rattle.g1_image.specs.declared.cursor.Heading.{Heading}
-use Rattle.g1_image.specs.Text.{File, Entry, magic, heading_text, heading_of, body_text, file_text, table_text, words_text, numbers_text, remembered_texts, entry_text, remembered_text, u32, u64, words_of, table_words}
+use Rattle.g1_image.specs.Text.{File, Entry, Version, magic, heading_text, heading_of, body_text, file_text, table_text, words_text, numbers_text, remembered_texts, entry_text, remembered_text, u32, u64, words_of, table_words}
 use Rattle.g1_image.specs.Reading.{Are, IsU32, IsU64, IsBytes, EndsWithin, FailsIf}
 use Rattle.g1_image.specs.Faults.{HeadingFits, IsGoodHeading, EntryFits, RememberedFits, FileFits, FaultOf, MayFail}
 use Rattle.g1_image.specs.Plain.{plain_file, PlainIs}
 use Rattle.g1_image.proofs.Numbers.{u32_once, u64_once}
 use Rattle.g1_image.proofs.PrefixFree.{IsPrefixFree, Are-free}
-use Rattle.g1_image.proofs.Parts.{entry_free, set_free, heading_free}
+use Rattle.g1_image.proofs.Parts.{magic_free, entry_free, set_free, heading_free}
 use Rattle.g1_image.proofs.Sequence.{Left, Left-step, Left-short}
 use Rattle.g1_image.proofs.Words.{words_of-text, words_of-are, words_short}
 
@@ -26,8 +26,8 @@ fails bytes fault.Memory P h f = inl refl
 fails bytes fault.Short P h f = inr (f h)
 fails bytes _ P h f = absurd h
 
-abbrev pub Is : Heading → File → Type 0
-Is h f = heading_of f ≡ h
+abbrev pub Is : Version → Heading → File → Type 0
+Is v h f = (f.version ≡ v) × (heading_of f ≡ h)
 
 abbrev after_table : File → List ℕ
 after_table f = words_text f.roots ++ (numbers_text f.log ++ (remembered_texts f.remembered ++ words_text f.words))
@@ -41,16 +41,16 @@ after_log f = remembered_texts f.remembered ++ words_text f.words
 abbrev after_remembered : File → List ℕ
 after_remembered f = words_text f.words
 
-pub are_table : (h : Heading) (f : File) → FileFits f → Is h f → Are EntryFits h.n f.table
-are_table h f fits is = subst (λ (x : Heading). Are EntryFits x.n f.table) is fits.table
+pub are_table : (v : Version) (h : Heading) (f : File) → FileFits f → Is v h f → Are (EntryFits v) h.n f.table
+are_table v h f fits is = subst (λ u. Are (EntryFits u) h.n f.table) is.0 (subst (λ (x : Heading). Are (EntryFits f.version) x.n f.table) is.1 fits.table)
 
-pub are_roots : (h : Heading) (f : File) → FileFits f → Is h f → Are IsU64 h.roots f.roots
+pub are_roots : (h : Heading) (f : File) → FileFits f → heading_of f ≡ h → Are IsU64 h.roots f.roots
 are_roots h f fits is = record { how_many = ap (λ (x : Heading). x.roots) is; each = fits.roots }
 
-pub are_log : (h : Heading) (f : File) → FileFits f → Is h f → Are IsU32 h.dirty f.log
+pub are_log : (h : Heading) (f : File) → FileFits f → heading_of f ≡ h → Are IsU32 h.dirty f.log
 are_log h f fits is = record { how_many = ap (λ (x : Heading). x.dirty) is; each = fits.log }
 
-pub are_remembered : (h : Heading) (f : File) → FileFits f → Is h f → Are RememberedFits h.n f.remembered
+pub are_remembered : (h : Heading) (f : File) → FileFits f → heading_of f ≡ h → Are RememberedFits h.n f.remembered
 are_remembered h f fits is = subst (λ (x : Heading). Are RememberedFits x.n f.remembered) is fits.remembered
 
 pub words_as : (table : List Entry) (f : File) → FileFits f → f.table ≡ table → Are IsU64 (table_words table) f.words
@@ -64,76 +64,75 @@ suffix bytes xs ys e b = of xs ys (subst IsBytes e b) where
   of (x ∷ xs) ys b = of xs ys (λ i. b (suc i))
 
 -- the parts before the words were read: what the bytes are by how many are left for the words
-pub record PartsRead (bytes : List ℕ) (h : Heading) (table : List Entry) (roots log : List ℕ) (remembered : List (List ℕ)) (left : List ℕ) : Type 0 where
+pub record PartsRead (bytes : List ℕ) (v : Version) (h : Heading) (table : List Entry) (roots log : List ℕ) (remembered : List (List ℕ)) (left : List ℕ) : Type 0 where
   pub short : length left < 8 * table_words table → FaultOf bytes fault.Short
   pub trailing : 8 * table_words table < length left → FaultOf bytes fault.Trailing
-  pub whole : length left ≡ 8 * table_words table → PlainIs bytes h table roots log remembered left
+  pub whole : length left ≡ 8 * table_words table → PlainIs bytes v h table roots log remembered left
 
-module _ (bytes rest : List ℕ) (h : Heading) (hf : HeadingFits h) (good : IsGoodHeading h) (e : bytes ≡ magic ++ (heading_text h ++ rest)) where
-  known : Left FileFits file_text bytes (λ f. Unit {0} × Is h f) body_text rest
+module _ (bytes rest : List ℕ) (v : Version) (h : Heading) (hf : HeadingFits h) (good : IsGoodHeading h) (e : bytes ≡ magic v ++ (heading_text h ++ rest)) where
+  known : Left FileFits file_text bytes (λ f. Unit {0} × Is v h f) body_text rest
   known f tail fits ef =
-      let flat : file_text f ++ tail ≡ magic ++ (heading_text (heading_of f) ++ (body_text f ++ tail)) =
-      append_assoc magic (heading_text (heading_of f) ++ body_text f) tail ∙ ap (λ l. magic ++ l) (append_assoc (heading_text (heading_of f)) (body_text f) tail) in
-      let same : heading_text h ++ rest ≡ heading_text (heading_of f) ++ (body_text f ++ tail) =
-      append_cancel_left magic (heading_text h ++ rest) (heading_text (heading_of f) ++ (body_text f ++ tail)) (sym e ∙ ef ∙ flat) in
-      let one = heading_free h (heading_of f) rest (body_text f ++ tail) hf fits.heading same in
-      ((tt, sym one.0), one.1)
+      let flat : file_text f ++ tail ≡ magic f.version ++ (heading_text (heading_of f) ++ (body_text f ++ tail)) =
+      append_assoc (magic f.version) (heading_text (heading_of f) ++ body_text f) tail ∙ ap (λ l. magic f.version ++ l) (append_assoc (heading_text (heading_of f)) (body_text f) tail) in
+      let same = magic_free v f.version (heading_text h ++ rest) (heading_text (heading_of f) ++ (body_text f ++ tail)) (sym e ∙ ef ∙ flat) in
+      let one = heading_free h (heading_of f) rest (body_text f ++ tail) hf fits.heading same.1 in
+      ((tt, (sym same.0, sym one.0)), one.1)
 
   short : EndsWithin FileFits file_text bytes → FaultOf bytes fault.Short
-  short w = inr (inr (h, rest, hf, good, e, w))
+  short w = inr (inr (v, h, rest, hf, good, e, w))
 
-  pub short_table : EndsWithin (Are EntryFits h.n) table_text rest → FaultOf bytes fault.Short
-  short_table w = short (Left-short FileFits file_text bytes (λ f. Unit {0} × Is h f) body_text rest (λ f. f.table) (Are EntryFits h.n) table_text after_table known
-      (λ f fits k. refl) (λ f fits k. are_table h f fits k.1) w)
+  pub short_table : EndsWithin (Are (EntryFits v) h.n) (table_text v) rest → FaultOf bytes fault.Short
+  short_table w = short (Left-short FileFits file_text bytes (λ f. Unit {0} × Is v h f) body_text rest (λ f. f.table) (Are (EntryFits v) h.n) (table_text v) after_table known
+      (λ f fits k. ap (λ u. table_text u f.table ++ after_table f) k.1.0) (λ f fits k. are_table v h f fits k.1) w)
 
-  module _ (table : List Entry) (r1 : List ℕ) (ft : Are EntryFits h.n table) (et : rest ≡ table_text table ++ r1) where
-    known1 : Left FileFits file_text bytes (λ f. (Unit {0} × Is h f) × (f.table ≡ table)) after_table r1
-    known1 = Left-step FileFits file_text bytes (λ f. Unit {0} × Is h f) body_text rest (λ f. f.table) (Are EntryFits h.n) table_text after_table known
-        (λ f fits k. refl) (λ f fits k. are_table h f fits k.1) (Are-free EntryFits entry_text entry_free h.n) table r1 ft et
+  module _ (table : List Entry) (r1 : List ℕ) (ft : Are (EntryFits v) h.n table) (et : rest ≡ table_text v table ++ r1) where
+    known1 : Left FileFits file_text bytes (λ f. (Unit {0} × Is v h f) × (f.table ≡ table)) after_table r1
+    known1 = Left-step FileFits file_text bytes (λ f. Unit {0} × Is v h f) body_text rest (λ f. f.table) (Are (EntryFits v) h.n) (table_text v) after_table known
+        (λ f fits k. ap (λ u. table_text u f.table ++ after_table f) k.1.0) (λ f fits k. are_table v h f fits k.1) (Are-free (EntryFits v) (entry_text v) (entry_free v) h.n) table r1 ft et
 
     pub short_roots : EndsWithin (Are IsU64 h.roots) words_text r1 → FaultOf bytes fault.Short
-    short_roots w = short (Left-short FileFits file_text bytes (λ f. (Unit {0} × Is h f) × (f.table ≡ table)) after_table r1 (λ f. f.roots) (Are IsU64 h.roots) words_text after_roots known1
-        (λ f fits k. refl) (λ f fits k. are_roots h f fits k.0.1) w)
+    short_roots w = short (Left-short FileFits file_text bytes (λ f. (Unit {0} × Is v h f) × (f.table ≡ table)) after_table r1 (λ f. f.roots) (Are IsU64 h.roots) words_text after_roots known1
+        (λ f fits k. refl) (λ f fits k. are_roots h f fits k.0.1.1) w)
 
     module _ (roots : List ℕ) (r2 : List ℕ) (fr : Are IsU64 h.roots roots) (er : r1 ≡ words_text roots ++ r2) where
-      known2 : Left FileFits file_text bytes (λ f. ((Unit {0} × Is h f) × (f.table ≡ table)) × (f.roots ≡ roots)) after_roots r2
-      known2 = Left-step FileFits file_text bytes (λ f. (Unit {0} × Is h f) × (f.table ≡ table)) after_table r1 (λ f. f.roots) (Are IsU64 h.roots) words_text after_roots known1
-          (λ f fits k. refl) (λ f fits k. are_roots h f fits k.0.1) (words_free h.roots) roots r2 fr er
+      known2 : Left FileFits file_text bytes (λ f. ((Unit {0} × Is v h f) × (f.table ≡ table)) × (f.roots ≡ roots)) after_roots r2
+      known2 = Left-step FileFits file_text bytes (λ f. (Unit {0} × Is v h f) × (f.table ≡ table)) after_table r1 (λ f. f.roots) (Are IsU64 h.roots) words_text after_roots known1
+          (λ f fits k. refl) (λ f fits k. are_roots h f fits k.0.1.1) (words_free h.roots) roots r2 fr er
 
       pub short_log : EndsWithin (Are IsU32 h.dirty) numbers_text r2 → FaultOf bytes fault.Short
-      short_log w = short (Left-short FileFits file_text bytes (λ f. ((Unit {0} × Is h f) × (f.table ≡ table)) × (f.roots ≡ roots)) after_roots r2 (λ f. f.log) (Are IsU32 h.dirty) numbers_text after_log known2
-          (λ f fits k. refl) (λ f fits k. are_log h f fits k.0.0.1) w)
+      short_log w = short (Left-short FileFits file_text bytes (λ f. ((Unit {0} × Is v h f) × (f.table ≡ table)) × (f.roots ≡ roots)) after_roots r2 (λ f. f.log) (Are IsU32 h.dirty) numbers_text after_log known2
+          (λ f fits k. refl) (λ f fits k. are_log h f fits k.0.0.1.1) w)
 
       module _ (log : List ℕ) (r3 : List ℕ) (fl : Are IsU32 h.dirty log) (el : r2 ≡ numbers_text log ++ r3) where
-        known3 : Left FileFits file_text bytes (λ f. (((Unit {0} × Is h f) × (f.table ≡ table)) × (f.roots ≡ roots)) × (f.log ≡ log)) after_log r3
-        known3 = Left-step FileFits file_text bytes (λ f. ((Unit {0} × Is h f) × (f.table ≡ table)) × (f.roots ≡ roots)) after_roots r2 (λ f. f.log) (Are IsU32 h.dirty) numbers_text after_log known2
-            (λ f fits k. refl) (λ f fits k. are_log h f fits k.0.0.1) (numbers_free h.dirty) log r3 fl el
+        known3 : Left FileFits file_text bytes (λ f. (((Unit {0} × Is v h f) × (f.table ≡ table)) × (f.roots ≡ roots)) × (f.log ≡ log)) after_log r3
+        known3 = Left-step FileFits file_text bytes (λ f. ((Unit {0} × Is v h f) × (f.table ≡ table)) × (f.roots ≡ roots)) after_roots r2 (λ f. f.log) (Are IsU32 h.dirty) numbers_text after_log known2
+            (λ f fits k. refl) (λ f fits k. are_log h f fits k.0.0.1.1) (numbers_free h.dirty) log r3 fl el
 
         pub short_remembered : EndsWithin (Are RememberedFits h.n) remembered_texts r3 → FaultOf bytes fault.Short
-        short_remembered w = short (Left-short FileFits file_text bytes (λ f. (((Unit {0} × Is h f) × (f.table ≡ table)) × (f.roots ≡ roots)) × (f.log ≡ log)) after_log r3 (λ f. f.remembered) (Are RememberedFits h.n) remembered_texts after_remembered known3
-            (λ f fits k. refl) (λ f fits k. are_remembered h f fits k.0.0.0.1) w)
+        short_remembered w = short (Left-short FileFits file_text bytes (λ f. (((Unit {0} × Is v h f) × (f.table ≡ table)) × (f.roots ≡ roots)) × (f.log ≡ log)) after_log r3 (λ f. f.remembered) (Are RememberedFits h.n) remembered_texts after_remembered known3
+            (λ f fits k. refl) (λ f fits k. are_remembered h f fits k.0.0.0.1.1) w)
 
         module _ (remembered : List (List ℕ)) (r4 : List ℕ) (fs : Are RememberedFits h.n remembered) (es : r3 ≡ remembered_texts remembered ++ r4) where
-          known4 : Left FileFits file_text bytes (λ f. ((((Unit {0} × Is h f) × (f.table ≡ table)) × (f.roots ≡ roots)) × (f.log ≡ log)) × (f.remembered ≡ remembered)) after_remembered r4
-          known4 = Left-step FileFits file_text bytes (λ f. (((Unit {0} × Is h f) × (f.table ≡ table)) × (f.roots ≡ roots)) × (f.log ≡ log)) after_log r3 (λ f. f.remembered) (Are RememberedFits h.n) remembered_texts after_remembered known3
-              (λ f fits k. refl) (λ f fits k. are_remembered h f fits k.0.0.0.1) (Are-free RememberedFits remembered_text set_free h.n) remembered r4 fs es
+          known4 : Left FileFits file_text bytes (λ f. ((((Unit {0} × Is v h f) × (f.table ≡ table)) × (f.roots ≡ roots)) × (f.log ≡ log)) × (f.remembered ≡ remembered)) after_remembered r4
+          known4 = Left-step FileFits file_text bytes (λ f. (((Unit {0} × Is v h f) × (f.table ≡ table)) × (f.roots ≡ roots)) × (f.log ≡ log)) after_log r3 (λ f. f.remembered) (Are RememberedFits h.n) remembered_texts after_remembered known3
+              (λ f fits k. refl) (λ f fits k. are_remembered h f fits k.0.0.0.1.1) (Are-free RememberedFits remembered_text set_free h.n) remembered r4 fs es
 
           are_words : (f : File) → FileFits f → f.table ≡ table → Are IsU64 (table_words table) f.words
           are_words f fits is = subst (λ t. Are IsU64 (table_words t) f.words) is fits.words
 
           -- the words aren't all there
           pub short_words : length r4 < 8 * table_words table → FaultOf bytes fault.Short
-          short_words lt = short (Left-short FileFits file_text bytes (λ f. ((((Unit {0} × Is h f) × (f.table ≡ table)) × (f.roots ≡ roots)) × (f.log ≡ log)) × (f.remembered ≡ remembered)) after_remembered r4
+          short_words lt = short (Left-short FileFits file_text bytes (λ f. ((((Unit {0} × Is v h f) × (f.table ≡ table)) × (f.roots ≡ roots)) × (f.log ≡ log)) × (f.remembered ≡ remembered)) after_remembered r4
               (λ f. f.words) (Are IsU64 (table_words table)) words_text (λ f. []) known4
               (λ f fits k. sym (append-nil (words_text f.words))) (λ f fits k. are_words f fits k.0.0.0.1) (words_short (table_words table) r4 lt))
 
           file : File
-          file = plain_file h table roots log remembered r4
+          file = plain_file v h table roots log remembered r4
 
-          header : heading_of (plain_file h table roots log remembered r4) ≡ h
+          header : heading_of (plain_file v h table roots log remembered r4) ≡ h
           header = λ t. record { w = h.w; k = h.k; n = h.n; roots = fr.how_many t; dirty = fl.how_many t; current = h.current }
 
-          fits : IsBytes r4 → FileFits (plain_file h table roots log remembered r4)
+          fits : IsBytes r4 → FileFits (plain_file v h table roots log remembered r4)
           fits b = record {
             heading = subst HeadingFits (sym header) hf;
             limits = subst IsGoodHeading (sym header) good;
@@ -146,36 +145,36 @@ module _ (bytes rest : List ℕ) (h : Heading) (hf : HeadingFits h) (good : IsGo
 
           words_are_bytes : IsBytes bytes → IsBytes r4
           words_are_bytes b =
-              suffix r3 (remembered_texts remembered) r4 es (suffix r2 (numbers_text log) r3 el (suffix r1 (words_text roots) r2 er (suffix rest (table_text table) r1 et
-              (suffix (heading_text h ++ rest) (heading_text h) rest refl (suffix bytes magic (heading_text h ++ rest) e b)))))
+              suffix r3 (remembered_texts remembered) r4 es (suffix r2 (numbers_text log) r3 el (suffix r1 (words_text roots) r2 er (suffix rest (table_text v table) r1 et
+              (suffix (heading_text h ++ rest) (heading_text h) rest refl (suffix bytes (magic v) (heading_text h ++ rest) e b)))))
 
           module _ (b : IsBytes r4) (le : 8 * table_words table ≤ length r4) where
-            text : bytes ≡ file_text (plain_file h table roots log remembered r4) ++ drop (8 * table_words table) r4
+            text : bytes ≡ file_text (plain_file v h table roots log remembered r4) ++ drop (8 * table_words table) r4
             text =
                 let tail : List ℕ = drop (8 * table_words table) r4 in
                 let ws : List ℕ = words_text (words_of (table_words table) r4) in
                 let e4 : r4 ≡ ws ++ tail = words_of-text (table_words table) r4 le b in
-                e ∙ (λ t. magic ++ (heading_text (sym header t) ++ rest))
-                ∙ ap (λ l. magic ++ (heading_text (heading_of (plain_file h table roots log remembered r4)) ++ l))
-                (et ∙ ap (λ l. table_text table ++ l) (er ∙ ap (λ l. words_text roots ++ l) (el ∙ ap (λ l. numbers_text log ++ l) (es ∙ ap (λ l. remembered_texts remembered ++ l) e4))))
+                e ∙ (λ t. magic v ++ (heading_text (sym header t) ++ rest))
+                ∙ ap (λ l. magic v ++ (heading_text (heading_of (plain_file v h table roots log remembered r4)) ++ l))
+                (et ∙ ap (λ l. table_text v table ++ l) (er ∙ ap (λ l. words_text roots ++ l) (el ∙ ap (λ l. numbers_text log ++ l) (es ∙ ap (λ l. remembered_texts remembered ++ l) e4))))
                 ∙ (simp append_assoc)
 
             pub trailing : 8 * table_words table < length r4 → FaultOf bytes fault.Trailing
-            trailing lt = (plain_file h table roots log remembered r4, drop (8 * table_words table) r4, fits b, text, omega (arith, lt, length-drop (8 * table_words table) r4))
+            trailing lt = (plain_file v h table roots log remembered r4, drop (8 * table_words table) r4, fits b, text, omega (arith, lt, length-drop (8 * table_words table) r4))
 
-            pub plain_is : length r4 ≡ 8 * table_words table → PlainIs bytes h table roots log remembered r4
+            pub plain_is : length r4 ≡ 8 * table_words table → PlainIs bytes v h table roots log remembered r4
             plain_is whole =
                 let none : drop (8 * table_words table) r4 ≡ [] = drop_all (8 * table_words table) r4 (omega (arith, whole)) in
                 record {
                   good = good;
                   root_count = fr.how_many;
                   fits = fits b;
-                  text = text ∙ ap (λ l. file_text (plain_file h table roots log remembered r4) ++ l) none ∙ append-nil (file_text (plain_file h table roots log remembered r4));
+                  text = text ∙ ap (λ l. file_text (plain_file v h table roots log remembered r4) ++ l) none ∙ append-nil (file_text (plain_file v h table roots log remembered r4));
                   whole = whole;
                   are_bytes = b;
                 }
 
-          pub parts_read : IsBytes bytes → PartsRead bytes h table roots log remembered r4
+          pub parts_read : IsBytes bytes → PartsRead bytes v h table roots log remembered r4
           parts_read b =
               let left : IsBytes r4 = words_are_bytes b in
               record {

@@ -1,37 +1,37 @@
 -- Bytes have one fault at most, and those of a whole file no fault but the file's.
 use Rattle.std.proofs.Common.{◌≡◌, ◌<◌, ℕ, ◌⊎◌, inl, inr, List, [], ◌++◌, length, slice_index, arith, refl, sym, ap, subst, ◌∙◌, append_assoc, length-append}
-use Rattle.std.proofs.lemmas.List.{append-nil, append_cancel_left, get_or_append_left}
+use Rattle.std.proofs.lemmas.List.{append-nil, get_or_append_left}
 use Rattle.g1_words.specs.declared.fault.Fault.{Fault}
 use Rattle.g1_words.specs.declared.fault.Fault.TheVariants as fault
 use Rattle.g1_image.specs.declared.cursor.Heading.{Heading}
-use Rattle.g1_image.specs.Text.{File, u32, magic, heading_text, heading_of, body_text, file_text}
+use Rattle.g1_image.specs.Text.{File, Version, u32, magic, heading_text, heading_of, body_text, file_text}
 use Rattle.g1_image.specs.Faults.{HeadingFits, IsGoodHeading, FileFits, FileFault, FaultOf}
-use Rattle.g1_image.proofs.Parts.{heading_free}
+use Rattle.g1_image.proofs.Parts.{magic_free, heading_free}
 use Rattle.g1_image.proofs.OneFile.{file_free, one_file}
 use Rattle.g1_image.proofs.OneFault.{one_file_fault}
 use Rattle.byteorder.specs.Numbers.{length-bytes_low_first}
 
--- the bytes that are there agree with the magic
+-- the bytes that are there agree with the magic of a version
 abbrev Agrees : List ℕ → Type 0
-Agrees bytes = (i : ℕ) → i < 8 → i < length bytes → slice_index bytes i ≡ slice_index magic i
+Agrees bytes = (v : Version) × ((i : ℕ) → i < 8 → i < length bytes → slice_index bytes i ≡ slice_index (magic v) i)
 
 -- the bytes begin with the text of a file
 abbrev Begins : List ℕ → Type 0
 Begins bytes = (f : File) × (rest : List ℕ) × FileFits f × (bytes ≡ file_text f ++ rest)
 
 -- bytes that begin with the magic agree with it
-agrees_long : (bytes rest : List ℕ) → bytes ≡ magic ++ rest → Agrees bytes
-agrees_long bytes rest e i lt _ = ap (λ l. slice_index l i) e ∙ get_or_append_left magic rest 0 i lt
+agrees_long : (bytes : List ℕ) (v : Version) (rest : List ℕ) → bytes ≡ magic v ++ rest → Agrees bytes
+agrees_long bytes v rest e = (v, λ i lt _. ap (λ l. slice_index l i) e ∙ get_or_append_left (magic v) rest 0 i lt)
 
 -- and so do bytes that begin the magic
-agrees_start : (bytes rest : List ℕ) → magic ≡ bytes ++ rest → Agrees bytes
-agrees_start bytes rest e i _ lt = sym (ap (λ l. slice_index l i) e ∙ get_or_append_left bytes rest 0 i lt)
+agrees_start : (bytes : List ℕ) (v : Version) (rest : List ℕ) → magic v ≡ bytes ++ rest → Agrees bytes
+agrees_start bytes v rest e = (v, λ i _ lt. sym (ap (λ l. slice_index l i) e ∙ get_or_append_left bytes rest 0 i lt))
 
 -- a file's text by its front
-front_of : (f : File) (rest : List ℕ) → file_text f ++ rest ≡ magic ++ (heading_text (heading_of f) ++ (body_text f ++ rest))
+front_of : (f : File) (rest : List ℕ) → file_text f ++ rest ≡ magic f.version ++ (heading_text (heading_of f) ++ (body_text f ++ rest))
 front_of f rest =
-    append_assoc magic (heading_text (heading_of f) ++ body_text f) rest
-    ∙ ap (λ l. magic ++ l) (append_assoc (heading_text (heading_of f)) (body_text f) rest)
+    append_assoc (magic f.version) (heading_text (heading_of f) ++ body_text f) rest
+    ∙ ap (λ l. magic f.version ++ l) (append_assoc (heading_text (heading_of f)) (body_text f) rest)
 
 -- a whole file begins its bytes
 begins_whole : (bytes : List ℕ) (f : File) → FileFits f → bytes ≡ file_text f → Begins bytes
@@ -43,17 +43,17 @@ begins_trailing bytes t = (t.0, t.1, t.2, t.3)
 
 -- where a file begins the bytes, they agree with the magic
 agrees_begins : (bytes : List ℕ) → Begins bytes → Agrees bytes
-agrees_begins bytes b = agrees_long bytes (heading_text (heading_of b.0) ++ (body_text b.0 ++ b.1)) (b.3 ∙ front_of b.0 b.1)
+agrees_begins bytes b = agrees_long bytes b.0.version (heading_text (heading_of b.0) ++ (body_text b.0 ++ b.1)) (b.3 ∙ front_of b.0 b.1)
 
 -- where the heading isn't good, they do
 agrees_geometry : (bytes : List ℕ) → FaultOf bytes fault.Geometry → Agrees bytes
-agrees_geometry bytes g = agrees_long bytes (heading_text g.0 ++ g.1) g.3
+agrees_geometry bytes g = agrees_long bytes g.0 (heading_text g.1 ++ g.2) g.4
 
 -- where the bytes are too short, they do
 agrees_short : (bytes : List ℕ) → FaultOf bytes fault.Short → Agrees bytes
-agrees_short bytes (inl s) = agrees_start bytes s.0 s.1
-agrees_short bytes (inr (inl s)) = agrees_long bytes s.0 s.1
-agrees_short bytes (inr (inr s)) = agrees_long bytes (heading_text s.0 ++ s.1) s.4
+agrees_short bytes (inl s) = agrees_start bytes s.0 s.1 s.2
+agrees_short bytes (inr (inl s)) = agrees_long bytes s.0 s.1 s.2
+agrees_short bytes (inr (inr s)) = agrees_long bytes s.0 (heading_text s.1 ++ s.2) s.5
 
 -- four bytes
 length-u32 : (x : ℕ) → length (u32 x) ≡ 4
@@ -77,40 +77,40 @@ length-heading_text h = omega (
   length-u32 h.current,
 )
 
--- bytes that have a heading aren't a part of the magic
-too_few : (bytes rest after : List ℕ) (h : Heading) → magic ≡ bytes ++ rest → 0 < length rest → bytes ≡ magic ++ (heading_text h ++ after) → ⊥
-too_few bytes rest after h e some d = omega (arith, ap length e, length-append bytes rest, some, ap length d, length-append magic (heading_text h ++ after))
+-- bytes that have a heading aren't a part of a magic
+too_few : (bytes rest after : List ℕ) (v u : Version) (h : Heading) → magic v ≡ bytes ++ rest → 0 < length rest → bytes ≡ magic u ++ (heading_text h ++ after) → ⊥
+too_few bytes rest after v u h e some d = omega (arith, ap length e, length-append bytes rest, some, ap length d, length-append (magic u) (heading_text h ++ after))
 
 -- nor are the bytes behind the magic too few
-too_few_left : (bytes rest after : List ℕ) (h : Heading) → bytes ≡ magic ++ rest → length rest < 24 → bytes ≡ magic ++ (heading_text h ++ after) → ⊥
-too_few_left bytes rest after h e lt d =
-    let same : rest ≡ heading_text h ++ after = append_cancel_left magic rest (heading_text h ++ after) (sym e ∙ d) in
+too_few_left : (bytes rest after : List ℕ) (v u : Version) (h : Heading) → bytes ≡ magic v ++ rest → length rest < 24 → bytes ≡ magic u ++ (heading_text h ++ after) → ⊥
+too_few_left bytes rest after v u h e lt d =
+    let same : rest ≡ heading_text h ++ after = (magic_free v u rest (heading_text h ++ after) (sym e ∙ d)).1 in
     omega (arith, ap length same, length-append (heading_text h) after, length-heading_text h, lt)
 
 -- bytes have one heading at most
-one_heading : (bytes s t : List ℕ) (h g : Heading) → HeadingFits h → HeadingFits g → bytes ≡ magic ++ (heading_text h ++ s) → bytes ≡ magic ++ (heading_text g ++ t) → h ≡ g
-one_heading bytes s t h g fh fg e d = (heading_free h g s t fh fg (append_cancel_left magic (heading_text h ++ s) (heading_text g ++ t) (sym e ∙ d))).0
+one_heading : (bytes s t : List ℕ) (v u : Version) (h g : Heading) → HeadingFits h → HeadingFits g → bytes ≡ magic v ++ (heading_text h ++ s) → bytes ≡ magic u ++ (heading_text g ++ t) → h ≡ g
+one_heading bytes s t v u h g fh fg e d = (heading_free h g s t fh fg (magic_free v u (heading_text h ++ s) (heading_text g ++ t) (sym e ∙ d)).1).0
 
--- a byte that differs from the magic's leaves no other fault
+-- a byte that differs from each magic's leaves no other fault
 magic_clash : (bytes : List ℕ) → FaultOf bytes fault.Magic → Agrees bytes → ⊥
-magic_clash bytes m agrees = m.3 (agrees m.0 m.1 m.2)
+magic_clash bytes m agrees = let d = m agrees.0 in d.3 (agrees.1 d.0 d.1 d.2)
 
 -- bytes that are too short have no heading past the limits
 short_geometry : (bytes : List ℕ) → FaultOf bytes fault.Short → FaultOf bytes fault.Geometry → ⊥
-short_geometry bytes (inl s) g = too_few bytes s.0 g.1 g.0 s.1 s.2 g.3
-short_geometry bytes (inr (inl s)) g = too_few_left bytes s.0 g.1 g.0 s.1 s.2 g.3
-short_geometry bytes (inr (inr s)) g = g.4 (subst IsGoodHeading (one_heading bytes s.1 g.1 s.0 g.0 s.2 g.2 s.4 g.3) s.3)
+short_geometry bytes (inl s) g = too_few bytes s.1 g.2 s.0 g.0 g.1 s.2 s.3 g.4
+short_geometry bytes (inr (inl s)) g = too_few_left bytes s.1 g.2 s.0 g.0 g.1 s.2 s.3 g.4
+short_geometry bytes (inr (inr s)) g = g.5 (subst IsGoodHeading (one_heading bytes s.2 g.2 s.0 g.0 s.1 g.1 s.3 g.3 s.5 g.4) s.4)
 
 -- bytes that are too short don't begin with a file
 short_begins : (bytes : List ℕ) → FaultOf bytes fault.Short → Begins bytes → ⊥
-short_begins bytes (inl s) b = too_few bytes s.0 (body_text b.0 ++ b.1) (heading_of b.0) s.1 s.2 (b.3 ∙ front_of b.0 b.1)
-short_begins bytes (inr (inl s)) b = too_few_left bytes s.0 (body_text b.0 ++ b.1) (heading_of b.0) s.1 s.2 (b.3 ∙ front_of b.0 b.1)
-short_begins bytes (inr (inr s)) b = s.5 b.0 b.1 b.2 b.3
+short_begins bytes (inl s) b = too_few bytes s.1 (body_text b.0 ++ b.1) s.0 b.0.version (heading_of b.0) s.2 s.3 (b.3 ∙ front_of b.0 b.1)
+short_begins bytes (inr (inl s)) b = too_few_left bytes s.1 (body_text b.0 ++ b.1) s.0 b.0.version (heading_of b.0) s.2 s.3 (b.3 ∙ front_of b.0 b.1)
+short_begins bytes (inr (inr s)) b = s.6 b.0 b.1 b.2 b.3
 
 -- nor do bytes with a heading past the limits
 geometry_begins : (bytes : List ℕ) → FaultOf bytes fault.Geometry → Begins bytes → ⊥
 geometry_begins bytes g b =
-    g.4 (subst IsGoodHeading (one_heading bytes (body_text b.0 ++ b.1) g.1 (heading_of b.0) g.0 b.2.heading g.2 (b.3 ∙ front_of b.0 b.1) g.3) b.2.limits)
+    g.5 (subst IsGoodHeading (one_heading bytes (body_text b.0 ++ b.1) g.2 b.0.version g.0 (heading_of b.0) g.1 b.2.heading g.3 (b.3 ∙ front_of b.0 b.1) g.4) b.2.limits)
 
 -- a whole file has no bytes behind it
 trailing_whole : (bytes : List ℕ) (f : File) → FaultOf bytes fault.Trailing → FileFits f → bytes ≡ file_text f → ⊥

@@ -1,17 +1,40 @@
 -- The parts of a file: none begins another.
-use Rattle.std.proofs.Common.{◌≡◌, ℕ, List, ◌++◌, length, refl, sym, ◌∙◌, append_assoc}
-use Rattle.g1_image.specs.Text.{u32, entry_text, remembered_text, numbers_text, heading_text}
+use Rattle.std.proofs.Common.{◌≡◌, ℕ, List, ◌++◌, length, slice_index, arith, refl, sym, ap, ◌∙◌, append_assoc}
+use Rattle.std.proofs.lemmas.List.{append_cancel_left}
+use Rattle.g1_image.specs.Text.{Entry, Version, u32, digit, magic, flags_text, entry_text, remembered_text, numbers_text, heading_text}
 use Rattle.g1_image.specs.Reading.{IsU32}
-use Rattle.g1_image.specs.Faults.{EntryFits, RememberedFits, HeadingFits}
+use Rattle.g1_image.specs.Faults.{FlagsFit, EntryFits, RememberedFits, HeadingFits}
 use Rattle.g1_image.proofs.Numbers.{u32_once}
 use Rattle.g1_image.proofs.PrefixFree.{IsPrefixFree, Are-free}
 use Rattle.g1_image.specs.declared.cursor.Heading.{Heading}
+use Rattle.g1_image.specs.declared.cursor.Version.TheVariants.{One, Two}
 
-pub entry_free : IsPrefixFree EntryFits entry_text
-entry_free x y s t fx fy e =
-    let one = u32_once x.kind y.kind (u32 x.top ++ s) (u32 y.top ++ t) fx.0 fy.0 (sym (append_assoc (u32 x.kind) (u32 x.top) s) ∙ e ∙ append_assoc (u32 y.kind) (u32 y.top) t) in
-    let two = u32_once x.top y.top s t fx.1 fy.1 one.1 in
-    ((λ i. record { kind = one.0 i; top = two.0 i }), two.1)
+digit_once : (v u : Version) → digit v ≡ digit u → v ≡ u
+digit_once One One e = refl
+digit_once One Two e = absurd (omega (arith, e))
+digit_once Two One e = absurd (omega (arith, e))
+digit_once Two Two e = refl
+
+-- the magics of two versions differ
+pub magic_free : (v u : Version) (s t : List ℕ) → magic v ++ s ≡ magic u ++ t → (v ≡ u) × (s ≡ t)
+magic_free v u s t e =
+    let same : v ≡ u = digit_once v u (ap (λ l. slice_index l 7) e) in
+    (same, append_cancel_left (magic v) s t (e ∙ ap (λ x. magic x ++ t) (sym same)))
+
+pub flags_free : (v : Version) → IsPrefixFree (FlagsFit v) (flags_text v)
+flags_free One x y s t fx fy e = (fx ∙ sym fy, e)
+flags_free Two x y s t fx fy e = u32_once x y s t fx fy e
+
+-- an entry's text, number by number
+pub entry_flat : (v : Version) (z : Entry) (r : List ℕ) → entry_text v z ++ r ≡ u32 z.kind ++ (u32 z.top ++ (flags_text v z.flags ++ r))
+entry_flat v z r = simp append_assoc
+
+pub entry_free : (v : Version) → IsPrefixFree (EntryFits v) (entry_text v)
+entry_free v x y s t fx fy e =
+    let one = u32_once x.kind y.kind _ _ fx.0 fy.0 (sym (entry_flat v x s) ∙ e ∙ entry_flat v y t) in
+    let two = u32_once x.top y.top _ _ fx.1 fy.1 one.1 in
+    let three = flags_free v x.flags y.flags s t fx.2 fy.2 two.1 in
+    ((λ i. record { kind = one.0 i; top = two.0 i; flags = three.0 i }), three.1)
 
 pub set_free : IsPrefixFree RememberedFits remembered_text
 set_free x y s t fx fy e =

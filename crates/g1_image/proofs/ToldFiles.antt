@@ -1,5 +1,5 @@
 -- Of bytes it can be told whether they are a whole file's text, and else which fault they have.
-use Rattle.std.proofs.Common.{◌≡◌, ◌<◌, ◌≤◌, ◌+◌, ◌*◌, ◌^◌, ℕ, ◌⊎◌, inl, inr, List, ◌++◌, length, take, drop, slice_index, arith, refl, sym, ap, ◌∙◌, append_assoc, length-drop}
+use Rattle.std.proofs.Common.{◌≡◌, ◌≢◌, ◌<◌, ◌≤◌, ◌+◌, ◌*◌, ◌^◌, ℕ, ◌⊎◌, inl, inr, List, ◌++◌, length, take, drop, slice_index, arith, refl, sym, ap, ◌∙◌, append_assoc, length-drop}
 use Rattle.std.specs.Int.{IsPowerOfTwo}
 use Rattle.std.specs.Int.Count.{ones}
 use Rattle.std.proofs.lemmas.Bool.{cases_lt}
@@ -9,7 +9,8 @@ use Rattle.g1_words.proofs.Powers.{power_of_ones, ones_of_power}
 use Rattle.g1_words.specs.declared.fault.Fault.{Fault}
 use Rattle.g1_words.specs.declared.fault.Fault.TheVariants as fault
 use Rattle.g1_image.specs.declared.cursor.Heading.{Heading}
-use Rattle.g1_image.specs.Text.{Entry, u32, u64, magic, heading_text, table_text, words_text, numbers_text, remembered_texts, entry_text, remembered_text, table_words}
+use Rattle.g1_image.specs.declared.cursor.Version.TheVariants.{One, Two}
+use Rattle.g1_image.specs.Text.{Entry, Version, u32, u64, magic, heading_text, table_text, words_text, numbers_text, remembered_texts, entry_text, remembered_text, table_words}
 use Rattle.g1_image.specs.Reading.{IsU64, IsBytes}
 use Rattle.g1_image.specs.Faults.{HeadingFits, IsGoodHeading, EntryFits, RememberedFits, FaultOf}
 use Rattle.g1_image.specs.Plain.{PlainIs}
@@ -114,84 +115,108 @@ AnyFault bytes = (e : Fault) × FaultOf bytes e
 
 -- the bytes begin with the magic and a heading within the limits
 abbrev Opened : List ℕ → Type 0
-Opened bytes = (h : Heading) × (rest : List ℕ) × HeadingFits h × IsGoodHeading h × (bytes ≡ magic ++ (heading_text h ++ rest))
+Opened bytes = (v : Version) × (h : Heading) × (rest : List ℕ) × HeadingFits h × IsGoodHeading h × (bytes ≡ magic v ++ (heading_text h ++ rest))
 
 -- the byte at a place, if it is there, is the magic's
-abbrev AgreesAt : List ℕ → ℕ → Type 0
-AgreesAt bytes i = i < length bytes → slice_index bytes i ≡ slice_index magic i
+abbrev AgreesAt : Version → List ℕ → ℕ → Type 0
+AgreesAt v bytes i = i < length bytes → slice_index bytes i ≡ slice_index (magic v) i
+
+-- the place of a byte that differs from the magic's
+abbrev Differs : List ℕ → Version → Type 0
+Differs bytes v = (i : ℕ) × (i < 8) × (i < length bytes) × (slice_index bytes i ≢ slice_index (magic v) i)
 
 -- where a byte doesn't agree, it is there and differs
-differs : (bytes : List ℕ) (i : ℕ) → i < 8 → (AgreesAt bytes i → ⊥) → FaultOf bytes fault.Magic
-differs bytes i lt n = elim (cases_lt i (length bytes)) [
+differs : (v : Version) (bytes : List ℕ) (i : ℕ) → i < 8 → (AgreesAt v bytes i → ⊥) → Differs bytes v
+differs v bytes i lt n = elim (cases_lt i (length bytes)) [
   | inl in_bytes ↦ (i, lt, in_bytes, λ e. n (λ _. e))
   | inr ge ↦ absurd (n (λ l. absurd (omega (arith, l, ge))))
 ]
 
+-- the bytes that are there agree with a version's magic, or one differs
+told_magic : (v : Version) (bytes : List ℕ) → ((i : ℕ) → i < 8 → AgreesAt v bytes i) ⊎ Differs bytes v
+told_magic v bytes =
+    elim (first_breach (AgreesAt v bytes) (λ i. decided_under (i < length bytes) (slice_index bytes i ≡ slice_index (magic v) i) (decided_lt i (length bytes)) (decided_eq (slice_index bytes i) (slice_index (magic v) i))) 8) [
+      | inl agrees ↦ inl agrees
+      | inr x ↦ inr (differs v bytes x.0 x.1.within x.1.breach)
+    ]
+
 -- the heading behind the magic
-told_heading : (bytes rest : List ℕ) → IsBytes bytes → bytes ≡ magic ++ rest → Opened bytes ⊎ AnyFault bytes
-told_heading bytes rest b e = elim (cases_lt (length rest) 24) [
-  | inl lt ↦ inr (fault.Short, inr (inl (rest, e, lt)))
+told_heading : (v : Version) (bytes rest : List ℕ) → IsBytes bytes → bytes ≡ magic v ++ rest → Opened bytes ⊎ AnyFault bytes
+told_heading v bytes rest b e = elim (cases_lt (length rest) 24) [
+  | inl lt ↦ inr (fault.Short, inr (inl (v, rest, e, lt)))
   | inr ge ↦
-      let h = heading rest (suffix bytes magic rest e b) ge in
-      let text : bytes ≡ magic ++ (heading_text h.0 ++ h.1) = e ∙ ap (λ l. magic ++ l) h.3 in
+      let h = heading rest (suffix bytes (magic v) rest e b) ge in
+      let text : bytes ≡ magic v ++ (heading_text h.0 ++ h.1) = e ∙ ap (λ l. magic v ++ l) h.3 in
       elim (decided_heading h.0) [
-        | inl good ↦ inl (h.0, h.1, h.2, good, text)
-        | inr bad ↦ inr (fault.Geometry, (h.0, h.1, h.2, text, bad))
+        | inl good ↦ inl (v, h.0, h.1, h.2, good, text)
+        | inr bad ↦ inr (fault.Geometry, (v, h.0, h.1, h.2, text, bad))
       ]
+]
+
+-- what stands behind bytes that agree with a version's magic
+told_version : (v : Version) (bytes : List ℕ) → IsBytes bytes → ((i : ℕ) → i < 8 → AgreesAt v bytes i) → Opened bytes ⊎ AnyFault bytes
+told_version v bytes b agrees = elim (cases_lt (length bytes) 8) [
+  | inl lt ↦ inr (
+    fault.Short,
+    inl (v, drop (length bytes) (magic v), agree bytes (magic v) (omega (arith, lt)) (λ i l. agrees i (omega (arith, l, lt)) l), omega (arith, lt, length-drop (length bytes) (magic v))),
+  )
+  | inr ge ↦ told_heading v bytes (drop 8 bytes) b (agree (magic v) bytes ge (λ i l. sym (agrees i l (omega (arith, l, ge)))))
 ]
 
 -- the magic and the heading
 told_opening : (bytes : List ℕ) → IsBytes bytes → Opened bytes ⊎ AnyFault bytes
-told_opening bytes b =
-    elim (first_breach (AgreesAt bytes) (λ i. decided_under (i < length bytes) (slice_index bytes i ≡ slice_index magic i) (decided_lt i (length bytes)) (decided_eq (slice_index bytes i) (slice_index magic i))) 8) [
-      | inr x ↦ inr (fault.Magic, differs bytes x.0 x.1.within x.1.breach)
-      | inl agrees ↦ elim (cases_lt (length bytes) 8) [
-        | inl lt ↦ inr (
-          fault.Short,
-          inl (drop (length bytes) magic, agree bytes magic (omega (arith, lt)) (λ i l. agrees i (omega (arith, l, lt)) l), omega (arith, lt, length-drop (length bytes) magic)),
-        )
-        | inr ge ↦ told_heading bytes (drop 8 bytes) b (agree magic bytes ge (λ i l. sym (agrees i l (omega (arith, l, ge)))))
-      ]
-    ]
+told_opening bytes b = elim (told_magic One bytes) [
+  | inl agrees ↦ told_version One bytes b agrees
+  | inr one ↦ elim (told_magic Two bytes) [
+    | inl agrees ↦ told_version Two bytes b agrees
+    | inr two ↦ inr (fault.Magic, by one two)
+  ]
+]
+  where
+    by : Differs bytes One → Differs bytes Two → (v : Version) → Differs bytes v
+    by one two One = one
+    by one two Two = two
 
 -- the bytes are those of a whole file
 abbrev pub IsPlain : List ℕ → Type 0
-IsPlain bytes = (h : Heading) × (table : List Entry) × (roots : List ℕ) × (log : List ℕ) × (remembered : List (List ℕ)) × (words : List ℕ) × PlainIs bytes h table roots log remembered words
+IsPlain bytes = (v : Version) × (h : Heading) × (table : List Entry) × (roots : List ℕ) × (log : List ℕ) × (remembered : List (List ℕ)) × (words : List ℕ) × PlainIs bytes v h table roots log remembered words
 
 -- what stands behind the heading
 told_body : (bytes : List ℕ) → IsBytes bytes → Opened bytes → IsPlain bytes ⊎ AnyFault bytes
 told_body bytes b o =
-    let h : Heading = o.0 in
-    let rest : List ℕ = o.1 in
-    let b0 : IsBytes rest = suffix (heading_text h ++ rest) (heading_text h) rest refl (suffix bytes magic (heading_text h ++ rest) o.4 b) in
-    elim (told_many EntryFits entry_text entry_free told_entry h.n rest b0) [
-      | inr s ↦ inr (fault.Short, short_table bytes rest h o.2 o.3 o.4 s)
+    let v : Version = o.0 in
+    let h : Heading = o.1 in
+    let rest : List ℕ = o.2 in
+    let b0 : IsBytes rest = suffix (heading_text h ++ rest) (heading_text h) rest refl (suffix bytes (magic v) (heading_text h ++ rest) o.5 b) in
+    elim (told_many (EntryFits v) (entry_text v) (entry_free v) (told_entry v) h.n rest b0) [
+      | inr s ↦ inr (fault.Short, short_table bytes rest v h o.3 o.4 o.5 s)
       | inl t ↦
-          let b1 : IsBytes t.1 = suffix rest (table_text t.0) t.1 t.3 b0 in
+          let b1 : IsBytes t.1 = suffix rest (table_text v t.0) t.1 t.3 b0 in
           elim (told_many IsU64 u64 (λ x y s t fx fy e. u64_once x y s t fx fy e) told_u64 h.roots t.1 b1) [
-            | inr s ↦ inr (fault.Short, short_roots bytes rest h o.2 o.3 o.4 t.0 t.1 t.2 t.3 s)
+            | inr s ↦ inr (fault.Short, short_roots bytes rest v h o.3 o.4 o.5 t.0 t.1 t.2 t.3 s)
             | inl r ↦
                 let b2 : IsBytes r.1 = suffix t.1 (words_text r.0) r.1 r.3 b1 in
                 elim (told_numbers h.dirty r.1 b2) [
-                  | inr s ↦ inr (fault.Short, short_log bytes rest h o.2 o.3 o.4 t.0 t.1 t.2 t.3 r.0 r.1 r.2 r.3 s)
+                  | inr s ↦ inr (fault.Short, short_log bytes rest v h o.3 o.4 o.5 t.0 t.1 t.2 t.3 r.0 r.1 r.2 r.3 s)
                   | inl l ↦
                       let b3 : IsBytes l.1 = suffix r.1 (numbers_text l.0) l.1 l.3 b2 in
                       elim (told_many RememberedFits remembered_text set_free told_set h.n l.1 b3) [
-                        | inr s ↦ inr (fault.Short, short_remembered bytes rest h o.2 o.3 o.4 t.0 t.1 t.2 t.3 r.0 r.1 r.2 r.3 l.0 l.1 l.2 l.3 s)
+                        | inr s ↦ inr (fault.Short, short_remembered bytes rest v h o.3 o.4 o.5 t.0 t.1 t.2 t.3 r.0 r.1 r.2 r.3 l.0 l.1 l.2 l.3 s)
                         | inl s ↦
                             let b4 : IsBytes s.1 = suffix l.1 (remembered_texts s.0) s.1 s.3 b3 in
                             elim (cases_lt (length s.1) (8 * table_words t.0)) [
-                              | inl lt ↦ inr (fault.Short, short_words bytes rest h o.2 o.3 o.4 t.0 t.1 t.2 t.3 r.0 r.1 r.2 r.3 l.0 l.1 l.2 l.3 s.0 s.1 s.2 s.3 lt)
+                              | inl lt ↦ inr (fault.Short, short_words bytes rest v h o.3 o.4 o.5 t.0 t.1 t.2 t.3 r.0 r.1 r.2 r.3 l.0 l.1 l.2 l.3 s.0 s.1 s.2 s.3 lt)
                               | inr ge ↦ elim (cases_lt (8 * table_words t.0) (length s.1)) [
-                                | inl more ↦ inr (fault.Trailing, trailing bytes rest h o.2 o.3 o.4 t.0 t.1 t.2 t.3 r.0 r.1 r.2 r.3 l.0 l.1 l.2 l.3 s.0 s.1 s.2 s.3 b4 ge more)
+                                | inl more ↦ inr (fault.Trailing, trailing bytes rest v h o.3 o.4 o.5 t.0 t.1 t.2 t.3 r.0 r.1 r.2 r.3 l.0 l.1 l.2 l.3 s.0 s.1 s.2 s.3 b4 ge more)
                                 | inr le ↦ inl (
+                                  v,
                                   h,
                                   t.0,
                                   r.0,
                                   l.0,
                                   s.0,
                                   s.1,
-                                  plain_is bytes rest h o.2 o.3 o.4 t.0 t.1 t.2 t.3 r.0 r.1 r.2 r.3 l.0 l.1 l.2 l.3 s.0 s.1 s.2 s.3 b4 ge (omega (arith, ge, le)),
+                                  plain_is bytes rest v h o.3 o.4 o.5 t.0 t.1 t.2 t.3 r.0 r.1 r.2 r.3 l.0 l.1 l.2 l.3 s.0 s.1 s.2 s.3 b4 ge (omega (arith, ge, le)),
                                 )
                               ]
                             ]

@@ -4,12 +4,14 @@ use Rattle.std.specs.Prelude.{flat_map}
 use Rattle.std.proofs.lemmas.Bool.{cases_lt}
 use Rattle.std.proofs.lemmas.List.{append-nil}
 use Rattle.byteorder.specs.Endian.{little_number}
-use Rattle.g1_image.specs.Text.{Entry, u32, u64, entry_text, remembered_text, numbers_text}
+use Rattle.g1_image.specs.Text.{Entry, Version, u32, u64, flags_text, entry_text, remembered_text, numbers_text}
 use Rattle.g1_image.specs.Reading.{Are, IsU32, IsU64, IsBytes, EndsWithin}
-use Rattle.g1_image.specs.Faults.{EntryFits, RememberedFits}
+use Rattle.g1_image.specs.declared.cursor.Version.TheVariants.{One, Two}
+use Rattle.g1_image.specs.Faults.{FlagsFit, EntryFits, RememberedFits}
 use Rattle.g1_image.proofs.Numbers.{u32_read, u32_short, u32_once, u64_read, u64_short}
 use Rattle.g1_image.proofs.PrefixFree.{IsPrefixFree, Are-none, Came-start, Came-short}
 use Rattle.g1_image.proofs.Sequence.{Left, Left-start, Left-step, Left-short}
+use Rattle.g1_image.proofs.Parts.{entry_flat}
 use Rattle.g1_image.proofs.Files.{suffix}
 
 -- the bytes begin with the text of a value that fits
@@ -78,17 +80,29 @@ module _ {Y : Type 0} (fits : Y → Type 0) (text : Y → List ℕ) (free : IsPr
 pub told_numbers : (n : ℕ) (bytes : List ℕ) → IsBytes bytes → Told (Are IsU32 n) numbers_text bytes
 told_numbers n bytes b = told_many IsU32 u32 (λ x y s t fx fy e. u32_once x y s t fx fy e) told_u32 n bytes b
 
+-- the flags of a region
+told_flags : (v : Version) (bytes : List ℕ) → IsBytes bytes → Told (FlagsFit v) (flags_text v) bytes
+told_flags One bytes b = inl (0, bytes, refl, refl)
+told_flags Two bytes b = told_u32 bytes b
+
 -- an entry of the region table
-pub told_entry : (bytes : List ℕ) → IsBytes bytes → Told EntryFits entry_text bytes
-told_entry bytes b = elim (told_u32 bytes b) [
-  | inr short ↦ inr (λ y tail fy ey. short y.kind (u32 y.top ++ tail) fy.0 (ey ∙ append_assoc (u32 y.kind) (u32 y.top) tail))
-  | inl one ↦ elim (told_u32 one.1 (suffix bytes (u32 one.0) one.1 one.3 b)) [
-    | inr short ↦ inr (λ y tail fy ey.
-        short y.top tail fy.1 (u32_once one.0 y.kind one.1 (u32 y.top ++ tail) one.2 fy.0 (sym one.3 ∙ ey ∙ append_assoc (u32 y.kind) (u32 y.top) tail)).1)
-    | inl two ↦
-        let y : Entry = record { kind = one.0; top = two.0 } in
-        inl (y, two.1, (one.2, two.2), one.3 ∙ ap (λ l. u32 one.0 ++ l) two.3 ∙ sym (append_assoc (u32 one.0) (u32 two.0) two.1))
-  ]
+pub told_entry : (v : Version) (bytes : List ℕ) → IsBytes bytes → Told (EntryFits v) (entry_text v) bytes
+told_entry v bytes b = elim (told_u32 bytes b) [
+  | inr short ↦ inr (λ y tail fy ey. short y.kind (u32 y.top ++ (flags_text v y.flags ++ tail)) fy.0 (ey ∙ entry_flat v y tail))
+  | inl one ↦
+      let kind_once : (y : Entry) (tail : List ℕ) → EntryFits v y → bytes ≡ entry_text v y ++ tail → one.1 ≡ u32 y.top ++ (flags_text v y.flags ++ tail) =
+      λ y tail fy ey. (u32_once one.0 y.kind one.1 (u32 y.top ++ (flags_text v y.flags ++ tail)) one.2 fy.0 (sym one.3 ∙ ey ∙ entry_flat v y tail)).1 in
+      let b1 : IsBytes one.1 = suffix bytes (u32 one.0) one.1 one.3 b in
+      elim (told_u32 one.1 b1) [
+        | inr short ↦ inr (λ y tail fy ey. short y.top (flags_text v y.flags ++ tail) fy.1 (kind_once y tail fy ey))
+        | inl two ↦ elim (told_flags v two.1 (suffix one.1 (u32 two.0) two.1 two.3 b1)) [
+          | inr short ↦ inr (λ y tail fy ey.
+              short y.flags tail fy.2 (u32_once two.0 y.top two.1 (flags_text v y.flags ++ tail) two.2 fy.1 (sym two.3 ∙ kind_once y tail fy ey)).1)
+          | inl three ↦
+              let y : Entry = record { kind = one.0; top = two.0; flags = three.0 } in
+              inl (y, three.1, (one.2, two.2, three.2), one.3 ∙ ap (λ l. u32 one.0 ++ l) (two.3 ∙ ap (λ l. u32 two.0 ++ l) three.3) ∙ sym (entry_flat v y three.1))
+        ]
+      ]
 ]
 
 -- a remembered set

@@ -1,5 +1,5 @@
-ghost use Rattle.std.specs.Prelude.{◌≡◌, ◌≤◌, ◌<◌, ◌+◌, ◌^◌, ◌++◌, ℕ, List, length, IfSome, IfNone, OnOk, IfOk, IfErr, IsTrue, ◌↔◌};
-ghost use Rattle.g1_image.specs.Text.{u32 as u32_text, heading_text, magic};
+ghost use Rattle.std.specs.Prelude.{◌≡◌, ◌≤◌, ◌<◌, ◌+◌, ◌^◌, ◌++◌, ℕ, List, length, slice_index, ◌≢◌, IfSome, IfNone, OnOk, IfOk, IfErr, IsTrue, ◌↔◌};
+ghost use Rattle.g1_image.specs.Text.{u32 as u32_text, heading_text, digit, magic};
 ghost use Rattle.g1_image.specs.Faults.{HeadingFits, IsGoodHeading, FaultOf};
 
 use byteorder::{ByteOrder, LittleEndian};
@@ -17,14 +17,38 @@ pub struct Heading {
     pub current: u32,
 }
 
-/// A region's entry in the table: its kind's number, and how many of its words are used.
+/// A region's entry in the table: its kind's number, how many of its words are used, and its flags,
+/// which are 0 in a file of version 1.
 #[derive(Clone, Copy)]
 pub struct Entry {
     pub kind: u32,
     pub top: u32,
+    pub flags: u32,
 }
 
-const MAGIC: [u8; 8] = *b"G1IMAGE1";
+/// The version of an image file. Version 1 has no flags.
+#[derive(Clone, Copy)]
+pub enum Version {
+    One,
+    Two,
+}
+
+impl Version {
+    /// The version whose magic ends with this byte.
+    fn of_digit(byte: u8) -> Option<Version>
+        ensures found { IfSome result (λ v. byte ≡ digit v) }
+        ensures none { IfNone result ((v : Version) → byte ≢ digit v) }
+    {
+        match byte {
+            b'1' => Some(Version::One),
+            b'2' => Some(Version::Two),
+            _ => None,
+        }
+    }
+}
+
+/// What the magics of all versions begin with; a digit follows.
+const MAGIC: [u8; 7] = *b"G1IMAGE";
 
 /// The bytes that are left to read.
 #[derive(Drop)]
@@ -99,12 +123,12 @@ impl<'a> Cursor<'a> {
         })
     }
 
-    /// Takes the magic, or tells the fault of the bytes.
-    pub(crate) fn magic(&mut self) -> Result<(), Fault>
-        ensures ok { OnOk result (self.old ≡ magic ++ self.new) }
-        ensures err { IfErr result (FaultOf self.old) }
+    /// Refuses bytes that don't begin as all magics do.
+    fn check_magic(&self) -> Result<(), Fault>
+        ensures ok { OnOk result ((7 ≤ length self.now) × ((k : ℕ) → k < 7 → slice_index self.now k ≡ slice_index (magic Version.One) k)) }
+        ensures err { IfErr result (FaultOf self.now) }
     {
-        for i in 0..8 {
+        for i in 0..7 {
             if i >= self.rest.len() {
                 return Err(Fault::Short);
             }
@@ -112,17 +136,33 @@ impl<'a> Cursor<'a> {
                 return Err(Fault::Magic);
             }
         }
-        let (_, rest) = self.rest.split_at(8);
-        self.rest = rest;
         Ok(())
     }
 
-    /// Takes the magic and a heading within the limits, or tells the fault of the bytes.
-    pub(crate) fn opening(&mut self) -> Result<Heading, Fault>
-        ensures ok { IfOk result (λ h. HeadingFits h × IsGoodHeading h × (self.old ≡ magic ++ (heading_text h ++ self.new))) }
+    /// Takes the magic of a version, or tells the fault of the bytes.
+    pub(crate) fn magic(&mut self) -> Result<Version, Fault>
+        ensures ok { IfOk result (λ v. self.old ≡ magic v ++ self.new) }
         ensures err { IfErr result (FaultOf self.old) }
     {
-        self.magic()?;
+        self.check_magic()?;
+        if self.rest.len() < 8 {
+            return Err(Fault::Short);
+        }
+        let version = match Version::of_digit(self.rest[7]) {
+            Some(version) => version,
+            None => return Err(Fault::Magic),
+        };
+        let (_, rest) = self.rest.split_at(8);
+        self.rest = rest;
+        Ok(version)
+    }
+
+    /// Takes the magic and a heading within the limits, or tells the fault of the bytes.
+    pub(crate) fn opening(&mut self) -> Result<(Heading, Version), Fault>
+        ensures ok { IfOk result (λ x. HeadingFits x.0 × IsGoodHeading x.0 × (self.old ≡ magic x.1 ++ (heading_text x.0 ++ self.new))) }
+        ensures err { IfErr result (FaultOf self.old) }
+    {
+        let version = self.magic()?;
         let heading = match self.heading() {
             Some(heading) => heading,
             None => return Err(Fault::Short),
@@ -130,7 +170,7 @@ impl<'a> Cursor<'a> {
         if !is_good_heading(&heading) {
             return Err(Fault::Geometry);
         }
-        Ok(heading)
+        Ok((heading, version))
     }
 }
 

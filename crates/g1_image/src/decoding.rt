@@ -1,19 +1,19 @@
 ghost use Rattle.std.specs.Prelude.{◌≡◌, ◌≤◌, ◌<◌, ◌+◌, ◌*◌, ◌^◌, ◌⊎◌, ℕ, List, [], map, All, length, OnOk, IfOk, IfErr};
 ghost use Rattle.g1_image.specs.Image.{IsTextOf, heap_of};
-ghost use Rattle.g1_image.specs.Faults.{MayFail, IsGoodHeading, IsKnownKind, IsFirstBreach};
+ghost use Rattle.g1_image.specs.Faults.{MayFail, IsGoodHeading, AreKnown};
 ghost use Rattle.g1_image.specs.Text.{table_words};
 ghost use Rattle.g1_image.specs.Plain.{plain_file};
-ghost use Rattle.g1_image.specs.Judged.{IsGoodHeap, HeapFault};
+ghost use Rattle.g1_image.specs.Judged.{TableFault, IsGoodHeap, HeapFault};
 
 use crate::cards::{check_log, check_remembered};
-use crate::cursor::{Entry, Heading};
+use crate::cursor::{Entry, Heading, Version};
 use crate::draft::Draft;
 use crate::image::Image;
 use crate::laying::lay_words;
 use crate::plain::{Plain, whole};
 use crate::refs::{check_roots, check_slots, starts};
 use crate::shape::check_shapes;
-use crate::table::regions;
+use crate::table::{check_flags, regions};
 use g1_words::{Fault, Geometry, Heap};
 use std::alloc::Global;
 
@@ -41,10 +41,12 @@ fn draft_heap(
     requires table { length table.now ≡ h.now.n }
     requires roots { length roots.items ≡ h.now.roots }
     requires whole { length words.now ≡ 8 * table_words table.now }
-    ensures ok { IfOk result (λ d. (d ≡ heap_of (plain_file h.now table.now roots.items [] [] words.now)) × ((r : ℕ) → r < h.now.n → IsKnownKind table.now r)) }
-    ensures err { IfErr result (λ e. (e ≡ Fault.Memory) ⊎ ((r : ℕ) × (e ≡ Fault.Kind r) × IsFirstBreach (IsKnownKind table.now) h.now.n r)) }
+    ensures ok { IfOk result (λ d. d ≡ heap_of (plain_file Version.Two h.now table.now roots.items [] [] words.now)) }
+    ensures known { OnOk result (AreKnown table.now h.now.n) }
+    ensures err { IfErr result (λ e. (e ≡ Fault.Memory) ⊎ TableFault table.now h.now.n e) }
 {
     let regions = regions(alloc, table)?;
+    check_flags(table)?;
     let words = lay_words(alloc, h.w, table, words)?;
     let geometry = Geometry::new(u64::from(h.w), u64::from(h.k), u64::from(h.n))?;
     let current = if h.current < h.n {
@@ -68,6 +70,7 @@ pub fn decode(alloc: Global, bytes: &[u8]) -> Result<Image, Fault>
 {
     let plain = whole(alloc, bytes)?;
     let Plain {
+        version: _,
         heading,
         table,
         roots,

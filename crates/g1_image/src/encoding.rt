@@ -1,8 +1,8 @@
 ghost use Rattle.std.specs.Prelude.{◌≡◌, ◌≤◌, ◌<◌, ◌*◌, ◌^◌, ◌++◌, ℕ, List, [], length, map, All, OnOk, IfOk, IfErr};
 ghost use Rattle.g1_image.specs.Text.{table_text, magic};
-ghost use Rattle.g1_image.specs.Image.{entry_of, IsTextOf};
+ghost use Rattle.g1_image.specs.Image.{flags_of, entry_of, IsTextIn};
 
-use crate::cursor::Heading;
+use crate::cursor::{Heading, Version};
 use crate::image::Image;
 use crate::writing::{
     push_heading, push_number, push_numbers, push_remembered, push_used, push_words,
@@ -10,19 +10,27 @@ use crate::writing::{
 use g1_words::{Fault, Region};
 use std::alloc::{AllocError, Global};
 
+/// The flags of a region that is pinned or isn't.
+fn flags_of(pinned: bool) -> u32
+    ensures { result ≡ flags_of pinned }
+{
+    if pinned { 1 } else { 0 }
+}
+
 fn push_table(out: &mut Vec<u8>, regions: &[Region]) -> Result<(), AllocError>
-    ensures { OnOk result (out.new.items ≡ out.old.items ++ table_text (map entry_of regions.now)) }
+    ensures { OnOk result (out.new.items ≡ out.old.items ++ table_text Version.Two (map entry_of regions.now)) }
 {
     for region in regions {
         push_number(out, region.kind.number())?;
         push_number(out, region.top)?;
+        push_number(out, flags_of(region.pinned))?;
     }
     Ok(())
 }
 
-/// The text of an image.
+/// The text of an image, of version 2.
 pub fn encode(alloc: Global, image: &Image) -> Result<Vec<u8>, Fault>
-    ensures ok { IfOk result (λ v. IsTextOf v.items image.now) }
+    ensures ok { IfOk result (λ v. IsTextIn Version.Two v.items image.now) }
     ensures err { IfErr result (λ e. e ≡ Fault.Memory) }
 {
     let mut out = Vec::new(alloc);
@@ -30,14 +38,14 @@ pub fn encode(alloc: Global, image: &Image) -> Result<Vec<u8>, Fault>
     Ok(out)
 }
 
-/// Writes the text of an image in the place of the bytes that a list has. A list that has the room
+/// Writes the text of an image, of version 2, in the place of the bytes that a list has. A list that has the room
 /// doesn't grow, so bytes that nobody reads any more lend theirs.
 ///
 /// # Errors
 ///
 /// `Fault::Memory` where a growth was refused: the list then has a beginning of the text.
 pub fn encode_into(out: &mut Vec<u8>, image: &Image) -> Result<(), Fault>
-    ensures ok { OnOk result (IsTextOf out.new.items image.now) }
+    ensures ok { OnOk result (IsTextIn Version.Two out.new.items image.now) }
     ensures err { IfErr result (λ e. e ≡ Fault.Memory) }
 {
     let heap = image.heap();
@@ -52,7 +60,7 @@ pub fn encode_into(out: &mut Vec<u8>, image: &Image) -> Result<(), Fault>
         current: heap.current().unwrap_or(geometry.regions() as u32),
     };
     out.clear();
-    out.extend_from_slice(b"G1IMAGE1")?;
+    out.extend_from_slice(b"G1IMAGE2")?;
     push_heading(out, &heading)?;
     push_table(out, heap.regions())?;
     push_words(out, heap.roots())?;

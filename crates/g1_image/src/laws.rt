@@ -1,4 +1,4 @@
-ghost use Rattle.g1_image.specs.Laws.{CardsInRegions, CardsRise, ExactRemembered, RefinedRemembered, CoveredImage, UncoveredSlots, UncoveredRise, OneFile, OneImage, OneText};
+ghost use Rattle.g1_image.specs.Laws.{CardsInRegions, CardsRise, ExactRemembered, RefinedRemembered, CoveredImage, UncoveredSlots, UncoveredRise, OneFile, OneImage, OneText, TextsExist};
 ghost use Rattle.g1_image.specs.Verdict.{OneFault, NoFaultOfText, AlwaysOne};
 
 /// What the cards of an image tell.
@@ -16,11 +16,13 @@ pub fn cover()
     ensures rising { UncoveredRise }
 {}
 
-/// Bytes are the text of one file and of one image at most, and an image has one text.
+/// Bytes are the text of one file and of one image at most. An image has one text of version 2, and one
+/// of version 1 where no region is pinned.
 pub fn one_text()
     ensures file { OneFile }
     ensures image { OneImage }
     ensures text { OneText }
+    ensures texts { TextsExist }
 {}
 
 /// Bytes are an image's text or have a fault, never both, and one fault at most.

@@ -1,7 +1,7 @@
-ghost use Rattle.std.specs.Prelude.{◌≡◌, ◌≤◌, ◌<◌, ◌*◌, ◌^◌, ◌⊎◌, ℕ, length, map, IfOk, IfErr};
+ghost use Rattle.std.specs.Prelude.{◌≡◌, ◌≤◌, ◌<◌, ◌*◌, ◌^◌, ◌⊎◌, ℕ, length, map, OnOk, IfOk, IfErr};
 ghost use Rattle.g1_image.specs.Text.{table_words};
 ghost use Rattle.g1_image.specs.Image.{region_of_entry};
-ghost use Rattle.g1_image.specs.Faults.{IsFirstBreach, IsKnownKind};
+ghost use Rattle.g1_image.specs.Faults.{IsFirstBreach, IsKnownKind, HasKnownFlags};
 
 use crate::cursor::Entry;
 use g1_words::{Fault, Kind, Region};
@@ -32,7 +32,25 @@ pub(crate) fn regions(alloc: Global, table: &[Entry]) -> Result<Vec<Region>, Fau
             Some(kind) => kind,
             None => return Err(Fault::Kind(r as u32)),
         };
-        regions.push(Region { kind, top: e.top })?;
+        regions.push(Region {
+            kind,
+            top: e.top,
+            pinned: e.flags == 1,
+        })?;
     }
     Ok(regions)
+}
+
+/// Refuses the first region whose flags have no meaning: an ordinary region alone may be pinned.
+pub(crate) fn check_flags(table: &[Entry]) -> Result<(), Fault>
+    requires { length table.now ≤ 4096 }
+    ensures ok { OnOk result ((r : ℕ) → r < length table.now → HasKnownFlags table.now r) }
+    ensures err { IfErr result (λ e. (r : ℕ) × (e ≡ Fault.Flags r) × IsFirstBreach (HasKnownFlags table.now) (length table.now) r) }
+{
+    for (r, e) in table.iter().enumerate() {
+        if e.flags > 1 || (e.flags == 1 && e.kind != 1) {
+            return Err(Fault::Flags(r as u32));
+        }
+    }
+    Ok(())
 }

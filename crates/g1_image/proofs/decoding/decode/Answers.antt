@@ -1,15 +1,15 @@
-use Rattle.std.proofs.Common.{◌≡◌, ◌<◌, ℕ, List, [], map, inl, inr, refl, ap, subst, ◌∙◌}
+use Rattle.std.proofs.Common.{◌≡◌, ◌<◌, ℕ, List, [], map, inl, inr, refl, sym, ap, subst, ◌∙◌}
 use Rattle.std.specs.Prelude.{Option}
 use Rattle.std.proofs.lemmas.Result.{err_from_is_err_and}
 use Rattle.g1_words.specs.Geometry.{Geometry}
 use Rattle.g1_words.specs.Heap.{Heap}
 use Rattle.g1_words.specs.declared.region.Region.{Region}
 use Rattle.g1_image.specs.Text.{File}
-use Rattle.g1_image.specs.Image.{heap_of}
+use Rattle.g1_image.specs.Image.{CanTell, heap_of}
 use Rattle.g1_image.specs.Plain.{plain_file}
 use Rattle.g1_image.specs.Judged.{IsGoodHeap, HeapFault}
-use Rattle.g1_image.specs.Faults.{KindsKnown, LogsGood, RememberedGood, IsKnownKind}
-use Rattle.g1_image.proofs.Assembled.{heap_fault, log_fault, logs_good, remembered_fault, all_remembered_good, made_image, made_text}
+use Rattle.g1_image.specs.Faults.{TableKnown, AreKnown, LogsGood, RememberedGood}
+use Rattle.g1_image.proofs.Assembled.{can_tell, heap_fault, log_fault, logs_good, remembered_fault, all_remembered_good, made_image, made_text}
 use Rattle.g1_image.proofs.decoding.decode.Goals as goal
 use Rattle.g1_image.proofs.decoding.decode.Goals.{After-check_heap, In_ok-check_remembered}
 
@@ -18,14 +18,14 @@ heap_in g words regions roots current = record { geometry = g; words = words; re
 
 -- the file that was read
 abbrev file_in : After-check_heap → File
-file_in c = plain_file c.in_ok-plain.plain.heading c.in_ok-plain.plain.table.items c.in_ok-plain.plain.roots.items c.in_ok-plain.plain.log.items (map (λ s. s.items) c.in_ok-plain.plain.remembered.items) c.in_ok-plain.plain.words.now
+file_in c = plain_file c.in_ok-plain.plain.version c.in_ok-plain.plain.heading c.in_ok-plain.plain.table.items c.in_ok-plain.plain.roots.items c.in_ok-plain.plain.log.items (map (λ s. s.items) c.in_ok-plain.plain.remembered.items) c.in_ok-plain.plain.words.now
 
--- the draft is its heap, and its kinds have a meaning
-drafted : (c : After-check_heap) → (c.in_ok-draft.draft ≡ heap_of (file_in c)) × KindsKnown (file_in c)
+-- the draft is its heap, and its table has a meaning
+drafted : (c : After-check_heap) → (c.in_ok-draft.draft ≡ heap_of (file_in c)) × TableKnown (file_in c)
 drafted c =
     let p = c.in_ok-plain.plain in (
-      c.in_ok-draft.ensures.ok.0 ∙ ap (λ t. heap_of (plain_file p.heading t p.roots.items [] [] p.words.now)) c.deref.ensures.value,
-      λ r lt. subst (λ t. IsKnownKind t r) c.deref.ensures.value (c.in_ok-draft.ensures.ok.1 r lt),
+      c.in_ok-draft.ensures.ok ∙ ap (λ t. heap_of (plain_file p.version p.heading t p.roots.items [] [] p.words.now)) c.deref.ensures.value,
+      subst (λ t. AreKnown t p.heading.n) c.deref.ensures.value c.in_ok-draft.ensures.known,
     )
 
 pub draft_heap-requires-clause-good : goal.draft_heap-requires-clause-good
@@ -81,7 +81,7 @@ invariant_of-heap c =
     let same = (drafted at.After-check_heap).0 in
     let good = checked at.In_ok-check_remembered f same refl refl in
     let h = heap_in c.draft.inside.geometry c.draft.inside.words.items c.draft.inside.regions.items c.draft.inside.roots.items c.draft.inside.current in
-    (made_image f h f.log c.in_ok-plain.ensures.ok.fits c.draft.invariant (c.draft.view_is ∙ same) refl good.0 good.1 good.2).heap
+    (made_image f h f.log c.in_ok-plain.ensures.ok.fits c.draft.invariant (c.draft.view_is ∙ same) refl good.0 (drafted at.After-check_heap).1 good.1 good.2).heap
 
 pub invariant_of-result : goal.invariant_of-result
 invariant_of-result c =
@@ -90,7 +90,7 @@ invariant_of-result c =
     let same = (drafted at.After-check_heap).0 in
     let good = checked at.In_ok-check_remembered f same refl refl in
     let h = heap_in c.draft.inside.geometry c.draft.inside.words.items c.draft.inside.regions.items c.draft.inside.roots.items c.draft.inside.current in
-    made_image f h c.in_ok-log.log.keys c.in_ok-plain.ensures.ok.fits c.draft.invariant (c.draft.view_is ∙ same) (c.in_ok-log.ensures.ok.0 ∙ c.deref-2.ensures.value) good.0 good.1 good.2
+    made_image f h c.in_ok-log.log.keys c.in_ok-plain.ensures.ok.fits c.draft.invariant (c.draft.view_is ∙ same) (c.in_ok-log.ensures.ok.0 ∙ c.deref-2.ensures.value) good.0 (drafted at.After-check_heap).1 good.1 good.2
 
 pub returns-clause-ok : goal.returns-clause-ok
 returns-clause-ok c =
@@ -99,7 +99,12 @@ returns-clause-ok c =
     let same = (drafted at.After-check_heap).0 in
     let good = checked at.In_ok-check_remembered f same refl refl in
     let h = heap_in c.draft.inside.geometry c.draft.inside.words.items c.draft.inside.regions.items c.draft.inside.roots.items c.draft.inside.current in
-    let keys = c.in_ok-log.ensures.ok.0 ∙ c.deref-2.ensures.value in (
-      made_image f h c.in_ok-log.log.keys c.in_ok-plain.ensures.ok.fits c.draft.invariant (c.draft.view_is ∙ same) keys good.0 good.1 good.2,
-      c.in_ok-plain.ensures.ok.text ∙ made_text f h c.in_ok-log.log.keys c.in_ok-plain.ensures.ok.fits (c.draft.view_is ∙ same) keys good.0 (drafted at.After-check_heap).1,
+    let keys = c.in_ok-log.ensures.ok.0 ∙ c.deref-2.ensures.value in
+    let known = (drafted at.After-check_heap).1 in (
+      f.version,
+      (
+        made_image f h c.in_ok-log.log.keys c.in_ok-plain.ensures.ok.fits c.draft.invariant (c.draft.view_is ∙ same) keys good.0 known good.1 good.2,
+        subst (λ x. CanTell f.version x) (sym (c.draft.view_is ∙ same)) (can_tell f c.in_ok-plain.ensures.ok.fits),
+        c.in_ok-plain.ensures.ok.text ∙ made_text f h c.in_ok-log.log.keys c.in_ok-plain.ensures.ok.fits (c.draft.view_is ∙ same) keys good.0 known,
+      ),
     )

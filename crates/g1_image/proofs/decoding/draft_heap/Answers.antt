@@ -1,11 +1,11 @@
-use Rattle.std.proofs.Common.{inl, inr, arith, ◌≡◌, ◌<◌, ◌*◌, ◌^◌, length, slice_index, sym, ap, subst, ◌∙◌}
+use Rattle.std.proofs.Common.{inl, inr, arith, ℕ, ◌≡◌, ◌<◌, ◌*◌, ◌^◌, length, slice_index, sym, ap, subst, ◌∙◌}
 use Rattle.std.proofs.lemmas.List.{length-map}
 use Rattle.std.proofs.lemmas.Result.{err_from_is_err_and}
 use Rattle.std.proofs.lemmas.Grind.{get_or_default_zero}
 use Rattle.std.specs.Prelude.{IfSome}
 use Rattle.g1_words.specs.Geometry.{IsWithinLimits}
 use Rattle.g1_image.specs.Image.{region_of_entry}
-use Rattle.g1_image.specs.Faults.{IsFirstBreach, IsKnownKind}
+use Rattle.g1_image.specs.Faults.{IsFirstBreach, IsKnownKind, HasKnownFlags}
 use Rattle.g1_image.proofs.Drafts.{length-laid, bounded_laid}
 use Rattle.g1_image.proofs.decoding.draft_heap.Goals as goal
 use Rattle.g1_image.proofs.decoding.draft_heap.Goals.{then-h, else-h}
@@ -35,8 +35,26 @@ returns-in_err-regions-clause-err c =
     let p = err_from_is_err_and c.from_residual.result c.from_residual.ensures.1 in
     rw (p.1, p.2) (elim c.in_err-regions.ensures.err [
       | inl m ↦ inl m
-      | inr h ↦ inr (h.0, h.1, subst (λ n. IsFirstBreach (IsKnownKind c.args.table.now) n h.0) c.requires.table h.2)
+      | inr h ↦ inr (rw h.1 (subst (λ n. IsFirstBreach (IsKnownKind c.args.table.now) n h.0) c.requires.table h.2))
     ])
+
+pub returns-in_err-check_flags-clause-err : goal.returns-in_err-check_flags-clause-err
+returns-in_err-check_flags-clause-err c =
+    let table = c.args.table.now in
+    let p = err_from_is_err_and c.from_residual-in_err-check_flags.result c.from_residual-in_err-check_flags.ensures.1 in
+    let h = c.in_err-check_flags.ensures.err in
+    rw (p.1, p.2) (inr (rw h.1 (
+      subst (λ n. (q : ℕ) → q < n → IsKnownKind table q) c.requires.table c.in_ok-regions.ensures.ok.1,
+      subst (λ n. IsFirstBreach (HasKnownFlags table) n h.0) c.requires.table h.2,
+    )))
+
+pub returns-clause-known : goal.returns-clause-known
+returns-clause-known c =
+    let table = c.args.table.now in
+    record {
+      kinds = subst (λ n. (q : ℕ) → q < n → IsKnownKind table q) c.requires.table c.in_ok-regions.ensures.ok.1;
+      flags = subst (λ n. (q : ℕ) → q < n → HasKnownFlags table q) c.requires.table c.in_ok-check_flags.ensures.ok;
+    }
 
 pub returns-in_err-geometry-clause-err : goal.returns-in_err-geometry-clause-err
 returns-in_err-geometry-clause-err c =

@@ -1,6 +1,7 @@
 use Rattle.std.proofs.Common.{rules, ◌≡◌, [], ◌++◌, length, map, ◌∙◌}
 use Rattle.g1_words.proofs.Objects.{tops_fit}
 use Rattle.g1_image.specs.declared.cursor.Heading.{Heading}
+use Rattle.g1_image.specs.declared.cursor.Version.TheVariants.{Two}
 use Rattle.g1_image.specs.Text.{magic, heading_of, heading_text, table_text, words_text, numbers_text, remembered_texts}
 use Rattle.g1_image.specs.Image.{file_of, entry_of, used_words}
 use Rattle.g1_image.proofs.Images.{counts_fit}
@@ -28,7 +29,7 @@ returns-clause-ok c =
       current = c.unwrap_or.result;
     } in
     let log : c.as_slice-log.result.now ≡ i.log = c.as_slice-log.ensures.keys ∙ c.log.ensures in
-    let first : heading ≡ heading_of (file_of i) = cc in
+    let first : heading ≡ heading_of (file_of Two i) = cc in
     let table : c.regions-3.result.now ≡ i.heap.regions = cc in
     let roots : c.roots-2.result.now ≡ i.heap.roots = cc in
     let width : c.region_words-2.result ≡ i.heap.geometry.w = cc in
@@ -36,10 +37,11 @@ returns-clause-ok c =
     let words : c.words.result.now ≡ i.heap.words = cc in
     let empty : c.clear.new.self.items ≡ [] = search rules in (
       c.heap-heap.ensures.valid,
-      file_written (file_of i) c.extend_from_slice.new.self.items c.push_heading.new.out.items c.push_table.new.out.items c.push_words.new.out.items c.push_numbers.new.out.items c.push_remembered.new.out.items c.push_used.new.out.items
-          (c.in_ok-extend_from_slice.ensures.items ∙ (λ t. empty t ++ magic))
+      tt,
+      file_written (file_of Two i) c.extend_from_slice.new.self.items c.push_heading.new.out.items c.push_table.new.out.items c.push_words.new.out.items c.push_numbers.new.out.items c.push_remembered.new.out.items c.push_used.new.out.items
+          (c.in_ok-extend_from_slice.ensures.items ∙ (λ t. empty t ++ magic Two))
           (c.in_ok-push_heading.ensures ∙ (λ t. c.extend_from_slice.new.self.items ++ heading_text (first t)))
-          (c.in_ok-push_table.ensures ∙ (λ t. c.push_heading.new.out.items ++ table_text (map entry_of (table t))))
+          (c.in_ok-push_table.ensures ∙ (λ t. c.push_heading.new.out.items ++ table_text Two (map entry_of (table t))))
           (c.in_ok-push_words.ensures ∙ (λ t. c.push_table.new.out.items ++ words_text (roots t)))
           (c.in_ok-push_numbers.ensures ∙ (λ t. c.push_words.new.out.items ++ numbers_text (log t)))
           (c.in_ok-push_remembered.ensures ∙ (λ t. c.push_numbers.new.out.items ++ remembered_texts (c.remembered.ensures t)))

@@ -7,7 +7,7 @@ use Rattle.g1_image.proofs.laying.lay_words.Goals.{then-e-w, else-e-w}
 
 pub loop-e-preserved : goal.loop-e-preserved
 loop-e-preserved c =
-    let none : Entry = record { kind = 0; top = 0 } in
+    let none : Entry = record { kind = 0; top = 0; flags = 0 } in
     let table = c.args.table.now in
     let used : c.if-e-w.used ≡ min (slice_index_or table c.loop-e.e-index none).top c.args.w =
     elim c.if-e-w.branch [ then-e-w w ↦ omega (arith, w.used-is, w.if-e-w.true) | else-e-w w ↦ omega (arith, w.used-is, w.if-e-w.false) ] in

@@ -6,5 +6,5 @@ use Rattle.g1_image.proofs.reading.table.Goals as goal
 
 pub returns-in_err-x : goal.returns-in_err-x
 returns-in_err-x c =
-    Came-fails EntryFits entry_text entry_free (λ x. (x.0.items, x.1.now)) c.args.bytes.now c.from_residual.result c.in_err-x.field-0.0 c.loop-i._i c.args.count c.loop-i.table.items c.loop-i.rest.now
+    Came-fails (EntryFits c.args.version) (entry_text c.args.version) (entry_free c.args.version) (λ x. (x.0.items, x.1.now)) c.args.bytes.now c.from_residual.result c.in_err-x.field-0.0 c.loop-i._i c.args.count c.loop-i.table.items c.loop-i.rest.now
     c.from_residual.ensures.1 c.in_err-x.ensures c.loop-i.invariant c.loop-i-test.true
