@@ -1,5 +1,5 @@
--- Lists of distinct ordinary regions, and the marks of those that were met.
-use Rattle.std.proofs.Common.{◌≡◌, ◌≢◌, ℕ, zero, suc, ◌+◌, ◌<◌, ◌≤◌, ◌⊎◌, inl, inr, Bool, true, false, List, [], ◌∷◌, ◌++◌, take, length, get_or, Contains, IsTrue, refl, sym, ◌∙◌, ap, subst, arith, get_or-set_same, get_or-set_other}
+-- Lists of regions that may be taken, and the marks of those that were met.
+use Rattle.std.proofs.Common.{◌≡◌, ◌≢◌, ℕ, zero, suc, ◌+◌, ◌<◌, ◌≤◌, ◌⊎◌, inl, inr, Bool, true, false, List, [], ◌∷◌, ◌++◌, take, length, get_or, Contains, IsTrue, IsFalse, refl, sym, ◌∙◌, ap, subst, arith, get_or-set_same, get_or-set_other}
 use Rattle.std.specs.Prelude.{◌↔◌, slice_index, slice_index_or, slice_set}
 use Rattle.std.proofs.lemmas.Bool.{cases_order, cases_lt}
 use Rattle.std.proofs.lemmas.List.{take_more, get_or_default, get_or_past}
@@ -7,11 +7,11 @@ use Rattle.std.proofs.lemmas.List.Elements.{Contains-push, Contains-push_cases, 
 use Rattle.g1_words.specs.declared.region.Kind.{Kind}
 use Rattle.g1_words.specs.declared.region.Kind.TheVariants.{Free, Ordinary, HumongousFirst, Continuation}
 use Rattle.g1_words.specs.declared.region.Region.{Region}
-use Rattle.g1_words.specs.Heap.{Heap, kind, regions, free_region}
+use Rattle.g1_words.specs.Heap.{Heap, kind, pinned, regions, free_region}
 use Rattle.g1_words.proofs.Members.{In, In-from_contains, Contains-from_in}
 use Rattle.g1_words.proofs.Indices.{In-take, take_cases}
 use Rattle.g1_words.proofs.Computed.{In-range}
-use Rattle.g1_choose.specs.Named.{AreDistinctOrdinary, IsBadAt, IsFirstBad}
+use Rattle.g1_choose.specs.Named.{AreTakeable, IsBadAt, IsFirstBad}
 
 -- of the regions of a heap, those of the list are marked
 abbrev pub AreMarked : ℕ → List Bool → List ℕ → Type 0
@@ -43,14 +43,21 @@ marked_more n i marks list count len lt m q below =
     subst (λ l. IsTrue (slice_index_or (slice_set marks r true) q false) ↔ Contains l q) (sym (take_more list i 0 len))
     (marked_at marks (take i list) r q (omega arith) (m q below) (same_or_not r q))
 
+pub both : {b : Bool} → IsTrue b → IsFalse b → ⊥
+both t f = let clash : true ≡ false = sym t ∙ f in cc
+
+pub true_or_false : (b : Bool) → IsTrue b ⊎ IsFalse b
+true_or_false true = inl refl
+true_or_false false = inr refl
+
 -- the region at a place is good, and those before it are
-pub good_more : (h : Heap) (list : List ℕ) (i : ℕ) → ((j : ℕ) → j < i → IsBadAt h list j → ⊥) → slice_index list i < h.geometry.n → kind h (slice_index list i) ≡ Ordinary
+pub good_more : (h : Heap) (list : List ℕ) (i : ℕ) → ((j : ℕ) → j < i → IsBadAt h list j → ⊥) → slice_index list i < h.geometry.n → kind h (slice_index list i) ≡ Ordinary → IsFalse (pinned h (slice_index list i))
     → (Contains (take i list) (slice_index list i) → ⊥) → (j : ℕ) → j < i + 1 → IsBadAt h list j → ⊥
-good_more h list i before lt ordinary new j below bad =
+good_more h list i before lt ordinary unpinned new j below bad =
     elim (same_or_not j i) [
       | inl e ↦ elim (subst (IsBadAt h list) e bad) [
         | inl past ↦ omega arith
-        | inr b ↦ elim b [ inl other ↦ other ordinary | inr again ↦ new again ]
+        | inr b ↦ elim b [ inl other ↦ other ordinary | inr c ↦ elim c [ inl pin ↦ both pin unpinned | inr again ↦ new again ] ]
       ]
       | inr ne ↦ before j (elim (cases_order j i) [ inl e ↦ absurd (ne e) | inr o ↦ elim o [ inl l ↦ l | inr g ↦ absurd (omega arith) ] ]) bad
     ]
@@ -62,15 +69,21 @@ ordinary_from HumongousFirst f = absurd (f (λ e. cc))
 ordinary_from Continuation f = absurd (f (λ e. cc))
 
 -- a list without a bad place
-pub all_good : (h : Heap) (list : List ℕ) → ((i : ℕ) → i < length list → IsBadAt h list i → ⊥) → AreDistinctOrdinary h list
+pub all_good : (h : Heap) (list : List ℕ) → ((i : ℕ) → i < length list → IsBadAt h list i → ⊥) → AreTakeable h list
 all_good h list good =
     record {
       ordinary = λ r k.
           let same : slice_index list k.0 ≡ r = get_or_default list k.0 0 r k.1 ∙ k.2 in
           ordinary_from (kind h r) (λ ne. good k.0 k.1 (inr (inl (subst (λ x. kind h x ≢ Ordinary) (sym same) ne))));
+      unpinned = λ r k.
+          let same : slice_index list k.0 ≡ r = get_or_default list k.0 0 r k.1 ∙ k.2 in
+          elim (true_or_false (pinned h r)) [
+            | inl t ↦ absurd (good k.0 k.1 (inr (inr (inl (subst (λ x. IsTrue (pinned h x)) (sym same) t)))))
+            | inr f ↦ f
+          ];
       distinct = λ i j d lt len e.
           let first : get_or list i 0 ≡ get_or list j 0 = get_or_default list i 0 d (omega arith) ∙ e ∙ get_or_default list j d 0 len in
-          good j len (inr (inr (subst (Contains (take j list)) first (Contains-from_in (take j list) (get_or list i 0) (In-take j list i 0 lt (omega arith))))));
+          good j len (inr (inr (inr (subst (Contains (take j list)) first (Contains-from_in (take j list) (get_or list i 0) (In-take j list i 0 lt (omega arith)))))));
     }
 
 -- a valid heap's regions are below its number of regions
@@ -112,12 +125,18 @@ bad_or_good h list i =
       | inr ge ↦ inl (inl ge)
       | inl lt ↦ elim (ordinary_or_not (kind h r)) [
         | inr other ↦ inl (inr (inl other))
-        | inl ordinary ↦ elim (in_or_not (take i list) r) [
-          | inl again ↦ inl (inr (inr (Contains-from_in (take i list) r again)))
-          | inr new ↦ inr (λ bad. elim bad [
-            | inl past ↦ omega arith
-            | inr b ↦ elim b [ inl other ↦ other ordinary | inr again ↦ new (In-from_contains (take i list) r again) ]
-          ])
+        | inl ordinary ↦ elim (true_or_false (pinned h r)) [
+          | inl pin ↦ inl (inr (inr (inl pin)))
+          | inr free ↦ elim (in_or_not (take i list) r) [
+            | inl again ↦ inl (inr (inr (inr (Contains-from_in (take i list) r again))))
+            | inr new ↦ inr (λ bad. elim bad [
+              | inl past ↦ omega arith
+              | inr b ↦ elim b [
+                | inl other ↦ other ordinary
+                | inr d ↦ elim d [ inl pin ↦ both pin free | inr again ↦ new (In-from_contains (take i list) r again) ]
+              ]
+            ])
+          ]
         ]
       ]
     ]
@@ -136,13 +155,13 @@ good_or_first h list (suc n) le =
       ]
     ]
 
-pub accepted_or_bad : (h : Heap) (list : List ℕ) → AreDistinctOrdinary h list ⊎ ((i : ℕ) × IsFirstBad h list i)
+pub accepted_or_bad : (h : Heap) (list : List ℕ) → AreTakeable h list ⊎ ((i : ℕ) × IsFirstBad h list i)
 accepted_or_bad h list = elim (good_or_first h list (length list) (omega arith)) [
   | inl good ↦ inl (all_good h list good)
   | inr first ↦ inr first
 ]
 
-pub accepted_not_bad : (h : Heap) (list : List ℕ) (i : ℕ) → length h.regions ≡ h.geometry.n → AreDistinctOrdinary h list → IsFirstBad h list i → ⊥
+pub accepted_not_bad : (h : Heap) (list : List ℕ) (i : ℕ) → length h.regions ≡ h.geometry.n → AreTakeable h list → IsFirstBad h list i → ⊥
 accepted_not_bad h list i count a bad =
     let r : ℕ = slice_index list i in
     let there : Contains list r = (i, bad.within, get_or_default list i r 0 bad.within) in
@@ -150,9 +169,12 @@ accepted_not_bad h list i count a bad =
       | inl past ↦ let within = ordinary_within h r count (a.ordinary r there) in omega arith
       | inr b ↦ elim b [
         | inl other ↦ other (a.ordinary r there)
-        | inr again ↦
-            let k = take_cases i list r 0 (In-from_contains (take i list) r again) in
-            a.distinct k.0 i 0 k.1 bad.within k.3
+        | inr d ↦ elim d [
+          | inl pin ↦ both pin (a.unpinned r there)
+          | inr again ↦
+              let k = take_cases i list r 0 (In-from_contains (take i list) r again) in
+              a.distinct k.0 i 0 k.1 bad.within k.3
+        ]
       ]
     ]
 

@@ -2,7 +2,7 @@ ghost use Rattle.std.specs.Prelude.{◌<◌, ◌≤◌, ◌^◌};
 
 use std::cmp::Ordering;
 
-/// An ordinary region with garbage: its number, its cost, and its garbage in bytes.
+/// An ordinary region with garbage that isn't pinned: its number, its cost, and its garbage in bytes.
 #[derive(Debug, Clone, Copy, PartialEq, Eq)]
 pub struct Candidate {
     pub region: u32,

@@ -28,8 +28,8 @@ fn candidate(
     ensures tells { IfSome result (TellsRegion parameters.now heap.now (map (λ s. s.items) remembered.now) live.now) }
     ensures none { IfNone result (IsTrue (is_candidate parameters.now heap.now (map (λ s. s.items) remembered.now) live.now region) → ⊥) }
 {
-    let Region { kind, top, .. } = heap.region(region);
-    if !kind.is_ordinary() {
+    let Region { kind, top, pinned } = heap.region(region);
+    if !kind.is_ordinary() || pinned {
         return None;
     }
     let place = region as usize;
@@ -45,7 +45,7 @@ fn candidate(
     })
 }
 
-/// The ordinary regions with garbage, by number.
+/// The ordinary regions with garbage that aren't pinned, by number.
 fn candidates(
     alloc: Global,
     heap: &Heap,
@@ -68,7 +68,7 @@ fn candidates(
     Ok(candidates)
 }
 
-/// The ordinary regions with garbage, by efficiency: most garbage for its cost first, and of equals
+/// The ordinary regions with garbage that aren't pinned, by efficiency: most garbage for its cost first, and of equals
 /// the lower region. `remembered` and `live` have one entry a region, `live` in bytes.
 ///
 /// # Errors

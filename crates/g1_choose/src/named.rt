@@ -1,10 +1,17 @@
-ghost use Rattle.std.specs.Prelude.{◌≡◌, ◌<◌, ◌⊎◌, ℕ, length, filter, slice_index, OnOk, IfOk, IfErr};
+ghost use Rattle.std.specs.Prelude.{◌≡◌, ◌<◌, ◌⊎◌, ◌↔◌, ℕ, length, filter, slice_index, IsTrue, IsFalse, OnOk, IfOk, IfErr};
 ghost use Rattle.g1_words.specs.Heap.{regions};
 ghost use Rattle.g1_words.specs.Lists.{has};
-ghost use Rattle.g1_choose.specs.Named.{AreDistinctOrdinary, IsBadAt, IsFirstBad};
+ghost use Rattle.g1_choose.specs.Named.{AreTakeable, IsBadAt, IsFirstBad};
 
-use g1_words::{Fault, Heap};
+use g1_words::{Fault, Heap, Kind, Region};
 use std::alloc::Global;
+
+/// Whether a pause may take a region.
+fn may_be_taken(region: Region) -> bool
+    ensures { IsTrue result ↔ ((region.kind ≡ Kind.Ordinary) × IsFalse region.pinned) }
+{
+    region.kind.is_ordinary() && !region.pinned
+}
 
 /// Refuses a list with a region that can't be taken.
 fn check(alloc: Global, heap: &Heap, list: &[u32]) -> Result<(), Fault>
@@ -14,7 +21,7 @@ fn check(alloc: Global, heap: &Heap, list: &[u32]) -> Result<(), Fault>
     let mut named = vec![in alloc; false; heap.geometry().regions() as usize]?;
     for region in list {
         let place = *region as usize;
-        if place >= named.len() || named[place] || !heap.region(*region).kind.is_ordinary() {
+        if place >= named.len() || named[place] || !may_be_taken(heap.region(*region)) {
             return Err(Fault::Set(*region));
         }
         named[place] = true;
@@ -26,11 +33,11 @@ fn check(alloc: Global, heap: &Heap, list: &[u32]) -> Result<(), Fault>
 ///
 /// # Errors
 ///
-/// `Fault::Set` of the first region of the list that is out of range, isn't ordinary, or stands
-/// earlier in the list; else `Fault::Memory` alone.
+/// `Fault::Set` of the first region of the list that is out of range, isn't ordinary, is pinned, or
+/// stands earlier in the list; else `Fault::Memory` alone.
 pub fn given(alloc: Global, heap: &Heap, list: &[u32]) -> Result<Vec<u32>, Fault>
     ensures rising { IfOk result (λ v. v.items ≡ filter (has list.now) (regions heap.now)) }
-    ensures accepted { OnOk result (AreDistinctOrdinary heap.now list.now) }
+    ensures accepted { OnOk result (AreTakeable heap.now list.now) }
     ensures err { IfErr result (λ e. (e ≡ Fault.Memory) ⊎ ((i : ℕ) × IsFirstBad heap.now list.now i × (e ≡ Fault.Set (slice_index list.now i)))) }
 {
     check(alloc, heap, list)?;

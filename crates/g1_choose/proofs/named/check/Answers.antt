@@ -2,9 +2,10 @@ use Rattle.std.proofs.Common.{ℕ, ◌<◌, inl, inr, refl, sym, ap, arith, ◌�
 use Rattle.std.specs.Prelude.{slice_index, slice_index_or}
 use Rattle.std.proofs.lemmas.List.{length-set, get_or_default}
 use Rattle.g1_choose.specs.Named.{IsBadAt}
-use Rattle.g1_choose.proofs.Naming.{marked_more, good_more}
+use Rattle.g1_words.specs.Heap.{pinned}
+use Rattle.g1_choose.proofs.Naming.{true_or_false, marked_more, good_more}
 use Rattle.g1_choose.proofs.named.check.Goals as goal
-use Rattle.g1_choose.proofs.named.check.Goals.{then-place-len-via-then-place-len, then-place-len-via-else-place-len+then-index, then-place-len-via-else-place-len+else-index+then-not-is_ordinary}
+use Rattle.g1_choose.proofs.named.check.Goals.{then-place-len-via-then-place-len, then-place-len-via-else-place-len+then-index, then-place-len-via-else-place-len+else-index+then-not-may_be_taken}
 
 pub returns-then-place-len-clause-err : goal.returns-then-place-len-clause-err
 returns-then-place-len-clause-err c =
@@ -19,8 +20,13 @@ returns-then-place-len-clause-err c =
           let r : ℕ = slice_index list i in
           let marked : IsTrue (slice_index_or c.loop-region.named.items r false) =
           get_or_default c.loop-region.named.items r false w.index.result.now (omega (arith, w.if-place-len.false, c.len.ensures)) ∙ sym w.index.ensures ∙ w.if-index.true in
-          inr (inr ((c.loop-region.invariant.marks r (omega (arith, w.if-place-len.false, c.len.ensures, count))).0 marked))
-      | then-place-len-via-else-place-len+else-index+then-not-is_ordinary w ↦ inr (inl (λ e. let t = w.is_ordinary.ensures.fact.1 (ap (λ q. q.kind) w.region.ensures ∙ e) in let f = w.if-not-is_ordinary.true in cc))
+          inr (inr (inr ((c.loop-region.invariant.marks r (omega (arith, w.if-place-len.false, c.len.ensures, count))).0 marked)))
+      | then-place-len-via-else-place-len+else-index+then-not-may_be_taken w ↦
+          let refused = w.if-not-may_be_taken.true in
+          elim (true_or_false (pinned h (slice_index list i))) [
+            | inl pin ↦ inr (inr (inl pin))
+            | inr free ↦ inr (inl (λ e. let t = w.may_be_taken.ensures.1 (ap (λ q. q.kind) w.region.ensures ∙ e, ap (λ q. q.pinned) w.region.ensures ∙ free) in cc))
+          ]
     ] in
     inr (i, record { within = c.loop-region-test.true; bad = bad; before = c.loop-region.invariant.good }, refl)
 
@@ -31,10 +37,11 @@ loop-region-preserved c =
     let i : ℕ = c.loop-region.region-index in
     let r : ℕ = slice_index list i in
     let invariant = c.loop-region.invariant in
+    let taken = c.may_be_taken.ensures.0 c.if-not-may_be_taken.false in
     let in_heap : slice_index list i < h.geometry.n = omega (arith, c.if-place-len.false, c.len.ensures, invariant.count) in
     record {
       count = length-set c.loop-region.named.items (slice_index list i) true ∙ invariant.count;
       marks = marked_more h.geometry.n i c.loop-region.named.items list invariant.count c.loop-region-test.true in_heap invariant.marks;
-      good = good_more h list i invariant.good in_heap (sym (ap (λ q. q.kind) c.region.ensures) ∙ c.is_ordinary.ensures.fact.0 c.if-not-is_ordinary.false)
+      good = good_more h list i invariant.good in_heap (sym (ap (λ q. q.kind) c.region.ensures) ∙ taken.0) (sym (ap (λ q. q.pinned) c.region.ensures) ∙ taken.1)
           (λ again. let marked = (invariant.marks r in_heap).1 again in let unmarked = get_or_default c.loop-region.named.items r false c.index.result.now (omega (arith, c.if-place-len.false, c.len.ensures)) ∙ sym c.index.ensures ∙ c.if-index.false in cc);
     }
