@@ -71,10 +71,12 @@ fn new_region(fate: Fate, runs: &[Run], region: Region) -> Region
         Fate::Freed => Region {
             kind: Kind::Free,
             top: 0,
+            pinned: false,
         },
         Fate::Filled(run) => Region {
             kind: Kind::Ordinary,
             top: runs[run].end as u32,
+            pinned: false,
         },
         Fate::Kept => region,
     }

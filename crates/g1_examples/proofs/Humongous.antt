@@ -1,10 +1,10 @@
 -- A small heap with a humongous object keeps all rules.
-use Rattle.std.proofs.Common.{◌≡◌, ℕ, zero, suc, ◌+◌, ◌-◌, ◌*◌, ◌^◌, ◌<◌, ◌≤◌, inl, inr, true, ◌||◌, [], ◌∷◌, refl, sym, ap, subst, arith, lit<, lit≤, ltb, eqb, eqb-true, ltb-true, le-ltb}
+use Rattle.std.proofs.Common.{◌≡◌, ℕ, zero, suc, ◌+◌, ◌-◌, ◌*◌, ◌^◌, ◌<◌, ◌≤◌, inl, inr, true, ◌||◌, [], ◌∷◌, refl, sym, ap, subst, arith, lit<, lit≤, ltb, eqb, eqb-true, ltb-true, le-ltb, false}
 use Rattle.std.specs.List.{list_all, range_with_len}
 use Rattle.g1_words.specs.declared.object.Object.{Object}
 use Rattle.g1_words.specs.declared.region.Kind.TheVariants.{Ordinary, HumongousFirst, Continuation}
 use Rattle.g1_words.specs.Heap.{top, start, word, objects, object_at}
-use Rattle.g1_words.specs.Valid.{IsObject, IsFirst, HasObject, IsSlotOf, IsReference, IsWholeRun, IsShaped, IsShapedBy, IsValid}
+use Rattle.g1_words.specs.Valid.{MayBePinned, IsObject, IsFirst, HasObject, IsSlotOf, IsReference, IsWholeRun, IsShaped, IsShapedBy, IsValid}
 use Rattle.g1_words.proofs.Members.{In, In-from_contains, or_true}
 use Rattle.g1_words.proofs.Computed.{has_contains}
 use Rattle.g1_examples.specs.Examples.{humongous_owner}
@@ -95,6 +95,15 @@ slots9 o p has s = of_member (In-from_contains (objects humongous_owner) o (has_
         absurd (omega (arith, s.0, s.1, at, refs))
     of_member (inr (inr i)) = absurd i
 
+pins9 : (r : ℕ) → MayBePinned humongous_owner r
+pins9 zero t = absurd (let clash : false ≡ true = t in cc)
+pins9 (suc zero) t = absurd (let clash : false ≡ true = t in cc)
+pins9 (suc (suc zero)) t = absurd (let clash : false ≡ true = t in cc)
+pins9 (suc (suc (suc zero))) t = refl
+pins9 (suc (suc (suc (suc zero)))) t = absurd (let clash : false ≡ true = t in cc)
+pins9 (suc (suc (suc (suc (suc zero))))) t = absurd (let clash : false ≡ true = t in cc)
+pins9 (suc (suc (suc (suc (suc (suc r)))))) t = absurd (let clash : false ≡ true = t in cc)
+
 pub humongous_owner_is_valid : IsValid humongous_owner
 humongous_owner_is_valid = record {
   limits = record { w_power = (4, refl); w_least = lit≤ tt; w_most = lit≤ tt; k_power = (2, refl); k_least = lit≤ tt; k_most = lit≤ tt; k_in_w = lit≤ tt; n_least = lit≤ tt; n_most = lit≤ tt; words_most = lit≤ tt };
@@ -103,6 +112,7 @@ humongous_owner_is_valid = record {
   region_count = refl;
   root_count = lit≤ tt;
   shaped = shaped9;
+  pins = λ r lt. pins9 r;
   zero_above = zero9;
   roots = All-from_in (IsReference humongous_owner) (1 ∷ []) (each_member (IsReference humongous_owner) (1 ∷ []) (inr (object_at humongous_owner 0, has0, refl), tt));
   slots = slots9;

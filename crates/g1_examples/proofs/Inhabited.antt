@@ -6,7 +6,7 @@ use Rattle.std.proofs.lemmas.List.{get_or_default}
 use Rattle.g1_words.specs.declared.object.Object.{Object}
 use Rattle.g1_words.specs.declared.region.Kind.TheVariants.{Ordinary}
 use Rattle.g1_words.specs.Heap.{top, start, word, objects, object_at}
-use Rattle.g1_words.specs.Valid.{IsObject, HasObject, IsSlotOf, IsReference, IsShaped, IsShapedBy, IsValid}
+use Rattle.g1_words.specs.Valid.{MayBePinned, IsObject, HasObject, IsSlotOf, IsReference, IsShaped, IsShapedBy, IsValid}
 use Rattle.g1_words.proofs.Members.{In, In-from_contains}
 use Rattle.g1_words.proofs.Computed.{has_contains}
 use Rattle.g1_image.specs.Image.{IsUsedCard, IsRememberedSet, IsImage, remembered_of, region_of_card}
@@ -72,6 +72,13 @@ slots5 o p has s = of_member (In-from_contains (objects dead_owner) o (has_conta
         absurd (omega (arith, s.0, s.1, at, refs))
     of_member (inr (inr i)) = absurd i
 
+pins5 : (r : ℕ) → MayBePinned dead_owner r
+pins5 zero t = refl
+pins5 (suc zero) t = refl
+pins5 (suc (suc zero)) t = absurd (let clash : false ≡ true = t in cc)
+pins5 (suc (suc (suc zero))) t = absurd (let clash : false ≡ true = t in cc)
+pins5 (suc (suc (suc (suc r)))) t = absurd (let clash : false ≡ true = t in cc)
+
 pub dead_owner_is_valid : IsValid dead_owner
 dead_owner_is_valid = record {
   limits = record { w_power = (4, refl); w_least = lit≤ tt; w_most = lit≤ tt; k_power = (2, refl); k_least = lit≤ tt; k_most = lit≤ tt; k_in_w = lit≤ tt; n_least = lit≤ tt; n_most = lit≤ tt; words_most = lit≤ tt };
@@ -80,6 +87,7 @@ dead_owner_is_valid = record {
   region_count = refl;
   root_count = lit≤ tt;
   shaped = shaped5;
+  pins = λ r lt. pins5 r;
   zero_above = zero5;
   roots = λ k d lt. absurd (omega arith);
   slots = slots5;

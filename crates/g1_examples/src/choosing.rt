@@ -1,6 +1,6 @@
 ghost use Rattle.std.specs.Prelude.{◌≡◌, [], ◌∷◌};
 ghost use Rattle.g1_choose.specs.Choice.{candidates, IsOrder};
-ghost use Rattle.g1_choose.specs.Named.{AreDistinctOrdinary, IsFirstBad};
+ghost use Rattle.g1_choose.specs.Named.{AreTakeable, IsFirstBad};
 ghost use Rattle.g1_examples.specs.Examples.{three_regions, humongous_owner};
 ghost use Rattle.g1_examples.specs.Choices.{unit_prices, three_remembered, three_lives, Orders, Buys, byte_prices, two_full_regions};
 
@@ -28,8 +28,8 @@ pub fn refused_choices()
 
 /// Which lists of regions are accepted.
 pub fn named_lists()
-    ensures falling { AreDistinctOrdinary three_regions (2 ∷ 0 ∷ []) }
-    ensures nothing { AreDistinctOrdinary three_regions [] }
+    ensures falling { AreTakeable three_regions (2 ∷ 0 ∷ []) }
+    ensures nothing { AreTakeable three_regions [] }
     ensures twice { IsFirstBad three_regions (1 ∷ 1 ∷ []) 1 }
     ensures free { IsFirstBad three_regions (0 ∷ 3 ∷ 9 ∷ []) 1 }
     ensures out_of_range { IsFirstBad three_regions (9 ∷ 3 ∷ []) 0 }

@@ -7,18 +7,19 @@
 
 mod choosing;
 
-ghost use Rattle.std.specs.Prelude.{◌≡◌, List, [], ◌∷◌, map};
+ghost use Rattle.std.specs.Prelude.{◌≡◌, List, [], ◌∷◌, map, true, false};
 ghost use Rattle.g1_words.specs.Valid.{IsValid};
 ghost use Rattle.g1_words.specs.Heap.{objects_in, regions};
 ghost use Rattle.g1_words.specs.Survivors.{Survivors};
 ghost use Rattle.g1_words.specs.Layout.{places, need, laid};
 ghost use Rattle.g1_words.specs.Live.{IsLiveBytes};
-ghost use Rattle.g1_image.specs.Image.{IsImage, file_of};
+ghost use Rattle.g1_image.specs.Image.{IsImage, file_of, heap_of};
+ghost use Rattle.g1_image.specs.declared.cursor.Version.TheVariants.{One, Two};
 ghost use Rattle.g1_image.specs.Text.{file_text};
 ghost use Rattle.g1_image.specs.Cards.{refined, uncovered};
-ghost use Rattle.g1_after.specs.Moved.{Moved};
-ghost use Rattle.g1_examples.specs.Examples.{later_root_first, dead_owner, dead_cycle, shared_target, with_a_gap, one_object, one_object_after, three_regions, three_regions_image, dead_owner_image, dead_owner_after, shared_target_image, shared_target_after, humongous_owner, humongous_owner_image, humongous_owner_after};
-ghost use Rattle.g1_examples.specs.Texts.{one_object_text, one_object_after_text, dead_owner_text, dead_owner_after_text};
+ghost use Rattle.g1_after.specs.Moved.{Moved, new_region};
+ghost use Rattle.g1_examples.specs.Examples.{later_root_first, dead_owner, dead_cycle, shared_target, with_a_gap, one_object, one_object_after, three_regions, three_regions_image, dead_owner_image, pinned_owner, dead_owner_after, shared_target_image, shared_target_after, humongous_owner, humongous_owner_image, humongous_owner_after};
+ghost use Rattle.g1_examples.specs.Texts.{one_object_text, one_object_after_text, one_object_after_text_two, dead_owner_text, dead_owner_after_text};
 
 pub use choosing::{choices, named_lists, refused_choices};
 
@@ -62,12 +63,16 @@ pub fn kept_rules()
     ensures humongous_owner { IsValid humongous_owner }
 {}
 
-/// The texts of four images, before and after a pause, byte by byte.
+/// The texts of four images, before and after a pause, byte by byte, and one of version 2. A file of
+/// version 2 tells what is pinned, and a pause leaves it so.
 pub fn texts()
-    ensures one_object { file_text (file_of one_object) ≡ one_object_text }
-    ensures one_object_after { file_text (file_of one_object_after) ≡ one_object_after_text }
-    ensures dead_owner { file_text (file_of dead_owner_image) ≡ dead_owner_text }
-    ensures dead_owner_after { file_text (file_of dead_owner_after) ≡ dead_owner_after_text }
+    ensures one_object { file_text (file_of One one_object) ≡ one_object_text }
+    ensures one_object_after { file_text (file_of One one_object_after) ≡ one_object_after_text }
+    ensures dead_owner { file_text (file_of One dead_owner_image) ≡ dead_owner_text }
+    ensures dead_owner_after { file_text (file_of One dead_owner_after) ≡ dead_owner_after_text }
+    ensures version_two { file_text (file_of Two one_object_after) ≡ one_object_after_text_two }
+    ensures pins { map (λ q. q.pinned) (heap_of (file_of Two pinned_owner)).regions ≡ true ∷ false ∷ false ∷ false ∷ [] }
+    ensures moved_pins { map (λ r. (new_region pinned_owner.heap (1 ∷ []) (16 ∷ []) r).pinned) (regions pinned_owner.heap) ≡ true ∷ false ∷ false ∷ false ∷ [] }
 {}
 
 #[cfg(test)]

@@ -10,6 +10,7 @@ use Rattle.g1_words.specs.Live.{IsLiveBytes, bytes_where}
 use Rattle.g1_words.specs.Layout.{need, free_regions}
 use Rattle.g1_words.specs.Valid.{IsValid}
 use Rattle.g1_image.specs.Image.{Image, IsTextOf, file_of}
+use Rattle.g1_image.specs.declared.cursor.Version.TheVariants.{Two}
 use Rattle.g1_image.specs.Text.{file_text}
 use Rattle.g1_image.specs.Reading.{IsBytes}
 use Rattle.g1_image.specs.Cards.{IsTracked, refined, uncovered}
@@ -63,11 +64,11 @@ module _ (cost : Cost) (choice : Choice) (bytes : List ℕ) where
   told : (i : Image) → IsTextOf bytes i → uncovered i ≡ [] → (x : Result Image Fault) → IsEvacuated cost choice i x → (y : Result (List ℕ) Fault) × IsAnswer cost choice bytes y
   told i t c (Err f) e = (Err f, refused t c e)
   told i t c (Ok j) e =
-      let after = (evacuation_follows cost choice i j (record { image = t.0; covered = c }) e).tracked in
-      (Ok (file_text (file_of j)), written t c e (after.image, refl))
+      let after = (evacuation_follows cost choice i j (record { image = t.1.0; covered = c }) e).tracked in
+      (Ok (file_text (file_of Two j)), written t c e (after.image, tt, refl))
 
   of_image : (i : Image) → IsTextOf bytes i → (slots : List ℕ) → uncovered i ≡ slots → (y : Result (List ℕ) Fault) × IsAnswer cost choice bytes y
-  of_image i t [] c = let e = evacuation_exists cost i (record { image = t.0; covered = c }) choice in told i t c e.0 e.1
+  of_image i t [] c = let e = evacuation_exists cost i (record { image = t.1.0; covered = c }) choice in told i t c e.0 e.1
   of_image i t (p ∷ ps) u = (Err (Uncovered p), not_covered t u)
 
   pub answer_exists : IsBytes bytes → (y : Result (List ℕ) Fault) × IsAnswer cost choice bytes y

@@ -4,7 +4,8 @@ use Rattle.std.specs.Prelude.{IfOk, IfErr, Vec}
 use Rattle.std.specs.Global.{Global}
 use Rattle.g1_words.specs.declared.fault.Fault.{Fault}
 use Rattle.g1_words.specs.declared.fault.Fault.TheVariants.{Memory, Uncovered}
-use Rattle.g1_image.specs.Image.{Image, IsTextOf}
+use Rattle.g1_image.specs.Image.{Image, IsTextIn, IsTextOf}
+use Rattle.g1_image.specs.declared.cursor.Version.TheVariants.{Two}
 use Rattle.g1_image.specs.Faults.{MayFail}
 use Rattle.g1_image.specs.Cards.{IsTracked, uncovered}
 use Rattle.g1_choose.specs.declared.parameters.Cost.{Cost}
@@ -44,14 +45,14 @@ module _ (cost : Cost) (choice : Choice) (bytes : List ℕ) where
   memory_told (Err e) m = (inl m, inl m)
 
   -- each text of the image after is the answer
-  pub after_told : (i k j : Image) → IsTextOf bytes i → k ≡ i → IsTracked k → IsEvacuated cost choice k (Ok j) → (out : List ℕ) → IsTextOf out j → IsAnswer cost choice bytes (Ok out)
+  pub after_told : (i k j : Image) → IsTextOf bytes i → k ≡ i → IsTracked k → IsEvacuated cost choice k (Ok j) → (out : List ℕ) → IsTextIn Two out j → IsAnswer cost choice bytes (Ok out)
   after_told i k j t same tracked e out after = written (subst (IsTextOf bytes) (sym same) t) tracked.covered e after
 
   -- and so is the one that was written
-  pub text_told : (j l : Image) (r : Result (Vec ℕ Global) Fault) → ((out : List ℕ) → IsTextOf out j → IsAnswer cost choice bytes (Ok out)) → l ≡ j
-      → IfOk r (λ v. IsTextOf v.items l) → IfOk r (λ v. IsAnswer cost choice bytes (Ok v.items))
+  pub text_told : (j l : Image) (r : Result (Vec ℕ Global) Fault) → ((out : List ℕ) → IsTextIn Two out j → IsAnswer cost choice bytes (Ok out)) → l ≡ j
+      → IfOk r (λ v. IsTextIn Two v.items l) → IfOk r (λ v. IsAnswer cost choice bytes (Ok v.items))
   text_told j l (Err e) told after w = w
-  text_told j l (Ok v) told after w = told v.items (subst (IsTextOf v.items) after w)
+  text_told j l (Ok v) told after w = told v.items (subst (IsTextIn Two v.items) after w)
 
   pub only_written : OneAnswer → (r : Result (Vec ℕ Global) Fault) → IfOk r (λ v. IsAnswer cost choice bytes (Ok v.items))
       → IfOk r (λ v. (y : Result (List ℕ) Fault) → IsAnswer cost choice bytes y → y ≡ Ok v.items)

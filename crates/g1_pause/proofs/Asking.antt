@@ -8,7 +8,7 @@ use Rattle.g1_words.specs.Heap.{regions}
 use Rattle.g1_words.specs.Lists.{has}
 use Rattle.g1_image.specs.Image.{Image}
 use Rattle.g1_choose.specs.declared.parameters.Cost.{Cost}
-use Rattle.g1_choose.specs.Named.{AreDistinctOrdinary, IsFirstBad}
+use Rattle.g1_choose.specs.Named.{AreTakeable, IsFirstBad}
 use Rattle.g1_pause.specs.declared.settings.Choice.{Choice}
 use Rattle.g1_pause.specs.declared.settings.Choice.TheVariants.{Budget, Given}
 use Rattle.g1_pause.specs.Answer.{AskTheSame, IsSetFor, IsEvacuated, bad_set, no_room, done, IsAnswer, unread, not_covered, refused, written}
@@ -16,7 +16,7 @@ use Rattle.g1_pause.specs.Answer.{AskTheSame, IsSetFor, IsEvacuated, bad_set, no
 module _ (cost : Cost) where
   same_set : (i : Image) (c d : Choice) (set : List ℕ) → AskTheSame c d → IsSetFor cost i c set → IsSetFor cost i d set
   same_set i (Budget b) (Budget m) set e s = subst (λ (n : ℕ). IsSetFor cost i (Budget n) set) e s
-  same_set i (Given xs) (Given ys) set e s = (subst (AreDistinctOrdinary i.heap) e s.0, s.1 ∙ ap (λ (list : List ℕ). filter (has list) (regions i.heap)) e)
+  same_set i (Given xs) (Given ys) set e s = (subst (AreTakeable i.heap) e s.0, s.1 ∙ ap (λ (list : List ℕ). filter (has list) (regions i.heap)) e)
   same_set i (Budget b) (Given ys) set e s = absurd e
   same_set i (Given xs) (Budget b) set e s = absurd e
 

@@ -66,5 +66,5 @@ answer_follows cost choice bytes out (written {i = i} {j = j} t c e o) = record 
   after = j;
   read = t;
   written = o;
-  follows = evacuation_follows cost choice i j (record { image = t.0; covered = c }) e;
+  follows = evacuation_follows cost choice i j (record { image = t.1.0; covered = c }) e;
 }

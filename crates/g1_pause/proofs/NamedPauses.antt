@@ -17,7 +17,7 @@ use Rattle.g1_rem.proofs.Rising.{Rises-range, Rises-increasing}
 use Rattle.g1_frontier.specs.Laws.{AreRefinedOf, RefinedLeadIn}
 use Rattle.g1_frontier.specs.Window.{AreRegions, AreOutside, LeadIn}
 use Rattle.g1_frontier.proofs.Scopes.{all_from_in}
-use Rattle.g1_choose.specs.Named.{AreDistinctOrdinary}
+use Rattle.g1_choose.specs.Named.{AreTakeable}
 use Rattle.g1_layout.specs.Laws.{SurvivorsPlaceable}
 use Rattle.g1_layout.specs.Placed.{CanPlace}
 use Rattle.g1_layout.specs.Plan.{Plan, plan_of}
@@ -34,7 +34,7 @@ named_regions h list set e = subst (AreRegions h) (sym e) (record {
 })
 
 -- and ordinary ones
-pub named_ordinary : (h : Heap) (list set : List ℕ) → AreDistinctOrdinary h list → set ≡ filter (has list) (regions h) → AllOrdinary h set
+pub named_ordinary : (h : Heap) (list set : List ℕ) → AreTakeable h list → set ≡ filter (has list) (regions h) → AllOrdinary h set
 named_ordinary h list set named e r c =
     let f = filter_member (has list) (regions h) r (subst (λ xs. In xs r) e (In-from_contains set r c)) in
     named.ordinary r (Contains-from_in list r (in_from_has list r f.1))

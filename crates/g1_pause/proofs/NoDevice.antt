@@ -7,7 +7,8 @@ use Rattle.g1_words.specs.declared.fault.Fault.{Fault}
 use Rattle.g1_words.specs.declared.fault.Fault.TheVariants as fault
 use Rattle.g1_words.specs.declared.fault.Device.{Device}
 use Rattle.g1_words.specs.declared.fault.Device.TheVariants as device
-use Rattle.g1_image.specs.Image.{Image, IsTextOf}
+use Rattle.g1_image.specs.Image.{Image, IsTextIn}
+use Rattle.g1_image.specs.declared.cursor.Version.TheVariants.{Two}
 use Rattle.g1_choose.specs.declared.parameters.Cost.{Cost}
 use Rattle.g1_pause.specs.declared.settings.Choice.{Choice}
 use Rattle.g1_pause.specs.Answer.{IsEvacuated, IsAnswer, unread, refused}
@@ -61,12 +62,12 @@ refusal_leaves_output cost choice xs mark e (inr a) = output_left cost choice xs
 
 -- the text of the image after being what was handed to the sink, the answer stands, or where the output failed a beginning of it
 pub run_written : (cost : Cost) (choice : Choice) (left : Option (List ℕ)) (read bytes : List ℕ) (old new : Option (List ℕ)) (j l : Image) (text out : List ℕ) (r : Result (Unit {0}) Fault)
-    → bytes ≡ read → IfSome left (λ xs. read ≡ xs) → ((text : List ℕ) → IsTextOf text j → IsAnswer cost choice bytes (Ok text)) → l ≡ j → IsTextOf text l → out ≡ text
+    → bytes ≡ read → IfSome left (λ xs. read ≡ xs) → ((text : List ℕ) → IsTextIn Two text j → IsAnswer cost choice bytes (Ok text)) → l ≡ j → IsTextIn Two text l → out ≡ text
     → OnOk r (Appends old new out) → IfErr r (λ e. (e ≡ fault.Device device.Output) × ((k : ℕ) × (k < length out) × Appends old new (take k out)))
     → IfSome left (λ xs. RunGives cost choice xs old new r)
 run_written cost choice None read bytes old new j l text out r p q told after written same ok err = tt
 run_written cost choice (Some xs) read bytes old new j l text out (Ok u) p q told after written same ok err =
-    subst (λ (ys : List ℕ). RunGives cost choice ys old new (Ok u)) (p ∙ q) (out, told out (subst (λ (t : List ℕ). IsTextOf t j) (sym same) (subst (IsTextOf text) after written)), ok)
+    subst (λ (ys : List ℕ). RunGives cost choice ys old new (Ok u)) (p ∙ q) (out, told out (subst (λ (t : List ℕ). IsTextIn Two t j) (sym same) (subst (IsTextIn Two text) after written)), ok)
 run_written cost choice (Some xs) read bytes old new j l text out (Err e) p q told after written same ok err =
     subst (λ (ys : List ℕ). RunGives cost choice ys old new (Err e)) (p ∙ q) (subst (λ (f : Fault). RunGives cost choice bytes old new (Err f)) (sym err.0)
-    (out, err.1.0, told out (subst (λ (t : List ℕ). IsTextOf t j) (sym same) (subst (IsTextOf text) after written)), err.1.1, err.1.2))
+    (out, err.1.0, told out (subst (λ (t : List ℕ). IsTextIn Two t j) (sym same) (subst (IsTextIn Two text) after written)), err.1.1, err.1.2))

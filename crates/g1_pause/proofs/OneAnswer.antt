@@ -7,7 +7,8 @@ use Rattle.g1_words.specs.declared.fault.Fault.TheVariants.{Set, Room, Uncovered
 use Rattle.g1_words.specs.Heap.{regions}
 use Rattle.g1_words.specs.Survivors.{Survivors, seeds, children}
 use Rattle.g1_words.specs.Layout.{need, free_regions}
-use Rattle.g1_image.specs.Image.{Image, IsTextOf}
+use Rattle.g1_image.specs.Image.{Image, IsTextIn, IsTextOf}
+use Rattle.g1_image.specs.declared.cursor.Version.TheVariants.{Two}
 use Rattle.g1_image.specs.Cards.{IsTracked, Covered, refined, uncovered}
 use Rattle.g1_after.specs.Moved.{Moved}
 use Rattle.g1_choose.specs.declared.parameters.Cost.{Cost}
@@ -75,7 +76,7 @@ module _ (cost : Cost) (choice : Choice) (bytes : List ℕ) where
   -- the pause of the one image gives one thing
   one_pause : (i j : Image) (x y : Result Image Fault) → IsTextOf bytes i → IsTextOf bytes j → Covered i → IsEvacuated cost choice i x → IsEvacuated cost choice j y → x ≡ y
   one_pause i j x y t s c e f =
-      evacuated_unique cost i (record { image = t.0; covered = c }) choice x y e (subst (λ k. IsEvacuated cost choice k y) (one_image bytes j i s t) f)
+      evacuated_unique cost i (record { image = t.1.0; covered = c }) choice x y e (subst (λ k. IsEvacuated cost choice k y) (one_image bytes j i s t) f)
 
   pub answer_unique : (x y : Result (List ℕ) Fault) → IsAnswer cost choice bytes x → IsAnswer cost choice bytes y → x ≡ y
   answer_unique x y (unread {f = f} a) (unread {f = g} b) = ap Err (one_fault bytes f g a b)
@@ -102,4 +103,4 @@ module _ (cost : Cost) (choice : Choice) (bytes : List ℕ) where
   answer_unique x y (written {i = i} {j = k} {out = out} t c e o) (written {i = j} {j = m} {out = other} s d n r) =
       let same : Ok k ≡ Ok m = one_pause i j (Ok k) (Ok m) t s c e n in
       let images : k ≡ m = cc in
-      ap Ok (o.1 ∙ sym (subst (IsTextOf other) (sym images) r).1)
+      ap Ok (o.2 ∙ sym (subst (IsTextIn Two other) (sym images) r).2)

@@ -1,6 +1,7 @@
 ghost use Rattle.std.specs.Prelude.{◌≡◌, ◌⊎◌, ℕ, List, Ok, Err, Result, IfOk, IfErr};
 ghost use Rattle.g1_words.specs.declared.fault.Fault.{Fault as FaultOf};
-ghost use Rattle.g1_image.specs.Image.{IsTextOf};
+ghost use Rattle.g1_image.specs.Image.{IsTextIn};
+ghost use Rattle.g1_image.specs.declared.cursor.Version.TheVariants.{Two};
 ghost use Rattle.g1_pause.specs.Answer.{IsAnswer};
 ghost use Rattle.g1_pause.specs.Follows.{TextFollows};
 
@@ -22,7 +23,7 @@ pub(crate) fn paused<R: Threads + Sync, G: Gate + Sync>(
     settings: &Settings,
     gate: &G,
 ) -> Result<Tracked, Fault>
-    ensures answer { IfOk result (λ t. (out : List ℕ) → IsTextOf out t → IsAnswer settings.now.cost settings.now.choice bytes.now (Ok out)) }
+    ensures answer { IfOk result (λ t. (out : List ℕ) → IsTextIn Two out t → IsAnswer settings.now.cost settings.now.choice bytes.now (Ok out)) }
     ensures fault { IfErr result (λ e. (e ≡ Fault.Memory) ⊎ IsAnswer settings.now.cost settings.now.choice bytes.now (Err e)) }
 {
     let tracked = match verify(rt, alloc, decode(alloc, bytes)?) {

@@ -66,8 +66,8 @@ fn planned<R: Threads + Sync, G: Gate + Sync>(
 ///
 /// # Errors
 ///
-/// `Fault::Set` with the first region of a given list that is out of range, isn't ordinary or stands
-/// earlier in the list; `Fault::Room` where the survivors need more regions than are free;
+/// `Fault::Set` with the first region of a given list that is out of range, isn't ordinary, is pinned
+/// or stands earlier in the list; `Fault::Room` where the survivors need more regions than are free;
 /// `Fault::Memory`. The image that comes back equals the one handed in.
 pub fn evacuate<R: Threads + Sync, G: Gate + Sync>(
     rt: &R,

@@ -159,6 +159,7 @@ module _ (h : Heap) (v : IsBuilt h) (rs : List ℕ) where
     region_count = v.region_count;
     root_count = few;
     shaped = λ r lt. shaped_roots r (kind h r) (v.shaped r lt);
+    pins = v.pins;
     zero_above = v.zero_above;
     root_named = λ a c. still a (named a (named-in rs a (In-from_contains (root_targets (record h { roots = rs })) a c)));
     slot_named = λ e c. still e.target (v.slot_named e (subst (λ es. Contains es e) same_refs c));

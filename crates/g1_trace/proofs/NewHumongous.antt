@@ -7,11 +7,11 @@ use Rattle.std.proofs.Math.Nat.{mul-le-mul_right, add-mul}
 use Rattle.g1_words.specs.declared.object.Object.{Object}
 use Rattle.g1_words.specs.declared.region.Region.{Region}
 use Rattle.g1_words.specs.declared.region.Kind.TheVariants.{Free, Ordinary, HumongousFirst, Continuation}
-use Rattle.g1_words.specs.Heap.{Heap, free_region, region_with, region, kind, top, objects_by, objects_in, object_at}
+use Rattle.g1_words.specs.Heap.{Heap, free_region, region, kind, top, objects_by, objects_in, object_at}
 use Rattle.g1_words.proofs.Members.{and_true}
 use Rattle.g1_words.proofs.Shapes.{TakesRun, BeginsRun, IsBuiltBy, IsBuilt}
 use Rattle.g1_words.proofs.Standing.{w_pos}
-use Rattle.g1_trace.specs.Mutator.{is_humongous, run_length, is_in_run, run_region, region_after, heap_with}
+use Rattle.g1_trace.specs.Mutator.{is_humongous, run_length, is_in_run, run_region, grown, region_after, heap_with}
 use Rattle.g1_trace.specs.Laid.{IsUnused}
 use Rattle.g1_trace.proofs.NewObject.{new_object, same_region, new_built, other_shaped, zeros_kept}
 use Rattle.g1_trace.proofs.NewOrdinary.{not_equal}
@@ -59,7 +59,7 @@ module _ (h : Heap) (v : IsBuilt h) (r size refs0 root : ℕ) (lt : r < h.geomet
   region_at : (q : ℕ) → q < h.geometry.n → region j q ≡ cond (is_in_run h r size q) (run_region h r size q) (region h q)
   region_at q l =
       get_or-map-range_with_len (region_after h r size) 0 h.geometry.n q q free_region l (omega arith)
-      ∙ (λ t. cond (big t) (cond (is_in_run h r size q) (run_region h r size q) (region h q)) (cond (eqb q r) (region_with Ordinary (top h r + size)) (region h q)))
+      ∙ (λ t. cond (big t) (cond (is_in_run h r size q) (run_region h r size q) (region h q)) (cond (eqb q r) (grown h r size) (region h q)))
 
   in_heap : (q : ℕ) → q < r + run_length h size → q < h.geometry.n
   in_heap q l = let t = there in omega (arith, t, l)

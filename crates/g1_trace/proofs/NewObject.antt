@@ -1,21 +1,23 @@
 -- A new object keeps the rules of a heap, by what becomes of the regions.
-use Rattle.std.proofs.Common.{◌≡◌, ◌≢◌, ℕ, zero, suc, ◌+◌, ◌-◌, ◌*◌, ◌/◌, ◌%◌, ◌^◌, ◌<◌, ◌≤◌, ◌⊎◌, inl, inr, true, false, List, [], ◌∷◌, ◌++◌, set, map, flat_map, Contains, Some, refl, sym, ◌∙◌, ap, subst, arith, lt-ltb, le-ltb}
+use Rattle.std.proofs.Common.{◌≡◌, ◌≢◌, ℕ, zero, suc, ◌+◌, ◌-◌, ◌*◌, ◌/◌, ◌%◌, ◌^◌, ◌<◌, ◌≤◌, ◌⊎◌, inl, inr, Bool, true, false, List, [], ◌∷◌, ◌++◌, set, map, flat_map, Contains, Some, refl, sym, ◌∙◌, ap, subst, arith, lt-ltb, le-ltb}
 use Rattle.std.proofs.lemmas.Bool.{cases_lt}
 use Rattle.std.proofs.lemmas.Nat.{div-mul-add}
 use Rattle.std.proofs.lemmas.List.{length-set, get_or-set_same, get_or-set_other}
-use Rattle.std.proofs.lemmas.List.FromFn.{length-map-range_with_len}
+use Rattle.std.proofs.lemmas.List.FromFn.{length-map-range_with_len, get_or-map-range_with_len}
+use Rattle.std.specs.Prelude.{◌==◌, IsTrue, if◌then◌else◌}
 use Rattle.g1_words.specs.declared.object.Object.{Object}
 use Rattle.g1_words.specs.declared.region.Region.{Region}
 use Rattle.g1_words.specs.declared.region.Kind.{Kind}
 use Rattle.g1_words.specs.declared.region.Kind.TheVariants.{Free, Ordinary, HumongousFirst, Continuation}
-use Rattle.g1_words.specs.Heap.{Heap, region, kind, top, word, regions, objects, objects_in, object_at, slots, tiles}
+use Rattle.g1_words.specs.Valid.{MayBePinned}
+use Rattle.g1_words.specs.Heap.{Heap, free_region, region, kind, top, word, regions, objects, objects_in, object_at, slots, tiles}
 use Rattle.g1_words.specs.References.{Ref, refs, refs_at, named, root_targets}
 use Rattle.g1_words.proofs.Computed.{In-range}
 use Rattle.g1_words.proofs.Indices.{range_bounds}
 use Rattle.g1_words.proofs.Members.{In, In-from_contains, Contains-from_in, In-flat_map, flat_map_cases, In-append_left, In-append_right, In-append_cases}
 use Rattle.g1_words.proofs.Shapes.{IsPlain, IsTiled, TakesRun, IsBuiltBy, IsBuilt}
 use Rattle.g1_words.proofs.Standing.{tiled_from, built_is_sound, w_pos}
-use Rattle.g1_trace.specs.Mutator.{region_after, heap_with}
+use Rattle.g1_trace.specs.Mutator.{is_humongous, is_in_run, run_region, grown, region_after, heap_with}
 use Rattle.g1_trace.specs.Laid.{IsUnused}
 use Rattle.g1_trace.proofs.Views.{equal_or_not, In-set, named-in, in-named}
 use Rattle.g1_trace.proofs.SameObjects.{region_same}
@@ -36,6 +38,14 @@ tiled_tiles h (suc m) a (o ∷ os) end t le =
 pub tiled_append : (h : Heap) (b : ℕ) (os : List Object) (end : ℕ) (new : Object) → IsTiled h b os end → new ≡ object_at h end → IsPlain h new → IsTiled h b (os ++ new ∷ []) (end + new.size)
 tiled_append h b [] end new t e p = (e ∙ ap (object_at h) (sym t), p, ap (λ x. x + new.size) t)
 tiled_append h b (o ∷ os) end new t e p = (t.0, t.1, tiled_append h (b + o.size) os end new t.2 e p)
+
+-- a region that a new object is placed in is ordinary or isn't pinned
+pin_kept : (a b c : Bool) (run more old : Region) → run.pinned ≡ false → more.kind ≡ Ordinary → (IsTrue old.pinned → old.kind ≡ Ordinary) →
+    IsTrue (if a then (if b then run else old) else (if c then more else old)).pinned → (if a then (if b then run else old) else (if c then more else old)).kind ≡ Ordinary
+pin_kept true true c run more old none k may t = absurd (let clash : false ≡ true = sym none ∙ t in cc)
+pin_kept true false c run more old none k may t = may t
+pin_kept false b true run more old none k may t = k
+pin_kept false b false run more old none k may t = may t
 
 module _ (h : Heap) (v : IsBuilt h) (r size refs0 root : ℕ) (lt : r < h.geometry.n) (unused : IsUnused h (r * h.geometry.w + top h r) size) (fits : refs0 < size) (small : size ≤ 2 ^ 24) where
   abbrev j : Heap
@@ -130,6 +140,11 @@ module _ (h : Heap) (v : IsBuilt h) (r size refs0 root : ℕ) (lt : r < h.geomet
               absurd (subst (λ z. In (map (λ b. record { slot = s.0; target = b }) (named z)) e) z s.2)
         ]
 
+    pins : (q : ℕ) → q < h.geometry.n → MayBePinned j q
+    pins q l =
+        subst (λ (x : Region). IsTrue x.pinned → x.kind ≡ Ordinary) (sym (get_or-map-range_with_len (region_after h r size) 0 h.geometry.n q q free_region l (omega arith)))
+        (pin_kept (is_humongous h size) (is_in_run h r size q) (q == r) (run_region h r size q) (grown h r size) (region h q) refl refl (v.pins q l))
+
     pub new_built : ((q : ℕ) → q < h.geometry.n → IsBuiltBy j q (kind j q)) → ((q m : ℕ) → q < h.geometry.n → top j q ≤ m → m < h.geometry.w → word j (q * h.geometry.w + m) ≡ 0)
         → ((q : ℕ) → j.current ≡ Some q → (q < h.geometry.n) × (kind j q ≡ Ordinary)) → IsBuilt j
     new_built shaped zeros current = record {
@@ -142,6 +157,7 @@ module _ (h : Heap) (v : IsBuilt h) (r size refs0 root : ℕ) (lt : r < h.geomet
       region_count = length-map-range_with_len (region_after h r size) 0 h.geometry.n;
       root_count = let l = v.root_count in let e = length-set h.roots root (suc (r * h.geometry.w + top h r)) in omega (arith, l, e);
       shaped = shaped;
+      pins = pins;
       zero_above = zeros;
       root_named = λ b c. elim (In-set h.roots root (suc (r * h.geometry.w + top h r)) (suc b) (named-in (set h.roots root (suc (r * h.geometry.w + top h r))) b (In-from_contains (root_targets j) b c))) [
         | inl q ↦ let e : r * h.geometry.w + top h r ≡ b = omega (arith, q) in subst (λ x. Contains (objects j) (object_at j x)) e new_there

@@ -4,9 +4,9 @@ use Rattle.std.proofs.lemmas.List.FromFn.{get_or-map-range_with_len}
 use Rattle.g1_words.specs.declared.object.Object.{Object}
 use Rattle.g1_words.specs.declared.region.Region.{Region}
 use Rattle.g1_words.specs.declared.region.Kind.TheVariants.{Free, Ordinary, HumongousFirst, Continuation}
-use Rattle.g1_words.specs.Heap.{Heap, free_region, region_with, region, kind, top, objects_by, objects_in, tiles}
+use Rattle.g1_words.specs.Heap.{Heap, free_region, region, kind, top, objects_by, objects_in, tiles}
 use Rattle.g1_words.proofs.Shapes.{IsTiled, IsBuiltBy, IsBuilt}
-use Rattle.g1_trace.specs.Mutator.{is_humongous, is_in_run, run_region, region_after, heap_with}
+use Rattle.g1_trace.specs.Mutator.{is_humongous, is_in_run, run_region, grown, region_after, heap_with}
 use Rattle.g1_trace.specs.Laid.{IsUnused}
 use Rattle.g1_trace.proofs.Views.{equal_or_not}
 use Rattle.g1_trace.proofs.NewObject.{tiled_tiles, tiled_append, new_object, in_all, same_region, tiled_kept, new_built, other_shaped, zeros_kept}
@@ -26,13 +26,13 @@ module _ (h : Heap) (v : IsBuilt h) (r size refs0 root : ℕ) (lt : r < h.geomet
   abbrev new : Object
   new = record { at = r * h.geometry.w + top h r; size = size; refs = refs0 }
 
-  region_at : (q : ℕ) → q < h.geometry.n → region j q ≡ cond (eqb q r) (region_with Ordinary (top h r + size)) (region h q)
+  region_at : (q : ℕ) → q < h.geometry.n → region j q ≡ cond (eqb q r) (grown h r size) (region h q)
   region_at q l =
       get_or-map-range_with_len (region_after h r size) 0 h.geometry.n q q free_region l (omega arith)
-      ∙ (λ t. cond (plain t) (cond (is_in_run h r size q) (run_region h r size q) (region h q)) (cond (eqb q r) (region_with Ordinary (top h r + size)) (region h q)))
+      ∙ (λ t. cond (plain t) (cond (is_in_run h r size q) (run_region h r size q) (region h q)) (cond (eqb q r) (grown h r size) (region h q)))
 
-  region_here : region j r ≡ region_with Ordinary (top h r + size)
-  region_here = region_at r lt ∙ ap (λ b. cond b (region_with Ordinary (top h r + size)) (region h r)) (eq-eqb r r refl)
+  region_here : region j r ≡ grown h r size
+  region_here = region_at r lt ∙ ap (λ b. cond b (grown h r size) (region h r)) (eq-eqb r r refl)
 
   kind_here : kind j r ≡ Ordinary
   kind_here = ap (λ (q : Region). q.kind) region_here
@@ -41,7 +41,7 @@ module _ (h : Heap) (v : IsBuilt h) (r size refs0 root : ℕ) (lt : r < h.geomet
   top_here = ap (λ (q : Region). q.top) region_here
 
   region_else : (q : ℕ) → q < h.geometry.n → (q ≡ r → ⊥) → region j q ≡ region h q
-  region_else q l n = region_at q l ∙ ap (λ b. cond b (region_with Ordinary (top h r + size)) (region h q)) (not_equal q r n)
+  region_else q l n = region_at q l ∙ ap (λ b. cond b (grown h r size) (region h q)) (not_equal q r n)
 
   old_tiled : IsTiled h (r * h.geometry.w) (objects_in h r) (r * h.geometry.w + top h r)
   old_tiled = elim usable [

@@ -6,12 +6,12 @@ use Rattle.std.proofs.lemmas.List.{length-set, get_or-set_same, get_or-set_other
 use Rattle.std.proofs.lemmas.List.FromFn.{get_or-map-range_with_len, length-map-range_with_len}
 use Rattle.g1_words.specs.declared.region.Region.{Region}
 use Rattle.g1_words.specs.declared.region.Kind.TheVariants.{Ordinary}
-use Rattle.g1_words.specs.Heap.{Heap, free_region, region_with, region, kind, top, end, regions}
+use Rattle.g1_words.specs.Heap.{Heap, free_region, region, kind, pinned, top, end, regions}
 use Rattle.g1_words.proofs.Indices.{range_bounds}
 use Rattle.g1_words.proofs.Shapes.{IsBuilt}
 use Rattle.g1_image.specs.Image.{Image}
 use Rattle.g1_image.specs.Cards.{IsTracked}
-use Rattle.g1_trace.specs.Mutator.{is_humongous, run_length, is_free_region, is_free_run, fits_current, region_for, place_for, is_in_run, run_region, region_after, heap_with, with_heap}
+use Rattle.g1_trace.specs.Mutator.{is_humongous, run_length, is_free_region, is_free_run, fits_current, region_for, place_for, is_in_run, run_region, grown, region_after, heap_with, with_heap}
 use Rattle.g1_trace.specs.Placing.{run_taken, ordinary_heap, humongous_heap}
 use Rattle.g1_trace.proofs.Views.{equal_or_not}
 use Rattle.g1_trace.proofs.Ready.{built_ready, found, free_run, free_top, free_found}
@@ -21,19 +21,19 @@ use Rattle.g1_trace.proofs.Tables.{same_list}
 
 -- ---- the image put together again
 
-pub ordinary_parts : (i : Image) (r size refs root : ℕ) (heap : Heap) (remembered : List (List ℕ)) (log : List ℕ) (at used : ℕ) → record { heap = heap; remembered = remembered; log = log } ≡ i → at ≡ end i.heap r → used ≡ top i.heap r + size
+pub ordinary_parts : (i : Image) (r size refs root : ℕ) (heap : Heap) (remembered : List (List ℕ)) (log : List ℕ) (at used : ℕ) (pin : Bool) → record { heap = heap; remembered = remembered; log = log } ≡ i → at ≡ end i.heap r → used ≡ top i.heap r + size → pin ≡ pinned i.heap r
     → IsTracked (with_heap i (ordinary_heap i.heap r size refs root))
     → IsTracked (record {
-      heap = record { geometry = heap.geometry; words = set heap.words at (size * 2 ^ 32 + refs); regions = set heap.regions r (record { kind = Ordinary; top = used }); roots = set heap.roots root (at + 1); current = Some r };
+      heap = record { geometry = heap.geometry; words = set heap.words at (size * 2 ^ 32 + refs); regions = set heap.regions r (record { kind = Ordinary; top = used; pinned = pin }); roots = set heap.roots root (at + 1); current = Some r };
       remembered = remembered;
       log = log;
     })
-ordinary_parts i r size refs root heap remembered log at used e a u t =
+ordinary_parts i r size refs root heap remembered log at used pin e a u k t =
     let h : heap ≡ i.heap = ap (λ (x : Image). x.heap) e in
     let next : suc (end i.heap r) ≡ at + 1 = omega (arith, a) in
-    let whole : (x : Heap) (p q n : ℕ) → Heap = λ x p q n. record { geometry = x.geometry; words = set x.words p (size * 2 ^ 32 + refs); regions = set x.regions r (record { kind = Ordinary; top = q }); roots = set x.roots root n; current = Some r } in
-    let image : (x : Image) (p q n : ℕ) → Image = λ x p q n. record { heap = whole x.heap p q n; remembered = x.remembered; log = x.log } in
-    let same : image i (end i.heap r) (top i.heap r + size) (suc (end i.heap r)) ≡ image (record { heap = heap; remembered = remembered; log = log }) at used (at + 1) = λ s. image (sym e s) (sym a s) (sym u s) (next s) in
+    let whole : (x : Heap) (p q n : ℕ) (b : Bool) → Heap = λ x p q n b. record { geometry = x.geometry; words = set x.words p (size * 2 ^ 32 + refs); regions = set x.regions r (record { kind = Ordinary; top = q; pinned = b }); roots = set x.roots root n; current = Some r } in
+    let image : (x : Image) (p q n : ℕ) (b : Bool) → Image = λ x p q n b. record { heap = whole x.heap p q n b; remembered = x.remembered; log = x.log } in
+    let same : image i (end i.heap r) (top i.heap r + size) (suc (end i.heap r)) (pinned i.heap r) ≡ image (record { heap = heap; remembered = remembered; log = log }) at used (at + 1) pin = λ s. image (sym e s) (sym a s) (sym u s) (next s) (sym k s) in
     subst IsTracked same t
 
 pub humongous_parts : (i : Image) (r size refs root : ℕ) (heap : Heap) (remembered : List (List ℕ)) (log : List ℕ) (at : ℕ) (table : List Region) → record { heap = heap; remembered = remembered; log = log } ≡ i → at ≡ end i.heap r
@@ -56,14 +56,14 @@ humongous_parts i r size refs root heap remembered log at table e a u t =
 module _ (h : Heap) (count : length h.regions ≡ h.geometry.n) (r size refs root : ℕ) where
   pub is_ordinary_heap : r < h.geometry.n → is_humongous h size ≡ false → heap_with h r size refs root ≡ ordinary_heap h r size refs root
   is_ordinary_heap lt plain =
-      let table : map (region_after h r size) (regions h) ≡ set h.regions r (region_with Ordinary (top h r + size)) =
-      same_list free_region (map (region_after h r size) (regions h)) (set h.regions r (region_with Ordinary (top h r + size)))
-      (size_is ∙ sym count ∙ sym (length-set h.regions r (region_with Ordinary (top h r + size))))
+      let table : map (region_after h r size) (regions h) ≡ set h.regions r (grown h r size) =
+      same_list free_region (map (region_after h r size) (regions h)) (set h.regions r (grown h r size))
+      (size_is ∙ sym count ∙ sym (length-set h.regions r (grown h r size)))
       (λ q l. let small : q < h.geometry.n = (let n = size_is in omega (arith, l, n)) in
       at q small ∙ elim (equal_or_not q r) [
-        | inl n ↦ ap (λ b. cond b (region_with Ordinary (top h r + size)) (region h q)) (not_equal q r n) ∙ sym (get_or-set_other h.regions r q (region_with Ordinary (top h r + size)) free_region n)
-        | inr e ↦ ap (λ b. cond b (region_with Ordinary (top h r + size)) (region h q)) (eq-eqb q r e)
-            ∙ sym (ap (λ z. get_or (set h.regions r (region_with Ordinary (top h r + size))) z free_region) e ∙ get_or-set_same h.regions r (region_with Ordinary (top h r + size)) free_region (omega (arith, lt, count)))
+        | inl n ↦ ap (λ b. cond b (grown h r size) (region h q)) (not_equal q r n) ∙ sym (get_or-set_other h.regions r q (grown h r size) free_region n)
+        | inr e ↦ ap (λ b. cond b (grown h r size) (region h q)) (eq-eqb q r e)
+            ∙ sym (ap (λ z. get_or (set h.regions r (grown h r size)) z free_region) e ∙ get_or-set_same h.regions r (grown h r size) free_region (omega (arith, lt, count)))
       ]) in
       λ t. record {
         geometry = h.geometry;
@@ -76,16 +76,16 @@ module _ (h : Heap) (count : length h.regions ≡ h.geometry.n) (r size refs roo
       size_is : length (map (region_after h r size) (regions h)) ≡ h.geometry.n
       size_is = length-map-range_with_len (region_after h r size) 0 h.geometry.n
 
-      at : (q : ℕ) → q < h.geometry.n → get_or (map (region_after h r size) (regions h)) q free_region ≡ cond (eqb q r) (region_with Ordinary (top h r + size)) (region h q)
+      at : (q : ℕ) → q < h.geometry.n → get_or (map (region_after h r size) (regions h)) q free_region ≡ cond (eqb q r) (grown h r size) (region h q)
       at q l =
           get_or-map-range_with_len (region_after h r size) 0 h.geometry.n q q free_region l (omega arith)
-          ∙ (λ t. cond (plain t) (cond (is_in_run h r size q) (run_region h r size q) (region h q)) (cond (eqb q r) (region_with Ordinary (top h r + size)) (region h q)))
+          ∙ (λ t. cond (plain t) (cond (is_in_run h r size q) (run_region h r size q) (region h q)) (cond (eqb q r) (grown h r size) (region h q)))
 
   pub is_humongous_heap : is_humongous h size ≡ true → heap_with h r size refs root ≡ humongous_heap h r size refs root
   is_humongous_heap big = λ t. record {
     geometry = h.geometry;
     words = set h.words (end h r) (size * 2 ^ 32 + refs);
-    regions = map (λ q. cond (big t) (cond (is_in_run h r size q) (run_region h r size q) (region h q)) (cond (eqb q r) (region_with Ordinary (top h r + size)) (region h q))) (range_with_len 0 (sym count t));
+    regions = map (λ q. cond (big t) (cond (is_in_run h r size q) (run_region h r size q) (region h q)) (cond (eqb q r) (grown h r size) (region h q))) (range_with_len 0 (sym count t));
     roots = set h.roots root (suc (end h r));
     current = cond (big t) h.current (Some r);
   }

@@ -1,5 +1,5 @@
 -- Every command keeps a tracked image, and whole traces reply as the plain store does.
-use Rattle.std.proofs.Common.{◌≡◌, ◌≢◌, ℕ, zero, suc, ◌+◌, ◌-◌, ◌*◌, ◌^◌, ◌<◌, ◌≤◌, inl, inr, Bool, true, false, cond, List, [], length, get_or, replicate, flat_map, refl, sym, ap, subst, arith, ltb, lit<}
+use Rattle.std.proofs.Common.{◌≡◌, ◌≢◌, ℕ, zero, suc, ◌+◌, ◌-◌, ◌*◌, ◌^◌, ◌<◌, ◌≤◌, inl, inr, Bool, true, false, cond, List, [], length, get_or, replicate, flat_map, refl, sym, ap, subst, arith, ltb, lit<, ◌∙◌}
 use Rattle.std.specs.Prelude.{⊤, Some, None}
 use Rattle.std.proofs.lemmas.List.{length-replicate}
 use Rattle.std.proofs.lemmas.List.FromFn.{length-map-range_with_len}
@@ -117,6 +117,7 @@ module _ (g : Geometry) (roots : ℕ) (limits : IsWithinLimits g.w g.k g.n) (few
     region_count = length-replicate g.n free_region;
     root_count = subst (λ x. x ≤ 65536) (sym (length-replicate roots 0)) few;
     shaped = λ r lt. subst (λ (q : Region). IsBuiltBy (empty_image g roots).heap r q.kind) (sym (all_free r)) (ap (λ (q : Region). q.top) (all_free r));
+    pins = λ r lt t. absurd (let clash : false ≡ true = sym (ap (λ (q : Region). q.pinned) (all_free r)) ∙ t in cc);
     zero_above = λ r m lt le small. zeros_get (g.n * g.w) (r * g.w + m) 0;
     root_named = λ a c. absurd (no_zeros roots a (named-in (replicate roots 0) a (In-from_contains (root_targets (empty_image g roots).heap) a c)));
     slot_named = λ e c. absurd (no_refs e (In-from_contains (refs (empty_image g roots).heap) e c));

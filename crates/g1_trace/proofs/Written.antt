@@ -135,6 +135,7 @@ module _ (h : Heap) (valid : IsBuilt h) (a k y : ℕ) (here : Contains (objects 
       region_count = valid.region_count;
       root_count = valid.root_count;
       shaped = λ r lt. shaped_kept r (kind h r) lt refl (valid.shaped r lt);
+      pins = valid.pins;
       zero_above = λ r m lt le small. same_word (r * h.geometry.w + m) (λ e.
           let s = home h valid (object_at h a) here in
           let u = word_used h valid s.0 (object_at h a) k s.2 high in

@@ -102,11 +102,13 @@ fn run_region(region_words: u64, size: u64, i: u64) -> Region
         Region {
             kind,
             top: region_words as u32,
+            pinned: false,
         }
     } else {
         Region {
             kind,
             top: rest as u32,
+            pinned: false,
         }
     }
 }
@@ -150,13 +152,14 @@ fn place_ordinary(tracked: Tracked, r: u32, root: u64, size: u64, refs: u64) -> 
         mut roots,
         ..
     } = heap;
-    let top = regions[r as usize].top;
+    let Region { top, pinned, .. } = regions[r as usize];
     let at = u64::from(r) * geometry.region_words() + u64::from(top);
     words[at as usize] = size * REFS_RANGE + refs;
     roots[root as usize] = at + 1;
     regions[r as usize] = Region {
         kind: Kind::Ordinary,
         top: top + size as u32,
+        pinned,
     };
     let heap = Heap {
         geometry,

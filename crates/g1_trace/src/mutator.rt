@@ -168,6 +168,7 @@ impl Mutator {
         let free = Region {
             kind: Kind::Free,
             top: 0,
+            pinned: false,
         };
         let heap = Heap {
             geometry,

@@ -17,3 +17,13 @@ returns-clause-dead_owner c = refl
 pub returns-clause-dead_owner_after : goal.returns-clause-dead_owner_after
 unfolding u32 u64
 returns-clause-dead_owner_after c = refl
+
+pub returns-clause-version_two : goal.returns-clause-version_two
+unfolding u32 u64
+returns-clause-version_two c = refl
+
+pub returns-clause-pins : goal.returns-clause-pins
+returns-clause-pins c = refl
+
+pub returns-clause-moved_pins : goal.returns-clause-moved_pins
+returns-clause-moved_pins c = refl

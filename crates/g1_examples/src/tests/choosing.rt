@@ -26,7 +26,7 @@ fn may_be_live(heap: &Heap, live: &[u64]) -> bool
         return false;
     }
     for (region, bytes) in live.iter().enumerate() {
-        let Region { kind, top } = heap.region(region as u32);
+        let Region { kind, top, .. } = heap.region(region as u32);
         if matches!(kind, Kind::Ordinary) && *bytes > 8 * u64::from(top) {
             return false;
         }

@@ -158,6 +158,15 @@ fn a_root_names_the_new_place_byte_for_byte(rt: HostRuntime) -> Result<(), Fail>
 }
 
 #[test]
+fn a_text_of_version_one_becomes_one_of_version_two(rt: HostRuntime) -> Result<(), Fail> {
+    let bytes = bytes_of(rt.alloc(), ONE_OBJECT_IN_VERSION_ONE)?;
+    let settings = collecting(rt.alloc(), &[1], 1, 64)?;
+    let found = pause_bytes(&rt, rt.alloc(), &bytes, &settings, &Open)?;
+    assert!(rt; found == bytes_of(rt.alloc(), ONE_OBJECT_AFTER_BYTES)?);
+    Ok(())
+}
+
+#[test]
 fn an_outside_slot_names_the_new_place_byte_for_byte(rt: HostRuntime) -> Result<(), Fail> {
     let (before, after) = (OUTSIDE_SLOT_BYTES, OUTSIDE_SLOT_AFTER_BYTES);
     assert!(rt; becomes_bytes(&rt, rt.alloc(), outside_slot(), before, after)?);

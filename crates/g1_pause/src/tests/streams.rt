@@ -51,10 +51,10 @@ fn long_input_is_read_whole(rt: HostRuntime) -> Result<(), Fail> {
 fn bytes_pass_one_at_a_time(rt: HostRuntime) -> Result<(), Fail> {
     let alloc = rt.alloc();
     let bytes = text(alloc, one_object())?;
-    let reader = Stream::new(bytes.clone()?, 121, Trouble::Broken);
+    let reader = Stream::new(bytes.clone()?, 137, Trouble::Broken);
     let read = read_to_end(alloc, &mut FromReader::new(reader))?;
     assert_eq!(rt; read.as_slice(), bytes.as_slice());
-    let mut writer = ToWriter::new(Stream::new(Vec::new(alloc), 120, Trouble::Broken));
+    let mut writer = ToWriter::new(Stream::new(Vec::new(alloc), 136, Trouble::Broken));
     write_all(&mut writer, read.as_slice())?;
     assert_eq!(rt; writer.into_inner().bytes.as_slice(), bytes.as_slice());
     Ok(())

@@ -20,7 +20,7 @@ invariant_of-heap c =
     let used : c.index.result.now.top ≡ top i.heap c.args.r = ap (λ (x : Region). x.top) read in
     let w : c.region_words.result ≡ i.heap.geometry.w = c.region_words.ensures.value ∙ ap (λ (x : Heap). x.geometry.w) here in
     let at : c.from.result * c.region_words.result + c.from-2.result ≡ end i.heap c.args.r = (λ t. c.from.ensures t * w t + (c.from-2.ensures ∙ used) t) in
-    (ordinary_parts i c.args.r c.args.size c.args.refs c.args.root before remembered c.image.inside.log.keys (c.from.result * c.region_words.result + c.from-2.result) (c.index.result.now.top + c.args.size) same at (ap (λ x. x + c.args.size) used) c.requires.kept).image.heap
+    (ordinary_parts i c.args.r c.args.size c.args.refs c.args.root before remembered c.image.inside.log.keys (c.from.result * c.region_words.result + c.from-2.result) (c.index.result.now.top + c.args.size) c.index.result.now.pinned same at (ap (λ x. x + c.args.size) used) (ap (λ (x : Region). x.pinned) read) c.requires.kept).image.heap
 
 pub invariant_of-result : goal.invariant_of-result
 invariant_of-result c =
@@ -36,4 +36,4 @@ invariant_of-result c =
     let used : c.index.result.now.top ≡ top i.heap c.args.r = ap (λ (x : Region). x.top) read in
     let w : c.region_words.result ≡ i.heap.geometry.w = c.region_words.ensures.value ∙ ap (λ (x : Heap). x.geometry.w) here in
     let at : c.from.result * c.region_words.result + c.from-2.result ≡ end i.heap c.args.r = (λ t. c.from.ensures t * w t + (c.from-2.ensures ∙ used) t) in
-    (ordinary_parts i c.args.r c.args.size c.args.refs c.args.root before remembered c.image.inside.log.keys (c.from.result * c.region_words.result + c.from-2.result) (c.index.result.now.top + c.args.size) same at (ap (λ x. x + c.args.size) used) c.requires.kept).image
+    (ordinary_parts i c.args.r c.args.size c.args.refs c.args.root before remembered c.image.inside.log.keys (c.from.result * c.region_words.result + c.from-2.result) (c.index.result.now.top + c.args.size) c.index.result.now.pinned same at (ap (λ x. x + c.args.size) used) (ap (λ (x : Region). x.pinned) read) c.requires.kept).image
