@@ -74,7 +74,8 @@ pub fn status(fault: &Fault) -> u8 {
         | Fault::Kind(_)
         | Fault::Shape(_)
         | Fault::Reference(_)
-        | Fault::Card(_) => 3,
+        | Fault::Card(_)
+        | Fault::Flags(_) => 3,
         Fault::Uncovered(_) => 4,
         Fault::Set(_) | Fault::Room { .. } => 5,
         Fault::Memory | Fault::Device(_) => 6,

@@ -148,6 +148,7 @@ fn a_fault_is_one_write(rt: HostRuntime) -> Result<(), Fail> {
         (Fault::Device(Device::Input), "14: input", 6),
         (Fault::Device(Device::Output), "14: output", 6),
         (Fault::Line(9), "15: line 9", 2),
+        (Fault::Flags(9), "16: flags of region 9", 3),
     ] {
         let texts = Vec::new(alloc);
         let mut errors = Calls { alloc, texts };

@@ -18,7 +18,7 @@ impl Writing {
     /// is current.
     pub fn new(alloc: Global, sizes: [u32; 5]) -> Result<Writing, AllocError> {
         let mut writing = Writing {
-            bytes: Vec::from_slice(alloc, b"G1IMAGE1")?,
+            bytes: Vec::from_slice(alloc, b"G1IMAGE2")?,
         };
         writing.numbers(&sizes)?;
         writing.number(sizes[2])?;
@@ -40,10 +40,18 @@ impl Writing {
         self.bytes.extend_from_slice(&word.to_le_bytes())
     }
 
+    /// So many empty remembered sets.
+    pub fn no_cards(&mut self, sets: u32) -> Result<(), AllocError> {
+        for _set in 0..sets {
+            self.number(0)?;
+        }
+        Ok(())
+    }
+
     /// So many regions of a kind, with this top.
     pub fn regions(&mut self, count: u32, kind: u32, top: u32) -> Result<(), AllocError> {
         for _region in 0..count {
-            self.numbers(&[kind, top])?;
+            self.numbers(&[kind, top, 0])?;
         }
         Ok(())
     }

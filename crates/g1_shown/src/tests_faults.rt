@@ -12,7 +12,7 @@ fn a_dirty_card_in_a_free_region_is_told(rt: HostRuntime) -> Result<(), Fail> {
     // Region 0 has one object of one word; the cards 0 to 3 lie in it, and the heap has the cards 0 to 7.
     for (card, place) in [(4, 1), (7, 1), (8, 1), (u32::MAX, 1), (0, 1)] {
         let mut writing = Writing::new(alloc, [16, 4, 2, 0, 2])?;
-        writing.numbers(&[1, 1, 0, 0, 0, card, 0, 0, 0, 1])?;
+        writing.numbers(&[1, 1, 0, 0, 0, 0, 0, card, 0, 0, 0, 1])?;
         let told = decode(alloc, &writing.bytes).err();
         assert!(rt; told == Some(Fault::Card(Stand::Dirty(place))), "{card}");
     }
@@ -41,7 +41,7 @@ fn shared_with(alloc: Global, set: &[u32]) -> Result<Vec<u8>, AllocError> {
 /// remembered.
 fn humongous(alloc: Global) -> Result<Vec<u8>, AllocError> {
     let mut writing = Writing::new(alloc, [16, 4, 6, 1, 0])?;
-    writing.numbers(&[2, 16, 3, 16, 3, 8, 1, 2, 0, 0, 0, 0])?;
+    writing.numbers(&[2, 16, 0, 3, 16, 0, 3, 8, 0, 1, 2, 0, 0, 0, 0, 0, 0, 0])?;
     writing.word(1)?;
     writing.numbers(&[0; 6])?;
     writing.numbers(&[20, 40])?;

@@ -35,7 +35,7 @@ fn chain(alloc: Global) -> Result<Vec<u8>, AllocError> {
     for region in 0..48u32 {
         writing.numbers(&[1, 64 * (region + 1)])?;
     }
-    writing.regions(40, 0, 0)?;
+    writing.no_cards(80)?;
     writing.pair(0)?;
     for object in 1..CHAIN {
         writing.pair(2 * u64::from(object) - 1)?;
@@ -51,11 +51,11 @@ fn chain_after(alloc: Global) -> Result<Vec<u8>, AllocError> {
     writing.regions(1, 1, CHAIN_REST)?;
     writing.regions(30, 0, 0)?;
     writing.word(200_705)?;
-    writing.regions(25, 0, 0)?;
+    writing.no_cards(50)?;
     for region in 50..98u32 {
         writing.numbers(&[1, 64 * region - 1])?;
     }
-    writing.regions(15, 0, 0)?;
+    writing.no_cards(30)?;
     for place in 1..CHAIN {
         writing.pair(200_705 + 2 * u64::from(place))?;
     }

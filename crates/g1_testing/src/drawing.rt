@@ -83,7 +83,7 @@ fn dirty(sketch: &mut Sketch, words: &mut SplitAsciiWhitespace<'_>) -> Result<bo
     Ok(true)
 }
 
-/// region R KIND; those before it that no line tells are free, or hold the rest of a humongous object.
+/// region R KIND [pinned]; those before it that no line tells are free, or hold the rest of a humongous object.
 fn region(
     alloc: Global,
     sketch: &mut Sketch,
@@ -100,7 +100,14 @@ fn region(
         Some("humongous") => sketch.humongous(alloc)?,
         _ => return Ok(false),
     }
-    Ok(true)
+    match words.next() {
+        None => Ok(true),
+        Some("pinned") => {
+            sketch.pin();
+            Ok(true)
+        }
+        Some(_) => Ok(false),
+    }
 }
 
 /// remembered R cards CARD .., below the line of region R

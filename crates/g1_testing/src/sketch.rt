@@ -4,6 +4,7 @@ use std::alloc::{AllocError, Global};
 #[derive(Drop)]
 struct Part {
     kind: u32,
+    pinned: bool,
     remembered: Vec<u32>,
     words: Vec<u64>,
 }
@@ -61,6 +62,7 @@ impl Sketch {
     fn part(&mut self, alloc: Global, kind: u32) -> Result<(), AllocError> {
         self.parts.push(Part {
             kind,
+            pinned: false,
             remembered: Vec::new(alloc),
             words: Vec::new(alloc),
         })?;
@@ -80,6 +82,13 @@ impl Sketch {
     /// Goes on to the next region, where a humongous object starts. All its words are this region's.
     pub fn humongous(&mut self, alloc: Global) -> Result<(), AllocError> {
         self.part(alloc, HUMONGOUS)
+    }
+
+    /// Pins the last region.
+    pub fn pin(&mut self) {
+        if let Some(part) = self.parts.last_mut() {
+            part.pinned = true;
+        }
     }
 
     /// How many regions there are so far.
@@ -115,7 +124,14 @@ impl Sketch {
         self.words(data)
     }
 
-    /// The kind and the used words of each region. What is left of a humongous object goes on in the
+    fn flags(&self, region: usize) -> u32 {
+        match self.parts.get(region) {
+            Some(part) if part.pinned => 1,
+            _ => 0,
+        }
+    }
+
+    /// The kind, the used words and the flags of each region. What is left of a humongous object goes on in the
     /// regions behind it.
     fn table(&self, out: &mut Vec<u8>) -> Result<(), AllocError> {
         let width = self.region_words as usize;
@@ -128,14 +144,15 @@ impl Sketch {
             };
             push_number(out, kind)?;
             push_count(out, words.min(width))?;
+            push_number(out, self.flags(region))?;
             left = words.saturating_sub(width);
         }
         Ok(())
     }
 
-    /// The bytes of the image.
+    /// The bytes of the image, of version 2.
     pub fn text(&self, alloc: Global) -> Result<Vec<u8>, AllocError> {
-        let mut out = Vec::from_slice(alloc, b"G1IMAGE1")?;
+        let mut out = Vec::from_slice(alloc, b"G1IMAGE2")?;
         push_number(&mut out, self.region_words)?;
         push_number(&mut out, self.card_words)?;
         push_number(&mut out, self.regions)?;

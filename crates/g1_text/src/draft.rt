@@ -111,6 +111,7 @@ impl Draft {
         let free = Region {
             kind: Kind::Free,
             top: 0,
+            pinned: false,
         };
         for _ in self.regions.len() as u64..region {
             self.regions.push(free)?;
@@ -125,6 +126,7 @@ impl Draft {
         self.regions.push(Region {
             kind: Kind::Continuation,
             top: words as u32,
+            pinned: false,
         })?;
         Ok(())
     }

@@ -4,7 +4,7 @@ use std::alloc::{AllocError, Global};
 
 /// The bytes that tell what was read, good or not.
 pub(crate) fn packed(alloc: Global, draft: &Draft) -> Result<Vec<u8>, AllocError> {
-    let mut out = Vec::from_slice(alloc, b"G1IMAGE1")?;
+    let mut out = Vec::from_slice(alloc, b"G1IMAGE2")?;
     push_heading(&mut out, draft)?;
     push_table(&mut out, &draft.regions)?;
     push_words(&mut out, &draft.roots)?;
@@ -39,7 +39,8 @@ fn push_table(out: &mut Vec<u8>, regions: &[Region]) -> Result<(), AllocError> {
             Kind::HumongousFirst => 2,
             Kind::Continuation => 3,
         };
-        push_numbers(out, &[kind, region.top])?;
+        let flags = if region.pinned { 1 } else { 0 };
+        push_numbers(out, &[kind, region.top, flags])?;
     }
     Ok(())
 }

@@ -116,15 +116,16 @@ fn push_region(alloc: Global, text: &mut String, image: &Image, region: u32) -> 
     ensures memory { IfErr result (λ e. e ≡ Fault.Memory) }
 {
     let heap = image.heap();
-    let Region { kind, top, .. } = heap.region(region);
+    let Region { kind, top, pinned } = heap.region(region);
     let kind = kind_word(kind);
+    let pinned = if pinned { " pinned" } else { "" };
     let starts = objects_in(alloc, heap, region)?;
     let objects = starts.len();
     let remembered = image.remembered()[region as usize].as_slice();
     let cards = remembered.len();
     writeln!(
         text,
-        "region {region} {kind} top {top} objects {objects} cards {cards}"
+        "region {region} {kind} top {top} objects {objects} cards {cards}{pinned}"
     )?;
     if !remembered.is_empty() {
         write!(text, "remembered {region}")?;

@@ -160,7 +160,7 @@ impl Draft {
         Ok(())
     }
 
-    // region [NUMBER] KIND [top WORDS] [objects COUNT] [cards COUNT]
+    // region [NUMBER] KIND [top WORDS] [objects COUNT] [cards COUNT] [pinned]
     fn add_region(&mut self, words: Words<'_>, line: u64) -> Result<(), Refusal> {
         let mut words = words;
         let told = words.take_number();
@@ -174,9 +174,18 @@ impl Draft {
             cards: words.named("cards")?,
             found: 0,
         };
+        if kind == Kind::Ordinary && words.take("pinned") {
+            self.pin(region);
+        }
         words.end()?;
         self.lines.regions.push(told)?;
         Ok(())
+    }
+
+    fn pin(&mut self, region: usize) {
+        if let Some(region) = self.regions.get_mut(region) {
+            region.pinned = true;
+        }
     }
 
     // Adds a region of a kind, and those below it that no line names. Tells its number.
@@ -202,7 +211,11 @@ impl Draft {
             self.continue_run()?;
         } else {
             self.fill_up_to(number)?;
-            self.regions.push(Region { kind, top: 0 })?;
+            self.regions.push(Region {
+                kind,
+                top: 0,
+                pinned: false,
+            })?;
         }
         Ok(number as usize)
     }

@@ -69,7 +69,7 @@ Statuses:
   2  wrong words
   3  a file is no image
   4  a slot of AFTER is not covered
-  5  a region of the set is not there, not ordinary, or named twice
+  5  a region of the set is not there, not ordinary, pinned, or named twice
   6  no memory, or a read or a write that failed
   7  a file that can't be opened
 
@@ -102,7 +102,7 @@ Statuses:
   2  wrong words, or a region or an object that the image doesn't have
   3  a file is no image, or a line is not as it has to be
   4  a slot is not covered
-  5  a region of the set is not there, not ordinary, or named twice
+  5  a region of the set is not there, not ordinary, pinned, or named twice
   6  no memory, or a read or a write that failed
   7  a file that can't be opened
 

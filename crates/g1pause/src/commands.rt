@@ -4,7 +4,7 @@ use crate::options::{NAME, Pause, Request, Sharing, parse};
 use crate::show::table;
 use g1_choose::Cost;
 use g1_command::{Refusal, deliver, read_all, refuse};
-use g1_image::{Image, decode, encode};
+use g1_image::{Image, decode, encode_into};
 use g1_pause::{Choice, FromReader, Settings, ToWriter, pause_run};
 use g1_rem::{Tracked, verify};
 use g1_trace::run_text;
@@ -114,12 +114,19 @@ fn show<T: Threads + Sync, R: Read>(
     repack: bool,
     reader: &mut R,
 ) -> Result<Vec<u8>, Fault> {
-    let image = read_image(alloc, reader)?;
     if repack {
-        encode(alloc, &image)
-    } else {
-        Ok(table(rt, alloc, settings, &image)?.into_bytes())
+        return repacked(alloc, reader);
     }
+    let image = read_image(alloc, reader)?;
+    Ok(table(rt, alloc, settings, &image)?.into_bytes())
+}
+
+// The text of the image that was read, in the room of the bytes that told it.
+fn repacked<R: Read>(alloc: Global, reader: &mut R) -> Result<Vec<u8>, Fault> {
+    let mut text = read_all(alloc, reader)?;
+    let image = decode(alloc, &text)?;
+    encode_into(&mut text, &image)?;
+    Ok(text)
 }
 
 fn check<T: Threads + Sync, R: Read>(

@@ -85,12 +85,13 @@ fn lines(alloc: Global, image: &Image, from: u32, to: u32) -> Result<String, Fau
     let heap = image.heap();
     let mut text = String::new(alloc);
     for region in from..to {
-        let Region { kind, top, .. } = heap.region(region);
+        let Region { kind, top, pinned } = heap.region(region);
+        let pinned = if pinned { " pinned" } else { "" };
         let objects = objects_in(alloc, heap, region)?.len();
         let cards = image.remembered()[region as usize].len();
         writeln!(
             text,
-            "region {region} {kind} top {top} objects {objects} cards {cards}"
+            "region {region} {kind} top {top} objects {objects} cards {cards}{pinned}"
         )?;
     }
     Ok(text)

@@ -156,12 +156,29 @@ fn push_token(image: &mut Vec<u8>, token: &str) -> Result<(), Fail> {
     Ok(())
 }
 
+// The text of version 1.
 fn image_of(alloc: Global, tokens: &str) -> Result<Vec<u8>, Fail> {
     let mut image = Vec::from_slice(alloc, b"G1IMAGE1")?;
     for token in tokens.split_ascii_whitespace() {
         push_token(&mut image, token)?;
     }
     Ok(image)
+}
+
+// The text of version 2 of the same image: behind the two numbers of a region stand its flags, which are 0.
+fn text_of(alloc: Global, tokens: &str) -> Result<Vec<u8>, Fail> {
+    let mut text = Vec::from_slice(alloc, b"G1IMAGE2")?;
+    let mut table_end = 6;
+    for (place, token) in tokens.split_ascii_whitespace().enumerate() {
+        push_token(&mut text, token)?;
+        if place == 2 {
+            table_end = 6 + 2 * token.parse::<u8>()? as usize;
+        }
+        if place > 6 && place % 2 == 1 && place < table_end {
+            text.extend_from_slice(&[0; 4])?;
+        }
+    }
+    Ok(text)
 }
 
 // Runs the program on words that are separated by spaces, and gives its status and what it wrote to
@@ -328,7 +345,7 @@ fn collects_what_is_asked(rt: HostRuntime) -> Result<(), Fail> {
         ),
     ] {
         let image = image_of(alloc, before)?;
-        let answer = image_of(alloc, after)?;
+        let answer = text_of(alloc, after)?;
         expect_answer(&rt, alloc, line, image.as_slice(), answer.as_slice())?;
     }
     Ok(())
@@ -357,7 +374,7 @@ fn refuses_what_it_cannot_collect(rt: HostRuntime) -> Result<(), Fail> {
 }
 
 #[test]
-fn packs_again_byte_for_byte(rt: HostRuntime) -> Result<(), Fail> {
+fn packs_again_in_version_two(rt: HostRuntime) -> Result<(), Fail> {
     let alloc = rt.alloc();
     for tokens in [
         ONE_OBJECT,
@@ -367,14 +384,94 @@ fn packs_again_byte_for_byte(rt: HostRuntime) -> Result<(), Fail> {
         DIRTY,
         HUMONGOUS,
     ] {
-        let image = image_of(alloc, tokens)?;
-        expect_answer(
-            &rt,
-            alloc,
-            "show --repack",
-            image.as_slice(),
-            image.as_slice(),
-        )?;
+        let text = text_of(alloc, tokens)?;
+        for image in [image_of(alloc, tokens)?, text.clone()?] {
+            expect_answer(
+                &rt,
+                alloc,
+                "show --repack",
+                image.as_slice(),
+                text.as_slice(),
+            )?;
+        }
+    }
+    Ok(())
+}
+
+// `ONE_OBJECT_MOVED` in version 2, with other kinds and flags: each region's kind, top and flags.
+fn flagged(alloc: Global, table: [u32; 12]) -> Result<Vec<u8>, Fail> {
+    let mut image = text_of(alloc, ONE_OBJECT_MOVED)?;
+    for (place, number) in table.iter().enumerate() {
+        image[32 + 4 * place..36 + 4 * place].copy_from_slice(&number.to_le_bytes());
+    }
+    Ok(image)
+}
+
+#[test]
+fn names_the_fault_of_flags(rt: HostRuntime) -> Result<(), Fail> {
+    let alloc = rt.alloc();
+    for (table, fault) in [
+        (
+            [1, 4, 0, 0, 0, 2, 0, 0, 0, 0, 0, 0],
+            "16: flags of region 1",
+        ),
+        (
+            [1, 4, 0, 0, 0, 0, 0, 0, 1, 0, 0, 0],
+            "16: flags of region 2",
+        ),
+        ([1, 4, 0, 0, 0, 2, 4, 0, 0, 0, 0, 0], "5: kind of region 2"),
+        ([1, 5, 0, 0, 0, 2, 0, 0, 0, 0, 0, 0], "3: short"),
+        (
+            [2, 4, 1, 0, 0, 0, 0, 0, 0, 0, 0, 0],
+            "16: flags of region 0",
+        ),
+    ] {
+        let image = flagged(alloc, table)?;
+        expect_malformed(&rt, alloc, image.as_slice(), fault)?;
+    }
+    expect_malformed(&rt, alloc, b"G1IMAGE3", "1: magic")?;
+    expect_malformed(&rt, alloc, b"G1IMAGE", "3: short")?;
+    Ok(())
+}
+
+#[test]
+fn a_pinned_region_is_told_and_stays(rt: HostRuntime) -> Result<(), Fail> {
+    let alloc = rt.alloc();
+    let pinned = flagged(alloc, [1, 4, 1, 0, 0, 0, 0, 0, 0, 0, 0, 0])?;
+    let table = "heap 16 4 4 roots 1 dirty 0 current none\n\
+        region 0 ordinary top 4 objects 1 cards 0 pinned\n\
+        region 1 free top 0 objects 0 cards 0\n\
+        region 2 free top 0 objects 0 cards 0\n\
+        region 3 free top 0 objects 0 cards 0\n";
+    expect_answer(&rt, alloc, "show", pinned.as_slice(), table.as_bytes())?;
+    expect_answer(&rt, alloc, "pause", pinned.as_slice(), pinned.as_slice())?;
+    let told = "10: set region 0";
+    expect_fault(&rt, alloc, "pause 0", pinned.as_slice(), 5, told)?;
+    // The first region of DEAD_OWNER is pinned; its slot follows the object that moves.
+    let mut owner = text_of(alloc, DEAD_OWNER)?;
+    let mut moved = text_of(alloc, DEAD_OWNER_MOVED)?;
+    owner[40] = 1;
+    moved[40] = 1;
+    expect_answer(&rt, alloc, "pause 1", owner.as_slice(), moved.as_slice())?;
+    Ok(())
+}
+
+#[test]
+fn a_budget_buys_no_pinned_region(rt: HostRuntime) -> Result<(), Fail> {
+    let alloc = rt.alloc();
+    let mut image = text_of(alloc, THREE_REGIONS)?;
+    image[40] = 1;
+    for (line, answer) in [
+        (
+            "choose --fixed 10 --budget 35",
+            "region 1 cost 16 garbage 16 taken\nregion 2 cost 9 garbage 8 taken\ntotal 35\n",
+        ),
+        (
+            "choose --fixed 10 --budget 34",
+            "region 1 cost 16 garbage 16 taken\nregion 2 cost 9 garbage 8 left\ntotal 26\n",
+        ),
+    ] {
+        expect_answer(&rt, alloc, line, image.as_slice(), answer.as_bytes())?;
     }
     Ok(())
 }
@@ -401,7 +498,7 @@ fn names_the_first_fault(rt: HostRuntime) -> Result<(), Fail> {
 #[test]
 fn a_changed_byte_is_refused_or_kept(rt: HostRuntime) -> Result<(), Fail> {
     let alloc = rt.alloc();
-    let mut image = image_of(alloc, DEAD_OWNER)?;
+    let mut image = text_of(alloc, DEAD_OWNER)?;
     for at in 0..image.len() {
         let was = image[at];
         for byte in 0..=255u8 {
@@ -572,7 +669,7 @@ fn devices_fail_at_each_byte(rt: HostRuntime) -> Result<(), Fail> {
     let alloc = rt.alloc();
     let image = image_of(alloc, ONE_OBJECT)?;
     for (line, tokens) in [("show --repack", ONE_OBJECT), ("pause 1", ONE_OBJECT_MOVED)] {
-        let answer = image_of(alloc, tokens)?;
+        let answer = text_of(alloc, tokens)?;
         expect_input_faults(&rt, alloc, line, image.as_slice())?;
         expect_output_faults(&rt, alloc, line, image.as_slice(), answer.as_slice())?;
     }
