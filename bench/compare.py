@@ -39,7 +39,7 @@ from hostile import IMAGES
 
 HERE = pathlib.Path(__file__).resolve().parent
 MB, MS = 1_000_000, 1000
-MAGIC = b"G1IMAGE1"
+MAGIC = b"G1IMAGE"
 BEGIN, END = "<!-- figures begin -->", "<!-- figures end -->"
 HUGE = {"GLIBC_TUNABLES": "glibc.malloc.hugetlb=1"}
 CUT = "cut off"

@@ -138,10 +138,10 @@ class Heap:
 def write_image(file, sizes, regions, roots, log, remembered, words):
     """Sizes are the words of a region and of a card, regions have a kind and a top each, words are those of the heap."""
     width, card_words = sizes
-    file.write(b"G1IMAGE1")
+    file.write(b"G1IMAGE2")
     file.write(struct.pack("<6I", width, card_words, len(regions), len(roots), len(log), len(regions)))
     for kind, top in regions:
-        file.write(struct.pack("<2I", kind, top))
+        file.write(struct.pack("<3I", kind, top, 0))
     write_array(file, array.array("Q", roots))
     write_array(file, array.array("I", log))
     for cards in remembered:

@@ -1,7 +1,7 @@
 #!/usr/bin/env python3
 """Makes the images of this folder that show a refusal or a state: make.py FOLDER
 
-Writes dirty_card.img, current.img and no_room.img into FOLDER, and the images that are refused into FOLDER/refused.
+Writes dirty_card.img, current.img, no_room.img, pinned.img and version_one.img into FOLDER, and the images that are refused into FOLDER/refused.
 examples/README.md says what each one shows. The images here were made by `examples/make.py examples`.
 """
 import argparse
@@ -15,14 +15,17 @@ class Heap:
     """A small heap as its parts, in the order of the file. Regions have 16 words and cards 4 words."""
 
     def __init__(self, regions, tables=None, roots=(), log=(), sets=None, words=(), current=None):
-        self.regions, self.tables = regions, tables or {}  # a region's kind and top
+        self.regions, self.tables = regions, tables or {}  # a region's kind, top, and flags where they are not 0
         self.roots, self.log, self.sets, self.words = roots, log, sets or {}, words
         self.current = regions if current is None else current
 
-    def data(self, magic=b"G1IMAGE1", region_words=16, card_words=4):
+    def data(self, magic=b"G1IMAGE2", region_words=16, card_words=4):
         parts = [magic, struct.pack("<6I", region_words, card_words, self.regions, len(self.roots), len(self.log),
                                     self.current)]
-        parts += [struct.pack("<2I", *self.tables.get(region, (FREE, 0))) for region in range(self.regions)]
+        numbers = 2 if magic == b"G1IMAGE1" else 3
+        for region in range(self.regions):
+            entry = (*self.tables.get(region, (FREE, 0)), 0)[:numbers]
+            parts.append(struct.pack(f"<{numbers}I", *entry))
         parts.append(struct.pack(f"<{len(self.roots)}Q", *self.roots))
         parts.append(struct.pack(f"<{len(self.log)}I", *self.log))
         for region in range(self.regions):
@@ -41,9 +44,9 @@ def one_object(root=17, kind_of_two=FREE):
     return Heap(4, {1: (ORDINARY, 4), 2: (kind_of_two, 0)}, roots=[root], words=[header(4, 1), 0, 7, 9])
 
 
-def two_regions(slot=17, **others):
+def two_regions(slot=17, flags=(0, 0), **others):
     """0 = 2/1 (16), which nothing names, and 16 = 3/0 1 2."""
-    return Heap(4, {0: (ORDINARY, 2), 1: (ORDINARY, 3)}, words=[header(2, 1), slot, header(3, 0), 1, 2], **others)
+    return Heap(4, {0: (ORDINARY, 2, flags[0]), 1: (ORDINARY, 3, flags[1])}, words=[header(2, 1), slot, header(3, 0), 1, 2], **others)
 
 
 def accepted():
@@ -52,6 +55,8 @@ def accepted():
     full = Heap(3, {0: (ORDINARY, 12), 1: (ORDINARY, 5)}, roots=[1, 17], log=[0],
                 words=[header(12, 0), *[0] * 11, header(5, 0), *[0] * 4])
     yield "no_room.img", full.data()
+    yield "pinned.img", two_regions(flags=(1, 0), sets={1: [0]}).data()
+    yield "version_one.img", one_object().data(magic=b"G1IMAGE1")
 
 
 def refused():
@@ -60,6 +65,7 @@ def refused():
     yield "short.img", one_object().data()[:-1]
     yield "trailing.img", one_object().data() + b"\0"
     yield "kind.img", one_object(kind_of_two=4).data()
+    yield "flags.img", two_regions(flags=(0, 2), sets={1: [0]}).data()
     yield "shape.img", Heap(4, {0: (ORDINARY, 13)}, words=[header(13, 0), *[0] * 12]).data()
     yield "root.img", one_object(root=18).data()
     yield "slot.img", two_regions(slot=18, sets={1: [0]}).data()

@@ -5,7 +5,7 @@ It stands apart from the program that the scripts try. docs/IMAGE.md has the for
 import struct
 
 FREE, ORDINARY, FIRST, CONTINUATION = range(4)
-MAGIC = b"G1IMAGE1"
+MAGIC = b"G1IMAGE2"
 NULL = 0
 
 
@@ -14,7 +14,7 @@ class Image:
 
     def __init__(self, region_words, card_words, regions):
         self.region_words, self.card_words, self.regions = region_words, card_words, regions
-        self.kinds, self.tops = [FREE] * regions, [0] * regions
+        self.kinds, self.tops, self.pinned = [FREE] * regions, [0] * regions, [False] * regions
         self.words = [0] * (regions * region_words)
         self.roots, self.log, self.current = [], [], None
         self.sets = [[] for _ in range(regions)]
@@ -22,6 +22,7 @@ class Image:
     def copy(self):
         other = Image(self.region_words, self.card_words, self.regions)
         other.kinds, other.tops, other.words = self.kinds[:], self.tops[:], self.words[:]
+        other.pinned = self.pinned[:]
         other.roots, other.log, other.current = self.roots[:], self.log[:], self.current
         other.sets = [cards[:] for cards in self.sets]
         return other
@@ -78,8 +79,8 @@ class Image:
         current = self.regions if self.current is None else self.current
         out = [MAGIC, struct.pack("<6I", self.region_words, self.card_words, self.regions, len(self.roots),
                                   len(self.log), current)]
-        for kind, top in zip(self.kinds, self.tops):
-            out.append(struct.pack("<2I", kind, top))
+        for kind, top, pinned in zip(self.kinds, self.tops, self.pinned):
+            out.append(struct.pack("<3I", kind, top, pinned))
         out.append(struct.pack(f"<{len(self.roots)}Q", *self.roots))
         out.append(struct.pack(f"<{len(self.log)}I", *self.log))
         for cards in self.sets:
@@ -102,8 +103,11 @@ def from_bytes(data):
 
     region_words, card_words, regions, roots, dirty, current = take(6, "I")
     image = Image(region_words, card_words, regions)
-    table = take(2 * regions, "I")
-    image.kinds, image.tops = table[::2], table[1::2]
+    numbers = 3 if data.startswith(MAGIC) else 2
+    table = take(numbers * regions, "I")
+    image.kinds, image.tops = table[::numbers], table[1::numbers]
+    if numbers == 3:
+        image.pinned = [flags == 1 for flags in table[2::3]]
     image.roots, image.log = take(roots, "Q"), take(dirty, "I")
     image.current = None if current == regions else current
     image.sets = [take(take(1, "I")[0], "I") for _ in range(regions)]
@@ -127,6 +131,7 @@ def drawn(rng, covered=False):
         else:
             place_ordinary(rng, image, region)
             region += 1
+    image.pinned = [kind == ORDINARY and rng.random() < 0.2 for kind in image.kinds]
     link(rng, image)
     image.make_exact()
     if not covered:

@@ -403,11 +403,11 @@ class Image:
             slot += 1
 
     def write(self, file):
-        file.write(b"G1IMAGE1")
+        file.write(b"G1IMAGE2")
         file.write(struct.pack("<6I", self.region_words, self.card_words, self.regions, len(self.roots), 0,
                                self.regions))
         for kind, top in zip(self.kinds, self.tops):
-            file.write(struct.pack("<2I", kind, top))
+            file.write(struct.pack("<3I", kind, top, 0))
         file.write(struct.pack(f"<{len(self.roots)}Q", *self.roots))
         for held in self.cards:
             rising = sorted(set(held))  # a humongous object stands above some that come after it

@@ -5,7 +5,7 @@ Nothing here looks at how the program reads.
 """
 import struct
 
-MAGIC = b"G1IMAGE1"
+MAGIC = b"G1IMAGE"  # and the version's digit
 FREE, ORDINARY, FIRST, NEXT = range(4)
 MOST_WORDS = 1 << 24
 
@@ -37,11 +37,27 @@ class Parts:
         return list(struct.unpack(f"<{count}{form}", part))
 
 
+def version(data):
+    """1 or 2, of the bytes that are there; 2 where they end before the digit."""
+    magics = {number: MAGIC + b"%d" % number for number in (1, 2)}
+    for number, magic in magics.items():
+        if data[:8] == magic[:len(data)]:
+            return number if len(data) >= 8 else 2
+    return refuse(1, "magic")
+
+
+def in_version_two(data):
+    """The text of version 2 of the image whose text of version 1 or 2 this is."""
+    if data[7:8] == b"2":
+        return data
+    end = 32 + 8 * struct.unpack_from("<I", data, 16)[0]
+    table = b"".join(data[at:at + 8] + bytes(4) for at in range(32, end, 8))
+    return MAGIC + b"2" + data[8:32] + table + data[end:]
+
+
 def read(data):
-    """The image of a text: its sizes, regions, roots, log, sets and words by address."""
-    for there, wanted in zip(data, MAGIC):
-        if there != wanted:
-            refuse(1, "magic")
+    """The image of a text: its sizes, regions (kind, top, flags), roots, log, sets and words by address."""
+    numbers = 1 + version(data)
     if len(data) < 32:
         refuse(3, "short")
     w, k, n, roots, dirty, current = struct.unpack("<6I", data[8:32])
@@ -49,12 +65,13 @@ def read(data):
     if not sizes or roots > 65536 or current > n:
         refuse(2, "geometry")
     parts = Parts(data[32:])
-    table = parts.take(2 * n, "I")
-    regions = list(zip(table[::2], table[1::2]))
+    table = parts.take(numbers * n, "I")
+    flags = table[2::3] if numbers == 3 else [0] * n
+    regions = list(zip(table[::numbers], table[1::numbers], flags))
     named = parts.take(roots, "Q")
     log = parts.take(dirty, "I")
     sets = [parts.take(parts.take(1, "I")[0], "I") for _ in range(n)]
-    used = [parts.take(top, "Q") for _, top in regions]
+    used = [parts.take(top, "Q") for _, top, _ in regions]
     if parts.at != len(parts.data):
         refuse(4, "trailing")
     return w, k, n, regions, named, log, sets, used, current
@@ -78,7 +95,7 @@ def tiles(words, w):
 
 def has_shape(r, w, n, regions, used):
     """Whether a region keeps the rules on tops, objects and runs."""
-    kind, top = regions[r]
+    kind, top, _ = regions[r]
     if kind == FREE:
         return top == 0
     if not 1 <= top <= w:
@@ -102,7 +119,7 @@ def has_shape(r, w, n, regions, used):
 def objects(w, regions, used):
     """Each object's address, size and refs, by address."""
     found = []
-    for r, (kind, _) in enumerate(regions):
+    for r, (kind, _, _) in enumerate(regions):
         offsets = tiles(used[r], w) if kind == ORDINARY else [0] if kind == FIRST else []
         found += [(r * w + offset, *header(used[r][offset])) for offset in offsets]
     return found
@@ -134,9 +151,12 @@ def fault_of(data, cover):
     """None where the bytes are an image's text (and it is covered), else the fault."""
     try:
         w, k, n, regions, named, log, sets, used, current = read(data)
-        for r, (kind, _) in enumerate(regions):
+        for r, (kind, _, _) in enumerate(regions):
             if kind > 3:
                 refuse(5, f"kind of region {r}")
+        for r, (kind, _, flags) in enumerate(regions):
+            if flags > 1 or flags == 1 and kind != ORDINARY:
+                refuse(16, f"flags of region {r}")
         for r in range(n):
             if not has_shape(r, w, n, regions, used) or (r == current and regions[r][0] != ORDINARY):
                 refuse(6, f"shape of region {r}")
@@ -180,4 +200,4 @@ def graph(data):
 
 
 def free_regions(data):
-    return {r for r, (kind, top) in enumerate(read(data)[3]) if kind == FREE and top == 0}
+    return {r for r, (kind, top, _) in enumerate(read(data)[3]) if kind == FREE and top == 0}

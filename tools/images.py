@@ -1,6 +1,9 @@
 """Small image texts, written as tokens: N is a number of 4 bytes, =N a word, S/R the header of an object of S words
-with R references, C*T stands C times for T. The magic stands before them. Their values are written by hand."""
+with R references, C*T stands C times for T. The magic stands before them. Their values are written by hand, without
+flags, as in version 1; the texts are of version 2."""
 import struct
+
+from image_text import in_version_two
 
 
 def packed(token):
@@ -14,7 +17,7 @@ def packed(token):
 
 
 def image(tokens):
-    return b"G1IMAGE1" + b"".join(packed(token) for token in tokens.split())
+    return in_version_two(b"G1IMAGE1" + b"".join(packed(token) for token in tokens.split()))
 
 
 ONE_OBJECT = image("16 4 4 1 0 4  0 0 1 4 0 0 0 0  =17  4*0  4/1 =0 =7 =9")
@@ -37,7 +40,7 @@ NO_ROOM = image("16 4 3 2 1 3  1 12 1 5 0 0  =1 =17  0  3*0  12/0 11*=0 5/0 4*=0
 HUMONGOUS = image("16 4 6 1 0 6  2 16 3 16 3 8 1 2 4*0  =1  3*0 1 4 0 0  40/20 16*=0 =49 22*=0 2/0 =4")
 HUMONGOUS_WITHOUT_CARDS = image("16 4 6 1 0 6  2 16 3 16 3 8 1 2 4*0  =1  6*0  40/20 16*=0 =49 22*=0 2/0 =4")
 HUMONGOUS_AFTER = image("16 4 6 1 0 6  2 16 3 16 3 8 2*0 1 2 2*0  =1  4*0 1 4 0  40/20 16*=0 =65 22*=0 2/0 =4")
-MANY_DIRTY = b"G1IMAGE1" + struct.pack("<6I", 16, 4, 4, 0, (1 << 32) - 1, 4)
+MANY_DIRTY = b"G1IMAGE2" + struct.pack("<6I", 16, 4, 4, 0, (1 << 32) - 1, 4)
 TRACE = b"""heap 16 4 4 3
 new 0 1 1
 new 1 0 4

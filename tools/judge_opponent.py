@@ -82,7 +82,7 @@ class Judge:
     def case(self, name, rng):
         """One heap and one set. False where there is no set, or no room."""
         before = drawn(rng)
-        ordinary = [r for r in range(before.regions) if before.kinds[r] == ORDINARY]
+        ordinary = [r for r in range(before.regions) if before.kinds[r] == ORDINARY and not before.pinned[r]]
         if not ordinary or FREE not in before.kinds:
             return False
         chosen = rng.sample(ordinary, rng.randint(1, min(4, len(ordinary))))

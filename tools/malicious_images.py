@@ -3,11 +3,11 @@
 
 Makes COUNT images (default 50,000) from a seed (default 1), most of them broken on purpose, and asks the built program
 for each: `show --repack`, or `check` for one in three. What has to come is told by image_text.py, an independent
-reading of docs/IMAGE.md: for an image the very bytes, else the fault of the first stage that finds one.
+reading of docs/IMAGE.md: for an image its text of version 2, else the fault of the first stage that finds one.
 
 A good image is made first, of ordinary regions, runs of humongous objects, references, roots, remembered cards and
 dirty cards. Then none, one, two or three of the wrongs below are done to it, each at a random place: a number of the
-heading at each of its limits, kinds and tops that lie, headers that end in the wrong place, runs that overlap or are
+heading at each of its limits, kinds, tops and flags that lie, headers that end in the wrong place, runs that overlap or are
 cut, references into headers, data, slots, continuations and free regions, cards of every wrong kind, counts whose
 bytes aren't there, bytes cut off, added or changed. Two wrongs at once show the order of the stages. At the end it
 tells how often each fault was met, and fails if one was never met. The last line is 'N passed, M failed'.
@@ -20,7 +20,7 @@ import subprocess
 import sys
 from concurrent.futures import ThreadPoolExecutor
 
-from image_text import FIRST, FREE, MAGIC, NEXT, ORDINARY, fault_of, header
+from image_text import FIRST, FREE, MAGIC, NEXT, ORDINARY, fault_of, header, in_version_two
 
 
 # The images. An `Image` may be wrong in any way; `text` writes down what it holds.
@@ -29,7 +29,8 @@ from image_text import FIRST, FREE, MAGIC, NEXT, ORDINARY, fault_of, header
 class Image:
     def __init__(self, chance):
         self.chance = chance
-        self.magic = MAGIC
+        self.version = chance.choice([1, 2])
+        self.magic = MAGIC + b"%d" % self.version
         self.w = chance.choice([16, 16, 16, 16, 32, 64])
         self.k = chance.choice([k for k in (4, 8, 16, 32, 64) if k <= self.w])
         self.n = chance.randint(1, 7)
@@ -37,6 +38,7 @@ class Image:
         self.words = [[] for _ in range(self.n)]
         self.objects = []
         self.fill()
+        self.flags = [int(kind == ORDINARY and chance.random() < 0.3) for kind in self.kinds]
         self.roots = [self.target() for _ in range(chance.randint(0, 4))]
         self.link()
         ordinary = [r for r in range(self.n) if self.kinds[r] == ORDINARY]
@@ -113,7 +115,8 @@ class Image:
         for place, number in self.numbers.items():
             heading[place] = number
         out = [self.magic, struct.pack("<6I", *heading)]
-        out += [struct.pack("<2I", kind, top) for kind, top in zip(self.kinds, self.tops)]
+        table = zip(self.kinds, self.tops, self.flags)
+        out += [struct.pack(f"<{1 + self.version}I", *entry[:1 + self.version]) for entry in table]
         out += [struct.pack(f"<{len(self.roots)}Q", *self.roots), struct.pack(f"<{len(self.log)}I", *self.log)]
         for r, cards in enumerate(self.sets):
             count = (self.counts or {}).get(r, len(cards))
@@ -149,15 +152,21 @@ def wrong_size_limits(image):
 
 
 def wrong_magic(image):
-    at = image.chance.randrange(8)
+    at, magic = image.chance.randrange(8), image.magic
     image.magic = image.chance.choice([
-        MAGIC[:at] + bytes([MAGIC[at] ^ 1 << image.chance.randrange(8)]) + MAGIC[at + 1:], MAGIC[:at], b"G1IMAGE2", b"", MAGIC.lower(),
+        magic[:at] + bytes([magic[at] ^ 1 << image.chance.randrange(8)]) + magic[at + 1:], magic[:at], b"G1IMAGE3", b"", magic.lower(),
+        MAGIC + b"%d" % (3 - image.version),
     ])
 
 
 def wrong_kind(image):
     r = image.chance.randrange(image.n)
     image.kinds[r] = image.chance.choice([0, 1, 2, 3, 4, 5, 255, 256, 1 << 31, (1 << 32) - 1])
+
+
+def wrong_flags(image):
+    r = image.chance.randrange(image.n)
+    image.flags[r] = image.chance.choice([0, 1, 1, 2, 3, 256, 1 << 31, (1 << 32) - 1])
 
 
 def wrong_top(image):
@@ -264,7 +273,7 @@ def dropped_card(image):
         image.log.pop()
 
 
-WRONGS = [wrong_heading, wrong_size_limits, wrong_magic, wrong_kind, wrong_top, top_with_words, wrong_header, overlapping_runs, cut_run,
+WRONGS = [wrong_heading, wrong_size_limits, wrong_magic, wrong_kind, wrong_flags, wrong_flags, wrong_top, top_with_words, wrong_header, overlapping_runs, cut_run,
           free_with_words, loose_continuation, wrong_reference, wrong_reference, wrong_card, wrong_card, turned_set, wrong_count,
           dropped_card, dropped_card]
 
@@ -300,7 +309,7 @@ def answer(binary, data, cover):
 def wanted(data, cover):
     fault = fault_of(data, cover)
     if fault is None:
-        return (b"covered\n" if cover else data), b"", 0
+        return (b"covered\n" if cover else in_version_two(data)), b"", 0
     status = 4 if fault.startswith("9:") else 3
     return b"", f"g1pause: fault {fault}\n".encode(), status
 

@@ -4,7 +4,7 @@
 Shows that `print` and `make` go there and back, on each image (default: examples/*.img) and on N random small
 ones (1000). Of each it is asked that
 
-- `print` and then `make` gives the image's bytes;
+- `print` and then `make` gives the image's bytes, of version 2;
 - lines in which all is left out that may be (addresses, tops, counts, numbers of roots, free regions that others
   follow, continuations, and remembered sets where they are what the references say) make the same bytes, and
   `print` then gives the lines in their full form;
@@ -21,6 +21,7 @@ import sys
 import tempfile
 
 from heap_image import drawn, from_bytes
+from image_text import in_version_two
 
 EXAMPLES = pathlib.Path(__file__).resolve().parent.parent / "examples"
 
@@ -37,7 +38,7 @@ def shortened(lines, exact):
         elif words[0] == "root":
             out.append(f"root {words[2]}")
         elif words[0] == "region" and words[2] in ("ordinary", "humongous"):
-            out.append(f"\tregion {words[1]}  {words[2]} ")
+            out.append(f"\tregion {words[1]}  {words[2]} {'pinned' if words[-1] == 'pinned' else ''}")
         elif words[0] == "object":
             out.append(" ".join(["object"] + words[2:]))
         elif words[0] == "dirty" or words[0] == "remembered" and not exact:
@@ -110,7 +111,7 @@ def main():
     with tempfile.TemporaryDirectory() as folder:
         tries = Tries(options, pathlib.Path(folder))
         for path in [pathlib.Path(x) for x in options.images] or sorted(EXAMPLES.glob("*.img")):
-            tries.image(path.name, path.read_bytes(), True)
+            tries.image(path.name, in_version_two(path.read_bytes()), True)
         for number in range(options.random):
             tries.image(f"random image {number}", drawn(rng).to_bytes(), number % 50 == 0)
     print(f"{tries.passed} passed, {tries.failed} failed")

@@ -30,12 +30,12 @@ STEPS = 40
 def chain(before):
     """An image of 2 MB, whose answer is as long: 256 full regions of pairs, each of which names the next. Nothing but
     where they stand differs: the pause of all of them moves them into the 256 free regions, in the same order."""
-    used, free, empty = struct.pack("<2I", 1, 1024) * 256, struct.pack("<2I", 0, 0) * 256, bytes(4 * 256)
+    used, free, empty = struct.pack("<3I", 1, 1024, 0) * 256, bytes(12 * 256), bytes(4 * 256)
     shift = 0 if before else 256
     # The last pair of a region names the first of the next: one card a region, its last.
     cards = empty[:4] + b"".join(struct.pack("<2I", 1, 16 * (shift + r) + 15) for r in range(255))
     pairs = b"".join(struct.pack("<2IQ", 1, 2, shift * 1024 + 2 * (i + 1) + 1) for i in range(256 * 512 - 1))
-    heading = b"G1IMAGE1" + struct.pack("<6I", 1024, 64, 512, 1, 0, 512)
+    heading = b"G1IMAGE2" + struct.pack("<6I", 1024, 64, 512, 1, 0, 512)
     table, sets = (used + free, cards + empty) if before else (free + used, empty + cards)
     return heading + table + struct.pack("<Q", shift * 1024 + 1) + sets + pairs + struct.pack("<2IQ", 1, 2, 0)
 

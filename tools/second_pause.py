@@ -36,7 +36,7 @@ class Tries(Judge):
         return run([self.binary, *words], data)
 
     def choices(self, data):
-        ordinary = [str(r) for r, (kind, _) in enumerate(read(data)[3]) if kind == ORDINARY]
+        ordinary = [str(r) for r, (kind, _, flags) in enumerate(read(data)[3]) if kind == ORDINARY and not flags]
         return [[], *(["--budget", budget] for budget in BUDGETS), *([region] for region in ordinary[:REGIONS])]
 
     def live(self, data):
@@ -68,6 +68,8 @@ class Tries(Judge):
             self.judge(f"{name}, free after", int(words[0]) in after)
         taken = before - after
         self.judge(f"{name}, to-space is ordinary", all(regions[r][0] == ORDINARY for r in taken))
+        pins = [(old, new) for old, new in zip(read(data)[3], regions) if old[2]]
+        self.judge(f"{name}, pinned regions stay", all(old == new for old, new in pins))
         self.judge(f"{name}, the same graph", graph(data) == graph(out))
         live = self.live(data)
         self.judge(f"{name}, live bytes", live is not None and live == self.live(out))

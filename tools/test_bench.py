@@ -231,7 +231,7 @@ class Images(unittest.TestCase):
 
     def test_dirty_cards_are_all_and_shuffled(self):
         w, k, _n, regions, _roots, log, remembered, _used, _current = read(self.texts["dirty1m"])
-        used = sum(1 for kind, _top in regions if kind)
+        used = sum(1 for kind, _top, _flags in regions if kind)
         self.assertEqual(sorted(log), list(range(used * w // k)))
         self.assertNotEqual(log, sorted(log))
         self.assertEqual(sum(map(len, remembered)), 0)
@@ -247,7 +247,7 @@ class Images(unittest.TestCase):
         for name in ("ones16m", "roots64k"):
             _w, _k, _n, regions, _roots, _log, _remembered, used, _current = read(self.texts[name])
             self.assertEqual({word for words in used for word in words}, {1 << 32})
-            self.assertEqual({top for kind, top in regions if kind}, {64})
+            self.assertEqual({top for kind, top, _flags in regions if kind}, {64})
 
     def test_the_whole_images_have_the_sizes_that_are_told(self):
         told = {name: [int(number.replace(",", "")) for number in re.findall(r"\d[\d,]*", what)]

@@ -77,7 +77,7 @@ BROKEN = {
     "pause_echoes": (f'if (is(words, "pause")) {ECHO}', ["refuse_memory.py", "second_pause.py"]),
     "room_for_memory": (f"real(words); if (memory()) {ROOM} else say(out, out_size, err, status);", ["refuse_memory.py"]),
     "nothing_for_memory": ('real(words); if (memory()) say("", 0, "", 0); else say(out, out_size, err, status);', ["refuse_memory.py"]),
-    "an_image_for_memory": ('real(words); if (memory()) say("G1IMAGE1", 8, "", 0); else say(out, out_size, err, status);',
+    "an_image_for_memory": ('real(words); if (memory()) say("G1IMAGE2", 8, "", 0); else say(out, out_size, err, status);',
                             ["refuse_memory.py"]),
     "short_for_all": ('say("", 0, "g1pause: fault 3: short\\n", 3);', ["malicious_images.py"]),
 }

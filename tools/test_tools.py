@@ -89,8 +89,8 @@ SETS = [[4], [2], [], [9], [], []]
 
 
 def by_hand():
-    parts = [b"G1IMAGE1", struct.pack("<6I", 16, 4, 6, len(ROOT_WORDS), 0, 6)]
-    parts += [struct.pack("<2I", *row) for row in TABLE] + [struct.pack("<Q", word) for word in ROOT_WORDS]
+    parts = [b"G1IMAGE2", struct.pack("<6I", 16, 4, 6, len(ROOT_WORDS), 0, 6)]
+    parts += [struct.pack("<3I", *row, 0) for row in TABLE] + [struct.pack("<Q", word) for word in ROOT_WORDS]
     parts += [struct.pack(f"<{1 + len(cards)}I", len(cards), *cards) for cards in SETS]
     parts += [struct.pack("<Q", word) for words in WORDS for word in words]
     return b"".join(parts)
@@ -269,7 +269,7 @@ class Examples(unittest.TestCase):
         with tempfile.TemporaryDirectory() as room:
             subprocess.run([sys.executable, str(TOP / "examples/make.py"), room], check=True)
             made = [path for path in pathlib.Path(room).rglob("*.img")]
-            self.assertEqual(len(made), 14)
+            self.assertEqual(len(made), 17)
             for path in made:
                 kept = TOP / "examples" / path.relative_to(room)
                 self.assertEqual(path.read_bytes(), kept.read_bytes(), kept)
