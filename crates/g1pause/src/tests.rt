@@ -400,11 +400,22 @@ fn packs_again_in_version_two(rt: HostRuntime) -> Result<(), Fail> {
 
 // `ONE_OBJECT_MOVED` in version 2, with other kinds and flags: each region's kind, top and flags.
 fn flagged(alloc: Global, table: [u32; 12]) -> Result<Vec<u8>, Fail> {
-    let mut image = text_of(alloc, ONE_OBJECT_MOVED)?;
-    for (place, number) in table.iter().enumerate() {
-        image[32 + 4 * place..36 + 4 * place].copy_from_slice(&number.to_le_bytes());
+    let text = text_of(alloc, ONE_OBJECT_MOVED)?;
+    let (heading, rest) = text.as_slice().split_at(text.len().min(32));
+    let mut image = Vec::from_slice(alloc, heading)?;
+    for number in table {
+        image.extend_from_slice(&number.to_le_bytes())?;
     }
+    let (_, behind) = rest.split_at(rest.len().min(48));
+    image.extend_from_slice(behind)?;
     Ok(image)
+}
+
+// Pins the first region of an image in version 2.
+fn pin_first(image: &mut [u8]) {
+    if let Some(flags) = image.get_mut(40) {
+        *flags = 1;
+    }
 }
 
 #[test]
@@ -450,8 +461,8 @@ fn a_pinned_region_is_told_and_stays(rt: HostRuntime) -> Result<(), Fail> {
     // The first region of DEAD_OWNER is pinned; its slot follows the object that moves.
     let mut owner = text_of(alloc, DEAD_OWNER)?;
     let mut moved = text_of(alloc, DEAD_OWNER_MOVED)?;
-    owner[40] = 1;
-    moved[40] = 1;
+    pin_first(&mut owner);
+    pin_first(&mut moved);
     expect_answer(&rt, alloc, "pause 1", owner.as_slice(), moved.as_slice())?;
     Ok(())
 }
@@ -460,7 +471,7 @@ fn a_pinned_region_is_told_and_stays(rt: HostRuntime) -> Result<(), Fail> {
 fn a_budget_buys_no_pinned_region(rt: HostRuntime) -> Result<(), Fail> {
     let alloc = rt.alloc();
     let mut image = text_of(alloc, THREE_REGIONS)?;
-    image[40] = 1;
+    pin_first(&mut image);
     for (line, answer) in [
         (
             "choose --fixed 10 --budget 35",
