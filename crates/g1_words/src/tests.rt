@@ -1,7 +1,22 @@
 use crate::{
     Device, Fault, Geometry, Kind, Object, Place, Stand, card_of, header, region_of, slots_of,
 };
+use std::alloc::Global;
+use std::process::Abort;
 use std::test::Fail;
+
+fn expect_told<T: Abort>(
+    rt: &T,
+    alloc: Global,
+    fault: Fault,
+    number: u8,
+    text: &str,
+) -> Result<(), Fail> {
+    let told = format!(in alloc; "{fault}")?;
+    assert_eq!(rt; told.as_str(), text);
+    assert_eq!(rt; fault.number(), number, "{text}");
+    Ok(())
+}
 
 #[test]
 fn each_fault_of_bytes_has_its_number_and_its_text(rt: HostRuntime) -> Result<(), Fail> {
@@ -19,9 +34,7 @@ fn each_fault_of_bytes_has_its_number_and_its_text(rt: HostRuntime) -> Result<()
         (Fault::Flags(3), 16, "flags of region 3"),
     ];
     for (fault, number, text) in faults {
-        let told = format!(in rt.alloc(); "{fault}")?;
-        assert_eq!(rt; told.as_str(), text);
-        assert_eq!(rt; fault.number(), number, "{text}");
+        expect_told(&rt, rt.alloc(), fault, number, text)?;
     }
     Ok(())
 }
@@ -39,9 +52,7 @@ fn each_fault_of_a_call_has_its_number_and_its_text(rt: HostRuntime) -> Result<(
         (Fault::Line(12), 15, "line 12"),
     ];
     for (fault, number, text) in faults {
-        let told = format!(in rt.alloc(); "{fault}")?;
-        assert_eq!(rt; told.as_str(), text);
-        assert_eq!(rt; fault.number(), number, "{text}");
+        expect_told(&rt, rt.alloc(), fault, number, text)?;
     }
     Ok(())
 }
