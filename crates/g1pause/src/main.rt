@@ -12,6 +12,8 @@ mod show;
 #[cfg(test)]
 mod tests;
 #[cfg(test)]
+mod tests_pins;
+#[cfg(test)]
 mod tests_words;
 
 use crate::commands::program;

@@ -10,11 +10,13 @@ use std::thread::Threads;
 // S words with R references, and 0*N stands for N words that are 0.
 static ONE_OBJECT: &str = "16 4 4 1 0 4  0 0 1 4 0 0 0 0  =17  0 0 0 0  4/1 =0 =7 =9";
 
-static ONE_OBJECT_MOVED: &str = "16 4 4 1 0 4  1 4 0 0 0 0 0 0  =1  0 0 0 0  4/1 =0 =7 =9";
+pub(crate) static ONE_OBJECT_MOVED: &str =
+    "16 4 4 1 0 4  1 4 0 0 0 0 0 0  =1  0 0 0 0  4/1 =0 =7 =9";
 
-static DEAD_OWNER: &str = "16 4 4 0 0 4  1 2 1 3 0 0 0 0  0 1 0 0 0  2/1 =17 3/0 =1 =2";
+pub(crate) static DEAD_OWNER: &str = "16 4 4 0 0 4  1 2 1 3 0 0 0 0  0 1 0 0 0  2/1 =17 3/0 =1 =2";
 
-static DEAD_OWNER_MOVED: &str = "16 4 4 0 0 4  1 2 0 0 1 3 0 0  0 0 1 0 0  2/1 =33 3/0 =1 =2";
+pub(crate) static DEAD_OWNER_MOVED: &str =
+    "16 4 4 0 0 4  1 2 0 0 1 3 0 0  0 0 1 0 0  2/1 =33 3/0 =1 =2";
 
 static DIRTY: &str = "16 4 4 1 1 0  1 2 0 0 0 0 0 0  =1  0  0 0 0 0  2/1 =0";
 
@@ -33,7 +35,7 @@ static SHARED_TARGETS_MOVED: &str =
 
 static CROWDED: &str = "16 4 3 2 1 3  1 12 1 5 0 0  =1 =17  0  0 0 0  12/0 0*11 5/0 0*4";
 
-static THREE_REGIONS: &str =
+pub(crate) static THREE_REGIONS: &str =
     "16 4 6 3 0 6  1 4 1 4 1 2 0 0 0 0 0 0  =1 =17 =33  0 0 1 0 0 0 0  2/0 =1 2/0 =1 2/0 =1 2/0 =1 1/0 1/0";
 
 static THREE_REGIONS_BOUGHT: &str =
@@ -166,7 +168,7 @@ fn image_of(alloc: Global, tokens: &str) -> Result<Vec<u8>, Fail> {
 }
 
 // The text of version 2 of the same image: behind the two numbers of a region stand its flags, which are 0.
-fn text_of(alloc: Global, tokens: &str) -> Result<Vec<u8>, Fail> {
+pub(crate) fn text_of(alloc: Global, tokens: &str) -> Result<Vec<u8>, Fail> {
     let mut text = Vec::from_slice(alloc, b"G1IMAGE2")?;
     let mut table_end = 6;
     for (place, token) in tokens.split_ascii_whitespace().enumerate() {
@@ -199,7 +201,7 @@ pub(crate) fn run<R: Read, W: Write>(
     Ok((status, errors))
 }
 
-fn expect_answer<T: Threads + Abort + Sync>(
+pub(crate) fn expect_answer<T: Threads + Abort + Sync>(
     rt: &T,
     alloc: Global,
     line: &str,
@@ -215,7 +217,7 @@ fn expect_answer<T: Threads + Abort + Sync>(
     Ok(())
 }
 
-fn expect_fault<T: Threads + Abort + Sync>(
+pub(crate) fn expect_fault<T: Threads + Abort + Sync>(
     rt: &T,
     alloc: Global,
     line: &str,
@@ -233,7 +235,7 @@ fn expect_fault<T: Threads + Abort + Sync>(
     Ok(())
 }
 
-fn expect_malformed<T: Threads + Abort + Sync>(
+pub(crate) fn expect_malformed<T: Threads + Abort + Sync>(
     rt: &T,
     alloc: Global,
     bytes: &[u8],
@@ -394,95 +396,6 @@ fn packs_again_in_version_two(rt: HostRuntime) -> Result<(), Fail> {
                 text.as_slice(),
             )?;
         }
-    }
-    Ok(())
-}
-
-// `ONE_OBJECT_MOVED` in version 2, with other kinds and flags: each region's kind, top and flags.
-fn flagged(alloc: Global, table: [u32; 12]) -> Result<Vec<u8>, Fail> {
-    let text = text_of(alloc, ONE_OBJECT_MOVED)?;
-    let (heading, rest) = text.as_slice().split_at(text.len().min(32));
-    let mut image = Vec::from_slice(alloc, heading)?;
-    for number in table {
-        image.extend_from_slice(&number.to_le_bytes())?;
-    }
-    let (_, behind) = rest.split_at(rest.len().min(48));
-    image.extend_from_slice(behind)?;
-    Ok(image)
-}
-
-// Pins the first region of an image in version 2.
-fn pin_first(image: &mut [u8]) {
-    if let Some(flags) = image.get_mut(40) {
-        *flags = 1;
-    }
-}
-
-#[test]
-fn names_the_fault_of_flags(rt: HostRuntime) -> Result<(), Fail> {
-    let alloc = rt.alloc();
-    for (table, fault) in [
-        (
-            [1, 4, 0, 0, 0, 2, 0, 0, 0, 0, 0, 0],
-            "16: flags of region 1",
-        ),
-        (
-            [1, 4, 0, 0, 0, 0, 0, 0, 1, 0, 0, 0],
-            "16: flags of region 2",
-        ),
-        ([1, 4, 0, 0, 0, 2, 4, 0, 0, 0, 0, 0], "5: kind of region 2"),
-        ([1, 5, 0, 0, 0, 2, 0, 0, 0, 0, 0, 0], "3: short"),
-        (
-            [2, 4, 1, 0, 0, 0, 0, 0, 0, 0, 0, 0],
-            "16: flags of region 0",
-        ),
-    ] {
-        let image = flagged(alloc, table)?;
-        expect_malformed(&rt, alloc, image.as_slice(), fault)?;
-    }
-    expect_malformed(&rt, alloc, b"G1IMAGE3", "1: magic")?;
-    expect_malformed(&rt, alloc, b"G1IMAGE", "3: short")?;
-    Ok(())
-}
-
-#[test]
-fn a_pinned_region_is_told_and_stays(rt: HostRuntime) -> Result<(), Fail> {
-    let alloc = rt.alloc();
-    let pinned = flagged(alloc, [1, 4, 1, 0, 0, 0, 0, 0, 0, 0, 0, 0])?;
-    let table = "heap 16 4 4 roots 1 dirty 0 current none\n\
-        region 0 ordinary top 4 objects 1 cards 0 pinned\n\
-        region 1 free top 0 objects 0 cards 0\n\
-        region 2 free top 0 objects 0 cards 0\n\
-        region 3 free top 0 objects 0 cards 0\n";
-    expect_answer(&rt, alloc, "show", pinned.as_slice(), table.as_bytes())?;
-    expect_answer(&rt, alloc, "pause", pinned.as_slice(), pinned.as_slice())?;
-    let told = "10: set region 0";
-    expect_fault(&rt, alloc, "pause 0", pinned.as_slice(), 5, told)?;
-    // The first region of DEAD_OWNER is pinned; its slot follows the object that moves.
-    let mut owner = text_of(alloc, DEAD_OWNER)?;
-    let mut moved = text_of(alloc, DEAD_OWNER_MOVED)?;
-    pin_first(&mut owner);
-    pin_first(&mut moved);
-    expect_answer(&rt, alloc, "pause 1", owner.as_slice(), moved.as_slice())?;
-    Ok(())
-}
-
-#[test]
-fn a_budget_buys_no_pinned_region(rt: HostRuntime) -> Result<(), Fail> {
-    let alloc = rt.alloc();
-    let mut image = text_of(alloc, THREE_REGIONS)?;
-    pin_first(&mut image);
-    for (line, answer) in [
-        (
-            "choose --fixed 10 --budget 35",
-            "region 1 cost 16 garbage 16 taken\nregion 2 cost 9 garbage 8 taken\ntotal 35\n",
-        ),
-        (
-            "choose --fixed 10 --budget 34",
-            "region 1 cost 16 garbage 16 taken\nregion 2 cost 9 garbage 8 left\ntotal 26\n",
-        ),
-    ] {
-        expect_answer(&rt, alloc, line, image.as_slice(), answer.as_bytes())?;
     }
     Ok(())
 }
