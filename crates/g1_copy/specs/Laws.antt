@@ -1,5 +1,5 @@
 -- The laws that public functions of this crate prove.
-use Rattle.std.specs.Prelude.{◌≡◌, ◌≤◌, ◌<◌, ◌⊎◌, ◌↔◌, ◌+◌, ◌*◌, ◌&&◌, ◌||◌, ℕ, false, List, length, map, slice_index, All, Contains, IsTrue}
+use Rattle.std.specs.Prelude.{◌≡◌, ◌≤◌, ◌<◌, ◌⊎◌, ◌↔◌, ◌+◌, ◌++◌, ◌*◌, ◌&&◌, ◌||◌, ℕ, false, List, length, map, slice_index, All, Contains, IsTrue}
 use Rattle.std.specs.List.Sorted.{IsStrictlyIncreasing}
 use Rattle.g1_words.specs.Heap.{Heap, regions}
 use Rattle.g1_words.specs.Survivors.{in_set, AllOrdinary, Survivors}
@@ -7,7 +7,8 @@ use Rattle.g1_words.specs.Layout.{HasRoom, need, to_space}
 use Rattle.g1_layout.specs.Plan.{Plan}
 use Rattle.g1_image.specs.Image.{Image, IsImage}
 use Rattle.g1_image.specs.Cards.{Covered, is_exact, refined}
-use Rattle.g1_after.specs.Made.{heap_after}
+use Rattle.g1_after.specs.Made.{heap_after, image_paused}
+use Rattle.g1_after.specs.Unnamed.{unnamed_regions}
 use Rattle.g1_after.specs.Moved.{card_in}
 use Rattle.g1_words.specs.Lists.{has}
 use Rattle.g1_copy.specs.Links.{is_linked, copied_slots}
@@ -37,7 +38,8 @@ RefinedFindPatches = (i : Image) (set l : List ℕ) → IsImage i → Covered i 
 -- the words of to-space gathered, the patches and the cleared regions make the words of the heap after
 abbrev pub WrittenInPlace : Type 0
 WrittenInPlace = (i : Image) (set l : List ℕ) → IsValid i.heap → HasRoom i.heap set l
-    → words_after i.heap.geometry.w set (to_space i.heap l) (to_space_words i.heap l) (all_patches i.heap set l) i.heap.words ≡ (heap_after i.heap set l).words
+    → words_after i.heap.geometry.w (set ++ unnamed_regions (heap_after i.heap set l)) (to_space i.heap l) (to_space_words i.heap l) (all_patches i.heap set l) i.heap.words
+    ≡ (image_paused i set l).heap.words
 
 -- the cards that are exact for a region of to-space after the pause are those of the patches and the copied slots that lead into it
 abbrev pub CardsOfToSpace : Type 0

@@ -6,5 +6,6 @@ pub mod Filled
 pub mod Fates
 pub mod Slices
 pub mod Remembered
+pub mod Unnamed
 pub mod Prepared
 pub mod Laws

@@ -1,13 +1,13 @@
 -- What was made ready for a commit.
-use Rattle.std.specs.Prelude.{◌≡◌, ℕ, List, [], ◌/◌, length, map, flat_map, None}
+use Rattle.std.specs.Prelude.{◌≡◌, ℕ, List, [], ◌++◌, ◌/◌, length, map, flat_map, None}
 use Rattle.std.specs.List.{range_with_len}
 use Rattle.g1_words.specs.declared.region.Region.{Region}
-use Rattle.g1_words.specs.Heap.{regions}
+use Rattle.g1_words.specs.Heap.{region_of}
 use Rattle.g1_words.specs.Layout.{HasRoom, forward, to_space}
 use Rattle.g1_image.specs.Image.{Image}
 use Rattle.g1_words.specs.Copy.{renamed}
-use Rattle.g1_after.specs.Made.{heap_after}
-use Rattle.g1_after.specs.Moved.{new_region, remembered_after}
+use Rattle.g1_after.specs.Made.{heap_after, image_paused}
+use Rattle.g1_after.specs.Unnamed.{unnamed, unnamed_regions}
 use Rattle.g1_work.specs.Regions.{slice_of}
 use Rattle.g1_copy.specs.declared.fates.Fate.{Fate}
 use Rattle.g1_copy.specs.Fates.{AreFates, fate_at}
@@ -15,7 +15,7 @@ use Rattle.g1_copy.specs.Gathered.{to_space_words}
 use Rattle.g1_copy.specs.Patches.{AreFirsts, all_patches}
 use Rattle.g1_copy.specs.Slices.{by_fate}
 
--- each region's fate, the words of to-space, the patches with where each region's begin, and the regions, roots and remembered sets after
+-- each region's fate, the words of to-space, the patches with where each region's begin, the regions, roots and remembered sets after, and the first regions of the humongous objects that are freed
 pub record Prepared : Type 0 where
   pub fates : List Fate
   pub gathered : List ℕ
@@ -24,6 +24,7 @@ pub record Prepared : Type 0 where
   pub regions : List Region
   pub roots : List ℕ
   pub remembered : List (List ℕ)
+  pub humongous : List ℕ
 
 -- the words that a commit makes of these, in regions of w words
 abbrev pub written : Prepared → ℕ → List ℕ → List ℕ
@@ -40,10 +41,11 @@ committed p i = record {
 -- it was made for the pause of i that evacuates the survivors l of the set
 pub record IsMadeFor (p : Prepared) (i : Image) (set l : List ℕ) : Type 0 where
   pub room : HasRoom i.heap set l
-  pub fates : AreFates i.heap set (to_space i.heap l) p.fates
+  pub fates : AreFates i.heap (set ++ unnamed_regions (heap_after i.heap set l)) (to_space i.heap l) p.fates
   pub gathered : p.gathered ≡ to_space_words i.heap l
   pub patches : p.patches ≡ all_patches i.heap set l
   pub firsts : AreFirsts i.heap.geometry.w i.heap.geometry.n p.patches p.firsts
-  pub table : p.regions ≡ map (new_region i.heap set l) (regions i.heap)
+  pub table : p.regions ≡ (image_paused i set l).heap.regions
   pub roots : p.roots ≡ map (renamed (forward i.heap l)) i.heap.roots
-  pub remembered : p.remembered ≡ map (remembered_after i set l (heap_after i.heap set l)) (regions i.heap)
+  pub remembered : p.remembered ≡ (image_paused i set l).remembered
+  pub humongous : p.humongous ≡ map (λ o. region_of i.heap o.at) (unnamed (heap_after i.heap set l))

@@ -1,5 +1,5 @@
 -- The remembered sets after a pause, put together of lists of cards.
-use Rattle.std.specs.Prelude.{◌≡◌, ◌<◌, ℕ, Bool, true, false, List, [], length, filter, slice_index_or, All, Result, Ok, Err}
+use Rattle.std.specs.Prelude.{◌≡◌, ◌<◌, ℕ, Bool, true, false, List, [], length, filter, slice_index_or, All, Result, Ok, Err, if◌then◌else◌}
 use Rattle.std.specs.List.Sorted.{IsStrictlyIncreasing}
 use Rattle.std.specs.Global.{Vec}
 use Rattle.g1_words.specs.declared.fault.Fault.{Fault}
@@ -11,7 +11,7 @@ use Rattle.g1_copy.specs.declared.fates.Fate.{Fate}
 use Rattle.g1_copy.specs.declared.fates.Fate.TheVariants.{Freed, Filled, Kept}
 use Rattle.g1_copy.specs.Fates.{fate_at}
 
--- the fate isn't that of the set's regions
+-- the region isn't freed
 abbrev pub is_kept_fate : Fate → Bool
 is_kept_fate Freed = false
 is_kept_fate _ = true
@@ -45,6 +45,15 @@ pub record AreSources (h : Heap) (fates : List Fate) (remembered outer inner : L
 abbrev pub IsJoinedAt : Heap → List Fate → List (List ℕ) → List (List ℕ) → List (List ℕ) → ℕ → Result (Vec ℕ) Fault → Type 0
 IsJoinedAt h fates remembered outer inner r (Ok v) = IsJoined h fates (fate_at fates r) (cards_at remembered r) (cards_at outer r) (cards_at inner r) v.items
 IsJoinedAt h fates remembered outer inner r (Err fault) = fault ≡ Memory
+
+-- what is left of the set of a region of this fate: of a freed one nothing, of any other the cards that lie in no freed region
+abbrev pub left : Heap → List Fate → Fate → List ℕ → List ℕ
+left h fates fate cards = if is_kept_fate fate then filter (stays h fates) cards else []
+
+-- what is left of each region's set
+pub record AreLeft (h : Heap) (fates : List Fate) (old new : List (List ℕ)) : Type 0 where
+  pub one_each : length new ≡ length old
+  pub each : (r : ℕ) → r < length old → cards_at new r ≡ left h fates (fate_at fates r) (cards_at old r)
 
 -- each region has its set
 pub record AreJoined (h : Heap) (fates : List Fate) (remembered outer inner news : List (List ℕ)) : Type 0 where

@@ -1,3 +1,4 @@
 pub mod Examples
 pub mod Texts
+pub mod Unnamed
 pub mod Choices

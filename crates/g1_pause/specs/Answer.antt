@@ -12,7 +12,7 @@ use Rattle.g1_image.specs.Image.{Image, IsTextOf, IsTextIn}
 use Rattle.g1_image.specs.declared.cursor.Version.TheVariants.{Two}
 use Rattle.g1_image.specs.Faults.{FaultOf}
 use Rattle.g1_image.specs.Cards.{refined, uncovered, Covered}
-use Rattle.g1_after.specs.Moved.{IsMoved}
+use Rattle.g1_after.specs.Paused.{IsPaused}
 use Rattle.g1_choose.specs.declared.parameters.Cost.{Cost}
 use Rattle.g1_choose.specs.Choice.{IsChosen}
 use Rattle.g1_choose.specs.Named.{AreTakeable, IsFirstBad}
@@ -38,7 +38,7 @@ pub data IsEvacuated (cost : Cost) (choice : Choice) (i : Image) : Result Image 
   no_room : (set l : List ℕ) → IsSetFor cost i choice set → Survivors i.heap set l → length (free_regions i.heap) < need i.heap l
       → IsEvacuated cost choice i (Err (Room (need i.heap l) (length (free_regions i.heap))))
   done : (set l : List ℕ) {j : Image} → IsSetFor cost i choice set → Survivors i.heap set l → need i.heap l ≤ length (free_regions i.heap)
-      → IsMoved i set l j → IsEvacuated cost choice i (Ok j)
+      → IsPaused i set l j → IsEvacuated cost choice i (Ok j)
 
 -- THE ANSWER to bytes: the fault of bytes that are no image's text, else that of the lowest slot without cover, else what
 -- the pause of the image gives, an image as its text of version 2
