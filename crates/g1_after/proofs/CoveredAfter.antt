@@ -51,7 +51,7 @@ covered_each i c e h = elim (cases_Bool (is_covered i e)) [
   | inr f ↦ absurd (subst (λ xs. In xs e.slot) c (In-map (λ (x : Ref). x.slot) (filter (λ e. not (is_covered i e)) (refs i.heap)) e (In-filter (λ (e : Ref). not (is_covered i e)) (refs i.heap) e h (ap not f))))
 ]
 
-exact_by : (h : Heap) (r c : ℕ) (e : Ref) → In (refs h) e → region_of h e.target ≡ r → eqb (region_of h e.slot) r ≡ false → card_of h e.slot ≡ c → is_exact h r c ≡ true
+pub exact_by : (h : Heap) (r c : ℕ) (e : Ref) → In (refs h) e → region_of h e.target ≡ r → eqb (region_of h e.slot) r ≡ false → card_of h e.slot ≡ c → is_exact h r c ≡ true
 exact_by h r c e m a b d = any_from_in (λ e. leads_into h r e && eqb (card_of h e.slot) c) (refs h) e m
     (and_both (leads_into h r e) (eqb (card_of h e.slot) c) (and_both (eqb (region_of h e.target) r) (not (eqb (region_of h e.slot) r)) (eq-eqb (region_of h e.target) r a) (ap not b)) (eq-eqb (card_of h e.slot) c d))
 

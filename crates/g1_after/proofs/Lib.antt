@@ -3,6 +3,8 @@ pub mod ObjectsAfter
 pub mod ToSpace
 pub mod ObjectsOf
 pub mod SameGraphs
+pub mod GraphsCompose
+pub mod PausedLaws
 pub mod CopyWords
 pub mod ValidAfter
 pub mod RulesAfter
@@ -10,3 +12,12 @@ pub mod CoveredAfter
 pub mod RefsMoved
 pub mod Existence
 pub mod CardsAfter
+pub mod RefsOf
+pub mod ExactStays
+pub mod NamedByCards
+pub mod UnnamedRegions
+pub mod ObjectsLeft
+pub mod LeftRefs
+pub mod LeftRules
+pub mod LeftGraph
+pub mod LeftCovered

@@ -1,19 +1,9 @@
-ghost use Rattle.g1_after.specs.After.{ToSpaceObjects, ObjectsAfter, ValidAfter, CoveredAfter, ImageExists, RefsAfter, ExactByRefs, TrackedAfter};
-ghost use Rattle.g1_after.specs.Laws.{OneImageAfter, GraphStays, NothingIntoSet};
+ghost use Rattle.g1_after.specs.After.{ToSpaceObjects, ObjectsAfter, ValidAfter, CoveredAfter, ImageExists, RefsAfter, ExactByRefs, ExactStays, TrackedAfter};
+ghost use Rattle.g1_after.specs.Freed.{ObjectsLeft, RefsLeft, NothingIntoUnnamed, ValidLeft, GraphLeft, TrackedLeft, NamedByCards};
+ghost use Rattle.g1_after.specs.Laws.{OneImageAfter, PauseExists, ObjectsPaused, CopiesPaused, TrackedPaused, GraphStays, NothingIntoFreed};
 
-/// An image and a set have one image after the pause.
-pub fn one_image()
-    ensures { OneImageAfter }
-{}
-
-/// What a pause leaves of the graph.
-pub fn same_graph()
-    ensures stays { GraphStays }
-    ensures nothing_into_set { NothingIntoSet }
-{}
-
-/// What holds of the image after a pause.
-pub fn image_after()
+/// What holds of the image after the survivors moved.
+pub fn survivors_moved()
     ensures to_space { ToSpaceObjects }
     ensures objects { ObjectsAfter }
     ensures valid { ValidAfter }
@@ -21,5 +11,40 @@ pub fn image_after()
     ensures exists { ImageExists }
     ensures refs { RefsAfter }
     ensures exact { ExactByRefs }
+    ensures stays { ExactStays }
     ensures tracked { TrackedAfter }
+{}
+
+/// What holds of a heap in which the humongous objects are freed that nothing names.
+pub fn unnamed_freed()
+    ensures objects { ObjectsLeft }
+    ensures refs { RefsLeft }
+    ensures nothing { NothingIntoUnnamed }
+    ensures valid { ValidLeft }
+    ensures graph { GraphLeft }
+    ensures tracked { TrackedLeft }
+{}
+
+/// A humongous object is named by a root, or by a card of its remembered set.
+pub fn named_by_cards()
+    ensures { NamedByCards }
+{}
+
+/// An image and a set have one image after the pause.
+pub fn one_image()
+    ensures one { OneImageAfter }
+    ensures exists { PauseExists }
+{}
+
+/// What a pause leaves of the graph.
+pub fn same_graph()
+    ensures stays { GraphStays }
+    ensures nothing_into_freed { NothingIntoFreed }
+{}
+
+/// What holds of the image after a pause.
+pub fn image_after()
+    ensures objects { ObjectsPaused }
+    ensures copies { CopiesPaused }
+    ensures tracked { TrackedPaused }
 {}
