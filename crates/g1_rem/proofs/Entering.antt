@@ -46,7 +46,7 @@ use Rattle.g1_rem.proofs.Exact.{exact_by_slots}
 -- ---- one slot
 
 -- what the slot's reference tells of a region
-leads_none : (h : Heap) (p r : ℕ) → IsLedInto h p None → list_any (leads_into h r) (refs_at h p) ≡ false
+pub leads_none : (h : Heap) (p r : ℕ) → IsLedInto h p None → list_any (leads_into h r) (refs_at h p) ≡ false
 leads_none h p r none = by_word (word h p) refl where
   by_word : (x : ℕ) → word h p ≡ x → list_any (leads_into h r) (refs_at h p) ≡ false
   by_word zero e = ap (λ x. list_any (leads_into h r) (map (λ a. record { slot = p; target = a }) (named x))) e
@@ -59,7 +59,7 @@ leads_none h p r none = by_word (word h p) refl where
       clash false = refl
 
 -- a slot that leads into a region counts for that region alone
-leads_some : (h : Heap) (p t r : ℕ) → IsLedInto h p (Some t) → list_any (leads_into h r) (refs_at h p) ≡ eqb t r
+pub leads_some : (h : Heap) (p t r : ℕ) → IsLedInto h p (Some t) → list_any (leads_into h r) (refs_at h p) ≡ eqb t r
 leads_some h p t r (a, named_is, into, out, there) =
     ap (λ x. list_any (leads_into h r) (map (λ a. record { slot = p; target = a }) (named x))) named_is
     ∙ ap (λ z. (eqb z r && not (eqb (region_of h p) r)) || false) into ∙ one (eqb t r) refl
@@ -83,6 +83,19 @@ or_none false = refl
 or_one : (b : Bool) → (b || (true || false)) ≡ true
 or_one true = refl
 or_one false = refl
+
+-- a slot that doesn't lead into the region
+pub enters_pass : (h : Heap) (r p : ℕ) (ps : List ℕ) → enters h r ps ≡ false → list_any (leads_into h r) (refs_at h p) ≡ false → enters h r (ps ++ p ∷ []) ≡ false
+enters_pass h r p ps none e = enters_more h r p ps false e ∙ or_none (enters h r ps) ∙ none
+
+-- one of the slots leads into the region
+pub enters_found : (h : Heap) (r p : ℕ) (ps : List ℕ) → In ps p → list_any (leads_into h r) (refs_at h p) ≡ true → enters h r ps ≡ true
+enters_found h r p [] i e = absurd i
+enters_found h r p (q ∷ qs) (inl same) e = ap (λ z. z || enters h r qs) (ap (λ x. list_any (leads_into h r) (refs_at h x)) same ∙ e)
+enters_found h r p (q ∷ qs) (inr i) e = ap (λ z. list_any (leads_into h r) (refs_at h q) || z) (enters_found h r p qs i e) ∙ or_last (list_any (leads_into h r) (refs_at h q)) where
+  or_last : (b : Bool) → (b || true) ≡ true
+  or_last true = refl
+  or_last false = refl
 
 -- before the first slot nothing is added
 pub grown_start : (h : Heap) (card : ℕ) (lists : List (List ℕ)) → IsGrown h card [] lists lists

@@ -1,8 +1,14 @@
-ghost use Rattle.std.specs.Prelude.{◌<◌, length, slice_index};
+ghost use Rattle.std.specs.Prelude.{◌≡◌, ◌<◌, length, slice_index, Contains, ℕ};
 ghost use Rattle.g1_words.specs.Valid.{IsReference};
+ghost use Rattle.g1_image.specs.Cards.{is_exact};
+ghost use Rattle.g1_rem.specs.Entering.{enters};
 ghost use Rattle.g1_rem.specs.Leads.{IsLedInto};
+ghost use Rattle.g1_rem.specs.Starts.{IsStartsOf, card_count};
 
+use crate::slots::slots_on;
+use crate::starts::Starts;
 use g1_words::{Heap, region_of};
+use std::alloc::Global;
 
 /// The region, other than its own, that a slot leads into.
 pub(crate) fn led_into(heap: &Heap, p: u64) -> Option<u32>
@@ -20,4 +26,32 @@ pub(crate) fn led_into(heap: &Heap, p: u64) -> Option<u32>
         return None;
     }
     Some(target as u32)
+}
+
+/// Whether one of the slots leads into the region from another one.
+fn one_leads(heap: &Heap, slots: &[u64], region: u32) -> bool
+    requires { (p : ℕ) → Contains slots.now p → (p < length heap.now.words) × IsReference heap.now (slice_index heap.now.words p) }
+    ensures { result ≡ enters heap.now region slots.now }
+{
+    for p in slots {
+        if let Some(target) = led_into(heap, *p) {
+            if target == region {
+                return true;
+            }
+        }
+    }
+    false
+}
+
+/// Whether a slot on the card, of another region, names an object in the region. Linear in the slots
+/// on the card, and takes no memory.
+pub fn leads_into(alloc: Global, heap: &Heap, starts: &Starts, region: u32, card: u32) -> bool
+    requires starts { IsStartsOf heap.now starts.now }
+    requires card { card < card_count heap.now }
+    ensures { result ≡ is_exact heap.now region card }
+{
+    // The heap's rules are known from its geometry's contract.
+    heap.geometry();
+    let slots = slots_on(alloc, heap, starts, card);
+    one_leads(heap, slots.as_slice(), region)
 }

@@ -14,6 +14,8 @@
 //! 5. `merged` makes one rising list of two, each card once: a set and the cards that join it.
 //! 6. `cards_into` lists the cards that lead into a set of regions: those of the remembered sets of
 //!    its regions that lie outside it.
+//! 7. `leads_into` asks the slots on one card whether one of them, of another region, names an object
+//!    in a region.
 //!
 //! The sets and the log are those of Detlefs, Flood, Heller, Printezis, "Garbage-First Garbage
 //! Collection", 2004.
@@ -33,6 +35,7 @@ mod tracked;
 
 pub use cover::verify;
 pub use entry_cards::cards_into;
+pub use leads::leads_into;
 pub use merging::merged;
 pub use refining::{CARDS_A_THREAD, cards_in, refine, refine_by};
 pub use slots::slots_on;

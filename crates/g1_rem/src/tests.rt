@@ -109,6 +109,28 @@ fn a_humongous_object_has_slots_on_cards_of_its_later_regions(rt: HostRuntime) -
     Ok(())
 }
 
+/// Whether a slot on the card leads into the region, where the heap has the card.
+fn leads_at(alloc: Global, heap: &Heap, starts: &Starts, region: u32, card: u32) -> Option<bool>
+    requires { IsStartsOf heap.now starts.now }
+{
+    if card as usize >= starts.firsts.len() {
+        return None;
+    }
+    Some(crate::leads_into(alloc, heap, starts, region, card))
+}
+
+#[test]
+fn a_card_leads_into_the_region_that_a_slot_on_it_names(rt: HostRuntime) -> Result<(), Fail> {
+    let alloc = rt.alloc();
+    let read = g1_testing::image(alloc, humongous())?;
+    let starts = Starts::build(alloc, read.heap())?;
+    for (region, card, leads) in [(3, 4, true), (3, 5, false), (1, 4, false), (0, 4, false)] {
+        let found = leads_at(alloc, read.heap(), &starts, region, card);
+        assert_eq!(rt; found, Some(leads), "region {region} card {card}");
+    }
+    Ok(())
+}
+
 /// What `verify` hands back where it refuses: the fault, the first word and the length of the log.
 fn refusal(
     rt: &(impl Threads + Sync),

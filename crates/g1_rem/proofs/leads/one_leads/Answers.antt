@@ -1,0 +1,44 @@
+use Rattle.std.proofs.Common.{◌≡◌, ◌<◌, ◌++◌, ◌∷◌, [], false, length, slice_index, take, sym, ap, subst, ◌∙◌, eq-eqb}
+use Rattle.std.proofs.lemmas.List.{take_more, take_all, get_or_default}
+use Rattle.g1_words.proofs.Indices.{get_or-In}
+use Rattle.g1_words.specs.Valid.{IsReference}
+use Rattle.g1_rem.specs.Entering.{enters}
+use Rattle.g1_rem.specs.Leads.{IsLedInto}
+use Rattle.g1_rem.proofs.Entering.{enters_found, enters_pass, leads_none, leads_some}
+use Rattle.g1_rem.proofs.Lists.{eqb_false}
+use Rattle.g1_rem.proofs.leads.one_leads.Goals as goal
+use Rattle.g1_rem.proofs.leads.one_leads.Goals.{In-loop-p, in-Some+else-target-region, in_default}
+
+-- the slot at hand can be read
+good : (c : In-loop-p) → (slice_index c.args.slots.now c.loop-p.p-index < length c.args.heap.now.words) × IsReference c.args.heap.now (slice_index c.args.heap.now.words (slice_index c.args.slots.now c.loop-p.p-index))
+good c = c.requires (slice_index c.args.slots.now c.loop-p.p-index) (c.loop-p.p-index, c.loop-p-test.true, get_or_default c.args.slots.now c.loop-p.p-index (slice_index c.args.slots.now c.loop-p.p-index) 0 c.loop-p-test.true)
+
+pub led_into-requires-clause-slot : goal.led_into-requires-clause-slot
+led_into-requires-clause-slot c = (good (goal.at.led_into-requires-clause-slot c).In-loop-p).0
+
+pub led_into-requires-clause-reference : goal.led_into-requires-clause-reference
+led_into-requires-clause-reference c = (good (goal.at.led_into-requires-clause-reference c).In-loop-p).1
+
+pub loop-p-preserved : goal.loop-p-preserved
+loop-p-preserved c =
+    let h = c.args.heap.now in
+    let r = c.args.region in
+    let p = slice_index c.args.slots.now c.loop-p.p-index in
+    let ps = take c.loop-p.p-index c.args.slots.now in
+    ap (enters c.args.heap.now c.args.region) (take_more c.args.slots.now c.loop-p.p-index 0 c.loop-p-test.true)
+    ∙ elim c.match-led_into.branch as (λ b. enters c.args.heap.now c.args.region (take c.loop-p.p-index c.args.slots.now ++ slice_index c.args.slots.now c.loop-p.p-index ∷ []) ≡ false) [
+      | in-Some+else-target-region w ↦ enters_pass h r p ps c.loop-p.invariant (leads_some h p w.in-Some.target r w.in-Some.ensures ∙ eqb_false w.in-Some.target r w.if-target-region.false)
+      | in_default w ↦ enters_pass h r p ps c.loop-p.invariant (leads_none h p r (subst (IsLedInto c.args.heap.now (slice_index c.args.slots.now c.loop-p.p-index)) w.in_default.is c.led_into.ensures))
+    ]
+
+pub returns-then-target-region : goal.returns-then-target-region
+returns-then-target-region c =
+    let h = c.args.heap.now in
+    let r = c.args.region in
+    let xs = c.args.slots.now in
+    let k = c.loop-p.p-index in
+    sym (enters_found h r (slice_index c.args.slots.now c.loop-p.p-index) xs (get_or-In xs k 0 c.loop-p-test.true)
+    (leads_some h (slice_index c.args.slots.now c.loop-p.p-index) c.in-Some.target r c.in-Some.ensures ∙ eq-eqb c.in-Some.target r c.if-target-region.true))
+
+pub returns : goal.returns
+returns c = sym c.loop-p.invariant ∙ ap (enters c.args.heap.now c.args.region) (take_all c.loop-p.p-index c.args.slots.now c.loop-p-test.false)
