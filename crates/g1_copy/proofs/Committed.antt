@@ -5,8 +5,9 @@ use Rattle.std.proofs.Math.Nat.{mul-div_left}
 use Rattle.std.proofs.lemmas.List.FromFn.{length-map-range_with_len}
 use Rattle.g1_after.proofs.Existence.{made_is_moved}
 use Rattle.g1_image.specs.Image.{Image}
-use Rattle.g1_after.specs.Made.{image_after, moved_word}
-use Rattle.g1_after.specs.Moved.{IsMoved}
+use Rattle.g1_after.specs.Made.{heap_after, image_after, image_paused, moved_word}
+use Rattle.g1_after.specs.Paused.{IsPaused}
+use Rattle.g1_after.specs.Unnamed.{unnamed_regions}
 use Rattle.g1_work.proofs.Slices.{length-slice_of, next_slice}
 use Rattle.g1_work.specs.Regions.{EverySlice, slice_of}
 use Rattle.g1_words.proofs.Firsts.{Distinct}
@@ -21,7 +22,7 @@ use Rattle.g1_copy.specs.Patches.{AreBefore, all_patches}
 use Rattle.g1_copy.specs.Prepared.{IsMadeFor, Prepared, committed, written}
 use Rattle.g1_copy.specs.Slices.{IsWritable, by_fate}
 use Rattle.g1_copy.proofs.FatesMade.{run_there}
-use Rattle.g1_copy.proofs.InPlace.{words_in_place}
+use Rattle.g1_copy.proofs.InPlaceFreed.{words_paused}
 use Rattle.g1_copy.proofs.InPlaceSlices.{Distinct-take, flat_length}
 
 -- lists that are put together alike
@@ -30,6 +31,10 @@ flat_map_same f g a zero e = refl
 flat_map_same f g a (suc n) e = λ q. e a (omega arith) (omega arith) q ++ flat_map_same f g (a + 1) n (λ r low high. e r (omega arith) (omega arith)) q
 
 module _ (p : Prepared) (i : Image) (set l : List ℕ) (valid : IsValid i.heap) (made : IsMadeFor p i set l) where
+  -- the regions that are cleared
+  abbrev clears : List ℕ
+  clears = set ++ unnamed_regions (heap_after i.heap set l)
+
   w_positive : 0 < i.heap.geometry.w
   w_positive = let k = valid.limits.w_least in omega arith
 
@@ -56,7 +61,7 @@ module _ (p : Prepared) (i : Image) (set l : List ℕ) (valid : IsValid i.heap) 
         size = length-slice_of i.heap.geometry.w r i.heap.geometry.n i.heap.words valid.word_count lt;
         fate = omega (arith, lt, made.fates.one_each);
         run = λ t e.
-            let k = run_there set (to_space i.heap l) once r t (sym (made.fates.each r lt) ∙ e) in
+            let k = run_there clears (to_space i.heap l) once r t (sym (made.fates.each r lt) ∙ e) in
             let inside = next_slice i.heap.geometry.w t (length (to_space i.heap l)) k.0 in
             omega (arith, inside, gathered_length);
         room = omega arith;
@@ -70,22 +75,26 @@ module _ (p : Prepared) (i : Image) (set l : List ℕ) (valid : IsValid i.heap) 
 
   -- the words are those of the heap after
   by_fates : (r : ℕ) → r < i.heap.geometry.n → by_fate i.heap.geometry.w p.gathered p.patches r (fate_at p.fates r) (slice_of i.heap.geometry.w r i.heap.words)
-      ≡ by_fate i.heap.geometry.w (to_space_words i.heap l) (all_patches i.heap set l) r (fate_of set (to_space i.heap l) r) (slice_of i.heap.geometry.w r i.heap.words)
+      ≡ by_fate i.heap.geometry.w (to_space_words i.heap l) (all_patches i.heap set l) r (fate_of clears (to_space i.heap l) r) (slice_of i.heap.geometry.w r i.heap.words)
   by_fates r lt = λ q. by_fate i.heap.geometry.w (made.gathered q) (made.patches q) r (made.fates.each r lt q) (slice_of i.heap.geometry.w r i.heap.words)
 
-  words_are : written p i.heap.geometry.w i.heap.words ≡ (image_after i set l).heap.words
+  words_are : written p i.heap.geometry.w i.heap.words ≡ (image_paused i set l).heap.words
   words_are =
       flat_map_same (λ r. by_fate i.heap.geometry.w p.gathered p.patches r (fate_at p.fates r) (slice_of i.heap.geometry.w r i.heap.words))
-      (λ r. by_fate i.heap.geometry.w (to_space_words i.heap l) (all_patches i.heap set l) r (fate_of set (to_space i.heap l) r) (slice_of i.heap.geometry.w r i.heap.words))
+      (λ r. by_fate i.heap.geometry.w (to_space_words i.heap l) (all_patches i.heap set l) r (fate_of clears (to_space i.heap l) r) (slice_of i.heap.geometry.w r i.heap.words))
       0 (length i.heap.words / i.heap.geometry.w) (λ r low high. by_fates r (omega (arith, high, count)))
-      ∙ words_in_place i set l (built i.heap valid) made.room.ordinary made.room.survivors made.room.room
+      ∙ words_paused i set l (built i.heap valid) made.room.ordinary made.room.survivors made.room.room
 
-  is_after : committed p i ≡ image_after i set l
+  is_after : committed p i ≡ image_paused i set l
   is_after = λ q. record {
     heap = record { geometry = i.heap.geometry; words = words_are q; regions = made.table q; roots = made.roots q; current = None };
     remembered = made.remembered q;
     log = [];
   }
 
-  pub is_moved : IsMoved i set l (committed p i)
-  is_moved = subst (IsMoved i set l) (sym is_after) (made_is_moved i set l (built i.heap valid) made.room.ordinary made.room.survivors made.room.room)
+  pub is_paused : IsPaused i set l (committed p i)
+  is_paused = record {
+    between = image_after i set l;
+    moved = made_is_moved i set l (built i.heap valid) made.room.ordinary made.room.survivors made.room.room;
+    freed = is_after;
+  }

@@ -1,7 +1,8 @@
 -- The table of fates that is made for a plan.
-use Rattle.std.proofs.Common.{◌≡◌, ◌≢◌, ℕ, suc, ◌+◌, ◌<◌, ◌⊎◌, inl, inr, Bool, true, false, cond, List, [], ◌∷◌, All, AllPairs, Some, None, length, get_or, set, replicate, position, refl, sym, ◌∙◌, ap, subst, arith, eqb}
-use Rattle.std.proofs.lemmas.Bool.{cases_lt, false≢true}
+use Rattle.std.proofs.Common.{◌≡◌, ◌≢◌, ℕ, suc, ◌+◌, ◌<◌, ◌⊎◌, inl, inr, Bool, true, false, cond, ◌||◌, List, [], ◌∷◌, ◌++◌, All, AllPairs, Some, None, length, get_or, set, replicate, position, refl, sym, ◌∙◌, ap, subst, arith, eqb}
+use Rattle.std.proofs.lemmas.Bool.{cases_Bool, cases_lt, false≢true}
 use Rattle.std.proofs.lemmas.List.{get_or-replicate, get_or-set_other, get_or-set_same, length-replicate, length-set}
+use Rattle.std.proofs.lemmas.List.Folds.{list_any-append}
 use Rattle.g1_layout.proofs.Conditions.{set_in_heap}
 use Rattle.g1_layout.specs.Plan.{Plan}
 use Rattle.g1_words.proofs.Firsts.{Distinct}
@@ -105,6 +106,38 @@ module _ (n : ℕ) (place : ℕ → ℕ) (told : ℕ → Fate) (old cur new : Li
     replaced = replaced_each;
     others = λ r f. replaced_off r (λ e. f n (omega arith) (sym e)) ∙ before.others r (λ t lt. f t (omega arith));
   }
+
+-- regions freed beside the set
+
+-- a region of two lists is one of either
+pub has_both : (xs ys : List ℕ) (r : ℕ) → has (xs ++ ys) r ≡ (has xs r || has ys r)
+has_both xs ys r = list_any-append (λ y. eqb r y) xs ys
+
+-- one of them is freed
+pub fate_freed : (set freed to : List ℕ) (r : ℕ) → has freed r ≡ true → fate_of (set ++ freed) to r ≡ Freed
+fate_freed set freed to r e = ap (λ b. cond b Freed (filled_or_kept (position (λ d. eqb d r) to))) (has_both set freed r ∙ ap (λ b. has set r || b) e ∙ or_true_right (has set r)) where
+  or_true_right : (b : Bool) → (b || true) ≡ true
+  or_true_right true = refl
+  or_true_right false = refl
+
+-- any other has the fate that it had
+pub fate_beside : (set freed to : List ℕ) (r : ℕ) → has freed r ≡ false → fate_of (set ++ freed) to r ≡ fate_of set to r
+fate_beside set freed to r e = ap (λ b. cond b Freed (filled_or_kept (position (λ d. eqb d r) to))) (has_both set freed r ∙ ap (λ b. has set r || b) e ∙ or_false_right (has set r)) where
+  or_false_right : (b : Bool) → (b || false) ≡ b
+  or_false_right true = refl
+  or_false_right false = refl
+
+-- the table with these regions freed
+pub freed_beside : (h : Heap) (set freed to : List ℕ) (one two : List Fate) → AreFates h set to one → AreReplaced (length freed) (λ t. get_or freed t 0) (λ t. Freed) one two → AreFates h (set ++ freed) to two
+freed_beside h set freed to one two are new = record {
+  one_each = new.size ∙ are.one_each;
+  each = λ r lt. elim (cases_Bool (has freed r)) [
+    | inl t ↦ let k = place_of freed r (in_from_has freed r t) in ap (fate_at two) (sym k.2) ∙ new.replaced k.0 k.1 ∙ sym (fate_freed set freed to r t)
+    | inr e ↦
+        new.others r (λ t less g. false≢true (sym e ∙ ap (has freed) (sym g) ∙ has_from_in freed (get_or freed t 0) (get_or-In freed t 0 less)))
+        ∙ are.each r lt ∙ sym (fate_beside set freed to r e)
+  ];
+}
 
 -- what a plan tells
 

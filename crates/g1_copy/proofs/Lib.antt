@@ -12,6 +12,11 @@ pub mod FatesMade
 pub mod PatchesBefore
 pub mod RememberedJoined
 pub mod RememberedPaused
+pub mod UnnamedMarks
+pub mod UnnamedFirsts
+pub mod UnnamedRuns
+pub mod RememberedLeft
+pub mod InPlaceFreed
 pub mod GatheringCopies
 pub mod GatheringRuns
 pub mod GatheringWhole

@@ -1,5 +1,7 @@
 -- The table of regions and the roots that are made for a plan.
-use Rattle.std.proofs.Common.{◌≡◌, ℕ, zero, suc, ◌+◌, ◌<◌, ◌≤◌, inl, ◌^◌, true, false, cond, List, [], ◌∷◌, ◌++◌, All, take, length, map, get_or, refl, sym, ◌∙◌, ap, subst, arith}
+use Rattle.std.proofs.Common.{◌≡◌, ℕ, zero, suc, ◌+◌, ◌<◌, ◌≤◌, inl, inr, ◌^◌, true, false, cond, List, [], ◌∷◌, ◌++◌, All, take, length, map, get_or, refl, sym, ◌∙◌, ap, subst, arith}
+use Rattle.std.specs.List.{range_with_len}
+use Rattle.std.proofs.lemmas.Bool.{cases_Bool}
 use Rattle.std.proofs.lemmas.List.{length-take-le, get_or-take, take_all, take_more}
 use Rattle.std.proofs.lemmas.List.FromFn.{get_or-map-range_with_len, length-map-range_with_len}
 use Rattle.g1_after.proofs.Existence.{made_is_moved}
@@ -8,11 +10,11 @@ use Rattle.g1_after.proofs.RulesAfter.{valid_after}
 use Rattle.g1_after.proofs.ValidAfter.{kept_refs, moved_below, root_kept}
 use Rattle.g1_words.specs.Copy.{renamed}
 use Rattle.g1_image.specs.Image.{Image}
-use Rattle.g1_after.specs.Made.{image_after}
+use Rattle.g1_after.specs.Made.{heap_after, image_after}
 use Rattle.g1_after.specs.Moved.{new_region}
 use Rattle.g1_layout.specs.Plan.{Plan, run_at, runs}
 use Rattle.g1_layout.specs.declared.plan.Run.{Run}
-use Rattle.g1_words.proofs.Indices.{get_or-In, is_free_region, not_has}
+use Rattle.g1_words.proofs.Indices.{get_or-In, is_free_region, not_has, range_bounds}
 use Rattle.g1_words.proofs.Members.{Contains-from_in, In, In-flat_map, has_from_in}
 use Rattle.g1_words.proofs.Objects.{tops_fit}
 use Rattle.g1_words.proofs.Shapes.{IsBuilt, built, valid_of}
@@ -29,7 +31,23 @@ use Rattle.g1_copy.specs.Plans.{IsPauseOf}
 use Rattle.g1_copy.specs.Fates.{AreFates, fate_at, fate_of, region_by_fate}
 use Rattle.g1_copy.specs.declared.fates.Fate.{Fate}
 use Rattle.g1_copy.specs.declared.fates.Fate.TheVariants.{Freed, Filled, Kept}
-use Rattle.g1_copy.proofs.FatesMade.{is_freed, is_filled, is_kept, has_fate, once, run_there}
+use Rattle.g1_copy.proofs.FatesMade.{fate_beside, fate_freed, is_freed, is_filled, is_kept, has_fate, once, run_there}
+
+-- lists of regions that are told alike
+map_same_in : (f g : ℕ → Region) (xs : List ℕ) → ((x : ℕ) → In xs x → f x ≡ g x) → map f xs ≡ map g xs
+map_same_in f g [] e = refl
+map_same_in f g (x ∷ xs) e = λ q. e x (inl refl) q ∷ map_same_in f g xs (λ y k. e y (inr k)) q
+
+-- the regions that are made, one more at a time
+pub regions_more : (f : ℕ → Region) (n r : ℕ) (made : List Region) (x : Region) → r < n → made ≡ take r (map f (range_with_len 0 n)) → x ≡ f r → made ++ x ∷ [] ≡ take (r + 1) (map f (range_with_len 0 n))
+regions_more f n r made x lt e g =
+    let all : List Region = map f (range_with_len 0 n) in
+    let size : length all ≡ n = length-map-range_with_len f 0 n in
+    let at : get_or all r free_region ≡ f r = get_or-map-range_with_len f 0 n r r free_region lt (omega arith) in
+    (λ q. e q ++ (g ∙ sym at) q ∷ []) ∙ sym (take_more all r free_region (omega (arith, lt, size)))
+
+pub regions_all : (f : ℕ → Region) (n r : ℕ) (made : List Region) → n ≤ r → made ≡ take r (map f (range_with_len 0 n)) → made ≡ map f (range_with_len 0 n)
+regions_all f n r made le e = e ∙ take_all r (map f (range_with_len 0 n)) (omega (arith, le, length-map-range_with_len f 0 n))
 
 module _ (h : Heap) (chosen : List ℕ) (p : Plan) (valid : IsValid h) (pause : IsPauseOf h chosen p) where
   room : need h p.survivors ≤ length (free_regions h)
@@ -105,19 +123,19 @@ module _ (h : Heap) (chosen : List ℕ) (p : Plan) (valid : IsValid h) (pause : 
         subst (λ (x : Run). x.end < 2 ^ 32) (sym (us_at t u lt)) small
 
     -- a region that is filled by a run has that run
-    pub run_made : (fates : List Fate) (r t : ℕ) → AreFates h chosen (to_space h p.survivors) fates → r < h.geometry.n → fate_at fates r ≡ Filled t → t < length us
-    run_made fates r t are lt e =
-        let k = run_there chosen (to_space h p.survivors) (once h chosen p valid pause) r t (sym (are.each r lt) ∙ e) in
+    pub run_made : (fates : List Fate) (freed : List ℕ) (r t : ℕ) → AreFates h freed (to_space h p.survivors) fates → r < h.geometry.n → fate_at fates r ≡ Filled t → t < length us
+    run_made fates freed r t are lt e =
+        let k = run_there freed (to_space h p.survivors) (once h chosen p valid pause) r t (sym (are.each r lt) ∙ e) in
         let long : length (to_space h p.survivors) ≡ need h p.survivors = length-take-le (need h p.survivors) (free_regions h) room in
         let size : length us ≡ need h p.survivors = ap length us_is ∙ runs_count in
         omega (arith, k.0, long, size)
 
-    -- what a fate makes of a region
-    pub region_made : (fates : List Fate) (u : Run) (r : ℕ) → AreFates h chosen (to_space h p.survivors) fates → r < h.geometry.n → region_by_fate us u (fate_at fates r) (region h r) ≡ new_region h chosen p.survivors r
-    region_made fates u r are lt =
+    -- what the fate in the pause of the set makes of a region
+    region_made : (fate : Fate) (u : Run) (r : ℕ) → fate ≡ fate_of chosen (to_space h p.survivors) r → region_by_fate us u fate (region h r) ≡ new_region h chosen p.survivors r
+    region_made fate u r same =
         let to : List ℕ = to_space h p.survivors in
-        let by : (x : Fate) → fate_of chosen to r ≡ x → region_by_fate us u (fate_at fates r) (region h r) ≡ region_by_fate us u x (region h r) =
-        λ x e. ap (λ y. region_by_fate us u y (region h r)) (are.each r lt ∙ e) in
+        let by : (x : Fate) → fate_of chosen to r ≡ x → region_by_fate us u fate (region h r) ≡ region_by_fate us u x (region h r) =
+        λ x e. ap (λ y. region_by_fate us u y (region h r)) (same ∙ e) in
         elim (has_fate chosen to (once h chosen p valid pause) r) [
           | is_freed a f ↦ by Freed f ∙ (λ q. cond (sym a q) free_region (cond (has to r) (region_with Ordinary (end_in h p.survivors r)) (region h r)))
           | is_filled t less at a b f ↦
@@ -130,19 +148,24 @@ module _ (h : Heap) (chosen : List ℕ) (p : Plan) (valid : IsValid h) (pause : 
           | is_kept a b f ↦ by Kept f ∙ (λ q. cond (sym a q) free_region (cond (sym b q) (region_with Ordinary (end_in h p.survivors r)) (region h r)))
         ]
 
-  -- the regions that are made, one more at a time
-  pub regions_more : (r : ℕ) (made : List Region) (x : Region) → r < h.geometry.n → made ≡ take r (map (new_region h chosen p.survivors) (regions h)) → x ≡ new_region h chosen p.survivors r
-      → made ++ x ∷ [] ≡ take (r + 1) (map (new_region h chosen p.survivors) (regions h))
-  regions_more r made x lt e f =
-      let all : List Region = map (new_region h chosen p.survivors) (regions h) in
-      let size : length all ≡ h.geometry.n = length-map-range_with_len (new_region h chosen p.survivors) 0 h.geometry.n in
-      let at : get_or all r free_region ≡ new_region h chosen p.survivors r = get_or-map-range_with_len (new_region h chosen p.survivors) 0 h.geometry.n r r free_region lt (omega arith) in
-      (λ q. e q ++ (f ∙ sym at) q ∷ []) ∙ sym (take_more all r free_region (omega (arith, lt, size)))
+    -- with regions freed beside the set
+    region_beside : (fates : List Fate) (u : Run) (freed : List ℕ) (r : ℕ) → AreFates h (chosen ++ freed) (to_space h p.survivors) fates → r < h.geometry.n
+        → region_by_fate us u (fate_at fates r) (region h r) ≡ cond (has freed r) free_region (region (heap_after h chosen p.survivors) r)
+    region_beside fates u freed r are lt =
+        let to : List ℕ = to_space h p.survivors in
+        let after : region (heap_after h chosen p.survivors) r ≡ new_region h chosen p.survivors r =
+        get_or-map-range_with_len (new_region h chosen p.survivors) 0 h.geometry.n r r free_region lt (omega arith) in
+        elim (cases_Bool (has freed r)) [
+          | inl t ↦ ap (λ y. region_by_fate us u y (region h r)) (are.each r lt ∙ fate_freed chosen freed to r t) ∙ (λ q. cond (sym t q) free_region (region (heap_after h chosen p.survivors) r))
+          | inr e ↦ region_made (fate_at fates r) u r (are.each r lt ∙ fate_beside chosen freed to r e) ∙ (λ q. cond (sym e q) free_region (sym after q))
+        ]
 
-  pub regions_all : (r : ℕ) (made : List Region) → h.geometry.n ≤ r → made ≡ take r (map (new_region h chosen p.survivors) (regions h)) → made ≡ map (new_region h chosen p.survivors) (regions h)
-  regions_all r made le e =
-      let size : length (map (new_region h chosen p.survivors) (regions h)) ≡ h.geometry.n = length-map-range_with_len (new_region h chosen p.survivors) 0 h.geometry.n in
-      e ∙ take_all r (map (new_region h chosen p.survivors) (regions h)) (omega (arith, le, size))
+    -- the regions by their fates are those after the pause
+    pub regions_by_fates : (fates : List Fate) (u : Run) (freed : List ℕ) → AreFates h (chosen ++ freed) (to_space h p.survivors) fates
+        → map (λ r. region_by_fate us u (fate_at fates r) (region h r)) (regions h) ≡ map (λ r. cond (has freed r) free_region (region (heap_after h chosen p.survivors) r)) (regions h)
+    regions_by_fates fates u freed are =
+        map_same_in (λ r. region_by_fate us u (fate_at fates r) (region h r)) (λ r. cond (has freed r) free_region (region (heap_after h chosen p.survivors) r)) (regions h)
+        (λ r k. region_beside fates u freed r are (let b = range_bounds 0 h.geometry.n r k in omega arith))
 
   -- roots
 

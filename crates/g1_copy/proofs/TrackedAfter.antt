@@ -2,14 +2,14 @@
 use Rattle.std.proofs.Common.{◌≡◌, ◌%◌, ℕ, List, [], None, length, sym, ◌∙◌, ap, subst}
 use Rattle.std.proofs.Math.Nat.{mul-mod_left}
 use Rattle.g1_words.specs.Geometry.{Geometry}
-use Rattle.g1_after.specs.After.{TrackedAfter}
+use Rattle.g1_after.specs.Laws.{TrackedPaused}
 use Rattle.g1_image.specs.Cards.{IsTracked}
 use Rattle.g1_image.specs.Image.{Image}
-use Rattle.g1_after.specs.Moved.{IsMoved}
+use Rattle.g1_after.specs.Paused.{IsPaused}
 use Rattle.g1_work.specs.Regions.{EverySlice}
 use Rattle.g1_copy.specs.Prepared.{IsMadeFor, Prepared, committed, written}
 use Rattle.g1_copy.specs.Slices.{IsWritable}
-use Rattle.g1_copy.proofs.Committed.{all_writable, is_moved}
+use Rattle.g1_copy.proofs.Committed.{all_writable, is_paused}
 
 module _ (p : Prepared) (i : Image) (tracked : IsTracked i) where
   -- what the writing in place asks of the words and their width
@@ -35,9 +35,9 @@ module _ (p : Prepared) (i : Image) (tracked : IsTracked i) where
     is_committed = λ t. put_together (same t) (g t) (e t) (empty t)
 
     -- it is the image after, for whatever set and survivors it was made
-    pub moved_parts : (set l : List ℕ) → IsMadeFor p i set l → IsMoved i set l (put_together q geometry words log)
-    moved_parts set l made = subst (IsMoved i set l) (sym is_committed) (is_moved p i set l tracked.image.heap made)
+    pub paused_parts : (set l : List ℕ) → IsMadeFor p i set l → IsPaused i set l (put_together q geometry words log)
+    paused_parts set l made = subst (IsPaused i set l) (sym is_committed) (is_paused p i set l tracked.image.heap made)
 
     -- and is tracked
-    pub tracked_parts : TrackedAfter → ((set : List ℕ) × (l : List ℕ) × IsMadeFor p i set l) → IsTracked (put_together q geometry words log)
-    tracked_parts law (set, l, made) = law i set l (put_together q geometry words log) tracked made.room (moved_parts set l made)
+    pub tracked_parts : TrackedPaused → ((set : List ℕ) × (l : List ℕ) × IsMadeFor p i set l) → IsTracked (put_together q geometry words log)
+    tracked_parts law (set, l, made) = law i set l (put_together q geometry words log) tracked made.room (paused_parts set l made)

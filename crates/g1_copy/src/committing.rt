@@ -1,5 +1,5 @@
 ghost use Rattle.std.specs.Prelude.{ℕ, List, ◌<◌, ◌≤◌};
-ghost use Rattle.g1_after.specs.Moved.{IsMoved};
+ghost use Rattle.g1_after.specs.Paused.{IsPaused};
 ghost use Rattle.g1_copy.specs.Prepared.{IsMadeFor};
 
 use crate::filling::write;
@@ -21,7 +21,7 @@ pub fn commit<R: Threads + Sync, G: Gate + Sync>(
 ) -> Tracked
     requires workers { (0 < workers) × (workers ≤ 64) }
     requires made { (set : List ℕ) × (l : List ℕ) × IsMadeFor prepared tracked set l }
-    ensures moved { (set l : List ℕ) → IsMadeFor prepared tracked set l → IsMoved tracked set l result }
+    ensures paused { (set l : List ℕ) → IsMadeFor prepared tracked set l → IsPaused tracked set l result }
 {
     g1_after::laws::image_after();
     let Tracked { image } = tracked;

@@ -11,7 +11,7 @@ use std::alloc::{AllocError, Global};
 /// What a pause does with a region.
 #[derive(Clone, Copy)]
 pub(crate) enum Fate {
-    /// It is of the set, and free afterwards.
+    /// It is of the set, or of the run of a humongous object that nothing names; free afterwards.
     Freed,
     /// Survivors are placed in it: those of the run with this index.
     Filled(usize),
@@ -42,7 +42,7 @@ fn fill(fates: &mut [Fate], to_space: &[u32])
 }
 
 /// Each of these regions is freed.
-fn free(fates: &mut [Fate], set: &[u32])
+pub(crate) fn free(fates: &mut [Fate], set: &[u32])
     requires { All (λ r. r < length fates.old) set.now }
     ensures { AreReplaced (length set.now) (slice_index set.now) (λ t. Freed) fates.old fates.new }
 {
@@ -51,8 +51,8 @@ fn free(fates: &mut [Fate], set: &[u32])
     }
 }
 
-/// The fate of each region in the pause of a set. All that is done region by region goes by this
-/// table.
+/// The fate of each region where the survivors of a set move. All that is done region by region goes
+/// by this table.
 pub(crate) fn fates(
     alloc: Global,
     heap: &Heap,

@@ -19,7 +19,7 @@ use std::thread::Threads;
 const WORDS_A_THREAD: usize = 65_536;
 
 /// The object whose header stands at an address.
-fn object(heap: &Heap, a: u64) -> Object
+pub(crate) fn object(heap: &Heap, a: u64) -> Object
     requires { a < length heap.now.words }
     ensures { result ≡ object_at heap.now a }
 {

@@ -1,22 +1,22 @@
-ghost use Rattle.std.specs.Prelude.{◌≡◌, ◌<◌, ◌^◌, ℕ, map, length, All, IfOk, IfErr};
-ghost use Rattle.g1_words.specs.Heap.{regions};
+ghost use Rattle.std.specs.Prelude.{◌≡◌, ◌<◌, ◌^◌, ℕ, List, map, length, All, IfOk, IfErr};
+ghost use Rattle.g1_words.specs.Heap.{region, regions};
 ghost use Rattle.g1_words.specs.Layout.{forward, moved_to, to_space};
 ghost use Rattle.g1_image.specs.Cards.{refined};
 ghost use Rattle.g1_words.specs.Copy.{renamed};
-ghost use Rattle.g1_after.specs.Moved.{new_region};
 ghost use Rattle.g1_layout.specs.declared.plan.Run.{Run};
 ghost use Rattle.g1_rem.specs.EntryCards.{cards_into};
 ghost use Rattle.g1_rem.specs.Starts.{IsStartsOf};
-ghost use Rattle.g1_copy.specs.Fates.{AreFates, region_by_fate};
+ghost use Rattle.g1_copy.specs.Fates.{AreFates, fate_at, region_by_fate};
 ghost use Rattle.g1_copy.specs.Plans.{IsPauseOf};
 ghost use Rattle.g1_copy.specs.Prepared.{IsMadeFor};
 ghost use Rattle.g1_copy.specs.declared.fates.Fate.TheVariants.{Filled};
 
-use crate::fates::{Fate, fates};
+use crate::fates::{Fate, fates, free};
 use crate::gathering::{gather_by, renamed};
 use crate::laws;
 use crate::patching::{firsts, patches};
 use crate::remembering::remembered_by_fate;
+use crate::unnamed::{leave_all, runs, unnamed};
 use g1_layout::{Plan, Run};
 use g1_rem::{Starts, Tracked, cards_into, image};
 use g1_words::{Fault, Heap, Kind, Region};
@@ -42,6 +42,8 @@ pub struct Prepared {
     pub(crate) roots: Vec<u64>,
     /// The remembered sets after.
     pub(crate) remembered: Vec<Vec<u32>>,
+    /// The first regions of the humongous objects that are freed, rising.
+    pub(crate) humongous: Vec<u32>,
 }
 
 impl Model for Prepared {
@@ -58,7 +60,17 @@ impl Model for Prepared {
       regions = p.regions.items;
       roots = p.roots.items;
       remembered = map (λ s. s.items) p.remembered.items;
+      humongous = p.humongous.items;
     } };
+}
+
+impl Prepared {
+    /// The first regions of the humongous objects that the pause frees, rising.
+    pub fn humongous(&self) -> &[u32]
+        ensures { result.now ≡ self.now.humongous }
+    {
+        &self.humongous
+    }
 }
 
 /// A region after the pause, of what it is before.
@@ -82,8 +94,8 @@ fn new_region(fate: Fate, runs: &[Run], region: Region) -> Region
     }
 }
 
-/// The regions after the pause: those of the set free, those of to-space used up to where their last
-/// survivors end, and all others as they were.
+/// The regions after the pause, by their fates: a freed one is free, one of to-space used up to where
+/// its last survivor ends, and any other as it was.
 fn new_regions(
     alloc: Global,
     heap: &Heap,
@@ -91,8 +103,8 @@ fn new_regions(
     plan: &Plan,
 ) -> Result<Vec<Region>, AllocError>
     requires plan { IsPauseOf heap.now plan.now.set plan.now }
-    requires fates { AreFates heap.now plan.now.set (to_space heap.now plan.now.survivors) fates.now }
-    ensures { IfOk result (λ v. v.items ≡ map (new_region heap.now plan.now.set plan.now.survivors) (regions heap.now)) }
+    requires fates { (freed : List ℕ) × AreFates heap.now freed (to_space heap.now plan.now.survivors) fates.now }
+    ensures { IfOk result (λ v. (u : Run) → v.items ≡ map (λ r. region_by_fate plan.now.runs u (fate_at fates.now r) (region heap.now r)) (regions heap.now)) }
 {
     let count = heap.geometry().regions() as u32;
     let mut regions = Vec::with_capacity(alloc, count as usize)?;
@@ -117,7 +129,9 @@ fn new_roots(alloc: Global, heap: &Heap, set: &[u32], plan: &Plan) -> Result<Vec
 }
 
 /// All that the pause of a collection set writes. `remembered` are the refined sets; the plan was made from
-/// this heap, this set and its survivors.
+/// this heap, this set and its survivors. Where no humongous object is freed, looking for one is linear in
+/// the regions, the roots, the remembered cards of humongous regions and the slots on them; else the cards
+/// of all remembered sets are looked at once more.
 ///
 /// # Errors
 ///
@@ -179,16 +193,22 @@ pub fn prepare_on(
     let heap = image(tracked).heap();
     let patches = patches(rt, alloc, heap, starts, plan, cards)?;
     let gathered = gather_by(rt, alloc, heap, plan, workers)?;
-    let fates = fates(alloc, heap, set, plan)?;
+    let mut fates = fates(alloc, heap, set, plan)?;
+    let mut sets = remembered_by_fate(
+        rt, alloc, tracked, remembered, &fates, plan, &patches, &gathered, workers,
+    )?;
+    let humongous = unnamed(alloc, tracked, starts, plan, &fates, &sets)?;
+    let freed = runs(alloc, heap, &humongous)?;
+    free(&mut fates, &freed);
+    leave_all(heap, &fates, &freed, &mut sets);
     Ok(Prepared {
         firsts: firsts(alloc, heap, &patches)?,
         regions: new_regions(alloc, heap, &fates, plan)?,
         roots: new_roots(alloc, heap, set, plan)?,
-        remembered: remembered_by_fate(
-            rt, alloc, tracked, remembered, &fates, plan, &patches, &gathered, workers,
-        )?,
+        remembered: sets,
         fates,
         gathered,
         patches,
+        humongous,
     })
 }

@@ -5,7 +5,7 @@ use Rattle.g1_words.specs.Heap.{Heap}
 use Rattle.g1_image.specs.Cards.{Covered, IsTracked}
 use Rattle.g1_image.specs.Image.{Image, IsImage}
 use Rattle.g1_copy.specs.Prepared.{written}
-use Rattle.g1_copy.proofs.TrackedAfter.{cut_evenly, moved_parts, ready_there, tracked_parts}
+use Rattle.g1_copy.proofs.TrackedAfter.{cut_evenly, paused_parts, ready_there, tracked_parts}
 use Rattle.g1_copy.proofs.committing.commit.Given.{Over}
 use Rattle.g1_copy.proofs.committing.commit.Goals as goal
 use Rattle.g1_copy.proofs.committing.commit.Goals.{After-prepared, After-clear}
@@ -46,7 +46,7 @@ invariant_of-heap g c =
     let b = (goal.at.invariant_of-heap g c).After-prepared in
     let words = new_words g (goal.at.invariant_of-heap g c).After-clear (the_width g b) (the_words g b) in
     (tracked_parts c.args.prepared c.args.tracked (the_tracked g b)
-    (record { fates = c.prepared.inside.fates.items; gathered = c.prepared.inside.gathered.items; patches = c.prepared.inside.patches.items; firsts = c.prepared.inside.firsts.items; regions = c.prepared.inside.regions.items; roots = c.prepared.inside.roots.items; remembered = map (λ s. s.items) c.prepared.inside.remembered.items })
+    (record { fates = c.prepared.inside.fates.items; gathered = c.prepared.inside.gathered.items; patches = c.prepared.inside.patches.items; firsts = c.prepared.inside.firsts.items; regions = c.prepared.inside.regions.items; roots = c.prepared.inside.roots.items; remembered = map (λ s. s.items) c.prepared.inside.remembered.items; humongous = c.prepared.inside.humongous.items })
     c.heap.inside.geometry (take c.heap.inside.words.len (c.write.new.words ++ drop (length c.write.new.words) c.heap.inside.words.items)) c.clear.new.self.keys c.prepared.view_is (the_geometry g b) words c.clear.ensures.empty c.image_after.ensures.tracked c.requires.made).image.heap
 
 pub invariant_of-result : goal.invariant_of-result
@@ -54,7 +54,7 @@ invariant_of-result g c =
     let b = (goal.at.invariant_of-result g c).After-prepared in
     let words = new_words g (goal.at.invariant_of-result g c).After-clear (the_width g b) (the_words g b) in
     (tracked_parts c.args.prepared c.args.tracked (the_tracked g b)
-    (record { fates = c.prepared.inside.fates.items; gathered = c.prepared.inside.gathered.items; patches = c.prepared.inside.patches.items; firsts = c.prepared.inside.firsts.items; regions = c.prepared.inside.regions.items; roots = c.prepared.inside.roots.items; remembered = map (λ s. s.items) c.prepared.inside.remembered.items })
+    (record { fates = c.prepared.inside.fates.items; gathered = c.prepared.inside.gathered.items; patches = c.prepared.inside.patches.items; firsts = c.prepared.inside.firsts.items; regions = c.prepared.inside.regions.items; roots = c.prepared.inside.roots.items; remembered = map (λ s. s.items) c.prepared.inside.remembered.items; humongous = c.prepared.inside.humongous.items })
     c.heap.inside.geometry (take c.heap.inside.words.len (c.write.new.words ++ drop (length c.write.new.words) c.heap.inside.words.items)) c.clear.new.self.keys c.prepared.view_is (the_geometry g b) words c.clear.ensures.empty c.image_after.ensures.tracked c.requires.made).image
 
 pub invariant_of-result-2 : goal.invariant_of-result-2
@@ -62,7 +62,7 @@ invariant_of-result-2 g c =
     let b = (goal.at.invariant_of-result-2 g c).After-prepared in
     let words = new_words g (goal.at.invariant_of-result-2 g c).After-clear (the_width g b) (the_words g b) in
     (tracked_parts c.args.prepared c.args.tracked (the_tracked g b)
-    (record { fates = c.prepared.inside.fates.items; gathered = c.prepared.inside.gathered.items; patches = c.prepared.inside.patches.items; firsts = c.prepared.inside.firsts.items; regions = c.prepared.inside.regions.items; roots = c.prepared.inside.roots.items; remembered = map (λ s. s.items) c.prepared.inside.remembered.items })
+    (record { fates = c.prepared.inside.fates.items; gathered = c.prepared.inside.gathered.items; patches = c.prepared.inside.patches.items; firsts = c.prepared.inside.firsts.items; regions = c.prepared.inside.regions.items; roots = c.prepared.inside.roots.items; remembered = map (λ s. s.items) c.prepared.inside.remembered.items; humongous = c.prepared.inside.humongous.items })
     c.heap.inside.geometry (take c.heap.inside.words.len (c.write.new.words ++ drop (length c.write.new.words) c.heap.inside.words.items)) c.clear.new.self.keys c.prepared.view_is (the_geometry g b) words c.clear.ensures.empty c.image_after.ensures.tracked c.requires.made).covered
 
 pub returns : goal.returns
@@ -70,7 +70,7 @@ returns g c =
     let b = (goal.at.returns g c).After-prepared in
     let words = new_words g (goal.at.returns g c).After-clear (the_width g b) (the_words g b) in
     record {
-      moved = moved_parts c.args.prepared c.args.tracked (the_tracked g b)
-          (record { fates = c.prepared.inside.fates.items; gathered = c.prepared.inside.gathered.items; patches = c.prepared.inside.patches.items; firsts = c.prepared.inside.firsts.items; regions = c.prepared.inside.regions.items; roots = c.prepared.inside.roots.items; remembered = map (λ s. s.items) c.prepared.inside.remembered.items })
+      paused = paused_parts c.args.prepared c.args.tracked (the_tracked g b)
+          (record { fates = c.prepared.inside.fates.items; gathered = c.prepared.inside.gathered.items; patches = c.prepared.inside.patches.items; firsts = c.prepared.inside.firsts.items; regions = c.prepared.inside.regions.items; roots = c.prepared.inside.roots.items; remembered = map (λ s. s.items) c.prepared.inside.remembered.items; humongous = c.prepared.inside.humongous.items })
           c.heap.inside.geometry (take c.heap.inside.words.len (c.write.new.words ++ drop (length c.write.new.words) c.heap.inside.words.items)) c.clear.new.self.keys c.prepared.view_is (the_geometry g b) words c.clear.ensures.empty;
     }

@@ -1,9 +1,21 @@
-use Rattle.std.proofs.Common.{map, sym, ◌∙◌, ap, subst}
+use Rattle.std.proofs.Common.{◌≡◌, ℕ, ◌++◌, List, length, map, take, drop, sym, ◌∙◌, ap, subst}
+use Rattle.std.proofs.lemmas.List.{length-map}
+use Rattle.std.proofs.lemmas.List.FromFn.{length-map-range_with_len}
+use Rattle.g1_words.specs.Heap.{Heap}
+use Rattle.g1_words.specs.Layout.{to_space}
+use Rattle.g1_image.specs.Cards.{IsTracked}
 use Rattle.g1_image.specs.Image.{Image, IsImage}
+use Rattle.g1_after.specs.Made.{heap_after}
+use Rattle.g1_after.specs.Moved.{remembered_after}
+use Rattle.g1_after.specs.Unnamed.{unnamed_regions}
+use Rattle.g1_rem.proofs.Entering.{lent_back}
 use Rattle.g1_rem.specs.EntryCards.{cards_into}
+use Rattle.g1_copy.specs.Fates.{AreFates}
 use Rattle.g1_copy.specs.Patches.{AreFirsts}
-use Rattle.g1_copy.proofs.PreparedPause.{all_found, found_rise, into_outside, into_rise, into_there, made_for, own_patches}
+use Rattle.g1_copy.proofs.PreparedPause.{all_found, fates_after, firsts_there, found_rise, into_outside, into_rise, into_there, made_for, own_patches, remembered_left, runs_freed, runs_there, table_after}
+use Rattle.g1_copy.proofs.preparing.prepare_on.Given.{Over}
 use Rattle.g1_copy.proofs.preparing.prepare_on.Goals as goal
+use Rattle.g1_copy.proofs.preparing.prepare_on.Goals.{After-heap-heap, After-free, In_ok-freed}
 
 pub patches-requires-clause-rising : goal.patches-requires-clause-rising
 patches-requires-clause-rising g c κs within =
@@ -23,16 +35,6 @@ patches-requires-clause-outside g c κs within =
     let here = c.requires.cards ∙ ap (λ h. cards_into h (map (λ s. s.items) c.args.remembered.now) c.args.set.now) (sym he) in
     into_outside c.heap-heap.result.now (map (λ s. s.items) c.args.remembered.now) c.args.set.now c.args.cards.now here c.args.plan.now.set c.requires.plan.same
 
-pub firsts-requires : goal.firsts-requires
-firsts-requires g c =
-    let i : Image = c.args.tracked.now in
-    let p = c.args.plan.now in
-    let he = c.heap-heap.ensures.same ∙ ap (λ (x : Image). x.heap) c.image.ensures.same in
-    let image : IsImage i = subst IsImage c.image.ensures.same c.heap-heap.ensures.valid in
-    let here = c.requires.cards ∙ ap (λ h. cards_into h (map (λ s. s.items) c.args.remembered.now) c.args.set.now) (sym he) in
-    let found = all_found i c.args.set.now p c.requires.plan c.heap-heap.result.now (map (λ s. s.items) c.args.remembered.now) c.args.cards.now c.deref.result.now c.all_patches.ensures image c.image.ensures.covered he c.requires.remembered here (c.deref.ensures.value ∙ c.in_ok-patches.ensures.ok) in
-    found_rise i c.args.set.now p c.requires.plan c.deref.result.now image found
-
 pub remembered_by_fate-requires-clause-patches : goal.remembered_by_fate-requires-clause-patches
 remembered_by_fate-requires-clause-patches g c κs within =
     let i : Image = c.args.tracked.now in
@@ -40,20 +42,113 @@ remembered_by_fate-requires-clause-patches g c κs within =
     let he = c.heap-heap.ensures.same ∙ ap (λ (x : Image). x.heap) c.image.ensures.same in
     let image : IsImage i = subst IsImage c.image.ensures.same c.heap-heap.ensures.valid in
     let here = c.requires.cards ∙ ap (λ h. cards_into h (map (λ s. s.items) c.args.remembered.now) c.args.set.now) (sym he) in
-    let found = all_found i c.args.set.now p c.requires.plan c.heap-heap.result.now (map (λ s. s.items) c.args.remembered.now) c.args.cards.now c.deref-4.result.now c.all_patches.ensures image c.image.ensures.covered he c.requires.remembered here (c.deref-4.ensures.value ∙ c.in_ok-patches.ensures.ok) in
-    own_patches i c.args.set.now p c.requires.plan c.deref-4.result.now found
+    let found = all_found i c.args.set.now p c.requires.plan c.heap-heap.result.now (map (λ s. s.items) c.args.remembered.now) c.args.cards.now c.deref-2.result.now c.all_patches.ensures image c.image.ensures.covered he c.requires.remembered here (c.deref-2.ensures.value ∙ c.in_ok-patches.ensures.ok) in
+    own_patches i c.args.set.now p c.requires.plan c.deref-2.result.now found
+
+-- ---- the humongous objects that are freed
+
+the_tracked : (g : Over) (c : After-heap-heap g) → IsTracked c.args.tracked.now
+the_tracked g c = record { image = subst IsImage c.image.ensures.same c.heap-heap.ensures.valid; covered = c.image.ensures.covered }
+
+the_heap : (g : Over) (c : After-heap-heap g) → c.heap-heap.result.now ≡ c.args.tracked.now.heap
+the_heap g c = c.heap-heap.ensures.same ∙ ap (λ (x : Image). x.heap) c.image.ensures.same
+
+-- the regions that are freed beside the set
+abbrev freed : Image → List ℕ → List ℕ → List ℕ
+freed i set l = unnamed_regions (heap_after i.heap set l)
+
+pub runs-requires : goal.runs-requires
+runs-requires g c =
+    let b = (goal.at.runs-requires g c).After-heap-heap in
+    firsts_there c.args.tracked.now c.args.set.now c.args.plan.now c.requires.plan (the_tracked g b) c.heap-heap.result.now (the_heap g b) c.deref-6.result.now (c.deref-6.ensures.value ∙ c.in_ok-humongous.ensures)
+
+-- they are the runs that were found
+the_runs : (g : Over) (c : In_ok-freed g) → IsTracked c.args.tracked.now → c.heap-heap.result.now ≡ c.args.tracked.now.heap → c.in_ok-freed.freed.items ≡ freed c.args.tracked.now c.args.set.now c.args.plan.now.survivors
+the_runs g c tracked he =
+    runs_freed c.args.tracked.now c.args.set.now c.args.plan.now c.requires.plan tracked c.heap-heap.result.now he c.deref-6.result.now (c.deref-6.ensures.value ∙ c.in_ok-humongous.ensures) c.in_ok-freed.freed.items c.in_ok-freed.ensures
+
+pub free-requires : goal.free-requires
+free-requires g c =
+    let b = (goal.at.free-requires g c).After-heap-heap in
+    let count : length c.deref_mut.result.now ≡ c.args.tracked.now.heap.geometry.n = ap length c.deref_mut.ensures.value ∙ c.in_ok-fates.ensures.one_each ∙ ap (λ (h : Heap). h.geometry.n) (the_heap g b) in
+    runs_there c.args.tracked.now c.args.set.now c.args.plan.now c.requires.plan (the_tracked g b) c.deref-7.result.now (length c.deref_mut.result.now)
+    (c.deref-7.ensures.value ∙ the_runs g (goal.at.free-requires g c).In_ok-freed (the_tracked g b) (the_heap g b)) count
+
+-- the table of fates afterwards
+the_fates : (g : Over) (c : After-free g) → IsTracked c.args.tracked.now → c.heap-heap.result.now ≡ c.args.tracked.now.heap → c.in_ok-freed.freed.items ≡ freed c.args.tracked.now c.args.set.now c.args.plan.now.survivors
+    → AreFates c.args.tracked.now.heap (c.args.set.now ++ freed c.args.tracked.now c.args.set.now c.args.plan.now.survivors) (to_space c.args.tracked.now.heap c.args.plan.now.survivors) c.free.new.fates
+the_fates g c tracked he runs =
+    let h = c.heap-heap.result.now in
+    fates_after c.args.tracked.now c.args.set.now c.args.plan.now c.requires.plan tracked h c.deref-7.result.now c.deref_mut.result.now c.free.new.fates he (c.deref-7.ensures.value ∙ runs)
+    (subst (AreFates h c.args.set.now (to_space h c.args.plan.now.survivors)) (sym c.deref_mut.ensures.value) c.in_ok-fates.ensures) c.free.ensures
+
+-- it stands in its vector
+fates_back : (g : Over) (c : After-free g) → take c.in_ok-fates.fates.len (c.free.new.fates ++ drop (length c.free.new.fates) c.in_ok-fates.fates.items) ≡ c.free.new.fates
+fates_back g c = lent_back c.in_ok-fates.fates.len c.deref_mut.result.now c.free.new.fates c.in_ok-fates.fates.items c.deref_mut.ensures.value c.free.ensures.size c.deref_mut.ensures.len
+
+pub leave_all-requires : goal.leave_all-requires
+leave_all-requires g c =
+    let i : Image = c.args.tracked.now in
+    let p = c.args.plan.now in
+    let b = (goal.at.leave_all-requires g c).After-free in
+    let e = (goal.at.leave_all-requires g c).After-heap-heap in
+    let runs = the_runs g (goal.at.leave_all-requires g c).In_ok-freed (the_tracked g e) (the_heap g e) in
+    let sets : length c.deref_mut-2.result.now ≡ c.args.tracked.now.heap.geometry.n =
+    ap length c.deref_mut-2.ensures.value ∙ sym (length-map c.in_ok-sets.sets.items (λ s. s.items)) ∙ ap length c.in_ok-sets.ensures.ok
+    ∙ length-map-range_with_len (remembered_after i p.set p.survivors (heap_after i.heap p.set p.survivors)) 0 i.heap.geometry.n in
+    sets ∙ sym (the_fates g b (the_tracked g e) (the_heap g e) runs).one_each ∙ ap length (sym (c.deref-8.ensures.value ∙ fates_back g b))
+
+-- ---- what is made
+
+pub firsts-requires : goal.firsts-requires
+firsts-requires g c =
+    let i : Image = c.args.tracked.now in
+    let p = c.args.plan.now in
+    let he = c.heap-heap.ensures.same ∙ ap (λ (x : Image). x.heap) c.image.ensures.same in
+    let image : IsImage i = subst IsImage c.image.ensures.same c.heap-heap.ensures.valid in
+    let here = c.requires.cards ∙ ap (λ h. cards_into h (map (λ s. s.items) c.args.remembered.now) c.args.set.now) (sym he) in
+    let found = all_found i c.args.set.now p c.requires.plan c.heap-heap.result.now (map (λ s. s.items) c.args.remembered.now) c.args.cards.now c.deref-10.result.now c.all_patches.ensures image c.image.ensures.covered he c.requires.remembered here (c.deref-10.ensures.value ∙ c.in_ok-patches.ensures.ok) in
+    found_rise i c.args.set.now p c.requires.plan c.deref-10.result.now image found
+
+pub new_regions-requires-clause-fates : goal.new_regions-requires-clause-fates
+new_regions-requires-clause-fates g c =
+    let b = (goal.at.new_regions-requires-clause-fates g c).After-free in
+    let e = (goal.at.new_regions-requires-clause-fates g c).After-heap-heap in
+    let runs = the_runs g (goal.at.new_regions-requires-clause-fates g c).In_ok-freed (the_tracked g e) (the_heap g e) in
+    let i : Image = c.args.tracked.now in
+    let p = c.args.plan.now in
+    let clears : List ℕ = c.args.set.now ++ freed i c.args.set.now p.survivors in (
+      clears,
+      subst (λ h. AreFates h clears (to_space h p.survivors) c.deref-11.result.now) (sym (the_heap g e))
+          (subst (AreFates i.heap clears (to_space i.heap p.survivors)) (sym (c.deref-11.ensures.value ∙ fates_back g b)) (the_fates g b (the_tracked g e) (the_heap g e) runs)),
+    )
 
 pub returns-clause-ok : goal.returns-clause-ok
 returns-clause-ok g c =
     let i : Image = c.args.tracked.now in
+    let set = c.args.set.now in
     let p = c.args.plan.now in
+    let pause = c.requires.plan in
     let h = c.heap-heap.result.now in
     let ps = c.in_ok-patches.patches.items in
-    let he = c.heap-heap.ensures.same ∙ ap (λ (x : Image). x.heap) c.image.ensures.same in
-    let image : IsImage i = subst IsImage c.image.ensures.same c.heap-heap.ensures.valid in
+    let b = (goal.at.returns-clause-ok g c).After-free in
+    let e = (goal.at.returns-clause-ok g c).After-heap-heap in
+    let tracked = the_tracked g e in
+    let he = the_heap g e in
+    let runs = the_runs g (goal.at.returns-clause-ok g c).In_ok-freed tracked he in
+    let fates = the_fates g b tracked he runs in
+    let clears : List ℕ = c.args.set.now ++ freed i c.args.set.now p.survivors in
+    let image : IsImage i = tracked.image in
     let here = c.requires.cards ∙ ap (λ h. cards_into h (map (λ s. s.items) c.args.remembered.now) c.args.set.now) (sym he) in
-    let found = all_found i c.args.set.now p c.requires.plan h (map (λ s. s.items) c.args.remembered.now) c.args.cards.now ps c.all_patches.ensures image c.image.ensures.covered he c.requires.remembered here c.in_ok-patches.ensures.ok in
-    let firsts = subst (λ xs. AreFirsts h.geometry.w h.geometry.n xs c.in_ok-firsts.field-0.items) c.deref.ensures.value c.in_ok-firsts.ensures in
-    made_for i c.args.set.now p c.requires.plan
-    (record { fates = c.in_ok-fates.fates.items; gathered = c.in_ok-gathered.gathered.items; patches = ps; firsts = c.in_ok-firsts.field-0.items; regions = c.in_ok-new_regions.field-0.items; roots = c.in_ok-new_roots.field-0.items; remembered = map (λ s. s.items) c.in_ok-remembered_by_fate.field-0.items })
-    h p.set he c.requires.plan.same c.in_ok-fates.ensures c.in_ok-gathered.ensures found firsts c.in_ok-new_regions.ensures c.in_ok-new_roots.ensures c.in_ok-remembered_by_fate.ensures.ok
+    let found = all_found i set p pause h (map (λ s. s.items) c.args.remembered.now) c.args.cards.now ps c.all_patches.ensures image c.image.ensures.covered he c.requires.remembered here c.in_ok-patches.ensures.ok in
+    let firsts = subst (λ xs. AreFirsts h.geometry.w h.geometry.n xs c.in_ok-firsts.field-0.items) c.deref-10.ensures.value c.in_ok-firsts.ensures in
+    let back : take c.in_ok-fates.fates.len (c.free.new.fates ++ drop (length c.free.new.fates) c.in_ok-fates.fates.items) ≡ c.free.new.fates = fates_back g b in
+    let table = table_after i set p pause tracked h c.in_ok-new_regions.field-0.items c.deref-11.result.now he
+    (subst (AreFates i.heap clears (to_space i.heap p.survivors)) (sym (c.deref-11.ensures.value ∙ back)) fates) c.in_ok-new_regions.ensures in
+    let kept = lent_back c.in_ok-sets.sets.len c.deref_mut-2.result.now c.leave_all.new.sets c.in_ok-sets.sets.items c.deref_mut-2.ensures.value c.leave_all.auto.sets c.deref_mut-2.ensures.len in
+    let sets = remembered_left i set p pause tracked h c.deref-8.result.now c.deref-9.result.now (map (λ s. s.items) c.deref_mut-2.result.now) (map (λ s. s.items) c.leave_all.new.sets) he (c.deref-9.ensures.value ∙ runs)
+    (subst (AreFates i.heap clears (to_space i.heap p.survivors)) (sym (c.deref-8.ensures.value ∙ back)) fates)
+    (ap (map (λ s. s.items)) c.deref_mut-2.ensures.value ∙ c.in_ok-sets.ensures.ok) c.leave_all.ensures.left (λ z. ap (map (λ s. s.items)) (c.leave_all.ensures.same z)) in
+    made_for i set p pause tracked
+    (record { fates = take c.in_ok-fates.fates.len (c.free.new.fates ++ drop (length c.free.new.fates) c.in_ok-fates.fates.items); gathered = c.in_ok-gathered.gathered.items; patches = ps; firsts = c.in_ok-firsts.field-0.items; regions = c.in_ok-new_regions.field-0.items; roots = c.in_ok-new_roots.field-0.items; remembered = map (λ s. s.items) (take c.in_ok-sets.sets.len (c.leave_all.new.sets ++ drop (length c.leave_all.new.sets) c.in_ok-sets.sets.items)); humongous = c.in_ok-humongous.humongous.items })
+    h he (subst (AreFates i.heap clears (to_space i.heap p.survivors)) (sym back) fates) c.in_ok-gathered.ensures found firsts table c.in_ok-new_roots.ensures (ap (map (λ s. s.items)) kept ∙ sets) c.in_ok-humongous.ensures

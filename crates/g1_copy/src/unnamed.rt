@@ -1,0 +1,245 @@
+ghost use Rattle.std.specs.Prelude.{◌≡◌, ◌<◌, ◌≤◌, ◌+◌, ◌++◌, ◌^◌, ℕ, length, map, filter, flat_map, replicate, false, All, OnOk, IfOk};
+ghost use Rattle.std.specs.List.{list_any, range_with_len};
+ghost use Rattle.g1_words.specs.Heap.{kind, object_at, region_of, regions, start};
+ghost use Rattle.g1_words.specs.Layout.{to_space};
+ghost use Rattle.g1_words.specs.declared.region.Kind.TheVariants.{HumongousFirst};
+ghost use Rattle.g1_after.specs.Made.{heap_after};
+ghost use Rattle.g1_after.specs.Moved.{remembered_after};
+ghost use Rattle.g1_after.specs.Unnamed.{lies_in, unnamed};
+ghost use Rattle.g1_rem.specs.EntryCards.{AreMarked};
+ghost use Rattle.g1_rem.specs.Starts.{IsStartsOf, card_count};
+ghost use Rattle.g1_copy.specs.Fates.{AreFates};
+ghost use Rattle.g1_copy.specs.Plans.{IsPauseOf};
+ghost use Rattle.g1_copy.specs.Remembered.{AreLeft, cards_at, left, stays};
+ghost use Rattle.g1_copy.specs.Unnamed.{is_naming, is_rooted, is_unnamed, run_regions};
+
+use crate::fates::Fate;
+use crate::gathering::object;
+use g1_layout::Plan;
+use g1_rem::{Starts, Tracked, image, leads_into};
+use g1_words::{Heap, Kind, Object, region_of, size_at};
+use std::alloc::{AllocError, Global};
+
+/// Sets the marks of the regions in which a root names an object.
+fn mark_rooted(heap: &Heap, rooted: &mut [bool])
+    requires { length rooted.old ≡ heap.now.geometry.n }
+    ensures { AreMarked (is_rooted heap.now) rooted.old rooted.new }
+{
+    let geometry = heap.geometry();
+    for root in heap.roots() {
+        if *root > 0 {
+            rooted[region_of(&geometry, *root - 1) as usize] = true;
+        }
+    }
+}
+
+/// Whether a word of the object lies in a region.
+fn lies_in(heap: &Heap, region: u64, object: &Object) -> bool
+    requires region { region < heap.now.geometry.n }
+    requires object { object.now.at + object.now.size < 2 ^ 64 }
+    ensures { result ≡ lies_in heap.now region object.now }
+{
+    let region_words = heap.geometry().region_words();
+    let start = region * region_words;
+    object.at < start + region_words && start < object.at + object.size
+}
+
+/// Whether a slot on a card of the remembered set, outside the object's own run, names the humongous
+/// object that begins in a region.
+fn names(
+    alloc: Global,
+    heap: &Heap,
+    starts: &Starts,
+    fates: &[Fate],
+    region: u32,
+    object: &Object,
+    card: u32,
+) -> bool
+    requires starts { IsStartsOf heap.now starts.now }
+    requires fates { length fates.now ≡ heap.now.geometry.n }
+    requires object { object.now ≡ object_at heap.now (start heap.now region) }
+    requires small { object.now.at + object.now.size < 2 ^ 64 }
+    requires card { card < card_count heap.now }
+    ensures { result ≡ is_naming heap.now fates.now region card }
+{
+    let home = heap.geometry().region_of_card(card);
+    match fates[home as usize] {
+        // A card of to-space was put into the set for a slot on it that names the object.
+        Fate::Filled(_) => true,
+        Fate::Freed | Fate::Kept => {
+            !lies_in(heap, home, object) && leads_into(alloc, heap, starts, region, card)
+        }
+    }
+}
+
+/// Whether one of the cards holds such a slot.
+fn one_names(
+    alloc: Global,
+    heap: &Heap,
+    starts: &Starts,
+    fates: &[Fate],
+    region: u32,
+    cards: &[u32],
+) -> bool
+    requires starts { IsStartsOf heap.now starts.now }
+    requires fates { length fates.now ≡ heap.now.geometry.n }
+    requires region { region < heap.now.geometry.n }
+    requires cards { All (λ c. c < card_count heap.now) cards.now }
+    ensures { result ≡ list_any (is_naming heap.now fates.now region) cards.now }
+{
+    let object = object(heap, u64::from(region) * heap.geometry().region_words());
+    for card in cards {
+        if names(alloc, heap, starts, fates, region, &object, *card) {
+            return true;
+        }
+    }
+    false
+}
+
+/// Whether a humongous object begins in a region, and nothing names it.
+fn is_unnamed(
+    alloc: Global,
+    heap: &Heap,
+    starts: &Starts,
+    fates: &[Fate],
+    rooted: &[bool],
+    remembered: &[Vec<u32>],
+    region: u32,
+) -> bool
+    requires starts { IsStartsOf heap.now starts.now }
+    requires fates { length fates.now ≡ heap.now.geometry.n }
+    requires rooted { AreMarked (is_rooted heap.now) (replicate heap.now.geometry.n false) rooted.now }
+    requires one_each { length remembered.now ≡ heap.now.geometry.n }
+    requires region { region < heap.now.geometry.n }
+    requires cards { All (λ c. c < card_count heap.now) (cards_at (map (λ s. s.items) remembered.now) region) }
+    ensures { result ≡ is_unnamed heap.now fates.now (map (λ s. s.items) remembered.now) region }
+{
+    let at = region as usize;
+    match heap.region(region).kind {
+        Kind::HumongousFirst => {
+            !rooted[at] && !one_names(alloc, heap, starts, fates, region, &remembered[at])
+        }
+        Kind::Free | Kind::Ordinary | Kind::Continuation => false,
+    }
+}
+
+/// The regions in which such objects begin, rising.
+fn unnamed_firsts(
+    alloc: Global,
+    heap: &Heap,
+    starts: &Starts,
+    fates: &[Fate],
+    rooted: &[bool],
+    remembered: &[Vec<u32>],
+) -> Result<Vec<u32>, AllocError>
+    requires starts { IsStartsOf heap.now starts.now }
+    requires fates { length fates.now ≡ heap.now.geometry.n }
+    requires rooted { AreMarked (is_rooted heap.now) (replicate heap.now.geometry.n false) rooted.now }
+    requires one_each { length remembered.now ≡ heap.now.geometry.n }
+    requires cards { (r : ℕ) → r < heap.now.geometry.n → All (λ c. c < card_count heap.now) (cards_at (map (λ s. s.items) remembered.now) r) }
+    ensures { IfOk result (λ v. v.items ≡ filter (is_unnamed heap.now fates.now (map (λ s. s.items) remembered.now)) (regions heap.now)) }
+{
+    let mut firsts = Vec::new(alloc);
+    for region in 0..heap.geometry().regions() as u32 {
+        if is_unnamed(alloc, heap, starts, fates, rooted, remembered, region) {
+            firsts.push(region)?;
+        }
+    }
+    Ok(firsts)
+}
+
+/// The first regions of the humongous objects that nothing names once the survivors have moved,
+/// rising. `fates` are those of the set and to-space, `remembered` the sets after the moves. Linear in
+/// the regions, the roots, the remembered cards of humongous regions and the slots on them.
+pub(crate) fn unnamed(
+    alloc: Global,
+    tracked: &Tracked,
+    starts: &Starts,
+    plan: &Plan,
+    fates: &[Fate],
+    remembered: &[Vec<u32>],
+) -> Result<Vec<u32>, AllocError>
+    requires starts { IsStartsOf tracked.now.heap starts.now }
+    requires plan { IsPauseOf tracked.now.heap plan.now.set plan.now }
+    requires fates { AreFates tracked.now.heap plan.now.set (to_space tracked.now.heap plan.now.survivors) fates.now }
+    requires remembered { map (λ s. s.items) remembered.now ≡ map (remembered_after tracked.now plan.now.set plan.now.survivors (heap_after tracked.now.heap plan.now.set plan.now.survivors)) (regions tracked.now.heap) }
+    ensures { IfOk result (λ v. v.items ≡ map (λ o. region_of tracked.now.heap o.at) (unnamed (heap_after tracked.now.heap plan.now.set plan.now.survivors))) }
+{
+    g1_after::laws::survivors_moved();
+    g1_after::laws::named_by_cards();
+    let heap = image(tracked).heap();
+    let mut rooted = vec![in alloc; false; heap.geometry().regions() as usize]?;
+    mark_rooted(heap, &mut rooted);
+    unnamed_firsts(alloc, heap, starts, fates, &rooted, remembered)
+}
+
+/// Adds so many regions, from one on.
+fn push_run(runs: &mut Vec<u32>, first: u64, count: u64) -> Result<(), AllocError>
+    requires { first + count ≤ 2 ^ 32 }
+    ensures { OnOk result (runs.new.items ≡ runs.old.items ++ range_with_len first count) }
+{
+    for region in first..first + count {
+        runs.push(region as u32)?;
+    }
+    Ok(())
+}
+
+/// The regions of the runs of humongous objects that begin in these regions, run by run.
+pub(crate) fn runs(alloc: Global, heap: &Heap, firsts: &[u32]) -> Result<Vec<u32>, AllocError>
+    requires { All (λ r. r < heap.now.geometry.n) firsts.now }
+    ensures { IfOk result (λ v. v.items ≡ flat_map (run_regions heap.now) firsts.now) }
+{
+    let region_words = heap.geometry().region_words();
+    let mut runs = Vec::new(alloc);
+    for region in firsts {
+        let first = u64::from(*region);
+        let size = size_at(heap, first * region_words);
+        push_run(&mut runs, first, size.div_ceil(region_words))?;
+    }
+    Ok(runs)
+}
+
+/// Whether a card lies in no freed region.
+fn stays(heap: &Heap, fates: &[Fate], card: u32) -> bool
+    ensures { result ≡ stays heap.now fates.now card }
+{
+    let region = heap.geometry().region_of_card(card);
+    !matches!(fates.get(region as usize), Some(Fate::Freed))
+}
+
+/// Leaves of the remembered set of a region of this fate: of a freed one nothing, of any other the
+/// cards that lie in no freed region.
+fn leave(heap: &Heap, fates: &[Fate], fate: Fate, cards: &mut Vec<u32>)
+    ensures { cards.new.items ≡ left heap.now fates.now fate cards.old.items }
+{
+    match fate {
+        Fate::Freed => cards.clear(),
+        Fate::Filled(_) | Fate::Kept => cards.retain(
+            |card: &u32| -> bool
+                ensures { result ≡ stays heap.entry.now fates.entry.now card.now }
+            { stays(heap, fates, *card) },
+        ),
+    }
+}
+
+/// Leaves of each remembered set what stays, in its own place.
+fn leave_each(heap: &Heap, fates: &[Fate], sets: &mut [Vec<u32>])
+    requires { length sets.old ≡ length fates.now }
+    ensures { AreLeft heap.now fates.now (map (λ s. s.items) sets.old) (map (λ s. s.items) sets.new) }
+{
+    for region in 0..fates.len() {
+        leave(heap, fates, fates[region], &mut sets[region]);
+    }
+}
+
+/// The same where these regions were freed beside the set. Where there are none the sets stay as they
+/// are, and no card is looked at.
+pub(crate) fn leave_all(heap: &Heap, fates: &[Fate], freed: &[u32], sets: &mut [Vec<u32>])
+    requires { length sets.old ≡ length fates.now }
+    ensures left { 0 < length freed.now → AreLeft heap.now fates.now (map (λ s. s.items) sets.old) (map (λ s. s.items) sets.new) }
+    ensures same { length freed.now ≡ 0 → sets.new ≡ sets.old }
+{
+    if !freed.is_empty() {
+        leave_each(heap, fates, sets);
+    }
+}
