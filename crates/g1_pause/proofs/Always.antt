@@ -14,17 +14,16 @@ use Rattle.g1_image.specs.declared.cursor.Version.TheVariants.{Two}
 use Rattle.g1_image.specs.Text.{file_text}
 use Rattle.g1_image.specs.Reading.{IsBytes}
 use Rattle.g1_image.specs.Cards.{IsTracked, refined, uncovered}
-use Rattle.g1_after.specs.Made.{image_after}
+use Rattle.g1_after.specs.Made.{image_paused}
 use Rattle.g1_choose.specs.declared.parameters.Cost.{Cost}
 use Rattle.g1_mark.specs.Marked.{used}
 use Rattle.g1_pause.specs.declared.settings.Choice.{Choice}
 use Rattle.g1_pause.specs.declared.settings.Choice.TheVariants.{Budget, Given}
 use Rattle.g1_pause.specs.Answer.{IsSetFor, IsEvacuated, bad_set, no_room, done, IsAnswer, unread, not_covered, refused, written}
-use Rattle.g1_words.proofs.Shapes.{built}
 use Rattle.g1_words.proofs.Sound.{sound}
 use Rattle.g1_words.proofs.SurvivorsExist.{survivors_exist}
 use Rattle.g1_image.proofs.AlwaysOne.{always_one}
-use Rattle.g1_after.proofs.Existence.{made_is_moved}
+use Rattle.g1_after.proofs.PausedLaws.{pause_exists}
 use Rattle.g1_choose.proofs.Naming.{accepted_or_bad}
 use Rattle.g1_choose.proofs.OneChoice.{set_exists}
 use Rattle.g1_mark.proofs.Counting.{live_counted}
@@ -47,7 +46,7 @@ module _ (cost : Cost) (i : Image) (tracked : IsTracked i) where
       let e = survivors_exist i.heap set (sound i.heap valid) in
       elim (cases_lt (length (free_regions i.heap)) (need i.heap e.0)) [
         | inl lt ↦ (Err (Room (need i.heap e.0) (length (free_regions i.heap))), no_room set e.0 s e.1 lt)
-        | inr le ↦ (Ok (image_after i set e.0), done set e.0 s e.1 le (made_is_moved i set e.0 (built i.heap valid) (set_ordinary cost i choice set s) e.1 le))
+        | inr le ↦ (Ok (image_paused i set e.0), done set e.0 s e.1 le (pause_exists i set e.0 valid (record { ordinary = set_ordinary cost i choice set s; survivors = e.1; room = le })))
       ]
 
   evacuation_exists : (choice : Choice) → (x : Result Image Fault) × IsEvacuated cost choice i x

@@ -11,3 +11,4 @@ pub mod Carried
 pub mod Planning
 pub mod Answered
 pub mod Asking
+pub mod Reported

@@ -10,7 +10,7 @@ use Rattle.g1_words.specs.Layout.{need, free_regions}
 use Rattle.g1_image.specs.Image.{Image, IsTextIn, IsTextOf}
 use Rattle.g1_image.specs.declared.cursor.Version.TheVariants.{Two}
 use Rattle.g1_image.specs.Cards.{IsTracked, Covered, refined, uncovered}
-use Rattle.g1_after.specs.Moved.{Moved}
+use Rattle.g1_after.specs.Paused.{Paused}
 use Rattle.g1_choose.specs.declared.parameters.Cost.{Cost}
 use Rattle.g1_choose.specs.Choice.{IsChosen}
 use Rattle.g1_choose.specs.Named.{IsFirstBad}
@@ -19,7 +19,7 @@ use Rattle.g1_pause.specs.declared.settings.Choice.TheVariants.{Budget, Given}
 use Rattle.g1_pause.specs.Answer.{IsSetFor, IsEvacuated, bad_set, no_room, done, IsAnswer, unread, not_covered, refused, written}
 use Rattle.g1_words.proofs.Unique.{breadth_first_unique}
 use Rattle.g1_words.proofs.LiveBytes.{live_bytes_unique}
-use Rattle.g1_after.proofs.Determined.{moved_unique}
+use Rattle.g1_after.proofs.PausedLaws.{one_image_after}
 use Rattle.g1_image.proofs.OneVerdict.{one_fault}
 use Rattle.g1_image.proofs.NoFault.{no_fault}
 use Rattle.g1_image.proofs.FileOf.{one_image}
@@ -65,7 +65,7 @@ module _ (cost : Cost) (i : Image) where
     evacuated_unique choice x y (done s l a b le mv) (no_room t m g v lt) =
         let e : need i.heap l ≡ need i.heap m = ap (need i.heap) (same_survivors choice s t l m a g b v) in absurd (omega arith)
     evacuated_unique choice x y (done s l {j = j} a b le mv) (done t m {j = j'} g v le' mv') =
-        ap Ok (moved_unique i s j j' (l, b, mv) (subst (λ u. Moved i u j') (set_unique choice t s g a) (m, v, mv')))
+        ap Ok (one_image_after i s j j' (l, b, mv) (subst (λ u. Paused i u j') (set_unique choice t s g a) (m, v, mv')))
 
 module _ (cost : Cost) (choice : Choice) (bytes : List ℕ) where
   -- an image whose text the bytes are isn't covered where another one has an uncovered slot

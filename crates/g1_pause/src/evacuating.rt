@@ -57,7 +57,7 @@ fn planned<R: Threads + Sync, G: Gate + Sync>(
         &cards,
         workers,
     )?;
-    let report = report_of(alloc, image, set, &plan)?;
+    let report = report_of(alloc, image, set, &plan, prepared.humongous())?;
     Ok((prepared, report))
 }
 

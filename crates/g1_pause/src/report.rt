@@ -22,6 +22,8 @@ pub struct Report {
     pub objects: u64,
     /// How many words these have.
     pub words: u64,
+    /// The first regions of the humongous objects that were freed, rising.
+    pub humongous: Vec<u32>,
 }
 
 /// How many words the survivors have, their headers included.
@@ -37,7 +39,7 @@ fn copied_words(heap: &Heap, survivors: &[u64]) -> u64
     count
 }
 
-/// The report of the pause that evacuates a set as the plan says.
+/// The report of the pause that evacuates a set as the plan says and frees these humongous objects.
 ///
 /// # Errors
 ///
@@ -47,12 +49,14 @@ pub(crate) fn report_of(
     image: &Image,
     set: Vec<u32>,
     plan: &Plan,
+    humongous: &[u32],
 ) -> Result<Report, Fault>
     requires plan { IsPlanOf image.now.heap plan.now }
     ensures set { IfOk result (λ x. x.set.items ≡ set.items) }
     ensures to { IfOk result (λ x. x.to.items ≡ plan.now.to_space) }
     ensures objects { IfOk result (λ x. x.objects ≡ length plan.now.survivors) }
     ensures words { IfOk result (λ x. x.words ≡ sum (sizes_of image.now.heap plan.now.survivors)) }
+    ensures humongous { IfOk result (λ x. x.humongous.items ≡ humongous.now) }
     ensures memory { IfErr result (λ e. e ≡ Fault.Memory) }
 {
     let survivors = plan.survivors();
@@ -62,5 +66,6 @@ pub(crate) fn report_of(
         to: plan.to_space().to_vec(alloc)?,
         objects: survivors.len() as u64,
         words,
+        humongous: humongous.to_vec(alloc)?,
     })
 }

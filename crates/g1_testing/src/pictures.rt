@@ -341,3 +341,90 @@ pub fn three_regions_later() -> &'static str {
      region 3 ordinary
      object 2/0 1"
 }
+
+/// Two humongous objects: nothing names that at 0, and it alone names that at 32.
+pub fn chain() -> &'static str {
+    "heap 16 4 6
+     root 64
+     region 0 humongous
+     object 20/1 32 ..
+     region 2 humongous
+     remembered 2 cards 0
+     object 20/0 ..
+     region 4 ordinary
+     object 2/1 -"
+}
+
+/// The first is freed, and the second stays.
+pub fn chain_after() -> &'static str {
+    "heap 16 4 6
+     root 64
+     region 2 humongous
+     object 20/0 ..
+     region 4 ordinary
+     object 2/1 -"
+}
+
+/// Both are freed.
+pub fn chain_after_two() -> &'static str {
+    "heap 16 4 6
+     root 64
+     region 4 ordinary
+     object 2/1 -"
+}
+
+/// A humongous object over three regions that only its slot at 17 names.
+pub fn own_slot() -> &'static str {
+    "heap 16 4 3
+     region 0 humongous
+     remembered 0 cards 4
+     object 40/20 - - - - - - - - - - - - - - - - 0 .."
+}
+
+pub fn own_slot_after() -> &'static str {
+    "heap 16 4 3"
+}
+
+/// A humongous object that only a dead object names.
+pub fn named_by_the_dead() -> &'static str {
+    "heap 16 4 5
+     region 0 ordinary
+     object 2/1 16
+     region 1 humongous
+     remembered 1 cards 0
+     object 20/0 .."
+}
+
+pub fn named_by_the_dead_after() -> &'static str {
+    "heap 16 4 5"
+}
+
+/// The object at 48 is named by a humongous object alone, which nothing names.
+pub fn unnamed_owner() -> &'static str {
+    "heap 16 4 6
+     region 0 humongous
+     object 40/20 - - - - - - - - - - - - - - - - 48 ..
+     region 3 ordinary
+     remembered 3 cards 4
+     object 2/0 4"
+}
+
+/// It was copied, and its owner freed.
+pub fn unnamed_owner_after() -> &'static str {
+    "heap 16 4 6
+     region 4 ordinary
+     object 2/0 4"
+}
+
+/// No region is free but those of the humongous object, which nothing names.
+pub fn full_of_garbage() -> &'static str {
+    "heap 16 4 4
+     root 32
+     root 48
+     region 0 humongous
+     object 20/0 ..
+     region 2 ordinary
+     object 2/0 5
+     region 3 ordinary
+     object 1/0"
+}

@@ -130,6 +130,14 @@ fn counts(report: &Option<Report>, set: &[u32], to: &[u32], objects: u64, words:
     }
 }
 
+/// Tells whether a report names these first regions of humongous objects.
+fn frees(report: &Option<Report>, humongous: &[u32]) -> bool {
+    match report {
+        Some(report) => report.humongous.as_slice() == humongous,
+        None => false,
+    }
+}
+
 #[test]
 fn an_object_moves_to_the_lowest_free_region(rt: HostRuntime) -> Result<(), Fail> {
     assert!(rt; becomes(&rt, rt.alloc(), one_object(), &[1], one_object_after())?);
@@ -373,6 +381,50 @@ fn a_report_names_all_regions(rt: HostRuntime) -> Result<(), Fail> {
     Ok(())
 }
 
+#[test]
+fn what_nothing_names_is_freed_at_once(rt: HostRuntime) -> Result<(), Fail> {
+    assert!(rt; always_becomes(&rt, rt.alloc(), chain(), &[], chain_after())?);
+    assert!(rt; becomes(&rt, rt.alloc(), chain_after(), &[], chain_after_two())?);
+    Ok(())
+}
+
+#[test]
+fn a_slot_of_its_own_keeps_no_object(rt: HostRuntime) -> Result<(), Fail> {
+    assert!(rt; becomes(&rt, rt.alloc(), own_slot(), &[], own_slot_after())?);
+    Ok(())
+}
+
+#[test]
+fn a_dead_slot_keeps_a_humongous_object(rt: HostRuntime) -> Result<(), Fail> {
+    let (before, after) = (named_by_the_dead(), named_by_the_dead_after());
+    assert!(rt; becomes(&rt, rt.alloc(), before, &[], before)?);
+    assert!(rt; becomes(&rt, rt.alloc(), before, &[0], after)?);
+    Ok(())
+}
+
+#[test]
+fn what_a_freed_object_names_is_copied(rt: HostRuntime) -> Result<(), Fail> {
+    assert!(rt;
+        becomes(
+            &rt,
+            rt.alloc(),
+            unnamed_owner(),
+            &[3],
+            unnamed_owner_after()
+        )?
+    );
+    Ok(())
+}
+
+#[test]
+fn a_report_names_the_humongous_objects_that_were_freed(rt: HostRuntime) -> Result<(), Fail> {
+    let settings = collecting(rt.alloc(), &[], 1, 64)?;
+    let (_, report) = evacuated(&rt, rt.alloc(), chain(), &settings, &Open)?;
+    assert!(rt; counts(&report, &[], &[], 0, 0));
+    assert!(rt; frees(&report, &[0]));
+    Ok(())
+}
+
 /// Tells whether the refusal of a pause hands back the very image.
 fn is_handed_back<R: Threads + Sync>(
     rt: &R,
@@ -390,6 +442,10 @@ fn a_refused_pause_leaves_the_image(rt: HostRuntime) -> Result<(), Fail> {
     // The dirty card is still in the log.
     assert!(rt; is_handed_back(&rt, rt.alloc(), no_room(), &[0, 1])?);
     assert!(rt; is_handed_back(&rt, rt.alloc(), logged(), &[1, 2])?);
+    // What the pause would free is no room for its survivors, and is still there.
+    let told = after(&rt, rt.alloc(), full_of_garbage(), &[2]).err();
+    assert!(rt; told == Some(Fault::Room { need: 1, free: 0 }));
+    assert!(rt; is_handed_back(&rt, rt.alloc(), full_of_garbage(), &[2])?);
     Ok(())
 }
 

@@ -3,7 +3,7 @@ use Rattle.g1_pause.proofs.Carried.{carried_out}
 use Rattle.g1_pause.proofs.evacuating.evacuate.Goals as goal
 
 pub returns-in-Ok-clause-done : goal.returns-in-Ok-clause-done
-returns-in-Ok-clause-done g c = carried_out c.args.settings.now.cost c.args.settings.now.choice c.args.tracked c.commit.result c.in-Ok.prepared c.in-Ok.ensures.made c.commit.ensures.moved
+returns-in-Ok-clause-done g c = carried_out c.args.settings.now.cost c.args.settings.now.choice c.args.tracked c.commit.result c.in-Ok.prepared c.in-Ok.ensures.made c.commit.ensures.paused
 
 pub returns-in-Ok-clause-only : goal.returns-in-Ok-clause-only
 returns-in-Ok-clause-only g c = λ y e. c.one_answer.ensures.evacuation c.args.settings.now.cost c.args.tracked c.args.settings.now.choice y (Ok c.commit.result) c.planned.ensures.tracked e (returns-in-Ok-clause-done g c)

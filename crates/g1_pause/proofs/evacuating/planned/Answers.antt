@@ -1,16 +1,19 @@
 use Rattle.std.proofs.Common.{◌≡◌, map, Err, refl, sym, ◌∙◌, ap, subst}
-use Rattle.std.specs.Prelude.{IfErr, ◌⊎◌}
+use Rattle.std.specs.Prelude.{IfErr, sum, ◌⊎◌}
 use Rattle.std.proofs.lemmas.Result.{err_from_is_err_and}
 use Rattle.g1_words.specs.declared.fault.Fault.{Fault}
 use Rattle.g1_words.specs.declared.fault.Fault.TheVariants.{Memory}
 use Rattle.g1_words.specs.Heap.{regions}
-use Rattle.g1_image.specs.Image.{Image}
+use Rattle.g1_words.specs.Layout.{sizes_of, to_space}
+use Rattle.g1_image.specs.Image.{Image, IsImage}
 use Rattle.g1_image.specs.Cards.{Covered, IsTracked, refined}
 use Rattle.g1_copy.specs.Plans.{IsPauseOf}
 use Rattle.g1_rem.specs.EntryCards.{cards_into}
 use Rattle.g1_frontier.proofs.Leading.{remembered_one_each}
-use Rattle.g1_pause.specs.Answer.{IsEvacuated}
+use Rattle.g1_layout.specs.Plan.{Plan}
+use Rattle.g1_pause.specs.Answer.{IsEvacuated, IsSetFor}
 use Rattle.g1_pause.proofs.Planning.{cards_there, set_there, set_leads, set_places, set_refused, set_planned}
+use Rattle.g1_pause.proofs.Reported.{reported}
 use Rattle.g1_pause.proofs.evacuating.planned.Goals as goal
 
 pub cards_into-requires-clause-remembered : goal.cards_into-requires-clause-remembered
@@ -96,3 +99,23 @@ report_of-requires g c =
     c.deref-6.result.now c.deref-4.result.now c.deref-4.result.now c.deref-7.result.now c.in_ok-survivors.survivors.items c.in_ok-plan.plan c.place.result tracked c.placeable.ensures
     c.deref-6.ensures.value c.deref-4.ensures.value c.deref-4.ensures.value c.deref-7.ensures.value c.in_ok-survivors.ensures.ok c.in_ok-plan.was c.in_ok-plan.ensures.plan c.place.ensures.room in
     record { plan = made.made }
+
+pub returns-clause-report : goal.returns-clause-report
+returns-clause-report g c =
+    let t : Image = c.args.tracked.now in
+    let i : Image = c.image-image.result.now in
+    let same : i ≡ t = c.image-image.ensures.same in
+    let is : IsImage t = subst IsImage same c.heap-heap.ensures.valid in
+    let tracked : IsTracked i = record { image = c.heap-heap.ensures.valid; covered = subst Covered (sym same) c.image-image.ensures.covered } in
+    let chosen : IsSetFor c.args.settings.now.cost t c.args.settings.now.choice c.deref-9.result.now =
+    subst (IsSetFor c.args.settings.now.cost t c.args.settings.now.choice) (sym c.deref-9.ensures.value) (subst (λ (j : Image). IsSetFor c.args.settings.now.cost j c.args.settings.now.choice c.in_ok-set.set.items) same c.in_ok-set.ensures.set) in
+    let made =
+    set_planned c.args.settings.now.cost c.args.settings.now.choice i c.heap-heap.result.now c.heap-heap.ensures.same c.in_ok-set.set.items c.in_ok-set.ensures.set
+    c.deref-6.result.now c.deref-4.result.now c.deref-4.result.now c.deref-7.result.now c.in_ok-survivors.survivors.items c.in_ok-plan.plan c.place.result tracked c.placeable.ensures
+    c.deref-6.ensures.value c.deref-4.ensures.value c.deref-4.ensures.value c.deref-7.ensures.value c.in_ok-survivors.ensures.ok c.in_ok-plan.was c.in_ok-plan.ensures.plan c.place.ensures.room in
+    reported c.args.settings.now.cost c.args.settings.now.choice t c.deref-9.result.now c.in_ok-plan.plan.survivors c.in_ok-prepared.prepared c.in_ok-report.report is.heap chosen c.in_ok-prepared.ensures.ok
+    (c.in_ok-report.ensures.set ∙ sym c.deref-9.ensures.value)
+    (c.in_ok-report.ensures.to ∙ ap (λ (q : Plan). q.to_space) made.made.plan ∙ ap (λ (j : Image). to_space j.heap c.in_ok-plan.plan.survivors) same)
+    c.in_ok-report.ensures.objects
+    (c.in_ok-report.ensures.words ∙ ap (λ (j : Image). sum (sizes_of j.heap c.in_ok-plan.plan.survivors)) same)
+    (c.in_ok-report.ensures.humongous ∙ c.humongous.ensures)
