@@ -7,8 +7,8 @@ use Rattle.g1_pause.specs.declared.settings.Choice.TheVariants.{Budget}
 use Rattle.g1_words.specs.Survivors.{Survivors, seeds, children}
 use Rattle.g1_words.specs.Layout.{need}
 use Rattle.g1_words.proofs.Unique.{breadth_first_unique}
-use Rattle.g1_after.specs.Moved.{Moved}
-use Rattle.g1_after.proofs.Determined.{moved_unique}
+use Rattle.g1_after.specs.Paused.{Paused}
+use Rattle.g1_after.proofs.PausedLaws.{one_image_after}
 use Rattle.g1_pause.specs.Answer.{IsSetFor, IsEvacuated, bad_set, no_room, done}
 use Rattle.g1_pause.proofs.OneAnswer.{set_unique}
 use Rattle.g1_trace.specs.declared.command.Command.{Command}
@@ -41,7 +41,7 @@ bought_once cost i b x y (done s l p q le mv) (bad_set list k e f) = cc
 bought_once cost i b x y (done s l p q le mv) (no_room t m g v lt) =
     let e : need i.heap l ≡ need i.heap m = ap (need i.heap) (same_survivors cost i b s t l m p g q v) in absurd (omega arith)
 bought_once cost i b x y (done s l {j = j} p q le mv) (done t m {j = k} g v le' mv') =
-    moved_unique i s j k (l, q, mv) (subst (λ u. Moved i u k) (set_unique cost i (Budget b) t s g p) (m, v, mv'))
+    one_image_after i s j k (l, q, mv) (subst (λ u. Paused i u k) (set_unique cost i (Budget b) t s g p) (m, v, mv'))
 
 effect_once : (cost : Cost) (i : Image) (e : Effect) (said reply told : Reply) (j k : Image) → IsEffect cost i e said reply j → IsEffect cost i e said told k → (reply ≡ told) × (j ≡ k)
 effect_once cost i Nothing said reply told j k (p, a) (q, b) = (p ∙ sym q, a ∙ sym b)

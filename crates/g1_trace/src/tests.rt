@@ -49,6 +49,14 @@ static CYCLE: &str = "heap 16 4 4 3\n\
     say 0 39 [range]\n\
     say 0 38 [0]";
 
+// An object of three regions, of four, that nothing names.
+static HUMONGOUS: &str = "heap 16 4 4 2\n\
+    new 0 0 39 [ok]\n\
+    drop 0 [ok]\n\
+    new 1 0 39 [full]\n\
+    pause 1000 [ok]\n\
+    new 1 0 39 [ok]";
+
 // The same without its pauses.
 static CYCLE_WITHOUT_PAUSES: &str = "heap 16 4 4 3\n\
     new 0 1 1 [ok]\n\
@@ -137,6 +145,11 @@ fn without_pauses_no_region_is_freed(rt: HostRuntime) -> Result<(), Fail> {
 #[test]
 fn a_pause_without_room_changes_nothing(rt: HostRuntime) -> Result<(), Fail> {
     expect_replies(&rt, rt.alloc(), NO_ROOM)
+}
+
+#[test]
+fn a_pause_frees_a_humongous_object(rt: HostRuntime) -> Result<(), Fail> {
+    expect_replies(&rt, rt.alloc(), HUMONGOUS)
 }
 
 #[test]
