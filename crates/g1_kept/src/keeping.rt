@@ -1,7 +1,7 @@
 ghost use Rattle.std.specs.Prelude.{◌≡◌, ◌<◌, IfErr};
 
 use crate::lost::{Lost, Stop};
-use crate::pairs::{Heaps, Pair, Pairs};
+use crate::pairs::{Heaps, Pair, Pairs, is_freed};
 use g1_words::{Fault, Heap, Kind, objects_in};
 use std::alloc::{AllocError, Global};
 
@@ -73,7 +73,7 @@ fn compare_regions(heaps: Heaps<'_>) -> Result<(), Lost> {
         if *chosen && new.kind != Kind::Free {
             return Err(Lost::Set(number));
         }
-        if !*chosen && old.kind != Kind::Free && *old != *new {
+        if !*chosen && old.kind != Kind::Free && !is_freed(*old, *new) && *old != *new {
             return Err(Lost::Region(number));
         }
     }
@@ -93,12 +93,12 @@ fn compare_roots(heaps: Heaps<'_>, pairs: &mut Pairs) -> Result<(), Stop> {
     Ok(())
 }
 
-// The objects outside the set, each with itself.
+// The objects outside the set that are still there, each with itself.
 fn compare_kept(alloc: Global, heaps: Heaps<'_>, pairs: &mut Pairs) -> Result<(), Stop> {
     let regions = heaps.before.geometry().regions();
     for region in 0..regions as u32 {
         let chosen = heaps.chosen.get(region as usize).copied();
-        if chosen != Some(true) {
+        if chosen != Some(true) && !heaps.is_freed(region) {
             compare_region(alloc, heaps, pairs, region)?;
         }
     }

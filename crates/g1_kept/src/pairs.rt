@@ -1,5 +1,5 @@
 use crate::lost::{Lost, Stop};
-use g1_words::{Heap, Kind, REFS_RANGE, region_of};
+use g1_words::{Heap, Kind, REFS_RANGE, Region, region_of};
 use std::alloc::{AllocError, Global};
 
 /// The two heaps, and for each region whether it is in the set.
@@ -28,7 +28,22 @@ pub(crate) struct Pair {
     pub(crate) after: u64,
 }
 
+/// Whether a region of a humongous object's run is free after. A pause may free such an object where
+/// nothing names it; whatever still named it would name no object.
+pub(crate) fn is_freed(old: Region, new: Region) -> bool {
+    matches!(old.kind, Kind::HumongousFirst | Kind::Continuation) && new.kind == Kind::Free
+}
+
 impl<'a> Heaps<'a> {
+    /// Whether the region of this number is of a humongous object's run, and free after.
+    pub(crate) fn is_freed(&self, region: u32) -> bool {
+        let old = self.before.regions().get(region as usize);
+        match (old, self.after.regions().get(region as usize)) {
+            (Some(old), Some(new)) => is_freed(*old, *new),
+            _ => false,
+        }
+    }
+
     fn is_chosen(&self, address: u64) -> bool {
         let region = region_of(&self.before.geometry(), address);
         self.chosen.get(region as usize).copied().unwrap_or(false)
