@@ -3,3 +3,4 @@ pub mod Sorted
 pub mod Inhabited
 pub mod Humongous
 pub mod Bought
+pub mod Moving

@@ -18,7 +18,10 @@ ghost use Rattle.g1_image.specs.declared.cursor.Version.TheVariants.{One, Two};
 ghost use Rattle.g1_image.specs.Text.{file_text};
 ghost use Rattle.g1_image.specs.Cards.{refined, uncovered};
 ghost use Rattle.g1_after.specs.Moved.{Moved, new_region};
+ghost use Rattle.g1_after.specs.Paused.{Paused};
+ghost use Rattle.g1_after.specs.Unnamed.{humongous, unnamed, unnamed_regions};
 ghost use Rattle.g1_examples.specs.Examples.{later_root_first, dead_owner, dead_cycle, shared_target, with_a_gap, one_object, one_object_after, three_regions, three_regions_image, dead_owner_image, pinned_owner, dead_owner_after, shared_target_image, shared_target_after, humongous_owner, humongous_owner_image, humongous_owner_after};
+ghost use Rattle.g1_examples.specs.Unnamed.{chain, chain_after, chain_after_two, own_slot, own_slot_after, named_by_the_dead, nothing_left, unnamed_owner, unnamed_owner_after};
 ghost use Rattle.g1_examples.specs.Texts.{one_object_text, one_object_after_text, one_object_after_text_two, dead_owner_text, dead_owner_after_text};
 
 pub use choosing::{choices, named_lists, refused_choices};
@@ -44,17 +47,34 @@ pub fn pauses()
     ensures humongous_owner_live { IsLiveBytes humongous_owner (320 ∷ 0 ∷ 0 ∷ 16 ∷ 0 ∷ 0 ∷ []) }
     ensures dead_owner_covered { uncovered dead_owner_image ≡ [] }
     ensures humongous_owner_covered { uncovered humongous_owner_image ≡ [] }
-    ensures one_object_after { Moved one_object (1 ∷ []) one_object_after }
-    ensures dead_owner_after { Moved dead_owner_image (1 ∷ []) dead_owner_after }
-    ensures shared_target_after { Moved shared_target_image (1 ∷ []) shared_target_after }
+    ensures one_object_after { Paused one_object (1 ∷ []) one_object_after }
+    ensures dead_owner_after { Paused dead_owner_image (1 ∷ []) dead_owner_after }
+    ensures shared_target_after { Paused shared_target_image (1 ∷ []) shared_target_after }
     ensures humongous_owner_after { Moved humongous_owner_image (3 ∷ []) humongous_owner_after }
+{}
+
+/// Humongous objects that nothing names go in a pause, once: what only they name goes in the next. A slot
+/// of its own keeps no object, and a dead object's slot does while that object stands.
+pub fn humongous_objects()
+    ensures two { map (λ o. o.at) (humongous chain.heap) ≡ 0 ∷ 32 ∷ [] }
+    ensures first { map (λ o. o.at) (unnamed chain.heap) ≡ 0 ∷ [] }
+    ensures chain_regions { unnamed_regions chain.heap ≡ 0 ∷ 1 ∷ [] }
+    ensures chain_after { Paused chain [] chain_after }
+    ensures chain_after_two { Paused chain_after [] chain_after_two }
+    ensures own_slot_regions { unnamed_regions own_slot.heap ≡ 0 ∷ 1 ∷ 2 ∷ [] }
+    ensures own_slot_after { Paused own_slot [] own_slot_after }
+    ensures named_by_the_dead { Paused named_by_the_dead [] named_by_the_dead }
+    ensures with_the_dead { Paused named_by_the_dead (0 ∷ []) nothing_left }
+    ensures unnamed_owner_after { Paused unnamed_owner (3 ∷ []) unnamed_owner_after }
+    ensures named_owner_after { Paused humongous_owner_image (3 ∷ []) humongous_owner_after }
 {}
 
 /// What the definitions refuse: a cycle that keeps itself, another order, a pause that changes nothing.
 pub fn refused()
     ensures no_cycle { Survivors dead_cycle (1 ∷ []) (16 ∷ 18 ∷ []) → ⊥ }
     ensures other_order { Survivors shared_target (1 ∷ []) (16 ∷ 21 ∷ []) → ⊥ }
-    ensures unchanged { Moved dead_owner_image (1 ∷ []) dead_owner_image → ⊥ }
+    ensures unchanged { Paused dead_owner_image (1 ∷ []) dead_owner_image → ⊥ }
+    ensures at_once { Paused chain [] chain_after_two → ⊥ }
 {}
 
 /// Two of the examples keep all rules, so that the premises of the laws are met by something.
