@@ -1,14 +1,15 @@
 #!/usr/bin/env python3
 """Makes the images of this folder that show a refusal or a state: make.py FOLDER
 
-Writes dirty_card.img, current.img, no_room.img, pinned.img and version_one.img into FOLDER, and the images that are refused into FOLDER/refused.
+Writes dirty_card.img, current.img, no_room.img, pinned.img, version_one.img and three with humongous objects into FOLDER, and
+the images that are refused into FOLDER/refused.
 examples/README.md says what each one shows. The images here were made by `examples/make.py examples`.
 """
 import argparse
 import pathlib
 import struct
 
-FREE, ORDINARY = 0, 1
+FREE, ORDINARY, FIRST, CONTINUATION = range(4)
 
 
 class Heap:
@@ -49,6 +50,18 @@ def two_regions(slot=17, flags=(0, 0), **others):
     return Heap(4, {0: (ORDINARY, 2, flags[0]), 1: (ORDINARY, 3, flags[1])}, words=[header(2, 1), slot, header(3, 0), 1, 2], **others)
 
 
+def humongous_chain():
+    """0 = 20/1 (32), which nothing names, 32 = 20/0, and 64 = 2/1 (-), which a root names."""
+    tables = {0: (FIRST, 16), 1: (CONTINUATION, 4), 2: (FIRST, 16), 3: (CONTINUATION, 4), 4: (ORDINARY, 2)}
+    return Heap(6, tables, roots=[65], sets={2: [0]}, words=[header(20, 1), 33, *[0] * 18, header(20, 0), *[0] * 19, header(2, 1), 0])
+
+
+def humongous_owner(slot, others=None, sets=None, words=(), regions=3):
+    """0 = 40/20, whose slot at word 17 names the slot's target; all other slots name nothing."""
+    tables = {0: (FIRST, 16), 1: (CONTINUATION, 16), 2: (CONTINUATION, 8), **(others or {})}
+    return Heap(regions, tables, sets=sets, words=[header(40, 20), *[0] * 16, slot, *[0] * 22, *words])
+
+
 def accepted():
     yield "dirty_card.img", two_regions(log=[0]).data()
     yield "current.img", Heap(4, {0: (ORDINARY, 2)}, roots=[1], log=[0], words=[header(2, 1), 0], current=0).data()
@@ -57,6 +70,10 @@ def accepted():
     yield "no_room.img", full.data()
     yield "pinned.img", two_regions(flags=(1, 0), sets={1: [0]}).data()
     yield "version_one.img", one_object().data(magic=b"G1IMAGE1")
+    yield "humongous_chain.img", humongous_chain().data()
+    yield "own_slot.img", humongous_owner(1, sets={0: [4]}).data()
+    unnamed = humongous_owner(49, {3: (ORDINARY, 2)}, {3: [4]}, [header(2, 0), 4], regions=6)
+    yield "unnamed_owner.img", unnamed.data()
 
 
 def refused():

@@ -201,3 +201,20 @@ def graph(data):
 
 def free_regions(data):
     return {r for r, (kind, top, _) in enumerate(read(data)[3]) if kind == FREE and top == 0}
+
+
+def named_humongous(data, collected):
+    """The first regions of the humongous objects that a root names, or a slot of another object that isn't in these
+    regions or survives their collection."""
+    w, _, _, regions, named, _, _, used, _ = read(data)
+    held = objects(w, regions, used)
+    slots = {at + 1: [used[p // w][p % w] for p in range(at + 1, at + 1 + refs)] for at, _, refs in held}
+    staying = {word for word in slots if (word - 1) // w not in collected}
+    found = [*named, *(target for word in staying for target in slots[word])]
+    while found:
+        word = found.pop()
+        if word and word not in staying:
+            staying.add(word)
+            found += slots[word]
+    names = {*named, *(target for word in staying for target in slots[word] if target != word)}
+    return {(word - 1) // w for word in names if word and regions[(word - 1) // w][0] == FIRST}

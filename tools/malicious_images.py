@@ -152,7 +152,7 @@ def wrong_size_limits(image):
 
 
 def wrong_magic(image):
-    at, magic = image.chance.randrange(8), image.magic
+    at, magic = image.chance.randrange(8), MAGIC + b"%d" % image.version
     image.magic = image.chance.choice([
         magic[:at] + bytes([magic[at] ^ 1 << image.chance.randrange(8)]) + magic[at + 1:], magic[:at], b"G1IMAGE3", b"", magic.lower(),
         MAGIC + b"%d" % (3 - image.version),

@@ -8,18 +8,20 @@ status 2 and no text, where there was no memory for it.
 
 What it answers with ample memory is judged first: it is written here, from the definitions and by hand. And each
 command that succeeds has to meet refusals, and to tell Memory for one. Images of all kinds are tried: remembered cards,
-a dirty log, a humongous object, with one worker and with several, and what is refused for want of room, of cover, or for
-its set. It needs a C compiler for the small library that stands before the allocator. The last line is
-'N passed, M failed'.
+a dirty log, humongous objects that stay and that are freed, with one worker and with several, and what is refused for
+want of room, of cover, or for its set. It needs a C compiler for the small library that stands before the allocator.
+The last line is 'N passed, M failed'.
 """
 import argparse
 import pathlib
 import sys
 import tempfile
 
-from images import (DIRTY, GAP, GAP_AFTER, HUMONGOUS, HUMONGOUS_AFTER, HUMONGOUS_WITHOUT_CARDS, LOGGED, NO_ROOM,
-                    ONE_OBJECT, ONE_OBJECT_AFTER, OUTSIDE_SLOT, OUTSIDE_SLOT_AFTER, SHARED, SHARED_AFTER,
-                    SHARED_BUT_CARD_0, SHARED_BUT_CARD_1, SHARED_WITHOUT_CARDS, THREE, THREE_AFTER, UNCOVERED)
+from images import (DIRTY, GAP, GAP_AFTER, HELD, HELD_AFTER, HUMONGOUS, HUMONGOUS_AFTER, HUMONGOUS_WITHOUT_CARDS,
+                    LOGGED, NAMED_BY_UNNAMED, NAMED_BY_UNNAMED_AFTER, NAMED_BY_UNNAMED_END, NO_ROOM, ONE_OBJECT,
+                    ONE_OBJECT_AFTER, OUTSIDE_SLOT, OUTSIDE_SLOT_AFTER, OWN_SLOT, OWN_SLOT_AFTER, SHARED, SHARED_AFTER,
+                    SHARED_BUT_CARD_0, SHARED_BUT_CARD_1, SHARED_WITHOUT_CARDS, THREE, THREE_AFTER, UNCOVERED,
+                    UNNAMED_OWNER, UNNAMED_OWNER_AFTER)
 from refusing import Judge, Refusing, run
 
 MEMORY = (b"", b"g1pause: fault 13: memory\n", 6)
@@ -51,6 +53,12 @@ ANSWERS = [
     ("pause 1", True, SHARED, SHARED_AFTER),
     ("pause 1 0", True, GAP, GAP_AFTER),
     ("pause 3", True, HUMONGOUS, HUMONGOUS_AFTER),
+    ("pause", True, NAMED_BY_UNNAMED, NAMED_BY_UNNAMED_AFTER),
+    ("pause", False, NAMED_BY_UNNAMED_AFTER, NAMED_BY_UNNAMED_END),
+    ("pause", True, OWN_SLOT, OWN_SLOT_AFTER),
+    ("pause", False, HELD, HELD),
+    ("pause 0", True, HELD, HELD_AFTER),
+    ("pause 3", True, UNNAMED_OWNER, UNNAMED_OWNER_AFTER),
     ("pause --fixed 10 --budget 42", True, THREE, THREE_AFTER),
 ]
 FAULTS = [

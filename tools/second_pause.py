@@ -8,29 +8,30 @@ pause has to end with status 0, or with Room. Of an answer it is asked, by an in
 
 - that it is an image, covered, with no dirty card and no current region, and that packing it again gives it back;
 - that a region that was named is free, and what was free and no longer is, is ordinary;
+- that the humongous objects are those that a root or a slot of another object that is left names;
 - that the roots lead to the same graph, with the same sizes, data and references;
 - that as many live bytes are counted as before;
 - that 4 workers at other chunk sizes give the same answer.
 
-And some pauses have to move something, and to free something. The last line is 'N passed, M failed'.
+And some pauses have to move something, some to free something, and some to free a humongous object. The last line is
+'N passed, M failed'.
 """
 import argparse
 import pathlib
 import sys
 
-from image_text import fault_of, free_regions, graph, read
+from image_text import FIRST, ORDINARY, fault_of, free_regions, graph, named_humongous, read
 from refusing import Judge, run
 
 BUDGETS = ["0", "1000", "1000000", "18446744073709551615"]
 REGIONS = 4  # so many ordinary regions are tried alone
-ORDINARY = 1
 
 
 class Tries(Judge):
     def __init__(self, binary):
         super().__init__()
         self.binary = binary
-        self.moved = self.freed = 0
+        self.moved = self.freed = self.humongous = 0
 
     def run(self, words, data):
         return run([self.binary, *words], data)
@@ -61,20 +62,24 @@ class Tries(Judge):
         return out
 
     def follows(self, name, words, data, out):
-        regions, log, current = read(out)[3], read(out)[5], read(out)[8]
+        was, regions, log, current = read(data)[3], read(out)[3], read(out)[5], read(out)[8]
         self.judge(f"{name}, no dirty card, none current", not log and current == len(regions))
         before, after = free_regions(data), free_regions(out)
         if words and words[0] != "--budget":
             self.judge(f"{name}, free after", int(words[0]) in after)
         taken = before - after
         self.judge(f"{name}, to-space is ordinary", all(regions[r][0] == ORDINARY for r in taken))
-        pins = [(old, new) for old, new in zip(read(data)[3], regions) if old[2]]
+        large, left = ({r for r, (kind, _, _) in enumerate(table) if kind == FIRST} for table in (was, regions))
+        collected = {r for r in after if was[r][0] == ORDINARY}
+        self.judge(f"{name}, humongous objects", left == named_humongous(data, collected))
+        pins = [(old, new) for old, new in zip(was, regions) if old[2]]
         self.judge(f"{name}, pinned regions stay", all(old == new for old, new in pins))
         self.judge(f"{name}, the same graph", graph(data) == graph(out))
         live = self.live(data)
         self.judge(f"{name}, live bytes", live is not None and live == self.live(out))
         self.moved += bool(taken)
         self.freed += bool(after - before)
+        self.humongous += bool(large - left)
 
     def pauses(self, name, data):
         for words in self.choices(data):
@@ -84,7 +89,8 @@ class Tries(Judge):
                 self.pause(f"{first}, then pause {' '.join(again)}", again, after)
 
     def end(self):
-        self.judge("some pauses move something, and some free something", self.moved and self.freed)
+        told = "some pauses move something, some free something, and some free a humongous object"
+        self.judge(told, self.moved and self.freed and self.humongous)
         return super().end()
 
 

@@ -269,7 +269,7 @@ class Examples(unittest.TestCase):
         with tempfile.TemporaryDirectory() as room:
             subprocess.run([sys.executable, str(TOP / "examples/make.py"), room], check=True)
             made = [path for path in pathlib.Path(room).rglob("*.img")]
-            self.assertEqual(len(made), 17)
+            self.assertEqual(len(made), 20)
             for path in made:
                 kept = TOP / "examples" / path.relative_to(room)
                 self.assertEqual(path.read_bytes(), kept.read_bytes(), kept)
