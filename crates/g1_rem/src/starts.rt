@@ -1,5 +1,5 @@
-ghost use Rattle.std.specs.Prelude.{◌≡◌, ◌≤◌, ◌<◌, ◌+◌, ◌*◌, ◌^◌, ℕ, List, length, Option, slice_index_or, OnOk, OnErr, IfOk, IfErr};
-ghost use Rattle.g1_rem.specs.Starts.{IsStartsOf};
+ghost use Rattle.std.specs.Prelude.{◌≡◌, ◌≤◌, ◌<◌, ◌+◌, ◌*◌, ◌^◌, ℕ, List, length, map, Option, slice_index_or, OnOk, OnErr, IfOk, IfErr};
+ghost use Rattle.g1_rem.specs.Starts.{IsStartsOf, address_below};
 ghost use Rattle.g1_rem.specs.Marks.{IsMarkedTo, Told, objects_from};
 
 use g1_words::{Fault, Heap, objects_in, size_at};
@@ -10,28 +10,25 @@ use std::marker::Model;
 /// wherever that object began: on an earlier card, or in an earlier region.
 #[derive(Drop)]
 pub struct Starts {
-    pub(crate) firsts: Vec<Option<u32>>,
+    /// One above the address, and 0 where no object is there: half the room of an `Option`.
+    pub(crate) firsts: Vec<u32>,
 }
 
 impl Model for Starts {
-    ghost use Rattle.std.specs.Prelude.{ℕ, List, Option};
+    ghost use Rattle.std.specs.Prelude.{ℕ, List, Option, map};
+    ghost use Rattle.g1_rem.specs.Starts.{address_below};
 
     ghost Value = { List (Option ℕ) };
 
-    ghost view = { λ s. s.firsts.items };
+    ghost view = { λ s. map address_below s.firsts.items };
 }
 
 /// Writes a value for each further card whose first word is below an address.
-fn mark(
-    firsts: &mut Vec<Option<u32>>,
-    k: u64,
-    until: u64,
-    value: Option<u32>,
-) -> Result<(), AllocError>
+fn mark(firsts: &mut Vec<u32>, k: u64, until: u64, value: u32) -> Result<(), AllocError>
     requires card { (0 < k) × (k ≤ 64) }
     requires address { until ≤ 2 ^ 24 }
     requires room { length firsts.old.items * k ≤ 2 ^ 25 }
-    ensures marked { OnOk result (IsMarkedTo firsts.old.items firsts.new.items k until value) }
+    ensures marked { OnOk result (IsMarkedTo (map address_below firsts.old.items) (map address_below firsts.new.items) k until (address_below value)) }
     ensures room { length firsts.new.items * k ≤ 2 ^ 25 }
 {
     'cards: while firsts.len() as u64 * k < until {
@@ -41,16 +38,11 @@ fn mark(
 }
 
 /// Writes the starts of the cards that a region's objects reach.
-fn mark_region(
-    alloc: Global,
-    heap: &Heap,
-    region: u32,
-    firsts: &mut Vec<Option<u32>>,
-) -> Result<(), Fault>
+fn mark_region(alloc: Global, heap: &Heap, region: u32, firsts: &mut Vec<u32>) -> Result<(), Fault>
     requires region { region < heap.now.geometry.n }
-    requires told { Told heap.now (objects_from heap.now region) firsts.old.items }
+    requires told { Told heap.now (objects_from heap.now region) (map address_below firsts.old.items) }
     requires room { length firsts.old.items * heap.now.geometry.k ≤ 2 ^ 25 }
-    ensures told { OnOk result (Told heap.now (objects_from heap.now (region + 1)) firsts.new.items) }
+    ensures told { OnOk result (Told heap.now (objects_from heap.now (region + 1)) (map address_below firsts.new.items)) }
     ensures room { length firsts.new.items * heap.now.geometry.k ≤ 2 ^ 25 }
     ensures memory { IfErr result (λ e. e ≡ Fault.Memory) }
 {
@@ -58,8 +50,8 @@ fn mark_region(
     let starts = objects_in(alloc, heap, region)?;
     'objects: for at in &starts {
         let size = size_at(heap, *at);
-        mark(firsts, k, *at, None)?;
-        mark(firsts, k, *at + size, Some(*at as u32))?;
+        mark(firsts, k, *at, 0)?;
+        mark(firsts, k, *at + size, *at as u32 + 1)?;
     }
     Ok(())
 }
@@ -74,11 +66,11 @@ impl Starts {
         ensures memory { IfErr result (λ e. e ≡ Fault.Memory) }
     {
         let geometry = heap.geometry();
-        let mut firsts = Vec::new(alloc);
+        let mut firsts = Vec::with_capacity(alloc, geometry.cards() as usize)?;
         for region in 0..geometry.regions() as u32 {
             mark_region(alloc, heap, region, &mut firsts)?;
         }
-        mark(&mut firsts, geometry.card_words(), geometry.words(), None)?;
+        mark(&mut firsts, geometry.card_words(), geometry.words(), 0)?;
         Ok(Starts { firsts })
     }
 
@@ -87,6 +79,6 @@ impl Starts {
         requires { card < length self.now }
         ensures { result ≡ slice_index_or self.now card None }
     {
-        self.firsts[card as usize]
+        self.firsts[card as usize].checked_sub(1)
     }
 }

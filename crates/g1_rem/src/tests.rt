@@ -57,25 +57,7 @@ fn slots_count_on_the_card_of_their_own_address(rt: HostRuntime) -> Result<(), F
     let starts = Starts::build(alloc, read.heap())?;
     assert_eq!(rt;
         starts.firsts.as_slice(),
-        [
-            Some(0),
-            Some(1),
-            None,
-            None,
-            Some(16),
-            None,
-            None,
-            None,
-            None,
-            None,
-            None,
-            None,
-            None,
-            None,
-            None,
-            None
-        ]
-        .as_slice()
+        [1, 2, 0, 0, 17, 0, 0, 0, 0, 0, 0, 0, 0, 0, 0, 0].as_slice()
     );
     for (card, slots) in [
         (0, [2, 3].as_slice()),

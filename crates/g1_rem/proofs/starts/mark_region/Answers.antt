@@ -3,8 +3,9 @@ use Rattle.std.specs.Prelude.{Some, None}
 use Rattle.std.proofs.lemmas.List.{length-map}
 use Rattle.g1_words.specs.Heap.{objects_in, object_at}
 use Rattle.g1_rem.specs.Marks.{IsMarkedTo, Told}
+use Rattle.g1_rem.specs.Starts.{address_below}
 use Rattle.g1_rem.proofs.Next.{NextOf, next_of}
-use Rattle.g1_rem.proofs.Marks.{left_start, left_end, told_next}
+use Rattle.g1_rem.proofs.Marks.{below_next, left_start, left_end, told_next}
 use Rattle.g1_rem.proofs.starts.mark_region.Goals as goal
 use Rattle.g1_rem.proofs.starts.mark_region.Goals.{In-objects, After-size_at-size}
 
@@ -19,7 +20,7 @@ size_read : (c : After-size_at-size) → c.size_at-size.result ≡ (object_at c.
 size_read c = c.size_at-size.ensures
 
 pub objects-init : goal.objects-init
-objects-init c = (subst (λ l. Told c.args.heap.now l c.args.firsts.now.items) (left_start c.args.heap.now c.geometry.ensures.valid c.args.region c.requires.region) c.requires.told, c.requires.room)
+objects-init c = (subst (λ l. Told c.args.heap.now l (map address_below c.args.firsts.now.items)) (left_start c.args.heap.now c.geometry.ensures.valid c.args.region c.requires.region) c.requires.told, c.requires.room)
 
 pub size_at-size-requires : goal.size_at-size-requires
 size_at-size-requires c =
@@ -44,13 +45,14 @@ objects-preserved c =
     let b = goal.at.objects-preserved c in
     let at : ℕ = slice_index c.deref-at-items.result.now c.objects.at-index in
     let size : ℕ = c.size_at-size.result in
-    let old = c.objects.firsts.items in
-    let mid = c.mark.new.firsts.items in
-    let new = c.mark-in-objects.new.firsts.items in
+    let old = map address_below c.objects.firsts.items in
+    let mid = map address_below c.mark.new.firsts.items in
+    let new = map address_below c.mark-in-objects.new.firsts.items in
     let k : c.card_words-k.result ≡ c.args.heap.now.geometry.k = c.card_words-k.ensures.value ∙ ap (λ g. g.k) c.geometry.ensures.same in
     let gap = subst (λ k. IsMarkedTo old mid k at None) k c.in_ok-mark.ensures.marked in
     let cards = subst (λ s. IsMarkedTo mid new c.args.heap.now.geometry.k (at + s) (Some at)) (size_read b.After-size_at-size)
-    (subst (λ k. IsMarkedTo mid new k (at + size) (Some at)) k c.in_ok-mark-2.ensures.marked) in (
+    (subst (λ v. IsMarkedTo mid new c.args.heap.now.geometry.k (at + size) v) (below_next at)
+    (subst (λ k. IsMarkedTo mid new k (at + size) (address_below (at + 1))) k c.in_ok-mark-2.ensures.marked)) in (
       told_next c.args.heap.now c.geometry.ensures.valid c.args.region c.objects.at-index at (row b.In-objects) old c.objects.invariant.0 mid new gap cards,
       subst (λ k. length c.mark-in-objects.new.firsts.items * k ≤ 2 ^ 25) k c.mark-in-objects.ensures.room,
     )
@@ -59,4 +61,4 @@ pub returns-clause-told : goal.returns-clause-told
 returns-clause-told c =
     let e : c.deref-at-items.result.now ≡ map (λ o. o.at) (objects_in c.args.heap.now c.args.region) = c.deref-at-items.ensures.value ∙ c.in_ok-starts.ensures.ok in
     let len : length c.deref-at-items.result.now ≡ length (objects_in c.args.heap.now c.args.region) = ap length e ∙ length-map (objects_in c.args.heap.now c.args.region) (λ o. o.at) in
-    subst (λ l. Told c.args.heap.now l c.objects.firsts.items) (left_end c.args.heap.now c.geometry.ensures.valid c.args.region c.objects.at-index (omega (arith, len))) c.objects.invariant.0
+    subst (λ l. Told c.args.heap.now l (map address_below c.objects.firsts.items)) (left_end c.args.heap.now c.geometry.ensures.valid c.args.region c.objects.at-index (omega (arith, len))) c.objects.invariant.0
