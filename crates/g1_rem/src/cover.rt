@@ -7,9 +7,10 @@ ghost use Rattle.g1_rem.specs.Cover.{is_bare, bare_in, IsFirstOf};
 ghost use Rattle.g1_rem.specs.Places.{IsBehind, AreBehind, AreReadyFor};
 
 use crate::leads::led_into;
+use crate::rows::objects_end;
 use crate::tracked::Tracked;
 use g1_image::Image;
-use g1_words::{Fault, card_of, header, objects_in};
+use g1_words::{Fault, card_of, header};
 use std::alloc::Global;
 use std::thread::Threads;
 
@@ -68,41 +69,36 @@ fn first_between(image: &Image, places: &mut [usize], from: u64, to: u64) -> Opt
 }
 
 /// The first slot of a region's objects that isn't covered.
-fn first_in(
-    alloc: Global,
-    image: &Image,
-    places: &mut [usize],
-    region: u32,
-) -> Result<Option<u64>, Fault>
+fn first_in(image: &Image, places: &mut [usize], region: u32) -> Option<u64>
     requires region { region < image.now.heap.geometry.n }
     requires ready { AreReadyFor image.now places.old (objects_from image.now.heap region) }
-    ensures ok { IfOk result (IsFirstOf (bare_in image.now region)) }
-    ensures ready { IfOk result (λ found. found ≡ None → AreReadyFor image.now places.new (objects_from image.now.heap (region + 1))) }
-    ensures memory { IfErr result (λ e. e ≡ Fault.Memory) }
+    ensures first { IsFirstOf (bare_in image.now region) result }
+    ensures ready { result ≡ None → AreReadyFor image.now places.new (objects_from image.now.heap (region + 1)) }
 {
     let heap = image.heap();
-    let starts = objects_in(alloc, heap, region)?;
-    'objects: for at in &starts {
-        let refs = header(heap.words(), *at).refs;
-        if let Some(p) = first_between(image, places, *at + 1, *at + 1 + refs) {
-            return Ok(Some(p));
+    let end = objects_end(heap, region);
+    let mut at = heap.geometry().start(region);
+    'objects: while at < end {
+        let object = header(heap.words(), at);
+        if let Some(p) = first_between(image, places, at + 1, at + 1 + object.refs) {
+            return Some(p);
         }
+        at += object.size;
     }
-    Ok(None)
+    None
 }
 
 /// The lowest slot that isn't covered, with a place in each remembered set.
-fn first_of(alloc: Global, image: &Image, places: &mut [usize]) -> Result<Option<u64>, Fault>
+fn first_of(image: &Image, places: &mut [usize]) -> Option<u64>
     requires { AreReadyFor image.now places.old (objects_from image.now.heap 0) }
-    ensures ok { IfOk result (IsFirstOf (uncovered image.now)) }
-    ensures memory { IfErr result (λ e. e ≡ Fault.Memory) }
+    ensures { IsFirstOf (uncovered image.now) result }
 {
     for region in 0..image.heap().geometry().regions() as u32 {
-        if let Some(p) = first_in(alloc, image, places, region)? {
-            return Ok(Some(p));
+        if let Some(p) = first_in(image, places, region) {
+            return Some(p);
         }
     }
-    Ok(None)
+    None
 }
 
 /// The lowest slot that isn't covered.
@@ -113,7 +109,7 @@ fn first_uncovered(alloc: Global, image: &Image) -> Result<Option<u64>, Fault>
 {
     let regions = image.heap().geometry().regions() as usize;
     let mut places = vec![in alloc; 0usize; regions]?;
-    first_of(alloc, image, &mut places)
+    Ok(first_of(image, &mut places))
 }
 
 /// The image with its cover kept by the type, or the very image again with the fault.

@@ -27,6 +27,7 @@ pub mod laws;
 mod leads;
 mod merging;
 mod refining;
+mod rows;
 mod slots;
 mod starts;
 #[cfg(test)]

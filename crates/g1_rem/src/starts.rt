@@ -2,7 +2,8 @@ ghost use Rattle.std.specs.Prelude.{◌≡◌, ◌≤◌, ◌<◌, ◌+◌, ◌*
 ghost use Rattle.g1_rem.specs.Starts.{IsStartsOf, address_below};
 ghost use Rattle.g1_rem.specs.Marks.{IsMarkedTo, Told, objects_from};
 
-use g1_words::{Fault, Heap, objects_in, size_at};
+use crate::rows::objects_end;
+use g1_words::{Fault, Heap, size_at};
 use std::alloc::{AllocError, Global};
 use std::marker::Model;
 
@@ -38,20 +39,22 @@ fn mark(firsts: &mut Vec<u32>, k: u64, until: u64, value: u32) -> Result<(), All
 }
 
 /// Writes the starts of the cards that a region's objects reach.
-fn mark_region(alloc: Global, heap: &Heap, region: u32, firsts: &mut Vec<u32>) -> Result<(), Fault>
+fn mark_region(heap: &Heap, region: u32, firsts: &mut Vec<u32>) -> Result<(), AllocError>
     requires region { region < heap.now.geometry.n }
     requires told { Told heap.now (objects_from heap.now region) (map address_below firsts.old.items) }
     requires room { length firsts.old.items * heap.now.geometry.k ≤ 2 ^ 25 }
     ensures told { OnOk result (Told heap.now (objects_from heap.now (region + 1)) (map address_below firsts.new.items)) }
     ensures room { length firsts.new.items * heap.now.geometry.k ≤ 2 ^ 25 }
-    ensures memory { IfErr result (λ e. e ≡ Fault.Memory) }
 {
-    let k = heap.geometry().card_words();
-    let starts = objects_in(alloc, heap, region)?;
-    'objects: for at in &starts {
-        let size = size_at(heap, *at);
-        mark(firsts, k, *at, 0)?;
-        mark(firsts, k, *at + size, *at as u32 + 1)?;
+    let geometry = heap.geometry();
+    let k = geometry.card_words();
+    let end = objects_end(heap, region);
+    let mut at = geometry.start(region);
+    'objects: while at < end {
+        let size = size_at(heap, at);
+        mark(firsts, k, at, 0)?;
+        mark(firsts, k, at + size, at as u32 + 1)?;
+        at += size;
     }
     Ok(())
 }
@@ -68,7 +71,7 @@ impl Starts {
         let geometry = heap.geometry();
         let mut firsts = Vec::with_capacity(alloc, geometry.cards() as usize)?;
         for region in 0..geometry.regions() as u32 {
-            mark_region(alloc, heap, region, &mut firsts)?;
+            mark_region(heap, region, &mut firsts)?;
         }
         mark(&mut firsts, geometry.card_words(), geometry.words(), 0)?;
         Ok(Starts { firsts })

@@ -1,6 +1,5 @@
-use Rattle.std.proofs.Common.{arith, ap, subst, ◌≡◌, ◌<◌, ◌∙◌}
+use Rattle.std.proofs.Common.{arith, ap, ◌≡◌, ◌<◌, ◌∙◌}
 use Rattle.g1_words.specs.Heap.{Heap}
-use Rattle.g1_rem.specs.Cover.{bare_in, IsFirstOf}
 use Rattle.g1_rem.proofs.Bare.{bare_start, bare_first, bare_next, bare_over}
 use Rattle.g1_rem.proofs.cover.first_of.Goals as goal
 use Rattle.g1_rem.proofs.cover.first_of.Goals.{At-loop-region, In-loop-region}
@@ -20,19 +19,19 @@ loop-region-init c = record { same = bare_start c.args.image.now c.heap.ensures.
 pub first_in-requires-clause-region : goal.first_in-requires-clause-region
 first_in-requires-clause-region c = below (goal.at.first_in-requires-clause-region c).In-loop-region
 
-pub returns-in-Some-clause-ok : goal.returns-in-Some-clause-ok
-returns-in-Some-clause-ok c =
-    bare_first c.args.image.now c.loop-region.region c.in-Some.p c.heap.ensures.valid.heap (below (goal.at.returns-in-Some-clause-ok c).In-loop-region) c.loop-region.invariant.same
-    (subst (IsFirstOf (bare_in c.args.image.now c.loop-region.region)) c.in-Some.is c.in_ok-p.ensures.ok)
+pub returns-in-Some : goal.returns-in-Some
+returns-in-Some c =
+    bare_first c.args.image.now c.loop-region.region c.in-Some.p c.heap.ensures.valid.heap (below (goal.at.returns-in-Some c).In-loop-region) c.loop-region.invariant.same
+    c.in-Some.ensures.first
 
 pub loop-region-preserved : goal.loop-region-preserved
 loop-region-preserved c = record {
   same = bare_next c.args.image.now c.loop-region.region c.heap.ensures.valid.heap (below (goal.at.loop-region-preserved c).In-loop-region) c.loop-region.invariant.same
-      (subst (IsFirstOf (bare_in c.args.image.now c.loop-region.region)) c.in_default.is c.in_ok-p.ensures.ok);
-  ready = c.in_ok-p.ensures.ready c.in_default.is;
+      c.in_default.ensures.first;
+  ready = c.first_in.ensures.ready c.in_default.is;
 }
 
-pub returns-clause-ok : goal.returns-clause-ok
-returns-clause-ok c =
+pub returns : goal.returns
+returns c =
     let e = c.regions-region-end.ensures.value ∙ ap (λ g. g.n) c.geometry.ensures.same ∙ ap (λ (h : Heap). h.geometry.n) c.heap.ensures.same in
     bare_over c.args.image.now c.loop-region.region c.heap.ensures.valid.heap (omega (arith, e, c.loop-region-test.false)) c.loop-region.invariant.same

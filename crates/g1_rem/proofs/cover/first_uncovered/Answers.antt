@@ -1,10 +1,7 @@
-use Rattle.std.proofs.Common.{◌≡◌, ◌≤◌, ℕ, ap, ◌∙◌}
-use Rattle.std.specs.Prelude.{Some, Contains}
-use Rattle.g1_words.proofs.Listed.{IfOk-then}
+use Rattle.std.proofs.Common.{ap, ◌∙◌}
 use Rattle.g1_words.specs.Heap.{Heap}
 use Rattle.g1_image.specs.Cards.{uncovered}
 use Rattle.g1_image.proofs.Covers.{uncovered_rise}
-use Rattle.g1_rem.specs.Cover.{IsFirstOf}
 use Rattle.g1_rem.proofs.Places.{ready_start, first_least}
 use Rattle.g1_rem.proofs.cover.first_uncovered.Goals as goal
 
@@ -15,4 +12,4 @@ first_of-requires c =
 
 pub returns-clause-lowest : goal.returns-clause-lowest
 returns-clause-lowest c =
-    IfOk-then (IsFirstOf (uncovered c.args.image.now)) (λ found. (p q : ℕ) → found ≡ Some p → Contains (uncovered c.args.image.now) q → p ≤ q) c.first_of.result (λ found first. first_least (uncovered c.args.image.now) found (uncovered_rise c.args.image.now c.heap.ensures.valid.heap) first) c.first_of.ensures.ok
+    first_least (uncovered c.args.image.now) c.first_of.result (uncovered_rise c.args.image.now c.heap.ensures.valid.heap) c.first_of.ensures

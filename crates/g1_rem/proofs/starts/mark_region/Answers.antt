@@ -1,64 +1,68 @@
-use Rattle.std.proofs.Common.{arith, ap, refl, subst, ◌∙◌, ◌≡◌, ◌≤◌, ◌+◌, ◌*◌, ◌^◌, ℕ, length, map, slice_index}
-use Rattle.std.specs.Prelude.{Some, None}
-use Rattle.std.proofs.lemmas.List.{length-map}
-use Rattle.g1_words.specs.Heap.{objects_in, object_at}
-use Rattle.g1_rem.specs.Marks.{IsMarkedTo, Told}
+use Rattle.std.proofs.Common.{arith, ap, subst, ◌∙◌, ◌≡◌, ◌≤◌, ◌+◌, ◌*◌, ◌^◌, ℕ, length, map}
+use Rattle.std.specs.Prelude.{None}
+use Rattle.g1_words.specs.Heap.{start, object_at}
+use Rattle.g1_rem.specs.Marks.{IsMarkedTo}
 use Rattle.g1_rem.specs.Starts.{address_below}
-use Rattle.g1_rem.proofs.Next.{NextOf, next_of}
-use Rattle.g1_rem.proofs.Marks.{below_next, left_start, left_end, told_next}
+use Rattle.g1_rem.proofs.Next.{NextOf}
+use Rattle.g1_rem.proofs.Marks.{below_next}
+use Rattle.g1_rem.proofs.Walks.{marking_start, marking_front, marking_some, marking_step, marking_end}
 use Rattle.g1_rem.proofs.starts.mark_region.Goals as goal
 use Rattle.g1_rem.proofs.starts.mark_region.Goals.{In-objects, After-size_at-size}
 
 -- the object whose cards are marked
-row : (c : In-objects) → NextOf c.args.heap.now c.args.region c.objects.at-index (slice_index c.deref-at-items.result.now c.objects.at-index)
-row c =
-    next_of c.args.heap.now c.args.region c.objects.at-index (slice_index c.deref-at-items.result.now c.objects.at-index) c.deref-at-items.result.now c.geometry.ensures.valid c.requires.region
-    (c.deref-at-items.ensures.value ∙ c.in_ok-starts.ensures.ok) c.objects-test.true refl
+front : (c : In-objects) → NextOf c.args.heap.now c.args.region c.objects.invariant.0.place c.objects.at
+front c =
+    marking_front c.args.heap.now c.args.region c.objects.at c.objects_end-end.result (map address_below c.objects.firsts.items) c.geometry-geometry.ensures.valid c.requires.region c.objects.invariant.0 c.objects-test.true
 
 -- its size, as it was read
-size_read : (c : After-size_at-size) → c.size_at-size.result ≡ (object_at c.args.heap.now (slice_index c.deref-at-items.result.now c.objects.at-index)).size
+size_read : (c : After-size_at-size) → c.size_at-size.result ≡ (object_at c.args.heap.now c.objects.at).size
 size_read c = c.size_at-size.ensures
 
 pub objects-init : goal.objects-init
-objects-init c = (subst (λ l. Told c.args.heap.now l (map address_below c.args.firsts.now.items)) (left_start c.args.heap.now c.geometry.ensures.valid c.args.region c.requires.region) c.requires.told, c.requires.room)
+objects-init c =
+    let h = c.args.heap.now in
+    let from : c.start-at.result ≡ start c.args.heap.now c.args.region = c.start-at.ensures.value ∙ ap (λ g. c.args.region * g.w) c.geometry-geometry.ensures.same in
+    (marking_start h c.args.region c.start-at.result c.objects_end-end.result (map address_below c.args.firsts.now.items) c.geometry-geometry.ensures.valid c.requires.region from c.objects_end-end.ensures c.requires.told, c.requires.room)
 
 pub size_at-size-requires : goal.size_at-size-requires
 size_at-size-requires c =
-    let n = row (goal.at.size_at-size-requires c).In-objects in
-    omega (arith, n.fits, c.geometry.ensures.valid.word_count)
+    let n = front (goal.at.size_at-size-requires c).In-objects in
+    omega (arith, n.fits, c.geometry-geometry.ensures.valid.word_count)
 
 pub mark-requires-clause-address : goal.mark-requires-clause-address
 mark-requires-clause-address c =
-    let n = row (goal.at.mark-requires-clause-address c).In-objects in
-    omega (arith, n.fits, c.geometry.ensures.valid.limits.words_most)
+    let n = front (goal.at.mark-requires-clause-address c).In-objects in
+    omega (arith, n.fits, c.geometry-geometry.ensures.valid.limits.words_most)
 
 pub mark-requires-in-objects-clause-address : goal.mark-requires-in-objects-clause-address
 mark-requires-in-objects-clause-address c =
     let b = goal.at.mark-requires-in-objects-clause-address c in
-    let n = row b.In-objects in
+    let n = front b.In-objects in
     let w = size_read b.After-size_at-size in
     let s = ap (λ o. o.size) n.whole in
-    omega (arith, n.ends, w, s, c.geometry.ensures.valid.limits.words_most)
+    omega (arith, n.ends, w, s, c.geometry-geometry.ensures.valid.limits.words_most)
+
+pub objects-smaller : goal.objects-smaller
+objects-smaller c =
+    let some = marking_some c.args.heap.now c.args.region c.objects.at c.objects_end-end.result (map address_below c.objects.firsts.items) c.geometry-geometry.ensures.valid c.requires.region c.objects.invariant.0 c.objects-test.true c.size_at-size.result c.size_at-size.ensures in
+    omega (arith, some, c.objects-test.true)
 
 pub objects-preserved : goal.objects-preserved
 objects-preserved c =
     let b = goal.at.objects-preserved c in
-    let at : ℕ = slice_index c.deref-at-items.result.now c.objects.at-index in
+    let at : ℕ = c.objects.at in
     let size : ℕ = c.size_at-size.result in
     let old = map address_below c.objects.firsts.items in
     let mid = map address_below c.mark.new.firsts.items in
     let new = map address_below c.mark-in-objects.new.firsts.items in
-    let k : c.card_words-k.result ≡ c.args.heap.now.geometry.k = c.card_words-k.ensures.value ∙ ap (λ g. g.k) c.geometry.ensures.same in
+    let k : c.card_words-k.result ≡ c.args.heap.now.geometry.k = c.card_words-k.ensures.value ∙ ap (λ g. g.k) c.geometry-geometry.ensures.same in
     let gap = subst (λ k. IsMarkedTo old mid k at None) k c.in_ok-mark.ensures.marked in
-    let cards = subst (λ s. IsMarkedTo mid new c.args.heap.now.geometry.k (at + s) (Some at)) (size_read b.After-size_at-size)
-    (subst (λ v. IsMarkedTo mid new c.args.heap.now.geometry.k (at + size) v) (below_next at)
-    (subst (λ k. IsMarkedTo mid new k (at + size) (address_below (at + 1))) k c.in_ok-mark-2.ensures.marked)) in (
-      told_next c.args.heap.now c.geometry.ensures.valid c.args.region c.objects.at-index at (row b.In-objects) old c.objects.invariant.0 mid new gap cards,
+    let cards = subst (λ v. IsMarkedTo mid new c.args.heap.now.geometry.k (at + size) v) (below_next at)
+    (subst (λ k. IsMarkedTo mid new k (at + size) (address_below (at + 1))) k c.in_ok-mark-2.ensures.marked) in (
+      marking_step c.args.heap.now c.args.region at c.objects_end-end.result old c.geometry-geometry.ensures.valid c.requires.region c.objects.invariant.0 c.objects-test.true mid new size (size_read b.After-size_at-size) gap cards,
       subst (λ k. length c.mark-in-objects.new.firsts.items * k ≤ 2 ^ 25) k c.mark-in-objects.ensures.room,
     )
 
 pub returns-clause-told : goal.returns-clause-told
 returns-clause-told c =
-    let e : c.deref-at-items.result.now ≡ map (λ o. o.at) (objects_in c.args.heap.now c.args.region) = c.deref-at-items.ensures.value ∙ c.in_ok-starts.ensures.ok in
-    let len : length c.deref-at-items.result.now ≡ length (objects_in c.args.heap.now c.args.region) = ap length e ∙ length-map (objects_in c.args.heap.now c.args.region) (λ o. o.at) in
-    subst (λ l. Told c.args.heap.now l (map address_below c.objects.firsts.items)) (left_end c.args.heap.now c.geometry.ensures.valid c.args.region c.objects.at-index (omega (arith, len))) c.objects.invariant.0
+    marking_end c.args.heap.now c.args.region c.objects.at c.objects_end-end.result (map address_below c.objects.firsts.items) c.objects.invariant.0 (omega (arith, c.objects-test.false))
