@@ -160,7 +160,7 @@ all_in : (P : ℕ → Type 0) (xs : List ℕ) → ((x : ℕ) → In xs x → P x
 all_in P xs f = λ k d lt. f (get_or xs k d) (get_or-In xs k d lt)
 
 -- what holds of all holds of a member
-in_all : (P : ℕ → Type 0) (xs : List ℕ) (x : ℕ) → All P xs → In xs x → P x
+pub in_all : (P : ℕ → Type 0) (xs : List ℕ) (x : ℕ) → All P xs → In xs x → P x
 in_all P xs x all i = let c = Contains-from_in xs x i in subst P c.2 (all c.0 x c.1)
 
 -- before the first card the lists are empty

@@ -1,17 +1,18 @@
-ghost use Rattle.std.specs.Prelude.{◌≡◌, ◌≤◌, ◌<◌, ◌⊎◌, ◌+◌, ◌-◌, ℕ, List, ◌∷◌, None, Some, length, filter, slice_index, Contains, IfOk, IfErr};
+ghost use Rattle.std.specs.Prelude.{◌≡◌, ◌≤◌, ◌<◌, ◌⊎◌, ◌+◌, ◌-◌, ℕ, List, ◌∷◌, None, Some, length, filter, slice_index, slice_index_or, false, Contains, IfOk, IfErr};
 ghost use Rattle.std.specs.List.{range_with_len};
 ghost use Rattle.g1_words.specs.Valid.{IsReference};
 ghost use Rattle.g1_image.specs.Cards.{uncovered};
 ghost use Rattle.g1_rem.specs.Marks.{objects_from};
-ghost use Rattle.g1_rem.specs.Cover.{is_bare, bare_in, IsFirstOf};
+ghost use Rattle.g1_rem.specs.Cover.{is_bare, bare_in, AreDirty, IsFirstOf};
 ghost use Rattle.g1_rem.specs.Places.{IsBehind, AreBehind, AreReadyFor};
 
+use crate::entry_cards::{mark_each, unmarked};
 use crate::leads::led_into;
 use crate::rows::objects_end;
 use crate::tracked::Tracked;
 use g1_image::Image;
 use g1_words::{Fault, card_of, header};
-use std::alloc::Global;
+use std::alloc::{AllocError, Global};
 use std::thread::Threads;
 
 /// The place of a rising list's first card, from a place on, that isn't below one.
@@ -27,8 +28,34 @@ fn place_of(set: &[u32], from: usize, card: u32) -> usize
     place
 }
 
+/// Tells whether a mark is set. One past the last isn't.
+fn is_marked(marks: &[bool], number: u32) -> bool
+    ensures { result ≡ slice_index_or marks.now number false }
+{
+    match marks.get(number as usize) {
+        Some(marked) => *marked,
+        None => false,
+    }
+}
+
+/// A mark for each card, set where the card is dirty; none at all where the log is empty.
+fn dirty_marks(alloc: Global, image: &Image) -> Result<Vec<bool>, AllocError>
+    ensures { IfOk result (λ v. AreDirty image.now v.items) }
+{
+    let log = image.log().as_slice();
+    let cards = if log.is_empty() {
+        0
+    } else {
+        image.heap().geometry().cards()
+    };
+    let mut dirty = unmarked(alloc, cards)?;
+    mark_each(&mut dirty, log);
+    Ok(dirty)
+}
+
 /// Tells whether a slot isn't covered. The places in the remembered sets move on with the slots.
-fn is_uncovered(image: &Image, places: &mut [usize], p: u64) -> bool
+fn is_uncovered(image: &Image, dirty: &[bool], places: &mut [usize], p: u64) -> bool
+    requires dirty { AreDirty image.now dirty.now }
     requires slot { p < length image.now.heap.words }
     requires reference { IsReference image.now.heap (slice_index image.now.heap.words p) }
     requires behind { AreBehind image.now places.old p }
@@ -46,13 +73,20 @@ fn is_uncovered(image: &Image, places: &mut [usize], p: u64) -> bool
             if place < set.len() && set[place] == card {
                 return false;
             }
-            !image.log().contains(&card)
+            !is_marked(dirty, card)
         }
     }
 }
 
 /// The first slot from one address on and below another that isn't covered.
-fn first_between(image: &Image, places: &mut [usize], from: u64, to: u64) -> Option<u64>
+fn first_between(
+    image: &Image,
+    dirty: &[bool],
+    places: &mut [usize],
+    from: u64,
+    to: u64,
+) -> Option<u64>
+    requires dirty { AreDirty image.now dirty.now }
     requires order { from ≤ to }
     requires slots { to ≤ length image.now.heap.words }
     requires references { (p : ℕ) → from ≤ p → p < to → IsReference image.now.heap (slice_index image.now.heap.words p) }
@@ -61,7 +95,7 @@ fn first_between(image: &Image, places: &mut [usize], from: u64, to: u64) -> Opt
     ensures behind { AreBehind image.now places.new to }
 {
     for p in from..to {
-        if is_uncovered(image, places, p) {
+        if is_uncovered(image, dirty, places, p) {
             return Some(p);
         }
     }
@@ -69,7 +103,8 @@ fn first_between(image: &Image, places: &mut [usize], from: u64, to: u64) -> Opt
 }
 
 /// The first slot of a region's objects that isn't covered.
-fn first_in(image: &Image, places: &mut [usize], region: u32) -> Option<u64>
+fn first_in(image: &Image, dirty: &[bool], places: &mut [usize], region: u32) -> Option<u64>
+    requires dirty { AreDirty image.now dirty.now }
     requires region { region < image.now.heap.geometry.n }
     requires ready { AreReadyFor image.now places.old (objects_from image.now.heap region) }
     ensures first { IsFirstOf (bare_in image.now region) result }
@@ -80,7 +115,7 @@ fn first_in(image: &Image, places: &mut [usize], region: u32) -> Option<u64>
     let mut at = heap.geometry().start(region);
     'objects: while at < end {
         let object = header(heap.words(), at);
-        if let Some(p) = first_between(image, places, at + 1, at + 1 + object.refs) {
+        if let Some(p) = first_between(image, dirty, places, at + 1, at + 1 + object.refs) {
             return Some(p);
         }
         at += object.size;
@@ -89,12 +124,13 @@ fn first_in(image: &Image, places: &mut [usize], region: u32) -> Option<u64>
 }
 
 /// The lowest slot that isn't covered, with a place in each remembered set.
-fn first_of(image: &Image, places: &mut [usize]) -> Option<u64>
-    requires { AreReadyFor image.now places.old (objects_from image.now.heap 0) }
+fn first_of(image: &Image, dirty: &[bool], places: &mut [usize]) -> Option<u64>
+    requires dirty { AreDirty image.now dirty.now }
+    requires ready { AreReadyFor image.now places.old (objects_from image.now.heap 0) }
     ensures { IsFirstOf (uncovered image.now) result }
 {
     for region in 0..image.heap().geometry().regions() as u32 {
-        if let Some(p) = first_in(image, places, region) {
+        if let Some(p) = first_in(image, dirty, places, region) {
             return Some(p);
         }
     }
@@ -109,7 +145,8 @@ fn first_uncovered(alloc: Global, image: &Image) -> Result<Option<u64>, Fault>
 {
     let regions = image.heap().geometry().regions() as usize;
     let mut places = vec![in alloc; 0usize; regions]?;
-    Ok(first_of(image, &mut places))
+    let dirty = dirty_marks(alloc, image)?;
+    Ok(first_of(image, &dirty, &mut places))
 }
 
 /// The image with its cover kept by the type, or the very image again with the fault.

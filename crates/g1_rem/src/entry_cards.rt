@@ -8,14 +8,14 @@ use g1_words::{Fault, Heap};
 use std::alloc::{AllocError, Global};
 
 /// So many marks, none of them set.
-fn unmarked(alloc: Global, count: u64) -> Result<Vec<bool>, AllocError>
+pub(crate) fn unmarked(alloc: Global, count: u64) -> Result<Vec<bool>, AllocError>
     ensures { IfOk result (λ v. v.items ≡ replicate count false) }
 {
     Ok(vec![in alloc; false; count as usize]?)
 }
 
 /// Sets the marks of these numbers. One past the last mark has none.
-fn mark_each(marks: &mut [bool], numbers: &[u32])
+pub(crate) fn mark_each(marks: &mut [bool], numbers: &[u32])
     ensures { AreMarked (has numbers.now) marks.old marks.new }
 {
     for number in numbers {

@@ -14,7 +14,7 @@ below c =
     omega (arith, c.loop-region-test.true, e)
 
 pub loop-region-init : goal.loop-region-init
-loop-region-init c = record { same = bare_start c.args.image.now c.heap.ensures.valid.heap; ready = c.requires }
+loop-region-init c = record { same = bare_start c.args.image.now c.heap.ensures.valid.heap; ready = c.requires.ready }
 
 pub first_in-requires-clause-region : goal.first_in-requires-clause-region
 first_in-requires-clause-region c = below (goal.at.first_in-requires-clause-region c).In-loop-region

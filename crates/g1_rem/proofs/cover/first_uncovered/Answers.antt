@@ -5,8 +5,8 @@ use Rattle.g1_image.proofs.Covers.{uncovered_rise}
 use Rattle.g1_rem.proofs.Places.{ready_start, first_least}
 use Rattle.g1_rem.proofs.cover.first_uncovered.Goals as goal
 
-pub first_of-requires : goal.first_of-requires
-first_of-requires c =
+pub first_of-requires-clause-ready : goal.first_of-requires-clause-ready
+first_of-requires-clause-ready c =
     let n = c.regions-regions.ensures.value ∙ ap (λ g. g.n) c.geometry.ensures.same ∙ ap (λ (h : Heap). h.geometry.n) c.heap.ensures.same in
     ready_start c.args.image.now c.deref_mut.result.now c.regions-regions.result c.heap.ensures.valid.heap (c.deref_mut.ensures.value ∙ c.in_ok-places.ensures.items_if_clones_equal (λ y same. same)) n
 

@@ -18,11 +18,11 @@ led c = subst (λ h. IsLedInto h c.args.p (Some c.in-Some.region)) c.heap-heap.e
 the_set : (c : After-place_of-place) → c.index-remembered-region.result.items ≡ remembered_of c.args.image.now c.in-Some.region
 the_set c = set_read (λ s. s.items) c.args.image.now c.remembered.result.now c.in-Some.region c.index-remembered-region.result c.heap-heap.ensures.valid c.remembered.ensures (led c).4 c.index-remembered-region.is
 
-the_card : (c : After-place_of-place) → c.card_of.result ≡ card_of c.args.image.now.heap c.args.p
-the_card c = c.card_of.ensures ∙ ap (λ g. c.args.p / g.k) c.geometry.ensures.same ∙ ap (λ (h : Heap). c.args.p / h.geometry.k) c.heap-heap.ensures.same
+the_card : (c : After-place_of-place) → c.card_of-card.result ≡ card_of c.args.image.now.heap c.args.p
+the_card c = c.card_of-card.ensures ∙ ap (λ g. c.args.p / g.k) c.geometry.ensures.same ∙ ap (λ (h : Heap). c.args.p / h.geometry.k) c.heap-heap.ensures.same
 
-behind : (c : After-place_of-place) → IsBehind c.index-remembered-region.result.items c.place_of-place.result c.card_of.result
-behind c = subst (λ l. IsBehind l c.place_of-place.result c.card_of.result) c.deref.ensures.value c.place_of-place.ensures.behind
+behind : (c : After-place_of-place) → IsBehind c.index-remembered-region.result.items c.place_of-place.result c.card_of-card.result
+behind c = subst (λ l. IsBehind l c.place_of-place.result c.card_of-card.result) c.deref.ensures.value c.place_of-place.ensures.behind
 
 moved : (c : After-place_of-place) → AreBehind c.args.image.now (slice_set c.args.places.now c.in-Some.region c.place_of-place.result) c.args.p
 moved c =
@@ -36,15 +36,15 @@ pub returns-else-place-len-clause-behind : goal.returns-else-place-len-clause-be
 returns-else-place-len-clause-behind c = moved (goal.at.returns-else-place-len-clause-behind c).After-place_of-place
 
 -- whether the set has the card, told of the list that was read
-read_has : (c : After-place_of-place) (b : Bool) → has c.index-remembered-region.result.items c.card_of.result ≡ b → has (remembered_of c.args.image.now c.in-Some.region) (card_of c.args.image.now.heap c.args.p) ≡ b
-read_has c b e = ap (λ x. has (remembered_of c.args.image.now c.in-Some.region) x) (sym (the_card c)) ∙ ap (λ l. has l c.card_of.result) (sym (the_set c)) ∙ e
+read_has : (c : After-place_of-place) (b : Bool) → has c.index-remembered-region.result.items c.card_of-card.result ≡ b → has (remembered_of c.args.image.now c.in-Some.region) (card_of c.args.image.now.heap c.args.p) ≡ b
+read_has c b e = ap (λ x. has (remembered_of c.args.image.now c.in-Some.region) x) (sym (the_card c)) ∙ ap (λ l. has l c.card_of-card.result) (sym (the_set c)) ∙ e
 
 pub returns-then-index-card-clause-uncovered : goal.returns-then-index-card-clause-uncovered
 returns-then-index-card-clause-uncovered c =
     let b = (goal.at.returns-then-index-card-clause-uncovered c).After-place_of-place in
     let items = c.index-remembered-region.result.items in
     let len : length c.index-remembered-region.result.items ≡ length c.deref.result.now = ap length (sym c.deref.ensures.value) in
-    let there : has c.index-remembered-region.result.items c.card_of.result ≡ true =
+    let there : has c.index-remembered-region.result.items c.card_of-card.result ≡ true =
     subst (λ x. has c.index-remembered-region.result.items x ≡ true) c.if-index-card.true (has_here c.index-remembered-region.result.items c.place_of-place.result c.index.result.now (omega (arith, len, c.if-place-len.true, c.len.ensures, c.deref.ensures.len)) c.index.ensures) in
     sym (bare_some c.args.image.now c.args.p c.in-Some.region true (has c.args.image.now.log (card_of c.args.image.now.heap c.args.p)) (led b) (read_has b true there) refl)
 
@@ -53,18 +53,18 @@ returns-else-place-len-clause-uncovered c =
     let b = (goal.at.returns-else-place-len-clause-uncovered c).After-place_of-place in
     let items = c.index-remembered-region.result.items in
     let place = c.place_of-place.result in
-    let card = c.card_of.result in
+    let card = c.card_of-card.result in
     let len : length c.index-remembered-region.result.items ≡ length c.deref.result.now = ap length (sym c.deref.ensures.value) in
     let rising : IsStrictlyIncreasing c.index-remembered-region.result.items =
     subst (λ l. IsStrictlyIncreasing l) (sym (the_set b)) (c.heap-heap.ensures.valid.remembered c.in-Some.region (led b).4).rising in
-    let next : c.place_of-place.result < length c.index-remembered-region.result.items → c.card_of.result ≤ slice_index c.index-remembered-region.result.items c.place_of-place.result =
-    subst (λ l. c.place_of-place.result < length l → c.card_of.result ≤ slice_index l c.place_of-place.result) c.deref.ensures.value c.place_of-place.ensures.next in
-    let other : c.place_of-place.result < length c.index-remembered-region.result.items → slice_index c.index-remembered-region.result.items c.place_of-place.result ≡ c.card_of.result → ⊥ =
+    let next : c.place_of-place.result < length c.index-remembered-region.result.items → c.card_of-card.result ≤ slice_index c.index-remembered-region.result.items c.place_of-place.result =
+    subst (λ l. c.place_of-place.result < length l → c.card_of-card.result ≤ slice_index l c.place_of-place.result) c.deref.ensures.value c.place_of-place.ensures.next in
+    let other : c.place_of-place.result < length c.index-remembered-region.result.items → slice_index c.index-remembered-region.result.items c.place_of-place.result ≡ c.card_of-card.result → ⊥ =
     elim c.else-place-len.branch [
       | else-place-len-via-then-place-len+else-index-card w ↦ (λ lt e. w.if-index-card.false (w.index.ensures ∙ get_or_default items place w.index.result.now 0 lt ∙ e))
       | else-place-len-via-else-place-len w ↦ (λ lt e. omega (arith, lt, len, w.if-place-len.false, c.len.ensures, c.deref.ensures.len))
     ] in
-    let none : has c.index-remembered-region.result.items c.card_of.result ≡ false = has_not items place card rising (behind b) next other in
-    let logged : has c.args.image.now.log (card_of c.args.image.now.heap c.args.p) ≡ c.contains.result =
-    ap (λ x. has c.args.image.now.log x) (sym (the_card b)) ∙ ap (λ l. has l c.card_of.result) (sym c.log.ensures) ∙ sym c.contains.ensures in
-    sym (bare_some c.args.image.now c.args.p c.in-Some.region false c.contains.result (led b) (read_has b false none) logged)
+    let none : has c.index-remembered-region.result.items c.card_of-card.result ≡ false = has_not items place card rising (behind b) next other in
+    let logged : has c.args.image.now.log (card_of c.args.image.now.heap c.args.p) ≡ c.is_marked.result =
+    ap (λ x. has c.args.image.now.log x) (sym (the_card b)) ∙ sym (c.requires.dirty c.card_of-card.result) ∙ sym c.is_marked.ensures in
+    sym (bare_some c.args.image.now c.args.p c.in-Some.region false c.is_marked.result (led b) (read_has b false none) logged)
