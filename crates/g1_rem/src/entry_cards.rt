@@ -50,9 +50,11 @@ fn left_over(
     let geometry = heap.geometry();
     let mut left = Vec::new(alloc);
     for card in 0..cards.len() {
-        let region = geometry.region_of_card(card as u32);
-        if cards[card] && !regions[region as usize] {
-            left.push(card as u32)?;
+        if cards[card] {
+            let region = geometry.region_of_card(card as u32);
+            if !regions[region as usize] {
+                left.push(card as u32)?;
+            }
         }
     }
     Ok(left)

@@ -9,7 +9,7 @@ ghost use Rattle.g1_rem.specs.Starts.{IsStartsOf, card_count};
 ghost use Rattle.g1_rem.specs.Slots.{slots_on, is_between};
 
 use crate::starts::Starts;
-use g1_words::{Heap, Kind, REFS_RANGE};
+use g1_words::{Heap, Kind, REFS_RANGE, region_of};
 use smallvec::SmallVec;
 use std::alloc::Global;
 
@@ -65,10 +65,10 @@ pub fn slots_on(alloc: Global, heap: &Heap, starts: &Starts, card: u32) -> Small
         None => SmallVec::new(alloc),
         Some(first) => {
             let at = u64::from(first);
-            let number = at / geometry.region_words();
+            let number = region_of(&geometry, at);
             let region = heap.region(number as u32);
             let end = match region.kind {
-                Kind::Ordinary => number * geometry.region_words() + u64::from(region.top),
+                Kind::Ordinary => geometry.start(number as u32) + u64::from(region.top),
                 Kind::Free | Kind::HumongousFirst | Kind::Continuation => {
                     at + heap.words()[at as usize] / REFS_RANGE
                 }

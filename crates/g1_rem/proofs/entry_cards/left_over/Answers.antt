@@ -1,10 +1,10 @@
-use Rattle.std.proofs.Common.{◌≡◌, ◌<◌, ◌∙◌, ◌*◌, ◌/◌, ◌++◌, ◌∷◌, [], ap, sym, subst, arith, filter, length}
+use Rattle.std.proofs.Common.{◌≡◌, ◌<◌, ◌∙◌, ◌*◌, ◌/◌, ◌++◌, ◌∷◌, [], ap, refl, sym, subst, arith, filter, length}
 use Rattle.std.specs.List.{range_with_len}
 use Rattle.g1_rem.specs.Starts.{card_count}
 use Rattle.g1_rem.specs.EntryCards.{is_left}
 use Rattle.g1_rem.proofs.EntryCards.{card_home, filtered_push, filtered_pass, left_there, left_unmarked, left_inside}
 use Rattle.g1_rem.proofs.entry_cards.left_over.Goals as goal
-use Rattle.g1_rem.proofs.entry_cards.left_over.Goals.{then-cards-card+then-not-regions-region+in_ok-push, else-cards-card, else-cards-card-via-then-cards-card+else-not-regions-region, else-cards-card-via-else-cards-card}
+use Rattle.g1_rem.proofs.entry_cards.left_over.Goals.{then-cards-card+then-not-regions-region+in_ok-push, then-cards-card+else-not-regions-region, else-cards-card}
 
 pub loop-card-init : goal.loop-card-init
 loop-card-init c = c.new-left.ensures.items
@@ -24,20 +24,17 @@ loop-card-preserved c =
     let cards = c.args.cards.now in
     let regions = c.args.regions.now in
     let n = c.loop-card.card in
-    let home = c.region_of_card-region.result in
-    let same : c.region_of_card-region.result ≡ c.loop-card.card * c.args.heap.now.geometry.k / c.args.heap.now.geometry.w =
-    c.region_of_card-region.ensures.value ∙ ap (λ g. c.loop-card.card * g.k / g.w) c.geometry-geometry.ensures.same in
     elim c.if-cards-card.branch [
       | then-cards-card+then-not-regions-region+in_ok-push v ↦
           ap (λ l. l.items) v.left-is ∙ v.in_ok-push.ensures.items
           ∙ ap (λ l. l ++ c.loop-card.card ∷ []) c.loop-card.invariant
-          ∙ sym (filtered_push (is_left h cards regions) n (left_there h valid cards regions n home same v.if-cards-card.true v.if-not-regions-region.true))
+          ∙ sym (filtered_push (is_left h cards regions) n (left_there h valid cards regions n v.region_of_card-region.result (v.region_of_card-region.ensures.value ∙ ap (λ g. c.loop-card.card * g.k / g.w) c.geometry-geometry.ensures.same) v.if-cards-card.true v.if-not-regions-region.true))
+      | then-cards-card+else-not-regions-region v ↦
+          ap (λ l. l.items) v.left-is ∙ c.loop-card.invariant
+          ∙ sym (filtered_pass (is_left h cards regions) n (left_inside h valid cards regions n v.region_of_card-region.result (v.region_of_card-region.ensures.value ∙ ap (λ g. c.loop-card.card * g.k / g.w) c.geometry-geometry.ensures.same) v.if-cards-card.true v.if-not-regions-region.false))
       | else-cards-card v ↦
           ap (λ l. l.items) v.left-is ∙ c.loop-card.invariant
-          ∙ sym (filtered_pass (is_left h cards regions) n (elim v.else-cards-card.branch [
-            | else-cards-card-via-then-cards-card+else-not-regions-region x ↦ left_inside h valid cards regions n home same x.if-cards-card.true x.if-not-regions-region.false
-            | else-cards-card-via-else-cards-card x ↦ left_unmarked h valid cards regions n home same x.if-cards-card.false
-          ]))
+          ∙ sym (filtered_pass (is_left h cards regions) n (left_unmarked h valid cards regions n (n * h.geometry.k / h.geometry.w) refl v.if-cards-card.false))
     ]
 
 pub returns : goal.returns

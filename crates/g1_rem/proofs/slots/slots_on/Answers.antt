@@ -27,7 +27,7 @@ row c =
     let valid = c.geometry-geometry.ensures.valid in
     let k : c.card_words.result ≡ c.args.heap.now.geometry.k = c.card_words.ensures.value ∙ ap (λ g. g.k) c.geometry-geometry.ensures.same in
     let k2 : c.card_words-in-Some.result ≡ c.args.heap.now.geometry.k = c.card_words-in-Some.ensures.value ∙ ap (λ g. g.k) c.geometry-geometry.ensures.same in
-    let w : c.region_words.result ≡ c.args.heap.now.geometry.w = c.region_words.ensures.value ∙ ap (λ g. g.w) c.geometry-geometry.ensures.same in
+    let number : c.region_of-number.result ≡ c.from-at.result / c.args.heap.now.geometry.w = c.region_of-number.ensures ∙ ap (λ g. c.from-at.result / g.w) c.geometry-geometry.ensures.same in
     let e : c.args.card * c.card_words.result ≡ c.args.card * c.args.heap.now.geometry.k = ap (λ x. c.args.card * x) k in
     let f : c.args.card * c.card_words.result + c.card_words-in-Some.result ≡ c.args.card * c.card_words.result + c.args.heap.now.geometry.k = ap (λ x. c.args.card * c.card_words.result + x) k2 in
     let same : slice_index_or c.args.starts.now c.args.card None ≡ Some c.from-at.result = sym c.in-Some.ensures ∙ ap (λ x. Some x) (sym c.from-at.ensures) in
@@ -36,14 +36,14 @@ row c =
     elim c.match-region.branch [
       | in-Ordinary v ↦ (
           let is : kind c.args.heap.now (c.from-at.result / c.args.heap.now.geometry.w) ≡ Ordinary =
-          ap (λ x. kind c.args.heap.now (c.from-at.result / x)) (sym w) ∙ ap (λ q. q.kind) (sym c.region-region.ensures) ∙ v.in-Ordinary.is in
-          let w2 : v.region_words-in-Ordinary.result ≡ c.args.heap.now.geometry.w = v.region_words-in-Ordinary.ensures.value ∙ ap (λ g. g.w) c.geometry-geometry.ensures.same in
+          ap (kind c.args.heap.now) (sym number) ∙ ap (λ q. q.kind) (sym c.region-region.ensures) ∙ v.in-Ordinary.is in
+          let from : v.start.result ≡ c.region_of-number.result * c.args.heap.now.geometry.w = v.start.ensures.value ∙ ap (λ g. c.region_of-number.result * g.w) c.geometry-geometry.ensures.same in
           let until : c.match-region.end ≡ end c.args.heap.now (c.from-at.result / c.args.heap.now.geometry.w) = cc in
           subst (λ x. RowOn c.args.heap.now c.args.card (c.args.card * c.card_words.result) (c.args.card * c.card_words.result + c.card_words-in-Some.result) c.from-at.result x) (sym until)
           (ordinary_row_on h c.args.card lo (lo + c.card_words-in-Some.result) a valid e f over is))
       | in-Free v ↦ (
           let is : kind c.args.heap.now (c.from-at.result / c.args.heap.now.geometry.w) ≢ Ordinary =
-          (λ q. let same = ap (λ q. q.kind) c.region-region.ensures ∙ ap (λ x. kind c.args.heap.now (c.from-at.result / x)) w ∙ q in elim v.in-Free.is [ inl e ↦ cc | inr f ↦ elim f [ inl e ↦ cc | inr e ↦ cc ] ]) in
+          (λ q. let same = ap (λ q. q.kind) c.region-region.ensures ∙ ap (kind c.args.heap.now) number ∙ q in elim v.in-Free.is [ inl e ↦ cc | inr f ↦ elim f [ inl e ↦ cc | inr e ↦ cc ] ]) in
           let until : c.match-region.end ≡ c.from-at.result + (object_at c.args.heap.now c.from-at.result).size = v.end-is ∙ ap (λ l. c.from-at.result + slice_index l c.from-at.result / 2 ^ 32) v.words.ensures in
           subst (λ x. RowOn c.args.heap.now c.args.card (c.args.card * c.card_words.result) (c.args.card * c.card_words.result + c.card_words-in-Some.result) c.from-at.result x) (sym until)
           (alone_row_on h c.args.card lo (lo + c.card_words-in-Some.result) a valid e f over is))
