@@ -1,6 +1,7 @@
 pub mod Marks
 pub mod Turns
 pub mod Places
+pub mod Positions
 pub mod Seeds
 pub mod Names
 pub mod Scopes

@@ -1,11 +1,11 @@
 -- Offers, one after another.
-use Rattle.std.proofs.Common.{◌≡◌, ℕ, suc, ◌+◌, ◌<◌, Bool, true, false, cond, List, [], ◌∷◌, ◌++◌, map, filter, flat_map, take, get_or, length, sym, refl, ap, ◌∙◌, subst, arith, append_assoc, append-nil}
+use Rattle.std.proofs.Common.{◌≡◌, ℕ, suc, ◌+◌, ◌^◌, ◌<◌, Bool, true, false, cond, List, [], ◌∷◌, ◌++◌, map, filter, flat_map, take, get_or, length, sym, refl, ap, ◌∙◌, subst, arith, append_assoc, append-nil}
 use Rattle.std.proofs.lemmas.List.{map-append, take_more, flat_map_more}
 use Rattle.g1_claim.specs.Claims.{offer}
 use Rattle.g1_words.specs.Heap.{Heap}
 use Rattle.g1_words.specs.Survivors.{in_set}
 use Rattle.g1_frontier.specs.declared.offering.Holder.{Holder}
-use Rattle.g1_frontier.specs.Items.{aims}
+use Rattle.g1_frontier.specs.Items.{aims, AreRanks}
 use Rattle.g1_frontier.specs.Offering.{pair_of, answered_true, offer_of, HasTried}
 use Rattle.g1_frontier.proofs.Seeds.{filter_append}
 
@@ -70,3 +70,7 @@ pub aims_inside : (h : Heap) (window : List ℕ) (rank x a : ℕ) → x ≡ a + 
 aims_inside h window rank x a e t =
     let s : x ≡ suc a = omega (arith, e) in
     ap (aims h window rank) s ∙ ap (λ b. map (λ a. (rank, a)) (cond b (a ∷ []) [])) t
+
+-- what a word offers in the window has a rank that may be offered
+pub aims_small : (h : Heap) (window : List ℕ) (rank x a : ℕ) → x ≡ a + 1 → in_set h window a ≡ true → AreRanks (aims h window rank x) → rank < 2 ^ 32
+aims_small h window rank x a e t r = subst AreRanks (aims_inside h window rank x a e t) r 0 (rank, a) (omega arith)

@@ -26,7 +26,7 @@ use Rattle.g1_frontier.specs.declared.item.Item.{Item}
 use Rattle.g1_frontier.specs.declared.item.Item.TheVariants.{Root, Card, Object as ObjectItem}
 use Rattle.g1_frontier.specs.declared.survivors.Search.{Search}
 use Rattle.g1_frontier.specs.Window.{AreRegions, AreCards, AreOutside, LeadIn, place}
-use Rattle.g1_frontier.specs.Items.{IsItem, IsOutside, AreRanks, all_pairs, root_items, first_items, object_items, slot_count}
+use Rattle.g1_frontier.specs.Items.{IsItem, AreRanks, all_pairs, root_items, first_items, object_items, slot_count}
 use Rattle.g1_frontier.specs.Round.{Rises, AreAbove, AddsOffers, winners}
 use Rattle.g1_frontier.specs.Search.{IsSearching}
 use Rattle.g1_frontier.proofs.Assembly.{RankLess}
@@ -151,9 +151,6 @@ module _ (h : Heap) (valid : IsValid h) where
     pub first_are_items : All (IsItem h) (first_items (length h.roots) cards)
     first_are_items = in_first (IsItem h) (λ n lt. lt) (λ c i. all_in (λ x. x < card_count h) cards c rising.below i)
 
-    pub first_outside : All (IsOutside h window) (first_items (length h.roots) cards)
-    first_outside = in_first (IsOutside h window) (λ n lt. tt) (λ c i. outside c (Contains-from_in cards c i))
-
     pub first_few : length (first_items (length h.roots) cards) < 2 ^ 32
     first_few =
         let len = length-append (root_items (length h.roots)) (map (λ c. Card c (length h.roots)) cards) in
@@ -241,9 +238,6 @@ module _ (h : Heap) (valid : IsValid h) where
 
     pub rest_are_items : All (IsItem h) (object_items h s.next (drop s.from s.found.items))
     rest_are_items = all_from_in (IsItem h) items (λ i k. let m = objects_some h window s.next rest i k in subst (IsItem h) m.3 (found_objects m.0 (in_rest s.from found m.0 m.2)))
-
-    pub rest_outside : All (IsOutside h window) (object_items h s.next (drop s.from s.found.items))
-    rest_outside = all_from_in (IsOutside h window) items (λ i k. let m = objects_some h window s.next rest i k in subst (IsOutside h window) m.3 tt)
 
     pub rest_few : length (object_items h s.next (drop s.from s.found.items)) < 2 ^ 32
     rest_few =

@@ -1,8 +1,9 @@
 -- The window: the regions whose objects are searched, and the cards that lead into it.
-use Rattle.std.specs.Prelude.{◌≡◌, ◌<◌, ℕ, ◌+◌, ◌*◌, ◌/◌, ◌%◌, true, false, cond, eqb, List, [], ◌∷◌, Contains}
+use Rattle.std.specs.Prelude.{◌≡◌, ◌<◌, ℕ, ◌+◌, ◌*◌, ◌/◌, ◌%◌, true, false, cond, eqb, List, [], ◌∷◌, Contains, slice_index_or}
 use Rattle.std.specs.List.{All}
 use Rattle.std.specs.List.Sorted.{IsStrictlyIncreasing}
 use Rattle.g1_words.specs.Heap.{Heap, card_of}
+use Rattle.g1_words.specs.Lists.{has}
 use Rattle.g1_words.specs.References.{Ref, refs}
 use Rattle.g1_words.specs.Survivors.{in_set}
 use Rattle.g1_rem.specs.Starts.{card_count}
@@ -32,6 +33,10 @@ LeadIn h window cards = (e : Ref) → Contains (refs h) e → in_set h window e.
 abbrev pub position : List ℕ → ℕ → ℕ
 position [] r = 0
 position (x ∷ xs) r = cond (eqb x r) 0 (position xs r + 1)
+
+-- by region number, one more than where the region stands in the window, or 0
+abbrev pub ArePositions : List ℕ → List ℕ → Type 0
+ArePositions window positions = (r : ℕ) → slice_index_or positions r 0 ≡ cond (has window r) (position window r + 1) 0
 
 -- where an address stands among the words of the window, region by region
 abbrev pub place : Heap → List ℕ → ℕ → ℕ

@@ -5,13 +5,13 @@ ghost use Rattle.g1_rem.specs.Starts.{IsStartsOf};
 ghost use Rattle.g1_claim.specs.Claims.{IsSeatOf, IsSettled};
 ghost use Rattle.g1_frontier.specs.Window.{AreRegions, place};
 ghost use Rattle.g1_frontier.specs.Items.{IsItem, IsOutside, all_pairs, AreRanks};
-ghost use Rattle.g1_frontier.specs.Scope.{inside, place_in, all_pairs_in};
+ghost use Rattle.g1_frontier.specs.Scope.{IsScope, inside, place_in, all_pairs_in};
 ghost use Rattle.g1_frontier.specs.Offering.{HasPlaces};
 ghost use Rattle.g1_frontier.specs.Round.{Rises, AreAbove, AddsOffers, winners, IsGivenOut, HasTaken, HasOffered, IsByRank};
 
 use crate::item::Item;
 use crate::offering::{Holder, Offers, Round, keep_if};
-use crate::scope::Scope;
+use crate::scope::{Scope, positions};
 use g1_claim::{ClaimSeat, Claims, shares};
 use g1_rem::Starts;
 use g1_words::{Fault, Heap};
@@ -179,6 +179,40 @@ fn still_there(
     Ok(kept)
 }
 
+// One round of claims, in a scope that was made before.
+pub(crate) fn round_in<R: Threads + Sync, G: Gate + Sync>(
+    rt: &R,
+    alloc: Global,
+    scope: &Scope,
+    claims: Claims,
+    seat: ClaimSeat,
+    items: &[Item],
+    team: Team,
+    gate: &G,
+) -> Result<(Claims, ClaimSeat, Vec<(u64, u64)>), Fault>
+    requires scope { IsScope scope.now }
+    requires items { All (IsItem scope.now.heap.now) items.now }
+    requires few { length items.now < 2 ^ 32 }
+    requires table { IsSeatOf claims seat }
+    requires whole { seat.hand.shares ≡ 64 }
+    requires places { length scope.now.window.now * scope.now.heap.now.geometry.w ≤ claims.places }
+    requires rise { Rises (all_pairs_in scope.now items.now) }
+    requires ranks { AreRanks (all_pairs_in scope.now items.now) }
+    requires above { AreAbove seat.hand.offers (all_pairs_in scope.now items.now) }
+    ensures claims { IfOk result (λ r. r.0 ≡ claims) }
+    ensures table { IfOk result (λ r. IsSeatOf claims r.1) }
+    ensures whole { IfOk result (λ r. r.1.hand.shares ≡ 64) }
+    ensures offers { IfOk result (λ r. AddsOffers (place_in scope.now) (all_pairs_in scope.now items.now) seat.hand.offers r.1.hand.offers) }
+    ensures won { IfOk result (λ r. r.2.items ≡ winners (place_in scope.now) r.1.hand.offers (all_pairs_in scope.now items.now)) }
+    ensures settled { IfOk result (λ r. IsSettled r.1.hand.offers) }
+    ensures memory { IfErr result (λ e. e ≡ Memory) }
+{
+    let (mut seat, lists) = offer_all(rt, alloc, scope, &claims, seat, items, team, gate)?;
+    let kept = in_rank_order(alloc, lists)?;
+    let won = still_there(alloc, scope, &claims, &mut seat, kept.as_slice())?;
+    Ok((claims, seat, won))
+}
+
 /// One round of claims: offers what the items name in the window, and answers what won.
 ///
 /// Each slot of an item that names an object in the window offers the item's rank for it at that
@@ -225,16 +259,14 @@ pub fn claim_round<R: Threads + Sync, G: Gate + Sync>(
     ensures settled { IfOk result (λ r. IsSettled r.1.hand.offers) }
     ensures memory { IfErr result (λ e. e ≡ Memory) }
 {
-    // Tells that the heap is valid.
-    heap.geometry();
+    let regions = heap.geometry().regions();
+    let positions = positions(alloc, regions, window)?;
     let scope = Scope {
         heap,
         starts,
         window,
+        positions: positions.as_slice(),
     };
     let team = Team::new(workers, chunk);
-    let (mut seat, lists) = offer_all(rt, alloc, &scope, &claims, seat, items, team, gate)?;
-    let kept = in_rank_order(alloc, lists)?;
-    let won = still_there(alloc, &scope, &claims, &mut seat, kept.as_slice())?;
-    Ok((claims, seat, won))
+    round_in(rt, alloc, &scope, claims, seat, items, team, gate)
 }

@@ -1,10 +1,9 @@
-ghost use Rattle.std.specs.Prelude.{◌≡◌, ◌<◌, ◌*◌, true, false, length, IfSome, IfNone};
-ghost use Rattle.std.specs.List.Sorted.{IsStrictlyIncreasing};
-ghost use Rattle.g1_words.specs.Lists.{has};
-ghost use Rattle.g1_frontier.specs.Window.{position, place};
+ghost use Rattle.std.specs.Prelude.{◌≡◌, ◌≤◌, vec_len, IfOk};
+ghost use Rattle.g1_frontier.specs.Window.{AreRising, ArePositions};
 
 use g1_rem::Starts;
 use g1_words::{Heap, region_of};
+use std::alloc::{AllocError, Global};
 
 /// A heap, and the regions that are searched.
 #[derive(Drop)]
@@ -12,25 +11,25 @@ pub struct Scope<'a> {
     pub heap: &'a Heap,
     pub starts: &'a Starts,
     pub window: &'a [u32],
+    /// By region number, one more than where the region stands in the window, or 0.
+    pub positions: &'a [u32],
 }
 
-// Where a region stands in the window.
-fn position(window: &[u32], region: u32) -> Option<usize>
-    requires rise { IsStrictlyIncreasing window.now }
-    ensures found { IfSome result (λ i. (has window.now region ≡ true) × (i ≡ position window.now region) × (i < length window.now)) }
-    ensures none { IfNone result (has window.now region ≡ false) }
+/// By region number, one more than where the region stands in the window, or 0.
+///
+/// # Errors
+/// `AllocError`.
+pub(crate) fn positions(alloc: Global, regions: u64, window: &[u32]) -> Result<Vec<u32>, AllocError>
+    requires regions { AreRising regions window.now }
+    requires few { regions ≤ 4096 }
+    ensures positions { IfOk result (λ v. ArePositions window.now v.items) }
+    ensures count { IfOk result (λ v. vec_len v ≡ regions) }
 {
-    // In a window without gaps a region stands as far on as its number.
-    if let Some(first) = window.first() {
-        let guess = region.saturating_sub(*first) as usize;
-        if guess < window.len() && window[guess] == region {
-            return Some(guess);
-        }
+    let mut positions = vec![in alloc; 0u32; regions as usize]?;
+    for (index, region) in window.iter().enumerate() {
+        positions[*region as usize] = index as u32 + 1;
     }
-    match window.binary_search(&region) {
-        Ok(index) => Some(index),
-        Err(_) => None,
-    }
+    Ok(positions)
 }
 
 impl<'a> Scope<'a> {
@@ -56,12 +55,13 @@ impl<'a> Scope<'a> {
         if region >= geometry.regions() {
             return None;
         }
-        match position(self.window, region as u32) {
-            None => None,
-            Some(position) => {
-                let width = geometry.region_words();
-                Some(position as u64 * width + address % width)
-            }
+        let position = self.positions[region as usize];
+        if position == 0 {
+            return None;
         }
+        let width = geometry.region_words();
+        // This is asked for each reference, so it divides nothing.
+        let offset = address - region * width;
+        Some(u64::from(position - 1) * width + offset)
     }
 }

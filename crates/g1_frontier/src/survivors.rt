@@ -6,10 +6,12 @@ ghost use Rattle.g1_words.specs.Survivors.{Survivors};
 ghost use Rattle.g1_rem.specs.Starts.{IsStartsOf};
 ghost use Rattle.g1_frontier.specs.Window.{AreRegions, AreCards, AreOutside, LeadIn};
 ghost use Rattle.g1_frontier.specs.Items.{first_items, object_items, slot_count};
+ghost use Rattle.g1_frontier.specs.Scope.{IsScope};
 ghost use Rattle.g1_frontier.specs.Search.{IsSearching};
 
 use crate::item::Item;
-use crate::round::claim_round;
+use crate::round::round_in;
+use crate::scope::{Scope, positions};
 use g1_claim::{ClaimSeat, Claims};
 use g1_rem::Starts;
 use g1_words::{Fault, Heap, REFS_RANGE};
@@ -100,31 +102,24 @@ fn push_addresses(found: &mut Vec<u64>, won: &[(u64, u64)]) -> Result<(), AllocE
 pub(crate) fn first_round<R: Threads + Sync, G: Gate + Sync>(
     rt: &R,
     alloc: Global,
-    heap: &Heap,
-    starts: &Starts,
-    window: &[u32],
+    scope: &Scope,
     cards: &[u32],
     team: Team,
     gate: &G,
 ) -> Result<Search, Fault>
-    requires starts { IsStartsOf heap.now starts.now }
-    requires window { AreRegions heap.now window.now }
-    requires cards { AreCards heap.now cards.now }
-    requires outside { AreOutside heap.now window.now cards.now }
-    requires lead_in { LeadIn heap.now window.now cards.now }
-    ensures ok { IfOk result (IsSearching heap.now window.now) }
+    requires scope { IsScope scope.now }
+    requires cards { AreCards scope.now.heap.now cards.now }
+    requires outside { AreOutside scope.now.heap.now scope.now.window.now cards.now }
+    requires lead_in { LeadIn scope.now.heap.now scope.now.window.now cards.now }
+    ensures ok { IfOk result (IsSearching scope.now.heap.now scope.now.window.now) }
     ensures memory { IfErr result (λ e. e ≡ Memory) }
 {
-    let roots = heap.roots().len() as u64;
-    let places = window.len() as u64 * heap.geometry().region_words();
-    let (claims, seat) = Claims::new(alloc, places)?;
+    let roots = scope.heap.roots().len() as u64;
+    let (claims, seat) = Claims::new(alloc, scope.places())?;
     let first = first_items(alloc, roots, cards)?;
     let items = first.as_slice();
     let hired = hired(team, items.len(), 0);
-    let (workers, chunk) = (hired.workers(), hired.chunk());
-    let (claims, seat, won) = claim_round(
-        rt, alloc, heap, starts, window, claims, seat, items, workers, chunk, gate,
-    )?;
+    let (claims, seat, won) = round_in(rt, alloc, scope, claims, seat, items, hired, gate)?;
     let mut found = Vec::new(alloc);
     push_addresses(&mut found, won.as_slice())?;
     Ok(Search {
@@ -132,7 +127,7 @@ pub(crate) fn first_round<R: Threads + Sync, G: Gate + Sync>(
         seat,
         found,
         from: 0,
-        next: roots + heap.words().len() as u64,
+        next: roots + scope.heap.words().len() as u64,
     })
 }
 
@@ -140,22 +135,17 @@ pub(crate) fn first_round<R: Threads + Sync, G: Gate + Sync>(
 pub(crate) fn next_round<R: Threads + Sync, G: Gate + Sync>(
     rt: &R,
     alloc: Global,
-    heap: &Heap,
-    starts: &Starts,
-    window: &[u32],
+    scope: &Scope,
     search: Search,
     team: Team,
     gate: &G,
 ) -> Result<Search, Fault>
-    requires starts { IsStartsOf heap.now starts.now }
-    requires window { AreRegions heap.now window.now }
-    requires search { IsSearching heap.now window.now search }
-    ensures ok { IfOk result (IsSearching heap.now window.now) }
+    requires scope { IsScope scope.now }
+    requires search { IsSearching scope.now.heap.now scope.now.window.now search }
+    ensures ok { IfOk result (IsSearching scope.now.heap.now scope.now.window.now) }
     ensures from { IfOk result (λ s. s.from ≡ vec_len search.found) }
     ensures memory { IfErr result (λ e. e ≡ Memory) }
 {
-    // Tells that the heap is valid.
-    heap.geometry();
     let Search {
         claims,
         seat,
@@ -163,12 +153,9 @@ pub(crate) fn next_round<R: Threads + Sync, G: Gate + Sync>(
         from,
         next,
     } = search;
-    let (items, next) = object_items(alloc, heap, &found[from..], next)?;
+    let (items, next) = object_items(alloc, scope.heap, &found[from..], next)?;
     let items = items.as_slice();
-    let (workers, chunk) = (team.workers(), team.chunk());
-    let (claims, seat, won) = claim_round(
-        rt, alloc, heap, starts, window, claims, seat, items, workers, chunk, gate,
-    )?;
+    let (claims, seat, won) = round_in(rt, alloc, scope, claims, seat, items, team, gate)?;
     let from = found.len();
     push_addresses(&mut found, won.as_slice())?;
     Ok(Search {
@@ -214,14 +201,20 @@ pub fn discover<R: Threads + Sync, G: Gate + Sync>(
     ensures only { IfOk result (λ v. (l : List ℕ) → Survivors heap.now window.now l → l ≡ v.items) }
     ensures memory { IfErr result (λ e. e ≡ Memory) }
 {
-    // Tells that the heap is valid.
-    heap.geometry();
+    let regions = heap.geometry().regions();
+    let positions = positions(alloc, regions, window)?;
+    let scope = Scope {
+        heap,
+        starts,
+        window,
+        positions: positions.as_slice(),
+    };
     let team = Team::new(workers, chunk);
-    let mut search = first_round(rt, alloc, heap, starts, window, cards, team, gate)?;
+    let mut search = first_round(rt, alloc, &scope, cards, team, gate)?;
     let mut round: u64 = 1;
     while search.from < search.found.len() {
         let hired = hired(team, search.found.len() - search.from, round);
-        search = next_round(rt, alloc, heap, starts, window, search, hired, gate)?;
+        search = next_round(rt, alloc, &scope, search, hired, gate)?;
         round = round.saturating_add(1);
     }
     Ok(search.found)

@@ -1,6 +1,7 @@
 ghost use Rattle.std.specs.Prelude.{◌≡◌, ◌<◌, ◌≤◌};
 
 use crate::discover;
+use crate::scope::{Scope, positions};
 use crate::survivors::{Search, first_round, next_round};
 use g1_claim::EMPTY;
 use g1_rem::{Starts, Tracked, image, refine, verify};
@@ -188,9 +189,16 @@ fn two_rounds<R: Threads + Sync>(
     let remembered = refine(rt, alloc, &tracked, &starts)?;
     let window: [u32; 1] = [1];
     let cards = remembered[1].as_slice();
-    let search = first_round(rt, alloc, heap, &starts, &window, cards, team, &Open)?;
+    let positions = positions(alloc, heap.geometry().regions(), &window)?;
+    let scope = Scope {
+        heap,
+        starts: &starts,
+        window: &window,
+        positions: positions.as_slice(),
+    };
+    let search = first_round(rt, alloc, &scope, cards, team, &Open)?;
     let first = search.found.clone()?;
-    let search = next_round(rt, alloc, heap, &starts, &window, search, team, &Open)?;
+    let search = next_round(rt, alloc, &scope, search, team, &Open)?;
     let Search {
         claims,
         seat,

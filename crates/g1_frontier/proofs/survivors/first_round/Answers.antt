@@ -1,66 +1,52 @@
-use Rattle.std.proofs.Common.{arith, refl, ap, sym, subst, ◌≡◌, ◌+◌, ◌<◌, ◌*◌, ◌^◌, ◌∙◌, ◌++◌, ℕ, List, [], length, map, All}
+use Rattle.std.proofs.Common.{arith, refl, ap, sym, subst, ◌≡◌, ◌+◌, ◌<◌, ◌^◌, ◌∙◌, ◌++◌, ℕ, List, [], length, map, All}
 use Rattle.g1_claim.specs.declared.rule.Offer.{Offer}
 use Rattle.g1_claim.specs.declared.rule.Hand.{Hand}
 use Rattle.g1_claim.specs.Claims.{TableView}
 use Rattle.g1_frontier.specs.Window.{place}
-use Rattle.g1_frontier.specs.Items.{IsItem, IsOutside, AreRanks, all_pairs, first_items}
+use Rattle.g1_frontier.specs.Items.{IsItem, AreRanks, all_pairs, first_items}
 use Rattle.g1_frontier.specs.Round.{Rises, AddsOffers, winners}
-use Rattle.g1_frontier.proofs.Searching.{window_few, first_are_items, first_outside, first_few, first_rises, first_ranks, first_search}
+use Rattle.g1_frontier.proofs.Searching.{window_few, first_are_items, first_few, first_rises, first_ranks, first_search}
 use Rattle.g1_frontier.proofs.survivors.first_round.Goals as goal
 
-pub overflow_mul-places : goal.overflow_mul-places
-overflow_mul-places g c =
-    let width : c.region_words.result ≡ c.args.heap.now.geometry.w = c.region_words.ensures.value ∙ ap (λ q. q.w) c.geometry.ensures.same in
-    omega (arith, window_few c.args.heap.now c.geometry.ensures.valid c.args.window.now c.requires.window, ap (λ x. length c.args.window.now * x) width)
-
 pub new-requires : goal.new-requires
-new-requires g c =
-    let width : c.region_words.result ≡ c.args.heap.now.geometry.w = c.region_words.ensures.value ∙ ap (λ q. q.w) c.geometry.ensures.same in
-    omega (arith, window_few c.args.heap.now c.geometry.ensures.valid c.args.window.now c.requires.window, ap (λ x. length c.args.window.now * x) width)
+new-requires g c = let few = window_few c.args.scope.now.heap.now c.requires.scope.valid c.args.scope.now.window.now c.requires.scope.regions in omega (arith, few, c.places.ensures)
 
-pub claim_round-requires-clause-items : goal.claim_round-requires-clause-items
-claim_round-requires-clause-items g c κs within =
-    let h = c.args.heap.now in
+pub round_in-requires-clause-items : goal.round_in-requires-clause-items
+round_in-requires-clause-items g c κs within =
+    let h = c.args.scope.now.heap.now in
     let listed : c.as_slice-items.result.now ≡ first_items (length h.roots) c.args.cards.now = c.as_slice-items.ensures.value ∙ c.in_ok-first.ensures ∙ ap (λ (l : List ℕ). first_items (length l) c.args.cards.now) c.roots.ensures in
-    subst (All (IsItem h)) (sym listed) (first_are_items h c.geometry.ensures.valid c.args.window.now c.args.cards.now c.requires.window c.requires.cards c.requires.outside c.requires.lead_in)
+    subst (All (IsItem h)) (sym listed) (first_are_items h c.requires.scope.valid c.args.scope.now.window.now c.args.cards.now c.requires.scope.regions c.requires.cards c.requires.outside c.requires.lead_in)
 
-pub claim_round-requires-clause-outside : goal.claim_round-requires-clause-outside
-claim_round-requires-clause-outside g c κs within =
-    let h = c.args.heap.now in
+pub round_in-requires-clause-few : goal.round_in-requires-clause-few
+round_in-requires-clause-few g c κs within =
+    let h = c.args.scope.now.heap.now in
     let listed : c.as_slice-items.result.now ≡ first_items (length h.roots) c.args.cards.now = c.as_slice-items.ensures.value ∙ c.in_ok-first.ensures ∙ ap (λ (l : List ℕ). first_items (length l) c.args.cards.now) c.roots.ensures in
-    subst (All (IsOutside h c.args.window.now)) (sym listed) (first_outside h c.geometry.ensures.valid c.args.window.now c.args.cards.now c.requires.window c.requires.cards c.requires.outside c.requires.lead_in)
+    subst (λ l. length l < 2 ^ 32) (sym listed) (first_few h c.requires.scope.valid c.args.scope.now.window.now c.args.cards.now c.requires.scope.regions c.requires.cards c.requires.outside c.requires.lead_in)
 
-pub claim_round-requires-clause-few : goal.claim_round-requires-clause-few
-claim_round-requires-clause-few g c κs within =
-    let h = c.args.heap.now in
+pub round_in-requires-clause-rise : goal.round_in-requires-clause-rise
+round_in-requires-clause-rise g c κs within =
+    let h = c.args.scope.now.heap.now in
     let listed : c.as_slice-items.result.now ≡ first_items (length h.roots) c.args.cards.now = c.as_slice-items.ensures.value ∙ c.in_ok-first.ensures ∙ ap (λ (l : List ℕ). first_items (length l) c.args.cards.now) c.roots.ensures in
-    subst (λ l. length l < 2 ^ 32) (sym listed) (first_few h c.geometry.ensures.valid c.args.window.now c.args.cards.now c.requires.window c.requires.cards c.requires.outside c.requires.lead_in)
+    subst (λ l. Rises (all_pairs h c.args.scope.now.window.now l)) (sym listed) (first_rises h c.requires.scope.valid c.args.scope.now.window.now c.args.cards.now c.requires.scope.regions c.requires.cards c.requires.outside c.requires.lead_in)
 
-pub claim_round-requires-clause-rise : goal.claim_round-requires-clause-rise
-claim_round-requires-clause-rise g c κs within =
-    let h = c.args.heap.now in
+pub round_in-requires-clause-ranks : goal.round_in-requires-clause-ranks
+round_in-requires-clause-ranks g c κs within =
+    let h = c.args.scope.now.heap.now in
     let listed : c.as_slice-items.result.now ≡ first_items (length h.roots) c.args.cards.now = c.as_slice-items.ensures.value ∙ c.in_ok-first.ensures ∙ ap (λ (l : List ℕ). first_items (length l) c.args.cards.now) c.roots.ensures in
-    subst (λ l. Rises (all_pairs h c.args.window.now l)) (sym listed) (first_rises h c.geometry.ensures.valid c.args.window.now c.args.cards.now c.requires.window c.requires.cards c.requires.outside c.requires.lead_in)
-
-pub claim_round-requires-clause-ranks : goal.claim_round-requires-clause-ranks
-claim_round-requires-clause-ranks g c κs within =
-    let h = c.args.heap.now in
-    let listed : c.as_slice-items.result.now ≡ first_items (length h.roots) c.args.cards.now = c.as_slice-items.ensures.value ∙ c.in_ok-first.ensures ∙ ap (λ (l : List ℕ). first_items (length l) c.args.cards.now) c.roots.ensures in
-    subst (λ l. AreRanks (all_pairs h c.args.window.now l)) (sym listed) (first_ranks h c.geometry.ensures.valid c.args.window.now c.args.cards.now c.requires.window c.requires.cards c.requires.outside c.requires.lead_in)
+    subst (λ l. AreRanks (all_pairs h c.args.scope.now.window.now l)) (sym listed) (first_ranks h c.requires.scope.valid c.args.scope.now.window.now c.args.cards.now c.requires.scope.regions c.requires.cards c.requires.outside c.requires.lead_in)
 
 pub returns-clause-ok : goal.returns-clause-ok
 returns-clause-ok g c =
-    let h = c.args.heap.now in
-    let window : List ℕ = c.args.window.now in
-    let width : c.region_words.result ≡ h.geometry.w = c.region_words.ensures.value ∙ ap (λ q. q.w) c.geometry.ensures.same in
+    let h = c.args.scope.now.heap.now in
+    let window : List ℕ = c.args.scope.now.window.now in
     let listed : c.as_slice-items.result.now ≡ first_items (length h.roots) c.args.cards.now = c.as_slice-items.ensures.value ∙ c.in_ok-first.ensures ∙ ap (λ (l : List ℕ). first_items (length l) c.args.cards.now) c.roots.ensures in
     let none : c.in_ok-claims.seat.hand.offers ≡ [] = ap (λ (v : Hand). v.offers) c.in_ok-claims.ensures.hand in
     let r = c.in_ok-claims-2.ensures in
-    first_search h c.geometry.ensures.valid window c.args.cards.now c.requires.window c.requires.cards c.requires.outside c.requires.lead_in
+    first_search h c.requires.scope.valid window c.args.cards.now c.requires.scope.regions c.requires.cards c.requires.outside c.requires.lead_in
     (record { claims = c.in_ok-claims-2.claims; seat = c.in_ok-claims-2.seat; found = c.push_addresses.new.found; from = 0; next = length c.roots.result.now + length c.words.result.now })
     (r.table ∙ sym (ap (λ (t : TableView). t.id) r.claims))
     r.whole
-    (ap (λ (t : TableView). t.places) r.claims ∙ c.in_ok-claims.ensures.places ∙ ap (λ x. length window * x) width)
+    (ap (λ (t : TableView). t.places) r.claims ∙ c.in_ok-claims.ensures.places ∙ c.places.ensures)
     (subst (λ l. AddsOffers (place h window) (all_pairs h window l) [] c.in_ok-claims-2.seat.hand.offers) listed (subst (λ (os : List Offer). AddsOffers (place h window) (all_pairs h window c.as_slice-items.result.now) os c.in_ok-claims-2.seat.hand.offers) none r.offers))
     (c.in_ok-push_addresses.ensures ∙ (λ i. c.new-found.ensures.items i ++ map (λ (q : ℕ × ℕ). q.1) ((c.as_slice.ensures.value ∙ r.won ∙ ap (λ l. winners (place h window) c.in_ok-claims-2.seat.hand.offers (all_pairs h window l)) listed) i)))
     refl

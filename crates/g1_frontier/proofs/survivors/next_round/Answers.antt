@@ -2,83 +2,75 @@ use Rattle.std.proofs.Common.{arith, ap, sym, subst, ◌≡◌, ◌+◌, ◌-◌
 use Rattle.g1_claim.specs.Claims.{TableView}
 use Rattle.g1_words.specs.Heap.{objects, object_at}
 use Rattle.g1_frontier.specs.Window.{place}
-use Rattle.g1_frontier.specs.Items.{IsItem, IsOutside, AreRanks, all_pairs, object_items, slot_count}
+use Rattle.g1_frontier.specs.Items.{IsItem, AreRanks, all_pairs, object_items, slot_count}
 use Rattle.g1_frontier.specs.Round.{Rises, AreAbove, AddsOffers, winners}
-use Rattle.g1_frontier.proofs.Searching.{rest_objects, ranks_fit, rest_are_items, rest_outside, rest_few, rest_rises, rest_ranks, rest_above, next_search}
+use Rattle.g1_frontier.proofs.Searching.{rest_objects, ranks_fit, rest_are_items, rest_few, rest_rises, rest_ranks, rest_above, next_search}
 use Rattle.g1_frontier.proofs.Turns.{rest_is}
 use Rattle.g1_frontier.proofs.survivors.next_round.Goals as goal
 
 pub object_items-requires-clause-objects : goal.object_items-requires-clause-objects
 object_items-requires-clause-objects g c =
-    let h = c.args.heap.now in
+    let h = c.args.scope.now.heap.now in
     let s = c.args.search in
     let cut : take (length c.deref.result.now - s.from) (drop s.from c.deref.result.now) ≡ drop s.from s.found.items = ap (λ (l : List ℕ). take (length l - s.from) (drop s.from l)) c.deref.ensures.value ∙ rest_is s.found.items s.from in
-    subst (All (λ a. Contains (objects h) (object_at h a))) (sym cut) (rest_objects h c.geometry.ensures.valid c.args.window.now c.requires.window s c.requires.search)
+    subst (All (λ a. Contains (objects h) (object_at h a))) (sym cut) (rest_objects h c.requires.scope.valid c.args.scope.now.window.now c.requires.scope.regions s c.requires.search)
 
 pub object_items-requires-clause-few : goal.object_items-requires-clause-few
 object_items-requires-clause-few g c =
-    let h = c.args.heap.now in
+    let h = c.args.scope.now.heap.now in
     let s = c.args.search in
     let cut : take (length c.deref.result.now - s.from) (drop s.from c.deref.result.now) ≡ drop s.from s.found.items = ap (λ (l : List ℕ). take (length l - s.from) (drop s.from l)) c.deref.ensures.value ∙ rest_is s.found.items s.from in
-    subst (λ l. s.next + sum_by (slot_count h) l < 2 ^ 32) (sym cut) (ranks_fit h c.geometry.ensures.valid c.args.window.now c.requires.window s c.requires.search)
+    subst (λ l. s.next + sum_by (slot_count h) l < 2 ^ 32) (sym cut) (ranks_fit h c.requires.scope.valid c.args.scope.now.window.now c.requires.scope.regions s c.requires.search)
 
-pub claim_round-requires-clause-items : goal.claim_round-requires-clause-items
-claim_round-requires-clause-items g c κs within =
-    let h = c.args.heap.now in
+pub round_in-requires-clause-items : goal.round_in-requires-clause-items
+round_in-requires-clause-items g c κs within =
+    let h = c.args.scope.now.heap.now in
     let s = c.args.search in
     let cut : take (length c.deref.result.now - s.from) (drop s.from c.deref.result.now) ≡ drop s.from s.found.items = ap (λ (l : List ℕ). take (length l - s.from) (drop s.from l)) c.deref.ensures.value ∙ rest_is s.found.items s.from in
     let listed : c.as_slice-items.result.now ≡ object_items h s.next (drop s.from s.found.items) = c.as_slice-items.ensures.value ∙ c.in_ok-items.ensures.items ∙ ap (object_items h s.next) cut in
-    subst (All (IsItem h)) (sym listed) (rest_are_items h c.geometry.ensures.valid c.args.window.now c.requires.window s c.requires.search)
+    subst (All (IsItem h)) (sym listed) (rest_are_items h c.requires.scope.valid c.args.scope.now.window.now c.requires.scope.regions s c.requires.search)
 
-pub claim_round-requires-clause-outside : goal.claim_round-requires-clause-outside
-claim_round-requires-clause-outside g c κs within =
-    let h = c.args.heap.now in
+pub round_in-requires-clause-few : goal.round_in-requires-clause-few
+round_in-requires-clause-few g c κs within =
+    let h = c.args.scope.now.heap.now in
     let s = c.args.search in
     let cut : take (length c.deref.result.now - s.from) (drop s.from c.deref.result.now) ≡ drop s.from s.found.items = ap (λ (l : List ℕ). take (length l - s.from) (drop s.from l)) c.deref.ensures.value ∙ rest_is s.found.items s.from in
     let listed : c.as_slice-items.result.now ≡ object_items h s.next (drop s.from s.found.items) = c.as_slice-items.ensures.value ∙ c.in_ok-items.ensures.items ∙ ap (object_items h s.next) cut in
-    subst (All (IsOutside h c.args.window.now)) (sym listed) (rest_outside h c.geometry.ensures.valid c.args.window.now c.requires.window s c.requires.search)
+    subst (λ l. length l < 2 ^ 32) (sym listed) (rest_few h c.requires.scope.valid c.args.scope.now.window.now c.requires.scope.regions s c.requires.search)
 
-pub claim_round-requires-clause-few : goal.claim_round-requires-clause-few
-claim_round-requires-clause-few g c κs within =
-    let h = c.args.heap.now in
+pub round_in-requires-clause-rise : goal.round_in-requires-clause-rise
+round_in-requires-clause-rise g c κs within =
+    let h = c.args.scope.now.heap.now in
     let s = c.args.search in
     let cut : take (length c.deref.result.now - s.from) (drop s.from c.deref.result.now) ≡ drop s.from s.found.items = ap (λ (l : List ℕ). take (length l - s.from) (drop s.from l)) c.deref.ensures.value ∙ rest_is s.found.items s.from in
     let listed : c.as_slice-items.result.now ≡ object_items h s.next (drop s.from s.found.items) = c.as_slice-items.ensures.value ∙ c.in_ok-items.ensures.items ∙ ap (object_items h s.next) cut in
-    subst (λ l. length l < 2 ^ 32) (sym listed) (rest_few h c.geometry.ensures.valid c.args.window.now c.requires.window s c.requires.search)
+    subst (λ l. Rises (all_pairs h c.args.scope.now.window.now l)) (sym listed) (rest_rises h c.requires.scope.valid c.args.scope.now.window.now c.requires.scope.regions s c.requires.search)
 
-pub claim_round-requires-clause-rise : goal.claim_round-requires-clause-rise
-claim_round-requires-clause-rise g c κs within =
-    let h = c.args.heap.now in
+pub round_in-requires-clause-ranks : goal.round_in-requires-clause-ranks
+round_in-requires-clause-ranks g c κs within =
+    let h = c.args.scope.now.heap.now in
     let s = c.args.search in
     let cut : take (length c.deref.result.now - s.from) (drop s.from c.deref.result.now) ≡ drop s.from s.found.items = ap (λ (l : List ℕ). take (length l - s.from) (drop s.from l)) c.deref.ensures.value ∙ rest_is s.found.items s.from in
     let listed : c.as_slice-items.result.now ≡ object_items h s.next (drop s.from s.found.items) = c.as_slice-items.ensures.value ∙ c.in_ok-items.ensures.items ∙ ap (object_items h s.next) cut in
-    subst (λ l. Rises (all_pairs h c.args.window.now l)) (sym listed) (rest_rises h c.geometry.ensures.valid c.args.window.now c.requires.window s c.requires.search)
+    subst (λ l. AreRanks (all_pairs h c.args.scope.now.window.now l)) (sym listed) (rest_ranks h c.requires.scope.valid c.args.scope.now.window.now c.requires.scope.regions s c.requires.search)
 
-pub claim_round-requires-clause-ranks : goal.claim_round-requires-clause-ranks
-claim_round-requires-clause-ranks g c κs within =
-    let h = c.args.heap.now in
+pub round_in-requires-clause-above : goal.round_in-requires-clause-above
+round_in-requires-clause-above g c κs within =
+    let h = c.args.scope.now.heap.now in
     let s = c.args.search in
     let cut : take (length c.deref.result.now - s.from) (drop s.from c.deref.result.now) ≡ drop s.from s.found.items = ap (λ (l : List ℕ). take (length l - s.from) (drop s.from l)) c.deref.ensures.value ∙ rest_is s.found.items s.from in
     let listed : c.as_slice-items.result.now ≡ object_items h s.next (drop s.from s.found.items) = c.as_slice-items.ensures.value ∙ c.in_ok-items.ensures.items ∙ ap (object_items h s.next) cut in
-    subst (λ l. AreRanks (all_pairs h c.args.window.now l)) (sym listed) (rest_ranks h c.geometry.ensures.valid c.args.window.now c.requires.window s c.requires.search)
-
-pub claim_round-requires-clause-above : goal.claim_round-requires-clause-above
-claim_round-requires-clause-above g c κs within =
-    let h = c.args.heap.now in
-    let s = c.args.search in
-    let cut : take (length c.deref.result.now - s.from) (drop s.from c.deref.result.now) ≡ drop s.from s.found.items = ap (λ (l : List ℕ). take (length l - s.from) (drop s.from l)) c.deref.ensures.value ∙ rest_is s.found.items s.from in
-    let listed : c.as_slice-items.result.now ≡ object_items h s.next (drop s.from s.found.items) = c.as_slice-items.ensures.value ∙ c.in_ok-items.ensures.items ∙ ap (object_items h s.next) cut in
-    subst (λ l. AreAbove s.seat.hand.offers (all_pairs h c.args.window.now l)) (sym listed) (rest_above h c.geometry.ensures.valid c.args.window.now c.requires.window s c.requires.search)
+    subst (λ l. AreAbove s.seat.hand.offers (all_pairs h c.args.scope.now.window.now l)) (sym listed) (rest_above h c.requires.scope.valid c.args.scope.now.window.now c.requires.scope.regions s c.requires.search)
 
 pub returns-clause-ok : goal.returns-clause-ok
 returns-clause-ok g c =
-    let h = c.args.heap.now in
+    let h = c.args.scope.now.heap.now in
     let s = c.args.search in
-    let window : List ℕ = c.args.window.now in
+    let window : List ℕ = c.args.scope.now.window.now in
     let cut : take (length c.deref.result.now - s.from) (drop s.from c.deref.result.now) ≡ drop s.from s.found.items = ap (λ (l : List ℕ). take (length l - s.from) (drop s.from l)) c.deref.ensures.value ∙ rest_is s.found.items s.from in
     let listed : c.as_slice-items.result.now ≡ object_items h s.next (drop s.from s.found.items) = c.as_slice-items.ensures.value ∙ c.in_ok-items.ensures.items ∙ ap (object_items h s.next) cut in
     let r = c.in_ok-claims.ensures in
-    next_search h c.geometry.ensures.valid window c.requires.window s c.requires.search
+    next_search h c.requires.scope.valid window c.requires.scope.regions s c.requires.search
     (record { claims = c.in_ok-claims.claims; seat = c.in_ok-claims.seat; found = c.push_addresses.new.found; from = c.len-from.result; next = c.in_ok-items.next })
     (r.table ∙ sym (ap (λ (t : TableView). t.id) r.claims))
     r.whole

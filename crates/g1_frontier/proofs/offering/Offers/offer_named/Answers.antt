@@ -4,8 +4,18 @@ use Rattle.g1_claim.specs.Claims.{offer}
 use Rattle.g1_frontier.specs.declared.offering.Holder.{Holder}
 use Rattle.g1_frontier.specs.Offering.{HasTried}
 use Rattle.g1_frontier.specs.Scope.{place_in}
-use Rattle.g1_frontier.proofs.Offerings.{tried_none, tried_one, aims_null, aims_outside, aims_inside}
+use Rattle.g1_frontier.proofs.Offerings.{tried_none, tried_one, aims_null, aims_outside, aims_inside, aims_small}
 use Rattle.g1_frontier.proofs.offering.Offers.offer_named.Goals as goal
+
+pub overflow_add-rank : goal.overflow_add-rank
+overflow_add-rank c =
+    let s = c.args.self.now.scope.now in
+    let low = aims_small s.heap.now s.window.now (c.args.base + c.args.offset) c.args.word (c.args.word - 1) (omega (arith, c.if-word-eq0.false)) c.in-Some.ensures.found.0 c.requires.ranks in omega (arith, low)
+
+pub offer-answered_true-requires-clause-rank : goal.offer-answered_true-requires-clause-rank
+offer-answered_true-requires-clause-rank c =
+    let s = c.args.self.now.scope.now in
+    aims_small s.heap.now s.window.now (c.args.base + c.args.offset) c.args.word (c.args.word - 1) (omega (arith, c.if-word-eq0.false)) c.in-Some.ensures.found.0 c.requires.ranks
 
 pub returns-in_ok-keep_if-in-Some : goal.returns-in_ok-keep_if-in-Some
 returns-in_ok-keep_if-in-Some c =

@@ -8,15 +8,15 @@ use Rattle.g1_frontier.specs.Round.{winners}
 use Rattle.g1_frontier.proofs.Seeds.{flat_of_map}
 use Rattle.g1_frontier.proofs.Scopes.{all_from_in}
 use Rattle.g1_frontier.proofs.Claimed.{lists_rise, all_in_window, adds, merged_from, round_won}
-use Rattle.g1_frontier.proofs.round.claim_round.Goals as goal
+use Rattle.g1_frontier.proofs.round.round_in.Goals as goal
 
 pub in_rank_order-requires : goal.in_rank_order-requires
 in_rank_order-requires g c = record { rise = lists_rise c.in_ok-seat.lists.items c.in_ok-seat.ensures.ok.rise }
 
 pub still_there-requires-clause-inside : goal.still_there-requires-clause-inside
 still_there-requires-clause-inside g c =
-    let h = c.args.heap.now in
-    let window : List ℕ = c.args.window.now in
+    let h = c.args.scope.now.heap.now in
+    let window : List ℕ = c.args.scope.now.window.now in
     let ps : List (ℕ × ℕ) = all_pairs h window c.args.items.now in
     let lists = map (λ (v : Vec (ℕ × ℕ) Global). v.items) c.in_ok-seat.lists.items in
     let perm : IsPermutation (flat_map (λ (l : List (ℕ × ℕ)). l) lists) c.in_ok-kept.kept.items = subst (λ l. IsPermutation l c.in_ok-kept.kept.items) (sym (flat_of_map (λ (l : List (ℕ × ℕ)). l) (λ (v : Vec (ℕ × ℕ) Global). v.items) c.in_ok-seat.lists.items)) c.in_ok-kept.ensures.same in
@@ -25,14 +25,14 @@ still_there-requires-clause-inside g c =
 
 pub returns-clause-offers : goal.returns-clause-offers
 returns-clause-offers g c =
-    let h = c.args.heap.now in
-    let window : List ℕ = c.args.window.now in
+    let h = c.args.scope.now.heap.now in
+    let window : List ℕ = c.args.scope.now.window.now in
     adds c.args.claims (place h window) (all_pairs h window c.args.items.now) c.args.seat c.in_ok-seat.seat (map (λ (v : Vec (ℕ × ℕ) Global). v.items) c.in_ok-seat.lists.items) c.in_ok-seat.ensures.ok c.still_there.new.seat.hand.offers c.in_ok-won.ensures.seat.2
 
 pub returns-clause-won : goal.returns-clause-won
 returns-clause-won g c =
-    let h = c.args.heap.now in
-    let window : List ℕ = c.args.window.now in
+    let h = c.args.scope.now.heap.now in
+    let window : List ℕ = c.args.scope.now.window.now in
     let ps : List (ℕ × ℕ) = all_pairs h window c.args.items.now in
     let lists = map (λ (v : Vec (ℕ × ℕ) Global). v.items) c.in_ok-seat.lists.items in
     let perm : IsPermutation (flat_map (λ (l : List (ℕ × ℕ)). l) lists) c.in_ok-kept.kept.items = subst (λ l. IsPermutation l c.in_ok-kept.kept.items) (sym (flat_of_map (λ (l : List (ℕ × ℕ)). l) (λ (v : Vec (ℕ × ℕ) Global). v.items) c.in_ok-seat.lists.items)) c.in_ok-kept.ensures.same in
