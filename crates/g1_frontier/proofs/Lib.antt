@@ -11,6 +11,7 @@ pub mod Assembly
 pub mod Winning
 pub mod Merges
 pub mod Claimed
+pub mod Alone
 pub mod Links
 pub mod Ranks
 pub mod Finding

@@ -1,12 +1,13 @@
 -- Offers, one after another.
 use Rattle.std.proofs.Common.{◌≡◌, ℕ, suc, ◌+◌, ◌^◌, ◌<◌, Bool, true, false, cond, List, [], ◌∷◌, ◌++◌, map, filter, flat_map, take, get_or, length, sym, refl, ap, ◌∙◌, subst, arith, append_assoc, append-nil}
 use Rattle.std.proofs.lemmas.List.{map-append, take_more, flat_map_more}
-use Rattle.g1_claim.specs.Claims.{offer}
+use Rattle.g1_claim.specs.declared.rule.Offer.{Offer}
+use Rattle.g1_claim.specs.Claims.{offer, least_rank}
 use Rattle.g1_words.specs.Heap.{Heap}
 use Rattle.g1_words.specs.Survivors.{in_set}
 use Rattle.g1_frontier.specs.declared.offering.Holder.{Holder}
 use Rattle.g1_frontier.specs.Items.{aims, AreRanks}
-use Rattle.g1_frontier.specs.Offering.{pair_of, answered_true, offer_of, HasTried}
+use Rattle.g1_frontier.specs.Offering.{Try, pair_of, answered_true, offer_of, Lowers, HasTried}
 use Rattle.g1_frontier.proofs.Seeds.{filter_append}
 
 module _ (place : ℕ → ℕ) where
@@ -18,7 +19,13 @@ module _ (place : ℕ → ℕ) where
     kept = sym (append-nil h.kept.items);
     table = refl;
     shares = refl;
+    lowers = λ all. tt;
   }
+
+  lowers_append : (os : List Offer) (xs ys : List Try) → Lowers place os xs → Lowers place (os ++ map (offer_of place) xs) ys → Lowers place os (xs ++ ys)
+  lowers_append os [] ys a b = subst (λ l. Lowers place l ys) (append-nil os) b
+  lowers_append os (x ∷ xs) ys a b =
+      (a.0, lowers_append (os ++ offer_of place x ∷ []) xs ys a.1 (subst (λ l. Lowers place l ys) (sym (append_assoc os (offer_of place x ∷ []) (map (offer_of place) xs))) b))
 
   pub tried_append : (ps qs : List (ℕ × ℕ)) (a b c : Holder) → HasTried place ps a b → HasTried place qs b c → HasTried place (ps ++ qs) a c
   tried_append ps qs a b c x y = record {
@@ -32,18 +39,21 @@ module _ (place : ℕ → ℕ) where
         ∙ ap (λ is. a.kept.items ++ is) (sym (ap (map pair_of) (filter_append answered_true x.made y.made) ∙ map-append pair_of (filter answered_true x.made) (filter answered_true y.made)));
     table = y.table ∙ x.table;
     shares = y.shares ∙ x.shares;
+    lowers = λ all. lowers_append a.seat.hand.offers x.made y.made (x.lowers all) (subst (λ os. Lowers place os y.made) x.offers (y.lowers (x.shares ∙ all)));
   }
 
   -- one offer
   pub tried_one : (rank a : ℕ) (b : Bool) (h t : Holder) → t.seat.hand.offers ≡ h.seat.hand.offers ++ offer (place a) rank b ∷ [] → t.kept.items ≡ h.kept.items ++ cond b ((rank, a) ∷ []) []
-      → t.seat.table ≡ h.seat.table → t.seat.hand.shares ≡ h.seat.hand.shares → HasTried place ((rank, a) ∷ []) h t
-  tried_one rank a b h t os ks table shares = record {
+      → t.seat.table ≡ h.seat.table → t.seat.hand.shares ≡ h.seat.hand.shares
+      → (h.seat.hand.shares ≡ 64 → b ≡ true → rank < least_rank (place a) h.seat.hand.offers) → HasTried place ((rank, a) ∷ []) h t
+  tried_one rank a b h t os ks table shares low = record {
     made = ((rank, a), b) ∷ [];
     each = refl;
     offers = os;
     kept = ks ∙ ap (λ l. h.kept.items ++ l) (at b);
     table = table;
     shares = shares;
+    lowers = λ all. (low all, tt);
   }
     where
       at : (b : Bool) → cond b ((rank, a) ∷ []) [] ≡ map pair_of (filter answered_true (((rank, a), b) ∷ []))

@@ -1,7 +1,7 @@
 -- What a worker's offers leave in its seat, and what it keeps.
-use Rattle.std.specs.Prelude.{◌≡◌, ℕ, ◌≤◌, ◌*◌, Bool, List, ◌++◌, map, filter, length}
+use Rattle.std.specs.Prelude.{◌≡◌, ℕ, ◌<◌, ◌≤◌, ◌*◌, Bool, true, List, [], ◌∷◌, ◌++◌, map, filter, length}
 use Rattle.g1_claim.specs.declared.rule.Offer.{Offer}
-use Rattle.g1_claim.specs.Claims.{TableView, offer}
+use Rattle.g1_claim.specs.Claims.{TableView, offer, least_rank}
 use Rattle.g1_frontier.specs.declared.offering.Holder.{Holder}
 use Rattle.g1_frontier.specs.declared.scope.Scope.{Scope}
 use Rattle.g1_frontier.specs.Scope.{IsScope}
@@ -22,7 +22,12 @@ answered_true t = t.1
 abbrev pub offer_of : (ℕ → ℕ) → Try → Offer
 offer_of place t = offer (place t.0.1) t.0.0 t.1
 
--- the pairs were offered, each once and in order, and those whose offer answered true were put behind what was kept
+-- each offer that answered true was below all ranks that were offered before at its place
+abbrev pub Lowers : (ℕ → ℕ) → List Offer → List Try → Type 0
+Lowers place before [] = Unit {0}
+Lowers place before (t ∷ ts) = (answered_true t ≡ true → t.0.0 < least_rank (place t.0.1) before) × Lowers place (before ++ offer_of place t ∷ []) ts
+
+-- the pairs were offered, each once and in order, and those whose offer answered true were put behind what was kept; with all shares these lowered what was offered before
 pub record HasTried (place : ℕ → ℕ) (ps : List (ℕ × ℕ)) (before after : Holder) : Type 0 where
   pub made : List Try
   pub each : map pair_of made ≡ ps
@@ -30,6 +35,7 @@ pub record HasTried (place : ℕ → ℕ) (ps : List (ℕ × ℕ)) (before after
   pub kept : after.kept.items ≡ before.kept.items ++ map pair_of (filter answered_true made)
   pub table : after.seat.table ≡ before.seat.table
   pub shares : after.seat.hand.shares ≡ before.seat.hand.shares
+  pub lowers : before.seat.hand.shares ≡ 64 → Lowers place before.seat.hand.offers made
 
 -- the table has a place for each word of the window
 pub record HasPlaces (s : Scope) (t : TableView) : Type 0 where

@@ -15,12 +15,13 @@
 //!    they offer its rank at the object's place, and keep rank and address where the offer lowered
 //!    the word.
 //! 4. When all have ended, their lists are merged by rank. An address whose rank is still the word
-//!    is found.
+//!    is found. A worker alone offers by rising rank, so all that it kept is found.
 //! 5. What a round found is the next round's items, until a round finds nothing. Since ranks rise
 //!    over all rounds, a place that has a word keeps it.
 //!
 //! So the answer is the same for all workers and chunk sizes. A round takes memory in proportion to
-//! what it looks at and finds.
+//! what it looks at and finds. Where a region stands in the window is told by a table of four bytes
+//! for each region of the heap: `discover` makes one for all its rounds, `claim_round` one a call.
 #![tactic(auto)]
 
 mod item;

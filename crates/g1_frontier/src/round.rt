@@ -136,24 +136,6 @@ fn merged(alloc: Global, lists: Vec<Vec<(u64, u64)>>) -> Result<Vec<(u64, u64)>,
     Ok(merged)
 }
 
-// Lists that rise by rank, in one. A list alone needs no merging.
-fn in_rank_order(
-    alloc: Global,
-    mut lists: Vec<Vec<(u64, u64)>>,
-) -> Result<Vec<(u64, u64)>, AllocError>
-    requires rise { All (λ l. Rises l.items) lists.items }
-    ensures same { IfOk result (λ v. IsPermutation (flat_map (λ l. l.items) lists.items) v.items) }
-    ensures in_order { IfOk result (λ v. IsByRank v.items) }
-{
-    if lists.len() != 1 {
-        return merged(alloc, lists);
-    }
-    let Some(only) = lists.pop() else {
-        unreachable!()
-    };
-    Ok(only)
-}
-
 // Of the pairs, those whose rank is the word of their place now.
 fn still_there(
     alloc: Global,
@@ -207,8 +189,15 @@ pub(crate) fn round_in<R: Threads + Sync, G: Gate + Sync>(
     ensures settled { IfOk result (λ r. IsSettled r.1.hand.offers) }
     ensures memory { IfErr result (λ e. e ≡ Memory) }
 {
-    let (mut seat, lists) = offer_all(rt, alloc, scope, &claims, seat, items, team, gate)?;
-    let kept = in_rank_order(alloc, lists)?;
+    let (mut seat, mut lists) = offer_all(rt, alloc, scope, &claims, seat, items, team, gate)?;
+    if lists.len() == 1 {
+        // A worker alone offers by rising rank, so what it kept is least.
+        let Some(won) = lists.pop() else {
+            unreachable!()
+        };
+        return Ok((claims, seat, won));
+    }
+    let kept = merged(alloc, lists)?;
     let won = still_there(alloc, scope, &claims, &mut seat, kept.as_slice())?;
     Ok((claims, seat, won))
 }

@@ -6,10 +6,13 @@ use Rattle.g1_frontier.specs.Items.{AreRanks}
 use Rattle.g1_frontier.specs.Scope.{place_in, aims_in}
 use Rattle.g1_frontier.specs.Offering.{HasTried}
 use Rattle.g1_frontier.proofs.Names.{slot_in_words}
-use Rattle.g1_frontier.proofs.Offerings.{tried_more}
+use Rattle.g1_frontier.proofs.Offerings.{tried_none, tried_more}
 use Rattle.g1_frontier.proofs.Scopes.{In-get, all_part}
 use Rattle.g1_frontier.proofs.Turns.{take_all}
 use Rattle.g1_frontier.proofs.offering.Offers.offer_card.Goals as goal
+
+pub loop-slot-init : goal.loop-slot-init
+loop-slot-init c = tried_none (place_in c.args.self.now.scope.now) c.args.holder.now
 
 pub offset_bounds-words-slot : goal.offset_bounds-words-slot
 offset_bounds-words-slot c =

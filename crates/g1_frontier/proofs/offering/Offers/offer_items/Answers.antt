@@ -1,9 +1,12 @@
 use Rattle.std.proofs.Common.{◌<◌, ◌^◌, get_or}
 use Rattle.g1_frontier.specs.declared.item.Item.TheVariants.{Root}
 use Rattle.g1_frontier.specs.Scope.{place_in, pairs_in}
-use Rattle.g1_frontier.proofs.Offerings.{tried_more}
+use Rattle.g1_frontier.proofs.Offerings.{tried_none, tried_more}
 use Rattle.g1_frontier.proofs.Scopes.{In-get, all_part}
 use Rattle.g1_frontier.proofs.offering.Offers.offer_items.Goals as goal
+
+pub loop-item-init : goal.loop-item-init
+loop-item-init c = tried_none (place_in c.args.self.now.scope.now) c.args.holder.now
 
 pub offer_item-requires-clause-ranks : goal.offer_item-requires-clause-ranks
 offer_item-requires-clause-ranks c =

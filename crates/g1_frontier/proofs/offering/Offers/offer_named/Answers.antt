@@ -1,6 +1,6 @@
-use Rattle.std.proofs.Common.{arith, ap, subst, sym, ◌≡◌, ◌+◌, ◌-◌, ◌++◌, ◌∙◌, ℕ, [], ◌∷◌}
+use Rattle.std.proofs.Common.{arith, ap, subst, sym, ◌≡◌, ◌+◌, ◌-◌, ◌<◌, ◌++◌, ◌∙◌, ℕ, [], ◌∷◌}
 use Rattle.g1_claim.specs.declared.rule.Hand.{Hand}
-use Rattle.g1_claim.specs.Claims.{offer}
+use Rattle.g1_claim.specs.Claims.{offer, least_rank}
 use Rattle.g1_frontier.specs.declared.offering.Holder.{Holder}
 use Rattle.g1_frontier.specs.Offering.{HasTried}
 use Rattle.g1_frontier.specs.Scope.{place_in}
@@ -30,7 +30,8 @@ returns-in_ok-keep_if-in-Some c =
     (ap (λ (h : Hand). h.offers) c.offer-answered_true.ensures.offered ∙ ap (λ p. c.args.holder.now.seat.hand.offers ++ offer p rank c.offer-answered_true.result ∷ []) f.1)
     c.in_ok-keep_if-in-Some.ensures
     (c.offer-answered_true.ensures.table ∙ sym c.requires.seat)
-    (ap (λ (h : Hand). h.shares) c.offer-answered_true.ensures.offered))
+    (ap (λ (h : Hand). h.shares) c.offer-answered_true.ensures.offered)
+    (λ all yes. subst (λ p. rank < least_rank p c.args.holder.now.seat.hand.offers) f.1 ((c.offer-answered_true.ensures.least all).0 yes)))
 
 pub returns-in-None : goal.returns-in-None
 returns-in-None c =

@@ -8,7 +8,7 @@ use Rattle.g1_frontier.specs.Items.{AreRanks}
 use Rattle.g1_frontier.specs.Scope.{place_in, aims_in}
 use Rattle.g1_frontier.specs.Offering.{HasTried}
 use Rattle.g1_frontier.proofs.Names.{object_in_words, range_more}
-use Rattle.g1_frontier.proofs.Offerings.{tried_append}
+use Rattle.g1_frontier.proofs.Offerings.{tried_none, tried_append}
 use Rattle.g1_frontier.proofs.Scopes.{all_part}
 use Rattle.g1_frontier.proofs.offering.Offers.offer_object.Goals as goal
 
@@ -32,6 +32,13 @@ overflow_add-slot-end c =
     let b = object_in_words c.args.self.now.scope.now.heap.now c.requires.places.scope.valid c.args.at c.requires.object in
     let refs : get_or c.words-words.result.now c.args.at 0 % 2 ^ 32 ≡ word c.args.self.now.scope.now.heap.now c.args.at % 2 ^ 32 = ap (λ l. get_or l c.args.at 0 % 2 ^ 32) c.words-words.ensures in
     omega (arith, b.1, refs, c.requires.places.scope.valid.word_count, c.requires.places.scope.valid.limits.words_most)
+
+pub loop-slot-init : goal.loop-slot-init
+loop-slot-init c =
+    let s = c.args.self.now.scope.now in
+    let h = c.args.holder.now in
+    let none : 0 ≡ (c.args.at + 1) - (c.args.at + 1) = omega arith in
+    subst (λ n. HasTried (place_in s) (flat_map (λ p. aims_in s (c.args.base + (p - (c.args.at + 1))) (word s.heap.now p)) (range_with_len (c.args.at + 1) n)) h h) none (tried_none (place_in s) h)
 
 pub bounds-words-slot : goal.bounds-words-slot
 bounds-words-slot c =

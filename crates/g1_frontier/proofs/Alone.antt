@@ -1,0 +1,69 @@
+-- What one worker kept alone is what won.
+use Rattle.std.proofs.Common.{◌≡◌, ℕ, ◌<◌, Bool, true, false, cond, min, eqb, eq-eqb, List, [], ◌∷◌, ◌++◌, map, filter, length, sym, refl, ap, ◌∙◌, subst, inl, inr, arith, append_assoc, append-nil, length-append, IsPermutation}
+use Rattle.std.proofs.lemmas.List.Sorted.{IsPermutation-refl}
+use Rattle.g1_claim.specs.declared.rule.Offer.{Offer}
+use Rattle.g1_claim.specs.Claims.{TableView, SeatView, empty, least_rank}
+use Rattle.g1_claim.proofs.Totals.{least_rank_top, least_rank-append}
+use Rattle.g1_words.proofs.Members.{In}
+use Rattle.g1_words.proofs.Ordered.{Ordered, Ordered-from_pairs}
+use Rattle.g1_frontier.specs.Offering.{Try, pair_of, answered_true, offer_of, Lowers}
+use Rattle.g1_frontier.specs.Round.{Rises, AreAbove, winners, is_least, HasOffered, IsByRank}
+use Rattle.g1_frontier.proofs.Assembly.{RankLess}
+use Rattle.g1_frontier.proofs.Claimed.{round_won}
+
+module _ (place : ℕ → ℕ) where
+  -- ranks above one are no lower at any place
+  none_lower : (p r : ℕ) (ms : List Try) → r < empty → ((q : ℕ × ℕ) → In (map pair_of ms) q → r < q.0) → r < least_rank p (map (offer_of place) ms)
+  none_lower p r [] top above = top
+  none_lower p r (m ∷ ms) top above =
+      let rest = none_lower p r ms top (λ q i. above q (inr i)) in
+      let one = above m.0 (inl refl) in
+      elim (eqb (place m.0.1) p) as (λ (b : Bool). r < min (cond b m.0.0 empty) (least_rank p (map (offer_of place) ms))) [ true ↦ omega (arith, rest, one) | false ↦ omega (arith, rest, top) ]
+
+  -- an offer below those before it at its place, and below the ranks after it, has the least rank there
+  stays_least : (os : List Offer) (m : Try) (ms : List Try) → m.0.0 < least_rank (place m.0.1) os → ((q : ℕ × ℕ) → In (map pair_of ms) q → m.0.0 < q.0)
+      → is_least place (os ++ offer_of place m ∷ map (offer_of place) ms) m.0 ≡ true
+  stays_least os m ms low above =
+      let p : ℕ = place m.0.1 in
+      let top = least_rank_top p os in
+      let rest = none_lower p m.0.0 ms (omega (arith, low, top)) above in
+      let parts = least_rank-append p os (offer_of place m ∷ map (offer_of place) ms) in
+      let one : least_rank p (offer_of place m ∷ map (offer_of place) ms) ≡ min m.0.0 (least_rank p (map (offer_of place) ms)) = ap (λ b. min (cond b m.0.0 empty) (least_rank p (map (offer_of place) ms))) (eq-eqb p p refl) in
+      eq-eqb (least_rank p (os ++ offer_of place m ∷ map (offer_of place) ms)) m.0.0 (omega (arith, parts, one, rest, low))
+
+  -- what lowered its word stays the least, where the ranks rise
+  kept_least : (os : List Offer) (ms : List Try) → Lowers place os ms → Ordered RankLess (map pair_of ms) → (q : ℕ × ℕ) → In (map pair_of (filter answered_true ms)) q → is_least place (os ++ map (offer_of place) ms) q ≡ true
+  kept_least os [] l o q i = absurd i
+  kept_least os (m ∷ ms) l o q i =
+      at m.1 refl i (λ k. subst (λ as_one. is_least place as_one q ≡ true) (append_assoc os (offer_of place m ∷ []) (map (offer_of place) ms)) (kept_least (os ++ offer_of place m ∷ []) ms l.1 o.1 q k))
+    where
+      at : (b : Bool) → m.1 ≡ b → In (map pair_of (cond b (m ∷ filter answered_true ms) (filter answered_true ms))) q
+          → (In (map pair_of (filter answered_true ms)) q → is_least place (os ++ offer_of place m ∷ map (offer_of place) ms) q ≡ true) → is_least place (os ++ offer_of place m ∷ map (offer_of place) ms) q ≡ true
+      at true t (inl e) later = subst (λ r. is_least place (os ++ offer_of place m ∷ map (offer_of place) ms) r ≡ true) e (stays_least os m ms (l.0 t) o.0)
+      at true t (inr k) later = later k
+      at false t k later = later k
+
+all_pass : {A : Type 0} (f : A → Bool) (xs : List A) → ((x : A) → In xs x → f x ≡ true) → filter f xs ≡ xs
+all_pass f [] h = refl
+all_pass f (x ∷ xs) h = ap (λ b. cond b (x ∷ filter f xs) (filter f xs)) (h x (inl refl)) ∙ ap (λ l. x ∷ l) (all_pass f xs (λ y i. h y (inr i)))
+
+module _ (t : TableView) (place : ℕ → ℕ) (ps : List (ℕ × ℕ)) (before after : SeatView) (l : List (ℕ × ℕ)) (o : HasOffered t place ps before after (l ∷ [])) where
+  kept_is : l ≡ map pair_of (filter answered_true o.made)
+  kept_is = sym (append-nil l) ∙ o.kept
+
+  all_least : winners place after.hand.offers l ≡ l
+  all_least =
+      all_pass (is_least place after.hand.offers) l
+      (λ q i. subst (λ os. is_least place os q ≡ true) (sym o.offers)
+      (kept_least place before.hand.offers o.made (o.alone refl).0 (Ordered-from_pairs RankLess (map pair_of o.made) (o.alone refl).1) q (subst (λ k. In k q) kept_is i)))
+
+  pub alone_won : Rises ps → AreAbove before.hand.offers ps → l ≡ winners place after.hand.offers ps
+  alone_won rise above =
+      let rises : Rises l = o.rise 0 l (omega arith) in
+      let in_order : IsByRank l = λ i j d lt len. let k = rises i j d lt len in omega (arith, k) in
+      sym all_least ∙ round_won t place ps before after (l ∷ []) o l (subst (λ k. IsPermutation k l) (sym (append-nil l)) (IsPermutation-refl l)) rise above in_order
+
+-- a list of one thing has that which is taken from its end
+pub only_one : {A : Type 0} (xs ys : List A) (x : A) → xs ≡ ys ++ x ∷ [] → length xs ≡ 1 → xs ≡ x ∷ []
+only_one xs [] x e n = e
+only_one xs (y ∷ ys) x e n = let all = ap length e in let parts = length-append ys (x ∷ []) in absurd (omega (arith, all, parts, n))
