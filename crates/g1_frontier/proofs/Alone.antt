@@ -1,14 +1,16 @@
 -- What one worker kept alone is what won.
-use Rattle.std.proofs.Common.{◌≡◌, ℕ, ◌<◌, Bool, true, false, cond, min, eqb, eq-eqb, List, [], ◌∷◌, ◌++◌, map, filter, length, sym, refl, ap, ◌∙◌, subst, inl, inr, arith, append_assoc, append-nil, length-append, IsPermutation}
+use Rattle.std.proofs.Common.{◌≡◌, ℕ, ◌<◌, Bool, true, false, cond, min, eqb, eq-eqb, List, [], ◌∷◌, ◌++◌, map, filter, sym, refl, ap, ◌∙◌, subst, inl, inr, arith, append_assoc, append-nil, IsPermutation}
+use Rattle.std.proofs.lemmas.List.Elements.{All-cons, All-nil}
 use Rattle.std.proofs.lemmas.List.Sorted.{IsPermutation-refl}
 use Rattle.g1_claim.specs.declared.rule.Offer.{Offer}
-use Rattle.g1_claim.specs.Claims.{TableView, SeatView, empty, least_rank}
+use Rattle.g1_claim.specs.Claims.{TableView, IsSeatOf, IsSettled, empty, least_rank}
 use Rattle.g1_claim.proofs.Totals.{least_rank_top, least_rank-append}
 use Rattle.g1_words.proofs.Members.{In}
-use Rattle.g1_words.proofs.Ordered.{Ordered, Ordered-from_pairs}
-use Rattle.g1_frontier.specs.Offering.{Try, pair_of, answered_true, offer_of, Lowers}
+use Rattle.g1_words.proofs.Ordered.{Ordered, Ordered-from_pairs, pairs_from_ordered}
+use Rattle.g1_frontier.specs.declared.offering.Holder.{Holder}
+use Rattle.g1_frontier.specs.Offering.{Try, pair_of, answered_true, offer_of, Lowers, HasTried}
 use Rattle.g1_frontier.specs.Round.{Rises, AreAbove, winners, is_least, HasOffered, IsByRank}
-use Rattle.g1_frontier.proofs.Assembly.{RankLess}
+use Rattle.g1_frontier.proofs.Assembly.{RankLess, kept_ordered}
 use Rattle.g1_frontier.proofs.Claimed.{round_won}
 
 module _ (place : ℕ → ℕ) where
@@ -47,23 +49,36 @@ all_pass : {A : Type 0} (f : A → Bool) (xs : List A) → ((x : A) → In xs x 
 all_pass f [] h = refl
 all_pass f (x ∷ xs) h = ap (λ b. cond b (x ∷ filter f xs) (filter f xs)) (h x (inl refl)) ∙ ap (λ l. x ∷ l) (all_pass f xs (λ y i. h y (inr i)))
 
-module _ (t : TableView) (place : ℕ → ℕ) (ps : List (ℕ × ℕ)) (before after : SeatView) (l : List (ℕ × ℕ)) (o : HasOffered t place ps before after (l ∷ [])) where
-  kept_is : l ≡ map pair_of (filter answered_true o.made)
-  kept_is = sym (append-nil l) ∙ o.kept
+module _ (t : TableView) (place : ℕ → ℕ) (ps : List (ℕ × ℕ)) (before after : Holder) (o : HasTried place ps before after)
+    (none : before.kept.items ≡ []) (whole : before.seat.hand.shares ≡ 64) (rise : Rises ps) where
+  kept_is : after.kept.items ≡ map pair_of (filter answered_true o.made)
+  kept_is = o.kept ∙ ap (λ l. l ++ map pair_of (filter answered_true o.made)) none
 
-  all_least : winners place after.hand.offers l ≡ l
+  made_rise : Ordered RankLess (map pair_of o.made)
+  made_rise = subst (Ordered RankLess) (sym o.each) (Ordered-from_pairs RankLess ps rise)
+
+  kept_rise : Rises after.kept.items
+  kept_rise = pairs_from_ordered RankLess after.kept.items (subst (Ordered RankLess) (sym kept_is) (kept_ordered o.made made_rise))
+
+  pub alone_offered : IsSeatOf t after.seat → IsSettled after.seat.hand.offers → HasOffered t place ps before.seat after.seat (after.kept.items ∷ [])
+  alone_offered seat settled = record {
+    made = o.made;
+    each = subst (IsPermutation (map pair_of o.made)) o.each (IsPermutation-refl (map pair_of o.made));
+    offers = o.offers;
+    kept = append-nil after.kept.items ∙ kept_is;
+    rise = All-cons Rises after.kept.items [] kept_rise (All-nil Rises);
+    seat = seat;
+    whole = o.shares ∙ whole;
+    settled = settled;
+  }
+
+  all_least : winners place after.seat.hand.offers after.kept.items ≡ after.kept.items
   all_least =
-      all_pass (is_least place after.hand.offers) l
-      (λ q i. subst (λ os. is_least place os q ≡ true) (sym o.offers)
-      (kept_least place before.hand.offers o.made (o.alone refl).0 (Ordered-from_pairs RankLess (map pair_of o.made) (o.alone refl).1) q (subst (λ k. In k q) kept_is i)))
+      all_pass (is_least place after.seat.hand.offers) after.kept.items
+      (λ q i. subst (λ os. is_least place os q ≡ true) (sym o.offers) (kept_least place before.seat.hand.offers o.made (o.lowers whole) made_rise q (subst (λ k. In k q) kept_is i)))
 
-  pub alone_won : Rises ps → AreAbove before.hand.offers ps → l ≡ winners place after.hand.offers ps
-  alone_won rise above =
-      let rises : Rises l = o.rise 0 l (omega arith) in
-      let in_order : IsByRank l = λ i j d lt len. let k = rises i j d lt len in omega (arith, k) in
-      sym all_least ∙ round_won t place ps before after (l ∷ []) o l (subst (λ k. IsPermutation k l) (sym (append-nil l)) (IsPermutation-refl l)) rise above in_order
-
--- a list of one thing has that which is taken from its end
-pub only_one : {A : Type 0} (xs ys : List A) (x : A) → xs ≡ ys ++ x ∷ [] → length xs ≡ 1 → xs ≡ x ∷ []
-only_one xs [] x e n = e
-only_one xs (y ∷ ys) x e n = let all = ap length e in let parts = length-append ys (x ∷ []) in absurd (omega (arith, all, parts, n))
+  pub alone_won : IsSeatOf t after.seat → IsSettled after.seat.hand.offers → AreAbove before.seat.hand.offers ps → after.kept.items ≡ winners place after.seat.hand.offers ps
+  alone_won seat settled above =
+      let l : List (ℕ × ℕ) = after.kept.items in
+      let in_order : IsByRank l = λ i j d lt len. let k = kept_rise i j d lt len in omega (arith, k) in
+      sym all_least ∙ round_won t place ps before.seat after.seat (l ∷ []) (alone_offered seat settled) l (subst (λ k. IsPermutation k l) (sym (append-nil l)) (IsPermutation-refl l)) rise above in_order

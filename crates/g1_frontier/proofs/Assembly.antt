@@ -1,7 +1,7 @@
 -- A round's offers, whichever worker made them.
 use Rattle.std.proofs.Common.{◌≡◌, ℕ, suc, ◌*◌, ◌<◌, ◌≤◌, inl, inr, Bool, true, false, cond, List, [], ◌∷◌, ◌++◌, map, filter, length, sum_by, sym, refl, ap, ◌∙◌, subst, arith, append_assoc, append-nil, IsPermutation, All}
 use Rattle.std.specs.List.{flat_map, enumerate_from}
-use Rattle.std.proofs.lemmas.List.{map-append, length-map}
+use Rattle.std.proofs.lemmas.List.{map-append}
 use Rattle.std.proofs.lemmas.List.Concat.{flat_map-append}
 use Rattle.std.proofs.lemmas.List.Sums.{sum_by-cons}
 use Rattle.std.proofs.lemmas.List.Elements.{All-append, All-cons, All-nil}
@@ -12,7 +12,7 @@ use Rattle.g1_claim.specs.Claims.{TableView, SeatView, IsSeatOf}
 use Rattle.g1_words.proofs.Members.{In}
 use Rattle.g1_words.proofs.Ordered.{Ordered, pairs_from_ordered}
 use Rattle.g1_frontier.specs.declared.offering.Holder.{Holder}
-use Rattle.g1_frontier.specs.Offering.{Try, pair_of, answered_true, offer_of, Lowers, HasTried}
+use Rattle.g1_frontier.specs.Offering.{Try, pair_of, answered_true, offer_of, HasTried}
 use Rattle.g1_frontier.specs.Items.{piece}
 use Rattle.g1_frontier.specs.Round.{IsFreshHolder, IsGivenOut, HasTaken, HasOffered, Rises}
 use Rattle.g1_frontier.proofs.Offerings.{tried_none, tried_append}
@@ -22,6 +22,24 @@ use Rattle.g1_frontier.proofs.Seeds.{filter_append, flat_of_map}
 
 abbrev pub RankLess : ℕ × ℕ → ℕ × ℕ → Type 0
 RankLess q r = q.0 < r.0
+
+in_kept_at : (m : Try) (ms ks : List Try) (q : ℕ × ℕ) → (In (map pair_of ks) q → In (map pair_of ms) q) → (b : Bool) → In (map pair_of (cond b (m ∷ ks) ks)) q → In (map pair_of (m ∷ ms)) q
+in_kept_at m ms ks q f true (inl e) = inl e
+in_kept_at m ms ks q f true (inr k) = inr (f k)
+in_kept_at m ms ks q f false k = inr (f k)
+
+in_kept : (ms : List Try) (q : ℕ × ℕ) → In (map pair_of (filter answered_true ms)) q → In (map pair_of ms) q
+in_kept [] q i = i
+in_kept (m ∷ ms) q i = in_kept_at m ms (filter answered_true ms) q (in_kept ms q) m.1 i
+
+-- what is kept of pairs in order is in order
+pub kept_ordered : (ms : List Try) → Ordered RankLess (map pair_of ms) → Ordered RankLess (map pair_of (filter answered_true ms))
+kept_ordered [] o = tt
+kept_ordered (m ∷ ms) o =
+    elim m.1 as (λ b. Ordered RankLess (map pair_of (cond b (m ∷ filter answered_true ms) (filter answered_true ms)))) [
+      | true ↦ ((λ q i. o.0 q (in_kept ms q i)), kept_ordered ms o.1)
+      | false ↦ kept_ordered ms o.1
+    ]
 
 module _ (place : ℕ → ℕ) (P : ℕ → List (ℕ × ℕ)) {O : Type 0} (runs : Holder → ℕ → Holder → O → Type 0) (says : (s : Holder) (k : ℕ) (t : Holder) (o : O) → runs s k t o → HasTried place (P k) s t) where
   abbrev pub given : List (ℕ × O) → List (ℕ × ℕ)
@@ -76,23 +94,6 @@ module _ (place : ℕ → ℕ) (P : ℕ → List (ℕ × ℕ)) {O : Type 0} (run
 
     -- each worker's kept list is in order, where the chunks' pairs are
     module _ (ordered : (p : List (ℕ × O)) → RisesBelow n (chunks_of p) → Ordered RankLess (flat_map (λ x. P x.0) p)) where
-      in_kept_at : (m : Try) (ms ks : List Try) (q : ℕ × ℕ) → (In (map pair_of ks) q → In (map pair_of ms) q) → (b : Bool) → In (map pair_of (cond b (m ∷ ks) ks)) q → In (map pair_of (m ∷ ms)) q
-      in_kept_at m ms ks q f true (inl e) = inl e
-      in_kept_at m ms ks q f true (inr k) = inr (f k)
-      in_kept_at m ms ks q f false k = inr (f k)
-
-      in_kept : (ms : List Try) (q : ℕ × ℕ) → In (map pair_of (filter answered_true ms)) q → In (map pair_of ms) q
-      in_kept [] q i = i
-      in_kept (m ∷ ms) q i = in_kept_at m ms (filter answered_true ms) q (in_kept ms q) m.1 i
-
-      kept_ordered : (ms : List Try) → Ordered RankLess (map pair_of ms) → Ordered RankLess (map pair_of (filter answered_true ms))
-      kept_ordered [] o = tt
-      kept_ordered (m ∷ ms) o =
-          elim m.1 as (λ b. Ordered RankLess (map pair_of (cond b (m ∷ filter answered_true ms) (filter answered_true ms)))) [
-            | true ↦ ((λ q i. o.0 q (in_kept ms q i)), kept_ordered ms o.1)
-            | false ↦ kept_ordered ms o.1
-          ]
-
       pub one_rises : (s : Holder) (p : List (ℕ × O)) (u : Holder) → Ran runs s p u → RisesBelow n (chunks_of p) → s.kept.items ≡ [] → Ordered RankLess u.kept.items
       one_rises s p u r rise none =
           let one = ran_tried s p u r in
@@ -107,14 +108,6 @@ module _ (place : ℕ → ℕ) (P : ℕ → List (ℕ × ℕ)) {O : Type 0} (run
       all_rise (s ∷ ss) (p ∷ ps) (u ∷ us) r f =
           let fresh : IsFreshHolder t s = f 0 s (omega arith) in
           All-cons (λ (h : Holder). Ordered RankLess h.kept.items) u us (one_rises s p u r.0 r.1 fresh.none_kept) (all_rise ss ps us r.2 (λ k d lt. f (suc k) d (omega (arith, lt))))
-
-  -- where none came back but the last, there were no others
-  no_others : (n : ℕ) (ss : List Holder) (ps : List (List (ℕ × O))) (ts : List Holder) → EachRan runs n ss ps ts → length ts ≡ 0 → (ss ≡ []) × (ps ≡ [])
-  no_others n [] [] ts r e = (refl, refl)
-  no_others n [] (p ∷ ps) ts r e = absurd r
-  no_others n (s ∷ ss) [] ts r e = absurd r
-  no_others n (s ∷ ss) (p ∷ ps) [] r e = absurd r
-  no_others n (s ∷ ss) (p ∷ ps) (u ∷ us) r e = absurd (omega (arith, e))
 
   -- the last worker beside the others
   pub record LastApart (n : ℕ) (ss : List Holder) (s : Holder) (ps : List (List (ℕ × O))) (ts : List Holder) (t : Holder) : Type 0 where
@@ -148,10 +141,6 @@ module _ (place : ℕ → ℕ) (P : ℕ → List (ℕ × ℕ)) {O : Type 0} (run
         parts = ap (λ k. p ++ k) l.parts ∙ sym (append_assoc p (joined l.others) l.last);
       }
 
-none_made : (ms : List Try) → map pair_of ms ≡ [] → ms ≡ []
-none_made [] e = refl
-none_made (m ∷ ms) e = cc
-
 -- the seats of all workers together, and what they kept
 module _ {A : Type 0} (t : TableView) (place : ℕ → ℕ) (f : A → List (ℕ × ℕ)) (size : ℕ) (items : List A) {O : Type 0} (runs : Holder → ℕ → Holder → O → Type 0)
     (says : (s : Holder) (k : ℕ) (u : Holder) (o : O) → runs s k u o → HasTried place (flat_map f (piece size k items)) s u) where
@@ -184,11 +173,6 @@ module _ {A : Type 0} (t : TableView) (place : ℕ → ℕ) (f : A → List (ℕ
       subst (IsPermutation (flat_map (λ (x : ℕ × O). P x.0) (joined r.parts))) (all_pieces f size items outs (subst (λ m. length items ≤ m * size) (sym r.count) le)) (flat-permutation (λ (x : ℕ × O). P x.0) (joined r.parts) (enumerate_from 0 outs) r.once) in
       let made : List Try = one.made ++ rest.made in
       let pairs_are : map pair_of made ≡ X ++ Y = map-append pair_of one.made rest.made ∙ (λ i. one.each i ++ rest.each i) in
-      let alone : length lists ≡ 1 → (g.others ≡ []) × (l.others ≡ []) = λ only.
-      let back = ap length k.kept in
-      let each_list = length-map k.others (λ (h : Holder). h.kept.items) in no_others place P runs says n g.others l.others k.others l.ran (omega (arith, only, back, each_list)) in
-      let only_last : length lists ≡ 1 → one.made ≡ made = λ only.
-      sym (append-nil one.made) ∙ ap (λ ts. one.made ++ ts) (sym (none_made rest.made (rest.each ∙ ap (λ parts. flat_map (λ (x : ℕ × O). P x.0) (joined parts)) (alone only).1))) in
       let shares : after_seat.hand.shares ≡ 64 = let a = k.shares in let b = one.shares in let c = rest.shares in let d = g.shares in omega (arith, a, b, c, d) in record {
         made = made;
         each = subst (λ ps. IsPermutation ps (flat_map f items)) (sym pairs_are) (IsPermutation-trans (X ++ Y) (flat_map (λ (x : ℕ × O). P x.0) (joined r.parts)) (flat_map f items) moved all);
@@ -203,10 +187,6 @@ module _ {A : Type 0} (t : TableView) (place : ℕ → ℕ) (f : A → List (ℕ
         rise = subst (All Rises) (sym k.kept) (All-cons Rises k.last.kept.items (map (λ (h : Holder). h.kept.items) k.others)
             (pairs_from_ordered RankLess k.last.kept.items (one_rises place P runs says n t ordered g.last l.last k.last l.ran_last l.rises g.none_kept))
             (all_map Rises (λ (h : Holder). h.kept.items) k.others (λ h i. pairs_from_ordered RankLess h.kept.items (all_in (λ (h : Holder). Ordered RankLess h.kept.items) k.others h (all_rise place P runs says n t ordered g.others l.others k.others l.ran g.fresh) i))));
-        alone = λ only. (
-          subst (Lowers place seat.hand.offers) (only_last only) (subst (λ os. Lowers place os one.made) g.offers (one.lowers (let s = g.shares in let none = ap length (alone only).0 in omega (arith, s, none)))),
-          subst (λ ts. Rises (map pair_of ts)) (only_last only) (pairs_from_ordered RankLess (map pair_of one.made) (subst (Ordered RankLess) (sym one.each) (ordered l.last l.rises))),
-        );
         seat = k.seat;
         whole = shares;
         settled = k.settled shares;

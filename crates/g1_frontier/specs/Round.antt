@@ -4,7 +4,7 @@ use Rattle.std.specs.List.{All, AllPairs}
 use Rattle.g1_claim.specs.declared.rule.Offer.{Offer}
 use Rattle.g1_claim.specs.Claims.{TableView, SeatView, IsSeatOf, IsSettled, least_rank}
 use Rattle.g1_frontier.specs.declared.offering.Holder.{Holder}
-use Rattle.g1_frontier.specs.Offering.{Try, pair_of, answered_true, offer_of, Lowers}
+use Rattle.g1_frontier.specs.Offering.{Try, pair_of, answered_true, offer_of}
 
 -- the ranks rise
 abbrev pub Rises : List (ℕ × ℕ) → Type 0
@@ -64,14 +64,13 @@ pub record HasTaken (t : TableView) (holders : List Holder) (after : SeatView) (
   pub kept : lists ≡ last.kept.items ∷ map (λ h. h.kept.items) others
   pub settled : after.hand.shares ≡ 64 → IsSettled after.hand.offers
 
--- the pairs were offered, each once, by whatever workers; each of these kept those whose offer answered true, by rising rank; a worker alone offered by rising rank, and what answered true lowered what was offered before
+-- the pairs were offered, each once, by whatever workers; each of these kept those whose offer answered true, by rising rank
 pub record HasOffered (t : TableView) (place : ℕ → ℕ) (ps : List (ℕ × ℕ)) (before after : SeatView) (lists : List (List (ℕ × ℕ))) : Type 0 where
   pub made : List Try
   pub each : IsPermutation (map pair_of made) ps
   pub offers : after.hand.offers ≡ before.hand.offers ++ map (offer_of place) made
   pub kept : flat_map (λ l. l) lists ≡ map pair_of (filter answered_true made)
   pub rise : All Rises lists
-  pub alone : length lists ≡ 1 → Lowers place before.hand.offers made × Rises (map pair_of made)
   pub seat : IsSeatOf t after
   pub whole : after.hand.shares ≡ 64
   pub settled : IsSettled after.hand.offers

@@ -144,7 +144,7 @@ impl<'a> Offers<'a> {
     }
 
     // Offers what the items name in the window, in order.
-    fn offer_items(
+    pub(crate) fn offer_items(
         &self,
         alloc: Global,
         holder: &mut Holder,

@@ -91,6 +91,35 @@ fn take_in(
     Ok((seat, lists))
 }
 
+// Offers what all items name in the window, by one worker: it draws no chunk, so a round of few items
+// costs little more than its offers: the whole seat after, and what won.
+fn offer_alone(
+    alloc: Global,
+    scope: &Scope,
+    claims: &Claims,
+    seat: ClaimSeat,
+    items: &[Item],
+) -> Result<(ClaimSeat, Vec<(u64, u64)>), AllocError>
+    requires places { HasPlaces scope.now claims.now }
+    requires seat { IsSeatOf claims.now seat × (seat.hand.shares ≡ 64) }
+    requires items { All (IsItem scope.now.heap.now) items.now }
+    requires ranks { AreRanks (all_pairs_in scope.now items.now) }
+    requires rise { Rises (all_pairs_in scope.now items.now) }
+    requires above { AreAbove seat.hand.offers (all_pairs_in scope.now items.now) }
+    ensures offered { IfOk result (λ r. HasOffered claims.now (place_in scope.now) (all_pairs_in scope.now items.now) seat r.0 (r.1.items ∷ [])) }
+    ensures won { IfOk result (λ r. r.1.items ≡ winners (place_in scope.now) r.0.hand.offers (all_pairs_in scope.now items.now)) }
+{
+    let mut holder = Holder {
+        seat,
+        kept: Vec::new(alloc),
+    };
+    Offers { scope, claims }.offer_items(alloc, &mut holder, items)?;
+    let Holder { seat, kept } = holder;
+    // Tells what a seat of all shares knows.
+    shares(&seat);
+    Ok((seat, kept))
+}
+
 // Offers what all items name in the window: the whole seat after, and what each worker kept.
 fn offer_all<R: Threads + Sync, G: Gate + Sync>(
     rt: &R,
@@ -189,14 +218,12 @@ pub(crate) fn round_in<R: Threads + Sync, G: Gate + Sync>(
     ensures settled { IfOk result (λ r. IsSettled r.1.hand.offers) }
     ensures memory { IfErr result (λ e. e ≡ Memory) }
 {
-    let (mut seat, mut lists) = offer_all(rt, alloc, scope, &claims, seat, items, team, gate)?;
-    if lists.len() == 1 {
+    if team.workers() == 1 || items.len() as u64 <= team.chunk() {
         // A worker alone offers by rising rank, so what it kept is least.
-        let Some(won) = lists.pop() else {
-            unreachable!()
-        };
+        let (seat, won) = offer_alone(alloc, scope, &claims, seat, items)?;
         return Ok((claims, seat, won));
     }
+    let (mut seat, lists) = offer_all(rt, alloc, scope, &claims, seat, items, team, gate)?;
     let kept = merged(alloc, lists)?;
     let won = still_there(alloc, scope, &claims, &mut seat, kept.as_slice())?;
     Ok((claims, seat, won))

@@ -1,4 +1,4 @@
-use Rattle.std.proofs.Common.{◌≡◌, ◌∙◌, [], ◌∷◌, refl, arith, ℕ, List, Vec, Global, ap, sym, subst, map, true, IsPermutation, All}
+use Rattle.std.proofs.Common.{◌≡◌, ◌∙◌, [], ◌∷◌, refl, ℕ, List, Vec, Global, ap, sym, subst, map, true, IsPermutation, All}
 use Rattle.std.specs.List.{flat_map}
 use Rattle.g1_words.specs.Survivors.{in_set}
 use Rattle.g1_claim.specs.declared.rule.Offer.{Offer}
@@ -9,52 +9,40 @@ use Rattle.g1_frontier.proofs.Seeds.{flat_of_map}
 use Rattle.g1_frontier.proofs.Scopes.{all_from_in}
 use Rattle.g1_frontier.proofs.Claimed.{lists_rise, all_in_window, adds, merged_from, round_won}
 use Rattle.g1_frontier.specs.Scope.{place_in, all_pairs_in}
-use Rattle.g1_frontier.specs.Round.{HasOffered}
-use Rattle.g1_frontier.proofs.Alone.{alone_won, only_one}
 use Rattle.g1_frontier.proofs.round.round_in.Goals as goal
 
 pub merged-requires : goal.merged-requires
-merged-requires g c = record { rise = lists_rise c.in_ok-seat.lists.items c.in_ok-seat.ensures.ok.rise }
+merged-requires g c = record { rise = lists_rise c.in_ok-seat-2.lists.items c.in_ok-seat-2.ensures.ok.rise }
 
 pub still_there-requires-clause-inside : goal.still_there-requires-clause-inside
 still_there-requires-clause-inside g c =
     let h = c.args.scope.now.heap.now in
     let window : List ℕ = c.args.scope.now.window.now in
     let ps : List (ℕ × ℕ) = all_pairs h window c.args.items.now in
-    let lists = map (λ (v : Vec (ℕ × ℕ) Global). v.items) c.in_ok-seat.lists.items in
-    let perm : IsPermutation (flat_map (λ (l : List (ℕ × ℕ)). l) lists) c.in_ok-kept.kept.items = subst (λ l. IsPermutation l c.in_ok-kept.kept.items) (sym (flat_of_map (λ (l : List (ℕ × ℕ)). l) (λ (v : Vec (ℕ × ℕ) Global). v.items) c.in_ok-seat.lists.items)) c.in_ok-kept.ensures.same in
+    let lists = map (λ (v : Vec (ℕ × ℕ) Global). v.items) c.in_ok-seat-2.lists.items in
+    let perm : IsPermutation (flat_map (λ (l : List (ℕ × ℕ)). l) lists) c.in_ok-kept.kept.items = subst (λ l. IsPermutation l c.in_ok-kept.kept.items) (sym (flat_of_map (λ (l : List (ℕ × ℕ)). l) (λ (v : Vec (ℕ × ℕ) Global). v.items) c.in_ok-seat-2.lists.items)) c.in_ok-kept.ensures.same in
     subst (All (λ q. in_set h window q.1 ≡ true)) (sym c.as_slice.ensures.value)
-    (all_from_in (λ q. in_set h window q.1 ≡ true) c.in_ok-kept.kept.items (λ q i. all_in_window h window c.args.items.now q (merged_from c.args.claims (place h window) ps c.args.seat c.in_ok-seat.seat lists c.in_ok-seat.ensures.ok c.in_ok-kept.kept.items perm q i)))
+    (all_from_in (λ q. in_set h window q.1 ≡ true) c.in_ok-kept.kept.items (λ q i. all_in_window h window c.args.items.now q (merged_from c.args.claims (place h window) ps c.args.seat c.in_ok-seat-2.seat lists c.in_ok-seat-2.ensures.ok c.in_ok-kept.kept.items perm q i)))
 
-pub returns-then-len-eq1-clause-offers : goal.returns-then-len-eq1-clause-offers
-returns-then-len-eq1-clause-offers g c =
+pub returns-then-workers-eq1-clause-offers : goal.returns-then-workers-eq1-clause-offers
+returns-then-workers-eq1-clause-offers g c =
     let s = c.args.scope.now in
-    adds c.args.claims (place_in s) (all_pairs_in s c.args.items.now) c.args.seat c.in_ok-seat.seat (map (λ (v : Vec (ℕ × ℕ) Global). v.items) c.in_ok-seat.lists.items) c.in_ok-seat.ensures.ok c.in_ok-seat.seat.hand.offers refl
-
-pub returns-then-len-eq1-clause-won : goal.returns-then-len-eq1-clause-won
-returns-then-len-eq1-clause-won g c =
-    let s = c.args.scope.now in
-    let ps : List (ℕ × ℕ) = all_pairs_in s c.args.items.now in
-    let won = c.in-Some.won in
-    let one = only_one c.in_ok-seat.lists.items c.pop.new.self.items won c.in-Some.ensures.items (omega (arith, c.if-len-eq1.true, c.len.ensures, c.in_ok-seat.lists.ok)) in
-    let list : map (λ (v : Vec (ℕ × ℕ) Global). v.items) c.in_ok-seat.lists.items ≡ won.items ∷ [] = ap (map (λ (v : Vec (ℕ × ℕ) Global). v.items)) one in
-    let offered = subst (HasOffered c.args.claims (place_in s) ps c.args.seat c.in_ok-seat.seat) list c.in_ok-seat.ensures.ok in
-    alone_won c.args.claims (place_in s) ps c.args.seat c.in_ok-seat.seat won.items offered c.requires.rise c.requires.above
+    adds c.args.claims (place_in s) (all_pairs_in s c.args.items.now) c.args.seat c.in_ok-seat.seat (c.in_ok-seat.won.items ∷ []) c.in_ok-seat.ensures.offered c.in_ok-seat.seat.hand.offers refl
 
 pub returns-clause-offers : goal.returns-clause-offers
 returns-clause-offers g c =
     let h = c.args.scope.now.heap.now in
     let window : List ℕ = c.args.scope.now.window.now in
-    adds c.args.claims (place h window) (all_pairs h window c.args.items.now) c.args.seat c.in_ok-seat.seat (map (λ (v : Vec (ℕ × ℕ) Global). v.items) c.in_ok-seat.lists.items) c.in_ok-seat.ensures.ok c.still_there.new.seat.hand.offers c.in_ok-won.ensures.seat.2
+    adds c.args.claims (place h window) (all_pairs h window c.args.items.now) c.args.seat c.in_ok-seat-2.seat (map (λ (v : Vec (ℕ × ℕ) Global). v.items) c.in_ok-seat-2.lists.items) c.in_ok-seat-2.ensures.ok c.still_there.new.seat.hand.offers c.in_ok-won.ensures.seat.2
 
 pub returns-clause-won : goal.returns-clause-won
 returns-clause-won g c =
     let h = c.args.scope.now.heap.now in
     let window : List ℕ = c.args.scope.now.window.now in
     let ps : List (ℕ × ℕ) = all_pairs h window c.args.items.now in
-    let lists = map (λ (v : Vec (ℕ × ℕ) Global). v.items) c.in_ok-seat.lists.items in
-    let perm : IsPermutation (flat_map (λ (l : List (ℕ × ℕ)). l) lists) c.in_ok-kept.kept.items = subst (λ l. IsPermutation l c.in_ok-kept.kept.items) (sym (flat_of_map (λ (l : List (ℕ × ℕ)). l) (λ (v : Vec (ℕ × ℕ) Global). v.items) c.in_ok-seat.lists.items)) c.in_ok-kept.ensures.same in
+    let lists = map (λ (v : Vec (ℕ × ℕ) Global). v.items) c.in_ok-seat-2.lists.items in
+    let perm : IsPermutation (flat_map (λ (l : List (ℕ × ℕ)). l) lists) c.in_ok-kept.kept.items = subst (λ l. IsPermutation l c.in_ok-kept.kept.items) (sym (flat_of_map (λ (l : List (ℕ × ℕ)). l) (λ (v : Vec (ℕ × ℕ) Global). v.items) c.in_ok-seat-2.lists.items)) c.in_ok-kept.ensures.same in
     c.in_ok-won.ensures.won
-    ∙ ap (winners (place h window) c.in_ok-seat.seat.hand.offers) c.as_slice.ensures.value
-    ∙ round_won c.args.claims (place h window) ps c.args.seat c.in_ok-seat.seat lists c.in_ok-seat.ensures.ok c.in_ok-kept.kept.items perm c.requires.rise c.requires.above c.in_ok-kept.ensures.in_order
+    ∙ ap (winners (place h window) c.in_ok-seat-2.seat.hand.offers) c.as_slice.ensures.value
+    ∙ round_won c.args.claims (place h window) ps c.args.seat c.in_ok-seat-2.seat lists c.in_ok-seat-2.ensures.ok c.in_ok-kept.kept.items perm c.requires.rise c.requires.above c.in_ok-kept.ensures.in_order
     ∙ ap (λ (os : List Offer). winners (place h window) os ps) (sym c.in_ok-won.ensures.seat.2)
