@@ -19,9 +19,15 @@ use Rattle.g1_image.specs.Text.{File, Entry, Version, file_text, table_words}
 use Rattle.g1_words.specs.Kind.{kind_of, kind_number}
 use Rattle.g1_image.specs.Image.{IsImage, CanTell, IsLog, IsUsedCard, IsRememberedSet, flags_of, all_words, used_words, heap_of, file_of, region_of_entry, entry_of}
 use Rattle.g1_image.specs.Faults.{FileFits, EntryFits, MayFail, entry, IsKnownKind, HasKnownFlags, TableKnown, IsFirstBreach, IsGoodLogged, LogGood, LogsGood, RememberedGood}
-use Rattle.g1_image.specs.Judged.{IsGoodHeap, HeapFault}
+use Rattle.g1_image.specs.Judged.{TableFault, IsGoodHeap, HeapFault}
 use Rattle.g1_image.specs.Draft.{IsDraft}
 use Rattle.g1_image.proofs.Words.{table_words-cons}
+
+-- the fault of a whole file's table is the bytes'
+pub table_fault : (bytes : List ℕ) (f : File) (e : Fault) → FileFits f → bytes ≡ file_text f → TableFault f.table f.n e → MayFail bytes e
+table_fault bytes f (fault.Kind r) fits text h = inr (f, fits, text, h)
+table_fault bytes f (fault.Flags r) fits text h = inr (f, fits, text, (h.0, h.1))
+table_fault bytes f _ fits text h = absurd h
 
 -- the fault of a whole file is the bytes'
 pub heap_fault : (bytes : List ℕ) (f : File) (e : Fault) → FileFits f → bytes ≡ file_text f → TableKnown f → HeapFault (heap_of f) e → MayFail bytes e

@@ -1,13 +1,14 @@
 -- A file that is read part by part.
-use Rattle.std.proofs.Common.{◌≡◌, ◌≤◌, ◌<◌, ℕ, suc, ◌*◌, inl, inr, List, [], ◌∷◌, ◌++◌, length, drop, arith, refl, sym, ap, subst, ◌∙◌, append_assoc, length-drop}
+use Rattle.std.proofs.Common.{◌≡◌, ◌≤◌, ◌<◌, ℕ, suc, ◌-◌, ◌*◌, inl, inr, List, [], ◌∷◌, ◌++◌, length, drop, arith, refl, sym, ap, subst, ◌∙◌, append_assoc, length-append, length-drop}
 use Rattle.std.proofs.lemmas.List.{append-nil, drop_all}
+use Rattle.std.proofs.Math.Seq.{drop-append_seam}
 use Rattle.g1_words.specs.declared.fault.Fault.{Fault}
 use Rattle.g1_words.specs.declared.fault.Fault.TheVariants as fault
 use Rattle.g1_image.specs.declared.cursor.Heading.{Heading}
 use Rattle.g1_image.specs.Text.{File, Entry, Version, magic, heading_text, heading_of, body_text, file_text, table_text, words_text, numbers_text, remembered_texts, entry_text, remembered_text, u32, u64, words_of, table_words}
 use Rattle.g1_image.specs.Reading.{Are, IsU32, IsU64, IsBytes, EndsWithin, FailsIf}
 use Rattle.g1_image.specs.Faults.{HeadingFits, IsGoodHeading, EntryFits, RememberedFits, FileFits, FaultOf, MayFail}
-use Rattle.g1_image.specs.Plain.{plain_file, PlainIs}
+use Rattle.g1_image.specs.Plain.{plain_file, PlainIs, FrontFits, front_text}
 use Rattle.g1_image.proofs.Numbers.{u32_once, u64_once}
 use Rattle.g1_image.proofs.PrefixFree.{IsPrefixFree, Are-free}
 use Rattle.g1_image.proofs.Parts.{magic_free, entry_free, set_free, heading_free}
@@ -143,11 +144,6 @@ module _ (bytes rest : List ℕ) (v : Version) (h : Heading) (hf : HeadingFits h
             words = words_of-are (table_words table) r4 b;
           }
 
-          words_are_bytes : IsBytes bytes → IsBytes r4
-          words_are_bytes b =
-              suffix r3 (remembered_texts remembered) r4 es (suffix r2 (numbers_text log) r3 el (suffix r1 (words_text roots) r2 er (suffix rest (table_text v table) r1 et
-              (suffix (heading_text h ++ rest) (heading_text h) rest refl (suffix bytes (magic v) (heading_text h ++ rest) e b)))))
-
           module _ (b : IsBytes r4) (le : 8 * table_words table ≤ length r4) where
             text : bytes ≡ file_text (plain_file v h table roots log remembered r4) ++ drop (8 * table_words table) r4
             text =
@@ -174,11 +170,45 @@ module _ (bytes rest : List ℕ) (v : Version) (h : Heading) (hf : HeadingFits h
                   are_bytes = b;
                 }
 
-          pub parts_read : IsBytes bytes → PartsRead bytes v h table roots log remembered r4
-          parts_read b =
-              let left : IsBytes r4 = words_are_bytes b in
+          pub parts_read : IsBytes r4 → PartsRead bytes v h table roots log remembered r4
+          parts_read left =
               record {
                 short = short_words;
                 trailing = λ more. trailing left (omega (arith, more)) more;
                 whole = λ all. plain_is left (omega (arith, all)) all;
               }
+
+-- a front, and the bytes behind it
+pub front_read : (v : Version) (h : Heading) (table : List Entry) (roots log : List ℕ) (remembered : List (List ℕ)) (left : List ℕ) → FrontFits v h table roots log remembered → IsBytes left →
+    PartsRead (front_text v h table roots log remembered left) v h table roots log remembered left
+front_read v h table roots log remembered left f b =
+    parts_read (front_text v h table roots log remembered left) _ v h f.heading f.good refl table _ f.entries refl roots _ f.root_words refl log _ f.logged refl remembered left f.sets refl b
+
+-- the front, and then the bytes behind it
+pub front_text-flat : (v : Version) (h : Heading) (table : List Entry) (roots log : List ℕ) (remembered : List (List ℕ)) (left : List ℕ) →
+    front_text v h table roots log remembered left ≡ front_text v h table roots log remembered [] ++ left
+front_text-flat v h table roots log remembered left = simp (append_assoc, append-nil)
+
+-- what follows a front, by how many bytes it has
+pub front_dropped : (v : Version) (h : Heading) (table : List Entry) (roots log : List ℕ) (remembered : List (List ℕ)) (left bytes : List ℕ) → bytes ≡ front_text v h table roots log remembered left → left ≡ drop (length bytes - length left) bytes
+front_dropped v h table roots log remembered left bytes e =
+    let front : List ℕ = front_text v h table roots log remembered [] in
+    let same : bytes ≡ front_text v h table roots log remembered [] ++ left = e ∙ front_text-flat v h table roots log remembered left in
+    let size : length bytes - length left ≡ length (front_text v h table roots log remembered []) = omega (arith, ap length same, length-append front left) in
+    sym (ap (λ k. drop k bytes) size ∙ ap (drop (length front)) same ∙ drop-append_seam front left)
+
+-- what follows a front in bytes is bytes
+pub front_suffix : (v : Version) (h : Heading) (table : List Entry) (roots log : List ℕ) (remembered : List (List ℕ)) (left bytes : List ℕ) → bytes ≡ front_text v h table roots log remembered left → IsBytes bytes → IsBytes left
+front_suffix v h table roots log remembered left bytes e b =
+    suffix bytes (front_text v h table roots log remembered []) left (e ∙ front_text-flat v h table roots log remembered left) b
+
+-- a front with too few bytes behind it
+pub front_short : (v : Version) (h : Heading) (table : List Entry) (roots log : List ℕ) (remembered : List (List ℕ)) (left : List ℕ) → FrontFits v h table roots log remembered → length left < 8 * table_words table →
+    FaultOf (front_text v h table roots log remembered left) fault.Short
+front_short v h table roots log remembered left f lt =
+    short_words (front_text v h table roots log remembered left) _ v h f.heading f.good refl table _ f.entries refl roots _ f.root_words refl log _ f.logged refl remembered left f.sets refl lt
+
+-- a whole file with bytes behind it
+pub plain_trailing : (bytes : List ℕ) (v : Version) (h : Heading) (table : List Entry) (roots log : List ℕ) (remembered : List (List ℕ)) (left more : List ℕ) → PlainIs bytes v h table roots log remembered left → 0 < length more →
+    FaultOf (bytes ++ more) fault.Trailing
+plain_trailing bytes v h table roots log remembered left more p lt = (plain_file v h table roots log remembered left, more, p.fits, ap (λ l. l ++ more) p.text, lt)

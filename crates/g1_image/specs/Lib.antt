@@ -3,6 +3,7 @@ pub mod Reading
 pub mod Image
 pub mod Faults
 pub mod Plain
+pub mod Front
 pub mod Draft
 pub mod Marks
 pub mod Bits

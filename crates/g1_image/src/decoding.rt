@@ -1,16 +1,16 @@
-ghost use Rattle.std.specs.Prelude.{◌≡◌, ◌≤◌, ◌<◌, ◌+◌, ◌*◌, ◌^◌, ◌⊎◌, ℕ, List, [], map, All, length, OnOk, IfOk, IfErr};
-ghost use Rattle.g1_image.specs.Image.{IsTextOf, heap_of};
+ghost use Rattle.std.specs.Prelude.{◌≡◌, ◌≤◌, ◌<◌, ◌+◌, ◌*◌, ◌^◌, ◌⊎◌, ℕ, List, map, All, length, OnOk, IfOk, IfErr};
+ghost use Rattle.g1_image.specs.Image.{IsTextOf};
 ghost use Rattle.g1_image.specs.Faults.{MayFail, IsGoodHeading, AreKnown};
-ghost use Rattle.g1_image.specs.Text.{table_words};
-ghost use Rattle.g1_image.specs.Plain.{plain_file};
+ghost use Rattle.g1_image.specs.Plain.{heap_with};
+ghost use Rattle.g1_image.specs.Front.{IsLaid};
 ghost use Rattle.g1_image.specs.Judged.{TableFault, IsGoodHeap, HeapFault};
 
 use crate::cards::{check_log, check_remembered};
-use crate::cursor::{Entry, Heading, Version};
+use crate::cursor::{Entry, Heading};
 use crate::draft::Draft;
 use crate::image::Image;
 use crate::laying::lay_words;
-use crate::plain::{Plain, whole};
+use crate::plain::{Front, whole};
 use crate::refs::{check_roots, check_slots, starts};
 use crate::shape::check_shapes;
 use crate::table::{check_flags, regions};
@@ -35,19 +35,19 @@ fn draft_heap(
     h: &Heading,
     table: &[Entry],
     roots: Vec<u64>,
-    words: &[u8],
+    words: Vec<u64>,
 ) -> Result<Draft, Fault>
     requires good { IsGoodHeading h.now }
     requires table { length table.now ≡ h.now.n }
     requires roots { length roots.items ≡ h.now.roots }
-    requires whole { length words.now ≡ 8 * table_words table.now }
-    ensures ok { IfOk result (λ d. d ≡ heap_of (plain_file Version.Two h.now table.now roots.items [] [] words.now)) }
+    requires words { length words.items ≡ h.now.n * h.now.w }
+    requires fit { All (λ x. x < 2 ^ 64) words.items }
+    ensures ok { IfOk result (λ d. d ≡ heap_with h.now table.now roots.items words.items) }
     ensures known { OnOk result (AreKnown table.now h.now.n) }
     ensures err { IfErr result (λ e. (e ≡ Fault.Memory) ⊎ TableFault table.now h.now.n e) }
 {
     let regions = regions(alloc, table)?;
     check_flags(table)?;
-    let words = lay_words(alloc, h.w, table, words)?;
     let geometry = Geometry::new(u64::from(h.w), u64::from(h.k), u64::from(h.n))?;
     let current = if h.current < h.n {
         Some(h.current)
@@ -63,21 +63,20 @@ fn draft_heap(
     })
 }
 
-/// The image whose text the bytes are, or the fault of the first stage that finds one.
-pub fn decode(alloc: Global, bytes: &[u8]) -> Result<Image, Fault>
-    ensures ok { IfOk result (λ i. IsTextOf bytes.now i) }
-    ensures err { IfErr result (MayFail bytes.now) }
+/// The image of a whole file's front and words.
+pub(crate) fn judged(alloc: Global, front: Front, words: Vec<u64>) -> Result<Image, Fault>
+    requires { (bytes : List ℕ) × IsLaid bytes front words.items }
+    ensures ok { IfOk result (λ i. (bytes : List ℕ) → IsLaid bytes front words.items → IsTextOf bytes i) }
+    ensures err { IfErr result (λ e. (bytes : List ℕ) → IsLaid bytes front words.items → MayFail bytes e) }
 {
-    let plain = whole(alloc, bytes)?;
-    let Plain {
+    let Front {
         version: _,
         heading,
         table,
         roots,
         log: cards,
         remembered,
-        words,
-    } = plain;
+    } = front;
     let draft = draft_heap(alloc, &heading, &table, roots, words)?;
     check_heap(alloc, &draft)?;
     let log = check_log(alloc, &draft, &cards)?;
@@ -94,4 +93,14 @@ pub fn decode(alloc: Global, bytes: &[u8]) -> Result<Image, Fault>
         remembered,
         log,
     })
+}
+
+/// The image whose text the bytes are, or the fault of the first stage that finds one.
+pub fn decode(alloc: Global, bytes: &[u8]) -> Result<Image, Fault>
+    ensures ok { IfOk result (λ i. IsTextOf bytes.now i) }
+    ensures err { IfErr result (MayFail bytes.now) }
+{
+    let (front, words) = whole(alloc, bytes)?;
+    let words = lay_words(alloc, front.heading.w, &front.table, words)?;
+    judged(alloc, front, words)
 }

@@ -1,12 +1,10 @@
-use Rattle.std.proofs.Common.{inl, inr, arith, ℕ, ◌≡◌, ◌<◌, ◌*◌, ◌^◌, length, slice_index, sym, ap, subst, ◌∙◌}
+use Rattle.std.proofs.Common.{inl, inr, arith, ℕ, ◌≡◌, ◌<◌, ◌*◌, length, sym, ap, subst, ◌∙◌}
 use Rattle.std.proofs.lemmas.List.{length-map}
 use Rattle.std.proofs.lemmas.Result.{err_from_is_err_and}
-use Rattle.std.proofs.lemmas.Grind.{get_or_default_zero}
 use Rattle.std.specs.Prelude.{IfSome}
 use Rattle.g1_words.specs.Geometry.{IsWithinLimits}
 use Rattle.g1_image.specs.Image.{region_of_entry}
 use Rattle.g1_image.specs.Faults.{IsFirstBreach, IsKnownKind, HasKnownFlags}
-use Rattle.g1_image.proofs.Drafts.{length-laid, bounded_laid}
 use Rattle.g1_image.proofs.decoding.draft_heap.Goals as goal
 use Rattle.g1_image.proofs.decoding.draft_heap.Goals.{then-h, else-h}
 
@@ -20,8 +18,8 @@ invariant_of-result c =
     let limits : IsWithinLimits g.w g.k g.n = subst (λ x. IsWithinLimits x g.k g.n) (sym gw) (subst (λ x. IsWithinLimits h.w x g.n) (sym gk) (subst (λ x. IsWithinLimits h.w h.k x) (sym gn) c.requires.good.sizes)) in
     record {
       limits = limits;
-      word_count = ap length c.in_ok-words.ensures ∙ length-laid h.w c.args.table.now c.args.words.now ∙ (λ t. (c.requires.table ∙ sym gn) t * sym gw t);
-      word_fits = λ i d lt. rw (get_or_default_zero c.in_ok-words.words.items i d lt) (subst (λ l. slice_index l i < 2 ^ 64) (sym c.in_ok-words.ensures) (bounded_laid h.w c.args.table.now c.args.words.now (λ k. omega (arith, c.type_inv.words k)) i));
+      word_count = c.requires.words ∙ (λ t. sym gn t * sym gw t);
+      word_fits = c.requires.fit;
       region_count = ap length c.in_ok-regions.ensures.ok.0 ∙ length-map c.args.table.now region_of_entry ∙ c.requires.table ∙ sym gn;
       root_count = omega (arith, c.requires.roots, c.requires.good.roots);
       current_in = elim c.if-h.branch [

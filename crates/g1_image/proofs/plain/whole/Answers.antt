@@ -1,79 +1,36 @@
-use Rattle.std.proofs.Common.{◌≡◌, ◌++◌, map, arith, sym, ap, subst, ◌∙◌, inr}
-use Rattle.std.proofs.lemmas.Result.{err_from_is_err_and}
-use Rattle.g1_image.specs.Text.{magic, heading_text, table_text, words_text, numbers_text, remembered_texts, table_words}
-use Rattle.g1_image.specs.Reading.{Are, IsU32, IsU64, IsBytes, EndsWithin}
-use Rattle.g1_image.specs.Faults.{EntryFits, RememberedFits, FaultOf}
-use Rattle.g1_image.proofs.Files.{PartsRead, fails, short_table, short_roots, short_log, short_remembered, parts_read}
+use Rattle.std.proofs.Common.{◌≡◌, map, arith, sym, ap, subst, ◌∙◌, inr}
+use Rattle.g1_image.specs.Text.{table_words}
+use Rattle.g1_image.specs.Reading.{IsBytes}
+use Rattle.g1_image.proofs.Files.{PartsRead, front_read, front_suffix}
 use Rattle.g1_image.proofs.plain.whole.Goals as goal
-use Rattle.g1_image.proofs.plain.whole.Goals.{After-rest, After-table_words-needed}
-
--- the bytes are the magic, the heading and the rest
-opened : (c : After-rest) → c.args.bytes.now ≡ magic c.in_ok-heading.version ++ (heading_text c.in_ok-heading.heading ++ c.rest.result.now)
-opened c = sym c.new-cursor.ensures ∙ c.in_ok-heading.ensures.ok.2 ∙ ap (λ l. magic c.in_ok-heading.version ++ (heading_text c.in_ok-heading.heading ++ l)) (sym c.rest.ensures)
-
-pub returns-in_err-heading-clause-err : goal.returns-in_err-heading-clause-err
-returns-in_err-heading-clause-err c =
-    let left = err_from_is_err_and c.from_residual.result c.from_residual.ensures.1 in
-    rw (left.1, left.2) (inr (subst (λ b. FaultOf b c.in_err-heading.field-0.0) c.new-cursor.ensures c.in_err-heading.ensures.err))
-
-pub returns-in_err-table-clause-err : goal.returns-in_err-table-clause-err
-returns-in_err-table-clause-err c =
-    let h = c.in_ok-heading.heading in
-    let left = err_from_is_err_and c.from_residual-in_err-table.result c.from_residual-in_err-table.ensures.1 in
-    rw (left.1, left.2) (fails c.args.bytes.now c.in_err-table.field-0.0 (EndsWithin (Are (EntryFits c.in_ok-heading.version) h.n) (table_text c.in_ok-heading.version) c.rest.result.now) c.in_err-table.ensures
-    (short_table c.args.bytes.now c.rest.result.now c.in_ok-heading.version h c.in_ok-heading.ensures.ok.0 c.in_ok-heading.ensures.ok.1 (opened (goal.at.returns-in_err-table-clause-err c).After-rest)))
-
-pub returns-in_err-roots-clause-err : goal.returns-in_err-roots-clause-err
-returns-in_err-roots-clause-err c =
-    let h = c.in_ok-heading.heading in
-    let left = err_from_is_err_and c.from_residual-in_err-roots.result c.from_residual-in_err-roots.ensures.1 in
-    rw (left.1, left.2) (fails c.args.bytes.now c.in_err-roots.field-0.0 (EndsWithin (Are IsU64 h.roots) words_text c.in_ok-table.after_table.now) c.in_err-roots.ensures
-    (short_roots c.args.bytes.now c.rest.result.now c.in_ok-heading.version h c.in_ok-heading.ensures.ok.0 c.in_ok-heading.ensures.ok.1 (opened (goal.at.returns-in_err-roots-clause-err c).After-rest)
-    c.in_ok-table.table.items c.in_ok-table.after_table.now c.in_ok-table.ensures.0 c.in_ok-table.ensures.1))
-
-pub returns-in_err-log-clause-err : goal.returns-in_err-log-clause-err
-returns-in_err-log-clause-err c =
-    let h = c.in_ok-heading.heading in
-    let left = err_from_is_err_and c.from_residual-in_err-log.result c.from_residual-in_err-log.ensures.1 in
-    rw (left.1, left.2) (fails c.args.bytes.now c.in_err-log.field-0.0 (EndsWithin (Are IsU32 h.dirty) numbers_text c.in_ok-roots.after_roots.now) c.in_err-log.ensures
-    (short_log c.args.bytes.now c.rest.result.now c.in_ok-heading.version h c.in_ok-heading.ensures.ok.0 c.in_ok-heading.ensures.ok.1 (opened (goal.at.returns-in_err-log-clause-err c).After-rest)
-    c.in_ok-table.table.items c.in_ok-table.after_table.now c.in_ok-table.ensures.0 c.in_ok-table.ensures.1
-    c.in_ok-roots.roots.items c.in_ok-roots.after_roots.now c.in_ok-roots.ensures.0 c.in_ok-roots.ensures.1))
-
-pub returns-in_err-remembered-clause-err : goal.returns-in_err-remembered-clause-err
-returns-in_err-remembered-clause-err c =
-    let h = c.in_ok-heading.heading in
-    let left = err_from_is_err_and c.from_residual-in_err-remembered.result c.from_residual-in_err-remembered.ensures.1 in
-    rw (left.1, left.2) (fails c.args.bytes.now c.in_err-remembered.field-0.0 (EndsWithin (Are RememberedFits h.n) remembered_texts c.in_ok-log.after_log.now) c.in_err-remembered.ensures
-    (short_remembered c.args.bytes.now c.rest.result.now c.in_ok-heading.version h c.in_ok-heading.ensures.ok.0 c.in_ok-heading.ensures.ok.1 (opened (goal.at.returns-in_err-remembered-clause-err c).After-rest)
-    c.in_ok-table.table.items c.in_ok-table.after_table.now c.in_ok-table.ensures.0 c.in_ok-table.ensures.1
-    c.in_ok-roots.roots.items c.in_ok-roots.after_roots.now c.in_ok-roots.ensures.0 c.in_ok-roots.ensures.1
-    c.in_ok-log.log.items c.in_ok-log.after_log.now c.in_ok-log.ensures.0 c.in_ok-log.ensures.1))
+use Rattle.g1_image.proofs.plain.whole.Goals.{After-table_words-needed}
 
 -- what the words that are left make of the bytes
-read : (c : After-table_words-needed) → c.args.bytes.now ≡ magic c.in_ok-heading.version ++ (heading_text c.in_ok-heading.heading ++ c.rest.result.now) → IsBytes c.args.bytes.now →
-    PartsRead c.args.bytes.now c.in_ok-heading.version c.in_ok-heading.heading c.in_ok-table.table.items c.in_ok-roots.roots.items c.in_ok-log.log.items (map (λ s. s.items) c.in_ok-remembered.remembered.items) c.in_ok-remembered.words.now
-read c text b =
-    parts_read c.args.bytes.now c.rest.result.now c.in_ok-heading.version c.in_ok-heading.heading c.in_ok-heading.ensures.ok.0 c.in_ok-heading.ensures.ok.1 text
-    c.in_ok-table.table.items c.in_ok-table.after_table.now c.in_ok-table.ensures.0 c.in_ok-table.ensures.1
-    c.in_ok-roots.roots.items c.in_ok-roots.after_roots.now c.in_ok-roots.ensures.0 c.in_ok-roots.ensures.1
-    c.in_ok-log.log.items c.in_ok-log.after_log.now c.in_ok-log.ensures.0 c.in_ok-log.ensures.1
-    (map (λ s. s.items) c.in_ok-remembered.remembered.items) c.in_ok-remembered.words.now c.in_ok-remembered.ensures.0 c.in_ok-remembered.ensures.1 b
+read : (c : After-table_words-needed) → IsBytes c.args.bytes.now →
+    PartsRead c.args.bytes.now c.in_ok-front.front.version c.in_ok-front.front.heading c.in_ok-front.front.table.items c.in_ok-front.front.roots.items c.in_ok-front.front.log.items (map (λ s. s.items) c.in_ok-front.front.remembered.items) c.in_ok-front.words.now
+read c b =
+    let f = c.in_ok-front.front in
+    let sets = map (λ s. s.items) f.remembered.items in
+    let is = c.in_ok-front.ensures.ok in
+    let left = c.in_ok-front.words.now in
+    subst (λ x. PartsRead x f.version f.heading f.table.items f.roots.items f.log.items sets left) (sym is.1)
+    (front_read f.version f.heading f.table.items f.roots.items f.log.items sets left is.0
+    (front_suffix f.version f.heading f.table.items f.roots.items f.log.items sets left c.args.bytes.now is.1 b))
 
-needed : (c : After-table_words-needed) → c.table_words-needed.result ≡ table_words c.in_ok-table.table.items
+needed : (c : After-table_words-needed) → c.table_words-needed.result ≡ table_words c.in_ok-front.front.table.items
 needed c = c.table_words-needed.ensures.value ∙ ap (λ l. table_words l) c.deref.ensures.value
 
 pub returns-then-words-needed-clause-err : goal.returns-then-words-needed-clause-err
 returns-then-words-needed-clause-err c =
-    let at = goal.at.returns-then-words-needed-clause-err c in
-    inr ((read at.After-table_words-needed (opened at.After-rest) (λ i. omega (arith, c.type_inv.bytes i))).short (omega (arith, needed at.After-table_words-needed, c.if-words-needed.true)))
+    let at = (goal.at.returns-then-words-needed-clause-err c).After-table_words-needed in
+    inr ((read at (λ i. omega (arith, c.type_inv.bytes i))).short (omega (arith, needed at, c.if-words-needed.true)))
 
 pub returns-then-words-needed-2-clause-err : goal.returns-then-words-needed-2-clause-err
 returns-then-words-needed-2-clause-err c =
-    let at = goal.at.returns-then-words-needed-2-clause-err c in
-    inr ((read at.After-table_words-needed (opened at.After-rest) (λ i. omega (arith, c.type_inv.bytes i))).trailing (omega (arith, needed at.After-table_words-needed, c.if-words-needed-2.true)))
+    let at = (goal.at.returns-then-words-needed-2-clause-err c).After-table_words-needed in
+    inr ((read at (λ i. omega (arith, c.type_inv.bytes i))).trailing (omega (arith, needed at, c.if-words-needed-2.true)))
 
 pub returns-clause-ok : goal.returns-clause-ok
 returns-clause-ok c =
-    let at = goal.at.returns-clause-ok c in
-    (read at.After-table_words-needed (opened at.After-rest) (λ i. omega (arith, c.type_inv.bytes i))).whole (omega (arith, needed at.After-table_words-needed, c.if-words-needed.false, c.if-words-needed-2.false))
+    let at = (goal.at.returns-clause-ok c).After-table_words-needed in
+    (read at (λ i. omega (arith, c.type_inv.bytes i))).whole (omega (arith, needed at, c.if-words-needed.false, c.if-words-needed-2.false))
