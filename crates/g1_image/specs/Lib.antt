@@ -11,3 +11,4 @@ pub mod Judged
 pub mod Cards
 pub mod Laws
 pub mod Verdict
+pub mod Source

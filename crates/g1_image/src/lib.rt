@@ -19,9 +19,11 @@ mod plain;
 mod reading;
 mod refs;
 mod shape;
+mod source;
 mod table;
 mod writing;
 
 pub use decoding::decode;
 pub use encoding::{encode, encode_into};
 pub use image::Image;
+pub use source::Source;

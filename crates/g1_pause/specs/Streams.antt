@@ -7,22 +7,7 @@ use Rattle.g1_words.specs.declared.fault.Device.TheVariants.{Input, Output}
 use Rattle.g1_choose.specs.declared.parameters.Cost.{Cost}
 use Rattle.g1_pause.specs.declared.settings.Choice.{Choice}
 use Rattle.g1_pause.specs.Answer.{IsAnswer}
-
--- the mark after a call: an error makes it true, any other answer leaves it as it was
-abbrev pub marked : {X : Type 0} → Bool → Result X Fault → Bool
-marked mark (Ok x) = mark
-marked mark (Err e) = true
-
--- a read to the end fails for want of memory, the mark as before, or by a call that failed; the marks are those before and after
-abbrev pub ReadFails : Bool → Bool → Fault → Type 0
-ReadFails old new Memory = new ≡ old
-ReadFails old new (Device Input) = new ≡ true
-ReadFails _ _ _ = ⊥
-
--- the source's mark after a run: a run that tells of the input has marked it, any other leaves it as it was
-abbrev pub input_mark : {X : Type 0} → Bool → Result X Fault → Bool
-input_mark mark (Err (Device Input)) = true
-input_mark mark _ = mark
+pub use Rattle.g1_image.specs.Source.{marked, ReadFails, input_mark}
 
 -- the sink's mark after a run: a run that tells of the output has marked it, any other leaves it as it was
 abbrev pub output_mark : {X : Type 0} → Bool → Result X Fault → Bool

@@ -1,31 +1,11 @@
 //! Sources and sinks of bytes, each with a mark that says whether a call of it has failed.
 ghost use Rattle.std.specs.Prelude.{◌≡◌, ℕ, ◌<◌, ◌≤◌, Bool, List, Option, IfOk, IfErr, IfSome, OnOk, MatchResult, length, take};
-ghost use Rattle.std.specs.Io.KnownBytes.{ReadConsumes, WriteAppends, IsAtEnd, Appends};
+ghost use Rattle.std.specs.Io.KnownBytes.{WriteAppends, IsAtEnd, Appends};
 ghost use Rattle.g1_pause.specs.Streams.{marked, ReadFails};
 
+pub use g1_image::Source;
 use g1_words::{Device, Fault};
 use std::alloc::Global;
-
-/// Where the bytes of an image come from.
-pub trait Source {
-    // The bytes that are left, where the source tells them.
-    ghost left: { Self → Option (List ℕ) };
-
-    // Whether a call has failed so far.
-    ghost failed: { Self → Bool };
-
-    /// Reads into the front of `buf`, and gives how many bytes it read: none, into a buffer that
-    /// isn't empty, only where none are left.
-    ///
-    /// # Errors
-    ///
-    /// `Fault::Device(Device::Input)` where the read failed; no byte is lost then.
-    fn read(&mut self, buf: &mut [u8]) -> Result<usize, Fault>
-        ensures bound { IfOk result (λ n. n ≤ length buf.new) }
-        ensures bytes { ReadConsumes (left self.old) (left self.new) result buf.new }
-        ensures mark { failed self.new ≡ marked (failed self.old) result }
-        ensures fault { IfErr result (λ e. e ≡ Fault.Device Device.Input) };
-}
 
 /// Where the bytes of an image go.
 pub trait Sink {
