@@ -29,3 +29,6 @@ pub mod ToldTexts
 pub mod ToldFiles
 pub mod AlwaysOne
 pub mod Covers
+pub mod Taken
+pub mod Laid
+pub mod Told

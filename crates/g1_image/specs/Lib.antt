@@ -12,3 +12,4 @@ pub mod Cards
 pub mod Laws
 pub mod Verdict
 pub mod Source
+pub mod Ahead

@@ -7,7 +7,7 @@ use byteorder::{ByteOrder, LittleEndian};
 use std::alloc::{AllocError, Global};
 
 /// Writes the first words of the bytes at the end.
-fn push_read(out: &mut Vec<u64>, count: u32, bytes: &[u8]) -> Result<(), AllocError>
+pub(crate) fn push_read(out: &mut Vec<u64>, count: u32, bytes: &[u8]) -> Result<(), AllocError>
     requires { 8 * count ≤ length bytes.now }
     ensures { OnOk result (out.new.items ≡ out.old.items ++ words_of count bytes.now) }
 {
@@ -19,7 +19,7 @@ fn push_read(out: &mut Vec<u64>, count: u32, bytes: &[u8]) -> Result<(), AllocEr
 }
 
 /// Writes zeros at the end.
-fn push_zeros(out: &mut Vec<u64>, count: u32) -> Result<(), AllocError>
+pub(crate) fn push_zeros(out: &mut Vec<u64>, count: u32) -> Result<(), AllocError>
     ensures { OnOk result (out.new.items ≡ out.old.items ++ replicate count 0) }
 {
     let filled = out.len() + count as usize;

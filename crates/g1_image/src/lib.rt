@@ -3,9 +3,13 @@
 //! An image is a heap with each region's remembered set and the dirty log. Its text is the magic, a
 //! heading of six numbers, the region table, the roots, the log, the remembered sets and the used
 //! words. `decode` reads forward once: the parts, then the regions' kinds and shapes, the references
-//! and the cards, and tells the fault of the first of these stages that finds one.
+//! and the cards, and tells the fault of the first of these stages that finds one. `read` does so with
+//! the bytes that a source gives piece by piece: what stands before the words is looked for in twice as
+//! many bytes until it is there whole, the words go straight to their places, and the source is read to
+//! its end whatever the fault.
 #![tactic(auto)]
 
+mod ahead;
 mod cards;
 mod cursor;
 mod decoding;
@@ -15,11 +19,13 @@ mod image;
 pub mod laws;
 mod laying;
 mod marks;
+mod pieces;
 mod plain;
 mod reading;
 mod refs;
 mod shape;
 mod source;
+mod streaming;
 mod table;
 mod writing;
 
@@ -27,3 +33,4 @@ pub use decoding::decode;
 pub use encoding::{encode, encode_into};
 pub use image::Image;
 pub use source::Source;
+pub use streaming::read;

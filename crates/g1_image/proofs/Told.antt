@@ -1,0 +1,127 @@
+-- A text that is read from a source: what its front and its words make of all of it.
+use Rattle.std.proofs.Common.{◌≡◌, ◌<◌, inl, inr, ℕ, ◌*◌, Bool, List, [], ◌∷◌, ◌++◌, Option, Some, None, length, drop, arith, sym, ap, subst, ◌∙◌, append_assoc, append-nil, length-append}
+use Rattle.std.specs.Prelude.{IfSome, IfErr, Result, Ok, Err}
+use Rattle.std.proofs.lemmas.List.{get_or_append_left}
+use Rattle.std.specs.Io.KnownBytes.{Keeps, Consumes, IsAtEnd, prepend_known}
+use Rattle.std.proofs.KnownBytes.{prepend_known-nil, prepend_known-read}
+use Rattle.g1_words.specs.declared.fault.Fault.{Fault}
+use Rattle.g1_words.specs.declared.fault.Fault.TheVariants as fault
+use Rattle.g1_words.specs.declared.fault.Device.TheVariants as device
+use Rattle.g1_image.specs.declared.cursor.Heading.{Heading}
+use Rattle.g1_image.specs.Text.{Entry, Version, magic, heading_text, table_words}
+use Rattle.g1_image.specs.Reading.{IsBytes}
+use Rattle.g1_image.specs.Faults.{FaultOf, MayFail}
+use Rattle.g1_image.specs.Plain.{PlainIs, FrontFits, front_text}
+use Rattle.g1_image.specs.Source.{input_mark}
+use Rattle.g1_image.specs.Ahead.{TakeFails, TextFails}
+use Rattle.g1_image.proofs.Files.{front_read, front_text-flat, front_short, plain_trailing}
+
+-- a wrong magic is wrong whatever follows
+pub magic_stays : (bytes more : List ℕ) → FaultOf bytes fault.Magic → FaultOf (bytes ++ more) fault.Magic
+magic_stays bytes more h = λ v.
+    let x = h v in
+    (x.0, x.1, omega (arith, x.2, length-append bytes more), λ e. x.3 (sym (get_or_append_left bytes more 0 x.0 x.2) ∙ e))
+
+-- a wrong heading too
+pub geometry_stays : (bytes more : List ℕ) → FaultOf bytes fault.Geometry → FaultOf (bytes ++ more) fault.Geometry
+geometry_stays bytes more x =
+    (x.0, x.1, x.2 ++ more, x.3, ap (λ l. l ++ more) x.4 ∙ append_assoc (magic x.0) (heading_text x.1 ++ x.2) more ∙ ap (λ l. magic x.0 ++ l) (append_assoc (heading_text x.1) x.2 more), x.5)
+
+-- what is known of all bytes, by those that wait and those that are left
+pub of_waiting : (a l : Option (List ℕ)) (w : List ℕ) (P : List ℕ → Type 0) → Keeps a (prepend_known w l) → IfSome l (λ ys. P (w ++ ys)) → IfSome a P
+of_waiting None l w P kept h = tt
+of_waiting (Some x) None w P kept h = absurd kept
+of_waiting (Some x) (Some y) w P kept h = subst P kept h
+
+-- at the end the bytes that wait are all
+pub at_end : (l : Option (List ℕ)) (w : List ℕ) (P : List ℕ → Type 0) → IsAtEnd l → P w → IfSome l (λ ys. P (w ++ ys))
+at_end None w P end h = tt
+at_end (Some y) w P end h = subst P (sym (append-nil w) ∙ ap (λ l. w ++ l) (sym end)) h
+
+pub whatever_follows : (l : Option (List ℕ)) (w : List ℕ) (P : List ℕ → Type 0) → ((ys : List ℕ) → P (w ++ ys)) → IfSome l (λ ys. P (w ++ ys))
+whatever_follows None w P h = tt
+whatever_follows (Some y) w P h = h y
+
+-- the fault of the bytes that wait is that of all
+pub text_fault : (m n : Bool) (a l : Option (List ℕ)) (w : List ℕ) (e : Fault) → n ≡ m → Keeps a (prepend_known w l) → FaultOf w e → IfSome l (λ ys. FaultOf (w ++ ys) e) → TextFails m n a e
+text_fault m n a l w fault.Memory same kept f h = same
+text_fault m n a l w (fault.Device device.Input) same kept f h = absurd f.3
+text_fault m n a l w e same kept f h = (same, of_waiting a l w (λ xs. FaultOf xs e) kept h)
+
+pub front_fails : (m n : Bool) (a l : Option (List ℕ)) (w : List ℕ) (e : Fault) → n ≡ m → Keeps a (prepend_known w l) → MayFail w e → (FaultOf w e → IfSome l (λ ys. FaultOf (w ++ ys) e)) → TextFails m n a e
+front_fails m n a l w e same kept (inl p) h = subst (TextFails m n a) (sym p) same
+front_fails m n a l w e same kept (inr f) h = text_fault m n a l w e same kept f (h f)
+
+-- the front is taken from the bytes that wait
+pub front_taken : (v : Version) (h : Heading) (table : List Entry) (roots log : List ℕ) (remembered : List (List ℕ)) (a l : Option (List ℕ)) (w bytes new : List ℕ) (count : ℕ) → Keeps a (prepend_known w l) → bytes ≡ w →
+    bytes ≡ front_text v h table roots log remembered (drop count bytes) → new ≡ drop count w → Consumes a (prepend_known new l) (front_text v h table roots log remembered [])
+front_taken v h table roots log remembered a l w bytes new count kept same text e =
+    let rest : drop count bytes ≡ new = ap (drop count) same ∙ sym e in
+    (prepend_known-read a l w new (front_text v h table roots log remembered []) ⊥ kept
+    (sym same ∙ text ∙ ap (λ k. front_text v h table roots log remembered k) rest ∙ front_text-flat v h table roots log remembered new) (λ x. absurd x)).0
+
+module _ (v : Version) (h : Heading) (table : List Entry) (roots log : List ℕ) (remembered : List (List ℕ)) (fits : FrontFits v h table roots log remembered) where
+  -- the front was taken, and then the words aren't all there
+  pub words_fail : (m n o : Bool) (a b : Option (List ℕ)) (e : Fault) → n ≡ m → Consumes a b (front_text v h table roots log remembered []) → TakeFails n o b (8 * table_words table) e → TextFails m o a e
+  words_fail m n o a b fault.Memory same p f = f ∙ same
+  words_fail m n o a b (fault.Device device.Input) same p f = f
+  words_fail m n o a b fault.Short same p f = (f.0 ∙ same, of a b p f.1) where
+    of : (a b : Option (List ℕ)) → Consumes a b (front_text v h table roots log remembered []) → IfSome b (λ xs. length xs < 8 * table_words table) → IfSome a (λ xs. FaultOf xs fault.Short)
+    of None b p f = tt
+    of (Some x) None p f = absurd p
+    of (Some x) (Some y) p f = subst (λ l. FaultOf l fault.Short) (front_text-flat v h table roots log remembered y ∙ sym p) (front_short v h table roots log remembered y fits f)
+  words_fail m n o a b _ same p f = absurd f
+
+  -- the front and the words were taken
+  module _ (bs : List ℕ) (are : IsBytes bs) (size : length bs ≡ 8 * table_words table) where
+    pub whole_text : PlainIs (front_text v h table roots log remembered bs) v h table roots log remembered bs
+    whole_text = (front_read v h table roots log remembered bs fits are).whole size
+
+    -- and bytes wait behind them
+    pub bytes_behind : (a b c l : Option (List ℕ)) (w : List ℕ) → Consumes a b (front_text v h table roots log remembered []) → Consumes b c bs → Keeps c (prepend_known w l) → 0 < length w →
+        IfSome a (λ xs. FaultOf xs fault.Trailing)
+    bytes_behind None b c l w p q kept lt = tt
+    bytes_behind (Some x) None c l w p q kept lt = absurd p
+    bytes_behind (Some x) (Some y) None l w p q kept lt = absurd q
+    bytes_behind (Some x) (Some y) (Some z) None w p q kept lt = absurd kept
+    bytes_behind (Some x) (Some y) (Some z) (Some u) w p q kept lt =
+        let all : x ≡ front_text v h table roots log remembered bs ++ (w ++ u) =
+        p ∙ ap (λ k. front_text v h table roots log remembered [] ++ k) (q ∙ ap (λ k. bs ++ k) (sym kept))
+        ∙ sym (append_assoc (front_text v h table roots log remembered []) bs (w ++ u)) ∙ ap (λ k. k ++ (w ++ u)) (sym (front_text-flat v h table roots log remembered bs)) in
+        subst (λ k. FaultOf k fault.Trailing) (sym all)
+        (plain_trailing (front_text v h table roots log remembered bs) v h table roots log remembered bs (w ++ u) whole_text (omega (arith, lt, length-append w u)))
+
+    -- and none do
+    pub all_taken : (a b c l : Option (List ℕ)) (w : List ℕ) → Consumes a b (front_text v h table roots log remembered []) → Consumes b c bs → Keeps c (prepend_known w l) → IsAtEnd l → length w < 1 →
+        IfSome a (λ xs. xs ≡ front_text v h table roots log remembered bs)
+    all_taken None b c l w p q kept end lt = tt
+    all_taken (Some x) None c l w p q kept end lt = absurd p
+    all_taken (Some x) (Some y) None l w p q kept end lt = absurd q
+    all_taken (Some x) (Some y) (Some z) None w p q kept end lt = absurd kept
+    all_taken (Some x) (Some y) (Some z) (Some u) (i ∷ w) p q kept end lt = absurd (omega (arith, lt))
+    all_taken (Some x) (Some y) (Some z) (Some u) [] p q kept end lt =
+        p ∙ ap (λ k. front_text v h table roots log remembered [] ++ k) (q ∙ ap (λ k. bs ++ k) (sym kept ∙ end) ∙ append-nil bs) ∙ sym (front_text-flat v h table roots log remembered bs)
+
+-- what holds of the bytes that were told holds of all
+pub of_all : (a : Option (List ℕ)) (bytes : List ℕ) (P : List ℕ → Type 0) → IfSome a (λ xs. xs ≡ bytes) → P bytes → IfSome a P
+of_all None bytes P e h = tt
+of_all (Some x) bytes P e h = subst P (sym e) h
+
+-- where none waits, what is left is still to be taken
+pub none_waits : (w : List ℕ) (a : Option (List ℕ)) → w ≡ [] → prepend_known w a ≡ a
+none_waits w a e = ap (λ x. prepend_known x a) e ∙ prepend_known-nil a
+
+-- bytes have no fault of the input
+pub no_input : (bytes : List ℕ) → MayFail bytes (fault.Device device.Input) → ⊥
+no_input bytes (inl p) = absurd (let clash : fault.Device device.Input ≡ fault.Memory = p in cc)
+no_input bytes (inr f) = f.3
+
+-- an answer that the bytes decide leaves the mark
+pub mark_stays : {X : Type 0} (m n : Bool) (bytes : List ℕ) (r : Result X Fault) → IfErr r (λ e. MayFail bytes e) → n ≡ m → n ≡ input_mark m r
+mark_stays m n bytes (Ok x) h same = same
+mark_stays m n bytes (Err (fault.Device device.Input)) h same = absurd (no_input bytes h)
+mark_stays m n bytes (Err e) h same = same
+
+pub if_err : {X : Type 0} (r : Result X Fault) (P Q : Fault → Type 0) → ((e : Fault) → P e → Q e) → IfErr r P → IfErr r Q
+if_err (Ok x) P Q f h = tt
+if_err (Err e) P Q f h = f e h

@@ -1,0 +1,19 @@
+use Rattle.std.proofs.lemmas.Result.{err_from_is_err_and}
+use Rattle.g1_image.specs.Text.{Entry}
+use Rattle.g1_image.proofs.Laid.{laid_more, laid_fails}
+use Rattle.g1_image.proofs.pieces.lay_pieces.Goals as goal
+
+pub returns-in_err-push_region-clause-err : goal.returns-in_err-push_region-clause-err
+returns-in_err-push_region-clause-err g c =
+    let none : Entry = record { kind = 0; top = 0; flags = 0 } in
+    let left = err_from_is_err_and c.from_residual-in_err-push_region.result c.from_residual-in_err-push_region.ensures.1 in
+    rw (left.1, left.2) (laid_fails _ _ _ _ _ c.args.w c.args.table.now c.loop-e.e-index none c.loop-e.out.items c.in_err-push_region.field-0.0 c.loop-e.invariant.part c.loop-e-test.true c.in_err-push_region.ensures.err)
+
+pub loop-e-preserved : goal.loop-e-preserved
+loop-e-preserved g c =
+    let none : Entry = record { kind = 0; top = 0; flags = 0 } in
+    let more = c.in_ok-push_region.ensures.ok in
+    record {
+      known = c.push_region.ensures.known;
+      part = laid_more _ _ _ _ _ _ c.args.w c.args.table.now c.loop-e.e-index none c.loop-e.out.items c.push_region.new.out.items more.0 c.loop-e.invariant.part c.loop-e-test.true more.1 more.2 more.3;
+    }

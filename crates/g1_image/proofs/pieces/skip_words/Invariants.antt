@@ -1,0 +1,12 @@
+use Rattle.g1_image.specs.Ahead.{to_take, KnowsEnd}
+use Rattle.g1_image.proofs.Laid.{Skipped}
+use Rattle.g1_image.proofs.pieces.skip_words.Given as goal
+
+abbrev pub invariant-loop-left : goal.invariant-loop-left
+invariant-loop-left g l = record {
+  known : KnowsEnd l.ahead (g.S.Source.left l.source);
+  part : Skipped (g.S.Source.failed l.fn.source) (g.S.Source.failed l.source) (to_take l.fn.ahead (g.S.Source.left l.fn.source)) (to_take l.ahead (g.S.Source.left l.source)) l.count l.left;
+}
+
+abbrev pub decreases-loop-left : goal.decreases-loop-left
+decreases-loop-left g l = l.left

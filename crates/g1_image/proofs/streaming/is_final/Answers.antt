@@ -1,0 +1,8 @@
+use Rattle.g1_image.proofs.Told.{magic_stays, geometry_stays}
+use Rattle.g1_image.proofs.streaming.is_final.Goals as goal
+
+pub returns-in-Magic : goal.returns-in-Magic
+returns-in-Magic c _ bytes more = rw c.in-Magic.is (magic_stays bytes more)
+
+pub returns-in-Geometry : goal.returns-in-Geometry
+returns-in-Geometry c _ bytes more = rw c.in-Geometry.is (geometry_stays bytes more)

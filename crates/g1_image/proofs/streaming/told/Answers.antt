@@ -1,0 +1,46 @@
+use Rattle.std.proofs.Common.{◌≡◌, ◌*◌, map, length, ap, subst, ◌∙◌}
+use Rattle.std.proofs.lemmas.Result.{err_from_is_err_and}
+use Rattle.g1_image.specs.Text.{table_words, words_of}
+use Rattle.g1_image.specs.Image.{all_words}
+use Rattle.g1_image.specs.Plain.{front_text}
+use Rattle.g1_image.specs.Ahead.{waiting, to_take, TakeFails}
+use Rattle.g1_image.proofs.Told.{words_fail, whole_text, bytes_behind, all_taken}
+use Rattle.g1_image.proofs.streaming.told.Goals as goal
+
+pub returns-in_err-words-clause-err : goal.returns-in_err-words-clause-err
+returns-in_err-words-clause-err g c =
+    let f = c.in_ok-front.front in
+    let sets = map (λ s. s.items) f.remembered.items in
+    let left = err_from_is_err_and c.from_residual-in_err-words.result c.from_residual-in_err-words.ensures.1 in
+    rw (left.1, left.2) (words_fail f.version f.heading f.table.items f.roots.items f.log.items sets c.in_ok-front.ensures.ok _ _ _ _ _ c.in_err-words.field-0.0 c.in_ok-front.ensures.mark c.in_ok-front.ensures.taken
+    (subst (λ t. TakeFails (g.S.Source.failed c.opened.new.source) (g.S.Source.failed c.lay_pieces.new.source) (to_take c.opened.new.ahead (g.S.Source.left c.opened.new.source)) (8 * table_words t) c.in_err-words.field-0.0) c.deref.ensures.value c.in_err-words.ensures.err))
+
+pub returns-then-branch-clause-err : goal.returns-then-branch-clause-err
+returns-then-branch-clause-err g c =
+    let f = c.in_ok-front.front in
+    let sets = map (λ s. s.items) f.remembered.items in
+    let words = c.in_ok-words.ensures.ok in
+    let size : length words.0 ≡ 8 * table_words f.table.items = words.2 ∙ ap (λ t. 8 * table_words t) c.deref.ensures.value in
+    let reached = c.in_ok-reach.ensures.ok in (
+      reached.mark ∙ words.1.mark ∙ c.in_ok-front.ensures.mark,
+      bytes_behind f.version f.heading f.table.items f.roots.items f.log.items sets c.in_ok-front.ensures.ok words.0 words.1.are_bytes size _ _ _ (g.S.Source.left c.reach.new.source) (waiting c.reach.new.self)
+          c.in_ok-front.ensures.taken words.1.bytes reached.kept (reached.there c.if-branch.true),
+    )
+
+pub returns-clause-ok : goal.returns-clause-ok
+returns-clause-ok g c =
+    let f = c.in_ok-front.front in
+    let sets = map (λ s. s.items) f.remembered.items in
+    let words = c.in_ok-words.ensures.ok in
+    let size : length words.0 ≡ 8 * table_words f.table.items = words.2 ∙ ap (λ t. 8 * table_words t) c.deref.ensures.value in
+    let reached = c.in_ok-reach.ensures.ok in
+    let ended = reached.ended c.if-branch.false in (
+      front_text f.version f.heading f.table.items f.roots.items f.log.items sets words.0,
+      (
+        words.0,
+        whole_text f.version f.heading f.table.items f.roots.items f.log.items sets c.in_ok-front.ensures.ok words.0 words.1.are_bytes size,
+        words.3 ∙ ap (λ t. all_words f.heading.w t (words_of (table_words t) words.0)) c.deref.ensures.value,
+      ),
+      all_taken f.version f.heading f.table.items f.roots.items f.log.items sets c.in_ok-front.ensures.ok words.0 words.1.are_bytes size _ _ _ (g.S.Source.left c.reach.new.source) (waiting c.reach.new.self)
+          c.in_ok-front.ensures.taken words.1.bytes reached.kept ended.0 ended.1,
+    )

@@ -1,0 +1,121 @@
+//! The image that a source tells.
+ghost use Rattle.std.specs.Prelude.{◌≡◌, ◌≢◌, ◌≤◌, ◌<◌, ◌⊎◌, ◌++◌, ℕ, List, [], length, drop, map, IfSome, OnOk, IfOk, IfErr, IsTrue, IsFalse};
+ghost use Rattle.std.specs.Io.KnownBytes.{IsAtEnd, Consumes};
+ghost use Rattle.g1_image.specs.Source.{IsReadOut, input_mark};
+ghost use Rattle.g1_image.specs.Image.{IsTextOf};
+ghost use Rattle.g1_image.specs.Faults.{FaultOf, MayFail};
+ghost use Rattle.g1_image.specs.Front.{IsGoodFront, text_of, IsLaid};
+ghost use Rattle.g1_image.specs.Ahead.{to_take, KnowsEnd, TextFails};
+
+use crate::ahead::{Ahead, PIECE};
+use crate::decoding::judged;
+use crate::image::Image;
+use crate::pieces::lay_pieces;
+use crate::plain::{Front, read_front};
+use crate::source::Source;
+use g1_words::{Device, Fault};
+use std::alloc::Global;
+
+/// Tells whether a fault of some bytes is one of all bytes that begin with them, too.
+fn is_final(fault: &Fault) -> bool
+    ensures { IsTrue result → (bytes more : List ℕ) → FaultOf bytes fault.now → FaultOf (bytes ++ more) fault.now }
+{
+    match fault {
+        Fault::Magic => true,
+        Fault::Geometry => true,
+        Fault::Memory => true,
+        _ => false,
+    }
+}
+
+/// Tells whether a fault is one of the bytes that were read.
+fn is_of_bytes(fault: &Fault) -> bool
+    ensures yes { IsTrue result → (fault.now ≢ Fault.Memory) × (fault.now ≢ Fault.Device Device.Input) }
+    ensures no { IsFalse result → (fault.now ≡ Fault.Memory) ⊎ (fault.now ≡ Fault.Device Device.Input) }
+{
+    !matches!(fault, Fault::Memory | Fault::Device(Device::Input))
+}
+
+/// The front that the bytes begin with, and how many bytes it has.
+fn measured(alloc: Global, bytes: &[u8]) -> Result<(Front, usize), Fault>
+    ensures ok { IfOk result (λ x. IsGoodFront x.0) }
+    ensures count { IfOk result (λ x. x.1 ≤ length bytes.now) }
+    ensures text { IfOk result (λ x. bytes.now ≡ text_of x.0 (drop x.1 bytes.now)) }
+    ensures err { IfErr result (MayFail bytes.now) }
+{
+    let (front, rest) = read_front(alloc, bytes)?;
+    Ok((front, bytes.len() - rest.len()))
+}
+
+/// Takes the front of the text. Twice as many bytes are read until it is among them.
+fn opened<S: Source>(alloc: Global, source: &mut S, ahead: &mut Ahead) -> Result<Front, Fault>
+    requires known { KnowsEnd ahead.old (S.left source.old) }
+    ensures known { KnowsEnd ahead.new (S.left source.new) }
+    ensures ok { IfOk result (λ x. IsGoodFront x) }
+    ensures taken { IfOk result (λ x. Consumes (to_take ahead.old (S.left source.old)) (to_take ahead.new (S.left source.new)) (text_of x [])) }
+    ensures mark { OnOk result (S.failed source.new ≡ S.failed source.old) }
+    ensures err { IfErr result (TextFails (S.failed source.old) (S.failed source.new) (to_take ahead.old (S.left source.old))) }
+{
+    let mut wanted = PIECE;
+    loop {
+        let more = ahead.reach(source, wanted)?;
+        match measured(alloc, ahead.bytes()) {
+            Ok((front, count)) => {
+                ahead.pass(count);
+                return Ok(front);
+            }
+            Err(fault) => {
+                if !more || is_final(&fault) {
+                    return Err(fault);
+                }
+            }
+        }
+        wanted = 2 * ahead.len();
+    }
+}
+
+/// The front and the words of the text.
+fn told<S: Source>(
+    alloc: Global,
+    source: &mut S,
+    ahead: &mut Ahead,
+) -> Result<(Front, Vec<u64>), Fault>
+    requires known { KnowsEnd ahead.old (S.left source.old) }
+    ensures known { KnowsEnd ahead.new (S.left source.new) }
+    ensures ok { IfOk result (λ x. (bytes : List ℕ) × IsLaid bytes x.0 x.1.items × IfSome (to_take ahead.old (S.left source.old)) (λ xs. xs ≡ bytes)) }
+    ensures end { OnOk result (IsAtEnd (S.left source.new)) }
+    ensures mark { OnOk result (S.failed source.new ≡ S.failed source.old) }
+    ensures err { IfErr result (TextFails (S.failed source.old) (S.failed source.new) (to_take ahead.old (S.left source.old))) }
+{
+    let front = opened(alloc, source, ahead)?;
+    let words = lay_pieces(alloc, front.heading.w, &front.table, source, ahead)?;
+    if ahead.reach(source, 1)? {
+        return Err(Fault::Trailing);
+    }
+    Ok((front, words))
+}
+
+/// The image whose text is left in a source, read to its end: as `decode` of those bytes, but the words
+/// go straight to their places, and the text is never in memory as a whole.
+///
+/// # Errors
+///
+/// `Fault::Device(Device::Input)` where a read failed, `Fault::Memory`, and the fault of the bytes.
+pub fn read<S: Source>(alloc: Global, source: &mut S) -> Result<Image, Fault>
+    ensures ok { IfOk result (λ i. IfSome (S.left source.old) (λ xs. IsTextOf xs i)) }
+    ensures err { IfErr result (λ e. (e ≡ Fault.Device Device.Input) ⊎ IfSome (S.left source.old) (λ xs. MayFail xs e)) }
+    ensures end { IsReadOut (S.left source.new) result }
+    ensures marks { S.failed source.new ≡ input_mark (S.failed source.old) result }
+{
+    let mut ahead = Ahead::new(alloc);
+    match told(alloc, source, &mut ahead) {
+        Ok((front, words)) => judged(alloc, front, words),
+        Err(fault) => {
+            // The rest is read too, so that a read that fails there is told.
+            if is_of_bytes(&fault) {
+                ahead.drain(source)?;
+            }
+            Err(fault)
+        }
+    }
+}
