@@ -1,5 +1,6 @@
 mod pauses;
 mod pieces;
+mod reading;
 mod settings;
 mod streams;
 mod vectors;
