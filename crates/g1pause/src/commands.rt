@@ -4,7 +4,7 @@ use crate::options::{NAME, Pause, Request, Sharing, parse};
 use crate::show::table;
 use g1_choose::Cost;
 use g1_command::{Refusal, deliver, read_all, refuse};
-use g1_image::{Image, decode, encode_into};
+use g1_image::{Image, decode, encode_into, read};
 use g1_pause::{Choice, FromReader, Settings, ToWriter, pause_run};
 use g1_rem::{Tracked, verify};
 use g1_trace::run_text;
@@ -193,8 +193,7 @@ fn run<T: Threads + Sync, R: Read>(
 }
 
 fn read_image<R: Read>(alloc: Global, reader: &mut R) -> Result<Image, Fault> {
-    let bytes = read_all(alloc, reader)?;
-    decode(alloc, bytes.as_slice())
+    read(alloc, &mut FromReader::new(reader))
 }
 
 fn read_tracked<T: Threads + Sync, R: Read>(
