@@ -42,6 +42,7 @@ def lists(*rows):
 GATHERED = [2 * SIZE, 8, 5 * SIZE + 3, 33, 33, 33, 1] + [0] * 9
 STEPS = {
     "decode": SHARED,
+    "read": SHARED,
     "encode": SHARED,
     "encode_into": SHARED,
     "objects_in": lists([0, 4]) + b"watched\n" + lists([16, 21]) + (b"watched\n" + lists([])) * 2,
@@ -105,6 +106,7 @@ REFUSALS = [
     ("given", "1 1", SHARED, b"fault 10: set region 1\n"),
     ("verify", "1", UNCOVERED, b"fault 9: uncovered slot 1\n" + UNCOVERED),
     ("decode", "1", SHARED[:-1], b"fault 3: short\n"),
+    ("read", "1", SHARED[:-1], b"fault 3: short\n"),
     ("parse_trace", "0", b"heap 16 4 4 3", b"fault 15: line 1\n"),
     ("run_text", "0", b"heap 24 4 4 3\n", b"fault 2: geometry\n"),
 ]

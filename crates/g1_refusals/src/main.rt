@@ -83,6 +83,9 @@ fn run<R: Threads + Sync>(
     if watch.is_of(&pausing::CALLS) {
         return pausing::run(rt, alloc, settings, bytes, watch);
     }
+    if watch.is_of(&["read"]) {
+        return reading::streamed(alloc, bytes, watch);
+    }
     sharing::run(rt, alloc, settings, watch)?;
     filling::run(rt, settings, watch)?;
     let tracked = reading::run(rt, alloc, bytes, watch)?;

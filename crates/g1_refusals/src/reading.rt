@@ -1,6 +1,7 @@
 //! Images out of bytes, and back.
 use crate::watch::{Watch, text_of};
 use g1_image::{Image, decode, encode_into};
+use g1_pause::FromReader;
 use g1_rem::{Tracked, image, merged, verify};
 use g1_words::{Fault, Heap, objects_in};
 use std::alloc::Global;
@@ -30,6 +31,15 @@ pub fn run<R: Threads + Sync>(
             Err(fault)
         }
     }
+}
+
+/// The image of the bytes, straight from a reader of them.
+pub fn streamed(alloc: Global, bytes: &[u8], watch: &mut Watch) -> Result<(), Fault> {
+    let mut reader = bytes;
+    let mut source = FromReader::new(&mut reader);
+    watch.at("read")?;
+    let read = g1_image::read(alloc, &mut source)?;
+    Ok(watch.image(&read)?)
 }
 
 /// What `verify` promises is not needed here.
