@@ -1,4 +1,6 @@
 ghost use Rattle.std.specs.Prelude.{◌≡◌, ◌<◌, ◌≤◌};
+ghost use Rattle.g1_frontier.specs.Scope.{IsScope};
+ghost use Rattle.g1_frontier.specs.Window.{AreCards, AreOutside, LeadIn};
 
 use crate::discover;
 use crate::scope::{Scope, positions};
@@ -174,6 +176,37 @@ struct Rounds {
     words: Vec<u64>,
 }
 
+/// Two rounds in a scope.
+fn rounds_in<R: Threads + Sync>(
+    rt: &R,
+    alloc: Global,
+    scope: &Scope,
+    cards: &[u32],
+    team: Team,
+) -> Result<Rounds, Fault>
+    requires scope { IsScope scope.now }
+    requires cards { AreCards scope.now.heap.now cards.now }
+    requires outside { AreOutside scope.now.heap.now scope.now.window.now cards.now }
+    requires lead_in { LeadIn scope.now.heap.now scope.now.window.now cards.now }
+{
+    let search = first_round(rt, alloc, scope, cards, team, &Open)?;
+    let first = search.found.clone()?;
+    let search = next_round(rt, alloc, scope, search, team, &Open)?;
+    let Search {
+        claims,
+        seat,
+        found: both,
+        from: _,
+        next,
+    } = search;
+    Ok(Rounds {
+        first,
+        both,
+        next,
+        words: claims.close(seat),
+    })
+}
+
 fn two_rounds<R: Threads + Sync>(
     rt: &R,
     alloc: Global,
@@ -196,22 +229,7 @@ fn two_rounds<R: Threads + Sync>(
         window: &window,
         positions: positions.as_slice(),
     };
-    let search = first_round(rt, alloc, &scope, cards, team, &Open)?;
-    let first = search.found.clone()?;
-    let search = next_round(rt, alloc, &scope, search, team, &Open)?;
-    let Search {
-        claims,
-        seat,
-        found: both,
-        from: _,
-        next,
-    } = search;
-    Ok(Rounds {
-        first,
-        both,
-        next,
-        words: claims.close(seat),
-    })
+    rounds_in(rt, alloc, &scope, cards, team)
 }
 
 #[test]

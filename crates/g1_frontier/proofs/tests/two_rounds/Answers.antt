@@ -7,17 +7,17 @@ index-requires g c =
     let all = remembered_one_each (λ (s : Vec ℕ Global). s.items) _ c.image.result.now c.heap-heap.result.now c.in_ok-remembered.remembered.items c.image.ensures.same c.heap-heap.ensures.same c.in_ok-remembered.ensures.ok in
     omega (arith, all, c.in_ok-remembered.remembered.ok, c.if-regions-lt2.false, c.regions.ensures.value, ap (λ q. q.n) c.geometry.ensures.same)
 
-pub first_round-requires-clause-cards : goal.first_round-requires-clause-cards
-first_round-requires-clause-cards g c κs within =
+pub rounds_in-requires-clause-cards : goal.rounds_in-requires-clause-cards
+rounds_in-requires-clause-cards g c κs within =
     let lt : 1 < c.heap-heap.result.now.geometry.n = omega (arith, c.if-regions-lt2.false, c.regions.ensures.value, ap (λ q. q.n) c.geometry.ensures.same) in
     (one_leads_in (λ (s : Vec ℕ Global). s.items) _ c.image.result.now c.heap-heap.result.now c.in_ok-remembered.remembered.items c.image.ensures.same c.heap-heap.ensures.same c.in_ok-remembered.ensures.ok 1 c.index.result.now c.as_slice-cards.result.now c.heap-heap.ensures.valid c.image.ensures.covered lt c.index.ensures c.as_slice-cards.ensures.value).0
 
-pub first_round-requires-clause-outside : goal.first_round-requires-clause-outside
-first_round-requires-clause-outside g c κs within =
+pub rounds_in-requires-clause-outside : goal.rounds_in-requires-clause-outside
+rounds_in-requires-clause-outside g c κs within =
     let lt : 1 < c.heap-heap.result.now.geometry.n = omega (arith, c.if-regions-lt2.false, c.regions.ensures.value, ap (λ q. q.n) c.geometry.ensures.same) in
     (one_leads_in (λ (s : Vec ℕ Global). s.items) _ c.image.result.now c.heap-heap.result.now c.in_ok-remembered.remembered.items c.image.ensures.same c.heap-heap.ensures.same c.in_ok-remembered.ensures.ok 1 c.index.result.now c.as_slice-cards.result.now c.heap-heap.ensures.valid c.image.ensures.covered lt c.index.ensures c.as_slice-cards.ensures.value).1
 
-pub first_round-requires-clause-lead_in : goal.first_round-requires-clause-lead_in
-first_round-requires-clause-lead_in g c κs within =
+pub rounds_in-requires-clause-lead_in : goal.rounds_in-requires-clause-lead_in
+rounds_in-requires-clause-lead_in g c κs within =
     let lt : 1 < c.heap-heap.result.now.geometry.n = omega (arith, c.if-regions-lt2.false, c.regions.ensures.value, ap (λ q. q.n) c.geometry.ensures.same) in
     (one_leads_in (λ (s : Vec ℕ Global). s.items) _ c.image.result.now c.heap-heap.result.now c.in_ok-remembered.remembered.items c.image.ensures.same c.heap-heap.ensures.same c.in_ok-remembered.ensures.ok 1 c.index.result.now c.as_slice-cards.result.now c.heap-heap.ensures.valid c.image.ensures.covered lt c.index.ensures c.as_slice-cards.ensures.value).2
