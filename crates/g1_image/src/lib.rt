@@ -6,7 +6,7 @@
 //! and the cards, and tells the fault of the first of these stages that finds one. `read` does so with
 //! the bytes that a source gives piece by piece: what stands before the words is looked for in twice as
 //! many bytes until it is there whole, the words go straight to their places, and the source is read to
-//! its end whatever the fault.
+//! its end whatever fault its bytes have.
 #![tactic(auto)]
 
 mod ahead;
