@@ -1,5 +1,5 @@
 -- A text that is read from a source: what its front and its words make of all of it.
-use Rattle.std.proofs.Common.{◌≡◌, ◌<◌, inl, inr, ℕ, ◌*◌, Bool, List, [], ◌∷◌, ◌++◌, Option, Some, None, length, drop, arith, sym, ap, subst, ◌∙◌, append_assoc, append-nil, length-append}
+use Rattle.std.proofs.Common.{◌≡◌, ◌≢◌, ◌<◌, inl, inr, ℕ, ◌*◌, Bool, List, [], ◌∷◌, ◌++◌, Option, Some, None, length, drop, arith, sym, ap, subst, ◌∙◌, append_assoc, append-nil, length-append}
 use Rattle.std.specs.Prelude.{IfSome, IfErr, Result, Ok, Err}
 use Rattle.std.proofs.lemmas.List.{get_or_append_left}
 use Rattle.std.specs.Io.KnownBytes.{Keeps, Consumes, IsAtEnd, prepend_known}
@@ -46,6 +46,7 @@ whatever_follows (Some y) w P h = h y
 pub text_fault : (m n : Bool) (a l : Option (List ℕ)) (w : List ℕ) (e : Fault) → n ≡ m → Keeps a (prepend_known w l) → FaultOf w e → IfSome l (λ ys. FaultOf (w ++ ys) e) → TextFails m n a e
 text_fault m n a l w fault.Memory same kept f h = same
 text_fault m n a l w (fault.Device device.Input) same kept f h = absurd f.3
+text_fault m n a l w (fault.Device device.Output) same kept f h = absurd f.3
 text_fault m n a l w e same kept f h = (same, of_waiting a l w (λ xs. FaultOf xs e) kept h)
 
 pub front_fails : (m n : Bool) (a l : Option (List ℕ)) (w : List ℕ) (e : Fault) → n ≡ m → Keeps a (prepend_known w l) → MayFail w e → (FaultOf w e → IfSome l (λ ys. FaultOf (w ++ ys) e)) → TextFails m n a e
@@ -115,6 +116,11 @@ none_waits w a e = ap (λ x. prepend_known x a) e ∙ prepend_known-nil a
 pub no_input : (bytes : List ℕ) → MayFail bytes (fault.Device device.Input) → ⊥
 no_input bytes (inl p) = absurd (let clash : fault.Device device.Input ≡ fault.Memory = p in cc)
 no_input bytes (inr f) = f.3
+
+-- nor of the output
+pub no_output : (bytes : List ℕ) (e : Fault) → MayFail bytes e → e ≢ fault.Device device.Output
+no_output bytes e (inl p) q = absurd (let clash : fault.Device device.Output ≡ fault.Memory = sym q ∙ p in cc)
+no_output bytes e (inr f) q = (subst (FaultOf bytes) q f).3
 
 -- an answer that the bytes decide leaves the mark
 pub mark_stays : {X : Type 0} (m n : Bool) (bytes : List ℕ) (r : Result X Fault) → IfErr r (λ e. MayFail bytes e) → n ≡ m → n ≡ input_mark m r

@@ -45,6 +45,7 @@ TakeFails _ _ _ _ _ = ⊥
 abbrev pub TextFails : Bool → Bool → Option (List ℕ) → Fault → Type 0
 TextFails old_mark new_mark old fault.Memory = new_mark ≡ old_mark
 TextFails old_mark new_mark old (fault.Device device.Input) = new_mark ≡ true
+TextFails old_mark new_mark old (fault.Device device.Output) = ⊥
 TextFails old_mark new_mark old e = (new_mark ≡ old_mark) × IfSome old (λ xs. FaultOf xs e)
 
 -- the words of a region whose used words these bytes are

@@ -12,4 +12,5 @@ pub mod Cards
 pub mod Laws
 pub mod Verdict
 pub mod Source
+pub mod Sink
 pub mod Ahead

@@ -1,6 +1,6 @@
 ghost use Rattle.std.specs.Prelude.{◌≡◌, ◌≤◌, ◌<◌, ◌*◌, ◌^◌, ◌++◌, ℕ, List, [], length, map, All, OnOk, IfOk, IfErr};
-ghost use Rattle.g1_image.specs.Text.{table_text, magic};
-ghost use Rattle.g1_image.specs.Image.{flags_of, entry_of, IsTextIn};
+ghost use Rattle.g1_image.specs.Text.{table_text, words_text, magic};
+ghost use Rattle.g1_image.specs.Image.{flags_of, entry_of, file_of, IsTextIn};
 
 use crate::cursor::{Heading, Version};
 use crate::image::Image;
@@ -28,6 +28,31 @@ fn push_table(out: &mut Vec<u8>, regions: &[Region]) -> Result<(), AllocError>
     Ok(())
 }
 
+/// Writes what stands before the words of an image, in the place of the bytes that a list has.
+pub(crate) fn write_front(out: &mut Vec<u8>, image: &Image) -> Result<(), AllocError>
+    ensures { OnOk result (IsTextIn Version.Two (out.new.items ++ words_text (file_of Version.Two image.now).words) image.now) }
+{
+    let heap = image.heap();
+    let geometry = heap.geometry();
+    let log = image.log().as_slice();
+    let heading = Heading {
+        w: geometry.region_words() as u32,
+        k: geometry.card_words() as u32,
+        n: geometry.regions() as u32,
+        roots: heap.roots().len() as u32,
+        dirty: log.len() as u32,
+        current: heap.current().unwrap_or(geometry.regions() as u32),
+    };
+    out.clear();
+    out.extend_from_slice(b"G1IMAGE2")?;
+    push_heading(out, &heading)?;
+    push_table(out, heap.regions())?;
+    push_words(out, heap.roots())?;
+    push_numbers(out, log)?;
+    push_remembered(out, image.remembered())?;
+    Ok(())
+}
+
 /// The text of an image, of version 2.
 pub fn encode(alloc: Global, image: &Image) -> Result<Vec<u8>, Fault>
     ensures ok { IfOk result (λ v. IsTextIn Version.Two v.items image.now) }
@@ -48,27 +73,11 @@ pub fn encode_into(out: &mut Vec<u8>, image: &Image) -> Result<(), Fault>
     ensures ok { OnOk result (IsTextIn Version.Two out.new.items image.now) }
     ensures err { IfErr result (λ e. e ≡ Fault.Memory) }
 {
+    write_front(out, image)?;
     let heap = image.heap();
-    let geometry = heap.geometry();
-    let log = image.log().as_slice();
-    let heading = Heading {
-        w: geometry.region_words() as u32,
-        k: geometry.card_words() as u32,
-        n: geometry.regions() as u32,
-        roots: heap.roots().len() as u32,
-        dirty: log.len() as u32,
-        current: heap.current().unwrap_or(geometry.regions() as u32),
-    };
-    out.clear();
-    out.extend_from_slice(b"G1IMAGE2")?;
-    push_heading(out, &heading)?;
-    push_table(out, heap.regions())?;
-    push_words(out, heap.roots())?;
-    push_numbers(out, log)?;
-    push_remembered(out, image.remembered())?;
     push_used(
         out,
-        geometry.region_words() as usize,
+        heap.geometry().region_words() as usize,
         heap.regions(),
         heap.words(),
     )?;

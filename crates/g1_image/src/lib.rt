@@ -6,10 +6,12 @@
 //! and the cards, and tells the fault of the first of these stages that finds one. `read` does so with
 //! the bytes that a source gives piece by piece: what stands before the words is looked for in twice as
 //! many bytes until it is there whole, the words go straight to their places, and the source is read to
-//! its end whatever fault its bytes have.
+//! its end whatever fault its bytes have. `write` sends the text of an image to a sink the same way: what
+//! stands before the words whole, and the words in pieces.
 #![tactic(auto)]
 
 mod ahead;
+mod behind;
 mod cards;
 mod cursor;
 mod decoding;
@@ -23,8 +25,11 @@ mod pieces;
 mod plain;
 mod reading;
 mod refs;
+mod sending;
 mod shape;
+mod sink;
 mod source;
+mod std_streams;
 mod streaming;
 mod table;
 mod writing;
@@ -32,5 +37,8 @@ mod writing;
 pub use decoding::decode;
 pub use encoding::{encode, encode_into};
 pub use image::Image;
+pub use sending::write;
+pub use sink::Sink;
 pub use source::Source;
+pub use std_streams::{FromReader, ToWriter};
 pub use streaming::read;

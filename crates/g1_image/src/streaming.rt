@@ -104,6 +104,7 @@ fn told<S: Source>(
 pub fn read<S: Source>(alloc: Global, source: &mut S) -> Result<Image, Fault>
     ensures ok { IfOk result (λ i. IfSome (S.left source.old) (λ xs. IsTextOf xs i)) }
     ensures err { IfErr result (λ e. (e ≡ Fault.Device Device.Input) ⊎ IfSome (S.left source.old) (λ xs. MayFail xs e)) }
+    ensures no_output { IfErr result (λ e. e ≢ Fault.Device Device.Output) }
     ensures end { IsReadOut (S.left source.new) result }
     ensures marks { S.failed source.new ≡ input_mark (S.failed source.old) result }
 {

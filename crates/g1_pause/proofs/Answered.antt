@@ -14,6 +14,23 @@ use Rattle.g1_pause.specs.Answer.{IsEvacuated, IsAnswer, unread, not_covered, re
 use Rattle.g1_pause.specs.Follows.{TextFollows}
 use Rattle.g1_pause.specs.Laws.{OneAnswer, AnswerFollows}
 
+module _ (cost : Cost) (choice : Choice) where
+  -- the fault is the answer to each text of the image, or memory was wanting
+  abbrev pub ToldOf : Image → Fault → Type 0
+  ToldOf i e = (e ≡ Memory) ⊎ ((bs : List ℕ) → IsTextOf bs i → IsAnswer cost choice bs (Err e))
+
+  pub uncovered_told : (i : Image) (e : Fault) → (e ≡ Memory) ⊎ ((p : ℕ) × (rest : List ℕ) × (uncovered i ≡ p ∷ rest) × (e ≡ Uncovered p)) → ToldOf i e
+  uncovered_told i e (inl m) = inl m
+  uncovered_told i e (inr u) = inr (λ bs t. subst (λ (f : Fault). IsAnswer cost choice bs (Err f)) (sym u.3) (not_covered t u.2))
+
+  pub refused_told : (i k : Image) (e : Fault) → k ≡ i → IsTracked k → (e ≡ Memory) ⊎ IsEvacuated cost choice k (Err e) → ToldOf i e
+  refused_told i k e same tracked (inl m) = inl m
+  refused_told i k e same tracked (inr r) = inr (λ bs t. refused (subst (IsTextOf bs) (sym same) t) tracked.covered r)
+
+  -- each text of the image after is the answer to each text of the image
+  pub after_told : (i k j : Image) → k ≡ i → IsTracked k → IsEvacuated cost choice k (Ok j) → (bs out : List ℕ) → IsTextOf bs i → IsTextIn Two out j → IsAnswer cost choice bs (Ok out)
+  after_told i k j same tracked e bs out t after = written (subst (IsTextOf bs) (sym same) t) tracked.covered e after
+
 module _ (cost : Cost) (choice : Choice) (bytes : List ℕ) where
   -- the fault is the answer, or memory was wanting
   abbrev pub Told : Fault → Type 0
@@ -27,13 +44,10 @@ module _ (cost : Cost) (choice : Choice) (bytes : List ℕ) where
   unread_told e (inl m) = inl m
   unread_told e (inr f) = inr (unread f)
 
-  pub uncovered_told : (i : Image) (e : Fault) → IsTextOf bytes i → (e ≡ Memory) ⊎ ((p : ℕ) × (rest : List ℕ) × (uncovered i ≡ p ∷ rest) × (e ≡ Uncovered p)) → Told e
-  uncovered_told i e t (inl m) = inl m
-  uncovered_told i e t (inr u) = inr (subst (λ (f : Fault). IsAnswer cost choice bytes (Err f)) (sym u.3) (not_covered t u.2))
-
-  pub refused_told : (i k : Image) (e : Fault) → IsTextOf bytes i → k ≡ i → IsTracked k → (e ≡ Memory) ⊎ IsEvacuated cost choice k (Err e) → Told e
-  refused_told i k e t same tracked (inl m) = inl m
-  refused_told i k e t same tracked (inr r) = inr (refused (subst (IsTextOf bytes) (sym same) t) tracked.covered r)
+  -- a text of the image that was read has the answer
+  pub fault_told : (i : Image) (e : Fault) → IsTextOf bytes i → (e ≡ Memory) ⊎ ((bs : List ℕ) → IsTextOf bs i → IsAnswer cost choice bs (Err e)) → Told e
+  fault_told i e t (inl m) = inl m
+  fault_told i e t (inr a) = inr (a bytes t)
 
   pub only_told : OneAnswer → (e : Fault) → Told e → OnlyTold e
   only_told one e (inl m) = inl m
@@ -44,15 +58,11 @@ module _ (cost : Cost) (choice : Choice) (bytes : List ℕ) where
   memory_told (Ok v) m = (m, m)
   memory_told (Err e) m = (inl m, inl m)
 
-  -- each text of the image after is the answer
-  pub after_told : (i k j : Image) → IsTextOf bytes i → k ≡ i → IsTracked k → IsEvacuated cost choice k (Ok j) → (out : List ℕ) → IsTextIn Two out j → IsAnswer cost choice bytes (Ok out)
-  after_told i k j t same tracked e out after = written (subst (IsTextOf bytes) (sym same) t) tracked.covered e after
-
-  -- and so is the one that was written
-  pub text_told : (j l : Image) (r : Result (Vec ℕ Global) Fault) → ((out : List ℕ) → IsTextIn Two out j → IsAnswer cost choice bytes (Ok out)) → l ≡ j
+  -- the text of the image after that was written is the answer
+  pub text_told : (i j l : Image) (r : Result (Vec ℕ Global) Fault) → IsTextOf bytes i → ((bs out : List ℕ) → IsTextOf bs i → IsTextIn Two out j → IsAnswer cost choice bs (Ok out)) → l ≡ j
       → IfOk r (λ v. IsTextIn Two v.items l) → IfOk r (λ v. IsAnswer cost choice bytes (Ok v.items))
-  text_told j l (Err e) told after w = w
-  text_told j l (Ok v) told after w = told v.items (subst (IsTextIn Two v.items) after w)
+  text_told i j l (Err e) t told after w = w
+  text_told i j l (Ok v) t told after w = told bytes v.items t (subst (IsTextIn Two v.items) after w)
 
   pub only_written : OneAnswer → (r : Result (Vec ℕ Global) Fault) → IfOk r (λ v. IsAnswer cost choice bytes (Ok v.items))
       → IfOk r (λ v. (y : Result (List ℕ) Fault) → IsAnswer cost choice bytes y → y ≡ Ok v.items)

@@ -1,6 +1,5 @@
 pub mod NamedPauses
 mod NoDevice
-mod Pieces
 pub mod OneAnswer
 pub mod CollectionSets
 pub mod Following

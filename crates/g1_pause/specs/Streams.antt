@@ -1,5 +1,5 @@
--- What sources and sinks of bytes say of their bytes and marks, and what a whole run over them gives.
-use Rattle.std.specs.Prelude.{◌≡◌, ℕ, ◌<◌, Bool, true, List, length, take, Option, Result, Ok, Err, ⊤}
+-- What a whole run over a source and a sink gives.
+use Rattle.std.specs.Prelude.{◌≡◌, ℕ, ◌<◌, List, length, take, Option, Result, Ok, Err, ⊤}
 use Rattle.std.specs.Io.KnownBytes.{Appends, Keeps}
 use Rattle.g1_words.specs.declared.fault.Fault.{Fault}
 use Rattle.g1_words.specs.declared.fault.Fault.TheVariants.{Memory, Device}
@@ -7,12 +7,8 @@ use Rattle.g1_words.specs.declared.fault.Device.TheVariants.{Input, Output}
 use Rattle.g1_choose.specs.declared.parameters.Cost.{Cost}
 use Rattle.g1_pause.specs.declared.settings.Choice.{Choice}
 use Rattle.g1_pause.specs.Answer.{IsAnswer}
-pub use Rattle.g1_image.specs.Source.{marked, ReadFails, input_mark}
-
--- the sink's mark after a run: a run that tells of the output has marked it, any other leaves it as it was
-abbrev pub output_mark : {X : Type 0} → Bool → Result X Fault → Bool
-output_mark mark (Err (Device Output)) = true
-output_mark mark _ = mark
+pub use Rattle.g1_image.specs.Source.{input_mark}
+pub use Rattle.g1_image.specs.Sink.{output_mark}
 
 -- a run that is refused wrote nothing, but where the output failed; the bytes written are those before and after
 abbrev pub WritesNoFault : {X : Type 0} → Option (List ℕ) → Option (List ℕ) → Result X Fault → Type 0

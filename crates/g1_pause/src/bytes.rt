@@ -1,6 +1,7 @@
-ghost use Rattle.std.specs.Prelude.{◌≡◌, ◌⊎◌, ℕ, List, Ok, Err, Result, IfOk, IfErr};
+ghost use Rattle.std.specs.Prelude.{◌≡◌, ◌≢◌, ◌⊎◌, ℕ, List, Ok, Err, Result, IfOk, IfErr};
 ghost use Rattle.g1_words.specs.declared.fault.Fault.{Fault as FaultOf};
-ghost use Rattle.g1_image.specs.Image.{IsTextIn};
+ghost use Rattle.g1_words.specs.declared.fault.Device.{Device as DeviceOf};
+ghost use Rattle.g1_image.specs.Image.{IsTextIn, IsTextOf};
 ghost use Rattle.g1_image.specs.declared.cursor.Version.TheVariants.{Two};
 ghost use Rattle.g1_pause.specs.Answer.{IsAnswer};
 ghost use Rattle.g1_pause.specs.Follows.{TextFollows};
@@ -8,25 +9,26 @@ ghost use Rattle.g1_pause.specs.Follows.{TextFollows};
 use crate::evacuating::evacuate;
 use crate::laws;
 use crate::settings::Settings;
-use g1_image::{decode, encode};
+use g1_image::{Image, decode, encode};
 use g1_rem::{Tracked, image, verify};
 use g1_words::Fault;
 use g1_work::Gate;
 use std::alloc::Global;
 use std::thread::Threads;
 
-/// The image after the pause of the one whose text the bytes are.
+/// The image after the pause of an image that was read.
 pub(crate) fn paused<R: Threads + Sync, G: Gate + Sync>(
     rt: &R,
     alloc: Global,
-    bytes: &[u8],
+    before: Image,
     settings: &Settings,
     gate: &G,
 ) -> Result<Tracked, Fault>
-    ensures answer { IfOk result (λ t. (out : List ℕ) → IsTextIn Two out t → IsAnswer settings.now.cost settings.now.choice bytes.now (Ok out)) }
-    ensures fault { IfErr result (λ e. (e ≡ Fault.Memory) ⊎ IsAnswer settings.now.cost settings.now.choice bytes.now (Err e)) }
+    ensures answer { IfOk result (λ t. (bytes out : List ℕ) → IsTextOf bytes before → IsTextIn Two out t → IsAnswer settings.now.cost settings.now.choice bytes (Ok out)) }
+    ensures fault { IfErr result (λ e. (e ≡ Fault.Memory) ⊎ ((bytes : List ℕ) → IsTextOf bytes before → IsAnswer settings.now.cost settings.now.choice bytes (Err e))) }
+    ensures no_device { IfErr result (λ e. (d : DeviceOf) → e ≢ Fault.Device d) }
 {
-    let tracked = match verify(rt, alloc, decode(alloc, bytes)?) {
+    let tracked = match verify(rt, alloc, before) {
         Ok(tracked) => tracked,
         Err((_, fault)) => return Err(fault),
     };
@@ -59,7 +61,8 @@ pub fn pause_bytes<R: Threads + Sync, G: Gate + Sync>(
 {
     laws::one_answer();
     laws::what_follows();
-    match paused(rt, alloc, bytes, settings, gate) {
+    let before = decode(alloc, bytes)?;
+    match paused(rt, alloc, before, settings, gate) {
         Ok(after) => encode(alloc, image(&after)),
         Err(fault) => Err(fault),
     }

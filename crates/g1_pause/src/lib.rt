@@ -25,15 +25,12 @@ pub mod laws;
 mod report;
 mod run_streams;
 mod settings;
-mod std_streams;
-mod streams;
 #[cfg(test)]
 mod tests;
 
 pub use bytes::pause_bytes;
 pub use evacuating::evacuate;
+pub use g1_image::{FromReader, Sink, Source, ToWriter};
 pub use report::Report;
 pub use run_streams::pause_run;
 pub use settings::{Choice, Settings};
-pub use std_streams::{FromReader, ToWriter};
-pub use streams::{Sink, Source};

@@ -5,8 +5,7 @@ ghost use Rattle.g1_pause.specs.Streams.{RunGives, WritesNoFault, input_mark, ou
 
 use crate::bytes::paused;
 use crate::settings::Settings;
-use crate::streams::{Sink, Source, read_to_end, write_all};
-use g1_image::encode_into;
+use g1_image::{Sink, Source, read, write};
 use g1_rem::image;
 use g1_words::Fault;
 use g1_work::Gate;
@@ -14,7 +13,8 @@ use std::alloc::Global;
 use std::thread::Threads;
 
 /// The whole pause from a source to a sink: reads the text of an image to its end, then writes the
-/// text of the image after. A sink that keeps bytes back is not flushed.
+/// text of the image after, both in pieces (`g1_image::read`, `g1_image::write`). A sink that keeps
+/// bytes back is not flushed.
 ///
 /// # Errors
 ///
@@ -35,13 +35,9 @@ pub fn pause_run<R: Threads + Sync, I: Source, O: Sink, G: Gate + Sync>(
     ensures input { I.failed reader.new ≡ input_mark (I.failed reader.old) result }
     ensures output { O.failed writer.new ≡ output_mark (O.failed writer.old) result }
 {
-    let mut bytes = read_to_end(alloc, reader)?;
-    match paused(rt, alloc, bytes.as_slice(), settings, gate) {
-        Ok(after) => {
-            // What was read is of no more use: the answer takes its room.
-            encode_into(&mut bytes, image(&after))?;
-            write_all(writer, bytes.as_slice())
-        }
+    let before = read(alloc, reader)?;
+    match paused(rt, alloc, before, settings, gate) {
+        Ok(after) => write(alloc, image(&after), writer),
         Err(fault) => Err(fault),
     }
 }

@@ -1,11 +1,11 @@
-use Rattle.std.proofs.Common.{◌≡◌, ◌⊎◌, List, ℕ, inr, map, subst}
+use Rattle.std.proofs.Common.{◌≡◌, ◌≢◌, ◌⊎◌, List, ℕ, inr, map, subst}
 use Rattle.std.specs.Prelude.{IfSome}
 use Rattle.g1_words.specs.declared.fault.Fault.TheVariants as fault
 use Rattle.g1_words.specs.declared.fault.Device.TheVariants as device
 use Rattle.g1_image.specs.Ahead.{waiting}
 use Rattle.g1_image.specs.Plain.{IsTold}
 use Rattle.g1_image.specs.Faults.{MayFail}
-use Rattle.g1_image.proofs.Told.{none_waits, of_all, if_err, mark_stays}
+use Rattle.g1_image.proofs.Told.{none_waits, of_all, if_err, mark_stays, no_output}
 use Rattle.g1_image.proofs.streaming.read.Goals as goal
 
 pub returns-in-Ok-clause-err : goal.returns-in-Ok-clause-err
@@ -29,3 +29,11 @@ returns-in-Ok-clause-marks g c =
     (if_err c.judged.result
     (λ e. (bytes : List ℕ) → IsTold bytes f.version f.heading f.table.items f.roots.items f.log.items sets c.in-Ok.words.items → MayFail bytes e) (λ e. MayFail is.0 e) (λ e h. h is.0 is.1) c.judged.ensures.err)
     c.in-Ok.ensures.mark
+
+pub returns-in-Ok-clause-no_output : goal.returns-in-Ok-clause-no_output
+returns-in-Ok-clause-no_output g c =
+    let f = c.in-Ok.front in
+    let sets = map (λ s. s.items) f.remembered.items in
+    let is = c.in-Ok.ensures.ok in
+    if_err c.judged.result
+    (λ e. (bytes : List ℕ) → IsTold bytes f.version f.heading f.table.items f.roots.items f.log.items sets c.in-Ok.words.items → MayFail bytes e) (λ e. e ≢ fault.Device device.Output) (λ e h. no_output is.0 e (h is.0 is.1)) c.judged.ensures.err

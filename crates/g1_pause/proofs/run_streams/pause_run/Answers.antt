@@ -1,23 +1,33 @@
-use Rattle.std.proofs.Common.{◌∙◌}
-use Rattle.g1_pause.proofs.NoDevice.{run_refused, run_written, refusal_leaves_input, refusal_leaves_output}
+use Rattle.std.proofs.Common.{◌≡◌, Err, refl, ◌∙◌, subst}
+use Rattle.std.specs.Prelude.{IfSome}
+use Rattle.std.proofs.lemmas.Result.{err_from_is_err_and}
+use Rattle.g1_words.specs.declared.fault.Device.TheVariants as device
+use Rattle.g1_pause.specs.Streams.{RunGives, output_mark}
+use Rattle.g1_pause.proofs.NoDevice.{leaves_input, leaves_output, run_unread, run_refused, run_written}
 use Rattle.g1_pause.proofs.run_streams.pause_run.Goals as goal
 
-pub returns-clause-answer : goal.returns-clause-answer
-returns-clause-answer g c =
-    run_refused c.args.settings.now.cost c.args.settings.now.choice (g.I.Source.left c.args.reader.now) c.in_ok-bytes.bytes.items c.as_slice.result.now (g.O.Sink.written c.args.writer.now)
-    c.in-Err.fault c.as_slice.ensures.value c.in_ok-bytes.ensures.bytes c.in-Err.ensures.fault
+pub returns-in_err-before-clause-answer : goal.returns-in_err-before-clause-answer
+returns-in_err-before-clause-answer g c =
+    let same = err_from_is_err_and c.from_residual.result c.from_residual.ensures.1 in
+    rw (same.1, same.2) (run_unread c.args.settings.now.cost c.args.settings.now.choice (g.I.Source.left c.args.reader.now) (g.O.Sink.written c.args.writer.now) c.in_err-before.field-0.0 c.in_err-before.ensures.no_output c.in_err-before.ensures.err)
 
-pub returns-clause-input : goal.returns-clause-input
-returns-clause-input g c =
-    c.in_ok-bytes.ensures.marks
-    ∙ refusal_leaves_input c.args.settings.now.cost c.args.settings.now.choice c.as_slice.result.now (g.I.Source.failed c.args.reader.now) c.in-Err.fault c.in-Err.ensures.fault
-
-pub returns-clause-output : goal.returns-clause-output
-returns-clause-output g c =
-    refusal_leaves_output c.args.settings.now.cost c.args.settings.now.choice c.as_slice.result.now (g.O.Sink.failed c.args.writer.now) c.in-Err.fault c.in-Err.ensures.fault
+pub returns-in_err-before-clause-output : goal.returns-in_err-before-clause-output
+returns-in_err-before-clause-output g c =
+    let same = err_from_is_err_and c.from_residual.result c.from_residual.ensures.1 in
+    rw (same.1, same.2) (leaves_output (g.O.Sink.failed c.args.writer.now) c.in_err-before.field-0.0 c.in_err-before.ensures.no_output)
 
 pub returns-in-Ok-clause-answer : goal.returns-in-Ok-clause-answer
 returns-in-Ok-clause-answer g c =
-    run_written c.args.settings.now.cost c.args.settings.now.choice (g.I.Source.left c.args.reader.now) c.in_ok-bytes.bytes.items c.as_slice.result.now (g.O.Sink.written c.args.writer.now)
-    (g.O.Sink.written c.write_all.new.sink) c.in-Ok.after c.image.result.now c.encode_into.new.out.items c.as_slice-in-Ok.result.now c.write_all.result c.as_slice.ensures.value
-    c.in_ok-bytes.ensures.bytes c.in-Ok.ensures.answer c.image.ensures.same c.in_ok-encode_into-in-Ok.ensures.ok c.as_slice-in-Ok.ensures.value c.write_all.ensures.ok c.write_all.ensures.err
+    let text = c.write.ensures.text in
+    run_written c.args.settings.now.cost c.args.settings.now.choice (g.I.Source.left c.args.reader.now) (g.O.Sink.written c.args.writer.now) (g.O.Sink.written c.write.new.sink) c.in_ok-before.before c.in-Ok.after c.image.result.now c.write.result
+    c.in_ok-before.ensures.ok c.in-Ok.ensures.answer c.image.ensures.same text.0 text.1 text.2
+
+pub returns-in-Err-clause-answer : goal.returns-in-Err-clause-answer
+returns-in-Err-clause-answer g c =
+    run_refused c.args.settings.now.cost c.args.settings.now.choice (g.I.Source.left c.args.reader.now) (g.O.Sink.written c.args.writer.now) c.in_ok-before.before c.in-Err.fault c.in-Err.ensures.no_device c.in_ok-before.ensures.ok c.in-Err.ensures.fault
+
+pub returns-in-Err-clause-input : goal.returns-in-Err-clause-input
+returns-in-Err-clause-input g c = c.in_ok-before.ensures.marks ∙ leaves_input (g.I.Source.failed c.args.reader.now) c.in-Err.fault c.in-Err.ensures.no_device
+
+pub returns-in-Err-clause-output : goal.returns-in-Err-clause-output
+returns-in-Err-clause-output g c = leaves_output (g.O.Sink.failed c.args.writer.now) c.in-Err.fault (c.in-Err.ensures.no_device device.Output)

@@ -1,24 +1,17 @@
 use Rattle.std.proofs.Common.{rules, ◌≡◌, [], ◌++◌, length, map, ◌∙◌}
-use Rattle.g1_words.proofs.Objects.{tops_fit}
 use Rattle.g1_image.specs.declared.cursor.Heading.{Heading}
 use Rattle.g1_image.specs.declared.cursor.Version.TheVariants.{Two}
 use Rattle.g1_image.specs.Text.{magic, heading_of, heading_text, table_text, words_text, numbers_text, remembered_texts}
-use Rattle.g1_image.specs.Image.{file_of, entry_of, used_words}
+use Rattle.g1_image.specs.Image.{file_of, entry_of}
 use Rattle.g1_image.proofs.Images.{counts_fit}
 use Rattle.g1_image.proofs.Written.{file_written}
-use Rattle.g1_image.proofs.encoding.encode_into.Goals as goal
+use Rattle.g1_image.proofs.encoding.write_front.Goals as goal
 
 pub push_remembered-requires : goal.push_remembered-requires
 push_remembered-requires c = rw c.remembered.ensures (counts_fit c.args.image.now c.heap-heap.ensures.valid)
 
-pub push_used-requires-clause-tops : goal.push_used-requires-clause-tops
-push_used-requires-clause-tops c =
-    let h = c.heap-heap.result.now in
-    let width : c.region_words-2.result ≡ h.geometry.w = cc in
-    rw (width, c.regions-4.ensures) (tops_fit h c.geometry-geometry.ensures.valid)
-
-pub returns-clause-ok : goal.returns-clause-ok
-returns-clause-ok c =
+pub returns : goal.returns
+returns c =
     let i = c.args.image.now in
     let heading : Heading = record {
       w = c.region_words.result;
@@ -32,18 +25,14 @@ returns-clause-ok c =
     let first : heading ≡ heading_of (file_of Two i) = cc in
     let table : c.regions-3.result.now ≡ i.heap.regions = cc in
     let roots : c.roots-2.result.now ≡ i.heap.roots = cc in
-    let width : c.region_words-2.result ≡ i.heap.geometry.w = cc in
-    let regions : c.regions-4.result.now ≡ i.heap.regions = cc in
-    let words : c.words.result.now ≡ i.heap.words = cc in
     let empty : c.clear.new.self.items ≡ [] = search rules in (
       c.heap-heap.ensures.valid,
       tt,
-      file_written (file_of Two i) c.extend_from_slice.new.self.items c.push_heading.new.out.items c.push_table.new.out.items c.push_words.new.out.items c.push_numbers.new.out.items c.push_remembered.new.out.items c.push_used.new.out.items
+      file_written (file_of Two i) c.extend_from_slice.new.self.items c.push_heading.new.out.items c.push_table.new.out.items c.push_words.new.out.items c.push_numbers.new.out.items c.push_remembered.new.out.items
           (c.in_ok-extend_from_slice.ensures.items ∙ (λ t. empty t ++ magic Two))
           (c.in_ok-push_heading.ensures ∙ (λ t. c.extend_from_slice.new.self.items ++ heading_text (first t)))
           (c.in_ok-push_table.ensures ∙ (λ t. c.push_heading.new.out.items ++ table_text Two (map entry_of (table t))))
           (c.in_ok-push_words.ensures ∙ (λ t. c.push_table.new.out.items ++ words_text (roots t)))
           (c.in_ok-push_numbers.ensures ∙ (λ t. c.push_words.new.out.items ++ numbers_text (log t)))
-          (c.in_ok-push_remembered.ensures ∙ (λ t. c.push_numbers.new.out.items ++ remembered_texts (c.remembered.ensures t)))
-          (c.in_ok-push_used.ensures ∙ (λ t. c.push_remembered.new.out.items ++ words_text (used_words (width t) (regions t) (words t)))),
+          (c.in_ok-push_remembered.ensures ∙ (λ t. c.push_numbers.new.out.items ++ remembered_texts (c.remembered.ensures t))),
     )

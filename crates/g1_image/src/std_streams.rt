@@ -2,9 +2,10 @@
 ghost use Rattle.std.specs.Prelude.{◌≡◌, false, IfErr};
 ghost use Rattle.std.specs.Io.KnownBytes.{Keeps, ReadConsumes, WriteAppends};
 ghost use Rattle.std.specs.Io.{ReadsAtMost, WritesAtMost};
-ghost use Rattle.g1_pause.specs.Streams.{marked};
+ghost use Rattle.g1_image.specs.Source.{marked};
 
-use crate::streams::{Sink, Source};
+use crate::sink::Sink;
+use crate::source::Source;
 use g1_words::{Device, Fault};
 use std::io;
 use std::io::{ErrorKind, Read, Write};

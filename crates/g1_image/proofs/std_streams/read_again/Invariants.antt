@@ -1,5 +1,5 @@
 use Rattle.std.specs.Io.KnownBytes.{Keeps}
-use Rattle.g1_pause.proofs.std_streams.read_again.Given as goal
+use Rattle.g1_image.proofs.std_streams.read_again.Given as goal
 
 abbrev pub invariant-loop : goal.invariant-loop
 invariant-loop g l = Keeps (g.R.Read.remaining l.initial.reader) (g.R.Read.remaining l.reader)

@@ -1,6 +1,6 @@
 use Rattle.std.proofs.Common.{◌≤◌, ◌-◌, length, drop, arith, ◌∙◌, length-take-le, length-drop}
-use Rattle.g1_pause.proofs.Pieces.{appends_part}
-use Rattle.g1_pause.proofs.streams.write_all.Goals as goal
+use Rattle.g1_image.proofs.Sent.{appends_part}
+use Rattle.g1_image.proofs.sink.write_all.Goals as goal
 
 pub loop-at-preserved : goal.loop-at-preserved
 loop-at-preserved g c =

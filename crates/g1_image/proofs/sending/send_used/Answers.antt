@@ -1,0 +1,37 @@
+use Rattle.std.proofs.Common.{◌≡◌, ◌++◌, ◌+◌, ◌-◌, ◌*◌, length, take, drop, slice_index_or, refl, sym, ap, ◌∙◌, arith}
+use Rattle.std.proofs.lemmas.Result.{err_from_is_err_and}
+use Rattle.g1_words.specs.Heap.{free_region}
+use Rattle.g1_image.specs.Text.{words_text}
+use Rattle.g1_image.specs.Image.{used_words}
+use Rattle.g1_image.specs.Sink.{waiting}
+use Rattle.g1_image.proofs.Used.{used_next, rows_left}
+use Rattle.g1_image.proofs.Sent.{sending_none, sending_more, sending_fails}
+use Rattle.g1_image.proofs.sending.send_used.Goals as goal
+
+pub loop-r-init : goal.loop-r-init
+loop-r-init g c =
+    let all : length c.args.regions.now - 0 ≡ length c.args.regions.now = omega arith in
+    record {
+      part = sending_none (g.S.Sink.written c.args.sink.now) (waiting c.args.behind.now) (words_text (used_words c.args.width c.args.regions.now c.args.words.now));
+      mark = refl;
+      rows = c.requires.whole ∙ ap (λ n. n * c.args.width) (sym all);
+    }
+
+pub returns-in_err-send-clause-err : goal.returns-in_err-send-clause-err
+returns-in_err-send-clause-err g c =
+    let i = c.loop-r.r-index in
+    let same = err_from_is_err_and c.from_residual.result c.from_residual.ensures.1 in
+    rw (same.1, same.2) (sending_fails _ _ _ _ _ _ _ _ _ _ c.loop-r.invariant.part
+    (used_next c.args.width i c.args.regions.now free_region c.split_at.result.1.now c.split_at.result.0.now c.loop-r.rest.now (omega arith) (c.requires.tops i free_region (omega arith)) c.split_at.ensures.front c.split_at.ensures.back)
+    c.in_err-send.ensures.err)
+
+pub loop-r-preserved : goal.loop-r-preserved
+loop-r-preserved g c =
+    let i = c.loop-r.r-index in
+    record {
+      part = sending_more _ _ _ _ _ _ _ _ _ _ c.loop-r.invariant.part
+          (used_next c.args.width i c.args.regions.now free_region c.split_at.result.1.now c.split_at.result.0.now c.loop-r.rest.now (omega arith) (c.requires.tops i free_region (omega arith)) c.split_at.ensures.front c.split_at.ensures.back)
+          c.in_ok-send.ensures.ok;
+      mark = c.in_ok-send.ensures.mark ∙ c.loop-r.invariant.mark;
+      rows = rows_left (length c.args.regions.now) i c.args.width (length c.loop-r.rest.now) (length c.split_at.result.1.now) (omega arith) c.split_at.ensures.back_len c.loop-r.invariant.rows;
+    }

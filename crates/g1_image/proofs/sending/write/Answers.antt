@@ -1,0 +1,49 @@
+use Rattle.std.proofs.Common.{◌≡◌, ◌++◌, Err, refl, sym, ap, ◌∙◌, subst}
+use Rattle.std.proofs.KnownBytes.{Keeps-refl}
+use Rattle.std.proofs.lemmas.Result.{err_from_is_err_and}
+use Rattle.g1_words.proofs.Objects.{tops_fit}
+use Rattle.g1_image.specs.declared.cursor.Version.TheVariants.{Two}
+use Rattle.g1_image.specs.Text.{words_text, file_text}
+use Rattle.g1_image.specs.Image.{file_of, used_words}
+use Rattle.g1_image.specs.Sink.{waiting, Sent, SendFails, Writes}
+use Rattle.g1_image.proofs.Sent.{part_written, rest_written}
+use Rattle.g1_image.proofs.sending.write.Goals as goal
+
+pub returns-in_err-write_front-clause-text : goal.returns-in_err-write_front-clause-text
+returns-in_err-write_front-clause-text g c =
+    let same = err_from_is_err_and c.from_residual.result c.from_residual.ensures.1 in
+    (file_text (file_of Two c.args.image.now), (c.heap-heap.ensures.valid, tt, refl), rw (same.1, same.2) (Keeps-refl _))
+
+pub send_used-requires-clause-tops : goal.send_used-requires-clause-tops
+send_used-requires-clause-tops g c =
+    let h = c.heap-heap.result.now in
+    let width : c.region_words.result ≡ h.geometry.w = cc in
+    rw (width, c.regions.ensures) (tops_fit h c.geometry.ensures.valid)
+
+pub returns-in_err-send_used-clause-text : goal.returns-in_err-send_used-clause-text
+returns-in_err-send_used-clause-text g c =
+    let i = c.args.image.now in
+    let old = g.S.Sink.written c.args.sink.now in
+    let new = g.S.Sink.written c.send_used.new.sink in
+    let e = c.in_err-send_used.field-0.0 in
+    let front = c.write_front.new.out.items in
+    let words = words_text (used_words c.region_words.result c.regions.result.now c.words.result.now) in
+    let is : words ≡ words_text (used_words i.heap.geometry.w i.heap.regions i.heap.words) = cc in
+    let fails : SendFails old new front words e = subst (λ l. SendFails old new l words e) c.in_ok-behind.ensures c.in_err-send_used.ensures.err in
+    let same = err_from_is_err_and c.from_residual-in_err-send_used.result c.from_residual-in_err-send_used.ensures.1 in
+    (front ++ words_text (file_of Two i).words, c.in_ok-write_front.ensures, rw (same.1, same.2) (subst (λ l. Writes (front ++ l) old new (Err e)) is (part_written old new front words e fails)))
+
+pub returns-clause-text : goal.returns-clause-text
+returns-clause-text g c =
+    let i = c.args.image.now in
+    let old = g.S.Sink.written c.args.sink.now in
+    let between = g.S.Sink.written c.send_used.new.sink in
+    let new = g.S.Sink.written c.flush.new.sink in
+    let front = c.write_front.new.out.items in
+    let words = words_text (used_words c.region_words.result c.regions.result.now c.words.result.now) in
+    let is : words ≡ words_text (used_words i.heap.geometry.w i.heap.regions i.heap.words) = cc in
+    let sent : Sent old between front words (waiting c.send_used.new.behind) = subst (λ l. Sent old between l words (waiting c.send_used.new.behind)) c.in_ok-behind.ensures c.in_ok-send_used.ensures.ok in (
+      front ++ words_text (file_of Two i).words,
+      c.in_ok-write_front.ensures,
+      subst (λ l. Writes (front ++ l) old new c.flush.result) is (rest_written old between new front words (waiting c.send_used.new.behind) (waiting c.flush.new.self) c.flush.result sent c.flush.ensures.ok c.flush.ensures.none c.flush.ensures.err),
+    )

@@ -1,0 +1,63 @@
+//! The text of an image, to a sink.
+ghost use Rattle.std.specs.Prelude.{◌≡◌, ◌≤◌, ◌*◌, ℕ, List, length, All, OnOk, IfErr};
+ghost use Rattle.g1_image.specs.Text.{words_text};
+ghost use Rattle.g1_image.specs.Image.{used_words, IsTextIn};
+ghost use Rattle.g1_image.specs.Source.{marked};
+ghost use Rattle.g1_image.specs.Sink.{waiting, Sent, SendFails, Writes, output_mark};
+
+use crate::behind::Behind;
+use crate::cursor::Version;
+use crate::encoding::write_front;
+use crate::image::Image;
+use crate::sink::Sink;
+use g1_words::{Fault, Region};
+use std::alloc::Global;
+
+/// Sends the used words of regions of this width.
+fn send_used<S: Sink>(
+    behind: &mut Behind,
+    sink: &mut S,
+    width: usize,
+    regions: &[Region],
+    words: &[u64],
+) -> Result<(), Fault>
+    requires whole { length words.now ≡ length regions.now * width }
+    requires tops { All (λ q. q.top ≤ width) regions.now }
+    ensures ok { OnOk result (Sent (S.written sink.old) (S.written sink.new) (waiting behind.old) (words_text (used_words width regions.now words.now)) (waiting behind.new)) }
+    ensures err { IfErr result (SendFails (S.written sink.old) (S.written sink.new) (waiting behind.old) (words_text (used_words width regions.now words.now))) }
+    ensures mark { S.failed sink.new ≡ marked (S.failed sink.old) result }
+{
+    let mut rest = words;
+    for r in regions {
+        let (region, after) = rest.split_at(width);
+        behind.send(sink, &region[..r.top as usize])?;
+        rest = after;
+    }
+    Ok(())
+}
+
+/// Writes the text of an image, of version 2, to a sink: as `encode` gives it, but the words go out in
+/// pieces, and the text is never in memory as a whole. All memory is taken before the first byte is
+/// written. A sink that keeps bytes back is not flushed.
+///
+/// # Errors
+///
+/// `Fault::Memory`: nothing was written. `Fault::Device(Device::Output)` where a write failed: a
+/// beginning of the text was written.
+pub fn write<S: Sink>(alloc: Global, image: &Image, sink: &mut S) -> Result<(), Fault>
+    ensures text { (text : List ℕ) × IsTextIn Version.Two text image.now × Writes text (S.written sink.old) (S.written sink.new) result }
+    ensures mark { S.failed sink.new ≡ output_mark (S.failed sink.old) result }
+{
+    let heap = image.heap();
+    let mut front = Vec::new(alloc);
+    write_front(&mut front, image)?;
+    let mut behind = Behind::new(front)?;
+    send_used(
+        &mut behind,
+        sink,
+        heap.geometry().region_words() as usize,
+        heap.regions(),
+        heap.words(),
+    )?;
+    behind.flush(sink)
+}
