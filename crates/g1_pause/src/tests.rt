@@ -4,6 +4,7 @@ mod reading;
 mod settings;
 mod streams;
 mod vectors;
+mod writing;
 
 use g1_rem::{Tracked, verify};
 use g1_words::Fault;

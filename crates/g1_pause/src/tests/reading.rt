@@ -1,5 +1,4 @@
-use crate::FromReader;
-use g1_image::{encode, read};
+use g1_image::{FromReader, encode, read};
 use g1_testing::pictures::{humongous, one_object, three_regions};
 use g1_testing::{Sketch, Stream, Trouble, text};
 use g1_words::{Device, Fault};

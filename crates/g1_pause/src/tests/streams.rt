@@ -1,6 +1,6 @@
-use crate::streams::{read_to_end, write_all};
-use crate::{Choice, FromReader, Settings, ToWriter, pause_run};
+use crate::{Choice, Settings, pause_run};
 use g1_choose::Cost;
+use g1_image::{FromReader, ToWriter};
 use g1_testing::pictures::{one_object, one_object_after};
 use g1_testing::{Stream, Trouble, text};
 use g1_words::{Device, Fault};
@@ -33,43 +33,6 @@ where
     let mut sink = ToWriter::new(writer);
     pause_run(rt, alloc, &mut source, &mut sink, &settings, &Open)?;
     sink.flush()
-}
-
-#[test]
-fn long_input_is_read_whole(rt: HostRuntime) -> Result<(), Fail> {
-    let alloc = rt.alloc();
-    for length in [0, 1, 65_535, 65_536, 65_537, 300_000] {
-        let mut bytes = vec![in alloc; 7u8; length]?;
-        bytes.push(8)?;
-        let read = read_to_end(alloc, &mut FromReader::new(bytes.as_slice()))?;
-        assert!(rt; read.as_slice() == bytes.as_slice(), "{length}");
-    }
-    Ok(())
-}
-
-#[test]
-fn bytes_pass_one_at_a_time(rt: HostRuntime) -> Result<(), Fail> {
-    let alloc = rt.alloc();
-    let bytes = text(alloc, one_object())?;
-    let reader = Stream::new(bytes.clone()?, 137, Trouble::Broken);
-    let read = read_to_end(alloc, &mut FromReader::new(reader))?;
-    assert_eq!(rt; read.as_slice(), bytes.as_slice());
-    let mut writer = ToWriter::new(Stream::new(Vec::new(alloc), 136, Trouble::Broken));
-    write_all(&mut writer, read.as_slice())?;
-    assert_eq!(rt; writer.into_inner().bytes.as_slice(), bytes.as_slice());
-    Ok(())
-}
-
-#[test]
-fn a_failing_writer_holds_a_beginning(rt: HostRuntime) -> Result<(), Fail> {
-    let alloc = rt.alloc();
-    for left in 0..3usize {
-        let mut writer = ToWriter::new(Stream::new(Vec::new(alloc), left, Trouble::Broken));
-        let told = write_all(&mut writer, &[3, 1, 2]);
-        assert_eq!(rt; told, Err(Fault::Device(Device::Output)));
-        assert_eq!(rt; writer.into_inner().bytes.as_slice(), &[3, 1, 2][..left]);
-    }
-    Ok(())
 }
 
 #[test]
