@@ -45,6 +45,7 @@ STEPS = {
     "read": SHARED,
     "encode": SHARED,
     "encode_into": SHARED,
+    "write": SHARED,
     "objects_in": lists([0, 4]) + b"watched\n" + lists([16, 21]) + (b"watched\n" + lists([])) * 2,
     "verify": SHARED,
     "merged": lists([1, 2, 4, 6]),

@@ -1,11 +1,13 @@
 //! Images out of bytes, and back.
 use crate::watch::{Watch, text_of};
-use g1_image::{Image, decode, encode_into};
-use g1_pause::FromReader;
+use g1_image::{FromReader, Image, ToWriter, decode, encode_into};
 use g1_rem::{Tracked, image, merged, verify};
 use g1_words::{Fault, Heap, objects_in};
 use std::alloc::Global;
 use std::thread::Threads;
+
+/// Room for the text of a small image: a writer of ours asks for no memory.
+const ROOM: usize = 4_096;
 
 /// The image of the bytes, whose references are covered.
 pub fn run<R: Threads + Sync>(
@@ -59,14 +61,25 @@ pub fn tracked<R: Threads + Sync>(rt: &R, alloc: Global, bytes: &[u8]) -> Result
     }
 }
 
-/// The image as bytes, in a list of its own and in one that is there.
+/// The image as bytes, in a list of its own, in one that is there, and from a sink.
 fn written(alloc: Global, read: &Image, watch: &mut Watch) -> Result<(), Fault> {
     watch.at("encode")?;
     let text = text_of(alloc, read)?;
     watch.bytes(text.as_slice())?;
     watch.at("encode_into")?;
     let text = written_into(Vec::new(alloc), read)?;
+    watch.bytes(text.as_slice())?;
+    let room = Vec::with_capacity(alloc, ROOM)?;
+    watch.at("write")?;
+    let text = sent(alloc, read, room)?;
     Ok(watch.bytes(text.as_slice())?)
+}
+
+/// The room with the image's bytes, which a sink wrote there. What `write` promises is not needed here.
+fn sent(alloc: Global, read: &Image, room: Vec<u8>) -> Result<Vec<u8>, Fault> {
+    let mut sink = ToWriter::new(room);
+    g1_image::write(alloc, read, &mut sink)?;
+    Ok(sink.into_inner())
 }
 
 /// The list, with the image's bytes in the place of its own. What `encode_into` promises is not needed

@@ -1,7 +1,7 @@
 //! Files that are named on the command line.
 use crate::refusal::{closed, of_file};
 use g1_command::{Refusal, read_all};
-use g1_image::{Image, decode};
+use g1_image::{FromReader, Image, read};
 use g1_words::Fault;
 use std::alloc::Global;
 use std::fs;
@@ -18,33 +18,39 @@ pub fn read_bytes<T: Files, R: Read>(
     name: &str,
     reader: &mut R,
 ) -> Result<Vec<u8>, Refusal> {
-    if name == STANDARD_INPUT {
-        return whole(alloc, name, reader);
-    }
-    match fs::open(rt, name) {
-        Ok(mut file) => whole(alloc, name, &mut file),
-        Err(error) if error.kind() == ErrorKind::OutOfMemory => Err(Fault::Memory.into()),
-        Err(_) => Err(closed(alloc, name)),
-    }
-}
-
-fn whole<R: Read>(alloc: Global, name: &str, reader: &mut R) -> Result<Vec<u8>, Refusal> {
-    match read_all(alloc, reader) {
+    let read = if name == STANDARD_INPUT {
+        read_all(alloc, reader)
+    } else {
+        read_all(alloc, &mut opened(rt, alloc, name)?)
+    };
+    match read {
         Ok(bytes) => Ok(bytes),
         Err(fault) => Err(of_file(alloc, name, fault)),
     }
 }
 
-/// The image in a file.
+/// The image in a file, or that which the reader tells where the name stands for standard input.
 pub fn read_image<T: Files, R: Read>(
     rt: &T,
     alloc: Global,
     name: &str,
     reader: &mut R,
 ) -> Result<Image, Refusal> {
-    let bytes = read_bytes(rt, alloc, name, reader)?;
-    match decode(alloc, bytes.as_slice()) {
+    let read = if name == STANDARD_INPUT {
+        read(alloc, &mut FromReader::new(reader))
+    } else {
+        read(alloc, &mut FromReader::new(opened(rt, alloc, name)?))
+    };
+    match read {
         Ok(image) => Ok(image),
         Err(fault) => Err(of_file(alloc, name, fault)),
+    }
+}
+
+fn opened<T: Files>(rt: &T, alloc: Global, name: &str) -> Result<T::File, Refusal> {
+    match fs::open(rt, name) {
+        Ok(file) => Ok(file),
+        Err(error) if error.kind() == ErrorKind::OutOfMemory => Err(Fault::Memory.into()),
+        Err(_) => Err(closed(alloc, name)),
     }
 }

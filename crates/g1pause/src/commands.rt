@@ -4,8 +4,8 @@ use crate::options::{NAME, Pause, Request, Sharing, parse};
 use crate::show::table;
 use g1_choose::Cost;
 use g1_command::{Refusal, deliver, read_all, refuse};
-use g1_image::{Image, decode, encode_into, read};
-use g1_pause::{Choice, FromReader, Settings, ToWriter, pause_run};
+use g1_image::{FromReader, Image, ToWriter, read, write};
+use g1_pause::{Choice, Settings, pause_run};
 use g1_rem::{Tracked, verify};
 use g1_trace::run_text;
 use g1_words::Fault;
@@ -43,7 +43,11 @@ fn perform<T: Threads + Sync, R: Read, W: Write>(
         Request::Help(text) => deliver(text.as_bytes(), writer)?,
         Request::Show { sharing, repack } => {
             let settings = shared(sharing)?;
-            deliver(&show(rt, alloc, &settings, repack, reader)?, writer)?;
+            if repack {
+                repacked(alloc, reader, writer)?;
+            } else {
+                deliver(&show(rt, alloc, &settings, reader)?, writer)?;
+            }
         }
         Request::Check => deliver(&check(rt, alloc, reader)?, writer)?,
         Request::Live(sharing) => {
@@ -111,22 +115,17 @@ fn show<T: Threads + Sync, R: Read>(
     rt: &T,
     alloc: Global,
     settings: &Settings,
-    repack: bool,
     reader: &mut R,
 ) -> Result<Vec<u8>, Fault> {
-    if repack {
-        return repacked(alloc, reader);
-    }
     let image = read_image(alloc, reader)?;
     Ok(table(rt, alloc, settings, &image)?.into_bytes())
 }
 
-// The text of the image that was read, in the room of the bytes that told it.
-fn repacked<R: Read>(alloc: Global, reader: &mut R) -> Result<Vec<u8>, Fault> {
-    let mut text = read_all(alloc, reader)?;
-    let image = decode(alloc, &text)?;
-    encode_into(&mut text, &image)?;
-    Ok(text)
+fn repacked<R: Read, W: Write>(alloc: Global, reader: &mut R, writer: &mut W) -> Result<(), Fault> {
+    let image = read_image(alloc, reader)?;
+    let mut sink = ToWriter::new(writer);
+    write(alloc, &image, &mut sink)?;
+    sink.flush()
 }
 
 fn check<T: Threads + Sync, R: Read>(
