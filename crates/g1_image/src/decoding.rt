@@ -64,7 +64,7 @@ fn draft_heap(
 }
 
 /// The image of a whole file's front and words.
-pub(crate) fn judged(alloc: Global, front: Front, words: Vec<u64>) -> Result<Image, Fault>
+pub(crate) fn image_of(alloc: Global, front: Front, words: Vec<u64>) -> Result<Image, Fault>
     requires { (bytes : List ℕ) × IsLaid bytes front words.items }
     ensures ok { IfOk result (λ i. (bytes : List ℕ) → IsLaid bytes front words.items → IsTextOf bytes i) }
     ensures err { IfErr result (λ e. (bytes : List ℕ) → IsLaid bytes front words.items → MayFail bytes e) }
@@ -102,5 +102,5 @@ pub fn decode(alloc: Global, bytes: &[u8]) -> Result<Image, Fault>
 {
     let (front, words) = whole(alloc, bytes)?;
     let words = lay_words(alloc, front.heading.w, &front.table, words)?;
-    judged(alloc, front, words)
+    image_of(alloc, front, words)
 }

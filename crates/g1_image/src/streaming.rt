@@ -8,7 +8,7 @@ ghost use Rattle.g1_image.specs.Front.{IsGoodFront, text_of, IsLaid};
 ghost use Rattle.g1_image.specs.Ahead.{to_take, KnowsEnd, TextFails};
 
 use crate::ahead::{Ahead, PIECE};
-use crate::decoding::judged;
+use crate::decoding::image_of;
 use crate::image::Image;
 use crate::pieces::lay_pieces;
 use crate::plain::{Front, read_front};
@@ -37,7 +37,7 @@ fn is_of_bytes(fault: &Fault) -> bool
 }
 
 /// The front that the bytes begin with, and how many bytes it has.
-fn measured(alloc: Global, bytes: &[u8]) -> Result<(Front, usize), Fault>
+fn front_of(alloc: Global, bytes: &[u8]) -> Result<(Front, usize), Fault>
     ensures ok { IfOk result (λ x. IsGoodFront x.0) }
     ensures count { IfOk result (λ x. x.1 ≤ length bytes.now) }
     ensures text { IfOk result (λ x. bytes.now ≡ text_of x.0 (drop x.1 bytes.now)) }
@@ -48,7 +48,7 @@ fn measured(alloc: Global, bytes: &[u8]) -> Result<(Front, usize), Fault>
 }
 
 /// Takes the front of the text. Twice as many bytes are read until it is among them.
-fn opened<S: Source>(alloc: Global, source: &mut S, ahead: &mut Ahead) -> Result<Front, Fault>
+fn take_front<S: Source>(alloc: Global, source: &mut S, ahead: &mut Ahead) -> Result<Front, Fault>
     requires known { KnowsEnd ahead.old (S.left source.old) }
     ensures known { KnowsEnd ahead.new (S.left source.new) }
     ensures ok { IfOk result (λ x. IsGoodFront x) }
@@ -59,7 +59,7 @@ fn opened<S: Source>(alloc: Global, source: &mut S, ahead: &mut Ahead) -> Result
     let mut wanted = PIECE;
     loop {
         let more = ahead.reach(source, wanted)?;
-        match measured(alloc, ahead.bytes()) {
+        match front_of(alloc, ahead.bytes()) {
             Ok((front, count)) => {
                 ahead.pass(count);
                 return Ok(front);
@@ -75,7 +75,7 @@ fn opened<S: Source>(alloc: Global, source: &mut S, ahead: &mut Ahead) -> Result
 }
 
 /// The front and the words of the text.
-fn told<S: Source>(
+fn take_parts<S: Source>(
     alloc: Global,
     source: &mut S,
     ahead: &mut Ahead,
@@ -87,7 +87,7 @@ fn told<S: Source>(
     ensures mark { OnOk result (S.failed source.new ≡ S.failed source.old) }
     ensures err { IfErr result (TextFails (S.failed source.old) (S.failed source.new) (to_take ahead.old (S.left source.old))) }
 {
-    let front = opened(alloc, source, ahead)?;
+    let front = take_front(alloc, source, ahead)?;
     let words = lay_pieces(alloc, front.heading.w, &front.table, source, ahead)?;
     if ahead.reach(source, 1)? {
         return Err(Fault::Trailing);
@@ -109,8 +109,8 @@ pub fn read<S: Source>(alloc: Global, source: &mut S) -> Result<Image, Fault>
     ensures marks { S.failed source.new ≡ input_mark (S.failed source.old) result }
 {
     let mut ahead = Ahead::new(alloc);
-    match told(alloc, source, &mut ahead) {
-        Ok((front, words)) => judged(alloc, front, words),
+    match take_parts(alloc, source, &mut ahead) {
+        Ok((front, words)) => image_of(alloc, front, words),
         Err(fault) => {
             // The rest is read too, so that a read that fails there is told.
             if is_of_bytes(&fault) {

@@ -1,7 +1,7 @@
 use Rattle.std.proofs.Common.{map, ap, ◌∙◌}
 use Rattle.g1_image.specs.Plain.{front_text}
 use Rattle.g1_image.proofs.Files.{front_dropped}
-use Rattle.g1_image.proofs.streaming.measured.Goals as goal
+use Rattle.g1_image.proofs.streaming.front_of.Goals as goal
 
 pub returns-clause-text : goal.returns-clause-text
 returns-clause-text c =

@@ -11,8 +11,8 @@ use Rattle.g1_image.specs.Judged.{IsGoodHeap, HeapFault, TableFault}
 use Rattle.g1_image.specs.Faults.{TableKnown, AreKnown, LogsGood, RememberedGood}
 use Rattle.g1_image.proofs.Drafts.{length-laid}
 use Rattle.g1_image.proofs.Assembled.{can_tell, table_fault, heap_fault, log_fault, logs_good, remembered_fault, all_remembered_good, made_image, made_text}
-use Rattle.g1_image.proofs.decoding.judged.Goals as goal
-use Rattle.g1_image.proofs.decoding.judged.Goals.{After-check_heap, In_ok-check_remembered}
+use Rattle.g1_image.proofs.decoding.image_of.Goals as goal
+use Rattle.g1_image.proofs.decoding.image_of.Goals.{After-check_heap, In_ok-check_remembered}
 
 abbrev heap_in : Geometry → List ℕ → List Region → List ℕ → Option ℕ → Heap
 heap_in g words regions roots current = record { geometry = g; words = words; regions = regions; roots = roots; current = current }

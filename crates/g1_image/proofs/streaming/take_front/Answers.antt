@@ -3,8 +3,8 @@ use Rattle.std.proofs.KnownBytes.{Keeps-trans}
 use Rattle.g1_image.specs.Ahead.{waiting}
 use Rattle.g1_image.specs.Faults.{FaultOf, MayFail}
 use Rattle.g1_image.proofs.Told.{front_taken, front_fails, at_end, whatever_follows}
-use Rattle.g1_image.proofs.streaming.opened.Goals as goal
-use Rattle.g1_image.proofs.streaming.opened.Goals.{then-not-more-via-then-not-more, then-not-more-via-else-not-more+then-is_final}
+use Rattle.g1_image.proofs.streaming.take_front.Goals as goal
+use Rattle.g1_image.proofs.streaming.take_front.Goals.{then-not-more-via-then-not-more, then-not-more-via-else-not-more+then-is_final}
 
 pub returns-in-Ok-clause-taken : goal.returns-in-Ok-clause-taken
 returns-in-Ok-clause-taken g c =

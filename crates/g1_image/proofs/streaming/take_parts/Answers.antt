@@ -5,7 +5,7 @@ use Rattle.g1_image.specs.Image.{all_words}
 use Rattle.g1_image.specs.Plain.{front_text}
 use Rattle.g1_image.specs.Ahead.{waiting, to_take, TakeFails}
 use Rattle.g1_image.proofs.Told.{words_fail, whole_text, bytes_behind, all_taken}
-use Rattle.g1_image.proofs.streaming.told.Goals as goal
+use Rattle.g1_image.proofs.streaming.take_parts.Goals as goal
 
 pub returns-in_err-words-clause-err : goal.returns-in_err-words-clause-err
 returns-in_err-words-clause-err g c =
@@ -13,7 +13,7 @@ returns-in_err-words-clause-err g c =
     let sets = map (λ s. s.items) f.remembered.items in
     let left = err_from_is_err_and c.from_residual-in_err-words.result c.from_residual-in_err-words.ensures.1 in
     rw (left.1, left.2) (words_fail f.version f.heading f.table.items f.roots.items f.log.items sets c.in_ok-front.ensures.ok _ _ _ _ _ c.in_err-words.field-0.0 c.in_ok-front.ensures.mark c.in_ok-front.ensures.taken
-    (subst (λ t. TakeFails (g.S.Source.failed c.opened.new.source) (g.S.Source.failed c.lay_pieces.new.source) (to_take c.opened.new.ahead (g.S.Source.left c.opened.new.source)) (8 * table_words t) c.in_err-words.field-0.0) c.deref.ensures.value c.in_err-words.ensures.err))
+    (subst (λ t. TakeFails (g.S.Source.failed c.take_front.new.source) (g.S.Source.failed c.lay_pieces.new.source) (to_take c.take_front.new.ahead (g.S.Source.left c.take_front.new.source)) (8 * table_words t) c.in_err-words.field-0.0) c.deref.ensures.value c.in_err-words.ensures.err))
 
 pub returns-then-branch-clause-err : goal.returns-then-branch-clause-err
 returns-then-branch-clause-err g c =

@@ -1,7 +1,7 @@
 use Rattle.std.proofs.Common.{◌≡◌, ◌<◌, ◌-◌, ◌^◌}
 use Rattle.std.specs.Io.KnownBytes.{Keeps}
 use Rattle.g1_image.specs.Ahead.{to_take, KnowsEnd}
-use Rattle.g1_image.proofs.streaming.opened.Given as goal
+use Rattle.g1_image.proofs.streaming.take_front.Given as goal
 
 abbrev pub invariant-loop-more : goal.invariant-loop-more
 invariant-loop-more g l = record {
