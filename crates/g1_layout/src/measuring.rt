@@ -2,20 +2,17 @@ ghost use Rattle.std.specs.Prelude.{◌≡◌, ◌≤◌, ◌<◌, ◌+◌, ◌*
 ghost use Rattle.g1_words.specs.Layout.{next_fit, need, free_regions, to_space};
 ghost use Rattle.g1_layout.specs.Placed.{CanLay};
 
-use g1_words::{Heap, size_at};
+use g1_words::{Geometry, Heap, region_of, size_at};
 use std::alloc::{AllocError, Global};
 
 /// The place of an object of a size in an endless row of empty regions, from an address of the row on.
-pub(crate) fn next_fit(region_words: u64, from: u64, size: u64) -> u64
-    requires some { 0 < region_words }
-    requires fits { from + size + region_words < 2 ^ 64 }
-    ensures { result ≡ next_fit region_words from size }
+pub(crate) fn next_fit(geometry: &Geometry, from: u64, size: u64) -> u64
+    requires { from + size + geometry.now.w < 2 ^ 64 }
+    ensures { result ≡ next_fit geometry.now.w from size }
 {
-    if from % region_words + size <= region_words {
-        from
-    } else {
-        (from / region_words + 1) * region_words
-    }
+    // This is asked for each survivor, so it divides nothing.
+    let next = (region_of(geometry, from) + 1) * geometry.region_words();
+    if from + size <= next { from } else { next }
 }
 
 /// The number of regions that survivors take, whether or not so many are free.
@@ -23,13 +20,13 @@ pub(crate) fn need(heap: &Heap, survivors: &[u64]) -> u64
     requires { CanLay heap.now survivors.now }
     ensures { result ≡ need heap.now survivors.now }
 {
-    let region_words = heap.geometry().region_words();
+    let geometry = heap.geometry();
     let mut end: u64 = 0;
     for a in survivors {
         let size = size_at(heap, *a);
-        end = next_fit(region_words, end, size) + size;
+        end = next_fit(&geometry, end, size) + size;
     }
-    (end + (region_words - 1)) / region_words
+    region_of(&geometry, end + (geometry.region_words() - 1))
 }
 
 /// The number of free regions.

@@ -27,9 +27,10 @@ fn places(
     let mut end: u64 = 0;
     for a in survivors {
         let size = size_at(heap, *a);
-        let at = next_fit(region_words, end, size);
-        let region = to_space[(at / region_words) as usize];
-        places.push(geometry.start(region) + at % region_words)?;
+        let at = next_fit(&geometry, end, size);
+        let number = region_of(&geometry, at);
+        let region = to_space[number as usize];
+        places.push(geometry.start(region) + (at - number * region_words))?;
         end = at + size;
     }
     Ok(places)
