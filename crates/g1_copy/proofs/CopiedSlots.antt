@@ -1,8 +1,7 @@
 -- The slots of the survivors at their places.
-use Rattle.std.proofs.Common.{◌≡◌, ◌≢◌, ◌≤◌, ◌<◌, ℕ, zero, suc, ◌+◌, ◌*◌, ◌/◌, ◌%◌, inl, inr, Bool, true, false, not, List, [], ◌∷◌, length, get_or, map, filter, All, Contains, arith, refl, ap, subst, ◌∙◌, eqb, div-add-mod'}
+use Rattle.std.proofs.Common.{◌≡◌, ◌≢◌, ◌≤◌, ◌<◌, ℕ, zero, suc, ◌+◌, ◌*◌, ◌/◌, ◌%◌, inl, inr, Bool, true, false, not, List, length, get_or, filter, All, Contains, arith, refl, ap, subst, ◌∙◌, eqb, div-add-mod', flat_map, take, sym}
 use Rattle.std.specs.List.{range_with_len}
-use Rattle.std.specs.List.Sorted.{IsStrictlyIncreasing}
-use Rattle.std.proofs.lemmas.List.{get_or_default}
+use Rattle.std.proofs.lemmas.List.{get_or_default, get_or-take, length-take}
 use Rattle.std.proofs.Math.Nat.{mul-le-mul_right}
 use Rattle.g1_words.specs.declared.object.Object.{Object}
 use Rattle.g1_words.specs.Heap.{Heap, object_at, objects, region_of, word}
@@ -14,14 +13,12 @@ use Rattle.g1_words.proofs.Computed.{contains_has, has_contains}
 use Rattle.g1_words.proofs.Indices.{get_or-In, is_free_region, range_bounds, taken_in}
 use Rattle.g1_words.proofs.Members.{In, In-from_contains, Contains-from_in, filter_member, flat_map_cases, has_from_in, in_from_has, map_cases}
 use Rattle.g1_words.proofs.OneToOne.{moved_stays}
-use Rattle.g1_words.proofs.Ordered.{Ordered, Ordered-from_pairs, pairs_from_ordered}
-use Rattle.g1_words.proofs.Rising.{Ordered-filter, Ordered-flat_map, Ordered-map, Ordered-range}
 use Rattle.g1_words.proofs.Sound.{sound}
 use Rattle.g1_words.specs.Copy.{renamed}
 use Rattle.g1_layout.proofs.Stretches.{within_region}
 use Rattle.g1_layout.specs.Placed.{CanPlace}
 use Rattle.g1_copy.proofs.GatheringWords.{forward_at, places_apart}
-use Rattle.g1_copy.specs.Links.{copied_slots, moved_slots}
+use Rattle.g1_copy.specs.Links.{moved_slots}
 
 module _ (h : Heap) (set l : List ℕ) (valid : IsValid h) (can : CanPlace h set l) (room : need h l ≤ length (free_regions h)) where
   -- a survivor is an object of the heap
@@ -47,12 +44,6 @@ module _ (h : Heap) (set l : List ℕ) (valid : IsValid h) (can : CanPlace h set
       let fk = forward_at h set l valid can room k lt in
       omega (arith, p, fj, fk)
 
-  survivors_ordered : Ordered Before l
-  survivors_ordered = Ordered-from_pairs Before l (λ j k d less lt.
-      let ej : get_or l j 0 ≡ get_or l j d = get_or_default l j 0 d (omega (arith, less, lt)) in
-      let ek : get_or l k 0 ≡ get_or l k d = get_or_default l k 0 d lt in
-      subst (Before (get_or l j d)) ek (subst (λ a. Before a (get_or l k 0)) ej (before_at j k less lt)))
-
   -- ---- the slots of one survivor
 
   -- a slot of a survivor that isn't null, at its place
@@ -74,37 +65,22 @@ module _ (h : Heap) (set l : List ℕ) (valid : IsValid h) (can : CanPlace h set
       let b = range_bounds 1 (object_at h a).refs m.0 f.0 in
       record { offset = m.0; first = b.0; last = omega (arith, b.1); some = not_null (word h (a + m.0)) f.1; is = m.2 }
 
-  -- ---- the slots rise
+  -- the slots of the survivors before one stand below its place
+  pub slots_before : (i : ℕ) → i < length l → All (λ x. x.0 ≤ forward h l (get_or l i 0)) (flat_map (moved_slots h l) (take i l))
+  slots_before i lt = λ k d less. below (get_or (flat_map (moved_slots h l) (take i l)) k d) (get_or-In (flat_map (moved_slots h l) (take i l)) k d less) where
+    below : (x : ℕ × ℕ) → In (flat_map (moved_slots h l) (take i l)) x → x.0 ≤ forward h l (get_or l i 0)
+    below x m =
+        let c = flat_map_cases (moved_slots h l) (take i l) x m in
+        let a : ℕ = c.0 in
+        let j = Contains-from_in (take i l) a c.1 in
+        let before : j.0 < i = omega (arith, j.1, length-take i l) in
+        let is : get_or l j.0 0 ≡ a = get_or_default l j.0 0 a (omega (arith, before, lt)) ∙ sym (get_or-take i l j.0 a before) ∙ j.2 in
+        let apart : Before a (get_or l i 0) = subst (λ b. Before b (get_or l i 0)) is (before_at j.0 i before lt) in
+        let s = moved_slot a x c.2 in
+        let at : forward h l a + s.offset ≡ x.0 = ap (λ (z : ℕ × ℕ). z.0) s.is in
+        omega (arith, apart, at, s.last, survivor_slots a (taken_in i l a c.1))
 
-  abbrev SlotBefore : ℕ × ℕ → ℕ × ℕ → Type 0
-  SlotBefore x y = x.0 < y.0
-
-  moved_ordered : (a : ℕ) → Ordered SlotBefore (moved_slots h l a)
-  moved_ordered a =
-      Ordered-map SlotBefore (λ k. (forward h l a + k, renamed (forward h l) (word h (a + k)))) (filter (λ k. not (eqb (word h (a + k)) 0)) (range_with_len 1 (object_at h a).refs))
-      (Ordered-filter (λ x y. forward h l a + x < forward h l a + y) (λ k. not (eqb (word h (a + k)) 0)) (range_with_len 1 (object_at h a).refs)
-      (further (range_with_len 1 (object_at h a).refs) (Ordered-range 1 (object_at h a).refs)))
-    where
-      further : (xs : List ℕ) → Ordered (λ x y. x < y) xs → Ordered (λ x y. forward h l a + x < forward h l a + y) xs
-      further [] o = tt
-      further (x ∷ xs) o = ((λ y i. omega (arith, o.0 y i)), further xs o.1)
-
-  copied_ordered : Ordered SlotBefore (copied_slots h l)
-  copied_ordered =
-      Ordered-flat_map Before SlotBefore (moved_slots h l) l survivors_ordered (λ a i. moved_ordered a)
-      (λ a b x y i j before p q.
-      let s = moved_slot a x p in
-      let t = moved_slot b y q in
-      let e : forward h l a + s.offset ≡ x.0 = ap (λ (z : ℕ × ℕ). z.0) s.is in
-      let f : forward h l b + t.offset ≡ y.0 = ap (λ (z : ℕ × ℕ). z.0) t.is in
-      omega (arith, before, e, f, s.last, t.first, survivor_slots a i))
-
-  -- the slots of the survivors rise
-  pub copied_rise : IsStrictlyIncreasing (map (λ x. x.0) (copied_slots h l))
-  copied_rise = λ k lt. pairs_from_ordered (λ x y. x < y) (map (λ x. x.0) (copied_slots h l))
-      (Ordered-map (λ x y. x < y) (λ x. x.0) (copied_slots h l) copied_ordered) k (k + 1) 0 (omega arith) lt
-
-  -- ---- the slots and what they name are there
+  -- ---- what the slots name is there
 
   -- a survivor's place and its last word lie in the heap
   pub place_within : (a : ℕ) → In l a → forward h l a + (object_at h a).size ≤ h.geometry.n * h.geometry.w
@@ -131,25 +107,14 @@ module _ (h : Heap) (set l : List ℕ) (valid : IsValid h) (can : CanPlace h set
         let s = (sound h valid).slots_fit o (has_contains h o there) in
         omega (arith, stays, ends, s)
 
-  copied_there_at : (x : ℕ × ℕ) → In (copied_slots h l) x → (x.0 < h.geometry.n * h.geometry.w) × (0 < x.1) × (x.1 ≤ h.geometry.n * h.geometry.w)
-  copied_there_at x i =
-      let m = flat_map_cases (moved_slots h l) l x i in
-      let a : ℕ = m.0 in
-      let s = moved_slot a x m.2 in
-      let at : forward h l a + s.offset ≡ x.0 = ap (λ (z : ℕ × ℕ). z.0) s.is in
-      let names : renamed (forward h l) (word h (a + s.offset)) ≡ x.1 = ap (λ (z : ℕ × ℕ). z.1) s.is in
-      let here : x.0 < h.geometry.n * h.geometry.w = omega (arith, at, s.last, survivor_slots a m.1, place_within a m.1) in
-      elim (valid.slots (object_at h a) (a + s.offset) (survivor_has a m.1) (omega (arith, s.first), omega (arith, s.last))) [
-        | inl null ↦ absurd (s.some null)
-        | inr (o, there, e) ↦
-            let to : renamed (forward h l) (word h (a + s.offset)) ≡ suc (forward h l o.at) = ap (renamed (forward h l)) (e ∙ one_more o.at) in
-            let below = forward_below o there in
-            (here, omega (arith, names, to), omega (arith, names, to, below))
-      ]
+  -- what a slot of a survivor names afterwards
+  pub slot_named : (a k : ℕ) → In l a → 1 ≤ k → k ≤ (object_at h a).refs → renamed (forward h l) (word h (a + k)) ≤ h.geometry.n * h.geometry.w
+  slot_named a k i low high = elim (valid.slots (object_at h a) (a + k) (survivor_has a i) (omega (arith, low), omega (arith, high))) [
+    | inl null ↦ let to : renamed (forward h l) (word h (a + k)) ≡ 0 = ap (renamed (forward h l)) null in omega (arith, to)
+    | inr (o, there, e) ↦
+        let to : renamed (forward h l) (word h (a + k)) ≡ suc (forward h l o.at) = ap (renamed (forward h l)) (e ∙ one_more o.at) in
+        omega (arith, to, forward_below o there)
+  ]
     where
       one_more : (n : ℕ) → n + 1 ≡ suc n
       one_more n = omega arith
-
-  -- the slots lie in the heap, and name addresses of it
-  pub copied_there : All (λ x. (x.0 < h.geometry.n * h.geometry.w) × (0 < x.1) × (x.1 ≤ h.geometry.n * h.geometry.w)) (copied_slots h l)
-  copied_there = λ k d lt. copied_there_at (get_or (copied_slots h l) k d) (get_or-In (copied_slots h l) k d lt)

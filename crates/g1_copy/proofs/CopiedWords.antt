@@ -1,5 +1,5 @@
 -- The slots of the survivors, as they are read from the words of to-space.
-use Rattle.std.proofs.Common.{◌≡◌, ◌≢◌, ◌≤◌, ◌<◌, ℕ, zero, suc, ◌+◌, ◌-◌, ◌*◌, ◌%◌, ◌^◌, inl, inr, Bool, true, false, not, cond, List, [], ◌∷◌, ◌++◌, length, get_or, slice_index, map, filter, flat_map, take, drop, Contains, arith, refl, sym, ap, ◌∙◌, eqb, ne_eqb, append-nil}
+use Rattle.std.proofs.Common.{◌≡◌, ◌≢◌, ◌≤◌, ◌<◌, ℕ, zero, suc, ◌+◌, ◌-◌, ◌*◌, ◌%◌, ◌^◌, inl, inr, Bool, true, false, not, cond, List, [], ◌∷◌, ◌++◌, length, get_or, slice_index, map, filter, flat_map, take, drop, Contains, arith, refl, sym, ap, ◌∙◌, eqb, ne_eqb, append-nil, All, subst}
 use Rattle.std.specs.List.{range_with_len, slice_range}
 use Rattle.std.proofs.lemmas.List.{get_or-drop, get_or-map, get_or-take, length-drop, length-map, length-take-le, map-append, take_more}
 use Rattle.std.proofs.lemmas.List.Elements.{filter-append}
@@ -13,22 +13,20 @@ use Rattle.g1_words.specs.Heap.{Heap, is_free, kind, object_at, regions, start, 
 use Rattle.g1_words.specs.Layout.{forward, free_regions, laid, need, places, sizes_of}
 use Rattle.g1_words.specs.Valid.{IsValid}
 use Rattle.g1_words.proofs.Indices.{get_or-In, is_free_region, range_bounds}
-use Rattle.g1_words.proofs.Members.{In}
+use Rattle.g1_words.proofs.Members.{In, In-append_cases, Contains-from_in, filter_member, map_cases}
 use Rattle.g1_words.specs.Copy.{renamed, renamed_words, words_at}
 use Rattle.g1_after.specs.Made.{moved_word}
 use Rattle.g1_layout.proofs.Conditions.{can_lay}
-use Rattle.g1_layout.proofs.Lists.{range-more, range_more}
+use Rattle.g1_layout.proofs.Lists.{range-more}
 use Rattle.g1_layout.proofs.Running.{count_places, fits, laid_before-more, place_is, size_is, stretch_lies}
-use Rattle.g1_layout.proofs.Stretches.{runs_in_order}
-use Rattle.g1_layout.specs.Laws.{stretch}
 use Rattle.g1_layout.specs.Placed.{CanPlace}
 use Rattle.g1_layout.specs.Plan.{Plan, laid_before, run_at, runs}
 use Rattle.g1_layout.specs.declared.plan.Run.{Run}
 use Rattle.g1_copy.specs.Plans.{IsPlanOf}
 use Rattle.g1_copy.specs.Gathered.{placed_words, to_space_words}
 use Rattle.g1_copy.specs.Filled.{filled_slots}
-use Rattle.g1_copy.specs.Links.{copied_slots, moved_slots}
-use Rattle.g1_copy.proofs.CopiedSlots.{place_within, survivor_slots}
+use Rattle.g1_copy.specs.Links.{moved_slots}
+use Rattle.g1_copy.proofs.CopiedSlots.{place_within, survivor_slots, slot_named, slots_before}
 use Rattle.g1_copy.proofs.GatheringWords.{forward_at, get_or-placed_words, get_or-to_space_words, length-placed_words, length-to_space_words, placed_word}
 
 -- ---- the slots of one object, one by one
@@ -64,6 +62,19 @@ module _ (xs : List ℕ) (at place : ℕ) where
       let there : place + (1 + k) ≡ place + k + 1 = omega arith in
       one_more k true (ap (λ i. not (eqb (slice_index xs i) 0)) next ∙ ap not (ne_eqb (slice_index xs (at + k + 1)) 0 some))
       ∙ (λ i. first_slots k ++ (there i, slice_index xs (next i)) ∷ [])
+
+  -- the first k stand no higher than the k-th
+  pub first_below : (before : List (ℕ × ℕ)) (k : ℕ) → All (λ x. x.0 ≤ place) before → All (λ x. x.0 ≤ place + k + 1) (before ++ first_slots k)
+  first_below before k low = λ m d lt. below (get_or (before ++ first_slots k) m d) (get_or-In (before ++ first_slots k) m d lt) where
+    below : (x : ℕ × ℕ) → In (before ++ first_slots k) x → x.0 ≤ place + k + 1
+    below x i = elim (In-append_cases before (first_slots k) x i) [
+      | inl old ↦ let c = Contains-from_in before x old in let le : x.0 ≤ place = subst (λ (z : ℕ × ℕ). z.0 ≤ place) c.2 (low c.0 x c.1) in omega (arith, le)
+      | inr new ↦
+          let m = map_cases slot_there (filter filled (range_with_len 1 k)) x new in
+          let f = filter_member filled (range_with_len 1 k) m.0 m.1 in
+          let at : place + m.0 ≡ x.0 = ap (λ (z : ℕ × ℕ). z.0) m.2 in
+          omega (arith, at, range_bounds 1 k m.0 f.0)
+    ]
 
 -- ---- the words of a copy
 
@@ -104,31 +115,11 @@ same_slots f g w p (k ∷ ks) same =
     head e true false t ys zs r = cc
     head e false true t ys zs r = cc
 
--- a stretch with one number more
-stretch_more : (l : List ℕ) (from i : ℕ) → from ≤ i → i < length l → slice_range l from (i + 1) ≡ slice_range l from i ++ get_or l i 0 ∷ []
-stretch_more l from i low lt =
-    let count : i + 1 - from ≡ (i - from) + 1 = omega (arith, low) in
-    let index : from + (i - from) ≡ i = omega (arith, low) in
-    let len = length-drop from l in
-    ap (λ n. take n (drop from l)) count
-    ∙ take_more (drop from l) (i - from) 0 (omega (arith, low, lt, len))
-    ∙ ap (λ x. slice_range l from i ++ x ∷ []) (get_or-drop from l (i - from) 0 ∙ ap (λ j. get_or l j 0) index)
+-- ---- the slots before a survivor
 
--- ---- the runs
-
-module _ (h : Heap) (l : List ℕ) where
-  -- the slots of the survivors of the first runs
-  abbrev pub slots_of_runs : ℕ → List (ℕ × ℕ)
-  slots_of_runs n = flat_map (moved_slots h l) (flat_map (stretch l) (map (run_at h l) (range_with_len 0 n)))
-
-  -- one run more
-  pub runs_more : (n : ℕ) → slots_of_runs (n + 1) ≡ slots_of_runs n ++ flat_map (moved_slots h l) (stretch l (run_at h l n))
-  runs_more n =
-      ap (λ ns. flat_map (moved_slots h l) (flat_map (stretch l) (map (run_at h l) ns))) (range_more n)
-      ∙ ap (λ us. flat_map (moved_slots h l) (flat_map (stretch l) us)) (map-append (run_at h l) (range_with_len 0 n) (n ∷ []))
-      ∙ ap (flat_map (moved_slots h l)) (flat_map-append (stretch l) (map (run_at h l) (range_with_len 0 n)) (run_at h l n ∷ []))
-      ∙ flat_map-append (moved_slots h l) (flat_map (stretch l) (map (run_at h l) (range_with_len 0 n))) (stretch l (run_at h l n) ++ [])
-      ∙ ap (λ ys. slots_of_runs n ++ flat_map (moved_slots h l) ys) (append-nil (stretch l (run_at h l n)))
+-- the slots of the first survivors
+abbrev pub first_copied : Heap → List ℕ → ℕ → List (ℕ × ℕ)
+first_copied h l i = flat_map (moved_slots h l) (take i l)
 
 module _ (h : Heap) (set l : List ℕ) (valid : IsValid h) (can : CanPlace h set l) (room : need h l ≤ length (free_regions h)) where
   positive : 0 < h.geometry.w
@@ -198,16 +189,19 @@ module _ (h : Heap) (set l : List ℕ) (valid : IsValid h) (can : CanPlace h set
         (sym (forward_at h set l valid can room i in_list))
 
     -- one survivor more
-    pub run_more : flat_map (moved_slots h l) (slice_range l (laid_before h l t) i) ++ filled_slots words (offset i) place ≡ flat_map (moved_slots h l) (slice_range l (laid_before h l t) (i + 1))
+    pub run_more : first_copied h l i ++ filled_slots words (offset i) place ≡ first_copied h l (i + 1)
     run_more =
-        ap (λ ys. flat_map (moved_slots h l) (slice_range l (laid_before h l t) i) ++ ys) read_slots
-        ∙ ap (λ ys. flat_map (moved_slots h l) (slice_range l (laid_before h l t) i) ++ ys) (sym (append-nil (moved_slots h l survivor)))
-        ∙ sym (flat_map-append (moved_slots h l) (slice_range l (laid_before h l t) i) (survivor ∷ []))
-        ∙ ap (flat_map (moved_slots h l)) (sym (stretch_more l (laid_before h l t) i from in_list))
+        ap (λ ys. first_copied h l i ++ ys) (read_slots ∙ sym (append-nil (moved_slots h l survivor)))
+        ∙ sym (flat_map-append (moved_slots h l) (take i l) (survivor ∷ []))
+        ∙ ap (flat_map (moved_slots h l)) (sym (take_more l i 0 in_list))
 
-  -- all runs
-  pub runs_whole : slots_of_runs h l (need h l) ≡ copied_slots h l
-  runs_whole = ap (flat_map (moved_slots h l)) (runs_in_order h set l valid can room)
+    -- what its slots name is there
+    pub named_there : (k : ℕ) → k < (object_at h survivor).refs → get_or words (offset i + k + 1) 0 ≤ h.geometry.n * h.geometry.w
+    named_there k less =
+        let next : offset i + k + 1 ≡ offset i + suc k = omega arith in
+        let is : get_or words (offset i + k + 1) 0 ≡ renamed (forward h l) (word h (survivor + suc k)) =
+        ap (λ m. get_or words m 0) next ∙ word_there (suc k) (omega (arith, less, some_slots)) ∙ renamed_slot (forward h l) h (object_at h survivor) (suc k) (omega arith) (omega (arith, less)) in
+        omega (arith, is, slot_named h set l valid can room survivor (suc k) (get_or-In l i 0 in_list) (omega arith) (omega (arith, less)))
 
   -- there are no more free regions than regions
   pub need_most : need h l ≤ h.geometry.n
@@ -337,19 +331,31 @@ module _ (h : Heap) (p : Plan) (made : IsPlanOf h p) where
               omega (arith, at_offset, refs_are, count, some_slots h p.set p.survivors valid can room one.0 there i from to, ends_within h p.set p.survivors valid can room one.0 there i from to)
 
           -- and at addresses of the heap
-          pub slots_below : place + slice_index words at % 2 ^ 32 < 2 ^ 64
-          slots_below =
+          pub slots_inside : place + slice_index words at % 2 ^ 32 < h.geometry.n * h.geometry.w
+          slots_inside =
               let goes = place_is ∙ ap (λ xs. get_or xs i 0) places_are ∙ sym (forward_at h p.set p.survivors valid can room i listed) in
               let ends = place_within h p.set p.survivors valid can room (get_or p.survivors i 0) (get_or-In p.survivors i 0 listed) in
               let some = some_slots h p.set p.survivors valid can room one.0 there i from to in
-              let most = valid.limits.words_most in
-              omega (arith, refs_are, goes, ends, some, most)
+              omega (arith, refs_are, goes, ends, some)
+
+          pub slots_below : place + slice_index words at % 2 ^ 32 < 2 ^ 64
+          slots_below = omega (arith, slots_inside, valid.limits.words_most)
+
+          -- what they name is there
+          pub slots_named : (k : ℕ) → k < slice_index words at % 2 ^ 32 → slice_index words (at + k + 1) ≤ h.geometry.n * h.geometry.w
+          slots_named k less =
+              let is : slice_index words (at + k + 1) ≡ slice_index (placed_words h p.survivors (get_or (free_regions h) one.0 0)) (offset h p.set p.survivors valid can room i + k + 1) = λ j. slice_index (words_there j) (at_offset j + k + 1) in
+              omega (arith, is, named_there h p.set p.survivors valid can room one.0 there i from to k (omega (arith, less, refs_are)))
+
+          -- the slots of the survivors before this one stand below it
+          pub slots_lower : All (λ x. x.0 ≤ place) (first_copied h p.survivors i)
+          slots_lower =
+              let goes : forward h p.survivors (get_or p.survivors i 0) ≡ place = forward_at h p.set p.survivors valid can room i listed ∙ sym (place_is ∙ ap (λ xs. get_or xs i 0) places_are) in
+              subst (λ q. All (λ x. x.0 ≤ q) (first_copied h p.survivors i)) goes (slots_before h p.set p.survivors valid can room i listed)
 
           -- one survivor more
-          pub slots_more : flat_map (moved_slots h p.survivors) (slice_range p.survivors u.from i) ++ filled_slots words at place ≡ flat_map (moved_slots h p.survivors) (slice_range p.survivors u.from (i + 1))
+          pub slots_more : first_copied h p.survivors i ++ filled_slots words at place ≡ first_copied h p.survivors (i + 1)
           slots_more =
-              let f : u.from ≡ laid_before h p.survivors one.0 = ap (λ (v : Run). v.from) is in
               let goes : place ≡ get_or (places h p.survivors) i 0 = place_is ∙ ap (λ xs. get_or xs i 0) places_are in
-              (λ j. flat_map (moved_slots h p.survivors) (slice_range p.survivors (f j) i) ++ filled_slots (words_there j) (at_offset j) (goes j))
+              (λ j. first_copied h p.survivors i ++ filled_slots (words_there j) (at_offset j) (goes j))
               ∙ run_more h p.set p.survivors valid can room one.0 there i from to
-              ∙ (λ j. flat_map (moved_slots h p.survivors) (slice_range p.survivors (sym f j) (i + 1)))

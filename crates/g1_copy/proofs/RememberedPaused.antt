@@ -30,17 +30,13 @@ use Rattle.g1_copy.specs.Plans.{IsPauseOf}
 use Rattle.g1_copy.specs.Fates.{AreFates}
 use Rattle.g1_copy.specs.Remembered.{AreSources, AreJoined}
 use Rattle.g1_copy.specs.declared.fates.Fate.{Fate}
-use Rattle.g1_copy.proofs.CopiedSlots.{copied_rise, copied_there, forward_below}
+use Rattle.g1_copy.proofs.CopiedSlots.{forward_below}
 use Rattle.g1_copy.proofs.RememberedLinks.{owner_of}
 use Rattle.g1_copy.proofs.RememberedJoined.{are_sources, remembered_after_are}
 
 -- the slots lie in the heap, and name addresses of it
 abbrev pub AreThere : Heap → List (ℕ × ℕ) → Type 0
 AreThere h xs = All (λ x. (x.0 < h.geometry.n * h.geometry.w) × (0 < x.1) × (x.1 ≤ h.geometry.n * h.geometry.w)) xs
-
--- the copied slots, as they are lent
-pub copies_lent : (h j : Heap) (l : List ℕ) (lent items : List (ℕ × ℕ)) → h ≡ j → lent ≡ items → items ≡ copied_slots h l → lent ≡ copied_slots j l
-copies_lent h j l lent items same e f = e ∙ f ∙ ap (λ x. copied_slots x l) same
 
 -- the lists of cards, as they are lent
 pub cards_lent : (h : Heap) (xs : List (ℕ × ℕ)) (lent items : List (Vec ℕ)) → lent ≡ items → map (λ s. s.items) items ≡ cards_by_region h xs → map (λ s. s.items) lent ≡ cards_by_region h xs
@@ -90,19 +86,13 @@ module _ (i : Image) (set : List ℕ) (p : Plan) (image : IsImage i) (pause : Is
   pub outer_there : AreThere i.heap (all_patches i.heap set l)
   outer_there = patches_there i.heap set l image.heap can pause.made.room
 
-  pub inner_rise : IsStrictlyIncreasing (map (λ x. x.0) (copied_slots i.heap l))
-  inner_rise = copied_rise i.heap set l image.heap can pause.made.room
-
-  pub inner_there : AreThere i.heap (copied_slots i.heap l)
-  inner_there = copied_there i.heap set l image.heap can pause.made.room
-
-  module _ (h : Heap) (heap : h ≡ i.heap) (patches copies : List (ℕ × ℕ)) (the_patches : patches ≡ all_patches i.heap set l) (the_copies : copies ≡ copied_slots i.heap l)
-      (fates : List Fate) (are : AreFates i.heap set (to_space i.heap l) fates) (remembered outer inner : List (List ℕ)) (the_remembered : remembered ≡ map (refined i) (regions i.heap)) (the_outer : outer ≡ cards_by_region h patches) (the_inner : inner ≡ cards_by_region h copies) where
+  module _ (h : Heap) (heap : h ≡ i.heap) (patches : List (ℕ × ℕ)) (the_patches : patches ≡ all_patches i.heap set l)
+      (fates : List Fate) (are : AreFates i.heap set (to_space i.heap l) fates) (remembered outer inner : List (List ℕ)) (the_remembered : remembered ≡ map (refined i) (regions i.heap)) (the_outer : outer ≡ cards_by_region h patches) (the_inner : inner ≡ cards_by_region h (copied_slots h l)) where
     outer_are : outer ≡ cards_by_region i.heap (all_patches i.heap set l)
     outer_are = the_outer ∙ (λ t. cards_by_region (heap t) (the_patches t))
 
     inner_are : inner ≡ cards_by_region i.heap (copied_slots i.heap l)
-    inner_are = the_inner ∙ (λ t. cards_by_region (heap t) (the_copies t))
+    inner_are = the_inner ∙ (λ t. cards_by_region (heap t) (copied_slots (heap t) l))
 
     pub paused_sources : AreSources h fates remembered outer inner
     paused_sources = subst (λ x. AreSources x fates remembered outer inner) (sym heap)

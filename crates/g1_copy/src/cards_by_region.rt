@@ -7,7 +7,7 @@ use g1_words::{Heap, card_of, region_of};
 use std::alloc::{AllocError, Global};
 
 /// An empty list of cards for each region.
-fn no_cards(alloc: Global, regions: u64) -> Result<Vec<Vec<u32>>, AllocError>
+pub(crate) fn no_cards(alloc: Global, regions: u64) -> Result<Vec<Vec<u32>>, AllocError>
     ensures { IfOk result (λ v. map (λ s. s.items) v.items ≡ replicate regions []) }
 {
     let mut lists: Vec<Vec<u32>> = Vec::new(alloc);
@@ -31,7 +31,12 @@ fn push_once(cards: &mut Vec<u32>, card: u32) -> Result<(), AllocError>
 
 /// Adds a slot's card to the list of the region that its word leads into, where that is another one.
 /// Where the lists are those of slots that don't stand above it, it goes to a list's end.
-fn add_slot(heap: &Heap, slot: u64, word: u64, lists: &mut [Vec<u32>]) -> Result<(), AllocError>
+pub(crate) fn add_slot(
+    heap: &Heap,
+    slot: u64,
+    word: u64,
+    lists: &mut [Vec<u32>],
+) -> Result<(), AllocError>
     requires inside { slot < heap.now.geometry.n * heap.now.geometry.w }
     requires some { 0 < word }
     requires within { word ≤ heap.now.geometry.n * heap.now.geometry.w }

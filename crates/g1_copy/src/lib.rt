@@ -17,7 +17,7 @@
 
 mod cards_by_region;
 mod committing;
-mod copied_slots;
+mod copied_cards;
 mod fates;
 mod filling;
 mod gathering;

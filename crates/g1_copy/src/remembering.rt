@@ -13,7 +13,7 @@ ghost use Rattle.g1_copy.specs.Fates.{AreFates};
 ghost use Rattle.g1_copy.specs.Remembered.{stays, IsJoined, AreSources, AreJoined, IsJoinedAt};
 
 use crate::cards_by_region::cards_by_region;
-use crate::copied_slots::copied_slots;
+use crate::copied_cards::copied_cards;
 use crate::fates::{Fate, fates};
 use g1_layout::Plan;
 use g1_rem::{CARDS_A_THREAD, Tracked, cards_in, image, merged};
@@ -194,8 +194,7 @@ pub(crate) fn remembered_by_fate(
 {
     let heap = image(tracked).heap();
     let outer = cards_by_region(alloc, heap, patches)?;
-    let copies = copied_slots(alloc, heap, plan, gathered)?;
-    let inner = cards_by_region(alloc, heap, &copies)?;
+    let inner = copied_cards(alloc, heap, plan, gathered)?;
     joined_remembered(rt, alloc, heap, fates, remembered, &outer, &inner, workers)
 }
 

@@ -224,25 +224,34 @@ module _ (h : Heap) (set l : List ℕ) (valid : IsValid h) (can : CanPlace h set
       let i = in_stretch h l positive lay room t there k lt same in
       elim c [ inl less ↦ omega (arith, i.0) | inr ge ↦ omega (arith, i.1) ])))
 
-  -- the runs have all survivors, in their order
-  pub runs_in_order : flat_map (stretch l) (runs h l) ≡ l
-  runs_in_order =
+  -- no survivor is laid before the row's first region
+  pub laid_none : laid_before h l 0 ≡ 0
+  laid_none = none_before h.geometry.w 0 (laid h.geometry.w 0 (sizes_of h l)) (λ q i. omega arith)
+
+  -- and all are before the end of the last that is needed
+  pub laid_all : laid_before h l (need h l) ≡ length l
+  laid_all =
       let lay = can_lay h set l valid can in
       let qs : List ℕ = laid h.geometry.w 0 (sizes_of h l) in
-      let first : laid_before h l 0 ≡ 0 = none_before h.geometry.w 0 qs (λ q i. omega arith) in
       let n = count_row h l positive lay room in
       let m = count_by-le-length (λ q. ltb (q / h.geometry.w) (need h l)) qs in
-      let all : 0 + need h l ≡ need h l = omega arith in
-      let whole : length l - 0 ≡ length l = omega arith in
-      let last : laid_before h l (0 + need h l) ≡ length l = ap (laid_before h l) all ∙ elim (cases_lt (laid_before h l (need h l)) (length l)) [
+      elim (cases_lt (laid_before h l (need h l)) (length l)) [
         | inr ge ↦ omega arith
         | inl lt ↦
             let a = after_lies h.geometry.w (need h l) qs (laid_before h l (need h l)) (rises h l positive lay room) (omega arith) (omega arith) in
             let b = needed h l positive lay room (laid_before h l (need h l)) lt in
             absurd (omega arith)
-      ] in
+      ]
+
+  -- the runs have all survivors, in their order
+  pub runs_in_order : flat_map (stretch l) (runs h l) ≡ l
+  runs_in_order =
+      let lay = can_lay h set l valid can in
+      let all : 0 + need h l ≡ need h l = omega arith in
+      let whole : length l - 0 ≡ length l = omega arith in
+      let last : laid_before h l (0 + need h l) ≡ length l = ap (laid_before h l) all ∙ laid_all in
       flat_map-map (stretch l) (run_at h l) (range_with_len 0 (need h l))
       ∙ stretches (laid_before h l) (need h l) (λ t lt. laid_before-more h l positive lay room t lt) l 0 (need h l) (omega arith)
-      ∙ (λ i. slice_range l (first i) (last i))
+      ∙ (λ i. slice_range l (laid_none i) (last i))
       ∙ ap (λ n. take n l) whole
       ∙ take-length l

@@ -1,7 +1,8 @@
 use Rattle.std.proofs.Common.{◌≡◌, List, ℕ, map, subst, sym, ap, ◌∙◌}
 use Rattle.std.specs.List.Sorted.{IsStrictlyIncreasing}
 use Rattle.g1_image.specs.Image.{Image, IsImage}
-use Rattle.g1_copy.proofs.RememberedPaused.{AreThere, copies_lent, cards_lent, outer_rise, outer_there, inner_rise, inner_there, paused_sources, paused_remembered}
+use Rattle.g1_copy.specs.Links.{copied_slots}
+use Rattle.g1_copy.proofs.RememberedPaused.{AreThere, cards_lent, outer_rise, outer_there, paused_sources, paused_remembered}
 use Rattle.g1_copy.proofs.remembering.remembered_by_fate.Given.{Over}
 use Rattle.g1_copy.proofs.remembering.remembered_by_fate.Goals as goal
 use Rattle.g1_copy.proofs.remembering.remembered_by_fate.Goals.{After-heap-heap}
@@ -21,38 +22,23 @@ cards_by_region-requires-clause-there g c =
     subst (λ h. AreThere h c.args.patches.now) (sym (the_heap g c))
     (subst (AreThere c.args.tracked.now.heap) (sym c.requires.patches) (outer_there c.args.tracked.now c.args.plan.now.set c.args.plan.now (the_image g c) c.requires.plan))
 
-pub cards_by_region-requires-2-clause-rising : goal.cards_by_region-requires-2-clause-rising
-cards_by_region-requires-2-clause-rising g c =
-    let b = (goal.at.cards_by_region-requires-2-clause-rising g c).After-heap-heap in
-    let copies = copies_lent c.heap-heap.result.now c.args.tracked.now.heap c.args.plan.now.survivors c.deref.result.now c.in_ok-copies.copies.items (the_heap g b) c.deref.ensures.value c.in_ok-copies.ensures in
-    subst (λ (xs : List (ℕ × ℕ)). IsStrictlyIncreasing (map (λ x. x.0) xs)) (sym copies) (inner_rise c.args.tracked.now c.args.plan.now.set c.args.plan.now (the_image g b) c.requires.plan)
-
-pub cards_by_region-requires-2-clause-there : goal.cards_by_region-requires-2-clause-there
-cards_by_region-requires-2-clause-there g c =
-    let b = (goal.at.cards_by_region-requires-2-clause-there g c).After-heap-heap in
-    let copies = copies_lent c.heap-heap.result.now c.args.tracked.now.heap c.args.plan.now.survivors c.deref.result.now c.in_ok-copies.copies.items (the_heap g b) c.deref.ensures.value c.in_ok-copies.ensures in
-    subst (λ h. AreThere h c.deref.result.now) (sym (the_heap g b))
-    (subst (AreThere c.args.tracked.now.heap) (sym copies) (inner_there c.args.tracked.now c.args.plan.now.set c.args.plan.now (the_image g b) c.requires.plan))
-
 pub joined_remembered-requires-after_bounds : goal.joined_remembered-requires-after_bounds
 joined_remembered-requires-after_bounds g c κs within =
     let b = (goal.at.joined_remembered-requires-after_bounds g c).After-heap-heap in
     let h = c.heap-heap.result.now in
-    let copies = copies_lent h c.args.tracked.now.heap c.args.plan.now.survivors c.deref.result.now c.in_ok-copies.copies.items (the_heap g b) c.deref.ensures.value c.in_ok-copies.ensures in
-    let outer = cards_lent h c.args.patches.now c.deref-2.result.now c.in_ok-outer.outer.items c.deref-2.ensures.value c.in_ok-outer.ensures in
-    let inner = cards_lent h c.deref.result.now c.deref-3.result.now c.in_ok-inner.inner.items c.deref-3.ensures.value c.in_ok-inner.ensures in
+    let outer = cards_lent h c.args.patches.now c.deref.result.now c.in_ok-outer.outer.items c.deref.ensures.value c.in_ok-outer.ensures in
+    let inner = cards_lent h (copied_slots h c.args.plan.now.survivors) c.deref-2.result.now c.in_ok-inner.inner.items c.deref-2.ensures.value c.in_ok-inner.ensures in
     paused_sources c.args.tracked.now c.args.plan.now.set c.args.plan.now (the_image g b) c.requires.plan h (the_heap g b)
-    c.args.patches.now c.deref.result.now c.requires.patches copies c.args.fates.now c.requires.fates
-    (map (λ s. s.items) c.args.remembered.now) (map (λ s. s.items) c.deref-2.result.now) (map (λ s. s.items) c.deref-3.result.now) c.requires.remembered outer inner
+    c.args.patches.now c.requires.patches c.args.fates.now c.requires.fates
+    (map (λ s. s.items) c.args.remembered.now) (map (λ s. s.items) c.deref.result.now) (map (λ s. s.items) c.deref-2.result.now) c.requires.remembered outer inner
 
 pub returns-clause-ok : goal.returns-clause-ok
 returns-clause-ok g c =
     let b = (goal.at.returns-clause-ok g c).After-heap-heap in
     let h = c.heap-heap.result.now in
-    let copies = copies_lent h c.args.tracked.now.heap c.args.plan.now.survivors c.deref.result.now c.in_ok-copies.copies.items (the_heap g b) c.deref.ensures.value c.in_ok-copies.ensures in
-    let outer = cards_lent h c.args.patches.now c.deref-2.result.now c.in_ok-outer.outer.items c.deref-2.ensures.value c.in_ok-outer.ensures in
-    let inner = cards_lent h c.deref.result.now c.deref-3.result.now c.in_ok-inner.inner.items c.deref-3.ensures.value c.in_ok-inner.ensures in
+    let outer = cards_lent h c.args.patches.now c.deref.result.now c.in_ok-outer.outer.items c.deref.ensures.value c.in_ok-outer.ensures in
+    let inner = cards_lent h (copied_slots h c.args.plan.now.survivors) c.deref-2.result.now c.in_ok-inner.inner.items c.deref-2.ensures.value c.in_ok-inner.ensures in
     paused_remembered c.args.tracked.now c.args.plan.now.set c.args.plan.now (the_image g b) c.requires.plan h (the_heap g b)
-    c.args.patches.now c.deref.result.now c.requires.patches copies c.args.fates.now c.requires.fates
-    (map (λ s. s.items) c.args.remembered.now) (map (λ s. s.items) c.deref-2.result.now) (map (λ s. s.items) c.deref-3.result.now) c.requires.remembered outer inner
+    c.args.patches.now c.requires.patches c.args.fates.now c.requires.fates
+    (map (λ s. s.items) c.args.remembered.now) (map (λ s. s.items) c.deref.result.now) (map (λ s. s.items) c.deref-2.result.now) c.requires.remembered outer inner
     c.joined_remembered.result c.joined_remembered.ensures.ok

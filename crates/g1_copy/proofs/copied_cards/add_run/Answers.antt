@@ -1,12 +1,11 @@
-use Rattle.std.proofs.Common.{◌≡◌, ◌≤◌, ◌-◌, ◌*◌, ◌++◌, ◌∙◌, length, slice_index, flat_map, take, drop, append-nil, arith, ap, sym}
-use Rattle.std.specs.List.{slice_range}
-use Rattle.std.proofs.lemmas.List.{append_assoc}
+use Rattle.std.proofs.Common.{◌≡◌, ◌≤◌, ◌-◌, ◌*◌, ◌∙◌, length, slice_index, arith, ap, sym}
+use Rattle.std.proofs.lemmas.List.{length-map}
+use Rattle.std.proofs.lemmas.List.FromFn.{length-map-range_with_len}
 use Rattle.std.proofs.Math.Nat.{mul-le-mul_right}
 use Rattle.g1_words.specs.Geometry.{Geometry}
-use Rattle.g1_copy.specs.Filled.{filled_slots}
-use Rattle.g1_copy.specs.Links.{moved_slots}
-use Rattle.g1_copy.proofs.CopiedWords.{in_places, index_small, not_below, run_order, run_region, slots_below, slots_more, slots_within}
-use Rattle.g1_copy.proofs.copied_slots.add_run.Goals as goal
+use Rattle.g1_copy.specs.Links.{cards_by_region}
+use Rattle.g1_copy.proofs.CopiedWords.{first_copied, in_places, index_small, not_below, run_order, run_region, slots_below, slots_inside, slots_lower, slots_more, slots_named, slots_within}
+use Rattle.g1_copy.proofs.copied_cards.add_run.Goals as goal
 
 pub overflow_mul-start : goal.overflow_mul-start
 overflow_mul-start c =
@@ -16,12 +15,6 @@ overflow_mul-start c =
     let below = run_region h c.args.plan.now c.requires.plan c.geometry.ensures.valid c.args.run.now c.requires.run in
     let rows : c.args.run.now.region * c.args.heap.now.geometry.w ≤ c.args.heap.now.geometry.n * c.args.heap.now.geometry.w = mul-le-mul_right c.args.heap.now.geometry.w (omega (arith, below)) in
     omega (arith, start, rows, c.geometry.ensures.valid.limits.words_most)
-
-pub loop-i-init : goal.loop-i-init
-loop-i-init c =
-    let none : 0 ≡ c.args.run.now.from - c.args.run.now.from = omega arith in
-    sym (append-nil c.args.slots.now.items)
-    ∙ ap (λ n. c.args.slots.now.items ++ flat_map (moved_slots c.args.heap.now c.args.plan.now.survivors) (take n (drop c.args.run.now.from c.args.plan.now.survivors))) none
 
 pub offset_bounds-places-i : goal.offset_bounds-places-i
 offset_bounds-places-i c =
@@ -49,31 +42,52 @@ add_object-requires-clause-slots c =
     (slice_index c.places.result.now c.loop-i.i) (ap (λ xs. slice_index xs c.loop-i.i) c.places.ensures)
     c.args.words.now (slice_index c.places.result.now c.loop-i.i - c.from.result * c.region_words.result) c.requires.words (ap (λ z. slice_index c.places.result.now c.loop-i.i - z) start)
 
-pub add_object-requires-clause-place : goal.add_object-requires-clause-place
-add_object-requires-clause-place c =
+pub add_object-requires-clause-small : goal.add_object-requires-clause-small
+add_object-requires-clause-small c =
     let width : c.region_words.result ≡ c.args.heap.now.geometry.w = c.region_words.ensures.value ∙ ap (λ (g : Geometry). g.w) c.geometry.ensures.same in
     let start : c.from.result * c.region_words.result ≡ c.args.run.now.region * c.args.heap.now.geometry.w = λ j. c.from.ensures j * width j in
     slots_below c.args.heap.now c.args.plan.now c.requires.plan c.geometry.ensures.valid c.args.run.now c.requires.run c.loop-i.i c.loop-i.auto.i c.loop-i-test.true
     (slice_index c.places.result.now c.loop-i.i) (ap (λ xs. slice_index xs c.loop-i.i) c.places.ensures)
     c.args.words.now (slice_index c.places.result.now c.loop-i.i - c.from.result * c.region_words.result) c.requires.words (ap (λ z. slice_index c.places.result.now c.loop-i.i - z) start)
 
+pub add_object-requires-clause-inside : goal.add_object-requires-clause-inside
+add_object-requires-clause-inside c =
+    let width : c.region_words.result ≡ c.args.heap.now.geometry.w = c.region_words.ensures.value ∙ ap (λ (g : Geometry). g.w) c.geometry.ensures.same in
+    let start : c.from.result * c.region_words.result ≡ c.args.run.now.region * c.args.heap.now.geometry.w = λ j. c.from.ensures j * width j in
+    slots_inside c.args.heap.now c.args.plan.now c.requires.plan c.geometry.ensures.valid c.args.run.now c.requires.run c.loop-i.i c.loop-i.auto.i c.loop-i-test.true
+    (slice_index c.places.result.now c.loop-i.i) (ap (λ xs. slice_index xs c.loop-i.i) c.places.ensures)
+    c.args.words.now (slice_index c.places.result.now c.loop-i.i - c.from.result * c.region_words.result) c.requires.words (ap (λ z. slice_index c.places.result.now c.loop-i.i - z) start)
+
+pub add_object-requires-clause-named : goal.add_object-requires-clause-named
+add_object-requires-clause-named c =
+    let width : c.region_words.result ≡ c.args.heap.now.geometry.w = c.region_words.ensures.value ∙ ap (λ (g : Geometry). g.w) c.geometry.ensures.same in
+    let start : c.from.result * c.region_words.result ≡ c.args.run.now.region * c.args.heap.now.geometry.w = λ j. c.from.ensures j * width j in
+    slots_named c.args.heap.now c.args.plan.now c.requires.plan c.geometry.ensures.valid c.args.run.now c.requires.run c.loop-i.i c.loop-i.auto.i c.loop-i-test.true
+    (slice_index c.places.result.now c.loop-i.i) (ap (λ xs. slice_index xs c.loop-i.i) c.places.ensures)
+    c.args.words.now (slice_index c.places.result.now c.loop-i.i - c.from.result * c.region_words.result) c.requires.words (ap (λ z. slice_index c.places.result.now c.loop-i.i - z) start)
+
+pub add_object-requires-clause-one_each : goal.add_object-requires-clause-one_each
+add_object-requires-clause-one_each c = sym (length-map c.loop-i.lists (λ s. s.items)) ∙ ap length c.loop-i.invariant ∙ length-map-range_with_len _ 0 c.args.heap.now.geometry.n
+
 pub loop-i-preserved : goal.loop-i-preserved
 loop-i-preserved c =
     let h = c.args.heap.now in
     let l = c.args.plan.now.survivors in
-    let place = slice_index c.places.result.now c.loop-i.i in
-    let at = slice_index c.places.result.now c.loop-i.i - c.from.result * c.region_words.result in
-    let before = flat_map (moved_slots h l) (slice_range l c.args.run.now.from c.loop-i.i) in
     let width : c.region_words.result ≡ c.args.heap.now.geometry.w = c.region_words.ensures.value ∙ ap (λ (g : Geometry). g.w) c.geometry.ensures.same in
     let start : c.from.result * c.region_words.result ≡ c.args.run.now.region * c.args.heap.now.geometry.w = λ j. c.from.ensures j * width j in
-    c.in_ok-add_object.ensures ∙ ap (λ ys. ys ++ filled_slots c.args.words.now at place) c.loop-i.invariant
-    ∙ append_assoc c.args.slots.now.items before (filled_slots c.args.words.now at place)
-    ∙ ap (λ ys. c.args.slots.now.items ++ ys)
-    (slots_more h c.args.plan.now c.requires.plan c.geometry.ensures.valid c.args.run.now c.requires.run c.loop-i.i c.loop-i.auto.i c.loop-i-test.true
-    place (ap (λ xs. slice_index xs c.loop-i.i) c.places.ensures) c.args.words.now at c.requires.words (ap (λ z. slice_index c.places.result.now c.loop-i.i - z) start))
+    c.in_ok-add_object.ensures (first_copied h l c.loop-i.i)
+    (slots_lower c.args.heap.now c.args.plan.now c.requires.plan c.geometry.ensures.valid c.args.run.now c.requires.run c.loop-i.i c.loop-i.auto.i c.loop-i-test.true
+    (slice_index c.places.result.now c.loop-i.i) (ap (λ xs. slice_index xs c.loop-i.i) c.places.ensures)
+    c.args.words.now (slice_index c.places.result.now c.loop-i.i - c.from.result * c.region_words.result) c.requires.words (ap (λ z. slice_index c.places.result.now c.loop-i.i - z) start)
+    ) c.loop-i.invariant
+    ∙ ap (cards_by_region h)
+    (slots_more c.args.heap.now c.args.plan.now c.requires.plan c.geometry.ensures.valid c.args.run.now c.requires.run c.loop-i.i c.loop-i.auto.i c.loop-i-test.true
+    (slice_index c.places.result.now c.loop-i.i) (ap (λ xs. slice_index xs c.loop-i.i) c.places.ensures)
+    c.args.words.now (slice_index c.places.result.now c.loop-i.i - c.from.result * c.region_words.result) c.requires.words (ap (λ z. slice_index c.places.result.now c.loop-i.i - z) start)
+    )
 
 pub returns : goal.returns
 returns c =
     let order = run_order c.args.heap.now c.args.plan.now c.requires.plan c.geometry.ensures.valid c.args.run.now c.requires.run in
     let end : c.loop-i.i ≡ c.args.run.now.to = omega (arith, c.loop-i-test.false, c.loop-i.auto.i-end order) in
-    c.loop-i.invariant ∙ ap (λ i. c.args.slots.now.items ++ flat_map (moved_slots c.args.heap.now c.args.plan.now.survivors) (slice_range c.args.plan.now.survivors c.args.run.now.from i)) end
+    c.loop-i.invariant ∙ ap (λ i. cards_by_region c.args.heap.now (first_copied c.args.heap.now c.args.plan.now.survivors i)) end

@@ -1,0 +1,117 @@
+use Rattle.std.proofs.Common.{◌≡◌, ◌≤◌, ◌<◌, ◌+◌, ◌*◌, ◌∙◌, [], length, slice_index_or, map, flat_map, replicate, arith, ap, sym}
+use Rattle.std.specs.List.{slice_range}
+use Rattle.std.proofs.Math.Seq.{take-length}
+use Rattle.std.proofs.lemmas.List.{with_items_is}
+use Rattle.g1_words.specs.Geometry.{Geometry}
+use Rattle.g1_words.specs.Layout.{need}
+use Rattle.g1_layout.specs.Plan.{laid_before}
+use Rattle.g1_layout.specs.declared.plan.Run.{Run}
+use Rattle.g1_layout.proofs.Stretches.{laid_all, laid_none}
+use Rattle.g1_copy.specs.Gathered.{placed_words}
+use Rattle.g1_copy.specs.Links.{cards_by_region, moved_slots}
+use Rattle.g1_copy.proofs.CopiedWords.{first_copied, region_ends, region_words, run_is, runs_count}
+use Rattle.g1_copy.proofs.LinkingCards.{linked_none}
+use Rattle.g1_copy.proofs.copied_cards.copied_cards.Goals as goal
+
+pub overflow_mul-first : goal.overflow_mul-first
+overflow_mul-first c =
+    let h = c.args.heap.now in
+    let p = c.args.plan.now in
+    let made = c.requires.plan in
+    let t = c.loop-number.number in
+    let width : c.region_words-region_words.result ≡ c.args.heap.now.geometry.w = c.region_words-region_words.ensures.value ∙ ap (λ (g : Geometry). g.w) c.geometry-geometry.ensures.same in
+    let first = ap (λ z. c.loop-number.number * z) width in
+    let lt : c.loop-number.number < need c.args.heap.now c.args.plan.now.survivors = omega (arith, c.loop-number-test.true, ap length c.runs-runs.ensures, runs_count h p made) in
+    let ends = region_ends h p.set p.survivors c.geometry-geometry.ensures.valid made.placeable made.room t lt in
+    omega (arith, first, ends.1)
+
+pub overflow_add-words : goal.overflow_add-words
+overflow_add-words c =
+    let h = c.args.heap.now in
+    let p = c.args.plan.now in
+    let made = c.requires.plan in
+    let t = c.loop-number.number in
+    let width : c.region_words-region_words.result ≡ c.args.heap.now.geometry.w = c.region_words-region_words.ensures.value ∙ ap (λ (g : Geometry). g.w) c.geometry-geometry.ensures.same in
+    let first = ap (λ z. c.loop-number.number * z) width in
+    let lt : c.loop-number.number < need c.args.heap.now c.args.plan.now.survivors = omega (arith, c.loop-number-test.true, ap length c.runs-runs.ensures, runs_count h p made) in
+    let ends = region_ends h p.set p.survivors c.geometry-geometry.ensures.valid made.placeable made.room t lt in
+    omega (arith, first, width, ends.1)
+
+pub offset_bounds-gathered-first : goal.offset_bounds-gathered-first
+offset_bounds-gathered-first c =
+    let h = c.args.heap.now in
+    let p = c.args.plan.now in
+    let made = c.requires.plan in
+    let t = c.loop-number.number in
+    let width : c.region_words-region_words.result ≡ c.args.heap.now.geometry.w = c.region_words-region_words.ensures.value ∙ ap (λ (g : Geometry). g.w) c.geometry-geometry.ensures.same in
+    let first = ap (λ z. c.loop-number.number * z) width in
+    let lt : c.loop-number.number < need c.args.heap.now c.args.plan.now.survivors = omega (arith, c.loop-number-test.true, ap length c.runs-runs.ensures, runs_count h p made) in
+    let ends = region_ends h p.set p.survivors c.geometry-geometry.ensures.valid made.placeable made.room t lt in
+    omega (arith, first, ends.1)
+
+pub slice_bounds-words-end : goal.slice_bounds-words-end
+slice_bounds-words-end c =
+    let h = c.args.heap.now in
+    let p = c.args.plan.now in
+    let made = c.requires.plan in
+    let t = c.loop-number.number in
+    let width : c.region_words-region_words.result ≡ c.args.heap.now.geometry.w = c.region_words-region_words.ensures.value ∙ ap (λ (g : Geometry). g.w) c.geometry-geometry.ensures.same in
+    let first = ap (λ z. c.loop-number.number * z) width in
+    let lt : c.loop-number.number < need c.args.heap.now c.args.plan.now.survivors = omega (arith, c.loop-number-test.true, ap length c.runs-runs.ensures, runs_count h p made) in
+    let ends = region_ends h p.set p.survivors c.geometry-geometry.ensures.valid made.placeable made.room t lt in
+    let there : c.loop-number.number * c.region_words-region_words.result + c.region_words-region_words.result ≤ length c.args.gathered.now = omega (arith, first, width, ends.0, ap length c.requires.gathered) in
+    there
+
+pub add_run-requires-clause-words : goal.add_run-requires-clause-words
+add_run-requires-clause-words c =
+    let h = c.args.heap.now in
+    let p = c.args.plan.now in
+    let made = c.requires.plan in
+    let t = c.loop-number.number in
+    let d : Run = record { region = 0; from = 0; to = 0; end = 0 } in
+    let width : c.region_words-region_words.result ≡ c.args.heap.now.geometry.w = c.region_words-region_words.ensures.value ∙ ap (λ (g : Geometry). g.w) c.geometry-geometry.ensures.same in
+    let lt : c.loop-number.number < need c.args.heap.now c.args.plan.now.survivors = omega (arith, c.loop-number-test.true, ap length c.runs-runs.ensures, runs_count h p made) in
+    (λ j. slice_range (c.requires.gathered j) (c.loop-number.number * width j) (c.loop-number.number * width j + width j))
+    ∙ region_words h p.set p.survivors c.geometry-geometry.ensures.valid made.placeable made.room t lt
+    ∙ ap (λ (u : Run). placed_words h p.survivors u.region) (sym (ap (λ us. slice_index_or us t d) c.runs-runs.ensures ∙ run_is h p made t d lt))
+
+pub loop-number-init : goal.loop-number-init
+loop-number-init c =
+    let h = c.args.heap.now in
+    let p = c.args.plan.now in
+    let made = c.requires.plan in
+    let count : c.regions.result ≡ c.args.heap.now.geometry.n = c.regions.ensures.value ∙ ap (λ (g : Geometry). g.n) c.geometry-geometry.ensures.same in
+    c.in_ok-lists.ensures ∙ ap (λ n. replicate n []) count ∙ linked_none h
+    ∙ ap (λ i. cards_by_region h (first_copied h p.survivors i)) (sym (laid_none h p.set p.survivors c.geometry-geometry.ensures.valid made.placeable made.room))
+
+pub add_run-requires-clause-before : goal.add_run-requires-clause-before
+add_run-requires-clause-before c =
+    let h = c.args.heap.now in
+    let p = c.args.plan.now in
+    let made = c.requires.plan in
+    let t = c.loop-number.number in
+    let d : Run = record { region = 0; from = 0; to = 0; end = 0 } in
+    let lt : c.loop-number.number < need c.args.heap.now c.args.plan.now.survivors = omega (arith, c.loop-number-test.true, ap length c.runs-runs.ensures, runs_count h p made) in
+    let run = ap (λ us. slice_index_or us t d) c.runs-runs.ensures ∙ run_is h p made t d lt in
+    ap (map (λ s. s.items)) c.deref_mut.ensures.value ∙ c.loop-number.invariant ∙ ap (λ (u : Run). cards_by_region h (first_copied h p.survivors u.from)) (sym run)
+
+pub loop-number-preserved : goal.loop-number-preserved
+loop-number-preserved c =
+    let h = c.args.heap.now in
+    let p = c.args.plan.now in
+    let made = c.requires.plan in
+    let t = c.loop-number.number in
+    let d : Run = record { region = 0; from = 0; to = 0; end = 0 } in
+    let lt : c.loop-number.number < need c.args.heap.now c.args.plan.now.survivors = omega (arith, c.loop-number-test.true, ap length c.runs-runs.ensures, runs_count h p made) in
+    let run = ap (λ us. slice_index_or us t d) c.runs-runs.ensures ∙ run_is h p made t d lt in
+    ap (map (λ s. s.items)) (with_items_is c.loop-number.lists c.add_run.new.lists (c.add_run.auto.lists ∙ c.deref_mut.ensures.len))
+    ∙ c.in_ok-add_run.ensures ∙ ap (λ (u : Run). cards_by_region h (first_copied h p.survivors u.to)) run
+
+pub returns : goal.returns
+returns c =
+    let h = c.args.heap.now in
+    let p = c.args.plan.now in
+    let made = c.requires.plan in
+    let end : c.loop-number.number ≡ need c.args.heap.now c.args.plan.now.survivors = omega (arith, c.loop-number-test.false, c.loop-number.auto.number-end, ap length c.runs-runs.ensures, runs_count h p made) in
+    let all : laid_before h p.survivors c.loop-number.number ≡ length p.survivors = ap (laid_before h p.survivors) end ∙ laid_all h p.set p.survivors c.geometry-geometry.ensures.valid made.placeable made.room in
+    c.loop-number.invariant ∙ ap (λ i. cards_by_region h (first_copied h p.survivors i)) all ∙ ap (λ l. cards_by_region h (flat_map (moved_slots h p.survivors) l)) (take-length p.survivors)
