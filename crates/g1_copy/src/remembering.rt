@@ -17,7 +17,7 @@ use crate::copied_cards::copied_cards;
 use crate::fates::{Fate, fates};
 use g1_layout::Plan;
 use g1_rem::{CARDS_A_THREAD, Tracked, cards_in, image, merged};
-use g1_words::{Fault, Heap};
+use g1_words::{Fault, Heap, region_of};
 use g1_work::{MOST_WORKERS, threads_for};
 use rayon::prelude::*;
 use std::alloc::{AllocError, Global};
@@ -36,7 +36,7 @@ fn kept_cards(
     let geometry = heap.geometry();
     let mut kept = Vec::new(alloc);
     for card in cards {
-        let region = u64::from(*card) * geometry.card_words() / geometry.region_words();
+        let region = region_of(&geometry, geometry.card_start(*card));
         if !matches!(fates[region as usize], Fate::Freed) {
             kept.push(*card)?;
         }

@@ -62,7 +62,8 @@ fn names(
     requires card { card < card_count heap.now }
     ensures { result ≡ is_naming heap.now fates.now region card }
 {
-    let home = heap.geometry().region_of_card(card);
+    let geometry = heap.geometry();
+    let home = region_of(&geometry, geometry.card_start(card));
     match fates[home as usize] {
         // A card of to-space was put into the set for a slot on it that names the object.
         Fate::Filled(_) => true,
@@ -203,7 +204,8 @@ pub(crate) fn runs(alloc: Global, heap: &Heap, firsts: &[u32]) -> Result<Vec<u32
 fn stays(heap: &Heap, fates: &[Fate], card: u32) -> bool
     ensures { result ≡ stays heap.now fates.now card }
 {
-    let region = heap.geometry().region_of_card(card);
+    let geometry = heap.geometry();
+    let region = region_of(&geometry, geometry.card_start(card));
     !matches!(fates.get(region as usize), Some(Fate::Freed))
 }
 
