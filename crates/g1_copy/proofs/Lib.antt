@@ -17,6 +17,7 @@ pub mod UnnamedFirsts
 pub mod UnnamedRuns
 pub mod RememberedLeft
 pub mod InPlaceFreed
+pub mod HeadersAhead
 pub mod GatheringCopies
 pub mod GatheringRuns
 pub mod GatheringWhole

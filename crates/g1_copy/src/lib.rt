@@ -15,6 +15,7 @@
 //!    and refuses nothing.
 #![tactic(auto)]
 
+mod ahead;
 mod cards_by_region;
 mod committing;
 mod copied_cards;

@@ -3,23 +3,19 @@ use Rattle.g1_words.specs.Heap.{object_at, start}
 use Rattle.g1_words.specs.Layout.{forward}
 use Rattle.g1_words.specs.Copy.{renamed_words}
 use Rattle.g1_after.proofs.CopyWords.{length-renamed_words}
-use Rattle.g1_copy.proofs.GatheringRuns.{Filling-all, Filling-more, in_run}
+use Rattle.g1_copy.proofs.GatheringRuns.{Filling-all, Filling-more, Filling-start, in_run}
 use Rattle.g1_copy.proofs.gathering.fill.Goals as goal
 
-pub offset_bounds-survivors-i : goal.offset_bounds-survivors-i
-offset_bounds-survivors-i c =
-    let s = in_run c.args.heap.now c.args.plan.now c.geometry.ensures.valid c.requires.plan c.args.run c.requires.run c.loop-i.i (omega arith) (omega arith) in
-    omega (arith, s.index, ap length c.survivors.ensures, c.survivors.type_inv)
+pub loop-i-init : goal.loop-i-init
+loop-i-init c = record {
+  filling = Filling-start c.args.heap.now c.args.plan.now.survivors c.args.run.region c.args.run.from c.args.words.now c.requires.empty;
+  ahead = c.new-ahead.ensures c.args.heap.now c.args.plan.now.survivors;
+}
 
-pub bounds-survivors-i : goal.bounds-survivors-i
-bounds-survivors-i c =
+pub object-object-requires-clause-index : goal.object-object-requires-clause-index
+object-object-requires-clause-index c =
     let s = in_run c.args.heap.now c.args.plan.now c.geometry.ensures.valid c.requires.plan c.args.run c.requires.run c.loop-i.i (omega arith) (omega arith) in
-    omega (arith, s.index, ap length c.survivors.ensures)
-
-pub object-object-requires : goal.object-object-requires
-object-object-requires c =
-    let s = in_run c.args.heap.now c.args.plan.now c.geometry.ensures.valid c.requires.plan c.args.run c.requires.run c.loop-i.i (omega arith) (omega arith) in
-    omega (arith, s.object.within, s.object.refs_fit, ap (λ xs. get_or xs c.loop-i.i 0) c.survivors.ensures)
+    s.index
 
 pub overflow_sub-from : goal.overflow_sub-from
 overflow_sub-from c =
@@ -34,8 +30,7 @@ overflow_add-from c =
     let s = in_run h c.args.plan.now c.geometry.ensures.valid c.requires.plan c.args.run c.requires.run c.loop-i.i (omega arith) (omega arith) in
     let base : c.from.result * c.region_words.result ≡ start h c.args.run.region = cc in
     let read = ap (λ xs. get_or xs c.loop-i.i 0) c.places.ensures in
-    let header = ap (λ xs. (object_at h (get_or xs c.loop-i.i 0)).size) c.survivors.ensures in
-    omega (arith, s.low, s.high, base, read, header, ap (λ o. o.size) c.object-object.ensures, c.geometry.ensures.valid.limits.w_most)
+    omega (arith, s.low, s.high, base, read, ap (λ o. o.size) c.object-object.ensures.object, c.geometry.ensures.valid.limits.w_most)
 
 pub offset_bounds-words-from : goal.offset_bounds-words-from
 offset_bounds-words-from c =
@@ -51,14 +46,13 @@ slice_bounds-copy-end c =
     let s = in_run h c.args.plan.now c.geometry.ensures.valid c.requires.plan c.args.run c.requires.run c.loop-i.i (omega arith) (omega arith) in
     let base : c.from.result * c.region_words.result ≡ start h c.args.run.region = cc in
     let read = ap (λ xs. get_or xs c.loop-i.i 0) c.places.ensures in
-    let header = ap (λ xs. (object_at h (get_or xs c.loop-i.i 0)).size) c.survivors.ensures in
-    omega (arith, s.low, s.high, base, read, header, ap (λ o. o.size) c.object-object.ensures, c.loop-i.invariant.count)
+    omega (arith, s.low, s.high, base, read, ap (λ o. o.size) c.object-object.ensures.object, c.loop-i.invariant.filling.count)
 
 pub copy-requires-clause-survivor : goal.copy-requires-clause-survivor
 copy-requires-clause-survivor c =
     let h = c.args.heap.now in
     let s = in_run h c.args.plan.now c.geometry.ensures.valid c.requires.plan c.args.run c.requires.run c.loop-i.i (omega arith) (omega arith) in
-    let at : c.object-object.result.at ≡ get_or c.args.plan.now.survivors c.loop-i.i 0 = ap (λ o. o.at) c.object-object.ensures ∙ ap (λ xs. get_or xs c.loop-i.i 0) c.survivors.ensures in
+    let at : c.object-object.result.at ≡ get_or c.args.plan.now.survivors c.loop-i.i 0 = ap (λ o. o.at) c.object-object.ensures.object in
     subst (Contains c.args.plan.now.survivors) (sym at) s.survivor
 
 pub loop-i-preserved : goal.loop-i-preserved
@@ -69,14 +63,17 @@ loop-i-preserved c =
     let object = c.object-object.result in
     let from = get_or c.places.result.now i 0 - c.from.result * c.region_words.result in
     let base : c.from.result * c.region_words.result ≡ start h c.args.run.region = cc in
-    let is : object ≡ object_at h (get_or p.survivors i 0) = c.object-object.ensures ∙ ap (λ xs. object_at h (get_or xs i 0)) c.survivors.ensures in
+    let is : object ≡ object_at h (get_or p.survivors i 0) = c.object-object.ensures.object in
     let at : from ≡ get_or p.places i 0 - start h c.args.run.region = λ k. get_or (c.places.ensures k) i 0 - base k in
     let size : from + object.size - from ≡ (object_at h (get_or p.survivors i 0)).size = omega (arith, ap (λ o. o.size) is) in
     let whole : c.copy.new.copy ≡ renamed_words (forward h p.survivors) h (object_at h (get_or p.survivors i 0)) = c.copy.ensures ∙ ap (renamed_words (forward h p.survivors) h) is in
     let s = in_run h p c.geometry.ensures.valid c.requires.plan c.args.run c.requires.run i (omega arith) (omega arith) in
     let count = length-renamed_words (forward h p.survivors) h (object_at h (get_or p.survivors i 0)) s.object.refs_fit in
-    Filling-more h p c.geometry.ensures.valid c.requires.plan c.args.run c.requires.run i from (from + object.size - from) c.loop-i.words c.copy.new.copy (omega arith) (omega arith) c.loop-i.invariant at size
-    (ap length whole ∙ count ∙ sym size) whole
+    record {
+      filling = Filling-more h p c.geometry.ensures.valid c.requires.plan c.args.run c.requires.run i from (from + object.size - from) c.loop-i.words c.copy.new.copy (omega arith) (omega arith) c.loop-i.invariant.filling at size
+          (ap length whole ∙ count ∙ sym size) whole;
+      ahead = c.object-object.ensures.ahead;
+    }
 
 pub returns : goal.returns
-returns c = Filling-all c.args.heap.now c.args.plan.now c.geometry.ensures.valid c.requires.plan c.args.run c.requires.run c.loop-i.i c.loop-i.words (omega arith) c.loop-i.invariant
+returns c = Filling-all c.args.heap.now c.args.plan.now c.geometry.ensures.valid c.requires.plan c.args.run c.requires.run c.loop-i.i c.loop-i.words (omega arith) c.loop-i.invariant.filling

@@ -1,0 +1,70 @@
+ghost use Rattle.std.specs.Prelude.{◌≡◌, ◌≤◌, ◌<◌, ℕ, length, slice_index, All};
+
+use g1_layout::Plan;
+use g1_words::{Heap, Object, REFS_RANGE};
+
+/// So many headers are read at once: the processor then waits for them together, and not for one after
+/// another.
+const AHEAD: usize = 16;
+
+/// The headers of the survivors from one index up to another.
+#[derive(Drop)]
+pub(crate) struct Ahead {
+    from: usize,
+    to: usize,
+    headers: [u64; AHEAD],
+}
+
+/// Reads the words at these addresses.
+fn read(words: &[u64], addresses: &[u64], headers: &mut [u64])
+    requires there { All (λ a. a < length words.now) addresses.now }
+    requires room { length addresses.now ≤ length headers.old }
+    ensures { (k : ℕ) → k < length addresses.now → slice_index headers.new k ≡ slice_index words.now (slice_index addresses.now k) }
+{
+    for (k, a) in addresses.iter().enumerate() {
+        headers[k] = words[*a as usize];
+    }
+}
+
+impl Ahead {
+    ghost use Rattle.std.specs.Prelude.{◌≡◌, ◌<◌, ◌+◌, ℕ, List, length, slice_index};
+    ghost use Rattle.g1_words.specs.Heap.{Heap as HeapOf, object_at};
+    ghost use Rattle.g1_copy.specs.Plans.{IsPlanOf};
+    ghost use Rattle.g1_copy.specs.Ahead.{IsAhead};
+
+    /// None is read, and the survivor at an index is the next.
+    pub(crate) fn new(from: usize) -> Ahead
+        ensures { (h : HeapOf) (l : List ℕ) → IsAhead h l from result }
+    {
+        Ahead {
+            from,
+            to: from,
+            headers: [0; AHEAD],
+        }
+    }
+
+    /// The survivor at an index. Its header, and those of the next ones, are read where none is left.
+    pub(crate) fn object(&mut self, heap: &Heap, plan: &Plan, i: usize) -> Object
+        requires plan { IsPlanOf heap.now plan.now }
+        requires index { i < length plan.now.survivors }
+        requires ahead { IsAhead heap.now plan.now.survivors i self.old }
+        ensures object { result ≡ object_at heap.now (slice_index plan.now.survivors i) }
+        ensures ahead { IsAhead heap.now plan.now.survivors (i + 1) self.new }
+    {
+        // Known of every heap whose geometry was asked: it is valid.
+        heap.geometry();
+        let survivors = plan.survivors();
+        if i == self.to {
+            let to = survivors.len().min(i + AHEAD);
+            read(heap.words(), &survivors[i..to], &mut self.headers);
+            self.from = i;
+            self.to = to;
+        }
+        let header = self.headers[i - self.from];
+        Object {
+            at: survivors[i],
+            size: header / REFS_RANGE,
+            refs: header % REFS_RANGE,
+        }
+    }
+}
