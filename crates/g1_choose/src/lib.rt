@@ -24,6 +24,3 @@ pub use choice::{choose, order};
 pub use named::given;
 pub use parameters::Cost;
 pub use pricing::{cost, total};
-
-#[cfg(test)]
-mod tests;

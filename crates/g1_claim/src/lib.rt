@@ -18,7 +18,5 @@
 
 mod claims;
 mod rule;
-#[cfg(test)]
-mod tests;
 
 pub use claims::{ClaimSeat, Claims, EMPTY, shares};

@@ -33,6 +33,3 @@ pub use gathering::gather;
 pub use patching::patches;
 pub use preparing::{Prepared, prepare, prepare_on};
 pub use remembering::new_rem;
-
-#[cfg(test)]
-mod tests;

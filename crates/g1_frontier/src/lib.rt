@@ -34,6 +34,3 @@ mod survivors;
 pub use item::Item;
 pub use round::claim_round;
 pub use survivors::discover;
-
-#[cfg(test)]
-mod tests;

@@ -9,6 +9,3 @@ mod bytes;
 mod live;
 
 pub use live::live_bytes;
-
-#[cfg(test)]
-mod tests;

@@ -25,8 +25,6 @@ pub mod laws;
 mod report;
 mod run_streams;
 mod settings;
-#[cfg(test)]
-mod tests;
 
 pub use bytes::pause_bytes;
 pub use evacuating::evacuate;

@@ -30,8 +30,6 @@ mod refining;
 mod rows;
 mod slots;
 mod starts;
-#[cfg(test)]
-mod tests;
 mod tracked;
 
 pub use cover::verify;

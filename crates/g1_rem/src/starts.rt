@@ -78,7 +78,7 @@ impl Starts {
     }
 
     /// The address of the object over the first word of a card.
-    pub(crate) fn first(&self, card: u32) -> Option<u32>
+    pub fn first(&self, card: u32) -> Option<u32>
         requires { card < length self.now }
         ensures { result ≡ slice_index_or self.now card None }
     {

@@ -33,6 +33,3 @@ mod walk;
 pub use comparing::compare;
 pub use difference::{Difference, How};
 pub use renaming::Renaming;
-
-#[cfg(test)]
-mod tests;

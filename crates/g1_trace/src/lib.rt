@@ -28,8 +28,6 @@ mod mutator;
 mod parsing;
 mod running;
 mod telling;
-#[cfg(test)]
-mod tests;
 mod trace;
 mod writing;
 

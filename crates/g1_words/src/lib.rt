@@ -22,6 +22,3 @@ pub use object::{
     Object, REFS_RANGE, card_of, header, object_at, objects_in, region_of, size_at, slots_of,
 };
 pub use region::{Kind, Region};
-
-#[cfg(test)]
-mod tests;

@@ -7,5 +7,4 @@ pub mod InTurn
 pub mod Merging
 pub mod Gathering
 pub mod Whole
-pub mod Client
 pub mod Slices

@@ -36,10 +36,6 @@ mod regions;
 mod rule;
 mod task;
 mod team;
-#[cfg(test)]
-mod tests;
-#[cfg(test)]
-mod tests_regions;
 mod worker;
 
 pub use dealer::{DealSeat, Dealer, shares};

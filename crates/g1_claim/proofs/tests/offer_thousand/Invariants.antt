@@ -1,6 +1,0 @@
-use Rattle.std.proofs.Common.{◌≡◌}
-use Rattle.g1_claim.specs.Claims.{IsSeatOf}
-use Rattle.g1_claim.proofs.tests.offer_thousand.Given as goal
-
-abbrev pub invariant-loop-k : goal.invariant-loop-k
-invariant-loop-k l = IsSeatOf l.claims l.seat × (l.seat.hand.shares ≡ 1)

@@ -1,0 +1,2 @@
+mod Client
+mod Rounds

@@ -1,0 +1,288 @@
+ghost use Rattle.std.specs.Prelude.{◌≡◌, ◌<◌, ◌≤◌, ◌∷◌, [], map, IfOk};
+ghost use Rattle.g1_words.specs.Survivors.{AllOrdinary};
+ghost use Rattle.g1_rem.specs.Starts.{IsStartsOf};
+ghost use Rattle.g1_frontier.specs.Window.{AreRegions, AreCards, AreOutside, LeadIn};
+
+use crate::images::tracked;
+use g1_choose::given;
+use g1_claim::{Claims, EMPTY};
+use g1_frontier::{Item, claim_round, discover};
+use g1_rem::{Starts, Tracked, cards_into, image, refine};
+use g1_testing::pictures::{cycle, dead_outside, gap, shared, two_roots};
+use g1_words::{Fault, Heap, object_at};
+use g1_work::{Gate, Open, Part};
+use std::alloc::{AllocError, Global};
+use std::sync::atomic::{AtomicBool, AtomicU64, Ordering};
+use std::test::Fail;
+use std::thread::Threads;
+
+/// The survivors of a set of regions, by the cards that lead into it.
+fn found_in<R: Threads + Sync, G: Gate + Sync>(
+    rt: &R,
+    alloc: Global,
+    tracked: &Tracked,
+    set: &[u32],
+    workers: u64,
+    chunk: u64,
+    gate: &G,
+) -> Result<Vec<u64>, Fault>
+    requires regions { AreRegions tracked.now.heap set.now }
+    requires ordinary { AllOrdinary tracked.now.heap set.now }
+    requires workers { (0 < workers) × (workers ≤ 64) }
+    requires chunk { (0 < chunk) × (chunk ≤ 65536) }
+{
+    let heap = image(tracked).heap();
+    let starts = Starts::build(alloc, heap)?;
+    let remembered = refine(rt, alloc, tracked, &starts)?;
+    let cards = cards_into(alloc, heap, &remembered, set)?;
+    g1_copy::laws::cards_lead_in();
+    g1_frontier::laws::refined_lead_in();
+    discover(rt, alloc, heap, &starts, set, &cards, workers, chunk, gate)
+}
+
+/// The survivors of these regions of an image.
+fn survivors<R: Threads + Sync, G: Gate + Sync>(
+    rt: &R,
+    alloc: Global,
+    lines: &str,
+    regions: &[u32],
+    workers: u64,
+    chunk: u64,
+    gate: &G,
+) -> Result<Vec<u64>, Fault>
+    requires workers { (0 < workers) × (workers ≤ 64) }
+    requires chunk { (0 < chunk) × (chunk ≤ 65536) }
+{
+    let tracked = tracked(rt, alloc, lines)?;
+    let set = given(alloc, image(&tracked).heap(), regions)?;
+    found_in(rt, alloc, &tracked, &set, workers, chunk, gate)
+}
+
+/// Tells whether these are the survivors, for few and many workers and for small and large chunks.
+fn are_survivors<R: Threads + Sync>(
+    rt: &R,
+    alloc: Global,
+    lines: &str,
+    regions: &[u32],
+    expected: &[u64],
+) -> Result<bool, Fault> {
+    let one = survivors(rt, alloc, lines, regions, 1, 1, &Open)?;
+    let one_large = survivors(rt, alloc, lines, regions, 1, 65_536, &Open)?;
+    let eight = survivors(rt, alloc, lines, regions, 8, 1, &Open)?;
+    let eight_large = survivors(rt, alloc, lines, regions, 8, 65_536, &Open)?;
+    let equal = one == one_large && one == eight && one == eight_large;
+    Ok(equal && one.as_slice() == expected)
+}
+
+#[test]
+fn targets_of_roots_come_by_root_number(rt: HostRuntime) -> Result<(), Fail> {
+    assert!(rt; are_survivors(&rt, rt.alloc(), two_roots(), &[1], &[18, 16])?);
+    Ok(())
+}
+
+#[test]
+fn a_cycle_that_keeps_itself_is_not_found(rt: HostRuntime) -> Result<(), Fail> {
+    assert!(rt; are_survivors(&rt, rt.alloc(), cycle(), &[1], &[])?);
+    Ok(())
+}
+
+#[test]
+fn an_object_that_many_name_is_found_once(rt: HostRuntime) -> Result<(), Fail> {
+    assert!(rt; are_survivors(&rt, rt.alloc(), shared(), &[1], &[21, 16])?);
+    Ok(())
+}
+
+#[test]
+fn a_dead_outside_slot_keeps_its_target(rt: HostRuntime) -> Result<(), Fail> {
+    assert!(rt; are_survivors(&rt, rt.alloc(), dead_outside(), &[1], &[16])?);
+    Ok(())
+}
+
+#[test]
+fn a_window_of_two_regions_is_searched_as_one(rt: HostRuntime) -> Result<(), Fail> {
+    let both = [0, 1];
+    assert!(rt; are_survivors(&rt, rt.alloc(), gap(), &both, &[0, 16, 21])?);
+    assert!(rt; are_survivors(&rt, rt.alloc(), shared(), &both, &[21, 16])?);
+    Ok(())
+}
+
+/// A gate whose calls for the chunks 0 and 1 look for one another in a round, counted from 0.
+#[derive(Drop)]
+struct Meeting {
+    round: u64,
+    zeros: AtomicU64,
+    ones: AtomicU64,
+    zero: AtomicBool,
+    one: AtomicBool,
+    missed: AtomicBool,
+}
+
+const TURNS: u64 = 200_000_000;
+
+fn meeting_in(round: u64) -> Meeting {
+    Meeting {
+        round,
+        zeros: AtomicU64::new(0),
+        ones: AtomicU64::new(0),
+        zero: AtomicBool::new(false),
+        one: AtomicBool::new(false),
+        missed: AtomicBool::new(false),
+    }
+}
+
+fn waits_for(flag: &AtomicBool) -> bool {
+    for _ in 0..TURNS {
+        if flag.load(Ordering::SeqCst) {
+            return true;
+        }
+    }
+    false
+}
+
+impl Gate for Meeting {
+    fn at(&self, _part: Part, number: u64) {
+        let (rounds, mine, theirs) = match number {
+            0 => (&self.zeros, &self.zero, &self.one),
+            1 => (&self.ones, &self.one, &self.zero),
+            _ => return,
+        };
+        if rounds.fetch_add(1, Ordering::SeqCst) != self.round {
+            return;
+        }
+        mine.store(true, Ordering::SeqCst);
+        if !waits_for(theirs) {
+            self.missed.store(true, Ordering::SeqCst);
+        }
+    }
+}
+
+/// Tells whether two workers are in a round at the same time, and the survivors are the right ones.
+fn meets<R: Threads + Sync>(rt: &R, alloc: Global, round: u64) -> Result<bool, Fault> {
+    let gate = meeting_in(round);
+    let found = survivors(rt, alloc, shared(), &[1], 2, 1, &gate)?;
+    let both = gate.zero.load(Ordering::SeqCst) && gate.one.load(Ordering::SeqCst);
+    Ok(both && !gate.missed.load(Ordering::SeqCst) && found.as_slice() == [21, 16].as_slice())
+}
+
+#[test]
+fn together(rt: HostRuntime) -> Result<(), Fail> {
+    assert!(rt; meets(&rt, rt.alloc(), 0)?);
+    Ok(())
+}
+
+#[test]
+fn together_in_a_later_round(rt: HostRuntime) -> Result<(), Fail> {
+    assert!(rt; meets(&rt, rt.alloc(), 1)?);
+    Ok(())
+}
+
+/// What two rounds over region 1 leave: the ranks and addresses that each won, and the words of the
+/// claim table.
+#[derive(Drop)]
+struct Rounds {
+    first: Vec<(u64, u64)>,
+    second: Vec<(u64, u64)>,
+    words: Vec<u64>,
+}
+
+/// The addresses among ranks and addresses.
+fn addresses(alloc: Global, won: &[(u64, u64)]) -> Result<Vec<u64>, AllocError>
+    ensures { IfOk result (λ v. v.items ≡ map (λ q. q.1) won.now) }
+{
+    let mut found = Vec::new(alloc);
+    for pair in won {
+        found.push(pair.1)?;
+    }
+    Ok(found)
+}
+
+/// A round of the two roots and the two cards that lead into region 1, and one of the two objects that
+/// it found.
+fn both_rounds<R: Threads + Sync>(
+    rt: &R,
+    alloc: Global,
+    heap: &Heap,
+    starts: &Starts,
+    cards: &[u32],
+) -> Result<Rounds, Fault>
+    requires starts { IsStartsOf heap.now starts.now }
+    requires region { AreRegions heap.now (1 ∷ []) }
+    requires cards { AreCards heap.now cards.now }
+    requires outside { AreOutside heap.now (1 ∷ []) cards.now }
+    requires lead_in { LeadIn heap.now (1 ∷ []) cards.now }
+{
+    if heap.roots().len() != 2 || cards.len() != 2 {
+        return Err(Fault::Set(1));
+    }
+    let items = [
+        Item::Root { index: 0 },
+        Item::Root { index: 1 },
+        Item::Card {
+            card: cards[0],
+            base: 2,
+        },
+        Item::Card {
+            card: cards[1],
+            base: 2,
+        },
+    ];
+    let window: [u32; 1] = [1];
+    let (claims, seat) = Claims::new(alloc, heap.geometry().region_words())?;
+    let (claims, seat, first) = claim_round(
+        rt, alloc, heap, starts, &window, claims, seat, &items, 8, 1, &Open,
+    )?;
+    let found = addresses(alloc, &first)?;
+    if found.len() != 2 {
+        return Err(Fault::Set(1));
+    }
+    let base = 2 + heap.words().len() as u64;
+    let at = found[0];
+    let slots = match object_at(heap, at) {
+        Some(object) => object.refs,
+        None => return Err(Fault::Set(1)),
+    };
+    let items = [
+        Item::Object { at, base },
+        Item::Object {
+            at: found[1],
+            base: base + slots,
+        },
+    ];
+    let (claims, seat, second) = claim_round(
+        rt, alloc, heap, starts, &window, claims, seat, &items, 8, 1, &Open,
+    )?;
+    Ok(Rounds {
+        first,
+        second,
+        words: claims.close(seat),
+    })
+}
+
+fn two_rounds<R: Threads + Sync>(rt: &R, alloc: Global, lines: &str) -> Result<Rounds, Fault> {
+    let tracked = tracked(rt, alloc, lines)?;
+    let heap = image(&tracked).heap();
+    if heap.geometry().regions() < 2 {
+        return Err(Fault::Set(1));
+    }
+    let starts = Starts::build(alloc, heap)?;
+    let remembered = refine(rt, alloc, &tracked, &starts)?;
+    let cards = remembered[1].as_slice();
+    both_rounds(rt, alloc, heap, &starts, cards)
+}
+
+#[test]
+fn the_least_rank_of_each_place_stays_its_word(rt: HostRuntime) -> Result<(), Fail> {
+    let two = two_rounds(&rt, rt.alloc(), shared())?;
+    assert_eq!(rt; two.first.as_slice(), [(0, 21), (1, 16)].as_slice());
+    assert!(rt; two.second.is_empty());
+    assert_eq!(rt; two.words.len(), 16);
+    for (place, word) in two.words.iter().enumerate() {
+        let expected = match place {
+            0 => 1,
+            5 => 0,
+            _ => EMPTY,
+        };
+        assert_eq!(rt; *word, expected);
+    }
+    Ok(())
+}

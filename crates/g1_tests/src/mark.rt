@@ -1,0 +1,89 @@
+use g1_mark::live_bytes;
+use g1_rem::Starts;
+use g1_testing::image;
+use g1_testing::pictures::{humongous, shared};
+use g1_words::Fault;
+use g1_work::{Gate, Open, Part};
+use std::alloc::Global;
+use std::sync::atomic::{AtomicBool, Ordering};
+use std::test::Fail;
+use std::thread::Threads;
+
+/// Tells whether these are the live bytes, for few and many workers and for small and large chunks.
+fn are_live_bytes<R: Threads + Sync>(
+    rt: &R,
+    alloc: Global,
+    lines: &str,
+    expected: &[u64],
+) -> Result<bool, Fault> {
+    let image = image(alloc, lines)?;
+    let heap = image.heap();
+    let starts = Starts::build(alloc, heap)?;
+    let one = live_bytes(rt, alloc, heap, &starts, 1, 1, &Open)?;
+    let one_large = live_bytes(rt, alloc, heap, &starts, 1, 65_536, &Open)?;
+    let eight = live_bytes(rt, alloc, heap, &starts, 8, 1, &Open)?;
+    let eight_large = live_bytes(rt, alloc, heap, &starts, 8, 65_536, &Open)?;
+    let equal = one == one_large && one == eight && one == eight_large;
+    Ok(equal && one.as_slice() == expected)
+}
+
+#[test]
+fn dead_objects_do_not_count(rt: HostRuntime) -> Result<(), Fail> {
+    assert!(rt; are_live_bytes(&rt, rt.alloc(), shared(), &[0, 56, 0, 0])?);
+    Ok(())
+}
+
+#[test]
+fn a_humongous_object_counts_in_its_first_region(rt: HostRuntime) -> Result<(), Fail> {
+    assert!(rt; are_live_bytes(&rt, rt.alloc(), humongous(), &[320, 0, 0, 16, 0, 0])?);
+    Ok(())
+}
+
+/// A gate whose calls for the chunks 0 and 1 look for one another.
+#[derive(Drop)]
+struct Meeting {
+    zero: AtomicBool,
+    one: AtomicBool,
+    missed: AtomicBool,
+}
+
+const TURNS: u64 = 200_000_000;
+
+fn waits_for(flag: &AtomicBool) -> bool {
+    for _ in 0..TURNS {
+        if flag.load(Ordering::SeqCst) {
+            return true;
+        }
+    }
+    false
+}
+
+impl Gate for Meeting {
+    fn at(&self, _part: Part, number: u64) {
+        let (mine, theirs) = match number {
+            0 => (&self.zero, &self.one),
+            1 => (&self.one, &self.zero),
+            _ => return,
+        };
+        mine.store(true, Ordering::SeqCst);
+        if !waits_for(theirs) {
+            self.missed.store(true, Ordering::SeqCst);
+        }
+    }
+}
+
+#[test]
+fn together(rt: HostRuntime) -> Result<(), Fail> {
+    let gate = Meeting {
+        zero: AtomicBool::new(false),
+        one: AtomicBool::new(false),
+        missed: AtomicBool::new(false),
+    };
+    let image = image(rt.alloc(), shared())?;
+    let starts = Starts::build(rt.alloc(), image.heap())?;
+    let bytes = live_bytes(&rt, rt.alloc(), image.heap(), &starts, 2, 1, &gate)?;
+    assert_eq!(rt; bytes.as_slice(), [0, 56, 0, 0].as_slice());
+    assert!(rt; gate.zero.load(Ordering::SeqCst) && gate.one.load(Ordering::SeqCst));
+    assert!(rt; !gate.missed.load(Ordering::SeqCst));
+    Ok(())
+}

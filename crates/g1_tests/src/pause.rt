@@ -1,0 +1,5 @@
+mod pauses;
+mod pieces;
+mod settings;
+mod streams;
+mod vectors;

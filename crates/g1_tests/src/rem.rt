@@ -1,0 +1,207 @@
+ghost use Rattle.std.specs.Prelude.{◌≡◌, IfSome};
+ghost use Rattle.g1_rem.specs.Slots.{slots_on};
+ghost use Rattle.g1_rem.specs.Starts.{IsStartsOf};
+
+use g1_rem::{Starts, image, leads_into, merged, refine, slots_on, verify};
+use g1_testing::pictures::{dead_outside, humongous, logged, uncovered};
+use g1_words::{Fault, Heap};
+use smallvec::SmallVec;
+use std::alloc::Global;
+use std::test::Fail;
+use std::thread::Threads;
+
+/// An object's size in words, as its header holds it.
+const SIZE: u64 = 4_294_967_296;
+
+/// Two slots name the object at 16, one of them null, and no remembered set has their card.
+const BARE_TWICE: &str = "heap 16 4 4
+    region 0 ordinary
+    object 3/2 - 16
+    region 1 ordinary
+    object 2/1 0";
+
+/// The two regions of `dead_outside` with cards 1 and 0 in the log.
+const BOTH_LOGGED: &str = "heap 16 4 4
+    dirty cards 1 0
+    region 0 ordinary
+    object 1/0
+    object 5/3 - - 16 0
+    region 1 ordinary
+    remembered 1 cards 1
+    object 2/0 3";
+
+/// The object over a card's first word, where the heap has the card.
+fn first_at(heap: &Heap, starts: &Starts, card: u32) -> Option<Option<u32>>
+    requires { IsStartsOf heap.now starts.now }
+{
+    if u64::from(card) >= heap.geometry().cards() {
+        return None;
+    }
+    Some(starts.first(card))
+}
+
+/// The slots on a card, where the heap has the card.
+fn slots_at(alloc: Global, heap: &Heap, starts: &Starts, card: u32) -> Option<SmallVec<u64, 64>>
+    requires { IsStartsOf heap.now starts.now }
+    ensures { IfSome result (λ s. s.items ≡ slots_on heap.now card) }
+{
+    if u64::from(card) >= heap.geometry().cards() {
+        return None;
+    }
+    Some(slots_on(alloc, heap, starts, card))
+}
+
+/// Tells whether the sets have these cards.
+fn are(remembered: &[Vec<u32>], cards: &[&[u32]; 4]) -> bool {
+    remembered.len() == cards.len()
+        && remembered
+            .iter()
+            .zip(cards)
+            .all(|(a, b)| a.as_slice() == *b)
+}
+
+#[test]
+fn slots_count_on_the_card_of_their_own_address(rt: HostRuntime) -> Result<(), Fail> {
+    let alloc = rt.alloc();
+    let read = g1_testing::image(alloc, dead_outside())?;
+    let starts = Starts::build(alloc, read.heap())?;
+    for card in 0..17 {
+        let expected = match card {
+            0 => Some(Some(0)),
+            1 => Some(Some(1)),
+            4 => Some(Some(16)),
+            16 => None,
+            _ => Some(None),
+        };
+        let found = first_at(read.heap(), &starts, card);
+        assert_eq!(rt; found, expected, "card {card}");
+    }
+    for (card, slots) in [
+        (0, [2, 3].as_slice()),
+        (1, [4].as_slice()),
+        (2, [].as_slice()),
+        (4, [].as_slice()),
+    ] {
+        let found = slots_at(alloc, read.heap(), &starts, card);
+        assert!(rt; found.is_some_and(|s| s.as_slice() == slots), "card {card}");
+    }
+    assert!(rt; verify(&rt, alloc, read).is_ok());
+    Ok(())
+}
+
+#[test]
+fn a_humongous_object_has_slots_on_cards_of_its_later_regions(rt: HostRuntime) -> Result<(), Fail> {
+    let alloc = rt.alloc();
+    let read = g1_testing::image(alloc, humongous())?;
+    let starts = Starts::build(alloc, read.heap())?;
+    for (card, slots) in [
+        (0, [1, 2, 3].as_slice()),
+        (4, [16, 17, 18, 19].as_slice()),
+        (5, [20].as_slice()),
+        (6, [].as_slice()),
+        (10, [].as_slice()),
+    ] {
+        let found = slots_at(alloc, read.heap(), &starts, card);
+        assert!(rt; found.is_some_and(|s| s.as_slice() == slots), "card {card}");
+    }
+    assert!(rt; verify(&rt, alloc, read).is_ok());
+    Ok(())
+}
+
+/// Whether a slot on the card leads into the region, where the heap has the card.
+fn leads_at(alloc: Global, heap: &Heap, starts: &Starts, region: u32, card: u32) -> Option<bool>
+    requires { IsStartsOf heap.now starts.now }
+{
+    if u64::from(card) >= heap.geometry().cards() {
+        return None;
+    }
+    Some(leads_into(alloc, heap, starts, region, card))
+}
+
+#[test]
+fn a_card_leads_into_the_region_that_a_slot_on_it_names(rt: HostRuntime) -> Result<(), Fail> {
+    let alloc = rt.alloc();
+    let read = g1_testing::image(alloc, humongous())?;
+    let starts = Starts::build(alloc, read.heap())?;
+    for (region, card, leads) in [(3, 4, true), (3, 5, false), (1, 4, false), (0, 4, false)] {
+        let found = leads_at(alloc, read.heap(), &starts, region, card);
+        assert_eq!(rt; found, Some(leads), "region {region} card {card}");
+    }
+    Ok(())
+}
+
+/// What `verify` hands back where it refuses: the fault, the first word and the length of the log.
+fn refusal(
+    rt: &(impl Threads + Sync),
+    alloc: Global,
+    lines: &str,
+) -> Result<Option<(Fault, Option<u64>, usize)>, Fault> {
+    let read = g1_testing::image(alloc, lines)?;
+    match verify(rt, alloc, read) {
+        Ok(_) => Ok(None),
+        Err((back, fault)) => Ok(Some((
+            fault,
+            back.heap().words().first().copied(),
+            back.log().len(),
+        ))),
+    }
+}
+
+/// The refined sets of an image that is covered, and the length of the log after.
+fn refined_remembered(
+    rt: &(impl Threads + Sync),
+    alloc: Global,
+    lines: &str,
+) -> Result<(Vec<Vec<u32>>, usize), Fault> {
+    let read = g1_testing::image(alloc, lines)?;
+    match verify(rt, alloc, read) {
+        Err((_, fault)) => Err(fault),
+        Ok(tracked) => {
+            let starts = Starts::build(alloc, image(&tracked).heap())?;
+            let refined = refine(rt, alloc, &tracked, &starts)?;
+            Ok((refined, image(&tracked).log().len()))
+        }
+    }
+}
+
+#[test]
+fn the_lowest_uncovered_slot_is_named_and_the_image_comes_back(
+    rt: HostRuntime,
+) -> Result<(), Fail> {
+    let alloc = rt.alloc();
+    let one = refusal(&rt, alloc, uncovered())?;
+    assert_eq!(rt; one, Some((Fault::Uncovered(1), Some(2 * SIZE + 1), 0)));
+    let two = refusal(&rt, alloc, BARE_TWICE)?;
+    assert_eq!(rt; two, Some((Fault::Uncovered(2), Some(3 * SIZE + 2), 0)));
+    Ok(())
+}
+
+#[test]
+fn a_dirty_card_covers_and_joins_the_set_that_it_leads_into(rt: HostRuntime) -> Result<(), Fail> {
+    let alloc = rt.alloc();
+    let (refined, log) = refined_remembered(&rt, alloc, logged())?;
+    assert!(rt; are(&refined, &[&[], &[0], &[], &[]]));
+    assert_eq!(rt; log, 1);
+    Ok(())
+}
+
+#[test]
+fn a_dirty_card_that_leads_nowhere_joins_no_set(rt: HostRuntime) -> Result<(), Fail> {
+    let alloc = rt.alloc();
+    let (refined, log) = refined_remembered(&rt, alloc, BOTH_LOGGED)?;
+    assert!(rt; are(&refined, &[&[], &[1], &[], &[]]));
+    assert_eq!(rt; log, 2);
+    Ok(())
+}
+
+#[test]
+fn two_rising_lists_become_one_with_each_card_once(rt: HostRuntime) -> Result<(), Fail> {
+    let alloc = rt.alloc();
+    let both = merged(alloc, &[1, 4, 9], &[0, 4, 10, 12])?;
+    assert_eq!(rt; both.as_slice(), [0, 1, 4, 9, 10, 12].as_slice());
+    let left = merged(alloc, &[2, 3, 7], &[2])?;
+    assert_eq!(rt; left.as_slice(), [2, 3, 7].as_slice());
+    let right = merged(alloc, &[], &[5, 8])?;
+    assert_eq!(rt; right.as_slice(), [5, 8].as_slice());
+    Ok(())
+}
