@@ -9,4 +9,4 @@ pub mod Remembered
 pub mod Unnamed
 pub mod Prepared
 pub mod Laws
-pub mod Ahead
+pub mod Headers

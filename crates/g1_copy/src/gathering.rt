@@ -7,7 +7,7 @@ ghost use Rattle.g1_layout.specs.Plan.{run_at};
 ghost use Rattle.g1_copy.specs.Plans.{IsPlanOf};
 ghost use Rattle.g1_copy.specs.Gathered.{placed_words, to_space_words};
 
-use crate::ahead::Ahead;
+use crate::headers::Headers;
 use g1_layout::{Plan, Run};
 use g1_words::{Fault, Heap, Object, REFS_RANGE};
 use g1_work::{MOST_WORKERS, threads_for};
@@ -78,7 +78,7 @@ fn fill(heap: &Heap, plan: &Plan, run: Run, words: &mut [u64])
     ensures { words.new ≡ placed_words heap.now plan.now.survivors run.region }
 {
     let start = u64::from(run.region) * heap.geometry().region_words();
-    let mut ahead = Ahead::new(run.from);
+    let mut ahead = Headers::new(run.from);
     for i in run.from..run.to {
         let object = ahead.object(heap, plan, i);
         let from = (plan.places()[i] - start) as usize;

@@ -15,13 +15,13 @@
 //!    and refuses nothing.
 #![tactic(auto)]
 
-mod ahead;
 mod cards_by_region;
 mod committing;
 mod copied_cards;
 mod fates;
 mod filling;
 mod gathering;
+mod headers;
 pub mod laws;
 mod patching;
 mod preparing;

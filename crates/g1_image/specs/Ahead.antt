@@ -22,7 +22,7 @@ abbrev pub KnowsEnd : Ahead → Option (List ℕ) → Type 0
 KnowsEnd a left = IsTrue a.ended → IsAtEnd left
 
 -- so many bytes wait, or the source has ended before; the mark and what is still to be taken are as before
-pub record Reached (old_mark new_mark : Bool) (old new left : Option (List ℕ)) (waits : List ℕ) (wanted : ℕ) (found : Bool) : Type 0 where
+pub record IsReadAhead (old_mark new_mark : Bool) (old new left : Option (List ℕ)) (waits : List ℕ) (wanted : ℕ) (found : Bool) : Type 0 where
   pub mark : new_mark ≡ old_mark
   pub kept : Keeps old new
   pub there : IsTrue found → wanted ≤ length waits

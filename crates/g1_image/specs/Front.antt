@@ -1,7 +1,7 @@
 -- What stands in a file before its words, as it was read.
 use Rattle.std.specs.Prelude.{ℕ, List, map}
 use Rattle.g1_image.specs.declared.plain.Front.{Front}
-use Rattle.g1_image.specs.Plain.{PlainIs, FrontFits, front_text, IsTold}
+use Rattle.g1_image.specs.Plain.{PlainIs, FrontFits, front_text, ArePartsOf}
 
 -- its heading is good, its numbers fit, and there are as many as are announced
 abbrev pub IsGoodFront : Front → Type 0
@@ -16,5 +16,5 @@ abbrev pub IsWhole : List ℕ → Front → List ℕ → Type 0
 IsWhole bytes f words = PlainIs bytes f.version f.heading f.table.items f.roots.items f.log.items (map (λ s. s.items) f.remembered.items) words
 
 -- the bytes are the text of a whole file with this front and these laid words
-abbrev pub IsLaid : List ℕ → Front → List ℕ → Type 0
-IsLaid bytes f laid = IsTold bytes f.version f.heading f.table.items f.roots.items f.log.items (map (λ s. s.items) f.remembered.items) laid
+abbrev pub IsLaidOut : List ℕ → Front → List ℕ → Type 0
+IsLaidOut bytes f laid = ArePartsOf bytes f.version f.heading f.table.items f.roots.items f.log.items (map (λ s. s.items) f.remembered.items) laid

@@ -1,5 +1,5 @@
 -- What a sink of bytes says of its mark, and how the bytes of a text go to it.
-use Rattle.std.specs.Prelude.{◌≡◌, ◌<◌, ℕ, Bool, true, List, [], ◌++◌, length, take, Option, Result, Ok, Err}
+use Rattle.std.specs.Prelude.{◌≡◌, ◌<◌, ℕ, Bool, true, List, ◌++◌, length, take, Option, Result, Ok, Err}
 use Rattle.std.specs.Io.KnownBytes.{Appends, Keeps}
 use Rattle.g1_words.specs.declared.fault.Fault.{Fault}
 use Rattle.g1_words.specs.declared.fault.Fault.TheVariants.{Memory, Device}
@@ -20,8 +20,8 @@ Writes text old new (Err Memory) = Keeps old new
 Writes text old new (Err e) = ⊥
 
 -- the bytes that wait
-abbrev pub waiting : Behind → List ℕ
-waiting b = take b.end b.room.items
+abbrev pub unsent : Behind → List ℕ
+unsent b = take b.end b.room.items
 
 -- of the bytes that waited, and of those that come, a front was written, and the rest is left
 pub record Sent (old new : Option (List ℕ)) (waited come left : List ℕ) : Type 0 where

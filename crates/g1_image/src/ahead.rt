@@ -25,7 +25,7 @@ impl Ahead {
     ghost use Rattle.std.specs.Io.KnownBytes.{Keeps, IsAtEnd};
     ghost use Rattle.g1_image.specs.Reading.{IsBytes};
     ghost use Rattle.g1_image.specs.Source.{ReadFails};
-    ghost use Rattle.g1_image.specs.Ahead.{waiting, to_take, KnowsEnd, Reached};
+    ghost use Rattle.g1_image.specs.Ahead.{waiting, to_take, KnowsEnd, IsReadAhead};
 
     pub(crate) fn new(alloc: Global) -> Ahead
         ensures none { waiting result ≡ [] }
@@ -119,7 +119,7 @@ impl Ahead {
     pub(crate) fn reach<S: Source>(&mut self, source: &mut S, wanted: usize) -> Result<bool, Fault>
         requires known { KnowsEnd self.old (S.left source.old) }
         ensures known { KnowsEnd self.new (S.left source.new) }
-        ensures ok { IfOk result (Reached (S.failed source.old) (S.failed source.new) (to_take self.old (S.left source.old)) (to_take self.new (S.left source.new)) (S.left source.new) (waiting self.new) wanted) }
+        ensures ok { IfOk result (IsReadAhead (S.failed source.old) (S.failed source.new) (to_take self.old (S.left source.old)) (to_take self.new (S.left source.new)) (S.left source.new) (waiting self.new) wanted) }
         ensures err { IfErr result (ReadFails (S.failed source.old) (S.failed source.new)) }
     {
         while self.len() < wanted {

@@ -21,11 +21,11 @@ impl Behind {
     ghost use Rattle.std.specs.Prelude.{◌≡◌, ◌≤◌, ◌<◌, ◌+◌, ◌*◌, ◌++◌, [], length, take, vec_len, IfOk, OnOk, IfErr};
     ghost use Rattle.g1_image.specs.Text.{words_text};
     ghost use Rattle.g1_image.specs.Source.{marked};
-    ghost use Rattle.g1_image.specs.Sink.{waiting, Sent, SendFails};
+    ghost use Rattle.g1_image.specs.Sink.{unsent, Sent, SendFails};
 
     /// Has these bytes wait.
     pub(crate) fn new(bytes: Vec<u8>) -> Result<Behind, AllocError>
-        ensures { IfOk result (λ b. waiting b ≡ bytes.items) }
+        ensures { IfOk result (λ b. unsent b ≡ bytes.items) }
     {
         let mut room = bytes;
         let end = room.len();
@@ -35,10 +35,10 @@ impl Behind {
 
     /// Writes the bytes that wait.
     pub(crate) fn flush<S: Sink>(&mut self, sink: &mut S) -> Result<(), Fault>
-        ensures none { OnOk result (waiting self.new ≡ []) }
+        ensures none { OnOk result (unsent self.new ≡ []) }
         ensures room { OnOk result (self.new.end ≡ 0) }
-        ensures ok { OnOk result (Sent (S.written sink.old) (S.written sink.new) (waiting self.old) [] (waiting self.new)) }
-        ensures err { IfErr result (SendFails (S.written sink.old) (S.written sink.new) (waiting self.old) []) }
+        ensures ok { OnOk result (Sent (S.written sink.old) (S.written sink.new) (unsent self.old) [] (unsent self.new)) }
+        ensures err { IfErr result (SendFails (S.written sink.old) (S.written sink.new) (unsent self.old) []) }
         ensures mark { S.failed sink.new ≡ marked (S.failed sink.old) result }
     {
         let end = self.end;
@@ -50,8 +50,8 @@ impl Behind {
     /// Writes the bytes that wait where there is no room behind them for a word.
     fn make_room<S: Sink>(&mut self, sink: &mut S) -> Result<(), Fault>
         ensures room { OnOk result (self.new.end + 8 ≤ vec_len self.new.room) }
-        ensures ok { OnOk result (Sent (S.written sink.old) (S.written sink.new) (waiting self.old) [] (waiting self.new)) }
-        ensures err { IfErr result (SendFails (S.written sink.old) (S.written sink.new) (waiting self.old) []) }
+        ensures ok { OnOk result (Sent (S.written sink.old) (S.written sink.new) (unsent self.old) [] (unsent self.new)) }
+        ensures err { IfErr result (SendFails (S.written sink.old) (S.written sink.new) (unsent self.old) []) }
         ensures mark { S.failed sink.new ≡ marked (S.failed sink.old) result }
     {
         if self.room.len() - self.end >= 8 {
@@ -63,7 +63,7 @@ impl Behind {
     /// Has these words wait, too.
     fn put(&mut self, words: &[u64])
         requires { self.old.end + 8 * length words.now ≤ vec_len self.old.room }
-        ensures { waiting self.new ≡ waiting self.old ++ words_text words.now }
+        ensures { unsent self.new ≡ unsent self.old ++ words_text words.now }
     {
         let end = self.end;
         let to = end + 8 * words.len();
@@ -73,8 +73,8 @@ impl Behind {
 
     /// Has these words wait, too, and writes what waits where the room is full.
     pub(crate) fn send<S: Sink>(&mut self, sink: &mut S, words: &[u64]) -> Result<(), Fault>
-        ensures ok { OnOk result (Sent (S.written sink.old) (S.written sink.new) (waiting self.old) (words_text words.now) (waiting self.new)) }
-        ensures err { IfErr result (SendFails (S.written sink.old) (S.written sink.new) (waiting self.old) (words_text words.now)) }
+        ensures ok { OnOk result (Sent (S.written sink.old) (S.written sink.new) (unsent self.old) (words_text words.now) (unsent self.new)) }
+        ensures err { IfErr result (SendFails (S.written sink.old) (S.written sink.new) (unsent self.old) (words_text words.now)) }
         ensures mark { S.failed sink.new ≡ marked (S.failed sink.old) result }
     {
         let mut rest = words;

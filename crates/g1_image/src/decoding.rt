@@ -1,8 +1,8 @@
 ghost use Rattle.std.specs.Prelude.{◌≡◌, ◌≤◌, ◌<◌, ◌+◌, ◌*◌, ◌^◌, ◌⊎◌, ℕ, List, map, All, length, OnOk, IfOk, IfErr};
 ghost use Rattle.g1_image.specs.Image.{IsTextOf};
 ghost use Rattle.g1_image.specs.Faults.{MayFail, IsGoodHeading, AreKnown};
-ghost use Rattle.g1_image.specs.Plain.{heap_with};
-ghost use Rattle.g1_image.specs.Front.{IsLaid};
+ghost use Rattle.g1_image.specs.Plain.{heap_of_parts};
+ghost use Rattle.g1_image.specs.Front.{IsLaidOut};
 ghost use Rattle.g1_image.specs.Judged.{TableFault, IsGoodHeap, HeapFault};
 
 use crate::cards::{check_log, check_remembered};
@@ -42,7 +42,7 @@ fn draft_heap(
     requires roots { length roots.items ≡ h.now.roots }
     requires words { length words.items ≡ h.now.n * h.now.w }
     requires fit { All (λ x. x < 2 ^ 64) words.items }
-    ensures ok { IfOk result (λ d. d ≡ heap_with h.now table.now roots.items words.items) }
+    ensures ok { IfOk result (λ d. d ≡ heap_of_parts h.now table.now roots.items words.items) }
     ensures known { OnOk result (AreKnown table.now h.now.n) }
     ensures err { IfErr result (λ e. (e ≡ Fault.Memory) ⊎ TableFault table.now h.now.n e) }
 {
@@ -65,9 +65,9 @@ fn draft_heap(
 
 /// The image of a whole file's front and words.
 pub(crate) fn image_of(alloc: Global, front: Front, words: Vec<u64>) -> Result<Image, Fault>
-    requires { (bytes : List ℕ) × IsLaid bytes front words.items }
-    ensures ok { IfOk result (λ i. (bytes : List ℕ) → IsLaid bytes front words.items → IsTextOf bytes i) }
-    ensures err { IfErr result (λ e. (bytes : List ℕ) → IsLaid bytes front words.items → MayFail bytes e) }
+    requires { (bytes : List ℕ) × IsLaidOut bytes front words.items }
+    ensures ok { IfOk result (λ i. (bytes : List ℕ) → IsLaidOut bytes front words.items → IsTextOf bytes i) }
+    ensures err { IfErr result (λ e. (bytes : List ℕ) → IsLaidOut bytes front words.items → MayFail bytes e) }
 {
     let Front {
         version: _,

@@ -3,7 +3,7 @@ ghost use Rattle.std.specs.Prelude.{◌≡◌, ◌≤◌, ◌*◌, ℕ, List, le
 ghost use Rattle.g1_image.specs.Text.{words_text};
 ghost use Rattle.g1_image.specs.Image.{used_words, IsTextIn};
 ghost use Rattle.g1_image.specs.Source.{marked};
-ghost use Rattle.g1_image.specs.Sink.{waiting, Sent, SendFails, Writes, output_mark};
+ghost use Rattle.g1_image.specs.Sink.{unsent, Sent, SendFails, Writes, output_mark};
 
 use crate::behind::Behind;
 use crate::cursor::Version;
@@ -23,8 +23,8 @@ fn send_used<S: Sink>(
 ) -> Result<(), Fault>
     requires whole { length words.now ≡ length regions.now * width }
     requires tops { All (λ q. q.top ≤ width) regions.now }
-    ensures ok { OnOk result (Sent (S.written sink.old) (S.written sink.new) (waiting behind.old) (words_text (used_words width regions.now words.now)) (waiting behind.new)) }
-    ensures err { IfErr result (SendFails (S.written sink.old) (S.written sink.new) (waiting behind.old) (words_text (used_words width regions.now words.now))) }
+    ensures ok { OnOk result (Sent (S.written sink.old) (S.written sink.new) (unsent behind.old) (words_text (used_words width regions.now words.now)) (unsent behind.new)) }
+    ensures err { IfErr result (SendFails (S.written sink.old) (S.written sink.new) (unsent behind.old) (words_text (used_words width regions.now words.now))) }
     ensures mark { S.failed sink.new ≡ marked (S.failed sink.old) result }
 {
     let mut rest = words;

@@ -4,7 +4,7 @@ ghost use Rattle.std.specs.Io.KnownBytes.{IsAtEnd, Consumes};
 ghost use Rattle.g1_image.specs.Source.{IsReadOut, input_mark};
 ghost use Rattle.g1_image.specs.Image.{IsTextOf};
 ghost use Rattle.g1_image.specs.Faults.{FaultOf, MayFail};
-ghost use Rattle.g1_image.specs.Front.{IsGoodFront, text_of, IsLaid};
+ghost use Rattle.g1_image.specs.Front.{IsGoodFront, text_of, IsLaidOut};
 ghost use Rattle.g1_image.specs.Ahead.{to_take, KnowsEnd, TextFails};
 
 use crate::ahead::{Ahead, PIECE};
@@ -82,7 +82,7 @@ fn take_parts<S: Source>(
 ) -> Result<(Front, Vec<u64>), Fault>
     requires known { KnowsEnd ahead.old (S.left source.old) }
     ensures known { KnowsEnd ahead.new (S.left source.new) }
-    ensures ok { IfOk result (λ x. (bytes : List ℕ) × IsLaid bytes x.0 x.1.items × IfSome (to_take ahead.old (S.left source.old)) (λ xs. xs ≡ bytes)) }
+    ensures ok { IfOk result (λ x. (bytes : List ℕ) × IsLaidOut bytes x.0 x.1.items × IfSome (to_take ahead.old (S.left source.old)) (λ xs. xs ≡ bytes)) }
     ensures end { OnOk result (IsAtEnd (S.left source.new)) }
     ensures mark { OnOk result (S.failed source.new ≡ S.failed source.old) }
     ensures err { IfErr result (TextFails (S.failed source.old) (S.failed source.new) (to_take ahead.old (S.left source.old))) }

@@ -6,7 +6,7 @@ use Rattle.g1_words.specs.Heap.{Heap}
 use Rattle.g1_words.specs.declared.region.Region.{Region}
 use Rattle.g1_image.specs.Text.{File, words_of, table_words}
 use Rattle.g1_image.specs.Image.{CanTell, all_words, heap_of}
-use Rattle.g1_image.specs.Plain.{plain_file, heap_with}
+use Rattle.g1_image.specs.Plain.{plain_file, heap_of_parts}
 use Rattle.g1_image.specs.Judged.{IsGoodHeap, HeapFault, TableFault}
 use Rattle.g1_image.specs.Faults.{TableKnown, AreKnown, LogsGood, RememberedGood}
 use Rattle.g1_image.proofs.Drafts.{length-laid}
@@ -29,7 +29,7 @@ Laid c ws = c.args.words.items ≡ all_words c.args.front.heading.w c.args.front
 drafted : (c : After-check_heap) (ws : List ℕ) → Laid c ws → c.in_ok-draft.draft ≡ heap_of (file_in c ws)
 drafted c ws laid =
     let f = c.args.front in
-    c.in_ok-draft.ensures.ok ∙ (λ t. heap_with f.heading (c.deref.ensures.value t) f.roots.items (laid t))
+    c.in_ok-draft.ensures.ok ∙ (λ t. heap_of_parts f.heading (c.deref.ensures.value t) f.roots.items (laid t))
 
 -- its table has a meaning
 known : (c : After-check_heap) (ws : List ℕ) → TableKnown (file_in c ws)

@@ -1,9 +1,9 @@
-use Rattle.std.proofs.Common.{◌≡◌, ◌++◌, ◌+◌, ◌-◌, ◌*◌, length, take, drop, slice_index_or, refl, sym, ap, ◌∙◌, arith}
+use Rattle.std.proofs.Common.{◌≡◌, ◌-◌, ◌*◌, length, refl, sym, ap, ◌∙◌, arith}
 use Rattle.std.proofs.lemmas.Result.{err_from_is_err_and}
 use Rattle.g1_words.specs.Heap.{free_region}
 use Rattle.g1_image.specs.Text.{words_text}
 use Rattle.g1_image.specs.Image.{used_words}
-use Rattle.g1_image.specs.Sink.{waiting}
+use Rattle.g1_image.specs.Sink.{unsent}
 use Rattle.g1_image.proofs.Used.{used_next, rows_left}
 use Rattle.g1_image.proofs.Sent.{sending_none, sending_more, sending_fails}
 use Rattle.g1_image.proofs.sending.send_used.Goals as goal
@@ -12,7 +12,7 @@ pub loop-r-init : goal.loop-r-init
 loop-r-init g c =
     let all : length c.args.regions.now - 0 ≡ length c.args.regions.now = omega arith in
     record {
-      part = sending_none (g.S.Sink.written c.args.sink.now) (waiting c.args.behind.now) (words_text (used_words c.args.width c.args.regions.now c.args.words.now));
+      part = sending_none (g.S.Sink.written c.args.sink.now) (unsent c.args.behind.now) (words_text (used_words c.args.width c.args.regions.now c.args.words.now));
       mark = refl;
       rows = c.requires.whole ∙ ap (λ n. n * c.args.width) (sym all);
     }

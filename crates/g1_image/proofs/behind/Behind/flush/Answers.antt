@@ -1,6 +1,6 @@
 use Rattle.std.proofs.Common.{◌≡◌, [], take, ap, subst}
 use Rattle.std.proofs.lemmas.Result.{err_from_is_err_and}
-use Rattle.g1_image.specs.Sink.{waiting, SendFails}
+use Rattle.g1_image.specs.Sink.{unsent, SendFails}
 use Rattle.g1_image.proofs.Sent.{fails_all}
 use Rattle.g1_image.proofs.behind.Behind.flush.Goals as goal
 
@@ -8,6 +8,6 @@ pub returns-in_err-write_all-clause-err : goal.returns-in_err-write_all-clause-e
 returns-in_err-write_all-clause-err g c =
     let same = err_from_is_err_and c.from_residual.result c.from_residual.ensures.1 in
     let end = c.args.self.now.end in
-    let is : take end c.deref.result.now ≡ waiting c.args.self.now = ap (take end) c.deref.ensures.value in
+    let is : take end c.deref.result.now ≡ unsent c.args.self.now = ap (take end) c.deref.ensures.value in
     rw (same.1, same.2) (subst (λ l. SendFails (g.S.Sink.written c.args.sink.now) (g.S.Sink.written c.write_all.new.sink) l [] c.in_err-write_all.field-0.0) is
     (fails_all _ _ (take end c.deref.result.now) _ c.in_err-write_all.ensures.err))

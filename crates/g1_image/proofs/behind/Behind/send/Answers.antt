@@ -1,9 +1,8 @@
-use Rattle.std.proofs.Common.{◌≡◌, [], ◌++◌, ap, refl, sym, ◌∙◌, take-append-drop}
+use Rattle.std.proofs.Common.{◌≡◌, [], ◌++◌, ap, refl, ◌∙◌}
 use Rattle.std.proofs.lemmas.Grind.{flat_map-append}
 use Rattle.std.proofs.lemmas.Result.{err_from_is_err_and}
 use Rattle.g1_image.specs.Text.{u64, words_text}
-use Rattle.g1_image.specs.Sink.{waiting}
-use Rattle.g1_image.proofs.Sent.{sent_waits, sent_more, sending_none, sending_more, sending_fails, sending_done}
+use Rattle.g1_image.proofs.Sent.{sent_waits, sent_more, sending_more, sending_fails}
 use Rattle.g1_image.proofs.behind.Behind.send.Goals as goal
 
 pub returns-in_err-make_room-clause-err : goal.returns-in_err-make_room-clause-err

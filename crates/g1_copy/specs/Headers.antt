@@ -1,10 +1,10 @@
 -- The headers of survivors that are read before these are copied.
 use Rattle.std.specs.Prelude.{◌≡◌, ◌≤◌, ◌<◌, ◌+◌, ℕ, List, slice_index}
 use Rattle.g1_words.specs.Heap.{Heap}
-use Rattle.g1_copy.specs.declared.ahead.Ahead.{Ahead}
+use Rattle.g1_copy.specs.declared.headers.Headers.{Headers}
 
 -- the headers from one index up to another are read, and the i-th survivor is one of these or comes after the last
-pub record IsAhead (h : Heap) (l : List ℕ) (i : ℕ) (a : Ahead) : Type 0 where
+pub record AreAhead (h : Heap) (l : List ℕ) (i : ℕ) (a : Headers) : Type 0 where
   pub begun : a.from ≤ i
   pub next : i ≤ a.to
   pub few : a.to ≤ a.from + 16

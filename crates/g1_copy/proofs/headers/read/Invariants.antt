@@ -1,5 +1,5 @@
 use Rattle.std.proofs.Common.{◌≡◌, ◌<◌, ℕ, slice_index}
-use Rattle.g1_copy.proofs.ahead.read.Given as goal
+use Rattle.g1_copy.proofs.headers.read.Given as goal
 
 abbrev pub invariant-loop-k : goal.invariant-loop-k
 invariant-loop-k l = (j : ℕ) → j < l.k → slice_index l.headers j ≡ slice_index l.words (slice_index l.addresses j)

@@ -1,9 +1,9 @@
 use Rattle.std.proofs.Common.{◌+◌, ◌<◌, length, All, sym, ap, subst, arith}
 use Rattle.g1_layout.proofs.Conditions.{can_lay}
-use Rattle.g1_copy.specs.Ahead.{IsAhead}
+use Rattle.g1_copy.specs.Headers.{AreAhead}
 use Rattle.g1_copy.proofs.HeadersAhead.{ahead_left, ahead_read, part_below}
-use Rattle.g1_copy.proofs.ahead.Ahead.object.Goals as goal
-use Rattle.g1_copy.proofs.ahead.Ahead.object.Goals.{then-i-self, else-i-self}
+use Rattle.g1_copy.proofs.headers.Headers.object.Goals as goal
+use Rattle.g1_copy.proofs.headers.Headers.object.Goals.{then-i-self, else-i-self}
 
 pub read-requires-clause-there : goal.read-requires-clause-there
 read-requires-clause-there c =
@@ -21,8 +21,8 @@ returns-clause-ahead c =
     elim c.if-i-self.branch [
       | then-i-self w ↦
           let count = ap length c.survivors-survivors.ensures in
-          subst (IsAhead h l (i + 1)) (sym w.self-is)
+          subst (AreAhead h l (i + 1)) (sym w.self-is)
           (ahead_read h l i w.min-to.result w.words.result.now c.survivors-survivors.result.now w.read.new.headers w.words.ensures c.survivors-survivors.ensures
           (omega (arith, w.min-to.ensures, count, c.requires.index)) (omega (arith, w.min-to.ensures)) (omega (arith, w.min-to.ensures, count)) w.read.ensures)
-      | else-i-self w ↦ subst (IsAhead h l (i + 1)) (sym w.self-is) (ahead_left h l i c.args.self.now c.requires.ahead w.if-i-self.false)
+      | else-i-self w ↦ subst (AreAhead h l (i + 1)) (sym w.self-is) (ahead_left h l i c.args.self.now c.requires.ahead w.if-i-self.false)
     ]

@@ -9,7 +9,7 @@ const AHEAD: usize = 16;
 
 /// The headers of the survivors from one index up to another.
 #[derive(Drop)]
-pub(crate) struct Ahead {
+pub(crate) struct Headers {
     from: usize,
     to: usize,
     headers: [u64; AHEAD],
@@ -26,17 +26,17 @@ fn read(words: &[u64], addresses: &[u64], headers: &mut [u64])
     }
 }
 
-impl Ahead {
+impl Headers {
     ghost use Rattle.std.specs.Prelude.{◌≡◌, ◌<◌, ◌+◌, ℕ, List, length, slice_index};
     ghost use Rattle.g1_words.specs.Heap.{Heap as HeapOf, object_at};
     ghost use Rattle.g1_copy.specs.Plans.{IsPlanOf};
-    ghost use Rattle.g1_copy.specs.Ahead.{IsAhead};
+    ghost use Rattle.g1_copy.specs.Headers.{AreAhead};
 
     /// None is read, and the survivor at an index is the next.
-    pub(crate) fn new(from: usize) -> Ahead
-        ensures { (h : HeapOf) (l : List ℕ) → IsAhead h l from result }
+    pub(crate) fn new(from: usize) -> Headers
+        ensures { (h : HeapOf) (l : List ℕ) → AreAhead h l from result }
     {
-        Ahead {
+        Headers {
             from,
             to: from,
             headers: [0; AHEAD],
@@ -47,9 +47,9 @@ impl Ahead {
     pub(crate) fn object(&mut self, heap: &Heap, plan: &Plan, i: usize) -> Object
         requires plan { IsPlanOf heap.now plan.now }
         requires index { i < length plan.now.survivors }
-        requires ahead { IsAhead heap.now plan.now.survivors i self.old }
+        requires ahead { AreAhead heap.now plan.now.survivors i self.old }
         ensures object { result ≡ object_at heap.now (slice_index plan.now.survivors i) }
-        ensures ahead { IsAhead heap.now plan.now.survivors (i + 1) self.new }
+        ensures ahead { AreAhead heap.now plan.now.survivors (i + 1) self.new }
     {
         // Known of every heap whose geometry was asked: it is valid.
         heap.geometry();
