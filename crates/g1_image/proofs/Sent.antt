@@ -37,10 +37,6 @@ sent_none a xs = record { front = []; bytes = Appends-nil a; same = append-nil x
 pub sent_waits : (a : Option (List ℕ)) (xs come ys : List ℕ) → ys ≡ xs ++ come → Sent a a xs come ys
 sent_waits a xs come ys e = record { front = []; bytes = Appends-nil a; same = sym e }
 
--- all that waits is written
-pub sent_all : (a b : Option (List ℕ)) (xs : List ℕ) → Appends a b xs → Sent a b xs [] []
-sent_all a b xs p = record { front = xs; bytes = p; same = refl }
-
 -- one part, and then another
 pub sent_more : (a b c : Option (List ℕ)) (xs ys zs come more : List ℕ) → Sent a b xs come ys → Sent b c ys more zs → Sent a c xs (come ++ more) zs
 sent_more a b c xs ys zs come more p q = record {
@@ -98,9 +94,6 @@ pub sending_fails : (a b c : Option (List ℕ)) (xs ys whole rest come more : Li
 sending_fails a b c xs ys whole rest come more e p is q =
     let all : p.part ++ (come ++ more) ≡ whole = ap (λ l. p.part ++ l) (sym is) ∙ p.behind in
     subst (λ l. SendFails a c xs l e) all (fails_behind a b c xs ys p.part (come ++ more) e p.sent (fails_before b c ys come more e q))
-
-pub sending_done : (a b : Option (List ℕ)) (xs ys whole rest : List ℕ) → Sending a b xs whole ys rest → rest ≡ [] → Sent a b xs whole ys
-sending_done a b xs ys whole rest p e = subst (λ l. Sent a b xs l ys) (sym (append-nil p.part) ∙ ap (λ l. p.part ++ l) (sym e) ∙ p.behind) p.sent
 
 -- all was sent, and nothing waits: it is written
 pub all_written : (a b c : Option (List ℕ)) (front words ys : List ℕ) → Sent a b front words ys → Sent b c ys [] [] → Appends a c (front ++ words)
