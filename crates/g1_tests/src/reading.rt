@@ -1,6 +1,7 @@
+use crate::images::{of_many_pieces, of_many_roots};
 use g1_image::{FromReader, encode, read};
 use g1_testing::pictures::{humongous, one_object, three_regions};
-use g1_testing::{Sketch, Stream, Trouble, text};
+use g1_testing::{Stream, Trouble, text};
 use g1_words::{Device, Fault};
 use std::alloc::Global;
 use std::io::Read;
@@ -33,20 +34,7 @@ fn images_pass_one_byte_at_a_time(rt: HostRuntime) -> Result<(), Fail> {
 #[test]
 fn words_lie_across_pieces(rt: HostRuntime) -> Result<(), Fail> {
     let alloc = rt.alloc();
-    let mut data = Vec::new(alloc);
-    for word in 0..10_000u64 {
-        data.push(word)?;
-    }
-    // The one card in the log is four bytes: a word lies across each end of a piece.
-    let mut sketch = Sketch::new(alloc, 32_768, 64, 2);
-    sketch.dirty(0)?;
-    for _ in 0..2 {
-        sketch.ordinary(alloc)?;
-        for _ in 0..3 {
-            sketch.object(&[], data.as_slice())?;
-        }
-    }
-    let bytes = sketch.text(alloc)?;
+    let bytes = of_many_pieces(alloc)?;
     assert_eq!(rt;
         again(alloc, bytes.as_slice())?.as_slice(),
         bytes.as_slice()
@@ -57,14 +45,7 @@ fn words_lie_across_pieces(rt: HostRuntime) -> Result<(), Fail> {
 #[test]
 fn a_long_front_is_read_whole(rt: HostRuntime) -> Result<(), Fail> {
     let alloc = rt.alloc();
-    let mut sketch = Sketch::new(alloc, 16, 4, 2);
-    sketch.ordinary(alloc)?;
-    sketch.object(&[], &[7])?;
-    // A root is eight bytes: the front has three pieces.
-    for _ in 0..20_000 {
-        sketch.root(0)?;
-    }
-    let bytes = sketch.text(alloc)?;
+    let bytes = of_many_roots(alloc)?;
     assert_eq!(rt;
         again(alloc, bytes.as_slice())?.as_slice(),
         bytes.as_slice()
