@@ -77,7 +77,8 @@ impl Starts {
         Ok(Starts { firsts })
     }
 
-    /// The address of the object over the first word of a card.
+    /// The address, in words, of the object over the first word of a card of the heap; none where no
+    /// object is there.
     pub fn first(&self, card: u32) -> Option<u32>
         requires { card < length self.now }
         ensures { result ≡ slice_index_or self.now card None }
