@@ -11,8 +11,6 @@
 mod arguments;
 mod refusal;
 mod streams;
-#[cfg(test)]
-mod tests;
 mod values;
 
 pub use arguments::words;

@@ -7,7 +7,7 @@ use Rattle.g1_words.specs.Heap.{Heap}
 use Rattle.g1_choose.specs.declared.parameters.Cost.{Cost}
 use Rattle.g1_choose.specs.Cost.{IsCost, total}
 use Rattle.g1_choose.specs.Choice.{cost_of, pause_cost}
-use Rattle.g1pause.proofs.listing.total_of.Goals as goal
+use Rattle.g1pause_cli.proofs.listing.total_of.Goals as goal
 
 pub costs_of-requires-clause-regions : goal.costs_of-requires-clause-regions
 costs_of-requires-clause-regions c = λ k d lt.

@@ -1,4 +1,4 @@
-use crate::commands::program;
+use g1pause_cli::program;
 use std::alloc::{AllocError, Global};
 use std::io;
 use std::io::{ErrorKind, Read, Write};

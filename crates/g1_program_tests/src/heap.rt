@@ -1,7 +1,6 @@
-use crate::commands::{compared, program};
-use crate::options::Same;
 use g1_image::{Image, decode};
 use g1_text::make;
+use g1heap_cli::{Same, compared, program};
 use std::alloc::{AllocError, Global};
 use std::io;
 use std::io::{ErrorKind, Read, Write};

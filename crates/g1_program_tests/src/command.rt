@@ -1,4 +1,4 @@
-use crate::{Argument, Refusal, deliver, read_all, refuse, status, whole, words};
+use g1_command::{Argument, Refusal, deliver, read_all, refuse, status, whole, words};
 use g1_words::{Device, Fault, Place, Stand};
 use std::alloc::Global;
 use std::env::FillError;

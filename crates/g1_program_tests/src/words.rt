@@ -1,5 +1,5 @@
 //! What the words of the command line are answered, to the letter.
-use crate::tests::run;
+use crate::pause::run;
 use std::alloc::{AllocError, Global};
 use std::process::Abort;
 use std::test::Fail;

@@ -80,7 +80,8 @@ fn same_answer<T: Threads + Sync + Files, R: Read>(
     Ok((status, text))
 }
 
-pub(crate) fn compared(
+/// The status and the line for two images.
+pub fn compared(
     alloc: Global,
     same: &Same,
     before: &Image,

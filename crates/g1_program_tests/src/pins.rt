@@ -1,4 +1,4 @@
-use crate::tests::{
+use crate::pause::{
     DEAD_OWNER, DEAD_OWNER_MOVED, ONE_OBJECT_MOVED, THREE_REGIONS, expect_answer, expect_fault,
     expect_malformed, text_of,
 };

@@ -1,0 +1,22 @@
+//! The tests of the two programs, in one crate, so that no program is proved a second time for them: each
+//! is called over streams in memory, as its `main` calls it over those of its process.
+//!
+//! - `command`: words that are not text, numbers, fault lines and statuses, and readers and writers that
+//!   fail at each of their calls.
+//! - `pause`: what each command of g1pause answers, and what comes of readers and writers that fail, of
+//!   images that are cut and of bytes that are changed.
+//! - `words`: how the words of g1pause become a request, and what is told of wrong ones.
+//! - `pins`: pinned regions and the current one.
+//! - `heap`: what g1heap answers.
+#![tactic(auto)]
+
+#[cfg(test)]
+mod command;
+#[cfg(test)]
+mod heap;
+#[cfg(test)]
+mod pause;
+#[cfg(test)]
+mod pins;
+#[cfg(test)]
+mod words;
