@@ -1,5 +1,5 @@
 -- What holds of an image in which the humongous objects are freed that nothing names.
-use Rattle.std.specs.Prelude.{◌≡◌, ◌↔◌, ℕ, not, ◌&&◌, ◌||◌, List, [], ◌<◌, Contains, IsFalse}
+use Rattle.std.specs.Prelude.{◌≡◌, ◌↔◌, ℕ, not, ◌&&◌, ◌||◌, [], ◌<◌, Contains, IsFalse}
 use Rattle.std.specs.List.{list_any}
 use Rattle.g1_words.specs.declared.object.Object.{Object}
 use Rattle.g1_words.specs.declared.region.Kind.TheVariants.{HumongousFirst}

@@ -1,6 +1,6 @@
-use Rattle.std.proofs.Common.{ℕ, List, [], ◌∷◌, refl}
+use Rattle.std.proofs.Common.{[], ◌∷◌, refl}
 use Rattle.g1_words.specs.Survivors.{seeds, children}
-use Rattle.g1_examples.specs.Examples.{one_object, one_object_after, shared_target, shared_target_after, three_regions, humongous_owner, humongous_owner_image}
+use Rattle.g1_examples.specs.Examples.{one_object, one_object_after, shared_target, shared_target_after, three_regions, humongous_owner}
 use Rattle.g1_words.proofs.Unique.{search_ends}
 use Rattle.g1_examples.proofs.Closed.{live_by_search}
 use Rattle.g1_examples.proofs.Moving.{dead_owner_paused, humongous_moved, one_object_moved, shared_target_moved}
