@@ -1,6 +1,7 @@
-ghost use Rattle.std.specs.Prelude.{◌≡◌, ◌<◌, ◌≤◌, ◌∷◌, [], map, IfOk};
+ghost use Rattle.std.specs.Prelude.{◌≡◌, ◌+◌, ◌<◌, ◌≤◌, ◌∷◌, [], length, map, IfOk};
 ghost use Rattle.g1_words.specs.Survivors.{AllOrdinary};
 ghost use Rattle.g1_rem.specs.Starts.{IsStartsOf};
+ghost use Rattle.g1_frontier.specs.Items.{first_items, object_items};
 ghost use Rattle.g1_frontier.specs.Window.{AreRegions, AreCards, AreOutside, LeadIn};
 
 use crate::images::tracked;
@@ -196,6 +197,50 @@ fn addresses(alloc: Global, won: &[(u64, u64)]) -> Result<Vec<u64>, AllocError>
     Ok(found)
 }
 
+/// The two roots and the two cards, if there are as many.
+fn roots_and_cards(heap: &Heap, cards: &[u32]) -> Result<[Item; 4], Fault>
+    ensures items { IfOk result (λ r. r ≡ first_items (length heap.now.roots) cards.now) }
+{
+    if heap.roots().len() != 2 || cards.len() != 2 {
+        return Err(Fault::Set(1));
+    }
+    Ok([
+        Item::Root { index: 0 },
+        Item::Root { index: 1 },
+        Item::Card {
+            card: cards[0],
+            base: 2,
+        },
+        Item::Card {
+            card: cards[1],
+            base: 2,
+        },
+    ])
+}
+
+/// The two objects that were found, if there are as many. Their ranks go on behind those of the roots
+/// and of all words.
+fn two_objects(heap: &Heap, found: &[u64]) -> Result<[Item; 2], Fault>
+    ensures items { IfOk result (λ r. r ≡ object_items heap.now (length heap.now.roots + length heap.now.words) found.now) }
+{
+    if found.len() != 2 {
+        return Err(Fault::Set(1));
+    }
+    let base = heap.roots().len() as u64 + heap.words().len() as u64;
+    let at = found[0];
+    let slots = match object_at(heap, at) {
+        Some(object) => object.refs,
+        None => return Err(Fault::Set(1)),
+    };
+    Ok([
+        Item::Object { at, base },
+        Item::Object {
+            at: found[1],
+            base: base + slots,
+        },
+    ])
+}
+
 /// A round of the two roots and the two cards that lead into region 1, and one of the two objects that
 /// it found.
 fn both_rounds<R: Threads + Sync>(
@@ -211,43 +256,14 @@ fn both_rounds<R: Threads + Sync>(
     requires outside { AreOutside heap.now (1 ∷ []) cards.now }
     requires lead_in { LeadIn heap.now (1 ∷ []) cards.now }
 {
-    if heap.roots().len() != 2 || cards.len() != 2 {
-        return Err(Fault::Set(1));
-    }
-    let items = [
-        Item::Root { index: 0 },
-        Item::Root { index: 1 },
-        Item::Card {
-            card: cards[0],
-            base: 2,
-        },
-        Item::Card {
-            card: cards[1],
-            base: 2,
-        },
-    ];
     let window: [u32; 1] = [1];
+    let items = roots_and_cards(heap, cards)?;
     let (claims, seat) = Claims::new(alloc, heap.geometry().region_words())?;
     let (claims, seat, first) = claim_round(
         rt, alloc, heap, starts, &window, claims, seat, &items, 8, 1, &Open,
     )?;
     let found = addresses(alloc, &first)?;
-    if found.len() != 2 {
-        return Err(Fault::Set(1));
-    }
-    let base = 2 + heap.words().len() as u64;
-    let at = found[0];
-    let slots = match object_at(heap, at) {
-        Some(object) => object.refs,
-        None => return Err(Fault::Set(1)),
-    };
-    let items = [
-        Item::Object { at, base },
-        Item::Object {
-            at: found[1],
-            base: base + slots,
-        },
-    ];
+    let items = two_objects(heap, &found)?;
     let (claims, seat, second) = claim_round(
         rt, alloc, heap, starts, &window, claims, seat, &items, 8, 1, &Open,
     )?;
