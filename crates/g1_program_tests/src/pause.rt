@@ -1,7 +1,7 @@
+use g1_testing::{Stream, Trouble};
 use g1pause_cli::program;
 use std::alloc::{AllocError, Global};
-use std::io;
-use std::io::{ErrorKind, Read, Write};
+use std::io::{Read, Write};
 use std::process::Abort;
 use std::test::Fail;
 use std::thread::Threads;
@@ -444,47 +444,6 @@ fn a_changed_byte_is_refused_or_kept(rt: HostRuntime) -> Result<(), Fail> {
     Ok(())
 }
 
-// Gives or takes a byte a call, and fails once it has been called `left` times.
-#[derive(Drop)]
-struct Failing {
-    bytes: Vec<u8>,
-    left: usize,
-}
-
-impl Failing {
-    fn turn(&mut self) -> io::Result<()> {
-        if self.left == 0 {
-            return Err(io::Error::from(ErrorKind::Other));
-        }
-        self.left -= 1;
-        Ok(())
-    }
-}
-
-impl Read for Failing {
-    fn read(&mut self, buf: &mut [u8]) -> io::Result<usize> {
-        self.turn()?;
-        if self.bytes.is_empty() || buf.is_empty() {
-            return Ok(0);
-        }
-        buf[0] = self.bytes.remove(0);
-        Ok(1)
-    }
-}
-
-impl Write for Failing {
-    fn write(&mut self, buf: &[u8]) -> io::Result<usize> {
-        self.turn()?;
-        let taken = buf.len().min(1);
-        self.bytes.extend_from_slice(&buf[..taken])?;
-        Ok(taken)
-    }
-
-    fn flush(&mut self) -> io::Result<()> {
-        self.turn()
-    }
-}
-
 // Fails the reader at each of its calls, of which the last finds the end.
 fn expect_input_faults<T: Threads + Abort + Sync>(
     rt: &T,
@@ -499,10 +458,7 @@ fn expect_input_faults<T: Threads + Abort + Sync>(
         } else {
             (0, "")
         };
-        let mut reader = Failing {
-            bytes: Vec::from_slice(alloc, image)?,
-            left,
-        };
+        let mut reader = Stream::new(Vec::from_slice(alloc, image)?, left, Trouble::Broken);
         let mut out = Vec::new(alloc);
         let (ended, errors) = run(rt, alloc, line, &mut reader, &mut out)?;
         assert_eq!(rt; ended, status, "{line}: {left}");
@@ -528,10 +484,7 @@ fn expect_output_faults<T: Threads + Abort + Sync>(
             (0, "")
         };
         let mut reader = image;
-        let mut writer = Failing {
-            bytes: Vec::new(alloc),
-            left,
-        };
+        let mut writer = Stream::new(Vec::new(alloc), left, Trouble::Broken);
         let (ended, errors) = run(rt, alloc, line, &mut reader, &mut writer)?;
         assert_eq!(rt; ended, status, "{line}: {left}");
         let written = &answer[..left.min(answer.len())];
@@ -640,10 +593,7 @@ fn usage_faults_come_before_the_input(rt: HostRuntime) -> Result<(), Fail> {
         "show --version",
     ];
     for line in refused {
-        let mut reader = Failing {
-            bytes: Vec::new(alloc),
-            left: 0,
-        };
+        let mut reader = Stream::new(Vec::new(alloc), 0, Trouble::Broken);
         let mut out = Vec::new(alloc);
         let (status, errors) = run(&rt, alloc, line, &mut reader, &mut out)?;
         assert_eq!(rt; status, 2, "{line}");
@@ -659,10 +609,7 @@ fn usage_faults_come_before_the_input(rt: HostRuntime) -> Result<(), Fail> {
         "run --help",
         "--version",
     ] {
-        let mut reader = Failing {
-            bytes: Vec::new(alloc),
-            left: 0,
-        };
+        let mut reader = Stream::new(Vec::new(alloc), 0, Trouble::Broken);
         let mut out = Vec::new(alloc);
         let (status, errors) = run(&rt, alloc, line, &mut reader, &mut out)?;
         assert_eq!(rt; status, 0, "{line}");
@@ -702,10 +649,7 @@ fn numbers_out_of_range_come_before_the_input(rt: HostRuntime) -> Result<(), Fai
         ("run --chunk 0", "g1pause: fault 12: setting 2\n"),
         ("run --dirty 4294967296", "g1pause: fault 12: setting 3\n"),
     ] {
-        let mut reader = Failing {
-            bytes: Vec::new(alloc),
-            left: 0,
-        };
+        let mut reader = Stream::new(Vec::new(alloc), 0, Trouble::Broken);
         let mut out = Vec::new(alloc);
         let (status, errors) = run(&rt, alloc, line, &mut reader, &mut out)?;
         assert_eq!(rt; status, 2, "{line}");
