@@ -108,14 +108,19 @@ impl Draft {
 
     /// Adds free regions up to this one.
     pub(crate) fn fill_up_to(&mut self, region: u64) -> Result<(), AllocError> {
-        let free = Region {
-            kind: Kind::Free,
+        for _ in self.regions.len() as u64..region {
+            self.add_empty(Kind::Free)?;
+        }
+        Ok(())
+    }
+
+    /// Adds a region of a kind with nothing in it.
+    pub(crate) fn add_empty(&mut self, kind: Kind) -> Result<(), AllocError> {
+        self.regions.push(Region {
+            kind,
             top: 0,
             pinned: false,
-        };
-        for _ in self.regions.len() as u64..region {
-            self.regions.push(free)?;
-        }
+        })?;
         Ok(())
     }
 
@@ -140,6 +145,13 @@ impl Draft {
             self.continue_run()?;
         }
         Ok(())
+    }
+
+    /// Adds the regions that no line told.
+    pub(crate) fn close(&mut self) -> Result<(), AllocError> {
+        self.close_run()?;
+        let regions = self.geometry.regions();
+        self.fill_up_to(regions)
     }
 
     /// Takes room for an object of so many words behind the last one.

@@ -21,9 +21,7 @@ pub(crate) fn read(alloc: Global, text: &[u8]) -> Result<Draft, Wrong> {
     let Some(mut draft) = draft else {
         return Err(Refusal::Expected(Expected::Heading).at(number));
     };
-    draft.close_run()?;
-    let regions = draft.geometry.regions();
-    draft.fill_up_to(regions)?;
+    draft.close()?;
     Ok(draft)
 }
 
@@ -39,14 +37,22 @@ fn read_line(
     };
     let words = line.split_ascii_whitespace().collect::<Vec<&str>>(alloc)?;
     let mut words = Words::new(words.as_slice());
-    let Some(first) = words.next() else {
-        return Ok(());
-    };
-    if first.starts_with('#') {
-        return Ok(());
+    match words.next() {
+        Some(first) if !first.starts_with('#') => read_words(alloc, draft, number, first, words),
+        _ => Ok(()),
     }
+}
+
+// The first line with words begins the draft.
+fn read_words(
+    alloc: Global,
+    draft: &mut Option<Draft>,
+    number: u64,
+    first: &str,
+    words: Words<'_>,
+) -> Result<(), Refusal> {
     match draft {
-        Some(draft) => draft.add(alloc, first, words, number),
+        Some(draft) => draft.add(first, words, number),
         None => {
             *draft = Some(begun(alloc, first, words, number)?);
             Ok(())
@@ -60,16 +66,23 @@ fn begun(alloc: Global, first: &str, words: Words<'_>, line: u64) -> Result<Draf
     if first != "heap" {
         return Err(Expected::Heading.into());
     }
-    let (w, k, n) = (words.number("W")?, words.number("K")?, words.number("N")?);
-    let roots = words.named("roots")?;
-    let dirty = words.named("dirty")?;
+    let (w, k, n) = sizes(&mut words)?;
+    let heading = Heading {
+        line,
+        roots: words.named("roots")?,
+        dirty: words.named("dirty")?,
+    };
     let current = current(&mut words)?;
     words.end()?;
     let Ok(geometry) = Geometry::new(w, k, n) else {
         return Err(Expected::Sizes.into());
     };
-    let heading = Heading { line, roots, dirty };
     Ok(Draft::new(alloc, geometry, current, heading)?)
+}
+
+// W K N
+fn sizes(words: &mut Words<'_>) -> Result<(u64, u64, u64), Expected> {
+    Ok((words.number("W")?, words.number("K")?, words.number("N")?))
 }
 
 fn current(words: &mut Words<'_>) -> Result<Option<u32>, Expected> {
@@ -89,13 +102,7 @@ pub(crate) fn follows(told: Option<u64>, what: &'static str, number: u64) -> Res
 
 impl Draft {
     // Reads the words behind the first word of a line.
-    fn add(
-        &mut self,
-        alloc: Global,
-        first: &str,
-        words: Words<'_>,
-        line: u64,
-    ) -> Result<(), Refusal> {
+    fn add(&mut self, first: &str, words: Words<'_>, line: u64) -> Result<(), Refusal> {
         match first {
             "root" => self.add_root(words, line),
             "dirty" => self.add_dirty(words, line),
@@ -164,16 +171,9 @@ impl Draft {
     fn add_region(&mut self, words: Words<'_>, line: u64) -> Result<(), Refusal> {
         let mut words = words;
         let told = words.take_number();
-        let kind = kind(words.next())?;
+        let kind = kind(words.next().unwrap_or(""))?;
         let region = self.begin_region(told, kind)?;
-        let told = Told {
-            line,
-            region,
-            top: words.named("top")?,
-            objects: words.named("objects")?,
-            cards: words.named("cards")?,
-            found: 0,
-        };
+        let told = told_of(region, &mut words, line)?;
         if kind == Kind::Ordinary && words.take("pinned") {
             self.pin(region);
         }
@@ -195,15 +195,7 @@ impl Draft {
         }
         let next = self.regions.len() as u64;
         let number = told.unwrap_or(next);
-        let Some(last) = self.geometry.regions().checked_sub(1) else {
-            return Err(Expected::NoRegion.into());
-        };
-        if next > last {
-            return Err(Expected::NoRegion.into());
-        }
-        if number < next || number > last {
-            return Err(Expected::Region(next, last).into());
-        }
+        check_number(number, next, self.geometry.regions())?;
         if kind == Kind::Continuation {
             if self.beyond == 0 || number != next {
                 return Err(Expected::NoContinuation.into());
@@ -211,11 +203,7 @@ impl Draft {
             self.continue_run()?;
         } else {
             self.fill_up_to(number)?;
-            self.regions.push(Region {
-                kind,
-                top: 0,
-                pinned: false,
-            })?;
+            self.add_empty(kind)?;
         }
         Ok(number as usize)
     }
@@ -272,12 +260,35 @@ impl Draft {
     }
 }
 
-fn kind(word: Option<&str>) -> Result<Kind, Expected> {
+// [top WORDS] [objects COUNT] [cards COUNT]
+fn told_of(region: usize, words: &mut Words<'_>, line: u64) -> Result<Told, Expected> {
+    Ok(Told {
+        line,
+        region,
+        top: words.named("top")?,
+        objects: words.named("objects")?,
+        cards: words.named("cards")?,
+        found: 0,
+    })
+}
+
+// A region's number is at least the next one, and below the count of regions.
+fn check_number(number: u64, next: u64, regions: u64) -> Result<(), Expected> {
+    if next >= regions {
+        Err(Expected::NoRegion)
+    } else if number < next || number >= regions {
+        Err(Expected::Region(next, regions - 1))
+    } else {
+        Ok(())
+    }
+}
+
+fn kind(word: &str) -> Result<Kind, Expected> {
     match word {
-        Some("free") => Ok(Kind::Free),
-        Some("ordinary") => Ok(Kind::Ordinary),
-        Some("humongous") => Ok(Kind::HumongousFirst),
-        Some("continuation") => Ok(Kind::Continuation),
+        "free" => Ok(Kind::Free),
+        "ordinary" => Ok(Kind::Ordinary),
+        "humongous" => Ok(Kind::HumongousFirst),
+        "continuation" => Ok(Kind::Continuation),
         _ => Err(Expected::Kind),
     }
 }
