@@ -28,14 +28,25 @@ fn read(
     words: &mut SplitAsciiWhitespace<'_>,
 ) -> Result<bool, Fault> {
     match words.next() {
+        Some(first) => read_rest(alloc, sketch, first, words),
         None => Ok(true),
-        Some("heap") => Ok(heap(alloc, sketch, words)),
-        Some("root") => root(sketch, words),
-        Some("dirty") => dirty(sketch, words),
-        Some("region") => region(alloc, sketch, words),
-        Some("remembered") => remembered(sketch, words),
-        Some("object") => object(sketch, words),
-        Some(_) => Ok(false),
+    }
+}
+
+fn read_rest(
+    alloc: Global,
+    sketch: &mut Sketch,
+    first: &str,
+    words: &mut SplitAsciiWhitespace<'_>,
+) -> Result<bool, Fault> {
+    match first {
+        "heap" => Ok(heap(alloc, sketch, words)),
+        "root" => root(sketch, words),
+        "dirty" => dirty(sketch, words),
+        "region" => region(alloc, sketch, words),
+        "remembered" => remembered(sketch, words),
+        "object" => object(sketch, words),
+        _ => Ok(false),
     }
 }
 
