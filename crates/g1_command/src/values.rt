@@ -69,8 +69,13 @@ fn with_usage(
 ) -> Result<String, AllocError> {
     let name = command.get_name();
     let path = format!(in alloc; "{program} {name}")?;
-    let usage = command.bin_name(path.as_str())?.render_usage()?;
+    let usage = usage_of(command, path.as_str())?;
     format!(in alloc; "error: {message}\n\n{usage}\n\nFor more information, try '{path} --help'.\n")
+}
+
+// The usage of a command that is called by this path.
+fn usage_of(command: Command<'_>, path: &str) -> Result<String, AllocError> {
+    command.bin_name(path)?.render_usage()
 }
 
 /// What clap says in place of matches: a text that was asked for, or why the words are no request.
