@@ -6,11 +6,11 @@ use crate::refusal::{no_object, no_region, of_file, wrong_line};
 use g1_choose::given;
 use g1_command::{Refusal, deliver, refuse};
 use g1_image::Image;
-use g1_kept::kept;
+use g1_kept::{Lost, kept};
 use g1_rem::verify;
 use g1_same::compare;
 use g1_text::{Wrong, image_lines, make, object_line, region_lines};
-use g1_words::object_at;
+use g1_words::{Heap, object_at};
 use std::alloc::Global;
 use std::io::{Read, Write};
 use std::rt::Files;
@@ -41,30 +41,29 @@ fn perform<T: Threads + Sync + Files, R: Read, W: Write>(
     reader: &mut R,
     writer: &mut W,
 ) -> Result<u8, Refusal> {
-    match parse(alloc, words)? {
-        Request::Help(text) => {
-            deliver(text.as_bytes(), writer)?;
-            Ok(0)
-        }
-        Request::Same(same) => {
-            let (status, text) = same_answer(rt, alloc, &same, reader)?;
-            deliver(text.as_bytes(), writer)?;
-            Ok(status)
-        }
-        Request::Print { image, part } => {
-            let text = printed(rt, alloc, image.as_str(), part, reader)?;
-            deliver(text.as_bytes(), writer)?;
-            Ok(0)
-        }
-        Request::Make { lines } => {
-            let bytes = made(rt, alloc, lines.as_str(), reader)?;
-            deliver(bytes.as_slice(), writer)?;
-            Ok(0)
-        }
+    let request = parse(alloc, words)?;
+    match &request {
+        Request::Help(text) => deliver(text.as_bytes(), writer)?,
+        Request::Same(same) => return answer_same(rt, alloc, same, reader, writer),
+        Request::Print { image, part } => print(rt, alloc, image.as_str(), *part, reader, writer)?,
+        Request::Make { lines } => write_made(rt, alloc, lines.as_str(), reader, writer)?,
     }
+    Ok(0)
 }
 
-// Reads both images and compares them. The status is 1 where they differ.
+// Tells whether two images show the same. The status is 1 where they differ.
+fn answer_same<T: Threads + Sync + Files, R: Read, W: Write>(
+    rt: &T,
+    alloc: Global,
+    same: &Same,
+    reader: &mut R,
+    writer: &mut W,
+) -> Result<u8, Refusal> {
+    let (status, text) = same_answer(rt, alloc, same, reader)?;
+    deliver(text.as_bytes(), writer)?;
+    Ok(status)
+}
+
 fn same_answer<T: Threads + Sync + Files, R: Read>(
     rt: &T,
     alloc: Global,
@@ -73,11 +72,8 @@ fn same_answer<T: Threads + Sync + Files, R: Read>(
 ) -> Result<(u8, String), Refusal> {
     let before = read_image(rt, alloc, same.before.as_str(), reader)?;
     let after = read_image(rt, alloc, same.after.as_str(), reader)?;
-    let (status, text) = compared(alloc, same, &before, &after)?;
-    if status == 0 && same.covered {
-        return Ok((0, covered(rt, alloc, same, after, text)?));
-    }
-    Ok((status, text))
+    let answer = compared(alloc, same, &before, &after)?;
+    with_cover(rt, alloc, same, after, answer)
 }
 
 /// The status and the line for two images.
@@ -90,94 +86,125 @@ pub fn compared(
     let (old, new) = (before.heap(), after.heap());
     match compare(alloc, old, new) {
         Ok(Ok(renaming)) => {
-            let text = same_line(alloc, old, &renaming)?;
-            if same.set.is_empty() {
-                Ok((0, text))
-            } else {
-                kept_answer(alloc, same, before, after, text)
-            }
+            let mut text = same_line(alloc, old, &renaming)?;
+            let status = push_kept(alloc, same, old, new, &mut text)?;
+            Ok((status, text))
         }
         Ok(Err(difference)) => Ok((1, difference_line(alloc, old, new, &difference)?)),
         Err(fault) => Err(Refusal::Fault(fault)),
     }
 }
 
-// What a pause of a set keeps. The regions of the set are looked for in the heap before.
-fn kept_answer(
+// What a pause of the set keeps, where one is asked for. What is lost is told in the place of all else.
+fn push_kept(
     alloc: Global,
     same: &Same,
-    before: &Image,
-    after: &Image,
-    text: String,
-) -> Result<(u8, String), Refusal> {
-    let (old, new) = (before.heap(), after.heap());
+    old: &Heap,
+    new: &Heap,
+    text: &mut String,
+) -> Result<u8, Refusal> {
+    if same.set.is_empty() {
+        return Ok(0);
+    }
+    match lost(alloc, same, old, new)? {
+        None => {
+            text.push_str("kept\n")?;
+            Ok(0)
+        }
+        Some(lost) => {
+            text.clear();
+            write!(text, "differ {lost}\n")?;
+            Ok(1)
+        }
+    }
+}
+
+// The first thing that a pause of the set would have kept. The regions of the set are looked for in the
+// heap before.
+fn lost(alloc: Global, same: &Same, old: &Heap, new: &Heap) -> Result<Option<Lost>, Refusal> {
     let set = match given(alloc, old, same.set.as_slice()) {
         Ok(set) => set,
         Err(fault) => return Err(of_file(alloc, same.before.as_str(), fault)),
     };
     match kept(alloc, old, new, set.as_slice()) {
-        Ok(Ok(())) => {
-            let mut text = text;
-            text.push_str("kept\n")?;
-            Ok((0, text))
-        }
-        Ok(Err(lost)) => Ok((1, format!(in alloc; "differ {lost}\n")?)),
+        Ok(Ok(())) => Ok(None),
+        Ok(Err(lost)) => Ok(Some(lost)),
         Err(fault) => Err(Refusal::Fault(fault)),
     }
 }
 
-fn covered<T: Threads + Sync>(
+// An image that shows the same is asked for cover last.
+fn with_cover<T: Threads + Sync>(
     rt: &T,
     alloc: Global,
     same: &Same,
     after: Image,
-    text: String,
-) -> Result<String, Refusal> {
+    answer: (u8, String),
+) -> Result<(u8, String), Refusal> {
+    let (status, mut text) = answer;
+    if status == 0 && same.covered {
+        check_cover(rt, alloc, same, after)?;
+        text.push_str("covered\n")?;
+    }
+    Ok((status, text))
+}
+
+fn check_cover<T: Threads + Sync>(
+    rt: &T,
+    alloc: Global,
+    same: &Same,
+    after: Image,
+) -> Result<(), Refusal> {
     match verify(rt, alloc, after) {
-        Ok(_) => {
-            let mut text = text;
-            text.push_str("covered\n")?;
-            Ok(text)
-        }
+        Ok(_) => Ok(()),
         Err((_, fault)) => Err(of_file(alloc, same.after.as_str(), fault)),
     }
 }
 
-fn printed<T: Files, R: Read>(
+fn print<T: Files, R: Read, W: Write>(
     rt: &T,
     alloc: Global,
     name: &str,
     part: Part,
     reader: &mut R,
-) -> Result<String, Refusal> {
+    writer: &mut W,
+) -> Result<(), Refusal> {
     let image = read_image(rt, alloc, name, reader)?;
-    let text = match part {
-        Part::Whole => image_lines(alloc, &image),
-        Part::Region(region) => {
-            if u64::from(region) >= image.heap().geometry().regions() {
-                return Err(no_region(alloc, name, region));
-            }
-            region_lines(alloc, &image, region)
+    let text = lines(alloc, &image, name, part)?;
+    deliver(text.as_bytes(), writer)?;
+    Ok(())
+}
+
+fn lines(alloc: Global, image: &Image, name: &str, part: Part) -> Result<String, Refusal> {
+    let heap = image.heap();
+    match part {
+        Part::Whole => Ok(image_lines(alloc, image)?),
+        Part::Region(region) if u64::from(region) < heap.geometry().regions() => {
+            Ok(region_lines(alloc, image, region)?)
         }
-        Part::Object(address) => match object_at(image.heap(), address) {
-            Some(object) => object_line(alloc, image.heap(), &object),
-            None => return Err(no_object(alloc, name, address)),
+        Part::Region(region) => Err(no_region(alloc, name, region)),
+        Part::Object(address) => match object_at(heap, address) {
+            Some(object) => Ok(object_line(alloc, heap, &object)?),
+            None => Err(no_object(alloc, name, address)),
         },
-    };
-    match text {
-        Ok(text) => Ok(text),
-        Err(fault) => Err(Refusal::Fault(fault)),
     }
 }
 
-fn made<T: Files, R: Read>(
+fn write_made<T: Files, R: Read, W: Write>(
     rt: &T,
     alloc: Global,
     name: &str,
     reader: &mut R,
-) -> Result<Vec<u8>, Refusal> {
+    writer: &mut W,
+) -> Result<(), Refusal> {
     let lines = read_bytes(rt, alloc, name, reader)?;
-    match make(alloc, lines.as_slice()) {
+    let bytes = made(alloc, name, lines.as_slice())?;
+    deliver(bytes.as_slice(), writer)?;
+    Ok(())
+}
+
+fn made(alloc: Global, name: &str, lines: &[u8]) -> Result<Vec<u8>, Refusal> {
+    match make(alloc, lines) {
         Ok(bytes) => Ok(bytes),
         Err(Wrong::Line { number, expected }) => Err(wrong_line(alloc, name, number, &expected)),
         Err(Wrong::Fault(fault)) => Err(of_file(alloc, name, fault)),
