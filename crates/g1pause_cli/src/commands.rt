@@ -1,6 +1,6 @@
 //! What the program does with a request.
 use crate::listing::{candidates, live_lines};
-use crate::options::{NAME, Pause, Request, Sharing, parse};
+use crate::options::{NAME, Pause, Question, Request, Sharing, parse};
 use crate::show::table;
 use g1_choose::Cost;
 use g1_command::{Refusal, deliver, read_all, refuse};
@@ -41,37 +41,47 @@ fn perform<T: Threads + Sync, R: Read, W: Write>(
 ) -> Result<(), Refusal> {
     match parse(alloc, words)? {
         Request::Help(text) => deliver(text.as_bytes(), writer)?,
-        Request::Show { sharing, repack } => {
-            let settings = shared(sharing)?;
-            if repack {
-                repacked(alloc, reader, writer)?;
-            } else {
-                deliver(&show(rt, alloc, &settings, reader)?, writer)?;
-            }
-        }
-        Request::Check => deliver(&check(rt, alloc, reader)?, writer)?,
-        Request::Live(sharing) => {
-            let settings = shared(sharing)?;
-            deliver(&live(rt, alloc, &settings, reader)?, writer)?;
-        }
-        Request::Choose {
-            sharing: Sharing { workers, chunk },
-            cost,
-            budget,
-        } => {
-            let settings = Settings::new(workers, chunk, cost, Choice::Budget(budget))?;
-            deliver(&choose(rt, alloc, &settings, budget, reader)?, writer)?;
+        Request::Answer(question) => answer(rt, alloc, question, reader, writer)?,
+        Request::Repack(sharing) => {
+            shared(sharing)?;
+            repacked(alloc, reader, writer)?;
         }
         Request::Pause(pause) => {
             let settings = chosen(pause)?;
             paused(rt, alloc, &settings, reader, writer)?;
         }
-        Request::Run { sharing, cost } => {
-            let settings = costed(sharing, cost)?;
-            deliver(&run(rt, alloc, &settings, reader)?, writer)?;
-        }
     }
     Ok(())
+}
+
+fn answer<T: Threads + Sync, R: Read, W: Write>(
+    rt: &T,
+    alloc: Global,
+    question: Question,
+    reader: &mut R,
+    writer: &mut W,
+) -> Result<(), Fault> {
+    let lines = answered(rt, alloc, question, reader)?;
+    deliver(&lines, writer)
+}
+
+fn answered<T: Threads + Sync, R: Read>(
+    rt: &T,
+    alloc: Global,
+    question: Question,
+    reader: &mut R,
+) -> Result<Vec<u8>, Fault> {
+    match question {
+        Question::Show(sharing) => show(rt, alloc, &shared(sharing)?, reader),
+        Question::Check => check(rt, alloc, reader),
+        Question::Live(sharing) => live(rt, alloc, &shared(sharing)?, reader),
+        Question::Choose {
+            sharing,
+            cost,
+            budget,
+        } => choose(rt, alloc, &costed(sharing, cost)?, budget, reader),
+        Question::Run { sharing, cost } => run(rt, alloc, &costed(sharing, cost)?, reader),
+    }
 }
 
 // The settings of a command that has no costs and no choice.

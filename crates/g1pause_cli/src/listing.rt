@@ -42,25 +42,59 @@ pub fn candidates<T: Threads + Sync>(
     let (workers, chunk) = (settings.workers(), settings.chunk());
     let remembered = refine_by(rt, alloc, tracked, &starts, workers)?;
     let live = live_bytes(rt, alloc, heap, &starts, workers, chunk, &Open)?;
-    let parameters = settings.cost();
     let dirty = image(tracked).log().len() as u64;
     g1_choose::laws::live_within_used();
-    let order = order(alloc, heap, &remembered, &live, &parameters)?;
-    let set = choose(alloc, heap, dirty, &remembered, &live, &parameters, budget)?;
-    let total = total_of(
+    candidate_lines(
         alloc,
         heap,
         dirty,
         &remembered,
         &live,
-        &parameters,
+        &settings.cost(),
         budget,
-        &set,
-    )?;
+    )
+}
+
+fn candidate_lines(
+    alloc: Global,
+    heap: &Heap,
+    dirty: u64,
+    remembered: &[Vec<u32>],
+    live: &[u64],
+    parameters: &Cost,
+    budget: u64,
+) -> Result<String, Fault>
+    requires parameters { IsCost parameters.now }
+    requires remembered { length remembered.now ≡ heap.now.geometry.n }
+    requires live_bytes { MayBeLive heap.now live.now }
+{
+    let (taken, total) = bought(alloc, heap, dirty, remembered, live, parameters, budget)?;
+    let order = order(alloc, heap, remembered, live, parameters)?;
     // What is chosen is the beginning of the order.
-    let mut text = lines(alloc, &order, set.len())?;
+    let mut text = lines(alloc, &order, taken)?;
     writeln!(text, "total {total}")?;
     Ok(text)
+}
+
+// How many regions the budget buys, and what a pause costs that collects them.
+fn bought(
+    alloc: Global,
+    heap: &Heap,
+    dirty: u64,
+    remembered: &[Vec<u32>],
+    live: &[u64],
+    parameters: &Cost,
+    budget: u64,
+) -> Result<(usize, u128), Fault>
+    requires parameters { IsCost parameters.now }
+    requires remembered { length remembered.now ≡ heap.now.geometry.n }
+    requires live_bytes { MayBeLive heap.now live.now }
+{
+    let set = choose(alloc, heap, dirty, remembered, live, parameters, budget)?;
+    let total = total_of(
+        alloc, heap, dirty, remembered, live, parameters, budget, &set,
+    )?;
+    Ok((set.len(), total))
 }
 
 // What a pause costs that collects what the budget buys.

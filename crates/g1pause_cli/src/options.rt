@@ -12,11 +12,19 @@ pub const NAME: &str = "g1pause";
 pub enum Request {
     /// This text, which tells how the program is used.
     Help(String),
-    /// The table of an image, or its text where it is to be packed again.
-    Show {
-        sharing: Sharing,
-        repack: bool,
-    },
+    /// The lines that answer this.
+    Answer(Question),
+    /// The image, packed again.
+    Repack(Sharing),
+    /// The image after a pause.
+    Pause(Pause),
+}
+
+/// What is asked of an image or of a trace.
+#[derive(Debug, Clone, Copy, PartialEq, Eq)]
+pub enum Question {
+    /// The table of an image.
+    Show(Sharing),
     /// Whether every reference into another region is covered.
     Check,
     /// The live bytes of each region.
@@ -27,13 +35,8 @@ pub enum Request {
         cost: Cost,
         budget: u64,
     },
-    /// The image after a pause.
-    Pause(Pause),
     /// The replies to a trace.
-    Run {
-        sharing: Sharing,
-        cost: Cost,
-    },
+    Run { sharing: Sharing, cost: Cost },
 }
 
 /// A pause that collects what a budget buys, or the regions that are named. Both may stand here.
@@ -269,23 +272,22 @@ fn run<'a>(alloc: Global) -> Result<Command<'a>, AllocError> {
     )
 }
 
+const COMMANDS: [&str; 6] = ["show", "check", "live", "choose", "pause", "run"];
+
 fn command<'a>(alloc: Global) -> Result<Command<'a>, AllocError> {
-    Command::new(alloc, NAME)
+    let mut command = Command::new(alloc, NAME)
         .no_binary_name(true)
         .bin_name(NAME)?
         .version("1.0.0")
         .about("Runs Garbage-First evacuation pauses on heap images")
         .after_help(AFTER_ALL)
-        .subcommand_required(true)
-        .subcommand(show(alloc)?)?
-        .subcommand(check(alloc))?
-        .subcommand(live(alloc)?)?
-        .subcommand(choose(alloc)?)?
-        .subcommand(pause_command(alloc)?)?
-        .subcommand(run(alloc)?)
+        .subcommand_required(true);
+    for name in COMMANDS {
+        command = command.subcommand(command_named(alloc, name)?)?;
+    }
+    Ok(command)
 }
 
-// The command of a name apart from the program, for its usage.
 fn command_named<'a>(alloc: Global, name: &str) -> Result<Command<'a>, AllocError> {
     match name {
         "show" => show(alloc),
@@ -318,32 +320,41 @@ fn cost(alloc: Global, values: &ArgMatches<'_>) -> Result<Cost, Misuse> {
     })
 }
 
-fn pause_of(alloc: Global, values: &ArgMatches<'_>) -> Result<Request, Misuse> {
-    Ok(Request::Pause(Pause {
+fn pause_of(alloc: Global, values: &ArgMatches<'_>) -> Result<Pause, Misuse> {
+    Ok(Pause {
         sharing: sharing_of(alloc, values)?,
         cost: cost(alloc, values)?,
         budget: number(alloc, values, &BUDGET)?,
         regions: regions(alloc, values, &REGIONS)?,
-    }))
+    })
 }
 
 // What the values of a command ask for.
 fn request_of(alloc: Global, name: &str, values: &ArgMatches<'_>) -> Result<Request, Misuse> {
+    if name == "pause" {
+        return Ok(Request::Pause(pause_of(alloc, values)?));
+    }
+    if values.get_flag("repack") {
+        return Ok(Request::Repack(sharing_of(alloc, values)?));
+    }
+    Ok(Request::Answer(question_of(alloc, name, values)?))
+}
+
+fn question_of(alloc: Global, name: &str, values: &ArgMatches<'_>) -> Result<Question, Misuse> {
+    if name == "check" {
+        return Ok(Question::Check);
+    }
+    let sharing = sharing_of(alloc, values)?;
     match name {
-        "show" => Ok(Request::Show {
-            sharing: sharing_of(alloc, values)?,
-            repack: values.get_flag("repack"),
-        }),
-        "check" => Ok(Request::Check),
-        "live" => Ok(Request::Live(sharing_of(alloc, values)?)),
-        "choose" => Ok(Request::Choose {
-            sharing: sharing_of(alloc, values)?,
+        "show" => Ok(Question::Show(sharing)),
+        "live" => Ok(Question::Live(sharing)),
+        "choose" => Ok(Question::Choose {
+            sharing,
             cost: cost(alloc, values)?,
             budget: value(alloc, values, &BUDGET)?,
         }),
-        "pause" => pause_of(alloc, values),
-        _ => Ok(Request::Run {
-            sharing: sharing_of(alloc, values)?,
+        _ => Ok(Question::Run {
+            sharing,
             cost: cost(alloc, values)?,
         }),
     }
