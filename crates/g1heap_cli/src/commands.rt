@@ -71,8 +71,18 @@ fn same_answer<T: Threads + Sync + Files, R: Read>(
     reader: &mut R,
 ) -> Result<(u8, String), Refusal> {
     let before = read_image(rt, alloc, same.before.as_str(), reader)?;
+    same_after(rt, alloc, same, &before, reader)
+}
+
+fn same_after<T: Threads + Sync + Files, R: Read>(
+    rt: &T,
+    alloc: Global,
+    same: &Same,
+    before: &Image,
+    reader: &mut R,
+) -> Result<(u8, String), Refusal> {
     let after = read_image(rt, alloc, same.after.as_str(), reader)?;
-    let answer = compared(alloc, same, &before, &after)?;
+    let answer = compared(alloc, same, before, &after)?;
     with_cover(rt, alloc, same, after, answer)
 }
 
@@ -169,10 +179,20 @@ fn print<T: Files, R: Read, W: Write>(
     reader: &mut R,
     writer: &mut W,
 ) -> Result<(), Refusal> {
-    let image = read_image(rt, alloc, name, reader)?;
-    let text = lines(alloc, &image, name, part)?;
+    let text = printed(rt, alloc, name, part, reader)?;
     deliver(text.as_bytes(), writer)?;
     Ok(())
+}
+
+fn printed<T: Files, R: Read>(
+    rt: &T,
+    alloc: Global,
+    name: &str,
+    part: Part,
+    reader: &mut R,
+) -> Result<String, Refusal> {
+    let image = read_image(rt, alloc, name, reader)?;
+    lines(alloc, &image, name, part)
 }
 
 fn lines(alloc: Global, image: &Image, name: &str, part: Part) -> Result<String, Refusal> {

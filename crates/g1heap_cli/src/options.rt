@@ -115,17 +115,23 @@ fn file<'a>(alloc: Global, id: &'a str, name: &'a str, help: &'a str) -> Arg<'a>
         .help(help)
 }
 
-fn same_command<'a>(alloc: Global) -> Result<Command<'a>, AllocError> {
-    let covered = Arg::new(alloc, "covered")
+fn covered<'a>(alloc: Global) -> Arg<'a> {
+    Arg::new(alloc, "covered")
         .long("covered")
         .action(ArgAction::SetTrue)
-        .help("Also asks that every reference of AFTER into another region is covered");
-    let set = Arg::new(alloc, "set")
+        .help("Also asks that every reference of AFTER into another region is covered")
+}
+
+fn set<'a>(alloc: Global) -> Arg<'a> {
+    Arg::new(alloc, "set")
         .long("set")
         .value_name("REGION")
         .num_args(1..)
         .action(ArgAction::Append)
-        .help("Also asks that AFTER keeps all that a pause of these regions keeps");
+        .help("Also asks that AFTER keeps all that a pause of these regions keeps")
+}
+
+fn same_command<'a>(alloc: Global) -> Result<Command<'a>, AllocError> {
     Command::new(alloc, "same")
         .about("Tells whether two images show the same graph from their roots, or where not")
         .after_help(AFTER_SAME)
@@ -137,27 +143,36 @@ fn same_command<'a>(alloc: Global) -> Result<Command<'a>, AllocError> {
         )
         .required(true))?
         .arg(file(alloc, "after", "AFTER", "Another image, or -").required(true))?
-        .arg(covered)?
-        .arg(set)
+        .arg(covered(alloc))?
+        .arg(set(alloc))
 }
 
-fn print_command<'a>(alloc: Global) -> Result<Command<'a>, AllocError> {
-    let region = Arg::new(alloc, "region")
+fn region_option<'a>(alloc: Global) -> Arg<'a> {
+    Arg::new(alloc, "region")
         .long("region")
         .value_name("R")
         .action(ArgAction::Set)
-        .help("Only the lines of this region");
-    let object = Arg::new(alloc, "object")
-        .long("object")
-        .value_name("A")
-        .action(ArgAction::Set)
-        .conflicts_with("region")?
-        .help("Only the line of the object at this address");
+        .help("Only the lines of this region")
+}
+
+fn object_option<'a>(alloc: Global) -> Result<Arg<'a>, AllocError> {
+    Ok(
+        Arg::new(alloc, "object")
+            .long("object")
+            .value_name("A")
+            .action(ArgAction::Set)
+            .conflicts_with("region")?
+            .help("Only the line of the object at this address"),
+    )
+}
+
+fn print_command<'a>(alloc: Global) -> Result<Command<'a>, AllocError> {
+    let object = object_option(alloc)?;
     Command::new(alloc, "print")
         .about("Prints an image as lines")
         .after_help(AFTER_PRINT)
         .arg(file(alloc, "image", "IMAGE", "An image, or - for standard input").required(true))?
-        .arg(region)?
+        .arg(region_option(alloc))?
         .arg(object)
 }
 
@@ -174,20 +189,22 @@ fn make_command<'a>(alloc: Global) -> Result<Command<'a>, AllocError> {
         .default_value("-"))
 }
 
+const COMMANDS: [&str; 3] = ["same", "print", "make"];
+
 fn command<'a>(alloc: Global) -> Result<Command<'a>, AllocError> {
-    Command::new(alloc, NAME)
+    let mut command = Command::new(alloc, NAME)
         .no_binary_name(true)
         .bin_name(NAME)?
         .version("1.0.0")
         .about("Compares, prints and makes heap images")
         .after_help(AFTER_ALL)
-        .subcommand_required(true)
-        .subcommand(same_command(alloc)?)?
-        .subcommand(print_command(alloc)?)?
-        .subcommand(make_command(alloc)?)
+        .subcommand_required(true);
+    for name in COMMANDS {
+        command = command.subcommand(command_named(alloc, name)?)?;
+    }
+    Ok(command)
 }
 
-// The command of a name apart from the program, for its usage.
 fn command_named<'a>(alloc: Global, name: &str) -> Result<Command<'a>, AllocError> {
     match name {
         "same" => same_command(alloc),
