@@ -42,120 +42,136 @@ static THREE_REGIONS_BOUGHT: &str =
     "16 4 6 3 0 6  0 0 0 0 1 2 1 4 0 0 0 0  =49 =51 =33  0 0 0 0 0 0  1/0 1/0 2/0 =1 2/0 =1";
 
 // Malformed images, and what is told of each.
-static MALFORMED: [(&str, &str); 25] = [
-    (
-        "24 4 4 1 0 4  0 0 1 4 0 0 0 0  =17  0 0 0 0  4/1 =0 =7 =9",
-        "2: geometry",
-    ),
-    (
-        "16 32 4 1 0 4  0 0 1 4 0 0 0 0  =17  0 0 0 0  4/1 =0 =7 =9",
-        "2: geometry",
-    ),
-    (
-        "65536 64 257 1 0 4  0 0 1 4 0 0 0 0  =17  0 0 0 0  4/1 =0 =7 =9",
-        "2: geometry",
-    ),
-    (
-        "65536 64 256 1 0 4  0 0 1 4 0 0 0 0  =17  0 0 0 0  4/1 =0 =7 =9",
-        "3: short",
-    ),
-    ("16 4 4 0 4294967295 4", "3: short"),
-    (
-        "16 4 4 0 0 4  1 2 1 3 0 0 0 0  0 1 0 0 4294967295  2/1 =17 3/0 =1 =2",
-        "3: short",
-    ),
-    (
-        "16 4 4 1 0 4  0 0 1 4 4 0 0 0  =17  0 0 0 0  4/1 =0 =7 =9",
-        "5: kind of region 2",
-    ),
-    (
-        "16 4 4 0 0 4  1 13 0 0 0 0 0 0  0 0 0 0  13/0 0*12",
-        "6: shape of region 0",
-    ),
-    (
-        "16 4 4 0 0 4  2 12 0 0 0 0 0 0  0 0 0 0  12/0 0*11",
-        "6: shape of region 0",
-    ),
-    (
-        "16 4 4 0 0 4  2 16 2 16 0 0 0 0  0 0 0 0  40/0 0*15 40/0 0*15",
-        "6: shape of region 0",
-    ),
-    (
-        "16 4 2 0 0 2  2 16 3 16  0 0  40/0 0*31",
-        "6: shape of region 0",
-    ),
-    (
-        "16 4 4 0 0 4  2 16 3 16 3 8 3 4  0 0 0 0  40/0 0*43",
-        "6: shape of region 3",
-    ),
-    (
-        "16 4 2 0 0 2  1 2 3 4  0 0  2/0 0*5",
-        "6: shape of region 1",
-    ),
-    (
-        "16 4 4 0 0 4  2 16 0 0 0 0 0 0  0 0 0 0  4294967295/0 0*15",
-        "6: shape of region 0",
-    ),
-    (
-        "16 4 4 1 0 4  0 0 1 4 0 0 0 0  =18  0 0 0 0  4/1 =0 =7 =9",
-        "7: reference in root 0",
-    ),
-    (
-        "16 4 6 1 0 6  2 16 3 16 3 8 1 2 0 0 0 0  =17  0 0 0 1 4 0 0  40/20 0*16 =49 0*22 2/0 =4",
-        "7: reference in root 0",
-    ),
-    (
-        "16 4 4 0 0 4  1 2 1 3 0 0 0 0  0 1 0 0 0  2/1 =18 3/0 =1 =2",
-        "7: reference in slot 1",
-    ),
-    (
-        "16 4 4 0 0 4  1 2 1 3 0 0 0 0  0 1 0 0 0  2/1 =65 3/0 =1 =2",
-        "7: reference in slot 1",
-    ),
-    (
-        "16 4 4 0 0 4  1 2 1 3 0 0 0 0  0 1 0 0 0  2/1 =18446744073709551615 3/0 =1 =2",
-        "7: reference in slot 1",
-    ),
-    (
-        "16 4 4 2 2 4  1 6 1 7 0 0 0 0  =22 =17  0 0  0 2 0 1 0 0  4/1 =22 =1 =2 2/1 =22 5/3 =22 =22 =22 =1 2/0 =8",
-        "8: card in log place 1",
-    ),
-    (
-        "16 4 4 2 0 4  1 6 1 7 0 0 0 0  =22 =17  0 2 1 0 0 0  4/1 =22 =1 =2 2/1 =22 5/3 =22 =22 =22 =1 2/0 =8",
-        "8: card of region 1",
-    ),
-    (
-        "16 4 4 2 0 4  1 6 1 7 0 0 0 0  =22 =17  0 2 0 0 0 0  4/1 =22 =1 =2 2/1 =22 5/3 =22 =22 =22 =1 2/0 =8",
-        "8: card of region 1",
-    ),
-    (
-        "16 4 4 2 0 4  1 6 1 7 0 0 0 0  =22 =17  0 2 0 16 0 0  4/1 =22 =1 =2 2/1 =22 5/3 =22 =22 =22 =1 2/0 =8",
-        "8: card of region 1",
-    ),
-    (
-        "16 4 4 2 0 4  1 6 1 7 0 0 0 0  =22 =17  0 2 0 12 0 0  4/1 =22 =1 =2 2/1 =22 5/3 =22 =22 =22 =1 2/0 =8",
-        "8: card of region 1",
-    ),
-    (
-        "16 4 4 2 0 4  1 6 1 7 0 0 0 0  =22 =17  0 2 0 4 0 0  4/1 =22 =1 =2 2/1 =22 5/3 =22 =22 =22 =1 2/0 =8",
-        "8: card of region 1",
-    ),
-];
+fn malformed() -> &'static [(&'static str, &'static str)] {
+    &[
+        (
+            "24 4 4 1 0 4  0 0 1 4 0 0 0 0  =17  0 0 0 0  4/1 =0 =7 =9",
+            "2: geometry",
+        ),
+        (
+            "16 32 4 1 0 4  0 0 1 4 0 0 0 0  =17  0 0 0 0  4/1 =0 =7 =9",
+            "2: geometry",
+        ),
+        (
+            "65536 64 257 1 0 4  0 0 1 4 0 0 0 0  =17  0 0 0 0  4/1 =0 =7 =9",
+            "2: geometry",
+        ),
+        (
+            "65536 64 256 1 0 4  0 0 1 4 0 0 0 0  =17  0 0 0 0  4/1 =0 =7 =9",
+            "3: short",
+        ),
+        ("16 4 4 0 4294967295 4", "3: short"),
+        (
+            "16 4 4 0 0 4  1 2 1 3 0 0 0 0  0 1 0 0 4294967295  2/1 =17 3/0 =1 =2",
+            "3: short",
+        ),
+        (
+            "16 4 4 1 0 4  0 0 1 4 4 0 0 0  =17  0 0 0 0  4/1 =0 =7 =9",
+            "5: kind of region 2",
+        ),
+        (
+            "16 4 4 0 0 4  1 13 0 0 0 0 0 0  0 0 0 0  13/0 0*12",
+            "6: shape of region 0",
+        ),
+        (
+            "16 4 4 0 0 4  2 12 0 0 0 0 0 0  0 0 0 0  12/0 0*11",
+            "6: shape of region 0",
+        ),
+        (
+            "16 4 4 0 0 4  2 16 2 16 0 0 0 0  0 0 0 0  40/0 0*15 40/0 0*15",
+            "6: shape of region 0",
+        ),
+        (
+            "16 4 2 0 0 2  2 16 3 16  0 0  40/0 0*31",
+            "6: shape of region 0",
+        ),
+        (
+            "16 4 4 0 0 4  2 16 3 16 3 8 3 4  0 0 0 0  40/0 0*43",
+            "6: shape of region 3",
+        ),
+        (
+            "16 4 2 0 0 2  1 2 3 4  0 0  2/0 0*5",
+            "6: shape of region 1",
+        ),
+        (
+            "16 4 4 0 0 4  2 16 0 0 0 0 0 0  0 0 0 0  4294967295/0 0*15",
+            "6: shape of region 0",
+        ),
+        (
+            "16 4 4 1 0 4  0 0 1 4 0 0 0 0  =18  0 0 0 0  4/1 =0 =7 =9",
+            "7: reference in root 0",
+        ),
+        (
+            "16 4 6 1 0 6  2 16 3 16 3 8 1 2 0 0 0 0  =17  0 0 0 1 4 0 0  40/20 0*16 =49 0*22 2/0 =4",
+            "7: reference in root 0",
+        ),
+        (
+            "16 4 4 0 0 4  1 2 1 3 0 0 0 0  0 1 0 0 0  2/1 =18 3/0 =1 =2",
+            "7: reference in slot 1",
+        ),
+        (
+            "16 4 4 0 0 4  1 2 1 3 0 0 0 0  0 1 0 0 0  2/1 =65 3/0 =1 =2",
+            "7: reference in slot 1",
+        ),
+        (
+            "16 4 4 0 0 4  1 2 1 3 0 0 0 0  0 1 0 0 0  2/1 =18446744073709551615 3/0 =1 =2",
+            "7: reference in slot 1",
+        ),
+        (
+            "16 4 4 2 2 4  1 6 1 7 0 0 0 0  =22 =17  0 0  0 2 0 1 0 0  4/1 =22 =1 =2 2/1 =22 5/3 =22 =22 =22 =1 2/0 =8",
+            "8: card in log place 1",
+        ),
+        (
+            "16 4 4 2 0 4  1 6 1 7 0 0 0 0  =22 =17  0 2 1 0 0 0  4/1 =22 =1 =2 2/1 =22 5/3 =22 =22 =22 =1 2/0 =8",
+            "8: card of region 1",
+        ),
+        (
+            "16 4 4 2 0 4  1 6 1 7 0 0 0 0  =22 =17  0 2 0 0 0 0  4/1 =22 =1 =2 2/1 =22 5/3 =22 =22 =22 =1 2/0 =8",
+            "8: card of region 1",
+        ),
+        (
+            "16 4 4 2 0 4  1 6 1 7 0 0 0 0  =22 =17  0 2 0 16 0 0  4/1 =22 =1 =2 2/1 =22 5/3 =22 =22 =22 =1 2/0 =8",
+            "8: card of region 1",
+        ),
+        (
+            "16 4 4 2 0 4  1 6 1 7 0 0 0 0  =22 =17  0 2 0 12 0 0  4/1 =22 =1 =2 2/1 =22 5/3 =22 =22 =22 =1 2/0 =8",
+            "8: card of region 1",
+        ),
+        (
+            "16 4 4 2 0 4  1 6 1 7 0 0 0 0  =22 =17  0 2 0 4 0 0  4/1 =22 =1 =2 2/1 =22 5/3 =22 =22 =22 =1 2/0 =8",
+            "8: card of region 1",
+        ),
+    ]
+}
+
+fn push_number(image: &mut Vec<u8>, number: &str) -> Result<(), Fail> {
+    image.extend_from_slice(&number.parse::<u32>()?.to_le_bytes())?;
+    Ok(())
+}
+
+fn push_word(image: &mut Vec<u8>, word: &str) -> Result<(), Fail> {
+    image.extend_from_slice(&word.parse::<u64>()?.to_le_bytes())?;
+    Ok(())
+}
+
+fn push_zeros(image: &mut Vec<u8>, words: &str) -> Result<(), Fail> {
+    for _ in 0..words.parse::<u32>()? {
+        image.extend_from_slice(&[0; 8])?;
+    }
+    Ok(())
+}
 
 fn push_token(image: &mut Vec<u8>, token: &str) -> Result<(), Fail> {
     if let Some((_zero, count)) = token.split_once('*') {
-        for _ in 0..count.parse::<u32>()? {
-            image.extend_from_slice(&[0; 8])?;
-        }
+        push_zeros(image, count)
     } else if let Some((size, refs)) = token.split_once('/') {
-        image.extend_from_slice(&refs.parse::<u32>()?.to_le_bytes())?;
-        image.extend_from_slice(&size.parse::<u32>()?.to_le_bytes())?;
+        push_number(image, refs)?;
+        push_number(image, size)
     } else if let Some(word) = token.strip_prefix('=') {
-        image.extend_from_slice(&word.parse::<u64>()?.to_le_bytes())?;
+        push_word(image, word)
     } else {
-        image.extend_from_slice(&token.parse::<u32>()?.to_le_bytes())?;
+        push_number(image, token)
     }
-    Ok(())
 }
 
 // The text of version 1.
@@ -167,38 +183,76 @@ fn image_of(alloc: Global, tokens: &str) -> Result<Vec<u8>, Fail> {
     Ok(image)
 }
 
+fn regions_of(tokens: &str) -> Result<u8, Fail> {
+    let regions = tokens.split_ascii_whitespace().nth(2).unwrap_or("0");
+    Ok(regions.parse::<u8>()?)
+}
+
+// Whether the second of a region's two numbers stands at this place among the tokens.
+fn is_top(place: usize, regions: u8) -> bool {
+    place > 6 && place % 2 == 1 && place < 6 + 2 * regions as usize
+}
+
 // The text of version 2 of the same image: behind the two numbers of a region stand its flags, which are 0.
 pub(crate) fn text_of(alloc: Global, tokens: &str) -> Result<Vec<u8>, Fail> {
+    let regions = regions_of(tokens)?;
     let mut text = Vec::from_slice(alloc, b"G1IMAGE2")?;
-    let mut table_end = 6;
     for (place, token) in tokens.split_ascii_whitespace().enumerate() {
         push_token(&mut text, token)?;
-        if place == 2 {
-            table_end = 6 + 2 * token.parse::<u8>()? as usize;
-        }
-        if place > 6 && place % 2 == 1 && place < table_end {
+        if is_top(place, regions) {
             text.extend_from_slice(&[0; 4])?;
         }
     }
     Ok(text)
 }
 
-// Runs the program on words that are separated by spaces, and gives its status and what it wrote to
-// standard error.
-pub(crate) fn run<R: Read, W: Write>(
+// The words of a line, which are separated by spaces.
+pub(crate) fn words_of(alloc: Global, line: &str) -> Result<Vec<String>, AllocError> {
+    let mut words = Vec::new(alloc);
+    for word in line.split_ascii_whitespace() {
+        words.push(String::from_str(alloc, word)?)?;
+    }
+    Ok(words)
+}
+
+// Runs the program on the words of a line, and gives its status and what it wrote to standard error.
+fn run<R: Read, W: Write>(
     rt: &(impl Threads + Sync),
     alloc: Global,
     line: &str,
     reader: &mut R,
     writer: &mut W,
 ) -> Result<(u8, Vec<u8>), AllocError> {
-    let mut words = Vec::new(alloc);
-    for word in line.split_ascii_whitespace() {
-        words.push(String::from_str(alloc, word)?)?;
-    }
+    let words = words_of(alloc, line)?;
     let mut errors = Vec::new(alloc);
     let status = program(rt, alloc, words.as_slice(), reader, writer, &mut errors);
     Ok((status, errors))
+}
+
+// The status, and what was written to standard output and to standard error.
+pub(crate) fn outcome<R: Read>(
+    rt: &(impl Threads + Sync),
+    alloc: Global,
+    line: &str,
+    reader: &mut R,
+) -> Result<(u8, Vec<u8>, Vec<u8>), AllocError> {
+    let mut out = Vec::new(alloc);
+    let (status, errors) = run(rt, alloc, line, reader, &mut out)?;
+    Ok((status, out, errors))
+}
+
+fn expect<T: Threads + Abort + Sync>(
+    rt: &T,
+    alloc: Global,
+    line: &str,
+    bytes: &[u8],
+    expected: (u8, &[u8], &[u8]),
+) -> Result<(), AllocError> {
+    let mut reader = bytes;
+    let (status, out, errors) = outcome(rt, alloc, line, &mut reader)?;
+    let found = (status, out.as_slice(), errors.as_slice());
+    assert_eq!(rt; found, expected, "{line} of {bytes:?}");
+    Ok(())
 }
 
 pub(crate) fn expect_answer<T: Threads + Abort + Sync>(
@@ -208,13 +262,7 @@ pub(crate) fn expect_answer<T: Threads + Abort + Sync>(
     bytes: &[u8],
     answer: &[u8],
 ) -> Result<(), AllocError> {
-    let mut reader = bytes;
-    let mut out = Vec::new(alloc);
-    let (status, errors) = run(rt, alloc, line, &mut reader, &mut out)?;
-    assert_eq!(rt; status, 0, "{line} of {bytes:?}");
-    assert_eq!(rt; out.as_slice(), answer, "{line} of {bytes:?}");
-    assert!(rt; errors.is_empty(), "{line} of {bytes:?}");
-    Ok(())
+    expect(rt, alloc, line, bytes, (0, answer, b""))
 }
 
 pub(crate) fn expect_fault<T: Threads + Abort + Sync>(
@@ -222,17 +270,11 @@ pub(crate) fn expect_fault<T: Threads + Abort + Sync>(
     alloc: Global,
     line: &str,
     bytes: &[u8],
-    expected: u8,
+    status: u8,
     fault: &str,
 ) -> Result<(), AllocError> {
     let told = format!(in alloc; "g1pause: fault {fault}\n")?;
-    let mut reader = bytes;
-    let mut out = Vec::new(alloc);
-    let (status, errors) = run(rt, alloc, line, &mut reader, &mut out)?;
-    assert_eq!(rt; status, expected, "{line} of {bytes:?}");
-    assert!(rt; out.is_empty(), "{line} of {bytes:?}");
-    assert_eq!(rt; errors.as_slice(), told.as_bytes(), "{line} of {bytes:?}");
-    Ok(())
+    expect(rt, alloc, line, bytes, (status, b"", told.as_bytes()))
 }
 
 pub(crate) fn expect_malformed<T: Threads + Abort + Sync>(
@@ -292,11 +334,20 @@ fn tells_cover_and_live_bytes(rt: HostRuntime) -> Result<(), Fail> {
         region 3 live 16\nregion 4 live 0\nregion 5 live 0\n";
     for (tokens, lines) in [(SHARED_TARGETS, shared), (HUMONGOUS, humongous)] {
         let image = image_of(alloc, tokens)?;
-        expect_answer(&rt, alloc, "check", image.as_slice(), b"covered\n")?;
-        for line in ["live", "live --workers 8 --chunk 1"] {
-            expect_answer(&rt, alloc, line, image.as_slice(), lines.as_bytes())?;
+        for (line, answer) in [
+            ("check", "covered\n"),
+            ("live", lines),
+            ("live --workers 8 --chunk 1", lines),
+        ] {
+            expect_answer(&rt, alloc, line, image.as_slice(), answer.as_bytes())?;
         }
     }
+    Ok(())
+}
+
+#[test]
+fn names_an_uncovered_slot(rt: HostRuntime) -> Result<(), Fail> {
+    let alloc = rt.alloc();
     let image = image_of(alloc, UNCOVERED)?;
     for line in ["check", "choose --budget 0"] {
         expect_fault(&rt, alloc, line, image.as_slice(), 4, "9: uncovered slot 1")?;
@@ -356,21 +407,22 @@ fn collects_what_is_asked(rt: HostRuntime) -> Result<(), Fail> {
 #[test]
 fn refuses_what_it_cannot_collect(rt: HostRuntime) -> Result<(), Fail> {
     let alloc = rt.alloc();
-    let image = image_of(alloc, ONE_OBJECT)?;
-    for (line, fault) in [
-        ("pause 4", "10: set region 4"),
-        ("pause 2", "10: set region 2"),
-        ("pause 1 4294967295", "10: set region 4294967295"),
-        ("pause 1 1", "10: set region 1"),
+    for (tokens, line, status, fault) in [
+        (ONE_OBJECT, "pause 4", 5, "10: set region 4"),
+        (ONE_OBJECT, "pause 2", 5, "10: set region 2"),
+        (
+            ONE_OBJECT,
+            "pause 1 4294967295",
+            5,
+            "10: set region 4294967295",
+        ),
+        (ONE_OBJECT, "pause 1 1", 5, "10: set region 1"),
+        (UNCOVERED, "pause 1", 4, "9: uncovered slot 1"),
+        (CROWDED, "pause 0 1", 5, "11: room need 2 free 1"),
     ] {
-        expect_fault(&rt, alloc, line, image.as_slice(), 5, fault)?;
+        let image = image_of(alloc, tokens)?;
+        expect_fault(&rt, alloc, line, image.as_slice(), status, fault)?;
     }
-    let uncovered = image_of(alloc, UNCOVERED)?;
-    let told = "9: uncovered slot 1";
-    expect_fault(&rt, alloc, "pause 1", uncovered.as_slice(), 4, told)?;
-    let crowded = image_of(alloc, CROWDED)?;
-    let told = "11: room need 2 free 1";
-    expect_fault(&rt, alloc, "pause 0 1", crowded.as_slice(), 5, told)?;
     expect_fault(&rt, alloc, "pause 1", b"H", 3, "1: magic")?;
     Ok(())
 }
@@ -387,14 +439,9 @@ fn packs_again_in_version_two(rt: HostRuntime) -> Result<(), Fail> {
         HUMONGOUS,
     ] {
         let text = text_of(alloc, tokens)?;
-        for image in [image_of(alloc, tokens)?, text.clone()?] {
-            expect_answer(
-                &rt,
-                alloc,
-                "show --repack",
-                image.as_slice(),
-                text.as_slice(),
-            )?;
+        let image = image_of(alloc, tokens)?;
+        for bytes in [image.as_slice(), text.as_slice()] {
+            expect_answer(&rt, alloc, "show --repack", bytes, text.as_slice())?;
         }
     }
     Ok(())
@@ -403,20 +450,50 @@ fn packs_again_in_version_two(rt: HostRuntime) -> Result<(), Fail> {
 #[test]
 fn names_the_first_fault(rt: HostRuntime) -> Result<(), Fail> {
     let alloc = rt.alloc();
-    for (tokens, fault) in MALFORMED {
+    for (tokens, fault) in malformed() {
         let image = image_of(alloc, tokens)?;
         expect_malformed(&rt, alloc, image.as_slice(), fault)?;
     }
     expect_malformed(&rt, alloc, b"H", "1: magic")?;
+    Ok(())
+}
+
+fn expect_short_starts<T: Threads + Abort + Sync>(
+    rt: &T,
+    alloc: Global,
+    image: &[u8],
+) -> Result<(), AllocError> {
+    for cut in 0..image.len() {
+        expect_malformed(rt, alloc, &image[..cut], "3: short")?;
+    }
+    Ok(())
+}
+
+#[test]
+fn an_image_has_one_length(rt: HostRuntime) -> Result<(), Fail> {
+    let alloc = rt.alloc();
     for tokens in [ONE_OBJECT, DEAD_OWNER] {
         let mut image = image_of(alloc, tokens)?;
-        for cut in 0..image.len() {
-            expect_malformed(&rt, alloc, &image[..cut], "3: short")?;
-        }
+        expect_short_starts(&rt, alloc, image.as_slice())?;
         image.push(0)?;
         expect_malformed(&rt, alloc, image.as_slice(), "4: trailing")?;
     }
     Ok(())
+}
+
+// Whether the image is packed again as it is, or else named malformed.
+fn is_kept_or_refused(
+    rt: &(impl Threads + Sync),
+    alloc: Global,
+    image: &[u8],
+) -> Result<bool, AllocError> {
+    let mut reader = image;
+    let (status, out, errors) = outcome(rt, alloc, "show --repack", &mut reader)?;
+    if status == 0 {
+        Ok(out.as_slice() == image && errors.is_empty())
+    } else {
+        Ok(status == 3 && out.is_empty() && errors.starts_with(b"g1pause: fault "))
+    }
 }
 
 #[test]
@@ -427,16 +504,7 @@ fn a_changed_byte_is_refused_or_kept(rt: HostRuntime) -> Result<(), Fail> {
         let was = image[at];
         for byte in 0..=255u8 {
             image[at] = byte;
-            let mut reader = image.as_slice();
-            let mut out = Vec::new(alloc);
-            let (status, errors) = run(&rt, alloc, "show --repack", &mut reader, &mut out)?;
-            let kept = out.as_slice() == image.as_slice() && errors.is_empty();
-            let refused = out.is_empty() && errors.starts_with(b"g1pause: fault ");
-            let expected = if status == 0 {
-                kept
-            } else {
-                status == 3 && refused
-            };
+            let expected = is_kept_or_refused(&rt, alloc, image.as_slice())?;
             assert!(rt; expected, "{byte} at {at}");
         }
         image[at] = was;
@@ -444,31 +512,62 @@ fn a_changed_byte_is_refused_or_kept(rt: HostRuntime) -> Result<(), Fail> {
     Ok(())
 }
 
-// Fails the reader at each of its calls, of which the last finds the end.
+// The status and what is told where a device failed.
+fn refusal(failed: bool, told: &str) -> (u8, &str) {
+    if failed { (6, told) } else { (0, "") }
+}
+
+// Fails the reader from a call on. The last of its calls finds the end.
+fn expect_input_fault<T: Threads + Abort + Sync>(
+    rt: &T,
+    alloc: Global,
+    line: &str,
+    image: &[u8],
+    left: usize,
+) -> Result<(), AllocError> {
+    let failed = left <= image.len();
+    let (status, told) = refusal(failed, "g1pause: fault 14: input\n");
+    let mut reader = Stream::new(Vec::from_slice(alloc, image)?, left, Trouble::Broken);
+    let (ended, out, errors) = outcome(rt, alloc, line, &mut reader)?;
+    assert_eq!(rt;
+        (ended, out.is_empty(), errors.as_slice()),
+        (status, failed, told.as_bytes()),
+        "{line}: {left}"
+    );
+    Ok(())
+}
+
 fn expect_input_faults<T: Threads + Abort + Sync>(
     rt: &T,
     alloc: Global,
     line: &str,
     image: &[u8],
 ) -> Result<(), AllocError> {
-    let calls = image.len() + 1;
-    for left in 0..=calls {
-        let (status, told) = if left < calls {
-            (6, "g1pause: fault 14: input\n")
-        } else {
-            (0, "")
-        };
-        let mut reader = Stream::new(Vec::from_slice(alloc, image)?, left, Trouble::Broken);
-        let mut out = Vec::new(alloc);
-        let (ended, errors) = run(rt, alloc, line, &mut reader, &mut out)?;
-        assert_eq!(rt; ended, status, "{line}: {left}");
-        assert_eq!(rt; out.is_empty(), left < calls, "{line}: {left}");
-        assert_eq!(rt; errors.as_slice(), told.as_bytes(), "{line}: {left}");
+    for left in 0..=image.len() + 1 {
+        expect_input_fault(rt, alloc, line, image, left)?;
     }
     Ok(())
 }
 
-// Fails the writer at each of its calls, of which the last flushes.
+// Fails the writer from a call on. The last of its calls flushes.
+fn expect_output_fault<T: Threads + Abort + Sync>(
+    rt: &T,
+    alloc: Global,
+    line: &str,
+    image: &[u8],
+    answer: &[u8],
+    left: usize,
+) -> Result<(), AllocError> {
+    let (status, told) = refusal(left <= answer.len(), "g1pause: fault 14: output\n");
+    let expected = (status, &answer[..left.min(answer.len())], told.as_bytes());
+    let mut reader = image;
+    let mut writer = Stream::new(Vec::new(alloc), left, Trouble::Broken);
+    let (ended, errors) = run(rt, alloc, line, &mut reader, &mut writer)?;
+    let found = (ended, writer.bytes.as_slice(), errors.as_slice());
+    assert_eq!(rt; found, expected, "{line}: {left}");
+    Ok(())
+}
+
 fn expect_output_faults<T: Threads + Abort + Sync>(
     rt: &T,
     alloc: Global,
@@ -476,20 +575,8 @@ fn expect_output_faults<T: Threads + Abort + Sync>(
     image: &[u8],
     answer: &[u8],
 ) -> Result<(), AllocError> {
-    let calls = answer.len() + 1;
-    for left in 0..=calls {
-        let (status, told) = if left < calls {
-            (6, "g1pause: fault 14: output\n")
-        } else {
-            (0, "")
-        };
-        let mut reader = image;
-        let mut writer = Stream::new(Vec::new(alloc), left, Trouble::Broken);
-        let (ended, errors) = run(rt, alloc, line, &mut reader, &mut writer)?;
-        assert_eq!(rt; ended, status, "{line}: {left}");
-        let written = &answer[..left.min(answer.len())];
-        assert_eq!(rt; writer.bytes.as_slice(), written, "{line}: {left}");
-        assert_eq!(rt; errors.as_slice(), told.as_bytes(), "{line}: {left}");
+    for left in 0..=answer.len() + 1 {
+        expect_output_fault(rt, alloc, line, image, answer, left)?;
     }
     Ok(())
 }
@@ -561,10 +648,18 @@ fn devices_fail_at_each_byte(rt: HostRuntime) -> Result<(), Fail> {
     Ok(())
 }
 
-#[test]
-fn usage_faults_come_before_the_input(rt: HostRuntime) -> Result<(), Fail> {
-    let alloc = rt.alloc();
-    let refused = [
+// The outcome where every call of the reader fails.
+fn unread_outcome(
+    rt: &(impl Threads + Sync),
+    alloc: Global,
+    line: &str,
+) -> Result<(u8, Vec<u8>, Vec<u8>), AllocError> {
+    let mut reader = Stream::new(Vec::new(alloc), 0, Trouble::Broken);
+    outcome(rt, alloc, line, &mut reader)
+}
+
+fn wrong_words() -> &'static [&'static str] {
+    &[
         "",
         "frob",
         "choose",
@@ -591,14 +686,41 @@ fn usage_faults_come_before_the_input(rt: HostRuntime) -> Result<(), Fail> {
         "live --budget 1",
         "live --workers 0 --chunk x",
         "show --version",
-    ];
-    for line in refused {
-        let mut reader = Stream::new(Vec::new(alloc), 0, Trouble::Broken);
-        let mut out = Vec::new(alloc);
-        let (status, errors) = run(&rt, alloc, line, &mut reader, &mut out)?;
-        assert_eq!(rt; status, 2, "{line}");
-        assert!(rt; out.is_empty() && errors.starts_with(b"error: "), "{line}");
+    ]
+}
+
+fn expect_usage_fault<T: Threads + Abort + Sync>(
+    rt: &T,
+    alloc: Global,
+    line: &str,
+) -> Result<(), AllocError> {
+    let (status, out, errors) = unread_outcome(rt, alloc, line)?;
+    let found = (status, out.is_empty(), errors.starts_with(b"error: "));
+    assert_eq!(rt; found, (2, true, true), "{line}");
+    Ok(())
+}
+
+#[test]
+fn usage_faults_come_before_the_input(rt: HostRuntime) -> Result<(), Fail> {
+    for line in wrong_words() {
+        expect_usage_fault(&rt, rt.alloc(), line)?;
     }
+    Ok(())
+}
+
+fn expect_help<T: Threads + Abort + Sync>(
+    rt: &T,
+    alloc: Global,
+    line: &str,
+) -> Result<(), AllocError> {
+    let (status, out, errors) = unread_outcome(rt, alloc, line)?;
+    let found = (status, out.is_empty(), errors.is_empty());
+    assert_eq!(rt; found, (0, false, true), "{line}");
+    Ok(())
+}
+
+#[test]
+fn help_comes_before_the_input(rt: HostRuntime) -> Result<(), Fail> {
     for line in [
         "--help",
         "-h",
@@ -609,18 +731,25 @@ fn usage_faults_come_before_the_input(rt: HostRuntime) -> Result<(), Fail> {
         "run --help",
         "--version",
     ] {
-        let mut reader = Stream::new(Vec::new(alloc), 0, Trouble::Broken);
-        let mut out = Vec::new(alloc);
-        let (status, errors) = run(&rt, alloc, line, &mut reader, &mut out)?;
-        assert_eq!(rt; status, 0, "{line}");
-        assert!(rt; !out.is_empty() && errors.is_empty(), "{line}");
+        expect_help(&rt, rt.alloc(), line)?;
     }
+    Ok(())
+}
+
+fn expect_setting_fault<T: Threads + Abort + Sync>(
+    rt: &T,
+    alloc: Global,
+    line: &str,
+    told: &str,
+) -> Result<(), AllocError> {
+    let (status, out, errors) = unread_outcome(rt, alloc, line)?;
+    let found = (status, out.is_empty(), errors.as_slice());
+    assert_eq!(rt; found, (2, true, told.as_bytes()), "{line}");
     Ok(())
 }
 
 #[test]
 fn numbers_out_of_range_come_before_the_input(rt: HostRuntime) -> Result<(), Fail> {
-    let alloc = rt.alloc();
     for (line, told) in [
         ("show --workers 0", "g1pause: fault 12: setting 1\n"),
         (
@@ -649,12 +778,7 @@ fn numbers_out_of_range_come_before_the_input(rt: HostRuntime) -> Result<(), Fai
         ("run --chunk 0", "g1pause: fault 12: setting 2\n"),
         ("run --dirty 4294967296", "g1pause: fault 12: setting 3\n"),
     ] {
-        let mut reader = Stream::new(Vec::new(alloc), 0, Trouble::Broken);
-        let mut out = Vec::new(alloc);
-        let (status, errors) = run(&rt, alloc, line, &mut reader, &mut out)?;
-        assert_eq!(rt; status, 2, "{line}");
-        assert!(rt; out.is_empty(), "{line}");
-        assert_eq!(rt; errors.as_slice(), told.as_bytes(), "{line}");
+        expect_setting_fault(&rt, rt.alloc(), line, told)?;
     }
     Ok(())
 }

@@ -1,31 +1,41 @@
 //! What the words of the command line are answered, to the letter.
-use crate::pause::run;
+use crate::pause::outcome;
 use std::alloc::{AllocError, Global};
 use std::process::Abort;
 use std::test::Fail;
 use std::thread::Threads;
 
-// The status and the text, on standard output where the status is 0, else on standard error.
-fn expect_text<T: Threads + Abort + Sync>(
+// The status, and the texts on standard output and on standard error. The input is not read.
+fn expect_texts<T: Threads + Abort + Sync>(
     rt: &T,
     alloc: Global,
     line: &str,
-    status: u8,
-    text: &str,
+    expected: (u8, &str, &str),
 ) -> Result<(), AllocError> {
+    let (wanted, answer, told) = expected;
+    let expected = (wanted, answer.as_bytes(), told.as_bytes());
     let mut reader = b"G1IMAGE1".as_slice();
-    let mut out = Vec::new(alloc);
-    let (ended, errors) = run(rt, alloc, line, &mut reader, &mut out)?;
-    let (told, silent) = if status == 0 {
-        (&out, &errors)
-    } else {
-        (&errors, &out)
-    };
-    assert_eq!(rt; ended, status, "{line}");
-    assert_eq!(rt; told.as_slice(), text.as_bytes(), "{line}");
-    assert!(rt; silent.is_empty(), "{line}");
+    let (status, out, errors) = outcome(rt, alloc, line, &mut reader)?;
+    let found = (status, out.as_slice(), errors.as_slice());
+    assert_eq!(rt; found, expected, "{line}");
     assert_eq!(rt; reader.len(), 8, "{line}");
     Ok(())
+}
+
+// What is told of a value that is no number, for the command that has this usage.
+fn wrong_value(
+    alloc: Global,
+    value: &str,
+    argument: &str,
+    range: &str,
+    usage: &str,
+) -> Result<String, AllocError> {
+    let name = usage.split(' ').next().unwrap_or("");
+    format!(in alloc;
+        "error: invalid value '{value}' for '{argument}': not a whole number ({range})\n\n\
+        Usage: g1pause {usage}\n\n\
+        For more information, try 'g1pause {name} --help'.\n"
+    )
 }
 
 #[test]
@@ -62,13 +72,8 @@ fn a_wrong_value_is_told_with_its_range(rt: HostRuntime) -> Result<(), Fail> {
             pause,
         ),
     ] {
-        let name = usage.split(' ').next().unwrap_or("");
-        let text = format!(in alloc;
-            "error: invalid value '{value}' for '{argument}': not a whole number ({range})\n\n\
-            Usage: g1pause {usage}\n\n\
-            For more information, try 'g1pause {name} --help'.\n"
-        )?;
-        expect_text(&rt, alloc, line, 2, text.as_str())?;
+        let text = wrong_value(alloc, value, argument, range, usage)?;
+        expect_texts(&rt, alloc, line, (2, "", text.as_str()))?;
     }
     Ok(())
 }
@@ -93,11 +98,73 @@ Statuses:
 Example: g1pause show < IMAGE
 ";
 
+fn help<T: Threads + Abort + Sync>(
+    rt: &T,
+    alloc: Global,
+    line: &str,
+) -> Result<String, AllocError> {
+    let (status, out, errors) = outcome(rt, alloc, line, &mut b"".as_slice())?;
+    assert!(rt; status == 0 && errors.is_empty(), "{line}");
+    Ok(String::from_utf8(out).unwrap_or(String::new(alloc)))
+}
+
+// The first words of the rows that are indented, each with a space behind it.
+fn first_words(alloc: Global, rows: &str) -> Result<String, AllocError> {
+    let mut found = String::new(alloc);
+    for row in rows.lines().filter(|row| row.starts_with("  ")) {
+        let first = row.split_ascii_whitespace().next().unwrap_or("");
+        write!(found, "{first} ")?;
+    }
+    Ok(found)
+}
+
+fn expect_statuses<T: Abort>(
+    rt: &T,
+    alloc: Global,
+    line: &str,
+    end: &str,
+    statuses: &str,
+) -> Result<(), AllocError> {
+    let found = first_words(alloc, end)?;
+    assert_eq!(rt; found.as_str().trim_end(), statuses, "{line}");
+    Ok(())
+}
+
+fn expect_example<T: Abort>(
+    rt: &T,
+    alloc: Global,
+    line: &str,
+    end: &str,
+    example: &str,
+) -> Result<(), AllocError> {
+    let last = format!(in alloc; "\n\nExample: g1pause {example}\n")?;
+    assert!(rt; end.ends_with(last.as_str()), "{line}");
+    Ok(())
+}
+
+fn expect_end<T: Threads + Abort + Sync>(
+    rt: &T,
+    alloc: Global,
+    line: &str,
+    statuses: &str,
+    example: &str,
+) -> Result<(), AllocError> {
+    let text = help(rt, alloc, line)?;
+    let (_, end) = text.split_once("\n\nStatuses:\n").unwrap_or(("", ""));
+    expect_statuses(rt, alloc, line, end, statuses)?;
+    expect_example(rt, alloc, line, end, example)
+}
+
+#[test]
+fn says_what_a_command_takes(rt: HostRuntime) -> Result<(), Fail> {
+    for line in ["show --help", "help show"] {
+        expect_texts(&rt, rt.alloc(), line, (0, SHOW_HELP, ""))?;
+    }
+    Ok(())
+}
+
 #[test]
 fn help_ends_with_statuses_and_an_example(rt: HostRuntime) -> Result<(), Fail> {
-    let alloc = rt.alloc();
-    expect_text(&rt, alloc, "show --help", 0, SHOW_HELP)?;
-    expect_text(&rt, alloc, "help show", 0, SHOW_HELP)?;
     for (line, statuses, example) in [
         ("--help", "0 2 3 4 5 6", "show < IMAGE"),
         ("check --help", "0 2 3 4 6", "check < IMAGE"),
@@ -110,20 +177,7 @@ fn help_ends_with_statuses_and_an_example(rt: HostRuntime) -> Result<(), Fail> {
         ),
         ("run --help", "0 2 3 6", "run < TRACE"),
     ] {
-        let mut out = Vec::new(alloc);
-        let (ended, errors) = run(&rt, alloc, line, &mut b"".as_slice(), &mut out)?;
-        assert_eq!(rt; ended, 0, "{line}");
-        assert!(rt; errors.is_empty(), "{line}");
-        let text = String::from_utf8(out).unwrap_or(String::new(alloc));
-        let (_, end) = text.split_once("\n\nStatuses:\n").unwrap_or(("", ""));
-        let mut found = String::new(alloc);
-        for row in end.lines().filter(|row| row.starts_with("  ")) {
-            let number = row.split_ascii_whitespace().next().unwrap_or("");
-            write!(found, "{number} ")?;
-        }
-        assert_eq!(rt; found.as_str().trim_end(), statuses, "{line}");
-        let last = format!(in alloc; "\n\nExample: g1pause {example}\n")?;
-        assert!(rt; end.ends_with(last.as_str()), "{line}");
+        expect_end(&rt, rt.alloc(), line, statuses, example)?;
     }
     Ok(())
 }
@@ -139,9 +193,7 @@ fn help_says_what_a_chunk_counts(rt: HostRuntime) -> Result<(), Fail> {
         ("pause --help", "roots, cards or objects"),
         ("run --help", "roots, cards or objects"),
     ] {
-        let mut out = Vec::new(alloc);
-        run(&rt, alloc, line, &mut b"".as_slice(), &mut out)?;
-        let text = String::from_utf8(out).unwrap_or(String::new(alloc));
+        let text = help(&rt, alloc, line)?;
         let wanted = format!(in alloc;
             "--chunk <N>    How many {items} a worker draws at once, 1 to 65536 [default: 64]\n"
         )?;
@@ -153,6 +205,6 @@ fn help_says_what_a_chunk_counts(rt: HostRuntime) -> Result<(), Fail> {
 #[test]
 fn says_its_version(rt: HostRuntime) -> Result<(), Fail> {
     let alloc = rt.alloc();
-    expect_text(&rt, alloc, "--version", 0, "g1pause 1.0.0\n")?;
+    expect_texts(&rt, alloc, "--version", (0, "g1pause 1.0.0\n", ""))?;
     Ok(())
 }
