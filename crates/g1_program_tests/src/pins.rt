@@ -65,7 +65,13 @@ fn a_pinned_region_is_told_and_stays(rt: HostRuntime) -> Result<(), Fail> {
     expect_answer(&rt, alloc, "pause", pinned.as_slice(), pinned.as_slice())?;
     let told = "10: set region 0";
     expect_fault(&rt, alloc, "pause 0", pinned.as_slice(), 5, told)?;
-    // The first region of DEAD_OWNER is pinned; its slot follows the object that moves.
+    Ok(())
+}
+
+// The first region of DEAD_OWNER is pinned; its slot follows the object that moves.
+#[test]
+fn a_slot_of_a_pinned_region_follows(rt: HostRuntime) -> Result<(), Fail> {
+    let alloc = rt.alloc();
     let mut owner = text_of(alloc, DEAD_OWNER)?;
     let mut moved = text_of(alloc, DEAD_OWNER_MOVED)?;
     pin_first(&mut owner);
