@@ -1,3 +1,4 @@
+use crate::pause::words_of;
 use g1_image::{Image, decode};
 use g1_text::make;
 use g1heap_cli::{Same, compared, program};
@@ -26,8 +27,7 @@ static ONE_OBJECT_LINES: &str = "heap 16 4 4 roots 1 dirty 0 current none\n\
     region 2 free top 0 objects 0 cards 0\n\
     region 3 free top 0 objects 0 cards 0\n";
 
-// Runs the program on words that are separated by spaces, and gives its status and what it wrote to
-// standard error.
+// Runs the program on the words of a line, and gives its status and what it wrote to standard error.
 fn run<R: Read, W: Write>(
     rt: &(impl Threads + Sync + Files),
     alloc: Global,
@@ -35,13 +35,22 @@ fn run<R: Read, W: Write>(
     reader: &mut R,
     writer: &mut W,
 ) -> Result<(u8, Vec<u8>), AllocError> {
-    let mut words = Vec::new(alloc);
-    for word in line.split_ascii_whitespace() {
-        words.push(String::from_str(alloc, word)?)?;
-    }
+    let words = words_of(alloc, line)?;
     let mut errors = Vec::new(alloc);
     let status = program(rt, alloc, words.as_slice(), reader, writer, &mut errors);
     Ok((status, errors))
+}
+
+// The status, and what was written to standard output and to standard error.
+fn outcome<R: Read>(
+    rt: &(impl Threads + Sync + Files),
+    alloc: Global,
+    line: &str,
+    reader: &mut R,
+) -> Result<(u8, Vec<u8>, Vec<u8>), AllocError> {
+    let mut out = Vec::new(alloc);
+    let (status, errors) = run(rt, alloc, line, reader, &mut out)?;
+    Ok((status, out, errors))
 }
 
 fn expect<T: Threads + Abort + Sync + Files>(
@@ -51,57 +60,50 @@ fn expect<T: Threads + Abort + Sync + Files>(
     input: &[u8],
     expected: (u8, &[u8], &str),
 ) -> Result<(), AllocError> {
+    let (wanted, answer, told) = expected;
+    let expected = (wanted, answer, told.as_bytes());
     let mut reader = input;
-    let mut out = Vec::new(alloc);
-    let (status, errors) = run(rt, alloc, line, &mut reader, &mut out)?;
-    assert_eq!(rt;
-        errors.as_slice(),
-        expected.2.as_bytes(),
-        "{line} of {input:?}"
-    );
-    assert_eq!(rt; out.as_slice(), expected.1, "{line} of {input:?}");
-    assert_eq!(rt; status, expected.0, "{line} of {input:?}");
+    let (status, out, errors) = outcome(rt, alloc, line, &mut reader)?;
+    let found = (status, out.as_slice(), errors.as_slice());
+    assert_eq!(rt; found, expected, "{line} of {input:?}");
     Ok(())
 }
 
 #[test]
-fn prints_and_makes(rt: HostRuntime) -> Result<(), Fail> {
-    let alloc = rt.alloc();
-    let lines = ONE_OBJECT_LINES.as_bytes();
-    expect(&rt, alloc, "print -", ONE_OBJECT, (0, lines, ""))?;
+fn prints_an_image(rt: HostRuntime) -> Result<(), Fail> {
+    for (line, status, lines, told) in [
+        ("print -", 0, ONE_OBJECT_LINES, ""),
+        ("print - --object 16", 0, "object 16 4/1 - 7 9\n", ""),
+        (
+            "print --region 1 -",
+            0,
+            "region 1 ordinary top 4 objects 1 cards 0\nobject 16 4/1 - 7 9\n",
+            "",
+        ),
+        (
+            "print - --object 17",
+            2,
+            "",
+            "g1heap: -: no object starts at 17\n",
+        ),
+        ("print - --region 4", 2, "", "g1heap: -: no region 4\n"),
+    ] {
+        let expected = (status, lines.as_bytes(), told);
+        expect(&rt, rt.alloc(), line, ONE_OBJECT, expected)?;
+    }
+    Ok(())
+}
+
+#[test]
+fn makes_an_image(rt: HostRuntime) -> Result<(), Fail> {
     for text in [
         ONE_OBJECT_LINES,
         "heap 16 4 4\nroot 16\nregion 1 ordinary\nobject 4/1 - 7 9",
         "# by hand\n\nheap 16 4 4\ncovered\n  region 1 ordinary top 4\nobject 4/1 - 7 9\nroot 0 16\n",
     ] {
-        expect(&rt, alloc, "make", text.as_bytes(), (0, ONE_OBJECT, ""))?;
+        let expected = (0, ONE_OBJECT.as_slice(), "");
+        expect(&rt, rt.alloc(), "make", text.as_bytes(), expected)?;
     }
-    let object = b"object 16 4/1 - 7 9\n";
-    expect(
-        &rt,
-        alloc,
-        "print - --object 16",
-        ONE_OBJECT,
-        (0, object, ""),
-    )?;
-    let region = b"region 1 ordinary top 4 objects 1 cards 0\nobject 16 4/1 - 7 9\n";
-    expect(
-        &rt,
-        alloc,
-        "print --region 1 -",
-        ONE_OBJECT,
-        (0, region, ""),
-    )?;
-    let told = "g1heap: -: no object starts at 17\n";
-    expect(
-        &rt,
-        alloc,
-        "print - --object 17",
-        ONE_OBJECT,
-        (2, b"", told),
-    )?;
-    let told = "g1heap: -: no region 4\n";
-    expect(&rt, alloc, "print - --region 4", ONE_OBJECT, (2, b"", told))?;
     Ok(())
 }
 
@@ -122,10 +124,9 @@ fn expect_wrong<T: Threads + Abort + Sync + Files>(
     )
 }
 
-#[test]
-fn tells_a_wrong_line(rt: HostRuntime) -> Result<(), Fail> {
-    let alloc = rt.alloc();
-    for (lines, told) in [
+// Lines behind `heap 16 4 4`, and what is told of the first wrong one.
+fn wrong_lines() -> &'static [(&'static str, &'static str)] {
+    &[
         (
             "heap 16 4 4",
             "2: expected 'root', 'dirty', 'covered', 'region', 'remembered' or 'object'",
@@ -207,17 +208,38 @@ fn tells_a_wrong_line(rt: HostRuntime) -> Result<(), Fail> {
         ),
         ("covered 1", "2: expected the end of the line"),
         ("dirty 1", "2: expected 'cards'"),
-    ] {
+    ]
+}
+
+#[test]
+fn tells_a_wrong_line(rt: HostRuntime) -> Result<(), Fail> {
+    let alloc = rt.alloc();
+    for (lines, told) in wrong_lines() {
         expect_wrong(&rt, alloc, lines, told)?;
     }
-    let told = "g1heap: -: line 1: expected the sizes of a heap, and a current region of it\n";
-    expect(&rt, alloc, "make", b"heap 24 4 4", (3, b"", told))?;
-    let told = "g1heap: -: line 1: expected an ordinary region as the current one\n";
-    expect(&rt, alloc, "make", b"heap 16 4 4 current 0", (3, b"", told))?;
-    let told = "g1heap: -: line 1: expected 'heap W K N' before all other lines\n";
-    expect(&rt, alloc, "make", b"", (3, b"", told))?;
-    let told = "g1heap: -: line 2: expected text\n";
-    expect(&rt, alloc, "make", b"heap 16 4 4\n\xff", (3, b"", told))?;
+    Ok(())
+}
+
+#[test]
+fn tells_a_wrong_text(rt: HostRuntime) -> Result<(), Fail> {
+    let alloc = rt.alloc();
+    for (text, told) in [
+        (
+            b"heap 24 4 4".as_slice(),
+            "g1heap: -: line 1: expected the sizes of a heap, and a current region of it\n",
+        ),
+        (
+            b"heap 16 4 4 current 0",
+            "g1heap: -: line 1: expected an ordinary region as the current one\n",
+        ),
+        (
+            b"",
+            "g1heap: -: line 1: expected 'heap W K N' before all other lines\n",
+        ),
+        (b"heap 16 4 4\n\xff", "g1heap: -: line 2: expected text\n"),
+    ] {
+        expect(&rt, alloc, "make", text, (3, b"", told))?;
+    }
     Ok(())
 }
 
@@ -243,6 +265,32 @@ fn image_of(alloc: Global, lines: &str) -> Result<Image, Fail> {
     Ok(decode(alloc, bytes.as_slice())?)
 }
 
+// What is asked of two images of which the first is before a pause of the set.
+fn asked(alloc: Global, set: &[u32]) -> Result<Same, AllocError> {
+    Ok(Same {
+        before: String::from_str(alloc, "before")?,
+        after: String::from_str(alloc, "after")?,
+        covered: false,
+        set: Vec::from_slice(alloc, set)?,
+    })
+}
+
+fn compared_with(
+    alloc: Global,
+    same: &Same,
+    old: &Image,
+    after: &str,
+) -> Result<(u8, String), Fail> {
+    let new = image_of(alloc, after)?;
+    Ok(compared(alloc, same, old, &new)?)
+}
+
+fn answer(alloc: Global, set: &[u32], before: &str, after: &str) -> Result<(u8, String), Fail> {
+    let same = asked(alloc, set)?;
+    let old = image_of(alloc, before)?;
+    compared_with(alloc, &same, &old, after)
+}
+
 fn expect_compared<T: Abort>(
     rt: &T,
     alloc: Global,
@@ -251,18 +299,10 @@ fn expect_compared<T: Abort>(
     set: &[u32],
     told: &str,
 ) -> Result<(), Fail> {
-    let same = Same {
-        before: String::from_str(alloc, "before")?,
-        after: String::from_str(alloc, "after")?,
-        covered: false,
-        set: Vec::from_slice(alloc, set)?,
-    };
-    let (old, new) = (image_of(alloc, before)?, image_of(alloc, after)?);
-    let (status, text) = compared(alloc, &same, &old, &new)?;
-    assert_eq!(rt; text.as_str(), told, "{before} and {after}");
+    let (status, text) = answer(alloc, set, before, after)?;
     assert_eq!(rt;
-        status == 0,
-        told.starts_with("same"),
+        (text.as_str(), status == 0),
+        (told, told.starts_with("same")),
         "{before} and {after}"
     );
     Ok(())
@@ -316,18 +356,24 @@ fn tells_the_first_difference(rt: HostRuntime) -> Result<(), Fail> {
 }
 
 #[test]
+fn a_set_is_free_after_a_pause(rt: HostRuntime) -> Result<(), Fail> {
+    for (after, told) in [
+        (PAIR_MOVED, "same objects 2 words 7\nkept\n"),
+        (PAIR, "differ region 1: in the set, and not free after\n"),
+    ] {
+        expect_compared(&rt, rt.alloc(), PAIR, after, &[1], told)?;
+    }
+    Ok(())
+}
+
+// What is told when region 1 of `DEAD_OWNER` was collected, and these are the lines after.
+fn expect_kept<T: Abort>(rt: &T, alloc: Global, after: &str, told: &str) -> Result<(), Fail> {
+    let after = format!(in alloc; "heap 16 4 4\n{after}")?;
+    expect_compared(rt, alloc, DEAD_OWNER, after.as_str(), &[1], told)
+}
+
+#[test]
 fn tells_what_a_pause_would_keep(rt: HostRuntime) -> Result<(), Fail> {
-    let alloc = rt.alloc();
-    expect_compared(
-        &rt,
-        alloc,
-        PAIR,
-        PAIR_MOVED,
-        &[1],
-        "same objects 2 words 7\nkept\n",
-    )?;
-    let not_free = "differ region 1: in the set, and not free after\n";
-    expect_compared(&rt, alloc, PAIR, PAIR, &[1], not_free)?;
     for (after, told) in [
         (
             "region ordinary\nobject 2/1 32\nregion 2 ordinary\nobject 3/0 1 2",
@@ -350,8 +396,7 @@ fn tells_what_a_pause_would_keep(rt: HostRuntime) -> Result<(), Fail> {
             "differ object 16: data word 1 is another in 32 after\n",
         ),
     ] {
-        let after = format!(in alloc; "heap 16 4 4\n{after}")?;
-        expect_compared(&rt, alloc, DEAD_OWNER, after.as_str(), &[1], told)?;
+        expect_kept(&rt, rt.alloc(), after, told)?;
     }
     Ok(())
 }
@@ -377,25 +422,41 @@ impl Write for Broken {
 }
 
 #[test]
-fn a_device_that_fails_is_named(rt: HostRuntime) -> Result<(), Fail> {
-    let alloc = rt.alloc();
-    let mut out = Vec::new(alloc);
-    let (status, errors) = run(&rt, alloc, "print -", &mut Broken, &mut out)?;
-    assert_eq!(rt; status, 6);
-    assert!(rt; out.is_empty());
+fn an_input_that_fails_is_named(rt: HostRuntime) -> Result<(), Fail> {
+    let (status, out, errors) = outcome(&rt, rt.alloc(), "print -", &mut Broken)?;
     let told = b"g1heap: -: fault 14: input\n".as_slice();
-    assert_eq!(rt; errors.as_slice(), told);
+    assert_eq!(rt;
+        (status, out.is_empty(), errors.as_slice()),
+        (6, true, told)
+    );
+    Ok(())
+}
+
+#[test]
+fn an_output_that_fails_is_named(rt: HostRuntime) -> Result<(), Fail> {
     let mut reader = ONE_OBJECT_LINES.as_bytes();
-    let (status, errors) = run(&rt, alloc, "make", &mut reader, &mut Broken)?;
-    assert_eq!(rt; status, 6);
+    let (status, errors) = run(&rt, rt.alloc(), "make", &mut reader, &mut Broken)?;
     let told = b"g1heap: fault 14: output\n".as_slice();
-    assert_eq!(rt; errors.as_slice(), told);
+    assert_eq!(rt; (status, errors.as_slice()), (6, told));
+    Ok(())
+}
+
+// The status alone, and whether there is a usage fault in the place of an answer. No byte can be read.
+fn expect_status<T: Threads + Abort + Sync + Files>(
+    rt: &T,
+    alloc: Global,
+    line: &str,
+    wanted: u8,
+) -> Result<(), AllocError> {
+    let (status, out, errors) = outcome(rt, alloc, line, &mut Broken)?;
+    let found = (status, out.is_empty(), errors.starts_with(b"error: "));
+    let refused = wanted == 2;
+    assert_eq!(rt; found, (wanted, refused, refused), "{line}");
     Ok(())
 }
 
 #[test]
 fn usage_faults_come_before_the_input(rt: HostRuntime) -> Result<(), Fail> {
-    let alloc = rt.alloc();
     for (line, wanted) in [
         ("", 2),
         ("frob", 2),
@@ -418,13 +479,18 @@ fn usage_faults_come_before_the_input(rt: HostRuntime) -> Result<(), Fail> {
         ("help make", 0),
         ("--version", 0),
     ] {
-        let mut out = Vec::new(alloc);
-        let (status, errors) = run(&rt, alloc, line, &mut Broken, &mut out)?;
-        assert_eq!(rt; status, wanted, "{line}");
-        assert_eq!(rt; out.is_empty(), wanted == 2, "{line}");
-        assert_eq!(rt; errors.starts_with(b"error: "), wanted == 2, "{line}");
+        expect_status(&rt, rt.alloc(), line, wanted)?;
     }
     Ok(())
+}
+
+// What is told of wrong words for the command that has this usage.
+fn usage_error(alloc: Global, message: &str, usage: &str) -> Result<String, AllocError> {
+    let name = usage.split(' ').next().unwrap_or("");
+    format!(in alloc;
+        "error: {message}\n\nUsage: g1heap {usage}\n\n\
+        For more information, try 'g1heap {name} --help'.\n"
+    )
 }
 
 #[test]
@@ -454,11 +520,7 @@ fn a_wrong_value_is_told_with_its_range(rt: HostRuntime) -> Result<(), Fail> {
             print,
         ),
     ] {
-        let name = usage.split(' ').next().unwrap_or("");
-        let told = format!(in alloc;
-            "error: {message}\n\nUsage: g1heap {usage}\n\n\
-            For more information, try 'g1heap {name} --help'.\n"
-        )?;
+        let told = usage_error(alloc, message, usage)?;
         expect(&rt, alloc, line, b"", (2, b"", told.as_str()))?;
     }
     Ok(())
@@ -486,37 +548,61 @@ Example: g1heap make < LINES > IMAGE
 ";
 
 #[test]
+fn help_and_version_are_an_answer(rt: HostRuntime) -> Result<(), Fail> {
+    for (line, text) in [("make --help", MAKE_HELP), ("--version", "g1heap 1.0.0\n")] {
+        expect(&rt, rt.alloc(), line, b"", (0, text.as_bytes(), ""))?;
+    }
+    Ok(())
+}
+
+fn expect_example<T: Threads + Abort + Sync + Files>(
+    rt: &T,
+    alloc: Global,
+    line: &str,
+    example: &str,
+) -> Result<(), AllocError> {
+    let last = format!(in alloc;
+        "\n  7  a file that can't be opened\n\nExample: g1heap {example}\n"
+    )?;
+    let (_, out, _) = outcome(rt, alloc, line, &mut Broken)?;
+    assert!(rt; out.ends_with(last.as_bytes()), "{line}");
+    Ok(())
+}
+
+#[test]
 fn help_ends_with_statuses_and_an_example(rt: HostRuntime) -> Result<(), Fail> {
-    let alloc = rt.alloc();
-    let help = MAKE_HELP.as_bytes();
-    expect(&rt, alloc, "make --help", b"", (0, help, ""))?;
-    let version = b"g1heap 1.0.0\n";
-    expect(&rt, alloc, "--version", b"", (0, version, ""))?;
     for (line, example) in [
         ("--help", "print - < IMAGE"),
         ("same --help", "same BEFORE - < IMAGE"),
         ("print --help", "print - < IMAGE"),
     ] {
-        let mut out = Vec::new(alloc);
-        run(&rt, alloc, line, &mut Broken, &mut out)?;
-        let last = format!(in alloc;
-            "\n  7  a file that can't be opened\n\nExample: g1heap {example}\n"
-        )?;
-        assert!(rt; out.ends_with(last.as_bytes()), "{line}");
+        expect_example(&rt, rt.alloc(), line, example)?;
     }
     Ok(())
 }
 
 #[test]
 fn faults_name_their_file(rt: HostRuntime) -> Result<(), Fail> {
+    let closed = "g1heap: no/such: can't be opened\n";
+    for (line, input, status, told) in [
+        ("same - no/such", ONE_OBJECT.as_slice(), 7, closed),
+        ("print no/such", b"", 7, closed),
+        (
+            "same - /dev/null",
+            ONE_OBJECT,
+            3,
+            "g1heap: /dev/null: fault 3: short\n",
+        ),
+        ("same - /dev/null", b"H", 3, "g1heap: -: fault 1: magic\n"),
+    ] {
+        expect(&rt, rt.alloc(), line, input, (status, b"", told))?;
+    }
+    Ok(())
+}
+
+#[test]
+fn bytes_behind_an_image_are_a_fault(rt: HostRuntime) -> Result<(), Fail> {
     let alloc = rt.alloc();
-    let told = "g1heap: no/such: can't be opened\n";
-    expect(&rt, alloc, "same - no/such", ONE_OBJECT, (7, b"", told))?;
-    expect(&rt, alloc, "print no/such", b"", (7, b"", told))?;
-    let told = "g1heap: /dev/null: fault 3: short\n";
-    expect(&rt, alloc, "same - /dev/null", ONE_OBJECT, (3, b"", told))?;
-    let told = "g1heap: -: fault 1: magic\n";
-    expect(&rt, alloc, "same - /dev/null", b"H", (3, b"", told))?;
     let told = "g1heap: -: fault 4: trailing\n";
     let mut longer = Vec::from_slice(alloc, ONE_OBJECT)?;
     longer.push(0)?;
