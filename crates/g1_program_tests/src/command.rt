@@ -1,9 +1,10 @@
 use g1_command::{Argument, Refusal, deliver, read_all, refuse, status, whole, words};
 use g1_words::{Device, Fault, Place, Stand};
-use std::alloc::Global;
+use std::alloc::{AllocError, Global};
 use std::env::FillError;
 use std::io;
 use std::io::{ErrorKind, Read, Write};
+use std::process::Abort;
 use std::rt::Env;
 use std::test::Fail;
 
@@ -66,47 +67,64 @@ impl Write for Failing {
     }
 }
 
+// What comes of this text and a device that fails after so many bytes.
+fn outcome(text: &[u8], left: usize, device: Device) -> Result<(), Fault> {
+    if left > text.len() {
+        Ok(())
+    } else {
+        Err(Fault::Device(device))
+    }
+}
+
+fn expect_read<T: Abort>(
+    rt: &T,
+    alloc: Global,
+    text: &[u8],
+    left: usize,
+    error: ErrorKind,
+) -> Result<(), AllocError> {
+    let expected = outcome(text, left, Device::Input);
+    let mut reader = Failing::new(Vec::from_slice(alloc, text)?, left, error);
+    match read_all(alloc, &mut reader) {
+        Ok(read) => assert!(rt; expected == Ok(()) && read.as_slice() == text, "{left}"),
+        Err(fault) => assert!(rt; expected == Err(fault), "{left}: {fault}"),
+    }
+    Ok(())
+}
+
+fn expect_delivered<T: Abort>(rt: &T, alloc: Global, text: &[u8], left: usize, error: ErrorKind) {
+    let expected = outcome(text, left, Device::Output);
+    let mut writer = Failing::new(Vec::new(alloc), left, error);
+    let delivered = deliver(text, &mut writer);
+    assert!(rt; delivered == expected, "{left}");
+    let written = &text[..left.min(text.len())];
+    assert_eq!(rt; writer.bytes.as_slice(), written, "{left}");
+}
+
 // A reader that is out of memory is an input that failed, and so is any other failure.
 #[test]
 fn devices_fail_at_each_call(rt: HostRuntime) -> Result<(), Fail> {
-    let alloc = rt.alloc();
     let text = b"seven\nbytes".as_slice();
     for left in 0..=text.len() + 1 {
         for error in [ErrorKind::Other, ErrorKind::OutOfMemory] {
-            let bytes = Vec::from_slice(alloc, text)?;
-            match read_all(alloc, &mut Failing::new(bytes, left, error)) {
-                Ok(read) => {
-                    assert!(rt; left == text.len() + 1 && read.as_slice() == text, "{left}");
-                }
-                Err(fault) => {
-                    assert!(rt; left <= text.len(), "{left}");
-                    assert_eq!(rt; fault, Fault::Device(Device::Input), "{left}");
-                }
-            }
-            let mut writer = Failing::new(Vec::new(alloc), left, error);
-            match deliver(text, &mut writer) {
-                Ok(()) => assert!(rt; left > text.len(), "{left}"),
-                Err(fault) => {
-                    assert_eq!(rt; fault, Fault::Device(Device::Output), "{left}");
-                    let written = &text[..left.min(text.len())];
-                    assert_eq!(rt; writer.bytes.as_slice(), written, "{left}");
-                }
-            }
+            expect_read(&rt, rt.alloc(), text, left, error)?;
+            expect_delivered(&rt, rt.alloc(), text, left, error);
         }
     }
     Ok(())
 }
 
-// Keeps what each call wrote.
+// Counts its calls.
 #[derive(Drop)]
 struct Calls {
-    alloc: Global,
-    texts: Vec<Vec<u8>>,
+    count: usize,
+    text: Vec<u8>,
 }
 
 impl Write for Calls {
     fn write(&mut self, buf: &[u8]) -> io::Result<usize> {
-        self.texts.push(Vec::from_slice(self.alloc, buf)?)?;
+        self.count = self.count.wrapping_add(1);
+        self.text.extend_from_slice(buf)?;
         Ok(buf.len())
     }
 
@@ -115,11 +133,19 @@ impl Write for Calls {
     }
 }
 
-#[test]
-fn a_fault_is_one_write(rt: HostRuntime) -> Result<(), Fail> {
-    let alloc = rt.alloc();
-    let most = u64::MAX;
-    for (fault, told, wanted) in [
+fn expect_one_write<T: Abort>(rt: &T, alloc: Global, fault: Fault, line: &str, wanted: u8) {
+    let text = Vec::new(alloc);
+    let mut errors = Calls { count: 0, text };
+    let ended = refuse("the_name", &Refusal::Fault(fault), &mut errors);
+    assert_eq!(rt;
+        (ended, errors.count, errors.text.as_slice()),
+        (wanted, 1, line.as_bytes())
+    );
+}
+
+// Each fault, its line, and its status.
+fn faults() -> &'static [(Fault, &'static str, u8)] {
+    &[
         (Fault::Magic, "1: magic", 3),
         (Fault::Geometry, "2: geometry", 3),
         (Fault::Short, "3: short", 3),
@@ -137,8 +163,8 @@ fn a_fault_is_one_write(rt: HostRuntime) -> Result<(), Fail> {
         (Fault::Set(7), "10: set region 7", 5),
         (
             Fault::Room {
-                need: most,
-                free: most,
+                need: u64::MAX,
+                free: u64::MAX,
             },
             "11: room need 18446744073709551615 free 18446744073709551615",
             5,
@@ -149,15 +175,16 @@ fn a_fault_is_one_write(rt: HostRuntime) -> Result<(), Fail> {
         (Fault::Device(Device::Output), "14: output", 6),
         (Fault::Line(9), "15: line 9", 2),
         (Fault::Flags(9), "16: flags of region 9", 3),
-    ] {
-        let texts = Vec::new(alloc);
-        let mut errors = Calls { alloc, texts };
-        let ended = refuse("the_name", &Refusal::Fault(fault), &mut errors);
-        assert_eq!(rt; ended, wanted, "{told}");
-        assert_eq!(rt; status(&fault), wanted, "{told}");
+    ]
+}
+
+#[test]
+fn a_fault_is_one_write(rt: HostRuntime) -> Result<(), Fail> {
+    let alloc = rt.alloc();
+    for (fault, told, wanted) in faults() {
+        assert_eq!(rt; status(fault), *wanted, "{told}");
         let line = format!(in alloc; "the_name: fault {told}\n")?;
-        assert!(rt; errors.texts.len() == 1, "{told}");
-        assert_eq!(rt; errors.texts[0].as_slice(), line.as_bytes(), "{told}");
+        expect_one_write(&rt, alloc, *fault, line.as_str(), *wanted);
     }
     Ok(())
 }
@@ -181,15 +208,15 @@ fn a_number_has_digits_alone(rt: HostRuntime) -> Result<(), Fail> {
     Ok(())
 }
 
-// A program that was called by these words, which are separated by spaces.
+// A program that was called by these words, of which the first is its name.
 #[derive(Drop)]
 struct Called<'a> {
-    line: &'a [u8],
+    words: &'a [&'a [u8]],
 }
 
 impl<'a> Env for Called<'a> {
     fn arg(&self, i: usize, buf: &mut [u8]) -> Result<usize, FillError> {
-        match self.line.split(|b| *b == b' ').nth(i) {
+        match self.words.get(i) {
             None => Err(FillError::NotPresent),
             Some(word) => {
                 let length = word.len();
@@ -211,38 +238,42 @@ impl<'a> Env for Called<'a> {
     }
 }
 
+// The status and the text of the refusal of words.
+fn refusal_of(alloc: Global, called: &[&[u8]]) -> (u8, Vec<u8>) {
+    let mut errors = Vec::new(alloc);
+    let status = match words(&Called { words: called }, alloc) {
+        Ok(_) => 0,
+        Err(refusal) => refuse("name", &refusal, &mut errors),
+    };
+    (status, errors)
+}
+
+fn expect_refusal<T: Abort>(rt: &T, alloc: Global, called: &[&[u8]], told: &str) {
+    let (status, errors) = refusal_of(alloc, called);
+    assert_eq!(rt; (status, errors.as_slice()), (2, told.as_bytes()), "{told}");
+}
+
 #[test]
 fn a_word_that_is_not_text_is_shown(rt: HostRuntime) -> Result<(), Fail> {
     let alloc = rt.alloc();
-    for (line, told) in [
-        (b"name sho\xff".as_slice(), "word 2 is not text: 'sho\\xff'"),
-        (
-            b"name show \xc3\xa9\xc3 \xfe",
-            "word 3 is not text: '\u{e9}\\xc3'",
-        ),
-        (
-            b"name \xf0\x9f\x92x",
-            "word 2 is not text: '\\xf0\\x9f\\x92x'",
-        ),
-    ] {
-        let mut errors = Vec::new(alloc);
-        let text = format!(in alloc; "error: {told}\n")?;
-        match words(&Called { line }, alloc) {
-            Ok(_) => assert!(rt; false, "{told}"),
-            Err(refusal) => assert_eq!(rt; refuse("name", &refusal, &mut errors), 2, "{told}"),
-        }
-        assert_eq!(rt; errors.as_slice(), text.as_bytes(), "{told}");
-    }
-    let mut line = Vec::from_slice(alloc, b"\xff show \xc3\xa9  ")?;
-    line.resize(line.len() + 300, b'x')?;
-    match words(&Called { line: &line }, alloc) {
-        Ok(words) => {
-            assert!(rt; words.len() == 4);
-            assert_eq!(rt; words[1].as_str(), "\u{e9}");
-            assert_eq!(rt; words[2].as_str(), "");
-            assert_eq!(rt; words[3].len(), 300);
-        }
-        Err(_) => assert!(rt; false),
-    }
+    let name = b"name".as_slice();
+    let told = "error: word 2 is not text: 'sho\\xff'\n";
+    expect_refusal(&rt, alloc, &[name, b"sho\xff"], told);
+    let told = "error: word 3 is not text: '\u{e9}\\xc3'\n";
+    let called = [name, b"show", b"\xc3\xa9\xc3", b"\xfe"];
+    expect_refusal(&rt, alloc, &called, told);
+    let told = "error: word 2 is not text: '\\xf0\\x9f\\x92x'\n";
+    expect_refusal(&rt, alloc, &[name, b"\xf0\x9f\x92x"], told);
+    Ok(())
+}
+
+#[test]
+fn words_may_be_long_or_empty(rt: HostRuntime) -> Result<(), Fail> {
+    let called = [b"\xff".as_slice(), b"show", b"\xc3\xa9", b"", &[b'x'; 300]];
+    let words = words(&Called { words: &called }, rt.alloc())?;
+    assert!(rt; words.len() == 4);
+    assert_eq!(rt; words[1].as_str(), "\u{e9}");
+    assert_eq!(rt; words[2].as_str(), "");
+    assert_eq!(rt; words[3].len(), 300);
     Ok(())
 }
