@@ -1,6 +1,6 @@
 //! Images out of bytes, and back.
 use crate::watch::{Watch, text_of};
-use g1_image::{FromReader, Image, ToWriter, decode, encode_into};
+use g1_image::{FromReader, Image, ToWriter, decode, encode_into, read};
 use g1_rem::{Tracked, image, merged, verify};
 use g1_words::{Fault, Heap, objects_in};
 use std::alloc::Global;
@@ -16,32 +16,64 @@ pub fn run<R: Threads + Sync>(
     bytes: &[u8],
     watch: &mut Watch,
 ) -> Result<Tracked, Fault> {
+    let read = decoded(alloc, bytes, watch)?;
+    asked(alloc, &read, watch)?;
+    covered(rt, alloc, read, watch)
+}
+
+/// The image of the bytes.
+fn decoded(alloc: Global, bytes: &[u8], watch: &mut Watch) -> Result<Image, Fault> {
     watch.at("decode")?;
     let read = decode(alloc, bytes)?;
     watch.image(&read)?;
-    written(alloc, &read, watch)?;
+    Ok(read)
+}
+
+/// The calls that read an image and leave it as it is.
+fn asked(alloc: Global, read: &Image, watch: &mut Watch) -> Result<(), Fault> {
+    written(alloc, read, watch)?;
     objects(alloc, read.heap(), watch)?;
-    cards(alloc, watch)?;
+    cards(alloc, watch)
+}
+
+/// The same image, whose references are covered.
+fn covered<R: Threads + Sync>(
+    rt: &R,
+    alloc: Global,
+    read: Image,
+    watch: &mut Watch,
+) -> Result<Tracked, Fault> {
     watch.at("verify")?;
     match verified(rt, alloc, read) {
-        Ok(tracked) => {
-            watch.image(image(&tracked))?;
-            Ok(tracked)
-        }
-        Err((back, fault)) => {
-            watch.refused(&fault, &back)?;
-            Err(fault)
-        }
+        Ok(tracked) => accepted(tracked, watch),
+        Err((back, fault)) => refused(&back, fault, watch),
     }
+}
+
+/// `verify` answered this image.
+fn accepted(tracked: Tracked, watch: &mut Watch) -> Result<Tracked, Fault> {
+    watch.image(image(&tracked))?;
+    Ok(tracked)
+}
+
+/// `verify` handed this image back.
+fn refused(back: &Image, fault: Fault, watch: &mut Watch) -> Result<Tracked, Fault> {
+    watch.refused(&fault, back)?;
+    Err(fault)
 }
 
 /// The image of the bytes, straight from a reader of them.
 pub fn streamed(alloc: Global, bytes: &[u8], watch: &mut Watch) -> Result<(), Fault> {
+    watch.at("read")?;
+    let read = received(alloc, bytes)?;
+    watch.image(&read)
+}
+
+/// What `read` promises is not needed here.
+fn received(alloc: Global, bytes: &[u8]) -> Result<Image, Fault> {
     let mut reader = bytes;
     let mut source = FromReader::new(&mut reader);
-    watch.at("read")?;
-    let read = g1_image::read(alloc, &mut source)?;
-    Ok(watch.image(&read)?)
+    read(alloc, &mut source)
 }
 
 /// What `verify` promises is not needed here.
@@ -63,12 +95,24 @@ pub fn tracked<R: Threads + Sync>(rt: &R, alloc: Global, bytes: &[u8]) -> Result
 
 /// The image as bytes, in a list of its own, in one that is there, and from a sink.
 fn written(alloc: Global, read: &Image, watch: &mut Watch) -> Result<(), Fault> {
+    encoded(alloc, read, watch)?;
+    encoded_into(alloc, read, watch)?;
+    sunk(alloc, read, watch)
+}
+
+fn encoded(alloc: Global, read: &Image, watch: &mut Watch) -> Result<(), Fault> {
     watch.at("encode")?;
     let text = text_of(alloc, read)?;
-    watch.bytes(text.as_slice())?;
+    Ok(watch.bytes(text.as_slice())?)
+}
+
+fn encoded_into(alloc: Global, read: &Image, watch: &mut Watch) -> Result<(), Fault> {
     watch.at("encode_into")?;
     let text = written_into(Vec::new(alloc), read)?;
-    watch.bytes(text.as_slice())?;
+    Ok(watch.bytes(text.as_slice())?)
+}
+
+fn sunk(alloc: Global, read: &Image, watch: &mut Watch) -> Result<(), Fault> {
     let room = Vec::with_capacity(alloc, ROOM)?;
     watch.at("write")?;
     let text = sent(alloc, read, room)?;
