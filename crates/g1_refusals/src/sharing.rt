@@ -1,5 +1,5 @@
 //! Words that threads share.
-ghost use Rattle.std.specs.Prelude.{◌≡◌, ◌<◌, ◌≤◌};
+ghost use Rattle.std.specs.Prelude.{◌≡◌, ◌<◌, ◌≤◌, OnOk};
 ghost use Rattle.g1_claim.specs.Claims.{IsSeatOf as IsClaimSeat};
 ghost use Rattle.g1_work.specs.Dealer.{IsSeatOf as IsSeat};
 
@@ -8,7 +8,7 @@ use g1_claim::{ClaimSeat, Claims};
 use g1_pause::Settings;
 use g1_words::Fault;
 use g1_work::{DealSeat, Dealer, Open, Task, each_chunk};
-use std::alloc::Global;
+use std::alloc::{AllocError, Global};
 use std::thread::Threads;
 
 pub fn run<R: Threads + Sync>(
@@ -27,37 +27,44 @@ fn dealt(alloc: Global, watch: &mut Watch) -> Result<(), Fault> {
     watch.at("dealer_new")?;
     let (dealer, mut seat) = Dealer::new(alloc, 1)?;
     watch.numbers(&[u64::from(g1_work::shares(&seat))])?;
+    dealt_to_two(&dealer, &mut seat, watch)?;
+    watch.at("dealer_close")?;
+    let cursor = dealer.close(seat);
+    Ok(watch.numbers(&[cursor])?)
+}
+
+/// The seat gives a share to another, takes two times, and has its share back.
+fn dealt_to_two(dealer: &Dealer, seat: &mut DealSeat, watch: &mut Watch) -> Result<(), AllocError>
+    requires seat { IsSeat dealer.now seat.old }
+    requires whole { seat.old.shares ≡ 64 }
+    ensures seat { OnOk result (IsSeat dealer.now seat.new) }
+    ensures whole { OnOk result (seat.new.shares ≡ 64) }
+{
     watch.at("dealer_split")?;
-    let mut other = dealer.split(&mut seat);
+    let mut other = dealer.split(seat);
     watch.numbers(&[
-        u64::from(g1_work::shares(&seat)),
+        u64::from(g1_work::shares(seat)),
         u64::from(g1_work::shares(&other)),
     ])?;
-    watch.at("take")?;
-    let first = taken(&dealer, &mut seat);
-    watch.numbers(&[first])?;
-    watch.at("take")?;
-    let second = taken(&dealer, &mut seat);
-    watch.numbers(&[second])?;
+    take(dealer, seat, watch)?;
+    take(dealer, seat, watch)?;
     watch.at("drawn")?;
     let drawn = dealer.drawn(&mut other);
     watch.numbers(&[drawn])?;
     watch.at("dealer_join")?;
-    dealer.join(&mut seat, other);
-    watch.numbers(&[u64::from(g1_work::shares(&seat))])?;
-    watch.at("dealer_close")?;
-    let cursor = dealer.close(seat);
-    watch.numbers(&[cursor])?;
-    Ok(())
+    dealer.join(seat, other);
+    watch.numbers(&[u64::from(g1_work::shares(seat))])
 }
 
 /// What `take` answers. The seat keeps its dealer and its shares: no more of it is needed here.
-fn taken(dealer: &Dealer, seat: &mut DealSeat) -> u64
+fn take(dealer: &Dealer, seat: &mut DealSeat, watch: &mut Watch) -> Result<(), AllocError>
     requires { IsSeat dealer.now seat.old }
     ensures seat { IsSeat dealer.now seat.new }
     ensures shares { seat.new.shares ≡ seat.old.shares }
 {
-    dealer.take(seat).unwrap_or(u64::MAX)
+    watch.at("take")?;
+    let number = dealer.take(seat).unwrap_or(u64::MAX);
+    watch.numbers(&[number])
 }
 
 /// A claim word, and two seats.
@@ -65,39 +72,56 @@ fn claimed(alloc: Global, watch: &mut Watch) -> Result<(), Fault> {
     watch.at("claims_new")?;
     let (claims, mut seat) = Claims::new(alloc, 2)?;
     watch.numbers(&[u64::from(g1_claim::shares(&seat))])?;
+    claimed_by_two(&claims, &mut seat, watch)?;
+    watch.at("claims_close")?;
+    let words = claims.close(seat);
+    Ok(watch.numbers(words.as_slice())?)
+}
+
+/// The seat gives a share to another, offers two ranks, and has its share back.
+fn claimed_by_two(
+    claims: &Claims,
+    seat: &mut ClaimSeat,
+    watch: &mut Watch,
+) -> Result<(), AllocError>
+    requires seat { IsClaimSeat claims.now seat.old }
+    requires whole { seat.old.hand.shares ≡ 64 }
+    requires places { 0 < claims.now.places }
+    ensures seat { OnOk result (IsClaimSeat claims.now seat.new) }
+    ensures whole { OnOk result (seat.new.hand.shares ≡ 64) }
+{
     watch.at("claims_split")?;
-    let mut other = claims.split(&mut seat);
+    let mut other = claims.split(seat);
     watch.numbers(&[
-        u64::from(g1_claim::shares(&seat)),
+        u64::from(g1_claim::shares(seat)),
         u64::from(g1_claim::shares(&other)),
     ])?;
-    watch.at("offer")?;
-    let first = offered(&claims, &mut seat, 9);
-    watch.numbers(&[first])?;
-    watch.at("offer")?;
-    let second = offered(&claims, &mut seat, 12);
-    watch.numbers(&[second])?;
+    offer(claims, seat, 9, watch)?;
+    offer(claims, seat, 12, watch)?;
     watch.at("least")?;
     let least = claims.least(&mut other, 0);
     watch.numbers(&[least])?;
     watch.at("claims_join")?;
-    claims.join(&mut seat, other);
-    watch.numbers(&[u64::from(g1_claim::shares(&seat))])?;
-    watch.at("claims_close")?;
-    let words = claims.close(seat);
-    watch.numbers(words.as_slice())?;
-    Ok(())
+    claims.join(seat, other);
+    watch.numbers(&[u64::from(g1_claim::shares(seat))])
 }
 
 /// What `offer` answers, as 0 or 1. The seat keeps its table and its shares.
-fn offered(claims: &Claims, seat: &mut ClaimSeat, rank: u64) -> u64
+fn offer(
+    claims: &Claims,
+    seat: &mut ClaimSeat,
+    rank: u64,
+    watch: &mut Watch,
+) -> Result<(), AllocError>
     requires seat { IsClaimSeat claims.now seat.old }
     requires places { 0 < claims.now.places }
     requires rank { rank < 16 }
     ensures seat { IsClaimSeat claims.now seat.new }
     ensures shares { seat.new.hand.shares ≡ seat.old.hand.shares }
 {
-    u64::from(claims.offer(seat, 0, rank))
+    watch.at("offer")?;
+    let lowered = claims.offer(seat, 0, rank);
+    watch.numbers(&[u64::from(lowered)])
 }
 
 /// Gives the square of its chunk.
