@@ -1,6 +1,7 @@
 //! Whole pauses.
 use crate::reading::tracked;
 use crate::watch::Watch;
+use g1_image::Image;
 use g1_pause::{FromReader, Settings, ToWriter, evacuate, pause_bytes, pause_run};
 use g1_rem::{Tracked, image};
 use g1_words::Fault;
@@ -40,13 +41,26 @@ fn streamed<R: Threads + Sync>(
     bytes: &[u8],
     watch: &mut Watch,
 ) -> Result<(), Fault> {
-    let mut reader = bytes;
-    let mut writer = Vec::with_capacity(alloc, ROOM)?;
-    let mut source = FromReader::new(&mut reader);
-    let mut sink = ToWriter::new(&mut writer);
+    let room = Vec::with_capacity(alloc, ROOM)?;
     watch.at("pause_run")?;
+    let text = sent(rt, alloc, settings, bytes, room)?;
+    Ok(watch.bytes(text.as_slice())?)
+}
+
+/// The room with the image after the pause, which a sink wrote there. What `pause_run` promises is not
+/// needed here.
+fn sent<R: Threads + Sync>(
+    rt: &R,
+    alloc: Global,
+    settings: &Settings,
+    bytes: &[u8],
+    room: Vec<u8>,
+) -> Result<Vec<u8>, Fault> {
+    let mut reader = bytes;
+    let mut source = FromReader::new(&mut reader);
+    let mut sink = ToWriter::new(room);
     pause_run(rt, alloc, &mut source, &mut sink, settings, &Open)?;
-    Ok(watch.bytes(sink.into_inner().as_slice())?)
+    Ok(sink.into_inner())
 }
 
 fn evacuated<R: Threads + Sync>(
@@ -59,10 +73,15 @@ fn evacuated<R: Threads + Sync>(
     let tracked = tracked(rt, alloc, bytes)?;
     watch.at("evacuate")?;
     let (found, refused) = after(rt, alloc, settings, tracked);
+    tell(image(&found), refused, watch)
+}
+
+/// The call answered this image, or was refused and handed it back.
+fn tell(found: &Image, refused: Option<Fault>, watch: &mut Watch) -> Result<(), Fault> {
     match refused {
-        None => watch.image(image(&found)),
+        None => watch.image(found),
         Some(fault) => {
-            watch.refused(&fault, image(&found))?;
+            watch.refused(&fault, found)?;
             Err(fault)
         }
     }
