@@ -31,12 +31,12 @@ pub fn run<R: Threads + Sync>(
     watch: &mut Watch,
 ) -> Result<(), Fault> {
     match settings.choice() {
-        Choice::Given(list) => collected(rt, alloc, settings, tracked, list.as_slice(), watch),
+        Choice::Given(list) => committed(rt, alloc, settings, tracked, list.as_slice(), watch),
         Choice::Budget(_) => Ok(()),
     }
 }
 
-fn collected<R: Threads + Sync>(
+fn committed<R: Threads + Sync>(
     rt: &R,
     alloc: Global,
     settings: &Settings,
@@ -44,14 +44,28 @@ fn collected<R: Threads + Sync>(
     list: &[u32],
     watch: &mut Watch,
 ) -> Result<(), Fault> {
-    watch.at("given")?;
-    let chosen = given(alloc, image(&tracked).heap(), list)?;
-    let set = chosen.as_slice();
-    watch.regions(set)?;
-    let prepared = prepared(rt, alloc, settings, &tracked, set, watch)?;
+    let prepared = collected(rt, alloc, settings, &tracked, list, watch)?;
     watch.at("commit")?;
     let after = commit(rt, settings.workers(), tracked, prepared, &Open);
     watch.image(image(&after))
+}
+
+/// What the pause that collects the regions named writes.
+fn collected<R: Threads + Sync>(
+    rt: &R,
+    alloc: Global,
+    settings: &Settings,
+    tracked: &Tracked,
+    list: &[u32],
+    watch: &mut Watch,
+) -> Result<Prepared, Fault>
+    ensures { IfOk result (λ p. (s : List ℕ) × (l : List ℕ) × IsMadeFor p tracked.now s l) }
+{
+    watch.at("given")?;
+    let chosen = given(alloc, image(tracked).heap(), list)?;
+    let set = chosen.as_slice();
+    watch.regions(set)?;
+    prepared(rt, alloc, settings, tracked, set, watch)
 }
 
 /// What the pause of these regions writes.
