@@ -19,8 +19,9 @@ mod watch;
 
 use crate::subject::{Subject, subject_of};
 use crate::watch::Watch;
+use g1_pause::Settings;
 use g1_words::Fault;
-use std::alloc::Global;
+use std::alloc::{AllocError, Global};
 use std::io::{Read, Write};
 use std::process::ExitCode;
 use std::thread::Threads;
@@ -59,16 +60,35 @@ fn told<T: Threads + Sync, R: Read, W: Write>(
 ) -> io::Result<()> {
     let mut bytes = Vec::new(alloc);
     reader.read_to_end(&mut bytes)?;
-    let mut watch = Watch::new(alloc, words)?;
-    let outcome = match subject_of(alloc, words) {
-        Ok(subject) => run(rt, alloc, &subject, bytes.as_slice(), &mut watch),
-        Err(fault) => Err(fault),
-    };
-    let text = watch.end(outcome.err())?;
+    let text = all_told(rt, alloc, words, bytes.as_slice())?;
     writer.write_all(text.as_slice())
 }
 
-/// Runs the calls, in an order in which each has what it asks for, until one is refused.
+/// All that is told of the call.
+fn all_told<T: Threads + Sync>(
+    rt: &T,
+    alloc: Global,
+    words: &[String],
+    bytes: &[u8],
+) -> Result<Vec<u8>, AllocError> {
+    let mut watch = Watch::new(alloc, words)?;
+    let outcome = outcome(rt, alloc, words, bytes, &mut watch);
+    watch.end(outcome.err())
+}
+
+/// Does what the words say.
+fn outcome<R: Threads + Sync>(
+    rt: &R,
+    alloc: Global,
+    words: &[String],
+    bytes: &[u8],
+    watch: &mut Watch,
+) -> Result<(), Fault> {
+    let subject = subject_of(alloc, words)?;
+    run(rt, alloc, &subject, bytes, watch)
+}
+
+/// Runs the calls among which the one that is watched is.
 fn run<R: Threads + Sync>(
     rt: &R,
     alloc: Global,
@@ -86,6 +106,17 @@ fn run<R: Threads + Sync>(
     if watch.is_of(&["read"]) {
         return reading::streamed(alloc, bytes, watch);
     }
+    steps(rt, alloc, settings, bytes, watch)
+}
+
+/// Runs the steps of a pause, in an order in which each has what it asks for, until one is refused.
+fn steps<R: Threads + Sync>(
+    rt: &R,
+    alloc: Global,
+    settings: &Settings,
+    bytes: &[u8],
+    watch: &mut Watch,
+) -> Result<(), Fault> {
     sharing::run(rt, alloc, settings, watch)?;
     filling::run(rt, settings, watch)?;
     let tracked = reading::run(rt, alloc, bytes, watch)?;

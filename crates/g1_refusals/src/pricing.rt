@@ -4,7 +4,7 @@ ghost use Rattle.g1_choose.specs.Choice.{MayBeLive};
 
 use crate::subject::COST;
 use crate::watch::Watch;
-use g1_choose::{choose, cost, order, total};
+use g1_choose::{Candidate, choose, cost, order, total};
 use g1_mark::live_bytes;
 use g1_pause::{Choice, Settings};
 use g1_rem::{Starts, Tracked, image, refine};
@@ -73,12 +73,17 @@ fn bought(
 {
     watch.at("order")?;
     let order = order(alloc, heap, remembered, live, &COST)?;
-    let mut told = Vec::with_capacity(alloc, order.len())?;
-    for candidate in &order {
-        told.push(candidate.region)?;
-    }
-    watch.regions(told.as_slice())?;
+    tell(alloc, &order, watch)?;
     watch.at("choose")?;
     let set = choose(alloc, heap, dirty, remembered, live, &COST, budget)?;
     Ok(watch.regions(set.as_slice())?)
+}
+
+/// The call answered the regions of these candidates.
+fn tell(alloc: Global, order: &[Candidate], watch: &mut Watch) -> Result<(), AllocError> {
+    let mut regions = Vec::with_capacity(alloc, order.len())?;
+    for candidate in order {
+        regions.push(candidate.region)?;
+    }
+    watch.regions(regions.as_slice())
 }

@@ -26,12 +26,12 @@ impl Watch {
     /// Watches the call that the first word names.
     pub fn new(alloc: Global, words: &[String]) -> Result<Watch, AllocError> {
         let call = match words.first() {
-            Some(word) => String::from_str(alloc, word)?,
-            None => String::new(alloc),
+            Some(word) => word.as_str(),
+            None => "",
         };
         Ok(Watch {
             alloc,
-            call,
+            call: String::from_str(alloc, call)?,
             on: false,
             owed: false,
             text: Vec::new(alloc),
