@@ -94,6 +94,3 @@ pub fn texts()
     ensures pins { map (λ q. q.pinned) (heap_of (file_of Two pinned_owner)).regions ≡ true ∷ false ∷ false ∷ false ∷ [] }
     ensures moved_pins { map (λ r. (new_region pinned_owner.heap (1 ∷ []) (16 ∷ []) r).pinned) (regions pinned_owner.heap) ≡ true ∷ false ∷ false ∷ false ∷ [] }
 {}
-
-#[cfg(test)]
-mod tests;

@@ -10,7 +10,9 @@
 //! - `frontier`: survivors of one region and of two, by few and many workers; the words that two rounds
 //!   leave.
 //! - `mark`: live bytes.
-//! - `choose`: costs at the limits, and each parameter in its place.
+//! - `choose`: costs at the limits, and each parameter in its place; what budgets buy, candidates by
+//!   efficiency, named lists.
+//! - `layout`: the places of survivors, and the regions that they need.
 //! - `copy`: the words of to-space.
 //! - `pause`: settings, the steps of a pause, and whole pauses, image against image, byte for byte, and
 //!   from stream to stream.
@@ -31,6 +33,8 @@ mod copy;
 mod frontier;
 #[cfg(test)]
 mod images;
+#[cfg(test)]
+mod layout;
 #[cfg(test)]
 mod mark;
 #[cfg(test)]

@@ -1,7 +1,7 @@
 use Rattle.std.proofs.Common.{Contains, ◌/◌, get_or, below_more, refl, ap, subst, ◌∙◌, arith}
 use Rattle.std.proofs.lemmas.List.{get_or_default}
 use Rattle.g1_words.specs.Heap.{region_of}
-use Rattle.g1_examples.proofs.tests.layout.are_in.Goals as goal
+use Rattle.g1_tests.proofs.layout.are_in.Goals as goal
 
 pub loop-a-preserved : goal.loop-a-preserved
 loop-a-preserved c =

@@ -1,2 +1,0 @@
-mod choosing;
-mod layout;
