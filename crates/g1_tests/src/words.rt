@@ -2,8 +2,20 @@ use g1_words::{
     Device, Fault, Geometry, Kind, Object, Place, Stand, card_of, header, region_of, slots_of,
 };
 use std::alloc::Global;
+use std::fmt::Display;
 use std::process::Abort;
 use std::test::Fail;
+
+fn expect_text<T: Abort, D: Display>(
+    rt: &T,
+    alloc: Global,
+    value: &D,
+    text: &str,
+) -> Result<(), Fail> {
+    let told = format!(in alloc; "{value}")?;
+    assert_eq!(rt; told.as_str(), text);
+    Ok(())
+}
 
 fn expect_told<T: Abort>(
     rt: &T,
@@ -12,10 +24,8 @@ fn expect_told<T: Abort>(
     number: u8,
     text: &str,
 ) -> Result<(), Fail> {
-    let told = format!(in alloc; "{fault}")?;
-    assert_eq!(rt; told.as_str(), text);
     assert_eq!(rt; fault.number(), number, "{text}");
-    Ok(())
+    expect_text(rt, alloc, &fault, text)
 }
 
 #[test]
@@ -57,6 +67,18 @@ fn each_fault_of_a_call_has_its_number_and_its_text(rt: HostRuntime) -> Result<(
     Ok(())
 }
 
+fn expect_kind<T: Abort>(
+    rt: &T,
+    alloc: Global,
+    kind: Kind,
+    number: u32,
+    text: &str,
+) -> Result<(), Fail> {
+    assert_eq!(rt; kind.number(), number, "{text}");
+    assert!(rt; Kind::of_number(number) == Some(kind), "{text}");
+    expect_text(rt, alloc, &kind, text)
+}
+
 #[test]
 fn each_kind_has_its_number_and_its_text(rt: HostRuntime) -> Result<(), Fail> {
     let kinds = [
@@ -66,10 +88,7 @@ fn each_kind_has_its_number_and_its_text(rt: HostRuntime) -> Result<(), Fail> {
         (Kind::Continuation, 3, "continuation"),
     ];
     for (kind, number, text) in kinds {
-        let told = format!(in rt.alloc(); "{kind}")?;
-        assert_eq!(rt; told.as_str(), text);
-        assert_eq!(rt; kind.number(), number, "{text}");
-        assert!(rt; Kind::of_number(number) == Some(kind), "{text}");
+        expect_kind(&rt, rt.alloc(), kind, number, text)?;
     }
     assert!(rt; Kind::of_number(4).is_none());
     Ok(())
@@ -117,6 +136,11 @@ fn addresses_by_division(rt: HostRuntime) -> Result<(), Fail> {
         assert_eq!(rt; region_of(&geometry, address), region);
         assert_eq!(rt; card_of(&geometry, address), card);
     }
+    Ok(())
+}
+
+#[test]
+fn an_object_by_its_header(rt: HostRuntime) {
     let object = Object {
         at: 16,
         size: 5,
@@ -131,17 +155,22 @@ fn addresses_by_division(rt: HostRuntime) -> Result<(), Fail> {
             refs: 3
         }
     );
+}
+
+#[test]
+fn starts_of_regions(rt: HostRuntime) -> Result<(), Fail> {
+    let geometry = Geometry::new(32, 8, 6)?;
+    assert_eq!(rt; geometry.words(), 192);
+    for (region, start) in [(0, 0), (1, 32), (5, 160)] {
+        assert_eq!(rt; geometry.start(region), start);
+    }
     Ok(())
 }
 
 #[test]
-fn addresses_by_multiplication(rt: HostRuntime) -> Result<(), Fail> {
+fn starts_of_cards(rt: HostRuntime) -> Result<(), Fail> {
     let geometry = Geometry::new(32, 8, 6)?;
-    assert_eq!(rt; geometry.words(), 192);
     assert_eq!(rt; geometry.cards(), 24);
-    for (region, start) in [(0, 0), (1, 32), (5, 160)] {
-        assert_eq!(rt; geometry.start(region), start);
-    }
     for (card, start, region) in [(0, 0, 0), (3, 24, 0), (4, 32, 1), (23, 184, 5)] {
         assert_eq!(rt; geometry.card_start(card), start);
         assert_eq!(rt; geometry.region_of_card(card), region);
