@@ -1,3 +1,5 @@
+ghost use Rattle.g1_work.specs.Team.{AreWorkers};
+
 use g1_choose::Cost;
 use g1_trace::{Command, Mutator, Reply, parse_trace, run_text, run_trace};
 use g1_words::{Fault, Geometry};
@@ -123,24 +125,54 @@ fn line_of(alloc: Global, reply: Reply) -> Result<String, AllocError> {
     }
 }
 
+// Replies as their lines.
+fn lines_of(alloc: Global, replies: &[Reply]) -> Result<Vec<u8>, AllocError> {
+    let mut lines = Vec::new(alloc);
+    for reply in replies {
+        let line = line_of(alloc, *reply)?;
+        lines.extend_from_slice(line.as_bytes())?;
+    }
+    Ok(lines)
+}
+
+// The lines that a trace tells which is parsed before it is run.
+fn told_when_parsed<T: Threads + Sync>(
+    rt: &T,
+    alloc: Global,
+    text: &[u8],
+    workers: u64,
+) -> Result<Vec<u8>, Fault>
+    requires { AreWorkers workers }
+{
+    let trace = parse_trace(alloc, text)?;
+    let run = run_trace(rt, alloc, &trace, &COST, workers, 1, &Open)?;
+    Ok(lines_of(alloc, &run)?)
+}
+
+fn expect_lines<T: Threads + Abort + Sync>(
+    rt: &T,
+    alloc: Global,
+    text: &[u8],
+    lines: &[u8],
+    workers: u64,
+) -> Result<(), Fail>
+    requires { AreWorkers workers }
+{
+    let told = told_when_parsed(rt, alloc, text, workers)?;
+    assert_eq!(rt; told.as_slice(), lines, "{workers} workers");
+    let told = run_text(rt, alloc, text, &COST, workers, 1, &Open)?;
+    assert_eq!(rt; told.as_slice(), lines, "{workers} workers");
+    Ok(())
+}
+
 fn expect_replies<T: Threads + Abort + Sync>(
     rt: &T,
     alloc: Global,
     marked: &str,
 ) -> Result<(), Fail> {
     let (text, replies) = unmarked(alloc, marked)?;
-    let trace = parse_trace(alloc, text.as_bytes())?;
-    for workers in [1, 8] {
-        let run = run_trace(rt, alloc, &trace, &COST, workers, 1, &Open)?;
-        let mut told = Vec::new(alloc);
-        for reply in &run {
-            told.extend_from_slice(line_of(alloc, *reply)?.as_bytes())?;
-        }
-        assert_eq!(rt; told.as_slice(), replies.as_slice(), "{workers} workers");
-        let told = run_text(rt, alloc, text.as_bytes(), &COST, workers, 1, &Open)?;
-        assert_eq!(rt; told.as_slice(), replies.as_slice(), "{workers} workers");
-    }
-    Ok(())
+    expect_lines(rt, alloc, text.as_bytes(), &replies, 1)?;
+    expect_lines(rt, alloc, text.as_bytes(), &replies, 8)
 }
 
 #[test]
@@ -278,37 +310,56 @@ fn sizes_are_judged_when_every_line_is_read(rt: HostRuntime) -> Result<(), Fail>
 }
 
 // A line that was spoiled in one way.
-fn spoiled(alloc: Global, line: &str, way: u32) -> Result<String, Fail> {
+fn spoiled(alloc: Global, line: &str, way: u32) -> Result<String, AllocError> {
     let (name, numbers) = line.split_once(' ').unwrap_or((line, ""));
-    Ok(match way {
-        0 => format!(in alloc; "{line} \n")?,
-        1 => format!(in alloc; " {line}\n")?,
-        2 => format!(in alloc; "{name}  {numbers}\n")?,
-        3 => format!(in alloc; "{name} +{numbers}\n")?,
-        4 => format!(in alloc; "{name} 0{numbers}\n")?,
-        5 => format!(in alloc; "{line} 0\n")?,
-        6 => format!(in alloc; "{line}\r\n")?,
-        7 => format!(in alloc; "{line}")?,
-        _ => format!(in alloc; "heap 16 4 4 3\n")?,
-    })
+    match way {
+        0 => format!(in alloc; "{line} \n"),
+        1 => format!(in alloc; " {line}\n"),
+        2 => format!(in alloc; "{name}  {numbers}\n"),
+        3 => format!(in alloc; "{name} +{numbers}\n"),
+        4 => format!(in alloc; "{name} 0{numbers}\n"),
+        5 => format!(in alloc; "{line} 0\n"),
+        6 => format!(in alloc; "{line}\r\n"),
+        7 => format!(in alloc; "{line}"),
+        _ => format!(in alloc; "heap 16 4 4 3\n"),
+    }
 }
 
-#[test]
-fn each_spoiled_line_is_told(rt: HostRuntime) -> Result<(), Fail> {
-    let alloc = rt.alloc();
-    let (text, _) = unmarked(alloc, CYCLE)?;
-    let mut before = String::new(alloc);
-    for (i, line) in text.as_str().trim_end_matches('\n').split('\n').enumerate() {
-        for way in 0..9 {
-            if i == 0 && way == 8 {
-                continue;
-            }
-            let spoiled = spoiled(alloc, line, way)?;
-            let text = format!(in alloc; "{before}{spoiled}")?;
-            expect_fault(&rt, alloc, text.as_bytes(), Fault::Line(i as u64 + 1))?;
+// The line after these has to be told, in whatever way it is spoiled.
+fn expect_spoiled<T: Threads + Abort + Sync>(
+    rt: &T,
+    alloc: Global,
+    before: &str,
+    line: &str,
+    number: u64,
+) -> Result<(), Fail> {
+    for way in 0..9 {
+        if number == 1 && way == 8 {
+            continue;
         }
+        let spoiled = spoiled(alloc, line, way)?;
+        let text = format!(in alloc; "{before}{spoiled}")?;
+        expect_fault(rt, alloc, text.as_bytes(), Fault::Line(number))?;
+    }
+    Ok(())
+}
+
+fn expect_each_spoiled<T: Threads + Abort + Sync>(
+    rt: &T,
+    alloc: Global,
+    text: &str,
+) -> Result<(), Fail> {
+    let mut before = String::new(alloc);
+    for (i, line) in text.trim_end_matches('\n').split('\n').enumerate() {
+        expect_spoiled(rt, alloc, &before, line, i as u64 + 1)?;
         before.push_str(line)?;
         before.push_str("\n")?;
     }
     Ok(())
+}
+
+#[test]
+fn each_spoiled_line_is_told(rt: HostRuntime) -> Result<(), Fail> {
+    let (text, _) = unmarked(rt.alloc(), CYCLE)?;
+    expect_each_spoiled(&rt, rt.alloc(), &text)
 }
