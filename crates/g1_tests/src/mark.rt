@@ -1,3 +1,5 @@
+ghost use Rattle.g1_work.specs.Team.{AreWorkers, IsChunk};
+
 use g1_mark::live_bytes;
 use g1_rem::Starts;
 use g1_testing::image;
@@ -9,6 +11,23 @@ use std::sync::atomic::{AtomicBool, Ordering};
 use std::test::Fail;
 use std::thread::Threads;
 
+/// The live bytes of the regions of an image.
+fn live_bytes_of<R: Threads + Sync, G: Gate + Sync>(
+    rt: &R,
+    alloc: Global,
+    lines: &str,
+    workers: u64,
+    chunk: u64,
+    gate: &G,
+) -> Result<Vec<u64>, Fault>
+    requires workers { AreWorkers workers }
+    requires chunk { IsChunk chunk }
+{
+    let image = image(alloc, lines)?;
+    let starts = Starts::build(alloc, image.heap())?;
+    live_bytes(rt, alloc, image.heap(), &starts, workers, chunk, gate)
+}
+
 /// Tells whether these are the live bytes, for few and many workers and for small and large chunks.
 fn are_live_bytes<R: Threads + Sync>(
     rt: &R,
@@ -16,15 +35,13 @@ fn are_live_bytes<R: Threads + Sync>(
     lines: &str,
     expected: &[u64],
 ) -> Result<bool, Fault> {
-    let image = image(alloc, lines)?;
-    let heap = image.heap();
-    let starts = Starts::build(alloc, heap)?;
-    let one = live_bytes(rt, alloc, heap, &starts, 1, 1, &Open)?;
-    let one_large = live_bytes(rt, alloc, heap, &starts, 1, 65_536, &Open)?;
-    let eight = live_bytes(rt, alloc, heap, &starts, 8, 1, &Open)?;
-    let eight_large = live_bytes(rt, alloc, heap, &starts, 8, 65_536, &Open)?;
-    let equal = one == one_large && one == eight && one == eight_large;
-    Ok(equal && one.as_slice() == expected)
+    for (workers, chunk) in [(1, 1), (1, 65_536), (8, 1), (8, 65_536)] {
+        let found = live_bytes_of(rt, alloc, lines, workers, chunk, &Open)?;
+        if found.as_slice() != expected {
+            return Ok(false);
+        }
+    }
+    Ok(true)
 }
 
 #[test]
@@ -79,9 +96,7 @@ fn together(rt: HostRuntime) -> Result<(), Fail> {
         one: AtomicBool::new(false),
         missed: AtomicBool::new(false),
     };
-    let image = image(rt.alloc(), shared())?;
-    let starts = Starts::build(rt.alloc(), image.heap())?;
-    let bytes = live_bytes(&rt, rt.alloc(), image.heap(), &starts, 2, 1, &gate)?;
+    let bytes = live_bytes_of(&rt, rt.alloc(), shared(), 2, 1, &gate)?;
     assert_eq!(rt; bytes.as_slice(), [0, 56, 0, 0].as_slice());
     assert!(rt; gate.zero.load(Ordering::SeqCst) && gate.one.load(Ordering::SeqCst));
     assert!(rt; !gate.missed.load(Ordering::SeqCst));
