@@ -5,20 +5,29 @@ ghost use Rattle.g1_work.specs.Dealer.{IsSeatOf};
 use g1_words::Fault;
 use g1_work::{DealSeat, Dealer, Gate, Open, Part, Task, each_chunk, shares};
 use std::alloc::{AllocError, Global};
+use std::process::Abort;
 use std::sync::Wait;
 use std::sync::atomic::{AtomicBool, AtomicU64, Ordering};
 use std::test::Fail;
 use std::thread;
 use std::thread::{Promise, Threads};
 
+fn expect_draw<T: Abort>(rt: &T, dealer: &Dealer, seat: &mut DealSeat, expected: Option<u64>)
+    requires { IsSeatOf dealer.now seat.old }
+    ensures seat { IsSeatOf dealer.now seat.new }
+    ensures shares { seat.new.shares ≡ seat.old.shares }
+{
+    assert_eq!(rt; dealer.take(seat), expected);
+}
+
 #[test]
 fn one_seat_draws_each_number_and_then_none(rt: HostRuntime) -> Result<(), Fail> {
     let (dealer, mut seat) = Dealer::new(rt.alloc(), 3)?;
-    assert_eq!(rt; dealer.take(&mut seat), Some(0));
-    assert_eq!(rt; dealer.take(&mut seat), Some(1));
-    assert_eq!(rt; dealer.take(&mut seat), Some(2));
-    assert_eq!(rt; dealer.take(&mut seat), None);
-    assert_eq!(rt; dealer.take(&mut seat), None);
+    expect_draw(&rt, &dealer, &mut seat, Some(0));
+    expect_draw(&rt, &dealer, &mut seat, Some(1));
+    expect_draw(&rt, &dealer, &mut seat, Some(2));
+    expect_draw(&rt, &dealer, &mut seat, None);
+    expect_draw(&rt, &dealer, &mut seat, None);
     assert_eq!(rt; dealer.close(seat), 4);
     Ok(())
 }
@@ -28,7 +37,7 @@ fn another_seat_sees_a_draw(rt: HostRuntime) -> Result<(), Fail> {
     let (dealer, mut seat) = Dealer::new(rt.alloc(), 3)?;
     let mut other = dealer.split(&mut seat);
     assert_eq!(rt; (shares(&seat), shares(&other)), (63, 1));
-    assert_eq!(rt; dealer.take(&mut seat), Some(0));
+    expect_draw(&rt, &dealer, &mut seat, Some(0));
     assert_eq!(rt; dealer.drawn(&mut other), 1);
     dealer.join(&mut seat, other);
     assert_eq!(rt; shares(&seat), 64);
@@ -61,8 +70,9 @@ impl<'a> Promise<Result<Drawn, AllocError>> for OneShareOf<'a> {
     ghost kept_by = { λ p r. IfOk r (λ d. IsSeatOf p.0.now d.seat × (d.seat.shares ≡ 1)) };
 }
 
-type Two = (Drawn, Drawn);
+type Two = (Result<Drawn, AllocError>, Result<Drawn, AllocError>);
 
+// What each of four threads drew, if it had room for it.
 fn by_four<R: Threads + Wait>(
     rt: &R,
     alloc: Global,
@@ -76,10 +86,10 @@ fn by_four<R: Threads + Wait>(
     requires b { IsSeatOf dealer.now b × (b.shares ≡ 1) }
     requires c { IsSeatOf dealer.now c × (c.shares ≡ 1) }
     requires d { IsSeatOf dealer.now d × (d.shares ≡ 1) }
-    ensures a { IfOk result (λ r. IsSeatOf dealer.now r.0.0.seat × (r.0.0.seat.shares ≡ 1)) }
-    ensures b { IfOk result (λ r. IsSeatOf dealer.now r.0.1.seat × (r.0.1.seat.shares ≡ 1)) }
-    ensures c { IfOk result (λ r. IsSeatOf dealer.now r.1.0.seat × (r.1.0.seat.shares ≡ 1)) }
-    ensures d { IfOk result (λ r. IsSeatOf dealer.now r.1.1.seat × (r.1.1.seat.shares ≡ 1)) }
+    ensures a { IfOk result (λ r. IfOk r.0.0 (λ d. IsSeatOf dealer.now d.seat × (d.seat.shares ≡ 1))) }
+    ensures b { IfOk result (λ r. IfOk r.0.1 (λ d. IsSeatOf dealer.now d.seat × (d.seat.shares ≡ 1))) }
+    ensures c { IfOk result (λ r. IfOk r.1.0 (λ d. IsSeatOf dealer.now d.seat × (d.seat.shares ≡ 1))) }
+    ensures d { IfOk result (λ r. IfOk r.1.1 (λ d. IsSeatOf dealer.now d.seat × (d.seat.shares ≡ 1))) }
 {
     thread::scope(
         thread::scope_env(),
@@ -89,42 +99,76 @@ fn by_four<R: Threads + Wait>(
             requires b { IsSeatOf dealer.now b × (b.shares ≡ 1) }
             requires c { IsSeatOf dealer.now c × (c.shares ≡ 1) }
             requires d { IsSeatOf dealer.now d × (d.shares ≡ 1) }
-            ensures a { IfOk result (λ r. IsSeatOf dealer.entry.now r.0.0.seat × (r.0.0.seat.shares ≡ 1)) }
-            ensures b { IfOk result (λ r. IsSeatOf dealer.entry.now r.0.1.seat × (r.0.1.seat.shares ≡ 1)) }
-            ensures c { IfOk result (λ r. IsSeatOf dealer.entry.now r.1.0.seat × (r.1.0.seat.shares ≡ 1)) }
-            ensures d { IfOk result (λ r. IsSeatOf dealer.entry.now r.1.1.seat × (r.1.1.seat.shares ≡ 1)) }
+            ensures a { IfOk result (λ r. IfOk r.0.0 (λ d. IsSeatOf dealer.entry.now d.seat × (d.seat.shares ≡ 1))) }
+            ensures b { IfOk result (λ r. IfOk r.0.1 (λ d. IsSeatOf dealer.entry.now d.seat × (d.seat.shares ≡ 1))) }
+            ensures c { IfOk result (λ r. IfOk r.1.0 (λ d. IsSeatOf dealer.entry.now d.seat × (d.seat.shares ≡ 1))) }
+            ensures d { IfOk result (λ r. IfOk r.1.1 (λ d. IsSeatOf dealer.entry.now d.seat × (d.seat.shares ≡ 1))) }
         {
             let a = scope.spawn_with(OneShareOf(dealer), move || draw_all(alloc, dealer, a))?;
             let b = scope.spawn_with(OneShareOf(dealer), move || draw_all(alloc, dealer, b))?;
             let c = scope.spawn_with(OneShareOf(dealer), move || draw_all(alloc, dealer, c))?;
             let d = scope.spawn_with(OneShareOf(dealer), move || draw_all(alloc, dealer, d))?;
-            Ok(((a.join(rt)?, b.join(rt)?), (c.join(rt)?, d.join(rt)?)))
+            Ok(((a.join(rt), b.join(rt)), (c.join(rt), d.join(rt))))
         },
     )
+}
+
+// Gives a thread's seat back, and adds the numbers that it drew.
+fn gather(
+    dealer: &Dealer,
+    seat: &mut DealSeat,
+    all: &mut Vec<u64>,
+    drawn: Result<Drawn, AllocError>,
+) -> Result<(), AllocError>
+    requires seat { IsSeatOf dealer.now seat.old }
+    requires drawn { IfOk drawn (λ d. IsSeatOf dealer.now d.seat × (d.seat.shares ≡ 1)) }
+    ensures seat { IfOk result (λ _. IsSeatOf dealer.now seat.new) }
+    ensures shares { IfOk result (λ _. seat.new.shares ≡ seat.old.shares + 1) }
+{
+    let mut drawn = drawn?;
+    dealer.join(seat, drawn.seat);
+    all.append(&mut drawn.numbers)
+}
+
+// The numbers that four threads draw.
+fn all_drawn<R: Threads + Wait>(
+    rt: &R,
+    alloc: Global,
+    dealer: &Dealer,
+    seat: &mut DealSeat,
+) -> Result<Vec<u64>, AllocError>
+    requires seat { IsSeatOf dealer.now seat.old }
+    requires whole { seat.old.shares ≡ 64 }
+    ensures seat { IfOk result (λ _. IsSeatOf dealer.now seat.new) }
+    ensures whole { IfOk result (λ _. seat.new.shares ≡ 64) }
+{
+    let a = dealer.split(seat);
+    let b = dealer.split(seat);
+    let c = dealer.split(seat);
+    let d = dealer.split(seat);
+    let ((a, b), (c, d)) = by_four(rt, alloc, dealer, a, b, c, d)?;
+    let mut all = Vec::new(alloc);
+    gather(dealer, seat, &mut all, a)?;
+    gather(dealer, seat, &mut all, b)?;
+    gather(dealer, seat, &mut all, c)?;
+    gather(dealer, seat, &mut all, d)?;
+    Ok(all)
+}
+
+fn expect_each_below<T: Abort>(rt: &T, numbers: &[u64], count: usize) {
+    assert_eq!(rt; numbers.len(), count);
+    for (index, number) in numbers.iter().enumerate() {
+        assert_eq!(rt; *number, index as u64);
+    }
 }
 
 #[test]
 fn four_threads_draw_each_number_once(rt: HostRuntime) -> Result<(), Fail> {
     let (dealer, mut seat) = Dealer::new(rt.alloc(), 1000)?;
-    let a = dealer.split(&mut seat);
-    let b = dealer.split(&mut seat);
-    let c = dealer.split(&mut seat);
-    let d = dealer.split(&mut seat);
-    let ((a, b), (c, d)) = by_four(&rt, rt.alloc(), &dealer, a, b, c, d)?;
-    dealer.join(&mut seat, a.seat);
-    dealer.join(&mut seat, b.seat);
-    dealer.join(&mut seat, c.seat);
-    dealer.join(&mut seat, d.seat);
+    let mut all = all_drawn(&rt, rt.alloc(), &dealer, &mut seat)?;
     assert_eq!(rt; dealer.close(seat), 1004);
-    let mut all = Vec::new(rt.alloc());
-    for mut numbers in [a.numbers, b.numbers, c.numbers, d.numbers] {
-        all.append(&mut numbers)?;
-    }
     all.sort_unstable();
-    assert_eq!(rt; all.len(), 1000);
-    for (index, number) in all.iter().enumerate() {
-        assert_eq!(rt; *number, index as u64);
-    }
+    expect_each_below(&rt, &all, 1000);
     Ok(())
 }
 
@@ -149,11 +193,12 @@ impl Task for Squares {
 }
 
 // The squares of the chunks, as the contract of `each_chunk` alone gives them.
-fn squared_chunks<R: Threads + Sync>(
+fn squared_chunks<R: Threads + Sync, G: Gate + Sync>(
     rt: &R,
     alloc: Global,
     workers: usize,
     chunks: u64,
+    gate: &G,
 ) -> Result<(Vec<u64>, Vec<u64>), Fault>
     requires chunks { chunks < 2 ^ 32 }
     requires workers { (0 < workers) × (workers ≤ 64) }
@@ -161,12 +206,12 @@ fn squared_chunks<R: Threads + Sync>(
     ensures squares { IfOk result (λ v. (k : ℕ) → k < chunks → slice_index v.1.items k ≡ k * k) }
 {
     let states = vec![in alloc; 0; workers]?;
-    let (states, outs) = each_chunk(rt, alloc, states, chunks, &Squares, &Open)?;
+    let (states, outs) = each_chunk(rt, alloc, states, chunks, &Squares, gate)?;
     Ok((states, outs))
 }
 
 // The states are as many as the workers, one of them saw the last chunk, and the outs are squares.
-fn has_squares(states: &[u64], outs: &[u64], workers: usize, chunks: u64) -> bool {
+fn are_squares(states: &[u64], outs: &[u64], workers: usize, chunks: u64) -> bool {
     let mut right = states.len() == workers && outs.len() as u64 == chunks;
     right &= states.iter().max().copied() == Some(chunks);
     for (index, out) in outs.iter().enumerate() {
@@ -175,18 +220,26 @@ fn has_squares(states: &[u64], outs: &[u64], workers: usize, chunks: u64) -> boo
     right
 }
 
+fn has_squares<R: Threads + Sync>(
+    rt: &R,
+    alloc: Global,
+    workers: usize,
+    chunks: u64,
+) -> Result<bool, Fault>
+    requires chunks { chunks < 2 ^ 32 }
+    requires workers { (0 < workers) × (workers ≤ 64) }
+{
+    let (states, outs) = squared_chunks(rt, alloc, workers, chunks, &Open)?;
+    Ok(are_squares(&states, &outs, workers, chunks))
+}
+
 #[test]
 fn outs_stand_in_the_order_of_chunks(rt: HostRuntime) -> Result<(), Fail> {
-    let (states, outs) = squared_chunks(&rt, rt.alloc(), 1, 100)?;
-    assert!(rt; has_squares(states.as_slice(), outs.as_slice(), 1, 100));
-    let (states, outs) = squared_chunks(&rt, rt.alloc(), 3, 100)?;
-    assert!(rt; has_squares(states.as_slice(), outs.as_slice(), 3, 100));
-    let (states, outs) = squared_chunks(&rt, rt.alloc(), 64, 100)?;
-    assert!(rt; has_squares(states.as_slice(), outs.as_slice(), 64, 100));
-    let (states, outs) = squared_chunks(&rt, rt.alloc(), 64, 1)?;
-    assert!(rt; has_squares(states.as_slice(), outs.as_slice(), 64, 1));
-    let (states, outs) = squared_chunks(&rt, rt.alloc(), 3, 0)?;
-    assert!(rt; has_squares(states.as_slice(), outs.as_slice(), 3, 0));
+    assert!(rt; has_squares(&rt, rt.alloc(), 1, 100)?);
+    assert!(rt; has_squares(&rt, rt.alloc(), 3, 100)?);
+    assert!(rt; has_squares(&rt, rt.alloc(), 64, 100)?);
+    assert!(rt; has_squares(&rt, rt.alloc(), 64, 1)?);
+    assert!(rt; has_squares(&rt, rt.alloc(), 3, 0)?);
     Ok(())
 }
 
@@ -241,11 +294,9 @@ fn the_gate_is_told_of_each_chunk_once(rt: HostRuntime) -> Result<(), Fail> {
     let gate = Counting {
         calls: AtomicU64::new(0),
     };
-    let states = vec![in rt.alloc(); 0; 3]?;
-    each_chunk(&rt, rt.alloc(), states, 8, &Squares, &gate)?;
+    squared_chunks(&rt, rt.alloc(), 3, 8, &gate)?;
     assert_eq!(rt; gate.calls.load(Ordering::SeqCst), 0x0101_0101_0101_0101);
-    let states = vec![in rt.alloc(); 0; 3]?;
-    each_chunk(&rt, rt.alloc(), states, 1, &Squares, &gate)?;
+    squared_chunks(&rt, rt.alloc(), 3, 1, &gate)?;
     assert_eq!(rt; gate.calls.load(Ordering::SeqCst), 0x0101_0101_0101_0102);
     Ok(())
 }
@@ -291,8 +342,7 @@ fn together(rt: HostRuntime) -> Result<(), Fail> {
         called: AtomicU64::new(0),
         missed: AtomicBool::new(false),
     };
-    let states = vec![in rt.alloc(); 0; 2]?;
-    let (_, outs) = each_chunk(&rt, rt.alloc(), states, 8, &Squares, &gate)?;
+    let (_, outs) = squared_chunks(&rt, rt.alloc(), 2, 8, &gate)?;
     assert!(rt; !gate.missed.load(Ordering::SeqCst), "a gate gave up");
     assert_eq!(rt; outs.as_slice(), [0, 1, 4, 9, 16, 25, 36, 49].as_slice());
     Ok(())
