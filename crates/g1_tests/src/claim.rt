@@ -1,22 +1,44 @@
-ghost use Rattle.std.specs.Prelude.{◌≡◌, ◌<◌, ◌≤◌, IfOk};
+ghost use Rattle.std.specs.Prelude.{◌≡◌, ◌<◌, ◌≤◌, ◌^◌, IfOk};
 ghost use Rattle.g1_claim.specs.Claims.{IsSeatOf};
 
 use g1_claim::{ClaimSeat, Claims, EMPTY, shares};
 use std::alloc::AllocError;
+use std::process::Abort;
 use std::sync::Wait;
 use std::test::Fail;
 use std::thread;
 use std::thread::{Promise, Threads};
 
+// The word of the first place.
+fn expect_least<T: Abort>(rt: &T, claims: &Claims, seat: &mut ClaimSeat, word: u64)
+    requires seat { IsSeatOf claims.now seat.old }
+    requires place { 0 < claims.now.places }
+    ensures seat { IsSeatOf claims.now seat.new }
+    ensures shares { seat.new.hand.shares ≡ seat.old.hand.shares }
+{
+    assert_eq!(rt; claims.least(seat, 0), word);
+}
+
+// Whether a rank lowers the word of the first place.
+fn expect_offer<T: Abort>(rt: &T, claims: &Claims, seat: &mut ClaimSeat, rank: u64, lowers: bool)
+    requires seat { IsSeatOf claims.now seat.old }
+    requires place { 0 < claims.now.places }
+    requires rank { rank < 2 ^ 32 }
+    ensures seat { IsSeatOf claims.now seat.new }
+    ensures shares { seat.new.hand.shares ≡ seat.old.hand.shares }
+{
+    assert_eq!(rt; claims.offer(seat, 0, rank), lowers);
+}
+
 #[test]
 fn a_word_falls_to_the_least_rank(rt: HostRuntime) -> Result<(), Fail> {
     let (claims, mut seat) = Claims::new(rt.alloc(), 1)?;
-    assert_eq!(rt; claims.least(&mut seat, 0), EMPTY);
-    assert!(rt; claims.offer(&mut seat, 0, 9));
-    assert!(rt; !claims.offer(&mut seat, 0, 9));
-    assert!(rt; !claims.offer(&mut seat, 0, 12));
-    assert!(rt; claims.offer(&mut seat, 0, 4));
-    assert_eq!(rt; claims.least(&mut seat, 0), 4);
+    expect_least(&rt, &claims, &mut seat, EMPTY);
+    expect_offer(&rt, &claims, &mut seat, 9, true);
+    expect_offer(&rt, &claims, &mut seat, 9, false);
+    expect_offer(&rt, &claims, &mut seat, 12, false);
+    expect_offer(&rt, &claims, &mut seat, 4, true);
+    expect_least(&rt, &claims, &mut seat, 4);
     assert_eq!(rt; claims.close(seat).as_slice(), [4].as_slice());
     Ok(())
 }
@@ -26,8 +48,8 @@ fn another_seat_sees_an_offer(rt: HostRuntime) -> Result<(), Fail> {
     let (claims, mut seat) = Claims::new(rt.alloc(), 2)?;
     let mut other = claims.split(&mut seat);
     assert_eq!(rt; (shares(&seat), shares(&other)), (63, 1));
-    assert!(rt; claims.offer(&mut seat, 0, 4));
-    assert_eq!(rt; claims.least(&mut other, 0), 4);
+    expect_offer(&rt, &claims, &mut seat, 4, true);
+    expect_least(&rt, &claims, &mut other, 4);
     claims.join(&mut seat, other);
     assert_eq!(rt; shares(&seat), 64);
     assert_eq!(rt; claims.close(seat).as_slice(), [4, EMPTY].as_slice());
@@ -107,18 +129,34 @@ fn by_four<R: Threads + Wait>(
     )
 }
 
+// Four threads offer from the seats that are split off this one, and give them back.
+fn offer_by_four<R: Threads + Wait>(
+    rt: &R,
+    claims: &Claims,
+    seat: &mut ClaimSeat,
+) -> Result<(), AllocError>
+    requires seat { IsSeatOf claims.now seat.old }
+    requires whole { seat.old.hand.shares ≡ 64 }
+    requires place { 0 < claims.now.places }
+    ensures seat { IfOk result (λ _. IsSeatOf claims.now seat.new) }
+    ensures whole { IfOk result (λ _. seat.new.hand.shares ≡ 64) }
+{
+    let a = claims.split(seat);
+    let b = claims.split(seat);
+    let c = claims.split(seat);
+    let d = claims.split(seat);
+    let ((a, b), (c, d)) = by_four(rt, claims, a, b, c, d)?;
+    claims.join(seat, a);
+    claims.join(seat, b);
+    claims.join(seat, c);
+    claims.join(seat, d);
+    Ok(())
+}
+
 #[test]
 fn four_threads_offer_at_one_place(rt: HostRuntime) -> Result<(), Fail> {
     let (claims, mut seat) = Claims::new(rt.alloc(), 1)?;
-    let a = claims.split(&mut seat);
-    let b = claims.split(&mut seat);
-    let c = claims.split(&mut seat);
-    let d = claims.split(&mut seat);
-    let ((a, b), (c, d)) = by_four(&rt, &claims, a, b, c, d)?;
-    claims.join(&mut seat, a);
-    claims.join(&mut seat, b);
-    claims.join(&mut seat, c);
-    claims.join(&mut seat, d);
+    offer_by_four(&rt, &claims, &mut seat)?;
     assert_eq!(rt; claims.close(seat).as_slice(), [0].as_slice());
     Ok(())
 }
