@@ -1,21 +1,31 @@
 use g1_same::{Difference, compare};
 use g1_testing::image;
-use g1_words::Fault;
-use std::alloc::Global;
+use g1_words::{Fault, Heap};
+use std::alloc::{AllocError, Global};
 use std::process::Abort;
 use std::test::Fail;
 
+/// A difference as a line.
+fn line_of(alloc: Global, difference: &Difference) -> Result<String, AllocError> {
+    match difference {
+        Difference::Roots { before, after } => format!(in alloc; "roots {before} {after}"),
+        Difference::At { root, slots, how } => format!(in alloc; "{root} {slots:?} {how:?}"),
+    }
+}
+
+/// What `compare` tells of two heaps, as a line.
+fn told(alloc: Global, before: &Heap, after: &Heap) -> Result<String, Fault> {
+    match compare(alloc, before, after)? {
+        Ok(same) => Ok(format!(in alloc; "{:?} {:?}", same.before, same.after)?),
+        Err(difference) => Ok(line_of(alloc, &difference)?),
+    }
+}
+
 /// What `compare` tells of the images that the lines draw, as a line.
-fn told(alloc: Global, before: &str, after: &str) -> Result<String, Fault> {
+fn told_of(alloc: Global, before: &str, after: &str) -> Result<String, Fault> {
     let before = image(alloc, before)?;
     let after = image(alloc, after)?;
-    Ok(match compare(alloc, before.heap(), after.heap())? {
-        Ok(same) => format!(in alloc; "{:?} {:?}", same.before, same.after)?,
-        Err(Difference::Roots { before, after }) => format!(in alloc; "roots {before} {after}")?,
-        Err(Difference::At { root, slots, how }) => {
-            format!(in alloc; "{root} {slots:?} {how:?}")?
-        }
-    })
+    told(alloc, before.heap(), after.heap())
 }
 
 /// Sees that `compare` tells this line.
@@ -26,7 +36,7 @@ fn expect<T: Abort>(
     after: &str,
     line: &str,
 ) -> Result<(), Fault> {
-    let found = told(alloc, before, after)?;
+    let found = told_of(alloc, before, after)?;
     assert_eq!(rt; found.as_str(), line);
     Ok(())
 }
