@@ -4,6 +4,7 @@ use g1_testing::pictures::{humongous, one_object, three_regions};
 use g1_testing::{Stream, Trouble, image, text};
 use g1_words::{Device, Fault};
 use std::alloc::Global;
+use std::process::Abort;
 use std::test::Fail;
 
 // What stands in a writer with this trouble, and what is told.
@@ -25,14 +26,40 @@ fn again(alloc: Global, bytes: &[u8]) -> Result<Vec<u8>, Fault> {
     Ok(sink.into_inner())
 }
 
+// Sees that these bytes stand in a writer with this trouble, and what is told.
+fn expect_written<T: Abort>(
+    rt: &T,
+    alloc: Global,
+    image: &Image,
+    trouble_at: usize,
+    trouble: Trouble,
+    bytes: &[u8],
+    told: Result<(), Fault>,
+) {
+    let (found, answer) = written(alloc, image, trouble_at, trouble);
+    assert!(rt; answer == told, "{trouble_at}");
+    assert_eq!(rt; found.as_slice(), bytes, "{trouble_at}");
+}
+
+fn expect_text<T: Abort>(rt: &T, alloc: Global, lines: &str) -> Result<(), Fault> {
+    let before = image(alloc, lines)?;
+    let whole = text(alloc, lines)?;
+    expect_written(
+        rt,
+        alloc,
+        &before,
+        usize::MAX,
+        Trouble::Broken,
+        &whole,
+        Ok(()),
+    );
+    Ok(())
+}
+
 #[test]
 fn texts_pass_one_byte_at_a_time(rt: HostRuntime) -> Result<(), Fail> {
-    let alloc = rt.alloc();
     for lines in [one_object(), humongous(), three_regions()] {
-        let before = image(alloc, lines)?;
-        let (bytes, told) = written(alloc, &before, usize::MAX, Trouble::Broken);
-        assert!(rt; told.is_ok(), "{lines}");
-        assert_eq!(rt; bytes.as_slice(), text(alloc, lines)?.as_slice(), "{lines}");
+        expect_text(&rt, rt.alloc(), lines)?;
     }
     Ok(())
 }
@@ -59,17 +86,25 @@ fn a_long_front_goes_out_whole(rt: HostRuntime) -> Result<(), Fail> {
     Ok(())
 }
 
+// Sees that each call of a writer may have this trouble.
+fn expect_beginnings<T: Abort>(
+    rt: &T,
+    alloc: Global,
+    image: &Image,
+    whole: &[u8],
+    trouble: Trouble,
+) {
+    for left in 0..whole.len() {
+        let told = Err(Fault::Device(Device::Output));
+        expect_written(rt, alloc, image, left, trouble, &whole[..left], told);
+    }
+}
+
 #[test]
 fn a_write_that_fails_leaves_a_beginning(rt: HostRuntime) -> Result<(), Fail> {
-    let alloc = rt.alloc();
-    let before = image(alloc, one_object())?;
-    let whole = text(alloc, one_object())?;
-    for trouble in [Trouble::Broken, Trouble::Nothing] {
-        for left in 0..whole.len() {
-            let (bytes, told) = written(alloc, &before, left, trouble);
-            assert!(rt; told == Err(Fault::Device(Device::Output)), "{left}");
-            assert_eq!(rt; bytes.as_slice(), &whole[..left], "{left}");
-        }
-    }
+    let before = image(rt.alloc(), one_object())?;
+    let whole = text(rt.alloc(), one_object())?;
+    expect_beginnings(&rt, rt.alloc(), &before, &whole, Trouble::Broken);
+    expect_beginnings(&rt, rt.alloc(), &before, &whole, Trouble::Nothing);
     Ok(())
 }
