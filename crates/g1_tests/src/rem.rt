@@ -2,11 +2,14 @@ ghost use Rattle.std.specs.Prelude.{◌≡◌, IfSome};
 ghost use Rattle.g1_rem.specs.Slots.{slots_on};
 ghost use Rattle.g1_rem.specs.Starts.{IsStartsOf};
 
-use g1_rem::{Starts, image, leads_into, merged, refine, slots_on, verify};
+use crate::images::tracked;
+use g1_image::Image;
+use g1_rem::{Starts, Tracked, image, leads_into, merged, refine, slots_on, verify};
 use g1_testing::pictures::{dead_outside, humongous, logged, uncovered};
 use g1_words::{Fault, Heap};
 use smallvec::SmallVec;
 use std::alloc::Global;
+use std::process::Abort;
 use std::test::Fail;
 use std::thread::Threads;
 
@@ -60,11 +63,44 @@ fn are(remembered: &[Vec<u32>], cards: &[&[u32]; 4]) -> bool {
             .all(|(a, b)| a.as_slice() == *b)
 }
 
+/// Sees that these slots are on a card.
+fn expect_slots<T: Abort>(
+    rt: &T,
+    alloc: Global,
+    heap: &Heap,
+    starts: &Starts,
+    card: u32,
+    slots: &[u64],
+)
+    requires { IsStartsOf heap.now starts.now }
+{
+    let found = slots_at(alloc, heap, starts, card);
+    assert!(rt; found.is_some_and(|s| s.as_slice() == slots), "card {card}");
+}
+
+/// Tells whether every slot of an image is covered.
+fn is_covered(rt: &(impl Threads + Sync), alloc: Global, lines: &str) -> Result<bool, Fault> {
+    let read = g1_testing::image(alloc, lines)?;
+    Ok(verify(rt, alloc, read).is_ok())
+}
+
+/// Sees which object is over a card's first word.
+fn expect_first<T: Abort>(
+    rt: &T,
+    heap: &Heap,
+    starts: &Starts,
+    card: u32,
+    first: Option<Option<u32>>,
+)
+    requires { IsStartsOf heap.now starts.now }
+{
+    assert_eq!(rt; first_at(heap, starts, card), first, "card {card}");
+}
+
 #[test]
-fn slots_count_on_the_card_of_their_own_address(rt: HostRuntime) -> Result<(), Fail> {
-    let alloc = rt.alloc();
-    let read = g1_testing::image(alloc, dead_outside())?;
-    let starts = Starts::build(alloc, read.heap())?;
+fn an_object_counts_on_the_card_of_its_header(rt: HostRuntime) -> Result<(), Fail> {
+    let read = g1_testing::image(rt.alloc(), dead_outside())?;
+    let starts = Starts::build(rt.alloc(), read.heap())?;
     for card in 0..17 {
         let expected = match card {
             0 => Some(Some(0)),
@@ -73,38 +109,35 @@ fn slots_count_on_the_card_of_their_own_address(rt: HostRuntime) -> Result<(), F
             16 => None,
             _ => Some(None),
         };
-        let found = first_at(read.heap(), &starts, card);
-        assert_eq!(rt; found, expected, "card {card}");
+        expect_first(&rt, read.heap(), &starts, card, expected);
     }
-    for (card, slots) in [
-        (0, [2, 3].as_slice()),
-        (1, [4].as_slice()),
-        (2, [].as_slice()),
-        (4, [].as_slice()),
-    ] {
-        let found = slots_at(alloc, read.heap(), &starts, card);
-        assert!(rt; found.is_some_and(|s| s.as_slice() == slots), "card {card}");
-    }
-    assert!(rt; verify(&rt, alloc, read).is_ok());
+    Ok(())
+}
+
+#[test]
+fn slots_count_on_the_card_of_their_own_address(rt: HostRuntime) -> Result<(), Fail> {
+    let alloc = rt.alloc();
+    assert!(rt; is_covered(&rt, alloc, dead_outside())?);
+    let read = g1_testing::image(alloc, dead_outside())?;
+    let starts = Starts::build(alloc, read.heap())?;
+    expect_slots(&rt, alloc, read.heap(), &starts, 0, &[2, 3]);
+    expect_slots(&rt, alloc, read.heap(), &starts, 1, &[4]);
+    expect_slots(&rt, alloc, read.heap(), &starts, 2, &[]);
+    expect_slots(&rt, alloc, read.heap(), &starts, 4, &[]);
     Ok(())
 }
 
 #[test]
 fn a_humongous_object_has_slots_on_cards_of_its_later_regions(rt: HostRuntime) -> Result<(), Fail> {
     let alloc = rt.alloc();
+    assert!(rt; is_covered(&rt, alloc, humongous())?);
     let read = g1_testing::image(alloc, humongous())?;
     let starts = Starts::build(alloc, read.heap())?;
-    for (card, slots) in [
-        (0, [1, 2, 3].as_slice()),
-        (4, [16, 17, 18, 19].as_slice()),
-        (5, [20].as_slice()),
-        (6, [].as_slice()),
-        (10, [].as_slice()),
-    ] {
-        let found = slots_at(alloc, read.heap(), &starts, card);
-        assert!(rt; found.is_some_and(|s| s.as_slice() == slots), "card {card}");
-    }
-    assert!(rt; verify(&rt, alloc, read).is_ok());
+    expect_slots(&rt, alloc, read.heap(), &starts, 0, &[1, 2, 3]);
+    expect_slots(&rt, alloc, read.heap(), &starts, 4, &[16, 17, 18, 19]);
+    expect_slots(&rt, alloc, read.heap(), &starts, 5, &[20]);
+    expect_slots(&rt, alloc, read.heap(), &starts, 6, &[]);
+    expect_slots(&rt, alloc, read.heap(), &starts, 10, &[]);
     Ok(())
 }
 
@@ -118,16 +151,37 @@ fn leads_at(alloc: Global, heap: &Heap, starts: &Starts, region: u32, card: u32)
     Some(leads_into(alloc, heap, starts, region, card))
 }
 
+/// Sees whether a slot on a card leads into a region.
+fn expect_leads<T: Abort>(
+    rt: &T,
+    alloc: Global,
+    heap: &Heap,
+    starts: &Starts,
+    region: u32,
+    card: u32,
+    leads: bool,
+)
+    requires { IsStartsOf heap.now starts.now }
+{
+    let found = leads_at(alloc, heap, starts, region, card);
+    assert_eq!(rt; found, Some(leads), "region {region} card {card}");
+}
+
 #[test]
 fn a_card_leads_into_the_region_that_a_slot_on_it_names(rt: HostRuntime) -> Result<(), Fail> {
     let alloc = rt.alloc();
     let read = g1_testing::image(alloc, humongous())?;
     let starts = Starts::build(alloc, read.heap())?;
-    for (region, card, leads) in [(3, 4, true), (3, 5, false), (1, 4, false), (0, 4, false)] {
-        let found = leads_at(alloc, read.heap(), &starts, region, card);
-        assert_eq!(rt; found, Some(leads), "region {region} card {card}");
-    }
+    expect_leads(&rt, alloc, read.heap(), &starts, 3, 4, true);
+    expect_leads(&rt, alloc, read.heap(), &starts, 3, 5, false);
+    expect_leads(&rt, alloc, read.heap(), &starts, 1, 4, false);
+    expect_leads(&rt, alloc, read.heap(), &starts, 0, 4, false);
     Ok(())
+}
+
+/// An image's first word and the length of its log.
+fn first_word_and_log(image: &Image) -> (Option<u64>, usize) {
+    (image.heap().words().first().copied(), image.log().len())
 }
 
 /// What `verify` hands back where it refuses: the fault, the first word and the length of the log.
@@ -139,12 +193,21 @@ fn refusal(
     let read = g1_testing::image(alloc, lines)?;
     match verify(rt, alloc, read) {
         Ok(_) => Ok(None),
-        Err((back, fault)) => Ok(Some((
-            fault,
-            back.heap().words().first().copied(),
-            back.log().len(),
-        ))),
+        Err((back, fault)) => {
+            let (word, log) = first_word_and_log(&back);
+            Ok(Some((fault, word, log)))
+        }
     }
+}
+
+/// The refined sets of what is tracked.
+fn refined_sets(
+    rt: &(impl Threads + Sync),
+    alloc: Global,
+    tracked: &Tracked,
+) -> Result<Vec<Vec<u32>>, Fault> {
+    let starts = Starts::build(alloc, image(tracked).heap())?;
+    refine(rt, alloc, tracked, &starts)
 }
 
 /// The refined sets of an image that is covered, and the length of the log after.
@@ -153,15 +216,9 @@ fn refined_remembered(
     alloc: Global,
     lines: &str,
 ) -> Result<(Vec<Vec<u32>>, usize), Fault> {
-    let read = g1_testing::image(alloc, lines)?;
-    match verify(rt, alloc, read) {
-        Err((_, fault)) => Err(fault),
-        Ok(tracked) => {
-            let starts = Starts::build(alloc, image(&tracked).heap())?;
-            let refined = refine(rt, alloc, &tracked, &starts)?;
-            Ok((refined, image(&tracked).log().len()))
-        }
-    }
+    let tracked = tracked(rt, alloc, lines)?;
+    let refined = refined_sets(rt, alloc, &tracked)?;
+    Ok((refined, image(&tracked).log().len()))
 }
 
 #[test]
