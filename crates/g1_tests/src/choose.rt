@@ -8,6 +8,7 @@ use g1_testing::Sketch;
 use g1_testing::pictures::three_regions;
 use g1_words::{Fault, Heap, Kind, Region};
 use std::alloc::{AllocError, Global};
+use std::process::Abort;
 use std::test::Fail;
 
 #[test]
@@ -97,10 +98,23 @@ fn ordered(
     )
 }
 
+/// Sees that a budget buys these regions.
+fn expect_bought<T: Abort>(
+    rt: &T,
+    alloc: Global,
+    image: &Image,
+    live: &[u64],
+    budget: u64,
+    set: &[u32],
+) -> Result<(), Fault> {
+    let found = bought(alloc, image, live, budget)?;
+    assert_eq!(rt; found.as_slice(), set, "{budget}");
+    Ok(())
+}
+
 #[test]
 fn a_budget_buys_the_longest_beginning(rt: HostRuntime) -> Result<(), Fail> {
-    let alloc = rt.alloc();
-    let image = g1_testing::image(alloc, three_regions())?;
+    let image = g1_testing::image(rt.alloc(), three_regions())?;
     let live = [16, 16, 8, 0, 0, 0];
     let cases: [(u64, &[u32]); 9] = [
         (0, &[]),
@@ -114,24 +128,32 @@ fn a_budget_buys_the_longest_beginning(rt: HostRuntime) -> Result<(), Fail> {
         (u64::MAX, &[0, 1, 2]),
     ];
     for (budget, set) in cases {
-        let found = bought(alloc, &image, &live, budget)?;
-        assert_eq!(rt; found.as_slice(), set, "{budget}");
+        expect_bought(&rt, rt.alloc(), &image, &live, budget, set)?;
     }
+    Ok(())
+}
+
+/// Sees that these are the candidates by efficiency: region, cost, garbage.
+fn expect_ordered<T: Abort>(
+    rt: &T,
+    alloc: Global,
+    image: &Image,
+    live: &[u64],
+    candidates: &[(u32, u128, u64)],
+) -> Result<(), Fault> {
+    let found = ordered(alloc, image, live, &UNIT)?;
+    assert_eq!(rt; found.as_slice(), candidates);
     Ok(())
 }
 
 #[test]
 fn candidates_by_efficiency(rt: HostRuntime) -> Result<(), Fail> {
-    let alloc = rt.alloc();
-    let image = g1_testing::image(alloc, three_regions())?;
-    let found = ordered(alloc, &image, &[16, 16, 8, 0, 0, 0], &UNIT)?;
-    assert_eq!(rt;
-        found.as_slice(),
-        [(0, 16, 16), (1, 16, 16), (2, 9, 8)].as_slice()
-    );
+    let image = g1_testing::image(rt.alloc(), three_regions())?;
+    let candidates = [(0, 16, 16), (1, 16, 16), (2, 9, 8)];
+    expect_ordered(&rt, rt.alloc(), &image, &[16, 16, 8, 0, 0, 0], &candidates)?;
     // The second region has more garbage than the first, and the third has none.
-    let found = ordered(alloc, &image, &[16, 8, 16, 0, 0, 0], &UNIT)?;
-    assert_eq!(rt; found.as_slice(), [(1, 8, 24), (0, 16, 16)].as_slice());
+    let candidates = [(1, 8, 24), (0, 16, 16)];
+    expect_ordered(&rt, rt.alloc(), &image, &[16, 8, 16, 0, 0, 0], &candidates)?;
     Ok(())
 }
 
@@ -147,35 +169,54 @@ fn two_full_regions(alloc: Global) -> Result<Vec<u8>, AllocError> {
     sketch.text(alloc)
 }
 
+/// Those regions by efficiency, the second with a little more garbage.
+fn two_by_efficiency(alloc: Global, prices: &Cost) -> Result<Vec<u32>, Fault>
+    requires { IsCost prices.now }
+{
+    let image = decode(alloc, &two_full_regions(alloc)?)?;
+    let found = ordered(alloc, &image, &[262_144, 262_136], prices)?;
+    Ok(found.iter().map(|it| it.0).collect(alloc)?)
+}
+
 #[test]
 fn products_beyond_64_bits(rt: HostRuntime) -> Result<(), Fail> {
-    let alloc = rt.alloc();
-    let image = decode(alloc, &two_full_regions(alloc)?)?;
     let prices = Cost {
         fixed: 0,
         dirty: 0,
         card: 0,
         byte: 4_294_967_295,
     };
-    let found = ordered(alloc, &image, &[262_144, 262_136], &prices)?;
-    let regions: Vec<u32> = found.iter().map(|it| it.0).collect(alloc)?;
+    let regions = two_by_efficiency(rt.alloc(), &prices)?;
     assert_eq!(rt; regions.as_slice(), [1, 0].as_slice());
     Ok(())
 }
 
+/// Sees that a list of regions is accepted, and what it is in rising order.
+fn expect_given<T: Abort>(
+    rt: &T,
+    alloc: Global,
+    heap: &Heap,
+    list: &[u32],
+    rising: &[u32],
+) -> Result<(), Fault> {
+    let set = given(alloc, heap, list)?;
+    assert_eq!(rt; set.as_slice(), rising);
+    Ok(())
+}
+
+/// Sees that a list is refused for this region.
+fn expect_refused<T: Abort>(rt: &T, alloc: Global, heap: &Heap, list: &[u32], region: u32) {
+    let fault = given(alloc, heap, list).err();
+    assert!(rt; fault == Some(Fault::Set(region)), "{region}");
+}
+
 #[test]
 fn a_named_list_rises_or_has_a_first_bad_region(rt: HostRuntime) -> Result<(), Fail> {
-    let alloc = rt.alloc();
-    let image = g1_testing::image(alloc, three_regions())?;
-    let heap = image.heap();
-    let set = given(alloc, heap, &[2, 0])?;
-    assert_eq!(rt; set.as_slice(), [0, 2].as_slice());
-    let refused: [(&[u32], u32); 4] = [(&[1, 1], 1), (&[6], 6), (&[3, 0], 3), (&[0, 9, 3], 9)];
-    for (list, region) in refused {
-        assert!(rt;
-            given(alloc, heap, list).err() == Some(Fault::Set(region)),
-            "{region}"
-        );
-    }
+    let image = g1_testing::image(rt.alloc(), three_regions())?;
+    expect_given(&rt, rt.alloc(), image.heap(), &[2, 0], &[0, 2])?;
+    expect_refused(&rt, rt.alloc(), image.heap(), &[1, 1], 1);
+    expect_refused(&rt, rt.alloc(), image.heap(), &[6], 6);
+    expect_refused(&rt, rt.alloc(), image.heap(), &[3, 0], 3);
+    expect_refused(&rt, rt.alloc(), image.heap(), &[0, 9, 3], 9);
     Ok(())
 }
