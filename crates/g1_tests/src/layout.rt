@@ -1,14 +1,16 @@
-ghost use Rattle.std.specs.Prelude.{◌≡◌, ◌≢◌, ◌<◌, ℕ, IsTrue, length, slice_index, All, AllPairs, Contains};
+ghost use Rattle.std.specs.Prelude.{◌≡◌, ◌≢◌, ◌<◌, ℕ, IfOk, IsTrue, length, slice_index, All, AllPairs, Contains};
 ghost use Rattle.std.specs.List.Sorted.{IsStrictlyIncreasing};
 ghost use Rattle.g1_words.specs.Heap.{object_at, objects, region_of};
 ghost use Rattle.g1_words.specs.Survivors.{AllOrdinary};
 ghost use Rattle.g1_layout.specs.Placed.{CanPlace};
+ghost use Rattle.g1_copy.specs.Plans.{IsPlanOf};
 
 use g1_layout::{Plan, Run, place};
 use g1_testing::image;
 use g1_testing::pictures::{fitted, gap, no_room, no_survivor, two_roots};
 use g1_words::{Fault, Heap, Kind, object_at, region_of};
 use std::alloc::Global;
+use std::process::Abort;
 use std::test::Fail;
 
 /// Tells that each region's number is above the one before it.
@@ -103,46 +105,79 @@ fn are_distinct(survivors: &[u64]) -> bool
     true
 }
 
-/// What `place` answers where its conditions hold.
-fn placed(alloc: Global, heap: &Heap, set: &[u32], survivors: &[u64]) -> Result<Plan, Fault> {
+/// Tells that the survivors of the set can be placed.
+fn can_place(heap: &Heap, set: &[u32], survivors: &[u64]) -> bool
+    ensures { IsTrue result → CanPlace heap.now set.now survivors.now }
+{
     let set_is_good = rises(set) && are_ordinary(heap, set);
-    if set_is_good
+    set_is_good
         && are_objects(heap, survivors)
         && are_in(heap, set, survivors)
         && are_distinct(survivors)
-    {
-        place(alloc, heap, set, survivors)
-    } else {
-        Err(Fault::Set(0))
+}
+
+/// What `place` answers where its conditions hold.
+pub(crate) fn placed(
+    alloc: Global,
+    heap: &Heap,
+    set: &[u32],
+    survivors: &[u64],
+) -> Result<Plan, Fault>
+    ensures { IfOk result (λ p. IsPlanOf heap.now p) }
+{
+    if !can_place(heap, set, survivors) {
+        return Err(Fault::Set(0));
     }
+    place(alloc, heap, set, survivors)
+}
+
+/// What `place` answers over the image that the lines draw.
+fn placed_in(alloc: Global, lines: &str, set: &[u32], survivors: &[u64]) -> Result<Plan, Fault> {
+    let image = image(alloc, lines)?;
+    placed(alloc, image.heap(), set, survivors)
+}
+
+fn expect_places<T: Abort>(rt: &T, plan: &Plan, places: &[u64]) {
+    assert!(rt; plan.places() == places);
+}
+
+/// Sees that to-space is these regions, as many as are needed.
+fn expect_to_space<T: Abort>(rt: &T, plan: &Plan, regions: &[u32], need: u64) {
+    assert!(rt; plan.to_space() == regions);
+    assert_eq!(rt; plan.need(), need);
+}
+
+fn expect_runs<T: Abort>(rt: &T, plan: &Plan, runs: &[Run]) {
+    assert!(rt; plan.runs() == runs);
+}
+
+fn expect_forward<T: Abort>(rt: &T, plan: &Plan, address: u64, expected: u64) {
+    assert_eq!(rt; plan.forward(address), expected);
 }
 
 #[test]
 fn survivors_stand_one_after_another_in_the_lowest_free_region(
     rt: HostRuntime,
 ) -> Result<(), Fail> {
-    let image = image(rt.alloc(), two_roots())?;
-    let plan = placed(rt.alloc(), image.heap(), &[1], &[18, 16])?;
+    let plan = placed_in(rt.alloc(), two_roots(), &[1], &[18, 16])?;
     assert!(rt; plan.set() == [1].as_slice());
     assert!(rt; plan.survivors() == [18, 16].as_slice());
-    assert!(rt; plan.places() == [0, 4].as_slice());
-    assert!(rt; plan.to_space() == [0].as_slice());
-    assert_eq!(rt; plan.need(), 1);
+    expect_places(&rt, &plan, &[0, 4]);
+    expect_to_space(&rt, &plan, &[0], 1);
     let run = Run {
         region: 0,
         from: 0,
         to: 2,
         end: 6,
     };
-    assert!(rt; plan.runs() == [run].as_slice());
+    expect_runs(&rt, &plan, &[run]);
     Ok(())
 }
 
 #[test]
 fn a_gap_that_was_left_is_not_used(rt: HostRuntime) -> Result<(), Fail> {
-    let image = image(rt.alloc(), gap())?;
-    let plan = placed(rt.alloc(), image.heap(), &[0, 1], &[0, 16, 21])?;
-    assert!(rt; plan.places() == [32, 48, 53].as_slice());
+    let plan = placed_in(rt.alloc(), gap(), &[0, 1], &[0, 16, 21])?;
+    expect_places(&rt, &plan, &[32, 48, 53]);
     let first = Run {
         region: 2,
         from: 0,
@@ -155,45 +190,38 @@ fn a_gap_that_was_left_is_not_used(rt: HostRuntime) -> Result<(), Fail> {
         to: 3,
         end: 9,
     };
-    assert!(rt; plan.runs() == [first, second].as_slice());
+    expect_runs(&rt, &plan, &[first, second]);
     Ok(())
 }
 
 #[test]
 fn a_region_may_be_filled_to_its_last_word(rt: HostRuntime) -> Result<(), Fail> {
-    let image = image(rt.alloc(), fitted())?;
-    let plan = placed(rt.alloc(), image.heap(), &[0, 1], &[0, 16, 20])?;
-    assert!(rt; plan.places() == [32, 44, 48].as_slice());
-    assert!(rt; plan.to_space() == [2, 3].as_slice());
-    assert_eq!(rt; plan.need(), 2);
+    let plan = placed_in(rt.alloc(), fitted(), &[0, 1], &[0, 16, 20])?;
+    expect_places(&rt, &plan, &[32, 44, 48]);
+    expect_to_space(&rt, &plan, &[2, 3], 2);
     Ok(())
 }
 
 #[test]
 fn too_few_free_regions_are_refused_with_both_numbers(rt: HostRuntime) -> Result<(), Fail> {
-    let image = image(rt.alloc(), no_room())?;
-    match placed(rt.alloc(), image.heap(), &[0, 1], &[0, 16]) {
-        Ok(_plan) => assert!(rt; false, "placed"),
-        Err(fault) => assert_eq!(rt; fault, Fault::Room { need: 2, free: 1 }),
-    }
+    let fault = placed_in(rt.alloc(), no_room(), &[0, 1], &[0, 16]).err();
+    assert!(rt; fault == Some(Fault::Room { need: 2, free: 1 }));
     Ok(())
 }
 
 #[test]
 fn no_survivors_need_no_region(rt: HostRuntime) -> Result<(), Fail> {
-    let image = image(rt.alloc(), no_survivor())?;
-    let plan = placed(rt.alloc(), image.heap(), &[0], &[])?;
+    let plan = placed_in(rt.alloc(), no_survivor(), &[0], &[])?;
     assert_eq!(rt; plan.need(), 0);
-    assert!(rt; plan.runs().is_empty());
-    assert_eq!(rt; plan.forward(0), 0);
+    expect_runs(&rt, &plan, &[]);
+    expect_forward(&rt, &plan, 0, 0);
     Ok(())
 }
 
 #[test]
 fn only_survivors_are_moved(rt: HostRuntime) -> Result<(), Fail> {
-    let image = image(rt.alloc(), two_roots())?;
-    let plan = placed(rt.alloc(), image.heap(), &[1], &[18])?;
-    assert_eq!(rt; plan.forward(18), 0);
+    let plan = placed_in(rt.alloc(), two_roots(), &[1], &[18])?;
+    expect_forward(&rt, &plan, 18, 0);
     for a in [
         0,
         15,
@@ -207,7 +235,7 @@ fn only_survivors_are_moved(rt: HostRuntime) -> Result<(), Fail> {
         1_000_000_000_000,
         u64::MAX,
     ] {
-        assert_eq!(rt; plan.forward(a), a);
+        expect_forward(&rt, &plan, a, a);
     }
     Ok(())
 }
