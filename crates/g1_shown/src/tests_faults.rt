@@ -5,6 +5,7 @@ use g1_rem::verify;
 use g1_words::{Fault, Stand};
 use std::alloc::{AllocError, Global};
 use std::test::Fail;
+use std::thread::Threads;
 
 #[test]
 fn a_dirty_card_in_a_free_region_is_told(rt: HostRuntime) -> Result<(), Fail> {
@@ -53,19 +54,24 @@ fn humongous(alloc: Global) -> Result<Vec<u8>, AllocError> {
     Ok(writing.bytes)
 }
 
+/// What `verify` refuses the image of the bytes for.
+fn refusal<R: Threads + Sync>(rt: &R, alloc: Global, text: &[u8]) -> Result<Option<Fault>, Fault> {
+    match verify(rt, alloc, decode(alloc, text)?) {
+        Ok(_) => Ok(None),
+        Err((_, fault)) => Ok(Some(fault)),
+    }
+}
+
 #[test]
 fn the_lowest_slot_without_cover_is_told(rt: HostRuntime) -> Result<(), Fail> {
     let alloc = rt.alloc();
-    for (text, slot) in [
-        (shared_with(alloc, &[1, 0])?, 5),
-        (shared_with(alloc, &[1, 1])?, 1),
-        (shared_with(alloc, &[0])?, 1),
-        (humongous(alloc)?, 17),
-    ] {
-        match verify(&rt, alloc, decode(alloc, &text)?) {
-            Ok(_) => panic!(rt; "slot {slot}"),
-            Err((_, fault)) => assert_eq!(rt; fault, Fault::Uncovered(slot)),
-        }
+    for (set, slot) in [(&[1, 0][..], 5), (&[1, 1][..], 1), (&[0][..], 1)] {
+        let text = shared_with(alloc, set)?;
+        let told = refusal(&rt, alloc, &text)?;
+        assert_eq!(rt; told, Some(Fault::Uncovered(slot)));
     }
+    let text = humongous(alloc)?;
+    let told = refusal(&rt, alloc, &text)?;
+    assert_eq!(rt; told, Some(Fault::Uncovered(17)));
     Ok(())
 }
