@@ -63,19 +63,23 @@ fn chain_after(alloc: Global) -> Result<Vec<u8>, AllocError> {
     Ok(writing.bytes)
 }
 
+/// The regions that the chain is in.
+fn chain_set(alloc: Global) -> Result<Choice, AllocError> {
+    let set = (0..CHAIN_REGIONS).collect::<Vec<u32>>(alloc)?;
+    Ok(Choice::Given(set))
+}
+
 #[test]
 fn a_long_chain_is_turned_round(rt: HostRuntime) -> Result<(), Fail> {
     let alloc = rt.alloc();
     let before = chain(alloc)?;
     let after = chain_after(alloc)?;
     for workers in [1, 8] {
-        let mut set = Vec::new(alloc);
-        for region in 0..CHAIN_REGIONS {
-            set.push(region)?;
-        }
-        let settings = Settings::new(workers, 64, COST, Choice::Given(set))?;
-        let found = pause_bytes(&rt, alloc, &before, &settings, &Open)?;
-        assert!(rt; found.as_slice() == after.as_slice(), "{workers}");
+        let settings = Settings::new(workers, 64, COST, chain_set(alloc)?)?;
+        assert!(rt;
+            becomes(&rt, alloc, &before, &settings, &after)?,
+            "{workers}"
+        );
     }
     Ok(())
 }
@@ -164,10 +168,7 @@ fn two_hundred_regions_are_named(rt: HostRuntime) -> Result<(), Fail> {
     let alloc = rt.alloc();
     let before = towers(alloc)?;
     let after = towers_after(alloc)?;
-    let mut set = Vec::new(alloc);
-    for region in 0..256u32 {
-        set.push(255 - region)?;
-    }
+    let set = (0..256u32).rev().collect::<Vec<u32>>(alloc)?;
     let settings = Settings::new(64, 65_536, COST, Choice::Given(set))?;
     assert!(rt; becomes(&rt, alloc, &before, &settings, &after)?);
     Ok(())
