@@ -3,15 +3,16 @@
 ghost use Rattle.std.specs.Prelude.{◌≡◌};
 
 use g1_choose::Cost;
-use g1_image::{decode, encode};
+use g1_image::encode;
 use g1_mark::live_bytes;
 use g1_pause::{Choice, Settings, evacuate};
-use g1_rem::{Starts, image, verify};
+use g1_rem::{Starts, Tracked, image, verify};
 use g1_testing::pictures::{shared, shared_after};
-use g1_testing::text;
+use g1_testing::{image as drawn, text};
 use g1_words::Fault;
 use g1_work::{Gate, Part, Task, each_chunk};
 use std::alloc::Global;
+use std::process::Abort;
 use std::sync::atomic::{AtomicBool, AtomicU64, Ordering};
 use std::test::Fail;
 use std::thread::Threads;
@@ -113,42 +114,76 @@ fn together(rt: HostRuntime) -> Result<(), Fail> {
     Ok(())
 }
 
-/// Two workers meet in both rounds of the search, and again when they write.
-#[test]
-fn together_in_each_round(rt: HostRuntime) -> Result<(), Fail> {
-    let alloc = rt.alloc();
+/// The settings of the pause that collects region 1.
+fn settings_of(alloc: Global, workers: u64) -> Result<Settings, Fault> {
     let cost = Cost {
         fixed: 0,
         dirty: 1,
         card: 1,
         byte: 1,
     };
+    Settings::new(workers, 1, cost, Choice::Given(vec![in alloc; 1]?))
+}
+
+/// The picture `shared`, whose references are covered.
+fn tracked<R: Threads + Sync>(rt: &R, alloc: Global) -> Result<Tracked, Fault> {
+    match verify(rt, alloc, drawn(alloc, shared())?) {
+        Ok(tracked) => Ok(tracked),
+        Err((_, fault)) => Err(fault),
+    }
+}
+
+/// The bytes of `shared` after the pause.
+fn evacuated<R: Threads + Sync>(
+    rt: &R,
+    alloc: Global,
+    settings: &Settings,
+    gate: &Meeting,
+) -> Result<Vec<u8>, Fault> {
+    match evacuate(rt, alloc, tracked(rt, alloc)?, settings, gate) {
+        Ok((after, _)) => encode(alloc, image(&after)),
+        Err((_, fault)) => Err(fault),
+    }
+}
+
+// Sees that the pause of so many workers makes of `shared` what it should, before their gate.
+fn expect_evacuated<T: Threads + Abort + Sync>(
+    rt: &T,
+    alloc: Global,
+    workers: u64,
+    gate: &Meeting,
+) -> Result<(), Fault> {
+    let settings = settings_of(alloc, workers)?;
+    let found = evacuated(rt, alloc, &settings, gate)?;
+    let expected = text(alloc, shared_after())?;
+    assert_eq!(rt; found.as_slice(), expected.as_slice());
+    Ok(())
+}
+
+/// Two workers meet in both rounds of the search, and again when they write.
+#[test]
+fn together_in_each_round(rt: HostRuntime) -> Result<(), Fail> {
+    let alloc = rt.alloc();
     for (part, workers, parties, times) in [(Part::Deal, 2, 2, 2), (Part::Fill, 4, 4, 1)] {
         let gate = meeting_of(part, parties);
-        let settings = Settings::new(workers, 1, cost, Choice::Given(vec![in alloc; 1]?))?;
-        let before = match verify(&rt, alloc, decode(alloc, &text(alloc, shared())?)?) {
-            Ok(tracked) => tracked,
-            Err((_, fault)) => return Err(fault.into()),
-        };
-        match evacuate(&rt, alloc, before, &settings, &gate) {
-            Ok((after, _)) => assert_eq!(rt;
-                encode(alloc, image(&after))?.as_slice(),
-                text(alloc, shared_after())?.as_slice()
-            ),
-            Err((_, fault)) => return Err(fault.into()),
-        }
+        expect_evacuated(&rt, alloc, workers, &gate)?;
         assert!(rt; gate.met(times), "{workers}");
     }
     Ok(())
 }
 
+/// The live bytes of the regions of `shared`, as two workers count them.
+fn live<R: Threads + Sync>(rt: &R, alloc: Global, gate: &Meeting) -> Result<Vec<u64>, Fault> {
+    let image = drawn(alloc, shared())?;
+    let starts = Starts::build(alloc, image.heap())?;
+    live_bytes(rt, alloc, image.heap(), &starts, 2, 1, gate)
+}
+
 #[test]
 fn together_when_live_bytes_are_counted(rt: HostRuntime) -> Result<(), Fail> {
     let alloc = rt.alloc();
-    let image = decode(alloc, &text(alloc, shared())?)?;
-    let starts = Starts::build(alloc, image.heap())?;
     let gate = meeting_of(Part::Deal, 2);
-    let live = live_bytes(&rt, alloc, image.heap(), &starts, 2, 1, &gate)?;
+    let live = live(&rt, alloc, &gate)?;
     assert!(rt; gate.met(2));
     assert_eq!(rt; live.as_slice(), [0, 56, 0, 0].as_slice());
     Ok(())
