@@ -2,7 +2,7 @@
 use crate::reading::tracked;
 use crate::watch::Watch;
 use g1_image::Image;
-use g1_pause::{FromReader, Settings, ToWriter, evacuate, pause_bytes, pause_run};
+use g1_pause::{FromReader, Report, Settings, ToWriter, evacuate, pause_bytes, pause_run};
 use g1_rem::{Tracked, image};
 use g1_words::Fault;
 use g1_work::Open;
@@ -72,30 +72,24 @@ fn evacuated<R: Threads + Sync>(
 ) -> Result<(), Fault> {
     let tracked = tracked(rt, alloc, bytes)?;
     watch.at("evacuate")?;
-    let (found, refused) = after(rt, alloc, settings, tracked);
-    tell(image(&found), refused, watch)
-}
-
-/// The call answered this image, or was refused and handed it back.
-fn tell(found: &Image, refused: Option<Fault>, watch: &mut Watch) -> Result<(), Fault> {
-    match refused {
-        None => watch.image(found),
-        Some(fault) => {
-            watch.refused(&fault, found)?;
-            Err(fault)
-        }
+    match answer(rt, alloc, settings, tracked) {
+        Ok((after, _)) => watch.image(image(&after)),
+        Err((back, fault)) => refused(image(&back), fault, watch),
     }
 }
 
-/// The image that `evacuate` answers or hands back, and the fault. What it promises is not needed here.
-fn after<R: Threads + Sync>(
+/// `evacuate` handed this image back.
+fn refused(back: &Image, fault: Fault, watch: &mut Watch) -> Result<(), Fault> {
+    watch.refused(&fault, back)?;
+    Err(fault)
+}
+
+/// What `evacuate` promises is not needed here.
+fn answer<R: Threads + Sync>(
     rt: &R,
     alloc: Global,
     settings: &Settings,
     tracked: Tracked,
-) -> (Tracked, Option<Fault>) {
-    match evacuate(rt, alloc, tracked, settings, &Open) {
-        Ok((after, _)) => (after, None),
-        Err((back, fault)) => (back, Some(fault)),
-    }
+) -> Result<(Tracked, Report), (Tracked, Fault)> {
+    evacuate(rt, alloc, tracked, settings, &Open)
 }
