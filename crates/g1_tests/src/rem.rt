@@ -97,10 +97,9 @@ fn expect_first<T: Abort>(
     assert_eq!(rt; first_at(heap, starts, card), first, "card {card}");
 }
 
-#[test]
-fn an_object_counts_on_the_card_of_its_header(rt: HostRuntime) -> Result<(), Fail> {
-    let read = g1_testing::image(rt.alloc(), dead_outside())?;
-    let starts = Starts::build(rt.alloc(), read.heap())?;
+/// Sees which object is over the first word of each card, and of the one behind the last.
+fn expect_firsts<T: Abort>(rt: &T, alloc: Global, heap: &Heap) -> Result<(), Fault> {
+    let starts = Starts::build(alloc, heap)?;
     for card in 0..17 {
         let expected = match card {
             0 => Some(Some(0)),
@@ -109,7 +108,28 @@ fn an_object_counts_on_the_card_of_its_header(rt: HostRuntime) -> Result<(), Fai
             16 => None,
             _ => Some(None),
         };
-        expect_first(&rt, read.heap(), &starts, card, expected);
+        expect_first(rt, heap, &starts, card, expected);
+    }
+    Ok(())
+}
+
+#[test]
+fn an_object_counts_on_the_card_of_its_header(rt: HostRuntime) -> Result<(), Fail> {
+    let read = g1_testing::image(rt.alloc(), dead_outside())?;
+    expect_firsts(&rt, rt.alloc(), read.heap())?;
+    Ok(())
+}
+
+/// Sees that these slots are on each of these cards.
+fn expect_slots_of<T: Abort>(
+    rt: &T,
+    alloc: Global,
+    heap: &Heap,
+    cards: &[(u32, &[u64])],
+) -> Result<(), Fault> {
+    let starts = Starts::build(alloc, heap)?;
+    for (card, slots) in cards {
+        expect_slots(rt, alloc, heap, &starts, *card, slots);
     }
     Ok(())
 }
@@ -119,11 +139,8 @@ fn slots_count_on_the_card_of_their_own_address(rt: HostRuntime) -> Result<(), F
     let alloc = rt.alloc();
     assert!(rt; is_covered(&rt, alloc, dead_outside())?);
     let read = g1_testing::image(alloc, dead_outside())?;
-    let starts = Starts::build(alloc, read.heap())?;
-    expect_slots(&rt, alloc, read.heap(), &starts, 0, &[2, 3]);
-    expect_slots(&rt, alloc, read.heap(), &starts, 1, &[4]);
-    expect_slots(&rt, alloc, read.heap(), &starts, 2, &[]);
-    expect_slots(&rt, alloc, read.heap(), &starts, 4, &[]);
+    let cards: [(u32, &[u64]); 4] = [(0, &[2, 3]), (1, &[4]), (2, &[]), (4, &[])];
+    expect_slots_of(&rt, alloc, read.heap(), &cards)?;
     Ok(())
 }
 
@@ -132,12 +149,14 @@ fn a_humongous_object_has_slots_on_cards_of_its_later_regions(rt: HostRuntime) -
     let alloc = rt.alloc();
     assert!(rt; is_covered(&rt, alloc, humongous())?);
     let read = g1_testing::image(alloc, humongous())?;
-    let starts = Starts::build(alloc, read.heap())?;
-    expect_slots(&rt, alloc, read.heap(), &starts, 0, &[1, 2, 3]);
-    expect_slots(&rt, alloc, read.heap(), &starts, 4, &[16, 17, 18, 19]);
-    expect_slots(&rt, alloc, read.heap(), &starts, 5, &[20]);
-    expect_slots(&rt, alloc, read.heap(), &starts, 6, &[]);
-    expect_slots(&rt, alloc, read.heap(), &starts, 10, &[]);
+    let cards: [(u32, &[u64]); 5] = [
+        (0, &[1, 2, 3]),
+        (4, &[16, 17, 18, 19]),
+        (5, &[20]),
+        (6, &[]),
+        (10, &[]),
+    ];
+    expect_slots_of(&rt, alloc, read.heap(), &cards)?;
     Ok(())
 }
 
@@ -167,15 +186,25 @@ fn expect_leads<T: Abort>(
     assert_eq!(rt; found, Some(leads), "region {region} card {card}");
 }
 
+/// Sees which cards lead into which regions.
+fn expect_leading<T: Abort>(
+    rt: &T,
+    alloc: Global,
+    heap: &Heap,
+    cards: &[(u32, u32, bool)],
+) -> Result<(), Fault> {
+    let starts = Starts::build(alloc, heap)?;
+    for (region, card, leads) in cards {
+        expect_leads(rt, alloc, heap, &starts, *region, *card, *leads);
+    }
+    Ok(())
+}
+
 #[test]
 fn a_card_leads_into_the_region_that_a_slot_on_it_names(rt: HostRuntime) -> Result<(), Fail> {
-    let alloc = rt.alloc();
-    let read = g1_testing::image(alloc, humongous())?;
-    let starts = Starts::build(alloc, read.heap())?;
-    expect_leads(&rt, alloc, read.heap(), &starts, 3, 4, true);
-    expect_leads(&rt, alloc, read.heap(), &starts, 3, 5, false);
-    expect_leads(&rt, alloc, read.heap(), &starts, 1, 4, false);
-    expect_leads(&rt, alloc, read.heap(), &starts, 0, 4, false);
+    let read = g1_testing::image(rt.alloc(), humongous())?;
+    let cards = [(3, 4, true), (3, 5, false), (1, 4, false), (0, 4, false)];
+    expect_leading(&rt, rt.alloc(), read.heap(), &cards)?;
     Ok(())
 }
 
