@@ -112,10 +112,23 @@ fn expect_bought<T: Abort>(
     Ok(())
 }
 
+/// Sees what each budget buys.
+fn expect_each_bought<T: Abort>(
+    rt: &T,
+    alloc: Global,
+    image: &Image,
+    live: &[u64],
+    cases: &[(u64, &[u32])],
+) -> Result<(), Fault> {
+    for (budget, set) in cases {
+        expect_bought(rt, alloc, image, live, *budget, set)?;
+    }
+    Ok(())
+}
+
 #[test]
 fn a_budget_buys_the_longest_beginning(rt: HostRuntime) -> Result<(), Fail> {
     let image = g1_testing::image(rt.alloc(), three_regions())?;
-    let live = [16, 16, 8, 0, 0, 0];
     let cases: [(u64, &[u32]); 9] = [
         (0, &[]),
         (9, &[]),
@@ -127,9 +140,7 @@ fn a_budget_buys_the_longest_beginning(rt: HostRuntime) -> Result<(), Fail> {
         (51, &[0, 1, 2]),
         (u64::MAX, &[0, 1, 2]),
     ];
-    for (budget, set) in cases {
-        expect_bought(&rt, rt.alloc(), &image, &live, budget, set)?;
-    }
+    expect_each_bought(&rt, rt.alloc(), &image, &[16, 16, 8, 0, 0, 0], &cases)?;
     Ok(())
 }
 
@@ -210,13 +221,19 @@ fn expect_refused<T: Abort>(rt: &T, alloc: Global, heap: &Heap, list: &[u32], re
     assert!(rt; fault == Some(Fault::Set(region)), "{region}");
 }
 
+/// Sees that a list rises, and for which region each other one is refused.
+fn expect_named_lists<T: Abort>(rt: &T, alloc: Global, heap: &Heap) -> Result<(), Fault> {
+    expect_given(rt, alloc, heap, &[2, 0], &[0, 2])?;
+    expect_refused(rt, alloc, heap, &[1, 1], 1);
+    expect_refused(rt, alloc, heap, &[6], 6);
+    expect_refused(rt, alloc, heap, &[3, 0], 3);
+    expect_refused(rt, alloc, heap, &[0, 9, 3], 9);
+    Ok(())
+}
+
 #[test]
 fn a_named_list_rises_or_has_a_first_bad_region(rt: HostRuntime) -> Result<(), Fail> {
     let image = g1_testing::image(rt.alloc(), three_regions())?;
-    expect_given(&rt, rt.alloc(), image.heap(), &[2, 0], &[0, 2])?;
-    expect_refused(&rt, rt.alloc(), image.heap(), &[1, 1], 1);
-    expect_refused(&rt, rt.alloc(), image.heap(), &[6], 6);
-    expect_refused(&rt, rt.alloc(), image.heap(), &[3, 0], 3);
-    expect_refused(&rt, rt.alloc(), image.heap(), &[0, 9, 3], 9);
+    expect_named_lists(&rt, rt.alloc(), image.heap())?;
     Ok(())
 }
