@@ -3,7 +3,7 @@ use crate::images::tracked;
 use g1_choose::Cost;
 use g1_image::encode;
 use g1_pause::{Choice, Report, Settings, evacuate, pause_bytes};
-use g1_rem::image;
+use g1_rem::{Tracked, image};
 use g1_testing::pictures::*;
 use g1_testing::{Sketch, text};
 use g1_words::Fault;
@@ -101,6 +101,14 @@ fn buys<R: Threads + Sync>(
     Ok(found.as_slice() == expected.as_slice())
 }
 
+/// What a pause hands back, and its report where it was not refused.
+fn handed_back(outcome: Result<(Tracked, Report), (Tracked, Fault)>) -> (Tracked, Option<Report>) {
+    match outcome {
+        Ok((after, report)) => (after, Some(report)),
+        Err((same, _)) => (same, None),
+    }
+}
+
 /// The text after a pause and its report, or the text of the image that a refused pause hands back.
 fn evacuated<R: Threads + Sync, G: Gate + Sync>(
     rt: &R,
@@ -110,10 +118,7 @@ fn evacuated<R: Threads + Sync, G: Gate + Sync>(
     gate: &G,
 ) -> Result<(Vec<u8>, Option<Report>), Fault> {
     let before = tracked(rt, alloc, before)?;
-    let (after, report) = match evacuate(rt, alloc, before, settings, gate) {
-        Ok((after, report)) => (after, Some(report)),
-        Err((same, _)) => (same, None),
-    };
+    let (after, report) = handed_back(evacuate(rt, alloc, before, settings, gate));
     Ok((encode(alloc, image(&after))?, report))
 }
 
