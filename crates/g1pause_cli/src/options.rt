@@ -36,7 +36,10 @@ pub enum Question {
         budget: u64,
     },
     /// The replies to a trace.
-    Run { sharing: Sharing, cost: Cost },
+    Run {
+        sharing: Sharing,
+        cost: Cost,
+    },
 }
 
 /// A pause that collects what a budget buys, or the regions that are named. Both may stand here.
