@@ -2,6 +2,7 @@ ghost use Rattle.std.specs.Prelude.{◌≤◌, ◌*◌, length, IsTrue};
 ghost use Rattle.g1_choose.specs.Cost.{IsCost};
 ghost use Rattle.g1_choose.specs.Choice.{MayBeLive};
 
+use crate::expecting::expect_equal;
 use g1_choose::{Cost, choose, cost, given, order, total};
 use g1_image::{Image, decode};
 use g1_testing::Sketch;
@@ -19,12 +20,17 @@ fn costs_at_the_limits(rt: HostRuntime) {
         card: 4_294_967_295,
         byte: 4_294_967_295,
     };
-    assert_eq!(rt; cost(&dearest, 0, 0), 0);
-    assert_eq!(rt; cost(&dearest, 4_194_304, 524_288), 20_266_198_318_448_640);
-    assert_eq!(rt; total(&dearest, 0, &[]), 4_294_967_295);
-    assert_eq!(rt;
+    expect_equal(&rt, cost(&dearest, 0, 0), 0);
+    expect_equal(
+        &rt,
+        cost(&dearest, 4_194_304, 524_288),
+        20_266_198_318_448_640,
+    );
+    expect_equal(&rt, total(&dearest, 0, &[]), 4_294_967_295);
+    expect_equal(
+        &rt,
         total(&dearest, 4_194_304, &[7, 20_266_198_318_448_640]),
-        38_280_601_118_703_622
+        38_280_601_118_703_622,
     );
 }
 
@@ -36,9 +42,9 @@ fn each_parameter_in_its_place(rt: HostRuntime) {
         card: 10,
         byte: 1,
     };
-    assert_eq!(rt; cost(&prices, 3, 8), 38);
-    assert_eq!(rt; total(&prices, 2, &[]), 1_200);
-    assert_eq!(rt; total(&prices, 2, &[38, 16]), 1_254);
+    expect_equal(&rt, cost(&prices, 3, 8), 38);
+    expect_equal(&rt, total(&prices, 2, &[]), 1_200);
+    expect_equal(&rt, total(&prices, 2, &[38, 16]), 1_254);
 }
 
 /// A pause costs 10 in any case, and 1 for each dirty card, remembered card and live byte.
@@ -108,7 +114,7 @@ fn expect_bought<T: Abort>(
     set: &[u32],
 ) -> Result<(), Fault> {
     let found = bought(alloc, image, live, budget)?;
-    assert_eq!(rt; found.as_slice(), set, "{budget}");
+    expect_equal(rt, (budget, found.as_slice()), (budget, set));
     Ok(())
 }
 
@@ -153,7 +159,7 @@ fn expect_ordered<T: Abort>(
     candidates: &[(u32, u128, u64)],
 ) -> Result<(), Fault> {
     let found = ordered(alloc, image, live, &UNIT)?;
-    assert_eq!(rt; found.as_slice(), candidates);
+    expect_equal(rt, found.as_slice(), candidates);
     Ok(())
 }
 
@@ -198,7 +204,7 @@ fn products_beyond_64_bits(rt: HostRuntime) -> Result<(), Fail> {
         byte: 4_294_967_295,
     };
     let regions = two_by_efficiency(rt.alloc(), &prices)?;
-    assert_eq!(rt; regions.as_slice(), [1, 0].as_slice());
+    expect_equal(&rt, regions.as_slice(), [1, 0].as_slice());
     Ok(())
 }
 
@@ -211,7 +217,7 @@ fn expect_given<T: Abort>(
     rising: &[u32],
 ) -> Result<(), Fault> {
     let set = given(alloc, heap, list)?;
-    assert_eq!(rt; set.as_slice(), rising);
+    expect_equal(rt, set.as_slice(), rising);
     Ok(())
 }
 

@@ -1,6 +1,7 @@
 ghost use Rattle.std.specs.Prelude.{◌≡◌, ◌<◌, ◌≤◌, ◌^◌, IfOk};
 ghost use Rattle.g1_claim.specs.Claims.{IsSeatOf};
 
+use crate::expecting::expect_equal;
 use g1_claim::{ClaimSeat, Claims, EMPTY, shares};
 use std::alloc::AllocError;
 use std::process::Abort;
@@ -16,7 +17,7 @@ fn expect_least<T: Abort>(rt: &T, claims: &Claims, seat: &mut ClaimSeat, word: u
     ensures seat { IsSeatOf claims.now seat.new }
     ensures shares { seat.new.hand.shares ≡ seat.old.hand.shares }
 {
-    assert_eq!(rt; claims.least(seat, 0), word);
+    expect_equal(rt, claims.least(seat, 0), word);
 }
 
 // Whether a rank lowers the word of the first place.
@@ -27,7 +28,7 @@ fn expect_offer<T: Abort>(rt: &T, claims: &Claims, seat: &mut ClaimSeat, rank: u
     ensures seat { IsSeatOf claims.now seat.new }
     ensures shares { seat.new.hand.shares ≡ seat.old.hand.shares }
 {
-    assert_eq!(rt; claims.offer(seat, 0, rank), lowers);
+    expect_equal(rt, claims.offer(seat, 0, rank), lowers);
 }
 
 #[test]
@@ -39,7 +40,7 @@ fn a_word_falls_to_the_least_rank(rt: HostRuntime) -> Result<(), Fail> {
     expect_offer(&rt, &claims, &mut seat, 12, false);
     expect_offer(&rt, &claims, &mut seat, 4, true);
     expect_least(&rt, &claims, &mut seat, 4);
-    assert_eq!(rt; claims.close(seat).as_slice(), [4].as_slice());
+    expect_equal(&rt, claims.close(seat).as_slice(), [4].as_slice());
     Ok(())
 }
 
@@ -47,12 +48,12 @@ fn a_word_falls_to_the_least_rank(rt: HostRuntime) -> Result<(), Fail> {
 fn another_seat_sees_an_offer(rt: HostRuntime) -> Result<(), Fail> {
     let (claims, mut seat) = Claims::new(rt.alloc(), 2)?;
     let mut other = claims.split(&mut seat);
-    assert_eq!(rt; (shares(&seat), shares(&other)), (63, 1));
+    expect_equal(&rt, (shares(&seat), shares(&other)), (63, 1));
     expect_offer(&rt, &claims, &mut seat, 4, true);
     expect_least(&rt, &claims, &mut other, 4);
     claims.join(&mut seat, other);
-    assert_eq!(rt; shares(&seat), 64);
-    assert_eq!(rt; claims.close(seat).as_slice(), [4, EMPTY].as_slice());
+    expect_equal(&rt, shares(&seat), 64);
+    expect_equal(&rt, claims.close(seat).as_slice(), [4, EMPTY].as_slice());
     Ok(())
 }
 
@@ -61,7 +62,7 @@ fn a_table_may_have_no_places(rt: HostRuntime) -> Result<(), Fail> {
     let (claims, mut seat) = Claims::new(rt.alloc(), 0)?;
     let other = claims.split(&mut seat);
     claims.join(&mut seat, other);
-    assert_eq!(rt; claims.close(seat).len(), 0);
+    expect_equal(&rt, claims.close(seat).len(), 0);
     Ok(())
 }
 
@@ -157,6 +158,6 @@ fn offer_by_four<R: Threads + Wait>(
 fn four_threads_offer_at_one_place(rt: HostRuntime) -> Result<(), Fail> {
     let (claims, mut seat) = Claims::new(rt.alloc(), 1)?;
     offer_by_four(&rt, &claims, &mut seat)?;
-    assert_eq!(rt; claims.close(seat).as_slice(), [0].as_slice());
+    expect_equal(&rt, claims.close(seat).as_slice(), [0].as_slice());
     Ok(())
 }

@@ -4,6 +4,7 @@ ghost use Rattle.g1_rem.specs.Starts.{IsStartsOf};
 ghost use Rattle.g1_frontier.specs.Items.{first_items, object_items};
 ghost use Rattle.g1_frontier.specs.Window.{AreRegions, AreCards, AreOutside, LeadIn};
 
+use crate::expecting::expect_equal;
 use crate::images::tracked;
 use g1_choose::given;
 use g1_claim::{Claims, EMPTY};
@@ -13,6 +14,7 @@ use g1_testing::pictures::{cycle, dead_outside, gap, shared, two_roots};
 use g1_words::{Fault, Heap, object_at};
 use g1_work::{Gate, Open, Part};
 use std::alloc::{AllocError, Global};
+use std::process::Abort;
 use std::sync::atomic::{AtomicBool, AtomicU64, Ordering};
 use std::test::Fail;
 use std::thread::Threads;
@@ -59,53 +61,46 @@ fn survivors<R: Threads + Sync, G: Gate + Sync>(
     found_in(rt, alloc, &tracked, &set, workers, chunk, gate)
 }
 
-/// Tells whether these are the survivors, for few and many workers and for small and large chunks.
-fn are_survivors<R: Threads + Sync>(
-    rt: &R,
+/// Sees that these are the survivors, for few and many workers and for small and large chunks.
+fn expect_survivors<T: Threads + Abort + Sync>(
+    rt: &T,
     alloc: Global,
     lines: &str,
     regions: &[u32],
     expected: &[u64],
-) -> Result<bool, Fault> {
+) -> Result<(), Fail> {
     for (workers, chunk) in [(1, 1), (1, 65_536), (8, 1), (8, 65_536)] {
         let found = survivors(rt, alloc, lines, regions, workers, chunk, &Open)?;
-        if found.as_slice() != expected {
-            return Ok(false);
-        }
+        expect_equal(rt, found.as_slice(), expected);
     }
-    Ok(true)
+    Ok(())
 }
 
 #[test]
 fn targets_of_roots_come_by_root_number(rt: HostRuntime) -> Result<(), Fail> {
-    assert!(rt; are_survivors(&rt, rt.alloc(), two_roots(), &[1], &[18, 16])?);
-    Ok(())
+    expect_survivors(&rt, rt.alloc(), two_roots(), &[1], &[18, 16])
 }
 
 #[test]
 fn a_cycle_that_keeps_itself_is_not_found(rt: HostRuntime) -> Result<(), Fail> {
-    assert!(rt; are_survivors(&rt, rt.alloc(), cycle(), &[1], &[])?);
-    Ok(())
+    expect_survivors(&rt, rt.alloc(), cycle(), &[1], &[])
 }
 
 #[test]
 fn an_object_that_many_name_is_found_once(rt: HostRuntime) -> Result<(), Fail> {
-    assert!(rt; are_survivors(&rt, rt.alloc(), shared(), &[1], &[21, 16])?);
-    Ok(())
+    expect_survivors(&rt, rt.alloc(), shared(), &[1], &[21, 16])
 }
 
 #[test]
 fn a_dead_outside_slot_keeps_its_target(rt: HostRuntime) -> Result<(), Fail> {
-    assert!(rt; are_survivors(&rt, rt.alloc(), dead_outside(), &[1], &[16])?);
-    Ok(())
+    expect_survivors(&rt, rt.alloc(), dead_outside(), &[1], &[16])
 }
 
 #[test]
 fn a_window_of_two_regions_is_searched_as_one(rt: HostRuntime) -> Result<(), Fail> {
     let both = [0, 1];
-    assert!(rt; are_survivors(&rt, rt.alloc(), gap(), &both, &[0, 16, 21])?);
-    assert!(rt; are_survivors(&rt, rt.alloc(), shared(), &both, &[21, 16])?);
-    Ok(())
+    expect_survivors(&rt, rt.alloc(), gap(), &both, &[0, 16, 21])?;
+    expect_survivors(&rt, rt.alloc(), shared(), &both, &[21, 16])
 }
 
 /// A gate whose calls for the chunks 0 and 1 look for one another in a round, counted from 0.
@@ -158,24 +153,28 @@ impl Gate for Meeting {
     }
 }
 
-/// Tells whether two workers are in a round at the same time, and the survivors are the right ones.
-fn meets<R: Threads + Sync>(rt: &R, alloc: Global, round: u64) -> Result<bool, Fault> {
+/// Sees that two workers are in a round at the same time, and the survivors are the right ones.
+fn expect_meeting<T: Threads + Abort + Sync>(
+    rt: &T,
+    alloc: Global,
+    round: u64,
+) -> Result<(), Fail> {
     let gate = meeting_in(round);
     let found = survivors(rt, alloc, shared(), &[1], 2, 1, &gate)?;
     let both = gate.zero.load(Ordering::SeqCst) && gate.one.load(Ordering::SeqCst);
-    Ok(both && !gate.missed.load(Ordering::SeqCst) && found.as_slice() == [21, 16].as_slice())
+    assert!(rt; both && !gate.missed.load(Ordering::SeqCst));
+    expect_equal(rt, found.as_slice(), [21, 16].as_slice());
+    Ok(())
 }
 
 #[test]
 fn together(rt: HostRuntime) -> Result<(), Fail> {
-    assert!(rt; meets(&rt, rt.alloc(), 0)?);
-    Ok(())
+    expect_meeting(&rt, rt.alloc(), 0)
 }
 
 #[test]
 fn together_in_a_later_round(rt: HostRuntime) -> Result<(), Fail> {
-    assert!(rt; meets(&rt, rt.alloc(), 1)?);
-    Ok(())
+    expect_meeting(&rt, rt.alloc(), 1)
 }
 
 /// What two rounds over region 1 leave: the ranks and addresses that each won, and the words of the
@@ -290,16 +289,16 @@ fn two_rounds<R: Threads + Sync>(rt: &R, alloc: Global, lines: &str) -> Result<R
 #[test]
 fn the_least_rank_of_each_place_stays_its_word(rt: HostRuntime) -> Result<(), Fail> {
     let two = two_rounds(&rt, rt.alloc(), shared())?;
-    assert_eq!(rt; two.first.as_slice(), [(0, 21), (1, 16)].as_slice());
+    expect_equal(&rt, two.first.as_slice(), [(0, 21), (1, 16)].as_slice());
     assert!(rt; two.second.is_empty());
-    assert_eq!(rt; two.words.len(), 16);
+    expect_equal(&rt, two.words.len(), 16);
     for (place, word) in two.words.iter().enumerate() {
         let expected = match place {
             0 => 1,
             5 => 0,
             _ => EMPTY,
         };
-        assert_eq!(rt; *word, expected);
+        expect_equal(&rt, *word, expected);
     }
     Ok(())
 }

@@ -5,6 +5,7 @@ ghost use Rattle.g1_words.specs.Survivors.{AllOrdinary};
 ghost use Rattle.g1_layout.specs.Placed.{CanPlace};
 ghost use Rattle.g1_copy.specs.Plans.{IsPlanOf};
 
+use crate::expecting::expect_equal;
 use g1_layout::{Plan, Run, place};
 use g1_testing::image;
 use g1_testing::pictures::{fitted, gap, no_room, no_survivor, two_roots};
@@ -144,7 +145,7 @@ fn expect_places<T: Abort>(rt: &T, plan: &Plan, places: &[u64]) {
 /// Sees that to-space is these regions, as many as are needed.
 fn expect_to_space<T: Abort>(rt: &T, plan: &Plan, regions: &[u32], need: u64) {
     assert!(rt; plan.to_space() == regions);
-    assert_eq!(rt; plan.need(), need);
+    expect_equal(rt, plan.need(), need);
 }
 
 fn expect_runs<T: Abort>(rt: &T, plan: &Plan, runs: &[Run]) {
@@ -152,7 +153,7 @@ fn expect_runs<T: Abort>(rt: &T, plan: &Plan, runs: &[Run]) {
 }
 
 fn expect_forward<T: Abort>(rt: &T, plan: &Plan, address: u64, expected: u64) {
-    assert_eq!(rt; plan.forward(address), expected);
+    expect_equal(rt, plan.forward(address), expected);
 }
 
 #[test]
@@ -212,7 +213,7 @@ fn too_few_free_regions_are_refused_with_both_numbers(rt: HostRuntime) -> Result
 #[test]
 fn no_survivors_need_no_region(rt: HostRuntime) -> Result<(), Fail> {
     let plan = placed_in(rt.alloc(), no_survivor(), &[0], &[])?;
-    assert_eq!(rt; plan.need(), 0);
+    expect_equal(&rt, plan.need(), 0);
     expect_runs(&rt, &plan, &[]);
     expect_forward(&rt, &plan, 0, 0);
     Ok(())

@@ -30,6 +30,8 @@ mod claim;
 #[cfg(test)]
 mod copy;
 #[cfg(test)]
+mod expecting;
+#[cfg(test)]
 mod frontier;
 #[cfg(test)]
 mod images;

@@ -1,5 +1,6 @@
 ghost use Rattle.g1_work.specs.Team.{AreWorkers, IsChunk};
 
+use crate::expecting::expect_equal;
 use g1_mark::live_bytes;
 use g1_rem::Starts;
 use g1_testing::image;
@@ -7,6 +8,7 @@ use g1_testing::pictures::{humongous, shared};
 use g1_words::Fault;
 use g1_work::{Gate, Open, Part};
 use std::alloc::Global;
+use std::process::Abort;
 use std::sync::atomic::{AtomicBool, Ordering};
 use std::test::Fail;
 use std::thread::Threads;
@@ -28,32 +30,28 @@ fn live_bytes_of<R: Threads + Sync, G: Gate + Sync>(
     live_bytes(rt, alloc, image.heap(), &starts, workers, chunk, gate)
 }
 
-/// Tells whether these are the live bytes, for few and many workers and for small and large chunks.
-fn are_live_bytes<R: Threads + Sync>(
-    rt: &R,
+/// Sees that these are the live bytes, for few and many workers and for small and large chunks.
+fn expect_live_bytes<T: Threads + Abort + Sync>(
+    rt: &T,
     alloc: Global,
     lines: &str,
     expected: &[u64],
-) -> Result<bool, Fault> {
+) -> Result<(), Fail> {
     for (workers, chunk) in [(1, 1), (1, 65_536), (8, 1), (8, 65_536)] {
         let found = live_bytes_of(rt, alloc, lines, workers, chunk, &Open)?;
-        if found.as_slice() != expected {
-            return Ok(false);
-        }
+        expect_equal(rt, found.as_slice(), expected);
     }
-    Ok(true)
+    Ok(())
 }
 
 #[test]
 fn dead_objects_do_not_count(rt: HostRuntime) -> Result<(), Fail> {
-    assert!(rt; are_live_bytes(&rt, rt.alloc(), shared(), &[0, 56, 0, 0])?);
-    Ok(())
+    expect_live_bytes(&rt, rt.alloc(), shared(), &[0, 56, 0, 0])
 }
 
 #[test]
 fn a_humongous_object_counts_in_its_first_region(rt: HostRuntime) -> Result<(), Fail> {
-    assert!(rt; are_live_bytes(&rt, rt.alloc(), humongous(), &[320, 0, 0, 16, 0, 0])?);
-    Ok(())
+    expect_live_bytes(&rt, rt.alloc(), humongous(), &[320, 0, 0, 16, 0, 0])
 }
 
 /// A gate whose calls for the chunks 0 and 1 look for one another.
@@ -97,7 +95,7 @@ fn together(rt: HostRuntime) -> Result<(), Fail> {
         missed: AtomicBool::new(false),
     };
     let bytes = live_bytes_of(&rt, rt.alloc(), shared(), 2, 1, &gate)?;
-    assert_eq!(rt; bytes.as_slice(), [0, 56, 0, 0].as_slice());
+    expect_equal(&rt, bytes.as_slice(), [0, 56, 0, 0].as_slice());
     assert!(rt; gate.zero.load(Ordering::SeqCst) && gate.one.load(Ordering::SeqCst));
     assert!(rt; !gate.missed.load(Ordering::SeqCst));
     Ok(())

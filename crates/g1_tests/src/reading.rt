@@ -1,3 +1,4 @@
+use crate::expecting::expect_equal;
 use crate::images::{of_many_pieces, of_many_roots};
 use g1_image::{FromReader, encode, read};
 use g1_testing::pictures::{humongous, one_object, three_regions};
@@ -22,10 +23,10 @@ fn images_pass_one_byte_at_a_time(rt: HostRuntime) -> Result<(), Fail> {
     for lines in [one_object(), humongous(), three_regions()] {
         let bytes = text(alloc, lines)?;
         let reader = Stream::new(bytes.clone()?, usize::MAX, Trouble::Broken);
-        assert_eq!(rt;
-            again(alloc, reader)?.as_slice(),
-            bytes.as_slice(),
-            "{lines}"
+        expect_equal(
+            &rt,
+            (lines, again(alloc, reader)?.as_slice()),
+            (lines, bytes.as_slice()),
         );
     }
     Ok(())
@@ -35,9 +36,10 @@ fn images_pass_one_byte_at_a_time(rt: HostRuntime) -> Result<(), Fail> {
 fn words_lie_across_pieces(rt: HostRuntime) -> Result<(), Fail> {
     let alloc = rt.alloc();
     let bytes = of_many_pieces(alloc)?;
-    assert_eq!(rt;
+    expect_equal(
+        &rt,
         again(alloc, bytes.as_slice())?.as_slice(),
-        bytes.as_slice()
+        bytes.as_slice(),
     );
     Ok(())
 }
@@ -46,9 +48,10 @@ fn words_lie_across_pieces(rt: HostRuntime) -> Result<(), Fail> {
 fn a_long_front_is_read_whole(rt: HostRuntime) -> Result<(), Fail> {
     let alloc = rt.alloc();
     let bytes = of_many_roots(alloc)?;
-    assert_eq!(rt;
+    expect_equal(
+        &rt,
         again(alloc, bytes.as_slice())?.as_slice(),
-        bytes.as_slice()
+        bytes.as_slice(),
     );
     Ok(())
 }
@@ -70,9 +73,9 @@ fn a_read_that_fails_is_told(rt: HostRuntime) -> Result<(), Fail> {
 fn bytes_that_are_refused_are_read_to_their_end(rt: HostRuntime) -> Result<(), Fail> {
     let alloc = rt.alloc();
     let bytes = vec![in alloc; 0u8; 300]?;
-    assert_eq!(rt; again(alloc, bytes.as_slice()), Err(Fault::Magic));
+    expect_equal(&rt, again(alloc, bytes.as_slice()), Err(Fault::Magic));
     let reader = Stream::new(bytes, 299, Trouble::Broken);
-    assert_eq!(rt; again(alloc, reader), Err(Fault::Device(Device::Input)));
+    expect_equal(&rt, again(alloc, reader), Err(Fault::Device(Device::Input)));
     Ok(())
 }
 
@@ -82,12 +85,12 @@ fn the_end_is_found_once(rt: HostRuntime) -> Result<(), Fail> {
     let bytes = text(alloc, one_object())?;
     // The call after the one that finds the end would fail.
     let reader = Stream::new(bytes.clone()?, bytes.len() + 1, Trouble::Broken);
-    assert_eq!(rt; again(alloc, reader)?.as_slice(), bytes.as_slice());
+    expect_equal(&rt, again(alloc, reader)?.as_slice(), bytes.as_slice());
     let few = Vec::from_slice(alloc, &bytes[..bytes.len() / 2])?;
     let reader = Stream::new(few.clone()?, few.len() + 1, Trouble::Broken);
-    assert_eq!(rt; again(alloc, reader), Err(Fault::Short));
+    expect_equal(&rt, again(alloc, reader), Err(Fault::Short));
     let reader = Stream::new(vec![in alloc; 0u8; 30]?, 31, Trouble::Broken);
-    assert_eq!(rt; again(alloc, reader), Err(Fault::Magic));
+    expect_equal(&rt, again(alloc, reader), Err(Fault::Magic));
     Ok(())
 }
 
@@ -96,7 +99,11 @@ fn a_beginning_is_short(rt: HostRuntime) -> Result<(), Fail> {
     let alloc = rt.alloc();
     let bytes = text(alloc, one_object())?;
     for cut in 0..bytes.len() {
-        assert_eq!(rt; again(alloc, &bytes[..cut]), Err(Fault::Short), "{cut}");
+        expect_equal(
+            &rt,
+            (cut, again(alloc, &bytes[..cut])),
+            (cut, Err(Fault::Short)),
+        );
     }
     Ok(())
 }
@@ -106,9 +113,9 @@ fn a_byte_more_trails(rt: HostRuntime) -> Result<(), Fail> {
     let alloc = rt.alloc();
     let mut bytes = text(alloc, one_object())?;
     bytes.push(0)?;
-    assert_eq!(rt; again(alloc, bytes.as_slice()), Err(Fault::Trailing));
+    expect_equal(&rt, again(alloc, bytes.as_slice()), Err(Fault::Trailing));
     let reader = Stream::new(bytes, usize::MAX, Trouble::Broken);
-    assert_eq!(rt; again(alloc, reader), Err(Fault::Trailing));
+    expect_equal(&rt, again(alloc, reader), Err(Fault::Trailing));
     Ok(())
 }
 
@@ -120,10 +127,10 @@ fn words_above_a_region_are_passed_over(rt: HostRuntime) -> Result<(), Fail> {
     if let Some(top) = bytes.get_mut(48) {
         *top = 20;
     }
-    assert_eq!(rt; again(alloc, bytes.as_slice()), Err(Fault::Short));
+    expect_equal(&rt, again(alloc, bytes.as_slice()), Err(Fault::Short));
     for _ in 0..128 {
         bytes.push(0)?;
     }
-    assert_eq!(rt; again(alloc, bytes.as_slice()), Err(Fault::Shape(1)));
+    expect_equal(&rt, again(alloc, bytes.as_slice()), Err(Fault::Shape(1)));
     Ok(())
 }

@@ -1,5 +1,6 @@
 ghost use Rattle.std.specs.Prelude.{◌≡◌, ℕ, length, replicate};
 
+use crate::expecting::expect_equal;
 use g1_work::{Fill, Gate, Open, Part, each_region_mut};
 use std::sync::atomic::{AtomicBool, AtomicU64, Ordering};
 
@@ -21,7 +22,7 @@ fn each_region_is_filled_by_its_number(rt: HostRuntime) {
     for workers in [1, 2, 3, 7, 64] {
         let mut words = [9; 14];
         each_region_mut(&rt, workers, &mut words, 2, &Numbers, &Open);
-        assert_eq!(rt; words, [0, 0, 1, 1, 2, 2, 3, 3, 4, 4, 5, 5, 6, 6]);
+        expect_equal(&rt, words, [0, 0, 1, 1, 2, 2, 3, 3, 4, 4, 5, 5, 6, 6]);
     }
 }
 
@@ -48,11 +49,11 @@ fn the_gate_is_told_of_each_run_once(rt: HostRuntime) {
         calls: AtomicU64::new(0),
     };
     each_region_mut(&rt, 3, &mut [9; 14], 2, &Numbers, &gate);
-    assert_eq!(rt; gate.calls.load(Ordering::SeqCst), 0x01_0101);
+    expect_equal(&rt, gate.calls.load(Ordering::SeqCst), 0x01_0101);
     each_region_mut(&rt, 64, &mut [9; 2], 1, &Numbers, &gate);
-    assert_eq!(rt; gate.calls.load(Ordering::SeqCst), 0x01_0202);
+    expect_equal(&rt, gate.calls.load(Ordering::SeqCst), 0x01_0202);
     each_region_mut(&rt, 64, &mut [9; 0], 2, &Numbers, &gate);
-    assert_eq!(rt; gate.calls.load(Ordering::SeqCst), 0x01_0202);
+    expect_equal(&rt, gate.calls.load(Ordering::SeqCst), 0x01_0202);
 }
 
 // Runs 0 and 1 look for one another, and each is counted.
@@ -98,7 +99,7 @@ fn together(rt: HostRuntime) {
     each_region_mut(&rt, 2, &mut words, 4, &Numbers, &gate);
     assert!(rt; !gate.missed.load(Ordering::SeqCst), "a gate gave up");
     for called in &gate.called {
-        assert_eq!(rt; called.load(Ordering::SeqCst), 1);
+        expect_equal(&rt, called.load(Ordering::SeqCst), 1);
     }
-    assert_eq!(rt; words, [0, 0, 0, 0, 1, 1, 1, 1]);
+    expect_equal(&rt, words, [0, 0, 0, 0, 1, 1, 1, 1]);
 }

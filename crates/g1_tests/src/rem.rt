@@ -2,6 +2,7 @@ ghost use Rattle.std.specs.Prelude.{◌≡◌, IfSome};
 ghost use Rattle.g1_rem.specs.Slots.{slots_on};
 ghost use Rattle.g1_rem.specs.Starts.{IsStartsOf};
 
+use crate::expecting::expect_equal;
 use crate::images::tracked;
 use g1_image::Image;
 use g1_rem::{Starts, Tracked, image, leads_into, merged, refine, slots_on, verify};
@@ -78,10 +79,10 @@ fn expect_slots<T: Abort>(
     assert!(rt; found.is_some_and(|s| s.as_slice() == slots), "card {card}");
 }
 
-/// Tells whether every slot of an image is covered.
-fn is_covered(rt: &(impl Threads + Sync), alloc: Global, lines: &str) -> Result<bool, Fault> {
-    let read = g1_testing::image(alloc, lines)?;
-    Ok(verify(rt, alloc, read).is_ok())
+/// Sees that every slot of an image is covered.
+fn expect_covered(rt: &(impl Threads + Sync), alloc: Global, lines: &str) -> Result<(), Fail> {
+    tracked(rt, alloc, lines)?;
+    Ok(())
 }
 
 /// Sees which object is over a card's first word.
@@ -94,7 +95,7 @@ fn expect_first<T: Abort>(
 )
     requires { IsStartsOf heap.now starts.now }
 {
-    assert_eq!(rt; first_at(heap, starts, card), first, "card {card}");
+    expect_equal(rt, (card, first_at(heap, starts, card)), (card, first));
 }
 
 /// Sees which object is over the first word of each card, and of the one behind the last.
@@ -137,7 +138,7 @@ fn expect_slots_of<T: Abort>(
 #[test]
 fn slots_count_on_the_card_of_their_own_address(rt: HostRuntime) -> Result<(), Fail> {
     let alloc = rt.alloc();
-    assert!(rt; is_covered(&rt, alloc, dead_outside())?);
+    expect_covered(&rt, alloc, dead_outside())?;
     let read = g1_testing::image(alloc, dead_outside())?;
     let cards: [(u32, &[u64]); 4] = [(0, &[2, 3]), (1, &[4]), (2, &[]), (4, &[])];
     expect_slots_of(&rt, alloc, read.heap(), &cards)?;
@@ -147,7 +148,7 @@ fn slots_count_on_the_card_of_their_own_address(rt: HostRuntime) -> Result<(), F
 #[test]
 fn a_humongous_object_has_slots_on_cards_of_its_later_regions(rt: HostRuntime) -> Result<(), Fail> {
     let alloc = rt.alloc();
-    assert!(rt; is_covered(&rt, alloc, humongous())?);
+    expect_covered(&rt, alloc, humongous())?;
     let read = g1_testing::image(alloc, humongous())?;
     let cards: [(u32, &[u64]); 5] = [
         (0, &[1, 2, 3]),
@@ -183,7 +184,7 @@ fn expect_leads<T: Abort>(
     requires { IsStartsOf heap.now starts.now }
 {
     let found = leads_at(alloc, heap, starts, region, card);
-    assert_eq!(rt; found, Some(leads), "region {region} card {card}");
+    expect_equal(rt, (region, card, found), (region, card, Some(leads)));
 }
 
 /// Sees which cards lead into which regions.
@@ -256,9 +257,9 @@ fn the_lowest_uncovered_slot_is_named_and_the_image_comes_back(
 ) -> Result<(), Fail> {
     let alloc = rt.alloc();
     let one = refusal(&rt, alloc, uncovered())?;
-    assert_eq!(rt; one, Some((Fault::Uncovered(1), Some(2 * SIZE + 1), 0)));
+    expect_equal(&rt, one, Some((Fault::Uncovered(1), Some(2 * SIZE + 1), 0)));
     let two = refusal(&rt, alloc, BARE_TWICE)?;
-    assert_eq!(rt; two, Some((Fault::Uncovered(2), Some(3 * SIZE + 2), 0)));
+    expect_equal(&rt, two, Some((Fault::Uncovered(2), Some(3 * SIZE + 2), 0)));
     Ok(())
 }
 
@@ -267,7 +268,7 @@ fn a_dirty_card_covers_and_joins_the_set_that_it_leads_into(rt: HostRuntime) -> 
     let alloc = rt.alloc();
     let (refined, log) = refined_remembered(&rt, alloc, logged())?;
     assert!(rt; are(&refined, &[&[], &[0], &[], &[]]));
-    assert_eq!(rt; log, 1);
+    expect_equal(&rt, log, 1);
     Ok(())
 }
 
@@ -276,7 +277,7 @@ fn a_dirty_card_that_leads_nowhere_joins_no_set(rt: HostRuntime) -> Result<(), F
     let alloc = rt.alloc();
     let (refined, log) = refined_remembered(&rt, alloc, BOTH_LOGGED)?;
     assert!(rt; are(&refined, &[&[], &[1], &[], &[]]));
-    assert_eq!(rt; log, 2);
+    expect_equal(&rt, log, 2);
     Ok(())
 }
 
@@ -284,10 +285,10 @@ fn a_dirty_card_that_leads_nowhere_joins_no_set(rt: HostRuntime) -> Result<(), F
 fn two_rising_lists_become_one_with_each_card_once(rt: HostRuntime) -> Result<(), Fail> {
     let alloc = rt.alloc();
     let both = merged(alloc, &[1, 4, 9], &[0, 4, 10, 12])?;
-    assert_eq!(rt; both.as_slice(), [0, 1, 4, 9, 10, 12].as_slice());
+    expect_equal(&rt, both.as_slice(), [0, 1, 4, 9, 10, 12].as_slice());
     let left = merged(alloc, &[2, 3, 7], &[2])?;
-    assert_eq!(rt; left.as_slice(), [2, 3, 7].as_slice());
+    expect_equal(&rt, left.as_slice(), [2, 3, 7].as_slice());
     let right = merged(alloc, &[], &[5, 8])?;
-    assert_eq!(rt; right.as_slice(), [5, 8].as_slice());
+    expect_equal(&rt, right.as_slice(), [5, 8].as_slice());
     Ok(())
 }

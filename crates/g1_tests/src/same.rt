@@ -1,3 +1,4 @@
+use crate::expecting::expect_equal;
 use g1_same::{Difference, compare};
 use g1_testing::image;
 use g1_words::{Fault, Heap};
@@ -37,7 +38,7 @@ fn expect<T: Abort>(
     line: &str,
 ) -> Result<(), Fault> {
     let found = told_of(alloc, before, after)?;
-    assert_eq!(rt; found.as_str(), line);
+    expect_equal(rt, found.as_str(), line);
     Ok(())
 }
 

@@ -1,5 +1,6 @@
 ghost use Rattle.g1_work.specs.Team.{AreWorkers};
 
+use crate::expecting::expect_equal;
 use g1_choose::Cost;
 use g1_trace::{Command, Mutator, Reply, parse_trace, run_text, run_trace};
 use g1_words::{Fault, Geometry};
@@ -159,9 +160,9 @@ fn expect_lines<T: Threads + Abort + Sync>(
     requires { AreWorkers workers }
 {
     let told = told_when_parsed(rt, alloc, text, workers)?;
-    assert_eq!(rt; told.as_slice(), lines, "{workers} workers");
+    expect_equal(rt, (workers, told.as_slice()), (workers, lines));
     let told = run_text(rt, alloc, text, &COST, workers, 1, &Open)?;
-    assert_eq!(rt; told.as_slice(), lines, "{workers} workers");
+    expect_equal(rt, (workers, told.as_slice()), (workers, lines));
     Ok(())
 }
 
@@ -305,7 +306,7 @@ fn sizes_are_judged_when_every_line_is_read(rt: HostRuntime) -> Result<(), Fail>
         1,
         &Open,
     )?;
-    assert_eq!(rt; told.as_slice(), b"1\n".as_slice());
+    expect_equal(&rt, told.as_slice(), b"1\n".as_slice());
     Ok(())
 }
 

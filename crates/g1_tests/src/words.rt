@@ -1,3 +1,4 @@
+use crate::expecting::expect_equal;
 use g1_words::{
     Device, Fault, Geometry, Kind, Object, Place, Stand, card_of, header, region_of, slots_of,
 };
@@ -13,7 +14,7 @@ fn expect_text<T: Abort, D: Display>(
     text: &str,
 ) -> Result<(), Fail> {
     let told = format!(in alloc; "{value}")?;
-    assert_eq!(rt; told.as_str(), text);
+    expect_equal(rt, told.as_str(), text);
     Ok(())
 }
 
@@ -24,7 +25,7 @@ fn expect_told<T: Abort>(
     number: u8,
     text: &str,
 ) -> Result<(), Fail> {
-    assert_eq!(rt; fault.number(), number, "{text}");
+    expect_equal(rt, (text, fault.number()), (text, number));
     expect_text(rt, alloc, &fault, text)
 }
 
@@ -74,7 +75,7 @@ fn expect_kind<T: Abort>(
     number: u32,
     text: &str,
 ) -> Result<(), Fail> {
-    assert_eq!(rt; kind.number(), number, "{text}");
+    expect_equal(rt, (text, kind.number()), (text, number));
     assert!(rt; Kind::of_number(number) == Some(kind), "{text}");
     expect_text(rt, alloc, &kind, text)
 }
@@ -133,8 +134,8 @@ fn addresses_by_division(rt: HostRuntime) -> Result<(), Fail> {
         (63, 3, 15),
         (640, 40, 160),
     ] {
-        assert_eq!(rt; region_of(&geometry, address), region);
-        assert_eq!(rt; card_of(&geometry, address), card);
+        expect_equal(&rt, region_of(&geometry, address), region);
+        expect_equal(&rt, card_of(&geometry, address), card);
     }
     Ok(())
 }
@@ -146,23 +147,24 @@ fn an_object_by_its_header(rt: HostRuntime) {
         size: 5,
         refs: 3,
     };
-    assert_eq!(rt; slots_of(&object), (17, 3));
-    assert_eq!(rt;
+    expect_equal(&rt, slots_of(&object), (17, 3));
+    expect_equal(
+        &rt,
         header(&[0, 5 * 4_294_967_296 + 3], 1),
         Object {
             at: 1,
             size: 5,
-            refs: 3
-        }
+            refs: 3,
+        },
     );
 }
 
 #[test]
 fn starts_of_regions(rt: HostRuntime) -> Result<(), Fail> {
     let geometry = Geometry::new(32, 8, 6)?;
-    assert_eq!(rt; geometry.words(), 192);
+    expect_equal(&rt, geometry.words(), 192);
     for (region, start) in [(0, 0), (1, 32), (5, 160)] {
-        assert_eq!(rt; geometry.start(region), start);
+        expect_equal(&rt, geometry.start(region), start);
     }
     Ok(())
 }
@@ -170,10 +172,10 @@ fn starts_of_regions(rt: HostRuntime) -> Result<(), Fail> {
 #[test]
 fn starts_of_cards(rt: HostRuntime) -> Result<(), Fail> {
     let geometry = Geometry::new(32, 8, 6)?;
-    assert_eq!(rt; geometry.cards(), 24);
+    expect_equal(&rt, geometry.cards(), 24);
     for (card, start, region) in [(0, 0, 0), (3, 24, 0), (4, 32, 1), (23, 184, 5)] {
-        assert_eq!(rt; geometry.card_start(card), start);
-        assert_eq!(rt; geometry.region_of_card(card), region);
+        expect_equal(&rt, geometry.card_start(card), start);
+        expect_equal(&rt, geometry.region_of_card(card), region);
     }
     Ok(())
 }

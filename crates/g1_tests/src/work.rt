@@ -2,6 +2,7 @@ ghost use Rattle.std.specs.Prelude.{◌≡◌, ◌<◌, ◌+◌, ◌^◌, ◌*�
 ghost use Rattle.g1_words.specs.declared.fault.Fault.TheVariants.{Line};
 ghost use Rattle.g1_work.specs.Dealer.{IsSeatOf};
 
+use crate::expecting::expect_equal;
 use g1_words::Fault;
 use g1_work::{DealSeat, Dealer, Gate, Open, Part, Task, each_chunk, shares};
 use std::alloc::{AllocError, Global};
@@ -17,7 +18,7 @@ fn expect_draw<T: Abort>(rt: &T, dealer: &Dealer, seat: &mut DealSeat, expected:
     ensures seat { IsSeatOf dealer.now seat.new }
     ensures shares { seat.new.shares ≡ seat.old.shares }
 {
-    assert_eq!(rt; dealer.take(seat), expected);
+    expect_equal(rt, dealer.take(seat), expected);
 }
 
 #[test]
@@ -28,7 +29,7 @@ fn one_seat_draws_each_number_and_then_none(rt: HostRuntime) -> Result<(), Fail>
     expect_draw(&rt, &dealer, &mut seat, Some(2));
     expect_draw(&rt, &dealer, &mut seat, None);
     expect_draw(&rt, &dealer, &mut seat, None);
-    assert_eq!(rt; dealer.close(seat), 4);
+    expect_equal(&rt, dealer.close(seat), 4);
     Ok(())
 }
 
@@ -36,12 +37,12 @@ fn one_seat_draws_each_number_and_then_none(rt: HostRuntime) -> Result<(), Fail>
 fn another_seat_sees_a_draw(rt: HostRuntime) -> Result<(), Fail> {
     let (dealer, mut seat) = Dealer::new(rt.alloc(), 3)?;
     let mut other = dealer.split(&mut seat);
-    assert_eq!(rt; (shares(&seat), shares(&other)), (63, 1));
+    expect_equal(&rt, (shares(&seat), shares(&other)), (63, 1));
     expect_draw(&rt, &dealer, &mut seat, Some(0));
-    assert_eq!(rt; dealer.drawn(&mut other), 1);
+    expect_equal(&rt, dealer.drawn(&mut other), 1);
     dealer.join(&mut seat, other);
-    assert_eq!(rt; shares(&seat), 64);
-    assert_eq!(rt; dealer.close(seat), 1);
+    expect_equal(&rt, shares(&seat), 64);
+    expect_equal(&rt, dealer.close(seat), 1);
     Ok(())
 }
 
@@ -156,9 +157,9 @@ fn all_drawn<R: Threads + Wait>(
 }
 
 fn expect_each_below<T: Abort>(rt: &T, numbers: &[u64], count: usize) {
-    assert_eq!(rt; numbers.len(), count);
+    expect_equal(rt, numbers.len(), count);
     for (index, number) in numbers.iter().enumerate() {
-        assert_eq!(rt; *number, index as u64);
+        expect_equal(rt, *number, index as u64);
     }
 }
 
@@ -166,7 +167,7 @@ fn expect_each_below<T: Abort>(rt: &T, numbers: &[u64], count: usize) {
 fn four_threads_draw_each_number_once(rt: HostRuntime) -> Result<(), Fail> {
     let (dealer, mut seat) = Dealer::new(rt.alloc(), 1000)?;
     let mut all = all_drawn(&rt, rt.alloc(), &dealer, &mut seat)?;
-    assert_eq!(rt; dealer.close(seat), 1004);
+    expect_equal(&rt, dealer.close(seat), 1004);
     all.sort_unstable();
     expect_each_below(&rt, &all, 1000);
     Ok(())
@@ -220,27 +221,28 @@ fn are_squares(states: &[u64], outs: &[u64], workers: usize, chunks: u64) -> boo
     right
 }
 
-fn has_squares<R: Threads + Sync>(
-    rt: &R,
+// Sees that these workers square these chunks.
+fn expect_squares<T: Threads + Abort + Sync>(
+    rt: &T,
     alloc: Global,
     workers: usize,
     chunks: u64,
-) -> Result<bool, Fault>
+) -> Result<(), Fail>
     requires chunks { chunks < 2 ^ 32 }
     requires workers { (0 < workers) × (workers ≤ 64) }
 {
     let (states, outs) = squared_chunks(rt, alloc, workers, chunks, &Open)?;
-    Ok(are_squares(&states, &outs, workers, chunks))
+    assert!(rt; are_squares(&states, &outs, workers, chunks));
+    Ok(())
 }
 
 #[test]
 fn outs_stand_in_the_order_of_chunks(rt: HostRuntime) -> Result<(), Fail> {
-    assert!(rt; has_squares(&rt, rt.alloc(), 1, 100)?);
-    assert!(rt; has_squares(&rt, rt.alloc(), 3, 100)?);
-    assert!(rt; has_squares(&rt, rt.alloc(), 64, 100)?);
-    assert!(rt; has_squares(&rt, rt.alloc(), 64, 1)?);
-    assert!(rt; has_squares(&rt, rt.alloc(), 3, 0)?);
-    Ok(())
+    expect_squares(&rt, rt.alloc(), 1, 100)?;
+    expect_squares(&rt, rt.alloc(), 3, 100)?;
+    expect_squares(&rt, rt.alloc(), 64, 100)?;
+    expect_squares(&rt, rt.alloc(), 64, 1)?;
+    expect_squares(&rt, rt.alloc(), 3, 0)
 }
 
 // Gives up on one chunk.
@@ -270,7 +272,7 @@ fn a_failed_run_is_the_answer(rt: HostRuntime) -> Result<(), Fail> {
     let states = vec![in rt.alloc(); (); 3]?;
     match each_chunk(&rt, rt.alloc(), states, 8, &Refuses, &Open) {
         Ok(_) => panic!(rt; "no fault"),
-        Err(fault) => assert_eq!(rt; fault, Fault::Line(5)),
+        Err(fault) => expect_equal(&rt, fault, Fault::Line(5)),
     }
     Ok(())
 }
@@ -295,9 +297,17 @@ fn the_gate_is_told_of_each_chunk_once(rt: HostRuntime) -> Result<(), Fail> {
         calls: AtomicU64::new(0),
     };
     squared_chunks(&rt, rt.alloc(), 3, 8, &gate)?;
-    assert_eq!(rt; gate.calls.load(Ordering::SeqCst), 0x0101_0101_0101_0101);
+    expect_equal(
+        &rt,
+        gate.calls.load(Ordering::SeqCst),
+        0x0101_0101_0101_0101,
+    );
     squared_chunks(&rt, rt.alloc(), 3, 1, &gate)?;
-    assert_eq!(rt; gate.calls.load(Ordering::SeqCst), 0x0101_0101_0101_0102);
+    expect_equal(
+        &rt,
+        gate.calls.load(Ordering::SeqCst),
+        0x0101_0101_0101_0102,
+    );
     Ok(())
 }
 
@@ -344,6 +354,10 @@ fn together(rt: HostRuntime) -> Result<(), Fail> {
     };
     let (_, outs) = squared_chunks(&rt, rt.alloc(), 2, 8, &gate)?;
     assert!(rt; !gate.missed.load(Ordering::SeqCst), "a gate gave up");
-    assert_eq!(rt; outs.as_slice(), [0, 1, 4, 9, 16, 25, 36, 49].as_slice());
+    expect_equal(
+        &rt,
+        outs.as_slice(),
+        [0, 1, 4, 9, 16, 25, 36, 49].as_slice(),
+    );
     Ok(())
 }

@@ -1,3 +1,4 @@
+use crate::expecting::expect_equal;
 use crate::images::{of_many_pieces, of_many_roots};
 use g1_image::{Image, ToWriter, decode, write};
 use g1_testing::pictures::{humongous, one_object, three_regions};
@@ -38,7 +39,7 @@ fn expect_written<T: Abort>(
 ) {
     let (found, answer) = written(alloc, image, trouble_at, trouble);
     assert!(rt; answer == told, "{trouble_at}");
-    assert_eq!(rt; found.as_slice(), bytes, "{trouble_at}");
+    expect_equal(rt, (trouble_at, found.as_slice()), (trouble_at, bytes));
 }
 
 fn expect_text<T: Abort>(rt: &T, alloc: Global, lines: &str) -> Result<(), Fault> {
@@ -68,9 +69,10 @@ fn texts_pass_one_byte_at_a_time(rt: HostRuntime) -> Result<(), Fail> {
 fn words_go_out_in_pieces(rt: HostRuntime) -> Result<(), Fail> {
     let alloc = rt.alloc();
     let bytes = of_many_pieces(alloc)?;
-    assert_eq!(rt;
+    expect_equal(
+        &rt,
         again(alloc, bytes.as_slice())?.as_slice(),
-        bytes.as_slice()
+        bytes.as_slice(),
     );
     Ok(())
 }
@@ -79,9 +81,10 @@ fn words_go_out_in_pieces(rt: HostRuntime) -> Result<(), Fail> {
 fn a_long_front_goes_out_whole(rt: HostRuntime) -> Result<(), Fail> {
     let alloc = rt.alloc();
     let bytes = of_many_roots(alloc)?;
-    assert_eq!(rt;
+    expect_equal(
+        &rt,
         again(alloc, bytes.as_slice())?.as_slice(),
-        bytes.as_slice()
+        bytes.as_slice(),
     );
     Ok(())
 }

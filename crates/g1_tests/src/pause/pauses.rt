@@ -1,4 +1,5 @@
 use super::vectors::*;
+use crate::expecting::expect_equal;
 use crate::images::tracked;
 use g1_choose::Cost;
 use g1_image::encode;
@@ -9,6 +10,7 @@ use g1_testing::{Sketch, text};
 use g1_words::Fault;
 use g1_work::{Gate, Open, Part};
 use std::alloc::{AllocError, Global};
+use std::process::Abort;
 use std::sync::atomic::{AtomicBool, AtomicU64, Ordering};
 use std::test::Fail;
 use std::thread::Threads;
@@ -45,31 +47,42 @@ fn after<R: Threads + Sync>(
     pause_bytes(rt, alloc, &before, &settings, &Open)
 }
 
-/// Tells whether the pause that collects these regions makes the one image the other.
-fn becomes<R: Threads + Sync>(
-    rt: &R,
+/// Sees that the pause that collects these regions makes the one image the other.
+fn expect_after<T: Threads + Abort + Sync>(
+    rt: &T,
     alloc: Global,
     before: &str,
     regions: &[u32],
     expected: &str,
-) -> Result<bool, Fault> {
+) -> Result<(), Fail> {
     let found = after(rt, alloc, before, regions)?;
     let expected = text(alloc, expected)?;
-    Ok(found.as_slice() == expected.as_slice())
+    expect_equal(rt, found.as_slice(), expected.as_slice());
+    Ok(())
 }
 
-/// Tells whether the pause makes the one image the other, for any number of workers and for small
-/// and large chunks.
-fn always_becomes<R: Threads + Sync>(
-    rt: &R,
+/// Sees that the pause is refused with this fault.
+fn expect_refused<T: Threads + Abort + Sync>(
+    rt: &T,
+    alloc: Global,
+    before: &str,
+    regions: &[u32],
+    fault: Fault,
+) {
+    expect_equal(rt, after(rt, alloc, before, regions).err(), Some(fault));
+}
+
+/// Sees that the pause makes the one image the other, for any number of workers and for small and
+/// large chunks.
+fn expect_always_after<T: Threads + Abort + Sync>(
+    rt: &T,
     alloc: Global,
     before: &str,
     regions: &[u32],
     expected: &str,
-) -> Result<bool, Fault> {
+) -> Result<(), Fail> {
     let before = text(alloc, before)?;
     let expected = text(alloc, expected)?;
-    let mut equal = true;
     for (workers, chunk) in [
         (1, 1),
         (1, 65_536),
@@ -80,25 +93,26 @@ fn always_becomes<R: Threads + Sync>(
     ] {
         let settings = collecting(alloc, regions, workers, chunk)?;
         let found = pause_bytes(rt, alloc, &before, &settings, &Open)?;
-        equal = equal && found.as_slice() == expected.as_slice();
+        expect_equal(rt, found.as_slice(), expected.as_slice());
     }
-    Ok(equal)
+    Ok(())
 }
 
-/// Tells whether what a budget buys makes the one image the other.
-fn buys<R: Threads + Sync>(
-    rt: &R,
+/// Sees that what a budget buys makes the one image the other.
+fn expect_after_budget<T: Threads + Abort + Sync>(
+    rt: &T,
     alloc: Global,
     before: &str,
     cost: Cost,
     budget: u64,
     expected: &str,
-) -> Result<bool, Fault> {
+) -> Result<(), Fail> {
     let settings = Settings::new(1, 64, cost, Choice::Budget(budget))?;
     let before = text(alloc, before)?;
     let found = pause_bytes(rt, alloc, &before, &settings, &Open)?;
     let expected = text(alloc, expected)?;
-    Ok(found.as_slice() == expected.as_slice())
+    expect_equal(rt, found.as_slice(), expected.as_slice());
+    Ok(())
 }
 
 /// What a pause hands back, and its report where it was not refused.
@@ -145,57 +159,63 @@ fn frees(report: &Option<Report>, humongous: &[u32]) -> bool {
 
 #[test]
 fn an_object_moves_to_the_lowest_free_region(rt: HostRuntime) -> Result<(), Fail> {
-    assert!(rt; becomes(&rt, rt.alloc(), one_object(), &[1], one_object_after())?);
+    expect_after(&rt, rt.alloc(), one_object(), &[1], one_object_after())
+}
+
+/// Sees that a pause that collects region 1 makes the one text the other.
+fn expect_bytes_after<T: Threads + Abort + Sync>(
+    rt: &T,
+    alloc: Global,
+    before: &[u8],
+    expected: &[u8],
+) -> Result<(), Fail> {
+    let before = bytes_of(alloc, before)?;
+    let expected = bytes_of(alloc, expected)?;
+    let settings = collecting(alloc, &[1], 1, 64)?;
+    let found = pause_bytes(rt, alloc, &before, &settings, &Open)?;
+    expect_equal(rt, found.as_slice(), expected.as_slice());
     Ok(())
 }
 
-/// Tells whether the lines draw the one text, and a pause that collects region 1 makes the other of it.
-fn becomes_bytes<R: Threads + Sync>(
-    rt: &R,
-    alloc: Global,
-    before: &str,
-    bytes: &[u8],
-    expected: &[u8],
-) -> Result<bool, Fault> {
-    let bytes = bytes_of(alloc, bytes)?;
-    let settings = collecting(alloc, &[1], 1, 64)?;
-    let found = pause_bytes(rt, alloc, &bytes, &settings, &Open)?;
-    Ok(bytes == text(alloc, before)? && found == bytes_of(alloc, expected)?)
+/// Sees that the lines draw this text.
+fn expect_drawn<T: Abort>(rt: &T, alloc: Global, lines: &str, expected: &[u8]) -> Result<(), Fail> {
+    let drawn = text(alloc, lines)?;
+    let expected = bytes_of(alloc, expected)?;
+    expect_equal(rt, drawn.as_slice(), expected.as_slice());
+    Ok(())
 }
 
 #[test]
 fn a_root_names_the_new_place_byte_for_byte(rt: HostRuntime) -> Result<(), Fail> {
-    let (before, after) = (ONE_OBJECT_BYTES, ONE_OBJECT_AFTER_BYTES);
-    assert!(rt; becomes_bytes(&rt, rt.alloc(), one_object(), before, after)?);
-    Ok(())
+    expect_drawn(&rt, rt.alloc(), one_object(), ONE_OBJECT_BYTES)?;
+    expect_bytes_after(&rt, rt.alloc(), ONE_OBJECT_BYTES, ONE_OBJECT_AFTER_BYTES)
 }
 
 #[test]
 fn a_text_of_version_one_becomes_one_of_version_two(rt: HostRuntime) -> Result<(), Fail> {
-    let bytes = bytes_of(rt.alloc(), ONE_OBJECT_IN_VERSION_ONE)?;
-    let settings = collecting(rt.alloc(), &[1], 1, 64)?;
-    let found = pause_bytes(&rt, rt.alloc(), &bytes, &settings, &Open)?;
-    assert!(rt; found == bytes_of(rt.alloc(), ONE_OBJECT_AFTER_BYTES)?);
-    Ok(())
+    let (before, after) = (ONE_OBJECT_IN_VERSION_ONE, ONE_OBJECT_AFTER_BYTES);
+    expect_bytes_after(&rt, rt.alloc(), before, after)
 }
 
 #[test]
 fn an_outside_slot_names_the_new_place_byte_for_byte(rt: HostRuntime) -> Result<(), Fail> {
-    let (before, after) = (OUTSIDE_SLOT_BYTES, OUTSIDE_SLOT_AFTER_BYTES);
-    assert!(rt; becomes_bytes(&rt, rt.alloc(), outside_slot(), before, after)?);
-    Ok(())
+    expect_drawn(&rt, rt.alloc(), outside_slot(), OUTSIDE_SLOT_BYTES)?;
+    expect_bytes_after(
+        &rt,
+        rt.alloc(),
+        OUTSIDE_SLOT_BYTES,
+        OUTSIDE_SLOT_AFTER_BYTES,
+    )
 }
 
 #[test]
 fn a_remembered_set_moves_with_its_object(rt: HostRuntime) -> Result<(), Fail> {
-    assert!(rt; becomes(&rt, rt.alloc(), outside_slot(), &[1], outside_slot_after())?);
-    Ok(())
+    expect_after(&rt, rt.alloc(), outside_slot(), &[1], outside_slot_after())
 }
 
 #[test]
 fn an_empty_set_empties_the_log(rt: HostRuntime) -> Result<(), Fail> {
-    assert!(rt; buys(&rt, rt.alloc(), dirty(), FREE_OF_COST, 0, clean())?);
-    Ok(())
+    expect_after_budget(&rt, rt.alloc(), dirty(), FREE_OF_COST, 0, clean())
 }
 
 #[test]
@@ -204,110 +224,95 @@ fn a_budget_below_all_costs_is_no_refusal(rt: HostRuntime) -> Result<(), Fail> {
         dirty: 1,
         ..FREE_OF_COST
     };
-    assert!(rt; buys(&rt, rt.alloc(), dirty(), cost, 0, clean())?);
-    Ok(())
+    expect_after_budget(&rt, rt.alloc(), dirty(), cost, 0, clean())
 }
 
 #[test]
 fn survivors_stand_by_root_number(rt: HostRuntime) -> Result<(), Fail> {
-    assert!(rt; becomes(&rt, rt.alloc(), two_roots(), &[1], two_roots_after())?);
-    Ok(())
+    expect_after(&rt, rt.alloc(), two_roots(), &[1], two_roots_after())
 }
 
 #[test]
 fn a_cycle_that_keeps_itself_is_freed(rt: HostRuntime) -> Result<(), Fail> {
-    assert!(rt; becomes(&rt, rt.alloc(), cycle(), &[1], cycle_after())?);
-    Ok(())
+    expect_after(&rt, rt.alloc(), cycle(), &[1], cycle_after())
 }
 
 #[test]
 fn an_object_that_many_name_moves_once(rt: HostRuntime) -> Result<(), Fail> {
-    assert!(rt; always_becomes(&rt, rt.alloc(), shared(), &[1], shared_after())?);
-    Ok(())
+    expect_always_after(&rt, rt.alloc(), shared(), &[1], shared_after())
 }
 
 #[test]
 fn a_dead_outside_slot_keeps_its_target(rt: HostRuntime) -> Result<(), Fail> {
-    assert!(rt; becomes(&rt, rt.alloc(), dead_outside(), &[1], dead_outside_after())?);
-    Ok(())
+    expect_after(&rt, rt.alloc(), dead_outside(), &[1], dead_outside_after())
 }
 
 #[test]
 fn a_humongous_slot_follows_its_target(rt: HostRuntime) -> Result<(), Fail> {
-    assert!(rt; becomes(&rt, rt.alloc(), humongous(), &[3], humongous_after())?);
-    Ok(())
+    expect_after(&rt, rt.alloc(), humongous(), &[3], humongous_after())
 }
 
 #[test]
 fn a_gap_that_is_too_small_stays(rt: HostRuntime) -> Result<(), Fail> {
-    assert!(rt; always_becomes(&rt, rt.alloc(), gap(), &[0, 1], gap_after())?);
-    Ok(())
+    expect_always_after(&rt, rt.alloc(), gap(), &[0, 1], gap_after())
 }
 
 #[test]
 fn a_given_set_counts_in_any_order(rt: HostRuntime) -> Result<(), Fail> {
-    assert!(rt; becomes(&rt, rt.alloc(), gap(), &[1, 0], gap_after())?);
-    Ok(())
+    expect_after(&rt, rt.alloc(), gap(), &[1, 0], gap_after())
 }
 
 #[test]
 fn an_object_that_just_fits_fills_the_region(rt: HostRuntime) -> Result<(), Fail> {
-    assert!(rt; becomes(&rt, rt.alloc(), fitted(), &[0, 1], fitted_after())?);
-    Ok(())
+    expect_after(&rt, rt.alloc(), fitted(), &[0, 1], fitted_after())
 }
 
 #[test]
 fn no_survivors_need_no_free_region(rt: HostRuntime) -> Result<(), Fail> {
-    assert!(rt; becomes(&rt, rt.alloc(), no_survivor(), &[0], no_survivor_after())?);
-    Ok(())
+    expect_after(&rt, rt.alloc(), no_survivor(), &[0], no_survivor_after())
 }
 
 #[test]
-fn too_few_free_regions_are_counted(rt: HostRuntime) -> Result<(), Fail> {
-    let told = after(&rt, rt.alloc(), no_room(), &[0, 1]).err();
-    assert!(rt; told == Some(Fault::Room { need: 2, free: 1 }));
-    Ok(())
+fn too_few_free_regions_are_counted(rt: HostRuntime) {
+    expect_refused(
+        &rt,
+        rt.alloc(),
+        no_room(),
+        &[0, 1],
+        Fault::Room { need: 2, free: 1 },
+    );
 }
 
 #[test]
 fn a_budget_collects_what_it_buys(rt: HostRuntime) -> Result<(), Fail> {
     let cost = Cost { fixed: 10, ..UNIT };
-    assert!(rt;
-        buys(
-            &rt,
-            rt.alloc(),
-            three_regions(),
-            cost,
-            42,
-            three_regions_after()
-        )?
-    );
-    Ok(())
+    expect_after_budget(
+        &rt,
+        rt.alloc(),
+        three_regions(),
+        cost,
+        42,
+        three_regions_after(),
+    )
 }
 
 #[test]
-fn a_slot_without_cover_is_refused(rt: HostRuntime) -> Result<(), Fail> {
-    let told = after(&rt, rt.alloc(), uncovered(), &[1]).err();
-    assert!(rt; told == Some(Fault::Uncovered(1)));
-    Ok(())
+fn a_slot_without_cover_is_refused(rt: HostRuntime) {
+    expect_refused(&rt, rt.alloc(), uncovered(), &[1], Fault::Uncovered(1));
 }
 
 #[test]
 fn a_logged_card_serves_as_cover(rt: HostRuntime) -> Result<(), Fail> {
-    assert!(rt; becomes(&rt, rt.alloc(), logged(), &[1], outside_slot_after())?);
-    Ok(())
+    expect_after(&rt, rt.alloc(), logged(), &[1], outside_slot_after())
 }
 
 #[test]
-fn the_first_bad_region_is_told(rt: HostRuntime) -> Result<(), Fail> {
+fn the_first_bad_region_is_told(rt: HostRuntime) {
     let refused: [(&[u32], u32); 4] = [(&[1, 1], 1), (&[4], 4), (&[2, 1], 2), (&[1, 0, 9], 0)];
     for (regions, region) in refused {
-        let told = after(&rt, rt.alloc(), one_object(), regions).err();
-        assert!(rt; told == Some(Fault::Set(region)), "{region}");
+        expect_refused(&rt, rt.alloc(), one_object(), regions, Fault::Set(region));
     }
-    let told = after(&rt, rt.alloc(), humongous(), &[0]).err();
-    assert!(rt; told == Some(Fault::Set(0)));
-    Ok(())
+    expect_refused(&rt, rt.alloc(), humongous(), &[0], Fault::Set(0));
 }
 
 /// How many cards a region of the crowd has.
@@ -337,36 +342,31 @@ fn every_card_of_a_region_leads_to_one_object(rt: HostRuntime) -> Result<(), Fai
     for workers in [1, 64] {
         let settings = collecting(alloc, &[1], workers, 1)?;
         let found = pause_bytes(&rt, alloc, &before, &settings, &Open)?;
-        assert!(rt; found.as_slice() == expected.as_slice(), "{workers}");
+        expect_equal(&rt, found.as_slice(), expected.as_slice());
     }
     Ok(())
 }
 
 #[test]
 fn a_kept_set_gets_the_card_of_a_copy(rt: HostRuntime) -> Result<(), Fail> {
-    assert!(rt; becomes(&rt, rt.alloc(), mutual(), &[1], mutual_after())?);
-    Ok(())
+    expect_after(&rt, rt.alloc(), mutual(), &[1], mutual_after())
 }
 
 #[test]
 fn a_card_that_is_out_of_date_stays_with_its_region(rt: HostRuntime) -> Result<(), Fail> {
-    assert!(rt;
-        becomes(
-            &rt,
-            rt.alloc(),
-            three_regions(),
-            &[1],
-            three_regions_later()
-        )?
-    );
-    Ok(())
+    expect_after(
+        &rt,
+        rt.alloc(),
+        three_regions(),
+        &[1],
+        three_regions_later(),
+    )
 }
 
 #[test]
 fn a_pause_follows_a_pause(rt: HostRuntime) -> Result<(), Fail> {
-    assert!(rt; becomes(&rt, rt.alloc(), shared_after(), &[2], shared_back())?);
-    assert!(rt; becomes(&rt, rt.alloc(), shared_back(), &[1], shared_after())?);
-    Ok(())
+    expect_after(&rt, rt.alloc(), shared_after(), &[2], shared_back())?;
+    expect_after(&rt, rt.alloc(), shared_back(), &[1], shared_after())
 }
 
 #[test]
@@ -374,7 +374,8 @@ fn a_report_counts_what_was_copied(rt: HostRuntime) -> Result<(), Fail> {
     let settings = collecting(rt.alloc(), &[1], 1, 64)?;
     let (after, report) = evacuated(&rt, rt.alloc(), shared(), &settings, &Open)?;
     assert!(rt; counts(&report, &[1], &[2], 2, 7));
-    assert!(rt; after == text(rt.alloc(), shared_after())?);
+    let expected = text(rt.alloc(), shared_after())?;
+    expect_equal(&rt, after.as_slice(), expected.as_slice());
     Ok(())
 }
 
@@ -388,37 +389,31 @@ fn a_report_names_all_regions(rt: HostRuntime) -> Result<(), Fail> {
 
 #[test]
 fn what_nothing_names_is_freed_at_once(rt: HostRuntime) -> Result<(), Fail> {
-    assert!(rt; always_becomes(&rt, rt.alloc(), chain(), &[], chain_after())?);
-    assert!(rt; becomes(&rt, rt.alloc(), chain_after(), &[], chain_after_two())?);
-    Ok(())
+    expect_always_after(&rt, rt.alloc(), chain(), &[], chain_after())?;
+    expect_after(&rt, rt.alloc(), chain_after(), &[], chain_after_two())
 }
 
 #[test]
 fn a_slot_of_its_own_keeps_no_object(rt: HostRuntime) -> Result<(), Fail> {
-    assert!(rt; becomes(&rt, rt.alloc(), own_slot(), &[], own_slot_after())?);
-    Ok(())
+    expect_after(&rt, rt.alloc(), own_slot(), &[], own_slot_after())
 }
 
 #[test]
 fn a_dead_slot_keeps_a_humongous_object(rt: HostRuntime) -> Result<(), Fail> {
     let (before, after) = (named_by_the_dead(), named_by_the_dead_after());
-    assert!(rt; becomes(&rt, rt.alloc(), before, &[], before)?);
-    assert!(rt; becomes(&rt, rt.alloc(), before, &[0], after)?);
-    Ok(())
+    expect_after(&rt, rt.alloc(), before, &[], before)?;
+    expect_after(&rt, rt.alloc(), before, &[0], after)
 }
 
 #[test]
 fn what_a_freed_object_names_is_copied(rt: HostRuntime) -> Result<(), Fail> {
-    assert!(rt;
-        becomes(
-            &rt,
-            rt.alloc(),
-            unnamed_owner(),
-            &[3],
-            unnamed_owner_after()
-        )?
-    );
-    Ok(())
+    expect_after(
+        &rt,
+        rt.alloc(),
+        unnamed_owner(),
+        &[3],
+        unnamed_owner_after(),
+    )
 }
 
 #[test]
@@ -430,27 +425,35 @@ fn a_report_names_the_humongous_objects_that_were_freed(rt: HostRuntime) -> Resu
     Ok(())
 }
 
-/// Tells whether the refusal of a pause hands back the very image.
-fn is_handed_back<R: Threads + Sync>(
-    rt: &R,
+/// Sees that the refusal of a pause hands back the very image.
+fn expect_handed_back<T: Threads + Abort + Sync>(
+    rt: &T,
     alloc: Global,
     before: &str,
     regions: &[u32],
-) -> Result<bool, Fault> {
+) -> Result<(), Fail> {
     let settings = collecting(alloc, regions, 1, 64)?;
     let (same, report) = evacuated(rt, alloc, before, &settings, &Open)?;
-    Ok(report.is_none() && same == text(alloc, before)?)
+    assert!(rt; report.is_none());
+    let before = text(alloc, before)?;
+    expect_equal(rt, same.as_slice(), before.as_slice());
+    Ok(())
 }
 
 #[test]
 fn a_refused_pause_leaves_the_image(rt: HostRuntime) -> Result<(), Fail> {
     // The dirty card is still in the log.
-    assert!(rt; is_handed_back(&rt, rt.alloc(), no_room(), &[0, 1])?);
-    assert!(rt; is_handed_back(&rt, rt.alloc(), logged(), &[1, 2])?);
+    expect_handed_back(&rt, rt.alloc(), no_room(), &[0, 1])?;
+    expect_handed_back(&rt, rt.alloc(), logged(), &[1, 2])?;
     // What the pause would free is no room for its survivors, and is still there.
-    let told = after(&rt, rt.alloc(), full_of_garbage(), &[2]).err();
-    assert!(rt; told == Some(Fault::Room { need: 1, free: 0 }));
-    assert!(rt; is_handed_back(&rt, rt.alloc(), full_of_garbage(), &[2])?);
+    expect_refused(
+        &rt,
+        rt.alloc(),
+        full_of_garbage(),
+        &[2],
+        Fault::Room { need: 1, free: 0 },
+    );
+    expect_handed_back(&rt, rt.alloc(), full_of_garbage(), &[2])?;
     Ok(())
 }
 
@@ -477,8 +480,9 @@ fn a_commit_fills_a_run_for_each_worker(rt: HostRuntime) -> Result<(), Fail> {
     };
     let settings = collecting(alloc, &[0, 1], 3, 64)?;
     let (after, _) = evacuated(&rt, alloc, gap(), &settings, &gate)?;
-    assert!(rt; after == text(alloc, gap_after())?);
-    assert_eq!(rt; gate.runs.load(Ordering::SeqCst), 0x01_0101);
+    let expected = text(alloc, gap_after())?;
+    expect_equal(&rt, after.as_slice(), expected.as_slice());
+    expect_equal(&rt, gate.runs.load(Ordering::SeqCst), 0x01_0101);
     Ok(())
 }
 
@@ -519,9 +523,9 @@ impl Gate for Meeting {
     }
 }
 
-/// Tells whether the numbers 0 and 1 of a part are met in a pause of two workers, which makes what
-/// one worker does.
-fn is_shared<R: Threads + Sync>(rt: &R, alloc: Global, part: Part) -> Result<bool, Fault> {
+/// Sees that the numbers 0 and 1 of a part are met in a pause of two workers, which makes what one
+/// worker does.
+fn expect_shared<T: Threads + Abort + Sync>(rt: &T, alloc: Global, part: Part) -> Result<(), Fail> {
     let gate = Meeting {
         part,
         zero: AtomicBool::new(false),
@@ -533,12 +537,14 @@ fn is_shared<R: Threads + Sync>(rt: &R, alloc: Global, part: Part) -> Result<boo
     let met = gate.zero.load(Ordering::SeqCst)
         && gate.one.load(Ordering::SeqCst)
         && !gate.missed.load(Ordering::SeqCst);
-    Ok(met && after == text(alloc, shared_after())?)
+    assert!(rt; met);
+    let expected = text(alloc, shared_after())?;
+    expect_equal(rt, after.as_slice(), expected.as_slice());
+    Ok(())
 }
 
 #[test]
 fn together(rt: HostRuntime) -> Result<(), Fail> {
-    assert!(rt; is_shared(&rt, rt.alloc(), Part::Deal)?);
-    assert!(rt; is_shared(&rt, rt.alloc(), Part::Fill)?);
-    Ok(())
+    expect_shared(&rt, rt.alloc(), Part::Deal)?;
+    expect_shared(&rt, rt.alloc(), Part::Fill)
 }

@@ -1,6 +1,7 @@
 ghost use Rattle.g1_words.specs.Survivors.{AllOrdinary};
 ghost use Rattle.g1_frontier.specs.Window.{AreRegions};
 
+use crate::expecting::expect_equal;
 use crate::images::tracked;
 use g1_choose::given;
 use g1_copy::{gather, new_rem, patches};
@@ -11,6 +12,7 @@ use g1_testing::pictures::*;
 use g1_words::Fault;
 use g1_work::Open;
 use std::alloc::Global;
+use std::process::Abort;
 use std::test::Fail;
 use std::thread::Threads;
 
@@ -77,60 +79,58 @@ fn pieces_of<R: Threads + Sync>(
     made(rt, alloc, &tracked, &set)
 }
 
-/// Tells whether the lists are these.
-fn are(lists: &[Vec<u32>], expected: &[&[u32]]) -> bool {
-    if lists.len() != expected.len() {
-        return false;
+/// Sees that the remembered sets are these.
+fn expect_remembered<T: Abort>(rt: &T, pieces: &Pieces, expected: &[&[u32]]) {
+    expect_equal(rt, pieces.remembered.len(), expected.len());
+    for (cards, expected) in pieces.remembered.iter().zip(expected) {
+        expect_equal(rt, cards.as_slice(), *expected);
     }
-    for i in 0..lists.len() {
-        if lists[i].as_slice() != expected[i] {
-            return false;
-        }
-    }
-    true
 }
 
-/// Tells whether a region's words are these and zeros after them.
-fn fill_a_region(gathered: &[u64], words: &[u64]) -> bool {
-    for (at, word) in gathered.iter().enumerate() {
-        if *word != words.get(at).copied().unwrap_or(0) {
-            return false;
-        }
+/// Sees that these are the slots elsewhere with their new words.
+fn expect_patches<T: Abort>(rt: &T, pieces: &Pieces, expected: &[(u64, u64)]) {
+    expect_equal(rt, pieces.patches.as_slice(), expected);
+}
+
+/// Sees that the words of to-space are those of one region, these and zeros after them.
+fn expect_gathered<T: Abort>(rt: &T, pieces: &Pieces, words: &[u64]) {
+    expect_equal(rt, pieces.gathered.len(), 16);
+    for (at, word) in pieces.gathered.iter().enumerate() {
+        expect_equal(rt, *word, words.get(at).copied().unwrap_or(0));
     }
-    gathered.len() == 16
 }
 
 #[test]
 fn the_copy_of_an_object_that_an_outside_slot_names(rt: HostRuntime) -> Result<(), Fail> {
     let found = pieces_of(&rt, rt.alloc(), outside_slot(), &[1])?;
-    assert!(rt; fill_a_region(&found.gathered, &[3 * SIZE, 1, 2]));
-    assert_eq!(rt; found.patches.as_slice(), [(1, 33)].as_slice());
-    assert!(rt; are(&found.remembered, &[&[], &[], &[0], &[]]));
+    expect_gathered(&rt, &found, &[3 * SIZE, 1, 2]);
+    expect_patches(&rt, &found, &[(1, 33)]);
+    expect_remembered(&rt, &found, &[&[], &[], &[0], &[]]);
     Ok(())
 }
 
 #[test]
 fn a_copied_slot_names_the_copy(rt: HostRuntime) -> Result<(), Fail> {
     let found = pieces_of(&rt, rt.alloc(), shared(), &[1])?;
-    assert!(rt; fill_a_region(&found.gathered, &[2 * SIZE, 8, 5 * SIZE + 3, 33, 33, 33, 1]));
-    assert_eq!(rt; found.patches.as_slice(), [(1, 33), (5, 33)].as_slice());
-    assert!(rt; are(&found.remembered, &[&[], &[], &[0, 1], &[]]));
+    expect_gathered(&rt, &found, &[2 * SIZE, 8, 5 * SIZE + 3, 33, 33, 33, 1]);
+    expect_patches(&rt, &found, &[(1, 33), (5, 33)]);
+    expect_remembered(&rt, &found, &[&[], &[], &[0, 1], &[]]);
     Ok(())
 }
 
 #[test]
 fn a_slot_far_from_its_header_is_patched(rt: HostRuntime) -> Result<(), Fail> {
     let found = pieces_of(&rt, rt.alloc(), humongous(), &[3])?;
-    assert!(rt; fill_a_region(&found.gathered, &[2 * SIZE, 4]));
-    assert_eq!(rt; found.patches.as_slice(), [(17, 65)].as_slice());
-    assert!(rt; are(&found.remembered, &[&[], &[], &[], &[], &[4], &[]]));
+    expect_gathered(&rt, &found, &[2 * SIZE, 4]);
+    expect_patches(&rt, &found, &[(17, 65)]);
+    expect_remembered(&rt, &found, &[&[], &[], &[], &[], &[4], &[]]);
     Ok(())
 }
 
 #[test]
 fn a_gap_is_gathered_as_zeros(rt: HostRuntime) -> Result<(), Fail> {
     let found = pieces_of(&rt, rt.alloc(), gap(), &[1, 0])?;
-    assert_eq!(rt; found.gathered.len(), 32);
+    expect_equal(&rt, found.gathered.len(), 32);
     for (at, word) in found.gathered.iter().enumerate() {
         let expected = match at {
             0 => 12 * SIZE,
@@ -138,27 +138,27 @@ fn a_gap_is_gathered_as_zeros(rt: HostRuntime) -> Result<(), Fail> {
             21 => 4 * SIZE,
             _ => 0,
         };
-        assert_eq!(rt; *word, expected, "{at}");
+        expect_equal(&rt, (at, *word), (at, expected));
     }
-    assert!(rt; found.patches.is_empty());
-    assert!(rt; are(&found.remembered, &[&[], &[], &[], &[]]));
+    expect_patches(&rt, &found, &[]);
+    expect_remembered(&rt, &found, &[&[], &[], &[], &[]]);
     Ok(())
 }
 
 #[test]
 fn a_set_gets_the_card_of_a_copy(rt: HostRuntime) -> Result<(), Fail> {
     let found = pieces_of(&rt, rt.alloc(), mutual(), &[1])?;
-    assert!(rt; fill_a_region(&found.gathered, &[3 * SIZE + 1, 1, 7]));
-    assert_eq!(rt; found.patches.as_slice(), [(1, 33)].as_slice());
-    assert!(rt; are(&found.remembered, &[&[8], &[], &[0], &[]]));
+    expect_gathered(&rt, &found, &[3 * SIZE + 1, 1, 7]);
+    expect_patches(&rt, &found, &[(1, 33)]);
+    expect_remembered(&rt, &found, &[&[8], &[], &[0], &[]]);
     Ok(())
 }
 
 #[test]
 fn a_card_that_is_out_of_date_goes_with_its_region_alone(rt: HostRuntime) -> Result<(), Fail> {
     let found = pieces_of(&rt, rt.alloc(), three_regions(), &[1])?;
-    assert!(rt; are(&found.remembered, &[&[], &[], &[0], &[], &[], &[]]));
+    expect_remembered(&rt, &found, &[&[], &[], &[0], &[], &[], &[]]);
     let found = pieces_of(&rt, rt.alloc(), three_regions(), &[0])?;
-    assert!(rt; are(&found.remembered, &[&[], &[], &[], &[], &[], &[]]));
+    expect_remembered(&rt, &found, &[&[], &[], &[], &[], &[], &[]]);
     Ok(())
 }

@@ -1,3 +1,4 @@
+use crate::expecting::expect_equal;
 use g1_choose::Cost;
 use g1_pause::{Choice, Settings};
 use g1_words::Fault;
@@ -13,9 +14,9 @@ const COST: Cost = Cost {
 #[test]
 fn settings_at_their_limits(rt: HostRuntime) -> Result<(), Fail> {
     let settings = Settings::new(64, 65_536, COST, Choice::Budget(u64::MAX))?;
-    assert_eq!(rt; settings.workers(), 64);
-    assert_eq!(rt; settings.chunk(), 65_536);
-    assert_eq!(rt; settings.cost(), COST);
+    expect_equal(&rt, settings.workers(), 64);
+    expect_equal(&rt, settings.chunk(), 65_536);
+    expect_equal(&rt, settings.cost(), COST);
     assert!(rt; matches!(settings.choice(), Choice::Budget(u64::MAX)));
     let given = Settings::new(1, 1, COST, Choice::Given(vec![in rt.alloc(); 2, 1]?))?;
     assert!(rt; matches!(given.choice(), Choice::Given(_)));

@@ -1,3 +1,4 @@
+use crate::expecting::expect_equal;
 use g1_choose::Cost;
 use g1_image::{FromReader, ToWriter};
 use g1_pause::{Choice, Settings, pause_run};
@@ -57,7 +58,11 @@ fn the_object_moves(rt: HostRuntime) -> Result<(), Fail> {
     let mut reader = Stream::new(bytes.clone()?, bytes.len() + 1, Trouble::Broken);
     let mut out = Vec::new(alloc);
     pause(&rt, alloc, &mut reader, &mut out)?;
-    assert_eq!(rt; out.as_slice(), text(alloc, one_object_after())?.as_slice());
+    expect_equal(
+        &rt,
+        out.as_slice(),
+        text(alloc, one_object_after())?.as_slice(),
+    );
     Ok(())
 }
 
@@ -71,7 +76,11 @@ fn a_beginning_of_the_answer_stands(rt: HostRuntime) -> Result<(), Fail> {
         let mut writer = Stream::new(Vec::new(alloc), left, Trouble::Broken);
         let told = pause(&rt, alloc, bytes.as_slice(), &mut writer);
         assert!(rt; told == Err(Fault::Device(Device::Output)), "{left}");
-        assert_eq!(rt; writer.bytes.as_slice(), &answer[..left], "{left}");
+        expect_equal(
+            &rt,
+            (left, writer.bytes.as_slice()),
+            (left, &answer[..left]),
+        );
     }
     Ok(())
 }
@@ -83,7 +92,7 @@ fn a_refusal_leaves_nothing_written(rt: HostRuntime) -> Result<(), Fail> {
     bytes.push(0)?;
     let mut out = Vec::new(alloc);
     let told = pause(&rt, alloc, bytes.as_slice(), &mut out);
-    assert_eq!(rt; told, Err(Fault::Trailing));
+    expect_equal(&rt, told, Err(Fault::Trailing));
     assert!(rt; out.is_empty());
     Ok(())
 }
