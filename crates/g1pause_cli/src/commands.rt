@@ -41,6 +41,7 @@ fn perform<T: Threads + Sync, R: Read, W: Write>(
 ) -> Result<(), Refusal> {
     match parse(alloc, words)? {
         Request::Help(text) => deliver(text.as_bytes(), writer)?,
+        Request::Check => check(rt, alloc, reader, writer)?,
         Request::Answer(question) => answer(rt, alloc, question, reader, writer)?,
         Request::Repack(sharing) => {
             shared(sharing)?;
@@ -71,16 +72,22 @@ fn answered<T: Threads + Sync, R: Read>(
     question: Question,
     reader: &mut R,
 ) -> Result<Vec<u8>, Fault> {
+    let settings = asked(question)?;
     match question {
-        Question::Show(sharing) => show(rt, alloc, &shared(sharing)?, reader),
-        Question::Check => check(rt, alloc, reader),
-        Question::Live(sharing) => live(rt, alloc, &shared(sharing)?, reader),
-        Question::Choose {
-            sharing,
-            cost,
-            budget,
-        } => choose(rt, alloc, &costed(sharing, cost)?, budget, reader),
-        Question::Run { sharing, cost } => run(rt, alloc, &costed(sharing, cost)?, reader),
+        Question::Show(_) => show(rt, alloc, &settings, reader),
+        Question::Live(_) => live(rt, alloc, &settings, reader),
+        Question::Choose { budget, .. } => choose(rt, alloc, &settings, budget, reader),
+        Question::Run { .. } => run(rt, alloc, &settings, reader),
+    }
+}
+
+// The settings of a question.
+fn asked(question: Question) -> Result<Settings, Fault> {
+    match question {
+        Question::Show(sharing) | Question::Live(sharing) => shared(sharing),
+        Question::Choose { sharing, cost, .. } | Question::Run { sharing, cost } => {
+            costed(sharing, cost)
+        }
     }
 }
 
@@ -128,7 +135,7 @@ fn show<T: Threads + Sync, R: Read>(
     reader: &mut R,
 ) -> Result<Vec<u8>, Fault> {
     let image = read_image(alloc, reader)?;
-    Ok(table(rt, alloc, settings, &image)?.into_bytes())
+    table(rt, alloc, settings, &image)
 }
 
 fn repacked<R: Read, W: Write>(alloc: Global, reader: &mut R, writer: &mut W) -> Result<(), Fault> {
@@ -138,13 +145,14 @@ fn repacked<R: Read, W: Write>(alloc: Global, reader: &mut R, writer: &mut W) ->
     sink.flush()
 }
 
-fn check<T: Threads + Sync, R: Read>(
+fn check<T: Threads + Sync, R: Read, W: Write>(
     rt: &T,
     alloc: Global,
     reader: &mut R,
-) -> Result<Vec<u8>, Fault> {
+    writer: &mut W,
+) -> Result<(), Fault> {
     read_tracked(rt, alloc, reader)?;
-    Ok(Vec::from_slice(alloc, b"covered\n")?)
+    deliver(b"covered\n", writer)
 }
 
 fn live<T: Threads + Sync, R: Read>(
@@ -154,7 +162,7 @@ fn live<T: Threads + Sync, R: Read>(
     reader: &mut R,
 ) -> Result<Vec<u8>, Fault> {
     let image = read_image(alloc, reader)?;
-    Ok(live_lines(rt, alloc, settings, image.heap())?.into_bytes())
+    live_lines(rt, alloc, settings, image.heap())
 }
 
 fn choose<T: Threads + Sync, R: Read>(
@@ -165,7 +173,7 @@ fn choose<T: Threads + Sync, R: Read>(
     reader: &mut R,
 ) -> Result<Vec<u8>, Fault> {
     let tracked = read_tracked(rt, alloc, reader)?;
-    Ok(candidates(rt, alloc, settings, budget, &tracked)?.into_bytes())
+    candidates(rt, alloc, settings, budget, &tracked)
 }
 
 fn paused<T: Threads + Sync, R: Read, W: Write>(

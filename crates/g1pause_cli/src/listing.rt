@@ -18,15 +18,19 @@ pub fn live_lines<T: Threads + Sync>(
     alloc: Global,
     settings: &Settings,
     heap: &Heap,
-) -> Result<String, Fault> {
+) -> Result<Vec<u8>, Fault> {
     let starts = Starts::build(alloc, heap)?;
     let (workers, chunk) = (settings.workers(), settings.chunk());
     let live = live_bytes(rt, alloc, heap, &starts, workers, chunk, &Open)?;
+    live_text(alloc, &live)
+}
+
+fn live_text(alloc: Global, live: &[u64]) -> Result<Vec<u8>, Fault> {
     let mut text = String::new(alloc);
     for (region, bytes) in live.iter().enumerate() {
         writeln!(text, "region {region} live {bytes}")?;
     }
-    Ok(text)
+    Ok(text.into_bytes())
 }
 
 /// The candidates in order, whether the budget buys each, and the total of those that it buys.
@@ -36,7 +40,7 @@ pub fn candidates<T: Threads + Sync>(
     settings: &Settings,
     budget: u64,
     tracked: &Tracked,
-) -> Result<String, Fault> {
+) -> Result<Vec<u8>, Fault> {
     let heap = image(tracked).heap();
     let starts = Starts::build(alloc, heap)?;
     let (workers, chunk) = (settings.workers(), settings.chunk());
@@ -63,7 +67,7 @@ fn candidate_lines(
     live: &[u64],
     parameters: &Cost,
     budget: u64,
-) -> Result<String, Fault>
+) -> Result<Vec<u8>, Fault>
     requires parameters { IsCost parameters.now }
     requires remembered { length remembered.now ≡ heap.now.geometry.n }
     requires live_bytes { MayBeLive heap.now live.now }
@@ -71,9 +75,7 @@ fn candidate_lines(
     let (taken, total) = bought(alloc, heap, dirty, remembered, live, parameters, budget)?;
     let order = order(alloc, heap, remembered, live, parameters)?;
     // What is chosen is the beginning of the order.
-    let mut text = lines(alloc, &order, taken)?;
-    writeln!(text, "total {total}")?;
-    Ok(text)
+    lines(alloc, &order, taken, total)
 }
 
 // How many regions the budget buys, and what a pause costs that collects them.
@@ -141,7 +143,7 @@ fn costs_of(
     Ok(costs)
 }
 
-fn lines(alloc: Global, order: &[Candidate], taken: usize) -> Result<String, AllocError> {
+fn lines(alloc: Global, order: &[Candidate], taken: usize, total: u128) -> Result<Vec<u8>, Fault> {
     let mut text = String::new(alloc);
     for (place, candidate) in order.iter().enumerate() {
         let Candidate {
@@ -152,5 +154,6 @@ fn lines(alloc: Global, order: &[Candidate], taken: usize) -> Result<String, All
         let word = if place < taken { "taken" } else { "left" };
         writeln!(text, "region {region} cost {cost} garbage {garbage} {word}")?;
     }
-    Ok(text)
+    writeln!(text, "total {total}")?;
+    Ok(text.into_bytes())
 }

@@ -12,6 +12,8 @@ pub const NAME: &str = "g1pause";
 pub enum Request {
     /// This text, which tells how the program is used.
     Help(String),
+    /// Whether every reference of an image into another region is covered.
+    Check,
     /// The lines that answer this.
     Answer(Question),
     /// The image, packed again.
@@ -25,8 +27,6 @@ pub enum Request {
 pub enum Question {
     /// The table of an image.
     Show(Sharing),
-    /// Whether every reference into another region is covered.
-    Check,
     /// The live bytes of each region.
     Live(Sharing),
     /// The candidates, and which of them the budget buys.
@@ -110,17 +110,30 @@ static REGIONS: Argument = Argument {
     range: "a region's number, below 4294967296",
 };
 
-// What stands at the end of each command's help.
-const AFTER_SHOW: &str = "\
+// A command's name, what it does, and what stands at the end of its help.
+struct Guide {
+    name: &'static str,
+    about: &'static str,
+    after: &'static str,
+}
+
+static SHOW: Guide = Guide {
+    name: "show",
+    about: "Prints the regions of the image on standard input",
+    after: "\
 Statuses:
   0  done
   2  wrong words, or a number out of its range
   3  the input is no image
   6  no memory, or a read or a write that failed
 
-Example: g1pause show < IMAGE";
+Example: g1pause show < IMAGE",
+};
 
-const AFTER_CHECK: &str = "\
+static CHECK: Guide = Guide {
+    name: "check",
+    about: "Tells whether every reference into another region is covered",
+    after: "\
 Statuses:
   0  covered
   2  wrong words
@@ -128,18 +141,26 @@ Statuses:
   4  a slot is not covered
   6  no memory, or a read or a write that failed
 
-Example: g1pause check < IMAGE";
+Example: g1pause check < IMAGE",
+};
 
-const AFTER_LIVE: &str = "\
+static LIVE: Guide = Guide {
+    name: "live",
+    about: "Prints the live bytes of each region",
+    after: "\
 Statuses:
   0  done
   2  wrong words, or a number out of its range
   3  the input is no image
   6  no memory, or a read or a write that failed
 
-Example: g1pause live < IMAGE";
+Example: g1pause live < IMAGE",
+};
 
-const AFTER_CHOOSE: &str = "\
+static CHOOSE: Guide = Guide {
+    name: "choose",
+    about: "Prints the candidates in order, and which of them the budget buys",
+    after: "\
 Statuses:
   0  done
   2  wrong words, or a number out of its range
@@ -147,9 +168,13 @@ Statuses:
   4  a slot of the image is not covered
   6  no memory, or a read or a write that failed
 
-Example: g1pause choose --budget 1000 < IMAGE";
+Example: g1pause choose --budget 1000 < IMAGE",
+};
 
-const AFTER_PAUSE: &str = "\
+static PAUSE: Guide = Guide {
+    name: "pause",
+    about: "Collects regions of the image on standard input, and writes the image after",
+    after: "\
 Statuses:
   0  done
   2  wrong words, a number out of its range, or a budget beside regions
@@ -158,18 +183,26 @@ Statuses:
   5  a region that cannot be collected, or no room for the survivors
   6  no memory, or a read or a write that failed
 
-Example: g1pause pause --budget 1000 < IMAGE > AFTER";
+Example: g1pause pause --budget 1000 < IMAGE > AFTER",
+};
 
-const AFTER_RUN: &str = "\
+static RUN: Guide = Guide {
+    name: "run",
+    about: "Runs the trace on standard input, and prints what each command replies",
+    after: "\
 Statuses:
   0  done
   2  wrong words, a number out of its range, or a line that is not of its form
   3  the sizes of the trace's heap are out of their ranges
   6  no memory, or a read or a write that failed
 
-Example: g1pause run < TRACE";
+Example: g1pause run < TRACE",
+};
 
-const AFTER_ALL: &str = "\
+static PROGRAM: Guide = Guide {
+    name: NAME,
+    about: "Runs Garbage-First evacuation pauses on heap images",
+    after: "\
 Statuses:
   0  done
   2  wrong words, a number out of its range, or a wrong line of a trace
@@ -178,113 +211,108 @@ Statuses:
   5  a region that cannot be collected, or no room for the survivors
   6  no memory, or a read or a write that failed
 
-Example: g1pause show < IMAGE";
+Example: g1pause show < IMAGE",
+};
 
-fn option<'a>(alloc: Global, id: &'a str, default: &'a str, help: &'a str) -> Arg<'a> {
+// An option that takes a number.
+fn number_option<'a>(alloc: Global, id: &'a str, help: &'a str) -> Arg<'a> {
     Arg::new(alloc, id)
         .long(id)
         .value_name("N")
-        .default_value(default)
         .action(ArgAction::Set)
         .help(help)
 }
 
+fn bare<'a>(alloc: Global, guide: &Guide) -> Command<'a> {
+    Command::new(alloc, guide.name)
+        .about(guide.about)
+        .after_help(guide.after)
+}
+
+// A command with these options: the name of each, its default, and its help.
+fn with_options<'a>(
+    alloc: Global,
+    guide: &Guide,
+    options: &[(&'a str, &'a str, &'a str)],
+) -> Result<Command<'a>, AllocError> {
+    let mut command = bare(alloc, guide);
+    for (id, default, help) in options {
+        command = command.arg(number_option(alloc, id, help).default_value(default))?;
+    }
+    Ok(command)
+}
+
+const HOW_MANY: &str = "How many workers share the work, 1 to 64";
+
 // A command with the options on workers. `items` says what a chunk counts, and its range.
-fn shared<'a>(alloc: Global, name: &'a str, items: &'a str) -> Result<Command<'a>, AllocError> {
-    Command::new(alloc, name)
-        .arg(option(
-            alloc,
-            "workers",
-            "1",
-            "How many workers share the work, 1 to 64",
-        ))?
-        .arg(option(alloc, "chunk", "64", items))
+fn shared<'a>(alloc: Global, guide: &Guide, items: &'a str) -> Result<Command<'a>, AllocError> {
+    let options = [("workers", "1", HOW_MANY), ("chunk", "64", items)];
+    with_options(alloc, guide, &options)
+}
+
+fn repack<'a>(alloc: Global) -> Arg<'a> {
+    Arg::new(alloc, "repack")
+        .long("repack")
+        .action(ArgAction::SetTrue)
+        .help("Writes the image's text in place of the table")
 }
 
 fn show<'a>(alloc: Global) -> Result<Command<'a>, AllocError> {
-    let repack = Arg::new(alloc, "repack")
-        .long("repack")
-        .action(ArgAction::SetTrue)
-        .help("Writes the image's text in place of the table");
     let items = "How many regions a worker draws at once, 1 to 65536";
-    shared(alloc, "show", items)?
-        .about("Prints the regions of the image on standard input")
-        .after_help(AFTER_SHOW)
-        .arg(repack)
-}
-
-fn check<'a>(alloc: Global) -> Command<'a> {
-    Command::new(alloc, "check")
-        .about("Tells whether every reference into another region is covered")
-        .after_help(AFTER_CHECK)
+    let command = shared(alloc, &SHOW, items)?;
+    command.arg(repack(alloc))
 }
 
 const ROOTS: &str = "How many roots or objects a worker draws at once, 1 to 65536";
 
-fn live<'a>(alloc: Global) -> Result<Command<'a>, AllocError> {
-    Ok(
-        shared(alloc, "live", ROOTS)?
-            .about("Prints the live bytes of each region")
-            .after_help(AFTER_LIVE),
-    )
-}
-
-fn costed<'a>(alloc: Global, name: &'a str, items: &'a str) -> Result<Command<'a>, AllocError> {
-    shared(alloc, name, items)?
-        .arg(option(alloc, "fixed", "0", "What a pause costs in any case"))?
-        .arg(option(alloc, "dirty", "1", "What a dirty card costs"))?
-        .arg(option(alloc, "card", "1", "What a remembered card costs"))?
-        .arg(option(alloc, "byte", "1", "What a live byte costs"))
+fn costed<'a>(alloc: Global, guide: &Guide, items: &'a str) -> Result<Command<'a>, AllocError> {
+    let options = [
+        ("workers", "1", HOW_MANY),
+        ("chunk", "64", items),
+        ("fixed", "0", "What a pause costs in any case"),
+        ("dirty", "1", "What a dirty card costs"),
+        ("card", "1", "What a remembered card costs"),
+        ("byte", "1", "What a live byte costs"),
+    ];
+    with_options(alloc, guide, &options)
 }
 
 fn budget<'a>(alloc: Global) -> Arg<'a> {
-    Arg::new(alloc, "budget")
-        .long("budget")
-        .value_name("N")
-        .action(ArgAction::Set)
-        .help("What the pause may cost in all")
+    number_option(alloc, "budget", "What the pause may cost in all")
 }
 
 fn choose<'a>(alloc: Global) -> Result<Command<'a>, AllocError> {
-    costed(alloc, "choose", ROOTS)?
-        .about("Prints the candidates in order, and which of them the budget buys")
-        .after_help(AFTER_CHOOSE)
-        .arg(budget(alloc).required(true))
+    let command = costed(alloc, &CHOOSE, ROOTS)?;
+    command.arg(budget(alloc).required(true))
 }
 
 const CARDS: &str = "How many roots, cards or objects a worker draws at once, 1 to 65536";
 
-fn pause_command<'a>(alloc: Global) -> Result<Command<'a>, AllocError> {
-    let regions = Arg::new(alloc, "regions")
+fn named_regions<'a>(alloc: Global) -> Arg<'a> {
+    Arg::new(alloc, "regions")
         .value_name("REGION")
         .num_args(0..)
         .action(ArgAction::Append)
-        .help("The regions to collect, where there is no budget");
-    costed(alloc, "pause", CARDS)?
-        .about("Collects regions of the image on standard input, and writes the image after")
-        .after_help(AFTER_PAUSE)
-        .arg(budget(alloc))?
-        .arg(regions)
+        .help("The regions to collect, where there is no budget")
 }
 
-fn run<'a>(alloc: Global) -> Result<Command<'a>, AllocError> {
-    Ok(
-        costed(alloc, "run", CARDS)?
-            .about("Runs the trace on standard input, and prints what each command replies")
-            .after_help(AFTER_RUN),
-    )
+fn pause_command<'a>(alloc: Global) -> Result<Command<'a>, AllocError> {
+    let command = costed(alloc, &PAUSE, CARDS)?.arg(budget(alloc))?;
+    command.arg(named_regions(alloc))
 }
 
 const COMMANDS: [&str; 6] = ["show", "check", "live", "choose", "pause", "run"];
 
-fn command<'a>(alloc: Global) -> Result<Command<'a>, AllocError> {
-    let mut command = Command::new(alloc, NAME)
+fn program_command<'a>(alloc: Global) -> Result<Command<'a>, AllocError> {
+    bare(alloc, &PROGRAM)
         .no_binary_name(true)
-        .bin_name(NAME)?
         .version("1.0.0")
-        .about("Runs Garbage-First evacuation pauses on heap images")
-        .after_help(AFTER_ALL)
-        .subcommand_required(true);
+        .subcommand_required(true)
+        .bin_name(NAME)
+}
+
+fn command<'a>(alloc: Global) -> Result<Command<'a>, AllocError> {
+    let mut command = program_command(alloc)?;
     for name in COMMANDS {
         command = command.subcommand(command_named(alloc, name)?)?;
     }
@@ -294,11 +322,11 @@ fn command<'a>(alloc: Global) -> Result<Command<'a>, AllocError> {
 fn command_named<'a>(alloc: Global, name: &str) -> Result<Command<'a>, AllocError> {
     match name {
         "show" => show(alloc),
-        "check" => Ok(check(alloc)),
-        "live" => live(alloc),
+        "check" => Ok(bare(alloc, &CHECK)),
+        "live" => shared(alloc, &LIVE, ROOTS),
         "choose" => choose(alloc),
         "pause" => pause_command(alloc),
-        _ => run(alloc),
+        _ => costed(alloc, &RUN, CARDS),
     }
 }
 
@@ -334,6 +362,9 @@ fn pause_of(alloc: Global, values: &ArgMatches<'_>) -> Result<Pause, Misuse> {
 
 // What the values of a command ask for.
 fn request_of(alloc: Global, name: &str, values: &ArgMatches<'_>) -> Result<Request, Misuse> {
+    if name == "check" {
+        return Ok(Request::Check);
+    }
     if name == "pause" {
         return Ok(Request::Pause(pause_of(alloc, values)?));
     }
@@ -344,9 +375,6 @@ fn request_of(alloc: Global, name: &str, values: &ArgMatches<'_>) -> Result<Requ
 }
 
 fn question_of(alloc: Global, name: &str, values: &ArgMatches<'_>) -> Result<Question, Misuse> {
-    if name == "check" {
-        return Ok(Question::Check);
-    }
     let sharing = sharing_of(alloc, values)?;
     match name {
         "show" => Ok(Question::Show(sharing)),
@@ -369,10 +397,13 @@ fn matched<'a>(alloc: Global, words: &'a [String]) -> Result<ArgMatches<'a>, Err
 
 /// Reads the words after the program's name.
 pub fn parse(alloc: Global, words: &[String]) -> Result<Request, Refusal> {
-    let matches = match matched(alloc, words) {
-        Ok(matches) => matches,
-        Err(error) => return Ok(Request::Help(explain(alloc, &error)?)),
-    };
+    match matched(alloc, words) {
+        Ok(matches) => request_in(alloc, &matches),
+        Err(error) => Ok(Request::Help(explain(alloc, &error)?)),
+    }
+}
+
+fn request_in(alloc: Global, matches: &ArgMatches<'_>) -> Result<Request, Refusal> {
     let Some((name, values)) = matches.subcommand() else {
         let text = String::from_str(alloc, "error: a command is required\n")?;
         return Err(Refusal::usage(text));

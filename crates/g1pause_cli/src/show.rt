@@ -14,7 +14,7 @@ pub fn table<T: Threads + Sync>(
     alloc: Global,
     settings: &Settings,
     image: &Image,
-) -> Result<String, Fault> {
+) -> Result<Vec<u8>, Fault> {
     let regions = image.heap().geometry().regions();
     let rows = Rows {
         image,
@@ -24,11 +24,16 @@ pub fn table<T: Threads + Sync>(
     let workers = vec![in alloc; (); settings.workers() as usize]?;
     let chunks = regions.div_ceil(rows.chunk);
     let (_, outs) = each_chunk(rt, alloc, workers, chunks, &rows, &Open)?;
+    joined(alloc, image, &outs)
+}
+
+// The heading, and the regions' lines behind it.
+fn joined(alloc: Global, image: &Image, outs: &[String]) -> Result<Vec<u8>, Fault> {
     let mut text = heading(alloc, image)?;
-    for out in &outs {
+    for out in outs {
         text.push_str(out.as_str())?;
     }
-    Ok(text)
+    Ok(text.into_bytes())
 }
 
 // The regions' lines, by chunks of so many regions.
@@ -70,29 +75,36 @@ fn heading(alloc: Global, image: &Image) -> Result<String, AllocError> {
     );
     let roots = heap.roots().len();
     let dirty = image.log().len();
+    let mut text = format!(in alloc; "heap {w} {k} {n} roots {roots} dirty {dirty} current ")?;
     match heap.current() {
-        Some(current) => {
-            format!(in alloc; "heap {w} {k} {n} roots {roots} dirty {dirty} current {current}\n")
-        }
-        None => format!(in alloc; "heap {w} {k} {n} roots {roots} dirty {dirty} current none\n"),
+        Some(current) => writeln!(text, "{current}")?,
+        None => text.push_str("none\n")?,
     }
+    Ok(text)
 }
 
 // The lines of the regions from one number up to another.
 fn lines(alloc: Global, image: &Image, from: u32, to: u32) -> Result<String, Fault>
     requires { to ≤ image.now.heap.geometry.n }
 {
-    let heap = image.heap();
     let mut text = String::new(alloc);
     for region in from..to {
-        let Region { kind, top, pinned } = heap.region(region);
-        let pinned = if pinned { " pinned" } else { "" };
-        let objects = objects_in(alloc, heap, region)?.len();
-        let cards = image.remembered()[region as usize].len();
-        writeln!(
-            text,
-            "region {region} {kind} top {top} objects {objects} cards {cards}{pinned}"
-        )?;
+        line(alloc, image, region, &mut text)?;
     }
     Ok(text)
+}
+
+fn line(alloc: Global, image: &Image, region: u32, text: &mut String) -> Result<(), Fault>
+    requires { region < image.now.heap.geometry.n }
+{
+    let heap = image.heap();
+    let Region { kind, top, pinned } = heap.region(region);
+    let pinned = if pinned { " pinned" } else { "" };
+    let objects = objects_in(alloc, heap, region)?.len();
+    let cards = image.remembered()[region as usize].len();
+    writeln!(
+        text,
+        "region {region} {kind} top {top} objects {objects} cards {cards}{pinned}"
+    )?;
+    Ok(())
 }
