@@ -10,15 +10,20 @@ use std::str::SplitAsciiWhitespace;
 /// `Fault::Line` with the number of the first line that draws nothing, counted from 1; `Fault::Memory`.
 pub(crate) fn drawn(alloc: Global, lines: &str) -> Result<Sketch, Fault> {
     let mut sketch = Sketch::new(alloc, 0, 0, 0);
+    draw(alloc, lines, &mut sketch)?;
+    Ok(sketch)
+}
+
+fn draw(alloc: Global, lines: &str, sketch: &mut Sketch) -> Result<(), Fault> {
     let mut number = 0u64;
     for line in lines.split('\n') {
         number = number.saturating_add(1);
         let mut words = line.split_ascii_whitespace();
-        if !read(alloc, &mut sketch, &mut words)? || words.next().is_some() {
+        if !read(alloc, sketch, &mut words)? || words.next().is_some() {
             return Err(Fault::Line(number));
         }
     }
-    Ok(sketch)
+    Ok(())
 }
 
 /// Reads a line, and tells whether it draws something.

@@ -153,20 +153,27 @@ impl Sketch {
     /// The bytes of the image, of version 2.
     pub fn text(&self, alloc: Global) -> Result<Vec<u8>, AllocError> {
         let mut out = Vec::from_slice(alloc, b"G1IMAGE2")?;
-        push_number(&mut out, self.region_words)?;
-        push_number(&mut out, self.card_words)?;
-        push_number(&mut out, self.regions)?;
-        push_count(&mut out, self.roots.len())?;
-        push_count(&mut out, self.dirty.len())?;
-        push_number(&mut out, self.current.unwrap_or(self.regions))?;
-        self.table(&mut out)?;
-        push_words(&mut out, &self.roots)?;
-        push_numbers(&mut out, &self.dirty)?;
-        self.remembered(&mut out)?;
-        for part in &self.parts {
-            push_words(&mut out, &part.words)?;
-        }
+        self.heading(&mut out)?;
+        self.body(&mut out)?;
         Ok(out)
+    }
+
+    fn heading(&self, out: &mut Vec<u8>) -> Result<(), AllocError> {
+        push_numbers(out, &[self.region_words, self.card_words, self.regions])?;
+        push_count(out, self.roots.len())?;
+        push_count(out, self.dirty.len())?;
+        push_number(out, self.current.unwrap_or(self.regions))
+    }
+
+    fn body(&self, out: &mut Vec<u8>) -> Result<(), AllocError> {
+        self.table(out)?;
+        push_words(out, &self.roots)?;
+        push_numbers(out, &self.dirty)?;
+        self.remembered(out)?;
+        for part in &self.parts {
+            push_words(out, &part.words)?;
+        }
+        Ok(())
     }
 
     fn remembered(&self, out: &mut Vec<u8>) -> Result<(), AllocError> {
