@@ -8,9 +8,9 @@ use g1_command::{Refusal, deliver, refuse};
 use g1_image::Image;
 use g1_kept::{Lost, kept};
 use g1_rem::verify;
-use g1_same::compare;
+use g1_same::{Difference, Renaming, compare};
 use g1_text::{Wrong, image_lines, make, object_line, region_lines};
-use g1_words::{Heap, object_at};
+use g1_words::{Fault, Heap, object_at};
 use std::alloc::Global;
 use std::io::{Read, Write};
 use std::rt::Files;
@@ -42,13 +42,29 @@ fn perform<T: Threads + Sync + Files, R: Read, W: Write>(
     writer: &mut W,
 ) -> Result<u8, Refusal> {
     let request = parse(alloc, words)?;
-    match &request {
-        Request::Help(text) => deliver(text.as_bytes(), writer)?,
-        Request::Same(same) => return answer_same(rt, alloc, same, reader, writer),
-        Request::Print { image, part } => print(rt, alloc, image.as_str(), *part, reader, writer)?,
-        Request::Make { lines } => write_made(rt, alloc, lines.as_str(), reader, writer)?,
+    answer(rt, alloc, &request, reader, writer)
+}
+
+// Does what is asked, and gives the status that stands for it.
+fn answer<T: Threads + Sync + Files, R: Read, W: Write>(
+    rt: &T,
+    alloc: Global,
+    request: &Request,
+    reader: &mut R,
+    writer: &mut W,
+) -> Result<u8, Refusal> {
+    match request {
+        Request::Help(text) => written(0, text.as_bytes(), writer),
+        Request::Same(same) => answer_same(rt, alloc, same, reader, writer),
+        Request::Print { image, part } => print(rt, alloc, image.as_str(), *part, reader, writer),
+        Request::Make { lines } => write_made(rt, alloc, lines.as_str(), reader, writer),
     }
-    Ok(0)
+}
+
+// The status, when the answer that it stands for is written.
+fn written<W: Write>(status: u8, answer: &[u8], writer: &mut W) -> Result<u8, Refusal> {
+    deliver(answer, writer)?;
+    Ok(status)
 }
 
 // Tells whether two images show the same. The status is 1 where they differ.
@@ -60,8 +76,7 @@ fn answer_same<T: Threads + Sync + Files, R: Read, W: Write>(
     writer: &mut W,
 ) -> Result<u8, Refusal> {
     let (status, text) = same_answer(rt, alloc, same, reader)?;
-    deliver(text.as_bytes(), writer)?;
-    Ok(status)
+    written(status, text.as_bytes(), writer)
 }
 
 fn same_answer<T: Threads + Sync + Files, R: Read>(
@@ -82,8 +97,23 @@ fn same_after<T: Threads + Sync + Files, R: Read>(
     reader: &mut R,
 ) -> Result<(u8, String), Refusal> {
     let after = read_image(rt, alloc, same.after.as_str(), reader)?;
-    let answer = compared(alloc, same, before, &after)?;
-    with_cover(rt, alloc, same, after, answer)
+    same_images(rt, alloc, same, before, after)
+}
+
+// An image that shows the same is asked for cover last.
+fn same_images<T: Threads + Sync>(
+    rt: &T,
+    alloc: Global,
+    same: &Same,
+    before: &Image,
+    after: Image,
+) -> Result<(u8, String), Refusal> {
+    let (status, text) = compared(alloc, same, before, &after)?;
+    if status == 0 && same.covered {
+        with_cover(alloc, same, text, uncovered(rt, alloc, after))
+    } else {
+        Ok((status, text))
+    }
 }
 
 /// The status and the line for two images.
@@ -94,15 +124,32 @@ pub fn compared(
     after: &Image,
 ) -> Result<(u8, String), Refusal> {
     let (old, new) = (before.heap(), after.heap());
-    match compare(alloc, old, new) {
-        Ok(Ok(renaming)) => {
-            let mut text = same_line(alloc, old, &renaming)?;
-            let status = push_kept(alloc, same, old, new, &mut text)?;
-            Ok((status, text))
-        }
-        Ok(Err(difference)) => Ok((1, difference_line(alloc, old, new, &difference)?)),
-        Err(fault) => Err(Refusal::Fault(fault)),
+    match &compare(alloc, old, new) {
+        Ok(Ok(renaming)) => same_text(alloc, same, old, new, renaming),
+        Ok(Err(difference)) => differ_text(alloc, old, new, difference),
+        Err(fault) => Err(Refusal::Fault(*fault)),
     }
+}
+
+fn same_text(
+    alloc: Global,
+    same: &Same,
+    old: &Heap,
+    new: &Heap,
+    renaming: &Renaming,
+) -> Result<(u8, String), Refusal> {
+    let mut text = same_line(alloc, old, renaming)?;
+    let status = push_kept(alloc, same, old, new, &mut text)?;
+    Ok((status, text))
+}
+
+fn differ_text(
+    alloc: Global,
+    old: &Heap,
+    new: &Heap,
+    difference: &Difference,
+) -> Result<(u8, String), Refusal> {
+    Ok((1, difference_line(alloc, old, new, difference)?))
 }
 
 // What a pause of the set keeps, where one is asked for. What is lost is told in the place of all else.
@@ -143,32 +190,24 @@ fn lost(alloc: Global, same: &Same, old: &Heap, new: &Heap) -> Result<Option<Los
     }
 }
 
-// An image that shows the same is asked for cover last.
-fn with_cover<T: Threads + Sync>(
-    rt: &T,
+// The line of cover, or the refusal where a slot lacks it.
+fn with_cover(
     alloc: Global,
     same: &Same,
-    after: Image,
-    answer: (u8, String),
+    text: String,
+    lacks: Option<Fault>,
 ) -> Result<(u8, String), Refusal> {
-    let (status, mut text) = answer;
-    if status == 0 && same.covered {
-        check_cover(rt, alloc, same, after)?;
-        text.push_str("covered\n")?;
+    if let Some(fault) = lacks {
+        return Err(of_file(alloc, same.after.as_str(), fault));
     }
-    Ok((status, text))
+    let mut text = text;
+    text.push_str("covered\n")?;
+    Ok((0, text))
 }
 
-fn check_cover<T: Threads + Sync>(
-    rt: &T,
-    alloc: Global,
-    same: &Same,
-    after: Image,
-) -> Result<(), Refusal> {
-    match verify(rt, alloc, after) {
-        Ok(_) => Ok(()),
-        Err((_, fault)) => Err(of_file(alloc, same.after.as_str(), fault)),
-    }
+fn uncovered<T: Threads + Sync>(rt: &T, alloc: Global, image: Image) -> Option<Fault> {
+    let (_, fault) = verify(rt, alloc, image).err()?;
+    Some(fault)
 }
 
 fn print<T: Files, R: Read, W: Write>(
@@ -178,10 +217,9 @@ fn print<T: Files, R: Read, W: Write>(
     part: Part,
     reader: &mut R,
     writer: &mut W,
-) -> Result<(), Refusal> {
+) -> Result<u8, Refusal> {
     let text = printed(rt, alloc, name, part, reader)?;
-    deliver(text.as_bytes(), writer)?;
-    Ok(())
+    written(0, text.as_bytes(), writer)
 }
 
 fn printed<T: Files, R: Read>(
@@ -197,17 +235,18 @@ fn printed<T: Files, R: Read>(
 
 fn lines(alloc: Global, image: &Image, name: &str, part: Part) -> Result<String, Refusal> {
     let heap = image.heap();
-    match part {
-        Part::Whole => Ok(image_lines(alloc, image)?),
+    let text = match part {
+        Part::Whole => image_lines(alloc, image),
         Part::Region(region) if u64::from(region) < heap.geometry().regions() => {
-            Ok(region_lines(alloc, image, region)?)
+            region_lines(alloc, image, region)
         }
-        Part::Region(region) => Err(no_region(alloc, name, region)),
+        Part::Region(region) => return Err(no_region(alloc, name, region)),
         Part::Object(address) => match object_at(heap, address) {
-            Some(object) => Ok(object_line(alloc, heap, &object)?),
-            None => Err(no_object(alloc, name, address)),
+            Some(object) => object_line(alloc, heap, &object),
+            None => return Err(no_object(alloc, name, address)),
         },
-    }
+    };
+    Ok(text?)
 }
 
 fn write_made<T: Files, R: Read, W: Write>(
@@ -216,11 +255,19 @@ fn write_made<T: Files, R: Read, W: Write>(
     name: &str,
     reader: &mut R,
     writer: &mut W,
-) -> Result<(), Refusal> {
+) -> Result<u8, Refusal> {
+    let bytes = made_of(rt, alloc, name, reader)?;
+    written(0, bytes.as_slice(), writer)
+}
+
+fn made_of<T: Files, R: Read>(
+    rt: &T,
+    alloc: Global,
+    name: &str,
+    reader: &mut R,
+) -> Result<Vec<u8>, Refusal> {
     let lines = read_bytes(rt, alloc, name, reader)?;
-    let bytes = made(alloc, name, lines.as_slice())?;
-    deliver(bytes.as_slice(), writer)?;
-    Ok(())
+    made(alloc, name, lines.as_slice())
 }
 
 fn made(alloc: Global, name: &str, lines: &[u8]) -> Result<Vec<u8>, Refusal> {

@@ -21,23 +21,33 @@ pub fn difference_line(
     after: &Heap,
     difference: &Difference,
 ) -> Result<String, AllocError> {
+    let mut text = String::new(alloc);
+    push_difference(&mut text, before, after, difference)?;
+    Ok(text)
+}
+
+fn push_difference(
+    text: &mut String,
+    before: &Heap,
+    after: &Heap,
+    difference: &Difference,
+) -> Result<(), AllocError> {
     match difference {
         Difference::Roots {
             before: old,
             after: new,
-        } => format!(in alloc; "differ roots: {old} before, {new} after\n"),
+        } => write!(text, "differ roots: {old} before, {new} after\n"),
         Difference::At { root, slots, how } => {
             let kind = kind_word(how);
-            let mut text = format!(in alloc; "differ {kind} at root {root}")?;
-            push_path(&mut text, slots.as_slice())?;
+            write!(text, "differ {kind} at root {root}")?;
+            push_path(text, slots.as_slice())?;
             let old = reached(before, *root, slots.as_slice());
             let new = reached(after, *root, slots.as_slice());
-            push_word(&mut text, ": ", old)?;
-            push_word(&mut text, " before, ", new)?;
-            write!(text, " after")?;
-            push_detail(&mut text, before, after, how, old, new)?;
-            text.push('\n')?;
-            Ok(text)
+            push_word(text, ": ", old)?;
+            push_word(text, " before, ", new)?;
+            text.push_str(" after")?;
+            push_detail(text, before, after, how, old, new)?;
+            text.push('\n')
         }
     }
 }
@@ -85,25 +95,32 @@ fn push_detail(
             object,
             first,
             second: _,
-        } => write!(
-            text,
-            "; {object} before is {first} after on an earlier path"
-        ),
+        } => push_met(text, (*object, "before"), (*first, "after")),
         How::Joined {
             first,
             second: _,
             object,
-        } => write!(
-            text,
-            "; {object} after is {first} before on an earlier path"
-        ),
-        How::Size { before, after } => write!(text, "; size {before} before, {after} after"),
-        How::Slots { before, after } => write!(text, "; slots {before} before, {after} after"),
+        } => push_met(text, (*object, "after"), (*first, "before")),
+        How::Size { before, after } => push_numbers(text, "size", *before, *after),
+        How::Slots { before, after } => push_numbers(text, "slots", *before, *after),
         How::Data { word } => {
             let (was, is) = (data_word(heap, old, *word), data_word(other, new, *word));
             write!(text, "; data word {word} is {was} before, {is} after")
         }
     }
+}
+
+// An object that an earlier path leads to, each with the heap that it is of.
+fn push_met(text: &mut String, object: (u64, &str), first: (u64, &str)) -> Result<(), AllocError> {
+    let ((object, here), (first, there)) = (object, first);
+    write!(
+        text,
+        "; {object} {here} is {first} {there} on an earlier path"
+    )
+}
+
+fn push_numbers(text: &mut String, what: &str, old: u64, new: u64) -> Result<(), AllocError> {
+    write!(text, "; {what} {old} before, {new} after")
 }
 
 // The word that a path leads to. The slot of this number of an object stands as many words behind the

@@ -18,15 +18,11 @@ pub fn read_bytes<T: Files, R: Read>(
     name: &str,
     reader: &mut R,
 ) -> Result<Vec<u8>, Refusal> {
-    let read = if name == STANDARD_INPUT {
-        read_all(alloc, reader)
-    } else {
-        read_all(alloc, &mut opened(rt, alloc, name)?)
-    };
-    match read {
-        Ok(bytes) => Ok(bytes),
-        Err(fault) => Err(of_file(alloc, name, fault)),
+    if name == STANDARD_INPUT {
+        return named(alloc, name, read_all(alloc, reader));
     }
+    let mut file = opened(rt, alloc, name)?;
+    named(alloc, name, read_all(alloc, &mut file))
 }
 
 /// The image in a file, or that which the reader tells where the name stands for standard input.
@@ -36,13 +32,17 @@ pub fn read_image<T: Files, R: Read>(
     name: &str,
     reader: &mut R,
 ) -> Result<Image, Refusal> {
-    let read = if name == STANDARD_INPUT {
-        read(alloc, &mut FromReader::new(reader))
-    } else {
-        read(alloc, &mut FromReader::new(opened(rt, alloc, name)?))
-    };
+    if name == STANDARD_INPUT {
+        return named(alloc, name, read(alloc, &mut FromReader::new(reader)));
+    }
+    let file = opened(rt, alloc, name)?;
+    named(alloc, name, read(alloc, &mut FromReader::new(file)))
+}
+
+// What was read of the file of this name.
+fn named<V: Drop>(alloc: Global, name: &str, read: Result<V, Fault>) -> Result<V, Refusal> {
     match read {
-        Ok(image) => Ok(image),
+        Ok(value) => Ok(value),
         Err(fault) => Err(of_file(alloc, name, fault)),
     }
 }

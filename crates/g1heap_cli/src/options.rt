@@ -108,109 +108,181 @@ Statuses:
 
 Example: g1heap print - < IMAGE";
 
-fn file<'a>(alloc: Global, id: &'a str, name: &'a str, help: &'a str) -> Arg<'a> {
-    Arg::new(alloc, id)
-        .value_name(name)
-        .action(ArgAction::Set)
-        .help(help)
+// A command: its name, and what its help says before and after its arguments.
+struct Usage {
+    name: &'static str,
+    about: &'static str,
+    after_help: &'static str,
 }
 
-fn covered<'a>(alloc: Global) -> Arg<'a> {
-    Arg::new(alloc, "covered")
-        .long("covered")
-        .action(ArgAction::SetTrue)
-        .help("Also asks that every reference of AFTER into another region is covered")
+static SAME_USAGE: Usage = Usage {
+    name: "same",
+    about: "Tells whether two images show the same graph from their roots, or where not",
+    after_help: AFTER_SAME,
+};
+
+static PRINT_USAGE: Usage = Usage {
+    name: "print",
+    about: "Prints an image as lines",
+    after_help: AFTER_PRINT,
+};
+
+static MAKE_USAGE: Usage = Usage {
+    name: "make",
+    about: "Writes the image that lines tell",
+    after_help: AFTER_MAKE,
+};
+
+// How an argument is given.
+#[derive(Clone, Copy)]
+enum Form {
+    /// By its place.
+    File,
+    /// By its place, or not at all, which stands for standard input.
+    FileOrNone,
+    /// By its name alone.
+    Flag,
+    /// By its name and a value.
+    Value,
+    /// By its name and a value, where the option `region` isn't.
+    ValueForRegion,
+    /// By its name and one value or more.
+    Values,
 }
 
-fn set<'a>(alloc: Global) -> Arg<'a> {
-    Arg::new(alloc, "set")
-        .long("set")
-        .value_name("REGION")
-        .num_args(1..)
-        .action(ArgAction::Append)
-        .help("Also asks that AFTER keeps all that a pause of these regions keeps")
+// An argument of a command: its name, what help calls its value, and what help says of it.
+struct Row {
+    id: &'static str,
+    value: &'static str,
+    help: &'static str,
+    form: Form,
 }
 
-fn same_command<'a>(alloc: Global) -> Result<Command<'a>, AllocError> {
-    Command::new(alloc, "same")
-        .about("Tells whether two images show the same graph from their roots, or where not")
-        .after_help(AFTER_SAME)
-        .arg(file(
-            alloc,
-            "before",
-            "BEFORE",
-            "An image, or - for standard input",
-        )
-        .required(true))?
-        .arg(file(alloc, "after", "AFTER", "Another image, or -").required(true))?
-        .arg(covered(alloc))?
-        .arg(set(alloc))
+static SAME_ROWS: [Row; 4] = [
+    Row {
+        id: "before",
+        value: "BEFORE",
+        help: "An image, or - for standard input",
+        form: Form::File,
+    },
+    Row {
+        id: "after",
+        value: "AFTER",
+        help: "Another image, or -",
+        form: Form::File,
+    },
+    Row {
+        id: "covered",
+        value: "",
+        help: "Also asks that every reference of AFTER into another region is covered",
+        form: Form::Flag,
+    },
+    Row {
+        id: "set",
+        value: "REGION",
+        help: "Also asks that AFTER keeps all that a pause of these regions keeps",
+        form: Form::Values,
+    },
+];
+
+static PRINT_ROWS: [Row; 3] = [
+    Row {
+        id: "image",
+        value: "IMAGE",
+        help: "An image, or - for standard input",
+        form: Form::File,
+    },
+    Row {
+        id: "region",
+        value: "R",
+        help: "Only the lines of this region",
+        form: Form::Value,
+    },
+    Row {
+        id: "object",
+        value: "A",
+        help: "Only the line of the object at this address",
+        form: Form::ValueForRegion,
+    },
+];
+
+static MAKE_ROWS: [Row; 1] = [Row {
+    id: "lines",
+    value: "LINES",
+    help: "The lines, or - for standard input",
+    form: Form::FileOrNone,
+}];
+
+fn argument<'a>(alloc: Global, row: &Row) -> Result<Arg<'a>, AllocError> {
+    let argument = Arg::new(alloc, row.id).help(row.help);
+    match row.form {
+        Form::Flag => Ok(argument.long(row.id).action(ArgAction::SetTrue)),
+        form => with_values(argument.value_name(row.value), row.id, form),
+    }
 }
 
-fn region_option<'a>(alloc: Global) -> Arg<'a> {
-    Arg::new(alloc, "region")
-        .long("region")
-        .value_name("R")
-        .action(ArgAction::Set)
-        .help("Only the lines of this region")
+// An argument that takes values.
+fn with_values<'a>(argument: Arg<'a>, id: &'a str, form: Form) -> Result<Arg<'a>, AllocError> {
+    let argument = argument.action(ArgAction::Set);
+    match form {
+        Form::File => Ok(argument.required(true)),
+        Form::FileOrNone => Ok(argument.default_value(STANDARD_INPUT)),
+        Form::ValueForRegion => argument.long(id).conflicts_with("region"),
+        Form::Values => Ok(argument.long(id).num_args(1..).action(ArgAction::Append)),
+        _ => Ok(argument.long(id)),
+    }
 }
 
-fn object_option<'a>(alloc: Global) -> Result<Arg<'a>, AllocError> {
-    Ok(
-        Arg::new(alloc, "object")
-            .long("object")
-            .value_name("A")
-            .action(ArgAction::Set)
-            .conflicts_with("region")?
-            .help("Only the line of the object at this address"),
-    )
-}
-
-fn print_command<'a>(alloc: Global) -> Result<Command<'a>, AllocError> {
-    let object = object_option(alloc)?;
-    Command::new(alloc, "print")
-        .about("Prints an image as lines")
-        .after_help(AFTER_PRINT)
-        .arg(file(alloc, "image", "IMAGE", "An image, or - for standard input").required(true))?
-        .arg(region_option(alloc))?
-        .arg(object)
-}
-
-fn make_command<'a>(alloc: Global) -> Result<Command<'a>, AllocError> {
-    Command::new(alloc, "make")
-        .about("Writes the image that lines tell")
-        .after_help(AFTER_MAKE)
-        .arg(file(
-            alloc,
-            "lines",
-            "LINES",
-            "The lines, or - for standard input",
-        )
-        .default_value("-"))
-}
-
-const COMMANDS: [&str; 3] = ["same", "print", "make"];
-
-fn command<'a>(alloc: Global) -> Result<Command<'a>, AllocError> {
-    let mut command = Command::new(alloc, NAME)
-        .no_binary_name(true)
-        .bin_name(NAME)?
-        .version("1.0.0")
-        .about("Compares, prints and makes heap images")
-        .after_help(AFTER_ALL)
-        .subcommand_required(true);
-    for name in COMMANDS {
-        command = command.subcommand(command_named(alloc, name)?)?;
+fn command_of<'a>(alloc: Global, usage: &Usage, rows: &[Row]) -> Result<Command<'a>, AllocError> {
+    let mut command = Command::new(alloc, usage.name)
+        .about(usage.about)
+        .after_help(usage.after_help);
+    for row in rows {
+        command = with_argument(alloc, command, row)?;
     }
     Ok(command)
 }
 
+fn with_argument<'a>(
+    alloc: Global,
+    command: Command<'a>,
+    row: &Row,
+) -> Result<Command<'a>, AllocError> {
+    let argument = argument(alloc, row)?;
+    command.arg(argument)
+}
+
 fn command_named<'a>(alloc: Global, name: &str) -> Result<Command<'a>, AllocError> {
     match name {
-        "same" => same_command(alloc),
-        "print" => print_command(alloc),
-        _ => make_command(alloc),
+        "same" => command_of(alloc, &SAME_USAGE, &SAME_ROWS),
+        "print" => command_of(alloc, &PRINT_USAGE, &PRINT_ROWS),
+        _ => command_of(alloc, &MAKE_USAGE, &MAKE_ROWS),
     }
+}
+
+fn program<'a>(alloc: Global) -> Result<Command<'a>, AllocError> {
+    Command::new(alloc, NAME)
+        .no_binary_name(true)
+        .version("1.0.0")
+        .about("Compares, prints and makes heap images")
+        .after_help(AFTER_ALL)
+        .subcommand_required(true)
+        .bin_name(NAME)
+}
+
+fn command<'a>(alloc: Global) -> Result<Command<'a>, AllocError> {
+    let command = with_command(alloc, program(alloc)?, "same")?;
+    let command = with_command(alloc, command, "print")?;
+    with_command(alloc, command, "make")
+}
+
+fn with_command<'a>(
+    alloc: Global,
+    command: Command<'a>,
+    name: &str,
+) -> Result<Command<'a>, AllocError> {
+    let added = command_named(alloc, name)?;
+    command.subcommand(added)
 }
 
 fn part_of(alloc: Global, values: &ArgMatches<'_>) -> Result<Part, Misuse> {
@@ -262,16 +334,30 @@ fn matched<'a>(alloc: Global, words: &'a [String]) -> Result<ArgMatches<'a>, Err
 
 /// Reads the words after the program's name.
 pub fn parse(alloc: Global, words: &[String]) -> Result<Request, Refusal> {
-    let matches = match matched(alloc, words) {
-        Ok(matches) => matches,
-        Err(error) => return Ok(Request::Help(explain(alloc, &error)?)),
-    };
+    match &matched(alloc, words) {
+        Ok(matches) => asked(alloc, matches),
+        Err(error) => help(alloc, error),
+    }
+}
+
+fn help(alloc: Global, error: &Error) -> Result<Request, Refusal> {
+    Ok(Request::Help(explain(alloc, error)?))
+}
+
+fn asked(alloc: Global, matches: &ArgMatches<'_>) -> Result<Request, Refusal> {
     let Some((name, values)) = matches.subcommand() else {
         let text = String::from_str(alloc, "error: a command is required\n")?;
         return Err(Refusal::usage(text));
     };
     match request_of(alloc, name, values) {
         Ok(request) => Ok(request),
-        Err(misuse) => Err(misuse.refusal(alloc, NAME, command_named(alloc, name)?)),
+        Err(misuse) => Err(refused(alloc, name, misuse)),
+    }
+}
+
+fn refused(alloc: Global, name: &str, misuse: Misuse) -> Refusal {
+    match command_named(alloc, name) {
+        Ok(command) => misuse.refusal(alloc, NAME, command),
+        Err(error) => error.into(),
     }
 }
