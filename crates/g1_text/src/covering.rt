@@ -5,7 +5,18 @@ use std::alloc::AllocError;
 
 /// Gives each region the cards of other regions that hold a slot which leads into it.
 pub(crate) fn cover(draft: &mut Draft) -> Result<(), Wrong> {
-    for (set, line) in draft.remembered.iter().zip(draft.lines.remembered.iter()) {
+    check_empty(&draft.remembered, &draft.lines.remembered)?;
+    let geometry = draft.geometry;
+    for object in &draft.objects {
+        let slots = slots_of(&draft.words, object);
+        cover_slots(&mut draft.remembered, &geometry, object, slots)?;
+    }
+    Ok(())
+}
+
+// No line tells cards beside 'covered'.
+fn check_empty(remembered: &[Vec<u32>], lines: &[u64]) -> Result<(), Wrong> {
+    for (set, line) in remembered.iter().zip(lines.iter()) {
         if !set.is_empty() {
             return Err(Wrong::Line {
                 number: *line,
@@ -13,14 +24,13 @@ pub(crate) fn cover(draft: &mut Draft) -> Result<(), Wrong> {
             });
         }
     }
-    let geometry = draft.geometry;
-    for object in &draft.objects {
-        let words = draft.words.as_slice();
-        let (_, from) = words.split_at(words.len().min(object.place.saturating_add(1)));
-        let (slots, _) = from.split_at(from.len().min(object.slots as usize));
-        cover_slots(&mut draft.remembered, &geometry, object, slots)?;
-    }
     Ok(())
+}
+
+fn slots_of<'a>(words: &'a [u64], object: &Placed) -> &'a [u64] {
+    let (_, from) = words.split_at(words.len().min(object.place.saturating_add(1)));
+    let (slots, _) = from.split_at(from.len().min(object.slots as usize));
+    slots
 }
 
 // Slots come by rising address, so the card of a slot is new in a set where it is not the last one.
@@ -45,7 +55,10 @@ fn cover_slots(
 }
 
 fn add_card(remembered: &mut Vec<Vec<u32>>, region: u64, card: u64) -> Result<(), AllocError> {
-    let (Some(set), Ok(card)) = (remembered.get_mut(region as usize), u32::try_from(card)) else {
+    let Ok(card) = u32::try_from(card) else {
+        return Ok(());
+    };
+    let Some(set) = remembered.get_mut(region as usize) else {
         return Ok(());
     };
     if set.last() != Some(&card) {

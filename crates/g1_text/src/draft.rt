@@ -24,7 +24,7 @@ pub(crate) struct Draft {
 }
 
 /// An object that was read.
-#[derive(Debug, Clone, Copy)]
+#[derive(Clone, Copy)]
 pub(crate) struct Placed {
     pub(crate) at: u64,
     pub(crate) slots: u64,
@@ -45,7 +45,7 @@ pub(crate) struct Lines {
 }
 
 /// What the first line tells of those below it, where it does.
-#[derive(Debug, Clone, Copy)]
+#[derive(Clone, Copy)]
 pub(crate) struct Heading {
     pub(crate) line: u64,
     pub(crate) roots: Option<u64>,
@@ -53,7 +53,7 @@ pub(crate) struct Heading {
 }
 
 /// What a region's line tells of those below it, where it does.
-#[derive(Debug, Clone, Copy)]
+#[derive(Clone, Copy)]
 pub(crate) struct Told {
     pub(crate) line: u64,
     pub(crate) region: usize,

@@ -2,70 +2,102 @@ ghost use Rattle.std.specs.Prelude.{◌≡◌};
 
 use g1_words::Fault;
 use std::alloc::{AllocError, AllocFailed};
+use std::fmt;
 use thiserror::Error;
 
 /// What should stand in a line in the place of what stands there.
-#[derive(Debug, Clone, Copy, PartialEq, Eq, Error)]
+#[derive(Debug, Clone, Copy, PartialEq, Eq)]
 pub enum Expected {
-    #[error("text")]
     Text,
-    #[error("'heap W K N' before all other lines")]
     Heading,
     /// Sizes that a heap can have, and a current region below the number of regions.
-    #[error("the sizes of a heap, and a current region of it")]
     Sizes,
-    #[error("'root', 'dirty', 'covered', 'region', 'remembered' or 'object'")]
     Line,
-    #[error("'{0}'")]
     Word(&'static str),
     /// A number that stands for this: below 2^64, or below 2^32 for a region or a card.
-    #[error("a whole number as {0}")]
     Number(&'static str),
     /// The number that follows from the other lines.
-    #[error("{0} {1}")]
     Follows(&'static str, u64),
-    #[error("the end of the line")]
     End,
-    #[error("'-' or an address")]
     Reference,
-    #[error("'-' or the address of an object")]
     Root,
-    #[error("at most {0} roots")]
     Roots(u64),
     /// A slot, counted from 0, that is null or names an object.
-    #[error("'-' or the address of an object in slot {0}")]
     Slot(u64),
-    #[error("a region from {0} to {1}")]
     Region(u64, u64),
-    #[error("no region behind the last one")]
     NoRegion,
-    #[error("'free', 'ordinary', 'humongous' or 'continuation'")]
     Kind,
-    #[error("no continuation where no humongous object goes on")]
     NoContinuation,
     /// An object in a region that is ordinary or humongous.
-    #[error("an object in this region")]
     Object,
-    #[error("no object here: the region above takes none, or no further one")]
     NoObject,
-    #[error("SIZE/SLOTS, at least one word and fewer slots than words")]
     Size,
-    #[error("an object of at most {0} words")]
     AtMost(u64),
-    #[error("an object of at least {0} words")]
     AtLeast(u64),
     /// So many slots and so many data words behind the size.
-    #[error("{0} slots and {1} data words")]
     Content(u64, u64),
-    #[error("an ordinary region as the current one")]
     Current,
-    #[error("cards of regions in use, each once")]
     Dirty,
-    #[error("rising cards of other regions in use")]
     Cards,
-    #[error("no remembered cards beside 'covered'")]
     NoCards,
 }
+
+impl Expected {
+    // The text where no word and no number stands in it.
+    fn text(&self) -> &'static str {
+        match self {
+            Expected::Text => "text",
+            Expected::Heading => "'heap W K N' before all other lines",
+            Expected::Sizes => "the sizes of a heap, and a current region of it",
+            Expected::Line => "'root', 'dirty', 'covered', 'region', 'remembered' or 'object'",
+            Expected::End => "the end of the line",
+            Expected::Reference => "'-' or an address",
+            Expected::Root => "'-' or the address of an object",
+            Expected::NoRegion => "no region behind the last one",
+            Expected::Kind => "'free', 'ordinary', 'humongous' or 'continuation'",
+            Expected::NoContinuation => "no continuation where no humongous object goes on",
+            Expected::Object => "an object in this region",
+            Expected::NoObject => "no object here: the region above takes none, or no further one",
+            Expected::Size => "SIZE/SLOTS, at least one word and fewer slots than words",
+            Expected::Current => "an ordinary region as the current one",
+            Expected::Dirty => "cards of regions in use, each once",
+            Expected::Cards => "rising cards of other regions in use",
+            Expected::NoCards => "no remembered cards beside 'covered'",
+            _ => "",
+        }
+    }
+}
+
+impl fmt::Display for Expected {
+    fn fmt<W: fmt::Write>(&self, f: &mut fmt::Formatter<W>) -> fmt::Result {
+        match self {
+            Expected::Word(word) => write!(f, "'{word}'"),
+            Expected::Number(what) => write!(f, "a whole number as {what}"),
+            Expected::Follows(what, number) => write!(f, "{what} {number}"),
+            Expected::Roots(most) => write_around(f, "at most ", *most, " roots"),
+            Expected::Slot(slot) => {
+                write_around(f, "'-' or the address of an object in slot ", *slot, "")
+            }
+            Expected::Region(first, last) => write!(f, "a region from {first} to {last}"),
+            Expected::AtMost(most) => write_around(f, "an object of at most ", *most, " words"),
+            Expected::AtLeast(least) => write_around(f, "an object of at least ", *least, " words"),
+            Expected::Content(slots, data) => write!(f, "{slots} slots and {data} data words"),
+            _ => f.write_str(self.text()),
+        }
+    }
+}
+
+// A number with the texts around it.
+fn write_around<W: fmt::Write>(
+    f: &mut fmt::Formatter<W>,
+    lead: &str,
+    number: u64,
+    tail: &str,
+) -> fmt::Result {
+    write!(f, "{lead}{number}{tail}")
+}
+
+impl std::error::Error for Expected {}
 
 /// Why lines are no image.
 #[derive(Debug, Clone, Copy, PartialEq, Eq, Error)]
@@ -84,7 +116,7 @@ impl From<AllocError> for Wrong {
 }
 
 /// Why a line is not taken, without its number.
-#[derive(Debug, Clone, Copy, PartialEq, Eq)]
+#[derive(Clone, Copy)]
 pub(crate) enum Refusal {
     Expected(Expected),
     Memory,

@@ -22,14 +22,21 @@ pub fn make(alloc: Global, text: &[u8]) -> Result<Vec<u8>, Wrong>
     ensures image { IfOk result (λ v. IsImageText v.items) }
 {
     let mut draft = read(alloc, text)?;
+    made(alloc, &mut draft)
+}
+
+// The bytes of what was read.
+fn made(alloc: Global, draft: &mut Draft) -> Result<Vec<u8>, Wrong>
+    ensures image { IfOk result (λ v. IsImageText v.items) }
+{
     if draft.covered {
-        cover(&mut draft)?;
+        cover(draft)?;
     }
-    settle(&draft)?;
-    let bytes = packed(alloc, &draft)?;
+    settle(draft)?;
+    let bytes = packed(alloc, draft)?;
     match decode(alloc, bytes.as_slice()) {
         Ok(_) => Ok(bytes),
-        Err(fault) => Err(traced(&draft, fault)),
+        Err(fault) => Err(traced(draft, fault)),
     }
 }
 

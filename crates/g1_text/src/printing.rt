@@ -1,7 +1,7 @@
 ghost use Rattle.std.specs.Prelude.{◌≡◌, ◌<◌, ◌≤◌, IfErr};
 
 use g1_image::Image;
-use g1_words::{Fault, Heap, Kind, Object, REFS_RANGE, Region, objects_in};
+use g1_words::{Fault, Heap, Object, REFS_RANGE, Region, objects_in};
 use std::alloc::{AllocError, Global};
 
 /// The lines of an image, in their full form: each number and each set stands there.
@@ -47,16 +47,6 @@ pub fn object_line(alloc: Global, heap: &Heap, object: &Object) -> Result<String
     Ok(text)
 }
 
-// The word for a kind, as `show` has it.
-fn kind_word(kind: Kind) -> &'static str {
-    match kind {
-        Kind::Free => "free",
-        Kind::Ordinary => "ordinary",
-        Kind::HumongousFirst => "humongous",
-        Kind::Continuation => "continuation",
-    }
-}
-
 fn push_heading(text: &mut String, image: &Image) -> Result<(), AllocError> {
     let heap = image.heap();
     let geometry = heap.geometry();
@@ -72,7 +62,7 @@ fn push_heading(text: &mut String, image: &Image) -> Result<(), AllocError> {
     )?;
     match heap.current() {
         Some(region) => writeln!(text, "{region}"),
-        None => writeln!(text, "none"),
+        None => text.push_str("none\n"),
     }
 }
 
@@ -87,14 +77,14 @@ fn push_roots(text: &mut String, roots: &[u64]) -> Result<(), AllocError> {
 
 fn push_log(text: &mut String, cards: &[u32]) -> Result<(), AllocError> {
     if !cards.is_empty() {
-        write!(text, "dirty")?;
+        text.push_str("dirty")?;
         push_cards(text, cards)?;
     }
     Ok(())
 }
 
 fn push_cards(text: &mut String, cards: &[u32]) -> Result<(), AllocError> {
-    write!(text, " cards")?;
+    text.push_str(" cards")?;
     for card in cards {
         write!(text, " {card}")?;
     }
@@ -116,23 +106,33 @@ fn push_region(alloc: Global, text: &mut String, image: &Image, region: u32) -> 
     ensures memory { IfErr result (λ e. e ≡ Fault.Memory) }
 {
     let heap = image.heap();
-    let Region { kind, top, pinned } = heap.region(region);
-    let kind = kind_word(kind);
-    let pinned = if pinned { " pinned" } else { "" };
     let starts = objects_in(alloc, heap, region)?;
-    let objects = starts.len();
-    let remembered = image.remembered()[region as usize].as_slice();
+    let cards = image.remembered()[region as usize].as_slice();
+    push_told(text, region, heap.region(region), starts.len(), cards)?;
+    push_objects(text, heap.words(), starts.as_slice())?;
+    Ok(())
+}
+
+// A region's numbers and its remembered cards.
+fn push_told(
+    text: &mut String,
+    number: u32,
+    region: Region,
+    objects: usize,
+    remembered: &[u32],
+) -> Result<(), AllocError> {
+    let Region { kind, top, pinned } = region;
+    let pinned = if pinned { " pinned" } else { "" };
     let cards = remembered.len();
     writeln!(
         text,
-        "region {region} {kind} top {top} objects {objects} cards {cards}{pinned}"
+        "region {number} {kind} top {top} objects {objects} cards {cards}{pinned}"
     )?;
-    if !remembered.is_empty() {
-        write!(text, "remembered {region}")?;
-        push_cards(text, remembered)?;
+    if remembered.is_empty() {
+        return Ok(());
     }
-    push_objects(text, heap.words(), starts.as_slice())?;
-    Ok(())
+    write!(text, "remembered {number}")?;
+    push_cards(text, remembered)
 }
 
 fn push_objects(text: &mut String, words: &[u64], starts: &[u64]) -> Result<(), AllocError> {
@@ -176,6 +176,6 @@ fn push_data(text: &mut String, words: &[u64]) -> Result<(), AllocError> {
 fn push_reference(text: &mut String, reference: u64) -> Result<(), AllocError> {
     match reference.checked_sub(1) {
         Some(address) => write!(text, " {address}"),
-        None => write!(text, " -"),
+        None => text.push_str(" -"),
     }
 }

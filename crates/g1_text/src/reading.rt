@@ -116,29 +116,19 @@ impl Draft {
 
     // root [NUMBER] REFERENCE
     fn add_root(&mut self, words: Words<'_>, line: u64) -> Result<(), Refusal> {
-        let mut words = words;
         let next = self.roots.len() as u64;
         if next >= MOST_ROOTS {
             return Err(Expected::Roots(MOST_ROOTS).into());
         }
-        if words.len() > 1 {
-            follows(Some(words.number("root")?), "root", next)?;
-        }
-        let reference = words.reference()?;
-        words.end()?;
-        self.roots.push(reference)?;
+        self.roots.push(root(words, next)?)?;
         self.lines.roots.push(line)?;
         Ok(())
     }
 
     // dirty cards CARD ..
     fn add_dirty(&mut self, words: Words<'_>, line: u64) -> Result<(), Refusal> {
-        let mut words = words;
-        words.word("cards")?;
-        for _ in 0..words.len() {
-            self.log.push(words.short_number("card")?)?;
-            self.lines.log.push(line)?;
-        }
+        add_cards(words, &mut self.log)?;
+        self.lines.log.resize(self.log.len(), line)?;
         Ok(())
     }
 
@@ -157,10 +147,7 @@ impl Draft {
         let Some(set) = self.remembered.get_mut(region as usize) else {
             return Err(Expected::Region(0, last).into());
         };
-        words.word("cards")?;
-        for _ in 0..words.len() {
-            set.push(words.short_number("card")?)?;
-        }
+        add_cards(words, set)?;
         if let Some(told) = self.lines.remembered.get_mut(region as usize) {
             *told = line;
         }
@@ -174,10 +161,9 @@ impl Draft {
         let kind = kind(words.next().unwrap_or(""))?;
         let region = self.begin_region(told, kind)?;
         let told = told_of(region, &mut words, line)?;
-        if kind == Kind::Ordinary && words.take("pinned") {
+        if is_pinned(kind, words)? {
             self.pin(region);
         }
-        words.end()?;
         self.lines.regions.push(told)?;
         Ok(())
     }
@@ -212,18 +198,14 @@ impl Draft {
     fn add_object(&mut self, words: Words<'_>, line: u64) -> Result<(), Refusal> {
         let mut words = words;
         let told = words.take_number();
-        let Some((size, slots)) = size_and_slots(words.next().unwrap_or("")) else {
-            return Err(Expected::Size.into());
-        };
-        if slots >= size {
-            return Err(Expected::Size.into());
-        }
+        let (size, slots) = size(&mut words)?;
         let at = self.next_address();
         follows(told, "object", at)?;
         self.take_room(size)?;
         let place = self.words.len();
         self.words.push(size << 32 | slots)?;
-        self.add_content(words, slots, size - slots - 1)?;
+        let data = size.saturating_sub(slots).saturating_sub(1);
+        self.add_content(words, slots, data)?;
         self.objects.push(Placed {
             at,
             slots,
@@ -260,6 +242,27 @@ impl Draft {
     }
 }
 
+// [NUMBER] REFERENCE
+fn root(words: Words<'_>, next: u64) -> Result<u64, Expected> {
+    let mut words = words;
+    if words.len() > 1 {
+        follows(Some(words.number("root")?), "root", next)?;
+    }
+    let reference = words.reference()?;
+    words.end()?;
+    Ok(reference)
+}
+
+// cards CARD ..
+fn add_cards(words: Words<'_>, cards: &mut Vec<u32>) -> Result<(), Refusal> {
+    let mut words = words;
+    words.word("cards")?;
+    for _ in 0..words.len() {
+        cards.push(words.short_number("card")?)?;
+    }
+    Ok(())
+}
+
 // [top WORDS] [objects COUNT] [cards COUNT]
 fn told_of(region: usize, words: &mut Words<'_>, line: u64) -> Result<Told, Expected> {
     Ok(Told {
@@ -270,6 +273,22 @@ fn told_of(region: usize, words: &mut Words<'_>, line: u64) -> Result<Told, Expe
         cards: words.named("cards")?,
         found: 0,
     })
+}
+
+// SIZE/SLOTS
+fn size(words: &mut Words<'_>) -> Result<(u64, u64), Expected> {
+    match size_and_slots(words.next().unwrap_or("")) {
+        Some((size, slots)) if slots < size => Ok((size, slots)),
+        _ => Err(Expected::Size),
+    }
+}
+
+// [pinned]
+fn is_pinned(kind: Kind, words: Words<'_>) -> Result<bool, Expected> {
+    let mut words = words;
+    let pinned = kind == Kind::Ordinary && words.take("pinned");
+    words.end()?;
+    Ok(pinned)
 }
 
 // A region's number is at least the next one, and below the count of regions.
