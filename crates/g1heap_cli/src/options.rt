@@ -145,7 +145,7 @@ enum Form {
     /// By its name and a value.
     Value,
     /// By its name and a value, where the option `region` isn't.
-    ValueForRegion,
+    ValueWithoutRegion,
     /// By its name and one value or more.
     Values,
 }
@@ -202,7 +202,7 @@ static PRINT_ROWS: [Row; 3] = [
         id: "object",
         value: "A",
         help: "Only the line of the object at this address",
-        form: Form::ValueForRegion,
+        form: Form::ValueWithoutRegion,
     },
 ];
 
@@ -227,7 +227,7 @@ fn with_values<'a>(argument: Arg<'a>, id: &'a str, form: Form) -> Result<Arg<'a>
     match form {
         Form::File => Ok(argument.required(true)),
         Form::FileOrNone => Ok(argument.default_value(STANDARD_INPUT)),
-        Form::ValueForRegion => argument.long(id).conflicts_with("region"),
+        Form::ValueWithoutRegion => argument.long(id).conflicts_with("region"),
         Form::Values => Ok(argument.long(id).num_args(1..).action(ArgAction::Append)),
         _ => Ok(argument.long(id)),
     }
@@ -295,20 +295,22 @@ fn part_of(alloc: Global, values: &ArgMatches<'_>) -> Result<Part, Misuse> {
     }
 }
 
+fn name_in<'a>(values: &ArgMatches<'a>, id: &str) -> &'a str {
+    values.get_str(id).unwrap_or(STANDARD_INPUT)
+}
+
 fn name_of(alloc: Global, values: &ArgMatches<'_>, id: &str) -> Result<String, AllocError> {
-    String::from_str(alloc, values.get_str(id).unwrap_or(STANDARD_INPUT))
+    String::from_str(alloc, name_in(values, id))
 }
 
 fn same_of(alloc: Global, values: &ArgMatches<'_>) -> Result<Request, Misuse> {
-    let before = name_of(alloc, values, "before")?;
-    let after = name_of(alloc, values, "after")?;
-    if before.as_str() == STANDARD_INPUT && after.as_str() == STANDARD_INPUT {
+    if name_in(values, "before") == STANDARD_INPUT && name_in(values, "after") == STANDARD_INPUT {
         let message = "only one of the images can be standard input";
         return Err(Misuse::Value(String::from_str(alloc, message)?));
     }
     Ok(Request::Same(Same {
-        before,
-        after,
+        before: name_of(alloc, values, "before")?,
+        after: name_of(alloc, values, "after")?,
         covered: values.get_flag("covered"),
         set: regions(alloc, values, &SET)?,
     }))
