@@ -2,7 +2,7 @@ ghost use Rattle.std.specs.Prelude.{◌≡◌, ◌<◌, IfErr};
 
 use crate::lost::{Lost, Stop};
 use crate::pairs::{Heaps, Pair, Pairs, is_freed};
-use g1_words::{Fault, Heap, Kind, objects_in};
+use g1_words::{Fault, Heap, Kind, Region, objects_in};
 use std::alloc::{AllocError, Global};
 
 /// Whether a heap keeps what a pause of these regions keeps of another one: all objects outside them
@@ -45,11 +45,15 @@ fn marked(alloc: Global, heap: &Heap, set: &[u32]) -> Result<Vec<bool>, AllocErr
 
 fn compare(alloc: Global, heaps: Heaps<'_>) -> Result<(), Stop> {
     compare_regions(heaps)?;
-    let words = heaps.before.words().len();
-    let mut pairs = Pairs::new(alloc, words)?;
-    compare_roots(heaps, &mut pairs)?;
-    compare_kept(alloc, heaps, &mut pairs)?;
-    for number in 0..words {
+    let mut pairs = Pairs::new(alloc, heaps.before.words().len())?;
+    compare_objects(alloc, heaps, &mut pairs)
+}
+
+// Each pair is compared in its turn, and comparing it may find more.
+fn compare_objects(alloc: Global, heaps: Heaps<'_>, pairs: &mut Pairs) -> Result<(), Stop> {
+    compare_roots(heaps, pairs)?;
+    compare_kept(alloc, heaps, pairs)?;
+    for number in 0..heaps.before.words().len() {
         match pairs.pair(number) {
             Some(pair) => pairs.compare(heaps, pair)?,
             None => break,
@@ -69,13 +73,18 @@ fn compare_regions(heaps: Heaps<'_>) -> Result<(), Lost> {
     }
     let regions = before.regions().iter().zip(after.regions().iter());
     for (number, ((old, new), chosen)) in regions.zip(chosen.iter()).enumerate() {
-        let number = number as u32;
-        if *chosen && new.kind != Kind::Free {
-            return Err(Lost::Set(number));
-        }
-        if !*chosen && old.kind != Kind::Free && !is_freed(*old, *new) && *old != *new {
-            return Err(Lost::Region(number));
-        }
+        compare_told(number as u32, *old, *new, *chosen)?;
+    }
+    Ok(())
+}
+
+// What the heaps tell of a region, which is of the set or not.
+fn compare_told(number: u32, old: Region, new: Region, chosen: bool) -> Result<(), Lost> {
+    if chosen && new.kind != Kind::Free {
+        return Err(Lost::Set(number));
+    }
+    if !chosen && old.kind != Kind::Free && !is_freed(old, new) && old != new {
+        return Err(Lost::Region(number));
     }
     Ok(())
 }
@@ -85,12 +94,10 @@ fn compare_roots(heaps: Heaps<'_>, pairs: &mut Pairs) -> Result<(), Stop> {
     if old.len() != new.len() {
         return Err(Lost::Roots.into());
     }
-    for (number, (word, now)) in old.iter().zip(new.iter()).enumerate() {
-        if !pairs.follow(heaps, *word, *now)? {
-            return Err(Lost::Root(number as u64).into());
-        }
+    match pairs.first_lost(heaps, old, new)? {
+        Some(number) => Err(Lost::Root(number).into()),
+        None => Ok(()),
     }
-    Ok(())
 }
 
 // The objects outside the set that are still there, each with itself.

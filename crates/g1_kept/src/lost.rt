@@ -29,7 +29,7 @@ pub enum Lost {
 }
 
 /// Why the comparison ends.
-#[derive(Debug, Clone, Copy, PartialEq, Eq)]
+#[derive(Clone, Copy)]
 pub(crate) enum Stop {
     Lost(Lost),
     Memory,

@@ -22,7 +22,7 @@ pub(crate) struct Pairs {
 }
 
 /// The addresses of an object and of what it is to be after.
-#[derive(Debug, Clone, Copy)]
+#[derive(Clone, Copy)]
 pub(crate) struct Pair {
     pub(crate) before: u64,
     pub(crate) after: u64,
@@ -74,22 +74,20 @@ impl Pairs {
 
     /// Whether a reference word is after what it should be: the same where it led out of the set,
     /// else a word that names the object's copy.
-    pub(crate) fn follow(
-        &mut self,
-        heaps: Heaps<'_>,
-        word: u64,
-        now: u64,
-    ) -> Result<bool, AllocError> {
-        let (Some(before), Some(after)) = (word.checked_sub(1), now.checked_sub(1)) else {
+    fn follow(&mut self, heaps: Heaps<'_>, word: u64, now: u64) -> Result<bool, AllocError> {
+        let Some(before) = word.checked_sub(1) else {
+            return Ok(word == now);
+        };
+        let Some(after) = now.checked_sub(1) else {
             return Ok(word == now);
         };
         if !heaps.is_chosen(before) {
             return Ok(word == now);
         }
-        let (Some(copy), Some(object)) = (
-            self.copies.get_mut(before as usize),
-            self.objects.get_mut(after as usize),
-        ) else {
+        let Some(copy) = self.copies.get_mut(before as usize) else {
+            return Ok(false);
+        };
+        let Some(object) = self.objects.get_mut(after as usize) else {
             return Ok(false);
         };
         if *copy != 0 || *object != 0 {
@@ -99,6 +97,21 @@ impl Pairs {
         *object = word;
         self.found.push(Pair { before, after })?;
         Ok(heaps.was_free(after))
+    }
+
+    /// The first place of a reference word that is not after what it should be.
+    pub(crate) fn first_lost(
+        &mut self,
+        heaps: Heaps<'_>,
+        words: &[u64],
+        now: &[u64],
+    ) -> Result<Option<u64>, AllocError> {
+        for (place, (word, now)) in words.iter().zip(now.iter()).enumerate() {
+            if !self.follow(heaps, *word, *now)? {
+                return Ok(Some(place as u64));
+            }
+        }
+        Ok(None)
     }
 
     /// Compares two objects that are to be the same.
@@ -117,18 +130,15 @@ impl Pairs {
             }
             .into());
         }
-        for (slot, (word, now)) in old.slots.iter().zip(new.slots.iter()).enumerate() {
-            if !self.follow(heaps, *word, *now)? {
-                let slot = slot as u64;
-                return Err(Lost::Slot {
-                    before,
-                    after,
-                    slot,
-                }
-                .into());
+        match self.first_lost(heaps, old.slots, new.slots)? {
+            Some(slot) => Err(Lost::Slot {
+                before,
+                after,
+                slot,
             }
+            .into()),
+            None => Ok(()),
         }
-        Ok(())
     }
 }
 
