@@ -1,4 +1,4 @@
-use Rattle.std.proofs.Common.{◌∙◌, length, take, sym, ap}
+use Rattle.std.proofs.Common.{◌∙◌, length, take, sym, ap, arith}
 use Rattle.std.proofs.lemmas.List.{length-map, take_more}
 use Rattle.std.proofs.lemmas.List.FromFn.{length-map-range_with_len}
 use Rattle.g1_copy.specs.Links.{cards_by_region}
@@ -18,3 +18,6 @@ loop-slot-preserved c =
     let lt = c.loop-slot-test.true in
     c.in_ok-add_slot.ensures (take i slots) (before_below slots i c.requires.rising lt) c.loop-slot.invariant
     ∙ ap (cards_by_region c.args.heap.now) (sym (take_more slots i (0, 0) lt))
+
+pub loop-slot-smaller : goal.loop-slot-smaller
+loop-slot-smaller c = omega (arith, c.loop-slot-test.true)

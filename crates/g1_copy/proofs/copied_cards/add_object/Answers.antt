@@ -1,4 +1,4 @@
-use Rattle.std.proofs.Common.{ℕ, ◌+◌, ◌++◌, ◌∷◌, [], ◌∙◌, map, slice_index, append-nil, ap, sym}
+use Rattle.std.proofs.Common.{ℕ, ◌+◌, ◌++◌, ◌∷◌, [], ◌∙◌, map, slice_index, append-nil, ap, sym, arith}
 use Rattle.std.proofs.lemmas.List.{append_assoc}
 use Rattle.g1_copy.specs.Links.{cards_by_region}
 use Rattle.g1_copy.proofs.CopiedWords.{filled_slot, first_below, first_slots, null_slot}
@@ -22,3 +22,6 @@ loop-k-preserved c =
       | else-word-ne0 w ↦ λ before low e.
           ap (map (λ s. s.items)) w.lists-is ∙ c.loop-k.invariant before low e ∙ ap (λ ys. cards_by_region h (before ++ ys)) (sym (null_slot xs c.args.at c.args.place k w.if-word-ne0.false))
     ]
+
+pub loop-k-smaller : goal.loop-k-smaller
+loop-k-smaller c = omega (arith, c.loop-k-test.true)

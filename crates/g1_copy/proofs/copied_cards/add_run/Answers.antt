@@ -91,3 +91,6 @@ returns c =
     let order = run_order c.args.heap.now c.args.plan.now c.requires.plan c.geometry.ensures.valid c.args.run.now c.requires.run in
     let end : c.loop-i.i ≡ c.args.run.now.to = omega (arith, c.loop-i-test.false, c.loop-i.auto.i-end order) in
     c.loop-i.invariant ∙ ap (λ i. cards_by_region c.args.heap.now (first_copied c.args.heap.now c.args.plan.now.survivors i)) end
+
+pub loop-i-smaller : goal.loop-i-smaller
+loop-i-smaller c = omega (arith, c.loop-i-test.true)

@@ -115,3 +115,6 @@ returns c =
     let end : c.loop-number.number ≡ need c.args.heap.now c.args.plan.now.survivors = omega (arith, c.loop-number-test.false, c.loop-number.auto.number-end, ap length c.runs-runs.ensures, runs_count h p made) in
     let all : laid_before h p.survivors c.loop-number.number ≡ length p.survivors = ap (laid_before h p.survivors) end ∙ laid_all h p.set p.survivors c.geometry-geometry.ensures.valid made.placeable made.room in
     c.loop-number.invariant ∙ ap (λ i. cards_by_region h (first_copied h p.survivors i)) all ∙ ap (λ l. cards_by_region h (flat_map (moved_slots h p.survivors) l)) (take-length p.survivors)
+
+pub loop-number-smaller : goal.loop-number-smaller
+loop-number-smaller c = omega (arith, c.loop-number-test.true)

@@ -19,3 +19,6 @@ pub returns : goal.returns
 returns c =
     let end : c.loop-run.run ≡ length c.args.to_space.now = omega (arith, c.loop-run-test.false, c.loop-run.auto.run-end) in
     subst (λ n. AreReplaced n (λ t. get_or c.args.to_space.now t 0) (λ t. Filled t) c.args.fates.now c.loop-run.fates) end c.loop-run.invariant
+
+pub loop-run-smaller : goal.loop-run-smaller
+loop-run-smaller c = omega (arith, c.loop-run-test.true)

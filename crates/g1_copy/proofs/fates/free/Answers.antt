@@ -19,3 +19,6 @@ pub returns : goal.returns
 returns c =
     let end : c.loop-region.region-index ≡ length c.args.set.now = omega (arith, c.loop-region-test.false, c.loop-region.auto.region-index-end) in
     subst (λ n. AreReplaced n (λ t. get_or c.args.set.now t 0) (λ t. Freed) c.args.fates.now c.loop-region.fates) end c.loop-region.invariant
+
+pub loop-region-smaller : goal.loop-region-smaller
+loop-region-smaller c = omega (arith, c.loop-region-test.true)

@@ -16,3 +16,6 @@ pub returns : goal.returns
 returns c =
     let none : drop c.loop-slot.slot-index c.args.patches.now ≡ [] = drop_all c.loop-slot.slot-index c.args.patches.now (omega (arith, c.loop-slot-test.false)) in
     sym (c.loop-slot.invariant ∙ ap (λ ps. patched ps c.args.start c.loop-slot.words) none)
+
+pub loop-slot-smaller : goal.loop-slot-smaller
+loop-slot-smaller c = omega (arith, c.loop-slot-test.true)

@@ -77,3 +77,6 @@ loop-i-preserved c =
 
 pub returns : goal.returns
 returns c = Filling-all c.args.heap.now c.args.plan.now c.geometry.ensures.valid c.requires.plan c.args.run c.requires.run c.loop-i.i c.loop-i.words (omega arith) c.loop-i.invariant.filling
+
+pub loop-i-smaller : goal.loop-i-smaller
+loop-i-smaller c = omega (arith, c.loop-i-test.true)

@@ -33,3 +33,6 @@ returns c =
     let p = c.args.plan.now in
     FilledTo-all h p c.geometry.ensures.valid c.requires.plan c.loop-number.number c.loop-number.words
     (omega (arith, c.loop-number-test.false, ap length c.runs-number-end.ensures, count_runs h p c.geometry.ensures.valid c.requires.plan)) c.loop-number.invariant
+
+pub loop-number-smaller : goal.loop-number-smaller
+loop-number-smaller c = omega (arith, c.loop-number-test.true)

@@ -1,4 +1,4 @@
-use Rattle.std.proofs.Common.{◌∙◌, [], flat_map, ap, sym, get_or, take}
+use Rattle.std.proofs.Common.{◌∙◌, [], flat_map, ap, sym, get_or, take, arith}
 use Rattle.std.proofs.lemmas.List.{take_more}
 use Rattle.g1_rem.specs.Slots.{slots_on}
 use Rattle.g1_copy.specs.Patches.{patches_at}
@@ -20,3 +20,6 @@ returns-clause-ok g c =
     c.loop-card.invariant
     ∙ ap (flat_map (λ c'. patches_at c.args.heap.now c.args.plan.now.survivors (slots_on c.args.heap.now c'))) (take_whole c.args.cards.now c.loop-card.card-index c.loop-card-test.false)
     ∙ patches_by_cards c.args.heap.now c.args.plan.now.survivors c.args.cards.now c.geometry.ensures.valid c.requires.rising
+
+pub loop-card-smaller : goal.loop-card-smaller
+loop-card-smaller g c = omega (arith, c.loop-card-test.true)

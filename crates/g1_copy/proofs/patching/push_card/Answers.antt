@@ -1,4 +1,4 @@
-use Rattle.std.proofs.Common.{◌∙◌, ◌++◌, ap, sym, subst, append-nil, get_or, take, Contains}
+use Rattle.std.proofs.Common.{◌∙◌, ◌++◌, ap, sym, subst, append-nil, get_or, take, Contains, arith}
 use Rattle.std.proofs.lemmas.List.{take_more, get_or_default}
 use Rattle.g1_rem.proofs.Entering.{slot_good}
 use Rattle.g1_copy.specs.Patches.{patch_at, patches_at}
@@ -29,3 +29,6 @@ returns c =
     c.loop-slot.invariant
     ∙ ap (λ ys. c.args.patches.now.items ++ patches_at c.args.heap.now c.args.plan.now.survivors ys)
     (take_whole c.as_slice-slot-items.result.now c.loop-slot.slot-index c.loop-slot-test.false ∙ c.as_slice-slot-items.ensures ∙ c.slots_on-slots.ensures.items)
+
+pub loop-slot-smaller : goal.loop-slot-smaller
+loop-slot-smaller c = omega (arith, c.loop-slot-test.true)

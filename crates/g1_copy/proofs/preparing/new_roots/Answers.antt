@@ -28,3 +28,6 @@ returns c =
     let f = renamed (moved_to c.args.plan.now.survivors c.args.plan.now.places) in
     roots_made c.args.heap.now c.args.set.now c.args.plan.now c.geometry-geometry.ensures.valid c.requires xs c.loop-root.roots.items c.roots-root-items.ensures
     (c.loop-root.invariant ∙ ap (map f) (take_all c.loop-root.root-index xs (omega (arith, c.loop-root-test.false))))
+
+pub loop-root-smaller : goal.loop-root-smaller
+loop-root-smaller c = omega (arith, c.loop-root-test.true)

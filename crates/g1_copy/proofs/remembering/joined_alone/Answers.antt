@@ -27,3 +27,6 @@ returns-clause-ok c =
     let n = count (goal.at.returns-clause-ok c).After-regions-count in
     let all : c.loop-region.region ≡ c.args.heap.now.geometry.n = omega (arith, c.loop-region-test.false, c.loop-region.auto.region-end, n) in
     JoinedTo-all c.args.heap.now c.args.fates.now (map (λ s. s.items) c.args.remembered.now) (map (λ s. s.items) c.args.outer.now) (map (λ s. s.items) c.args.inner.now) c.loop-region.region (map (λ s. s.items) c.loop-region.sets.items) all c.loop-region.invariant
+
+pub loop-region-smaller : goal.loop-region-smaller
+loop-region-smaller c = omega (arith, c.loop-region-test.true)

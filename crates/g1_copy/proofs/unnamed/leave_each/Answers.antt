@@ -20,3 +20,6 @@ loop-region-preserved c =
     (omega (arith, c.loop-region-test.true, c.requires, length-map c.args.sets.now (λ s. s.items))) c.loop-region.invariant
     (map-set (λ s. s.items) c.loop-region.sets r c.leave.new.cards)
     (c.leave.ensures ∙ (λ q. left c.args.heap.now c.args.fates.now (fate q) (read q)))
+
+pub loop-region-smaller : goal.loop-region-smaller
+loop-region-smaller c = omega (arith, c.loop-region-test.true)

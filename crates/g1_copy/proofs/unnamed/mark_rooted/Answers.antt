@@ -8,3 +8,6 @@ bounds-rooted-region_of c =
     let lt = root_home h c.geometry-geometry.ensures.valid c.roots-root-items.result.now c.loop-root.root-index c.roots-root-items.ensures c.loop-root-test.true c.if-root-gt0.true in
     let same = c.region_of.ensures ∙ ap (λ g. (slice_index c.roots-root-items.result.now c.loop-root.root-index - 1) / g.w) c.geometry-geometry.ensures.same in
     omega (arith, lt, same, c.loop-root.auto.rooted, c.requires)
+
+pub loop-root-smaller : goal.loop-root-smaller
+loop-root-smaller c = omega (arith, c.loop-root-test.true)

@@ -10,3 +10,6 @@ loop-region-preserved c =
     let r = c.loop-region.region in
     c.in_ok-push.ensures.items ∙ ap (λ l. l ++ c.loop-region.region ∷ []) c.loop-region.invariant ∙ append_assoc old (range_with_len first (r - first)) (r ∷ [])
     ∙ ap (λ l. c.args.runs.now.items ++ l) (range_more first r (omega arith))
+
+pub loop-region-smaller : goal.loop-region-smaller
+loop-region-smaller c = omega (arith, c.loop-region-test.true)

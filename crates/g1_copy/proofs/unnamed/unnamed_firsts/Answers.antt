@@ -1,4 +1,4 @@
-use Rattle.std.proofs.Common.{◌++◌, ◌∷◌, [], map, sym, ◌∙◌, ap}
+use Rattle.std.proofs.Common.{◌++◌, ◌∷◌, [], map, sym, ◌∙◌, ap, arith}
 use Rattle.g1_copy.specs.Unnamed.{is_unnamed}
 use Rattle.g1_rem.proofs.EntryCards.{filtered_pass, filtered_push}
 use Rattle.g1_copy.proofs.unnamed.unnamed_firsts.Goals as goal
@@ -17,3 +17,6 @@ loop-region-preserved c =
           ap (λ v. v.items) w.firsts-is ∙ c.loop-region.invariant
           ∙ sym (filtered_pass (is_unnamed h c.args.fates.now sets) r (sym c.is_unnamed.ensures ∙ w.if-is_unnamed.false))
     ]
+
+pub loop-region-smaller : goal.loop-region-smaller
+loop-region-smaller c = omega (arith, c.loop-region-test.true)

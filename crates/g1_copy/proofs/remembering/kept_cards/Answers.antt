@@ -1,0 +1,5 @@
+use Rattle.std.proofs.Common.{arith}
+use Rattle.g1_copy.proofs.remembering.kept_cards.Goals as goal
+
+pub loop-card-smaller : goal.loop-card-smaller
+loop-card-smaller c = omega (arith, c.loop-card-test.true)
