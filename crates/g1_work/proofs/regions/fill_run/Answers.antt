@@ -15,3 +15,6 @@ loop-k-preserved g c =
           c.loop-k.invariant.done (c.loop-k.invariant.rest k (omega arith) c.loop-k-test.true) c.fill.ensures;
       rest = λ j a b. slice_above w c.args.count k j e ws ys len c.loop-k-test.true (omega arith) cut new ∙ c.loop-k.invariant.rest j (omega arith) b;
     }
+
+pub loop-k-smaller : goal.loop-k-smaller
+loop-k-smaller g c = omega (arith, c.loop-k-test.true)
