@@ -1,4 +1,4 @@
-use Rattle.std.proofs.Common.{inr, refl, below_more}
+use Rattle.std.proofs.Common.{inr, refl, below_more, arith}
 use Rattle.g1_image.proofs.Logs.{was_there, is_fresh, put}
 use Rattle.g1_image.proofs.cards.check_log.Goals as goal
 
@@ -13,3 +13,6 @@ loop-i-preserved c = (
   below_more _ _ c.loop-i.invariant.1
       (c.if-not-is_used.ensures.0 refl, is_fresh c.args.log.now c.loop-i.cards.keys c.loop-i.i c.in_ok-added.added c.loop-i-test.true c.loop-i.invariant.0 c.in_ok-added.ensures.added c.if-not-added.false),
 )
+
+pub loop-i-smaller : goal.loop-i-smaller
+loop-i-smaller c = omega (arith, c.loop-i-test.true)

@@ -37,3 +37,6 @@ loop-r-preserved c =
     let lt : r < length c.args.remembered.now = omega (arith, c.loop-r-test.true, n, c.requires.one_each) in
     let same : slice_index_or (map (λ s. s.items) c.args.remembered.now) r [] ≡ c.deref.result.now = map_at (λ s. s.items) c.args.remembered.now r c.index-remembered-r.result [] lt c.index-remembered-r.is ∙ sym c.deref.ensures.value in
     below_more _ _ c.loop-r.invariant (subst (λ l. IsRememberedSet h r l) (sym same) (c.if-not-is_remembered_set.ensures.0 refl))
+
+pub loop-r-smaller : goal.loop-r-smaller
+loop-r-smaller c = omega (arith, c.loop-r-test.true)

@@ -21,3 +21,6 @@ loop-i-preserved c =
       ];
       elsewhere = below_more _ _ c.loop-i.invariant.elsewhere (c.if-not-is_used.ensures.0 refl, λ e. c.if-region_of_card-from.false (place ∙ e ∙ sym c.from.ensures));
     }
+
+pub loop-i-smaller : goal.loop-i-smaller
+loop-i-smaller c = omega (arith, c.loop-i-test.true)

@@ -14,3 +14,6 @@ loop-e-preserved c =
     laid_step c.args.w c.loop-e.e-index table none c.loop-e.out.items c.push_read.new.out.items c.push_zeros.new.out.items c.loop-e.rest.now c.split_at.result.1.now
     (all_words c.args.w table (words_of (table_words table) c.args.bytes.now)) c.if-e-w.used c.loop-e-test.true used c.loop-e.invariant.0 c.loop-e.invariant.1
     c.in_ok-push_read.ensures c.in_ok-push_zeros.ensures c.split_at.ensures.back
+
+pub loop-e-smaller : goal.loop-e-smaller
+loop-e-smaller c = omega (arith, c.loop-e-test.true)

@@ -1,3 +1,4 @@
+use Rattle.std.proofs.Common.{arith}
 use Rattle.std.proofs.lemmas.Result.{err_from_is_err_and}
 use Rattle.g1_image.specs.Text.{Entry}
 use Rattle.g1_image.proofs.Laid.{laid_more, laid_fails}
@@ -17,3 +18,6 @@ loop-e-preserved g c =
       known = c.push_region.ensures.known;
       part = laid_more _ _ _ _ _ _ c.args.w c.args.table.now c.loop-e.e-index none c.loop-e.out.items c.push_region.new.out.items more.0 c.loop-e.invariant.part c.loop-e-test.true more.1 more.2 more.3;
     }
+
+pub loop-e-smaller : goal.loop-e-smaller
+loop-e-smaller g c = omega (arith, c.loop-e-test.true)

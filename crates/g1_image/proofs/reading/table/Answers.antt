@@ -1,3 +1,4 @@
+use Rattle.std.proofs.Common.{arith}
 use Rattle.g1_image.specs.Faults.{EntryFits}
 use Rattle.g1_image.specs.Text.{entry_text}
 use Rattle.g1_image.proofs.Parts.{entry_free}
@@ -8,3 +9,6 @@ pub returns-in_err-x : goal.returns-in_err-x
 returns-in_err-x c =
     Came-fails (EntryFits c.args.version) (entry_text c.args.version) (entry_free c.args.version) (λ x. (x.0.items, x.1.now)) c.args.bytes.now c.from_residual.result c.in_err-x.field-0.0 c.loop-i._i c.args.count c.loop-i.table.items c.loop-i.rest.now
     c.from_residual.ensures.1 c.in_err-x.ensures c.loop-i.invariant c.loop-i-test.true
+
+pub loop-i-smaller : goal.loop-i-smaller
+loop-i-smaller c = omega (arith, c.loop-i-test.true)

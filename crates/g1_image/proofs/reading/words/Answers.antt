@@ -1,3 +1,4 @@
+use Rattle.std.proofs.Common.{arith}
 use Rattle.g1_image.specs.Reading.{IsU64}
 use Rattle.g1_image.specs.Text.{u64}
 use Rattle.g1_image.proofs.Numbers.{u64_once}
@@ -8,3 +9,6 @@ pub returns-in_err-x : goal.returns-in_err-x
 returns-in_err-x c =
     Came-fails IsU64 u64 (λ x y s t fx fy e. u64_once x y s t fx fy e) (λ x. (x.0.items, x.1.now)) c.args.bytes.now c.from_residual.result c.in_err-x.field-0.0 c.loop-i._i c.args.count c.loop-i.words.items c.loop-i.rest.now
     c.from_residual.ensures.1 c.in_err-x.ensures c.loop-i.invariant c.loop-i-test.true
+
+pub loop-i-smaller : goal.loop-i-smaller
+loop-i-smaller c = omega (arith, c.loop-i-test.true)

@@ -75,3 +75,6 @@ loop-at-preserved c =
 pub returns-clause-ok : goal.returns-clause-ok
 returns-clause-ok c = λ p lt.
     SlotsBelow-end c.args.draft.now c.loop-at.at p c.loop-at.invariant (omega (arith, c.loop-at-test.false, c.words-words.ensures.draft.word_count, ap length c.words-words.ensures.same, lt))
+
+pub loop-at-smaller : goal.loop-at-smaller
+loop-at-smaller c = omega (arith, c.loop-at-test.true)

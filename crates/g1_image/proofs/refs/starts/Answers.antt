@@ -57,3 +57,6 @@ returns c =
     let nn : c.regions-regions.result ≡ h.geometry.n = cc in
     let e : c.loop-r.r ≡ h.geometry.n = omega (arith, nn, c.loop-r-test.false, c.loop-r.auto.r-end) in
     record { each = Marks-end h c.loop-r.marks c.requires (subst (λ n. Marks (StartsBelow h n) c.loop-r.marks) e c.loop-r.invariant.0); count = c.loop-r.invariant.1 }
+
+pub loop-r-smaller : goal.loop-r-smaller
+loop-r-smaller c = omega (arith, c.loop-r-test.true)

@@ -35,3 +35,6 @@ loop-r-preserved g c =
       mark = c.in_ok-send.ensures.mark ∙ c.loop-r.invariant.mark;
       rows = rows_left (length c.args.regions.now) i c.args.width (length c.loop-r.rest.now) (length c.split_at.result.1.now) (omega arith) c.split_at.ensures.back_len c.loop-r.invariant.rows;
     }
+
+pub loop-r-smaller : goal.loop-r-smaller
+loop-r-smaller g c = omega (arith, c.loop-r-test.true)

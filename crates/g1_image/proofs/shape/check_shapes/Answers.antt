@@ -35,3 +35,6 @@ returns-then-not-region_shaped-clause-err c =
       refl,
       record { within = omega (arith, c.loop-r-test.true, n); breach = λ s. let e : false ≡ true = c.if-not-region_shaped.ensures.1 s in cc; before = c.loop-r.invariant.1 },
     )
+
+pub loop-r-smaller : goal.loop-r-smaller
+loop-r-smaller c = omega (arith, c.loop-r-test.true)

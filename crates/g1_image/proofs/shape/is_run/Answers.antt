@@ -15,3 +15,6 @@ pub region-requires : goal.region-requires
 region-requires c =
     let n : c.regions-regions.result ≡ c.args.draft.now.geometry.n = cc in
     omega (arith, n, c.from.ensures, c.if-from-i.false)
+
+pub loop-i-smaller : goal.loop-i-smaller
+loop-i-smaller c = omega (arith, c.loop-i-test.true)

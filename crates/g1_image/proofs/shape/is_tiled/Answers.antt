@@ -18,3 +18,6 @@ returns-then-at-o c = never (λ t. let f = read_fits c.args.words.now c.args.fro
 pub loop-at-preserved : goal.loop-at-preserved
 loop-at-preserved c = Checked-step c.args.words.now c.args.from c.args.to c.args.region_words c.loop-at.at c.header-o.result c.loop-at-test.true c.header-o.ensures.at c.header-o.ensures.word c.header-o.ensures.refs c.header-o.ensures.size
     c.loop-at.invariant (omega (arith, c.if-o.false)) (omega (arith, c.if-o-region_words.false)) (omega (arith, c.if-at-o.false))
+
+pub loop-at-smaller : goal.loop-at-smaller
+loop-at-smaller c = omega (arith, c.loop-at-test.true)
