@@ -1,4 +1,4 @@
-use Rattle.std.proofs.Common.{◌+◌, ◌*◌, get_or, sym, ◌∙◌, ap, subst}
+use Rattle.std.proofs.Common.{◌≡◌, ◌+◌, ◌*◌, ◌-◌, drop, get_or, take, sym, ◌∙◌, ap, arith, subst}
 use Rattle.std.proofs.lemmas.List.{get_or_default}
 use Rattle.g1_copy.specs.declared.fates.Fate.TheVariants.{Freed, Kept}
 use Rattle.g1_copy.specs.Patches.{AreBefore}
@@ -16,3 +16,13 @@ returns-in-Kept c =
     c.write_patches.ensures
     ∙ sym (patched_part s.patches.now base xs (get_or s.firsts.now r 0) (get_or s.firsts.now (r + 1) 0) c.requires.begins ends)
     ∙ ap (λ x. by_fate s.region_words s.gathered.now s.patches.now r x xs) (sym c.in-Kept.is ∙ get_or_default s.fates.now r Freed Kept c.requires.fate)
+
+pub returns-in-Filled : goal.returns-in-Filled
+returns-in-Filled c =
+    let s = c.args.self.now in
+    let r = c.args.region in
+    let at = c.in-Filled.run' * s.region_words in
+    let width : (at + s.region_words) - at ≡ s.region_words = omega arith in
+    c.copy_from_slice.ensures.after
+    ∙ ap (λ n. take n (drop at s.gathered.now)) width
+    ∙ ap (λ x. by_fate s.region_words s.gathered.now s.patches.now r x c.args.words.now) (sym c.in-Filled.is ∙ get_or_default s.fates.now r Freed Kept c.requires.fate)
