@@ -18,3 +18,6 @@ returns c =
     let h : Heap = c.args.heap.now in
     let n : c.regions-r-end.result ≡ h.geometry.n = c.regions-r-end.ensures.value ∙ ap (λ g. g.n) c.geometry.ensures.same in
     sym (find_none (is_free_region h) 0 h.geometry.n (λ q _ lt. c.loop-r.invariant q (omega (arith, n, lt, c.loop-r-test.false))))
+
+pub loop-r-smaller : goal.loop-r-smaller
+loop-r-smaller c = omega (arith, c.loop-r-test.true)

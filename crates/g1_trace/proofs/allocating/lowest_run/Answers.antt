@@ -51,3 +51,6 @@ returns c =
       | inl old ↦ inv.none q old
       | inr ge ↦ run_past h (built h c.geometry.ensures.valid) c.args.count q (omega (arith, ge, inv.few, n, c.loop-r-test.false))
     ]))
+
+pub loop-r-smaller : goal.loop-r-smaller
+loop-r-smaller c = omega (arith, c.loop-r-test.true)

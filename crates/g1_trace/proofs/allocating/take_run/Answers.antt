@@ -13,3 +13,6 @@ loop-i-preserved c =
       taken = one_taken c.args.region_words c.args.regions.now.items c.args.first c.args.size c.loop-i.i c.loop-i.regions.items c.run_region.result there c.loop-i.invariant.taken c.run_region.ensures;
       size = length-set c.loop-i.regions.items (c.args.first + c.loop-i.i) c.run_region.result ∙ c.loop-i.invariant.size;
     }
+
+pub loop-i-smaller : goal.loop-i-smaller
+loop-i-smaller c = omega (arith, c.loop-i-test.true)

@@ -42,3 +42,6 @@ returns-clause-some c =
       | else-word-eq48-via-then-word-eq48+else-word-gt1 w ↦ omega (arith, w.if-word-gt1.false)
       | else-word-eq48-via-else-word-eq48 w ↦ absurd (w.if-word-eq48.false z)
     ]) (λ i lt. c.loop-b.invariant.digits i (omega (arith, lt, end))) c.loop-b.invariant.value c.loop-b.invariant.fits
+
+pub loop-b-smaller : goal.loop-b-smaller
+loop-b-smaller c = omega (arith, c.loop-b-test.true)

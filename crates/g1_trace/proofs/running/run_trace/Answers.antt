@@ -64,3 +64,6 @@ returns-clause-run g c =
 
 pub returns-clause-only : goal.returns-clause-only
 returns-clause-only g c = λ told run. c.one_run.ensures.run c.args.cost.now (sizes c.args.trace.now) c.args.trace.now.roots c.args.trace.now.commands.items told c.loop-command.replies.items run (returns-clause-run g c)
+
+pub loop-command-smaller : goal.loop-command-smaller
+loop-command-smaller g c = omega (arith, c.loop-command-test.true)
