@@ -8,6 +8,9 @@
 //! - `words`: how the words of g1pause become a request, and what is told of wrong ones.
 //! - `pins`: pinned regions and the current one.
 //! - `heap`: what g1heap answers.
+//!
+//! Most tests are tables, whose rows are the words of a line, the bytes of an input, and what is told of
+//! them. `told` compares what is told, and `images` has the images that rows name.
 #![tactic(auto)]
 
 #[cfg(test)]
@@ -15,8 +18,12 @@ mod command;
 #[cfg(test)]
 mod heap;
 #[cfg(test)]
+mod images;
+#[cfg(test)]
 mod pause;
 #[cfg(test)]
 mod pins;
+#[cfg(test)]
+mod told;
 #[cfg(test)]
 mod words;
