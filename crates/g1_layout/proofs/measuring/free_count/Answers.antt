@@ -27,3 +27,6 @@ returns c =
     let nn : c.regions-regions.result ≡ h.geometry.n = cc in
     let e : c.loop-r.r ≡ h.geometry.n = omega (arith, nn, c.loop-r-test.false, c.loop-r.auto.r-end) in
     c.loop-r.invariant.counted ∙ ap (λ n. length (filter (λ r. is_free (kind h r)) (range_with_len 0 n))) e
+
+pub loop-r-smaller : goal.loop-r-smaller
+loop-r-smaller c = omega (arith, c.loop-r-test.true)

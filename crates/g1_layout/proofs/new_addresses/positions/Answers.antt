@@ -15,3 +15,6 @@ loop-i-preserved c =
 
 pub returns : goal.returns
 returns c = Positioned-end c.args.set.now c.loop-i.i c.loop-i.positions.items (omega (arith, c.loop-i-test.false, c.loop-i.auto.i-end)) c.loop-i.invariant.positioned
+
+pub loop-i-smaller : goal.loop-i-smaller
+loop-i-smaller c = omega (arith, c.loop-i-test.true)

@@ -1,4 +1,4 @@
-use Rattle.std.proofs.Common.{◌≡◌, Some, get_or, ap, subst, sym, ◌∙◌}
+use Rattle.std.proofs.Common.{◌≡◌, Some, get_or, ap, subst, sym, ◌∙◌, arith}
 use Rattle.g1_layout.specs.Words.{IsTable, index_of, goes_to}
 use Rattle.g1_layout.proofs.Forwarding.{forwards_one_more, table_stays}
 use Rattle.g1_layout.proofs.new_addresses.write_places.Goals as goal
@@ -24,3 +24,6 @@ loop-i-preserved c =
           let has = c.requires.in_set i 0 c.loop-i-test.true in
           absurd (b.in_default.not-Some has.0 (c.index_of.ensures ∙ has.1))
     ]
+
+pub loop-i-smaller : goal.loop-i-smaller
+loop-i-smaller c = omega (arith, c.loop-i-test.true)

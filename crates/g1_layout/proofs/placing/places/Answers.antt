@@ -48,3 +48,6 @@ loop-a-preserved c =
     let step = Placing-step h l i c.loop-a.end size r ps (omega (arith, c.geometry-geometry.ensures.valid.limits.w_least)) c.geometry-geometry.ensures.valid.limits.w_most c.requires.fits c.loop-a.invariant c.loop-a-test.true c.size_at-size.ensures region in
     subst (λ e. Placing h l (i + 1) e c.push.new.self.items) (ap (λ x. x + size) (sym at))
     (subst (λ xs. Placing h l (i + 1) (next_fit h.geometry.w c.loop-a.end size + size) xs) (sym items) step)
+
+pub loop-a-smaller : goal.loop-a-smaller
+loop-a-smaller c = omega (arith, c.loop-a-test.true)

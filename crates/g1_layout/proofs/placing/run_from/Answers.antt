@@ -43,3 +43,6 @@ returns-else-from-to c =
     (λ e. refl)
     (λ lt. absurd (omega (arith, lt, c.if-from-to.false)))
     (stops (goal.at.returns-else-from-to c).Left-loop-to)
+
+pub loop-to-smaller : goal.loop-to-smaller
+loop-to-smaller c = omega (arith, c.loop-to-test.true)

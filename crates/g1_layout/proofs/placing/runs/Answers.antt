@@ -25,3 +25,6 @@ loop-region-preserved c =
       reached = ap (λ r. r.to) run;
       listed = c.in_ok-push.ensures.items ∙ (λ t. c.loop-region.invariant.listed t ++ run t ∷ []) ∙ sym (map-range_with_len_more (run_at h l) 0 i i next);
     }
+
+pub loop-region-smaller : goal.loop-region-smaller
+loop-region-smaller c = omega (arith, c.loop-region-test.true)

@@ -19,3 +19,6 @@ loop-a-preserved c =
 
 pub returns : goal.returns
 returns c = Counted-end c.args.heap.now c.args.survivors.now c.loop-a.a-index c.loop-a.count c.loop-a.invariant (omega (arith, c.loop-a.auto.a-index-end, c.loop-a-test.false))
+
+pub loop-a-smaller : goal.loop-a-smaller
+loop-a-smaller c = omega (arith, c.loop-a-test.true)
