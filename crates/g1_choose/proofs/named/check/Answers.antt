@@ -45,3 +45,6 @@ loop-region-preserved c =
       good = good_more h list i invariant.good in_heap (sym (ap (λ q. q.kind) c.region.ensures) ∙ taken.0) (sym (ap (λ q. q.pinned) c.region.ensures) ∙ taken.1)
           (λ again. let marked = (invariant.marks r in_heap).1 again in let unmarked = get_or_default c.loop-region.named.items r false c.index.result.now (omega (arith, c.if-place-len.false, c.len.ensures)) ∙ sym c.index.ensures ∙ c.if-index.false in cc);
     }
+
+pub loop-region-smaller : goal.loop-region-smaller
+loop-region-smaller c = omega (arith, c.loop-region-test.true)

@@ -16,3 +16,6 @@ returns c =
       offers = i.offers;
       none_kept = c.new-2.ensures.items;
     }
+
+pub loop-i-smaller : goal.loop-i-smaller
+loop-i-smaller c = omega (arith, c.loop-i-test.true)

@@ -27,3 +27,6 @@ loop-index-preserved c =
 
 pub returns-clause-positions : goal.returns-clause-positions
 returns-clause-positions c = Noted-end c.args.window.now c.loop-index.index c.loop-index.positions.items (omega (arith, c.loop-index-test.false, c.loop-index.auto.index-end)) c.loop-index.invariant.noted
+
+pub loop-index-smaller : goal.loop-index-smaller
+loop-index-smaller c = omega (arith, c.loop-index-test.true)

@@ -31,3 +31,6 @@ loop-at-preserved c =
       items = c.in_ok-push.ensures.items ∙ (λ k. inv.items k ++ Object a (inv.next k) ∷ []) ∙ items_more h c.args.base as_list i c.loop-at-test.true;
       next = let t = total_more h as_list i c.loop-at-test.true in let n = inv.next in omega (arith, t, n, refs);
     }
+
+pub loop-at-smaller : goal.loop-at-smaller
+loop-at-smaller c = omega (arith, c.loop-at-test.true)

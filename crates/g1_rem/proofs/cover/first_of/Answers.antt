@@ -35,3 +35,6 @@ pub returns : goal.returns
 returns c =
     let e = c.regions-region-end.ensures.value ∙ ap (λ g. g.n) c.geometry.ensures.same ∙ ap (λ (h : Heap). h.geometry.n) c.heap.ensures.same in
     bare_over c.args.image.now c.loop-region.region c.heap.ensures.valid.heap (omega (arith, e, c.loop-region-test.false)) c.loop-region.invariant.same
+
+pub loop-region-smaller : goal.loop-region-smaller
+loop-region-smaller c = omega (arith, c.loop-region-test.true)

@@ -41,3 +41,6 @@ pub returns : goal.returns
 returns c =
     let same : c.loop-card.card ≡ card_count c.args.heap.now = omega (arith, c.loop-card-test.false, c.loop-card.auto.card-end, c.requires.cards) in
     c.loop-card.invariant ∙ ap (λ n. filter (is_left c.args.heap.now c.args.cards.now c.args.regions.now) (range_with_len 0 n)) same
+
+pub loop-card-smaller : goal.loop-card-smaller
+loop-card-smaller c = omega (arith, c.loop-card-test.true)

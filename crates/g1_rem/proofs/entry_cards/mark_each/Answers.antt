@@ -1,4 +1,4 @@
-use Rattle.std.proofs.Common.{sym, subst, refl, get_or, take, eqb}
+use Rattle.std.proofs.Common.{sym, subst, refl, get_or, take, eqb, arith}
 use Rattle.std.proofs.lemmas.List.{take_more}
 use Rattle.g1_words.specs.Lists.{has}
 use Rattle.g1_rem.specs.EntryCards.{AreMarked}
@@ -25,3 +25,6 @@ loop-number-preserved c =
 
 pub returns : goal.returns
 returns c = subst (λ l. AreMarked (has l) c.args.marks.now c.loop-number.marks) (take_all c.loop-number.number-index c.args.numbers.now c.loop-number-test.false) c.loop-number.invariant
+
+pub loop-number-smaller : goal.loop-number-smaller
+loop-number-smaller c = omega (arith, c.loop-number-test.true)

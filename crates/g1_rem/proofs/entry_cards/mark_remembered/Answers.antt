@@ -1,4 +1,4 @@
-use Rattle.std.proofs.Common.{◌≡◌, ◌∙◌, [], ap, sym, subst, refl, get_or, slice_index_or, take, map}
+use Rattle.std.proofs.Common.{◌≡◌, ◌∙◌, [], ap, sym, subst, refl, get_or, slice_index_or, take, map, arith}
 use Rattle.std.proofs.lemmas.List.{take_more, get_or-map}
 use Rattle.g1_words.specs.Lists.{has}
 use Rattle.g1_rem.specs.EntryCards.{AreMarked, is_listed}
@@ -23,3 +23,6 @@ loop-region-preserved c =
 
 pub returns : goal.returns
 returns c = subst (λ l. AreMarked (is_listed (map (λ s. s.items) c.args.remembered.now) l) c.args.marks.now c.loop-region.marks) (take_all c.loop-region.region-index c.args.set.now c.loop-region-test.false) c.loop-region.invariant
+
+pub loop-region-smaller : goal.loop-region-smaller
+loop-region-smaller c = omega (arith, c.loop-region-test.true)

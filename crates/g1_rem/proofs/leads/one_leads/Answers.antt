@@ -1,4 +1,4 @@
-use Rattle.std.proofs.Common.{◌≡◌, ◌<◌, ◌++◌, ◌∷◌, [], false, length, slice_index, take, sym, ap, subst, ◌∙◌, eq-eqb}
+use Rattle.std.proofs.Common.{◌≡◌, ◌<◌, ◌++◌, ◌∷◌, [], false, length, slice_index, take, sym, ap, subst, ◌∙◌, eq-eqb, arith}
 use Rattle.std.proofs.lemmas.List.{take_more, take_all, get_or_default}
 use Rattle.g1_words.proofs.Indices.{get_or-In}
 use Rattle.g1_words.specs.Valid.{IsReference}
@@ -42,3 +42,6 @@ returns-then-target-region c =
 
 pub returns : goal.returns
 returns c = sym c.loop-p.invariant ∙ ap (enters c.args.heap.now c.args.region) (take_all c.loop-p.p-index c.args.slots.now c.loop-p-test.false)
+
+pub loop-p-smaller : goal.loop-p-smaller
+loop-p-smaller c = omega (arith, c.loop-p-test.true)

@@ -42,3 +42,6 @@ loop-p-preserved c =
           subst (λ l. IsGrown c.args.heap.now c.args.card (take c.loop-p.p-index c.args.slots.now ++ slice_index c.args.slots.now c.loop-p.p-index ∷ []) (map (λ s. s.items) c.args.entering.now) (map (λ s. s.items) l)) (sym w.entering-is)
           (grown_pass h c.args.card p ps (map (λ s. s.items) c.args.entering.now) (map (λ s. s.items) c.loop-p.entering) c.loop-p.invariant none))
     ])
+
+pub loop-p-smaller : goal.loop-p-smaller
+loop-p-smaller c = omega (arith, c.loop-p-test.true)

@@ -27,3 +27,6 @@ loop-card-preserved c =
     (entering_step c.args.heap.now (take c.loop-card.card-index c.args.dirty.now) (slice_index c.args.dirty.now c.loop-card.card-index) (map (λ s. s.items) c.loop-card.entering) (map (λ s. s.items) c.add_card.new.entering)
     c.loop-card.invariant
     (subst (λ l. IsGrown c.args.heap.now (slice_index c.args.dirty.now c.loop-card.card-index) l (map (λ s. s.items) c.loop-card.entering) (map (λ s. s.items) c.add_card.new.entering)) (c.as_slice.ensures ∙ c.slots_on-slots.ensures.items) c.in_ok-add_card.ensures))
+
+pub loop-card-smaller : goal.loop-card-smaller
+loop-card-smaller c = omega (arith, c.loop-card-test.true)

@@ -31,3 +31,6 @@ pub returns-clause-ok : goal.returns-clause-ok
 returns-clause-ok c =
     let n = count (goal.at.returns-clause-ok c).After-regions-count in
     refined_whole c.args.image.now c.loop-region.region c.loop-region.sets.items (omega (arith, c.loop-region-test.false, n)) c.loop-region.invariant
+
+pub loop-region-smaller : goal.loop-region-smaller
+loop-region-smaller c = omega (arith, c.loop-region-test.true)

@@ -34,3 +34,6 @@ loop-number-preserved c =
 
 pub returns-in-Some-clause-until : goal.returns-in-Some-clause-until
 returns-in-Some-clause-until c = roots_kept c.args.before.now c.args.after.now c.loop-number.walk c.link.new.walk c.loop-number.number c.in_ok-how.ensures.grown c.loop-number.invariant.linked
+
+pub loop-number-smaller : goal.loop-number-smaller
+loop-number-smaller c = omega (arith, c.loop-number-test.true)

@@ -208,3 +208,6 @@ pub overflow_add-from : goal.overflow_add-from
 overflow_add-from c =
     let k = pairs_fit c.args.before.now c.args.after.now c.args.walk.now c.geometry.ensures.valid c.requires.walk in
     omega (arith, k, c.requires.place)
+
+pub loop-number-smaller : goal.loop-number-smaller
+loop-number-smaller c = omega (arith, c.loop-number-test.true)

@@ -52,3 +52,6 @@ returns c =
     let xs = c.as_slice-slot-items.result.now in
     subst (λ l. HasTried (place_in s) (flat_map (λ p. aims_in s (c.args.base + p) (word s.heap.now p)) l) c.args.holder.now c.loop-slot.holder)
     (take_all xs c.loop-slot.slot-index c.loop-slot-test.false ∙ c.as_slice-slot-items.ensures ∙ c.slots_on-slots.ensures.items) c.loop-slot.invariant
+
+pub loop-slot-smaller : goal.loop-slot-smaller
+loop-slot-smaller c = omega (arith, c.loop-slot-test.true)

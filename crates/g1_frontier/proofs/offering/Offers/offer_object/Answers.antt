@@ -74,3 +74,6 @@ returns c =
     let refs : get_or c.words-words.result.now c.args.at 0 % 2 ^ 32 ≡ word s.heap.now c.args.at % 2 ^ 32 = ap (λ l. get_or l c.args.at 0 % 2 ^ 32) c.words-words.ensures in
     let all : c.loop-slot.slot - first ≡ word s.heap.now c.args.at % 2 ^ 32 = let e = c.loop-slot.auto.slot-end (omega arith) in omega (arith, e, refs, c.loop-slot-test.false) in
     subst (λ n. HasTried (place_in s) (flat_map (λ p. aims_in s (c.args.base + (p - first)) (word s.heap.now p)) (range_with_len first n)) c.args.holder.now c.loop-slot.holder) all c.loop-slot.invariant
+
+pub loop-slot-smaller : goal.loop-slot-smaller
+loop-slot-smaller c = omega (arith, c.loop-slot-test.true)

@@ -21,3 +21,6 @@ returns-clause-ok c =
     (subst (λ x. IsMarkedTo (map address_below c.loop-region.firsts.items) (map address_below c.mark.new.firsts.items) c.card_words.result x None) size c.in_ok-mark.ensures.marked) in
     let end : c.regions-region-end.result ≡ c.args.heap.now.geometry.n = c.regions-region-end.ensures.value ∙ ap (λ g. g.n) same in
     told_all h c.geometry-geometry.ensures.valid c.loop-region.region (omega (arith, end, c.loop-region-test.false)) (map address_below c.loop-region.firsts.items) (map address_below c.mark.new.firsts.items) c.loop-region.invariant.0 m
+
+pub loop-region-smaller : goal.loop-region-smaller
+loop-region-smaller c = omega (arith, c.loop-region-test.true)
