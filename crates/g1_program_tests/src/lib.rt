@@ -5,6 +5,7 @@
 //!   fail at each of their calls.
 //! - `pause`: what each command of g1pause answers, and what comes of readers and writers that fail, of
 //!   images that are cut and of bytes that are changed.
+//! - `traces`: the replies to traces, and bad lines.
 //! - `words`: how the words of g1pause become a request, and what is told of wrong ones.
 //! - `pins`: pinned regions and the current one.
 //! - `heap`: what g1heap answers.
@@ -25,5 +26,7 @@ mod pause;
 mod pins;
 #[cfg(test)]
 mod told;
+#[cfg(test)]
+mod traces;
 #[cfg(test)]
 mod words;
