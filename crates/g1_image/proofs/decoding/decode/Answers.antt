@@ -1,4 +1,4 @@
-use Rattle.std.proofs.Common.{◌≡◌, ◌*◌, length, sym, ap, ◌∙◌, arith}
+use Rattle.std.proofs.Common.{◌*◌, length, sym, ap, ◌∙◌, arith}
 use Rattle.g1_image.specs.Text.{table_words, words_of}
 use Rattle.g1_image.specs.Image.{all_words}
 use Rattle.g1_image.proofs.decoding.decode.Goals as goal

@@ -3,7 +3,7 @@ use Rattle.std.proofs.lemmas.Result.{err_from_is_err_and}
 use Rattle.g1_words.proofs.Objects.{tops_fit}
 use Rattle.g1_image.specs.declared.cursor.Version.TheVariants.{Two}
 use Rattle.g1_image.specs.Text.{words_text}
-use Rattle.g1_image.specs.Image.{file_of, used_words, IsTextIn}
+use Rattle.g1_image.specs.Image.{used_words, IsTextIn}
 use Rattle.g1_image.proofs.encoding.encode_into.Goals as goal
 
 pub push_used-requires-clause-tops : goal.push_used-requires-clause-tops

@@ -1,6 +1,5 @@
-use Rattle.std.proofs.Common.{◌≡◌, sym, ap, subst, ◌∙◌}
+use Rattle.std.proofs.Common.{sym, ap, subst, ◌∙◌}
 use Rattle.std.specs.Prelude.{IsTrue, ◌↔◌}
-use Rattle.g1_words.specs.Heap.{region}
 use Rattle.g1_words.specs.Valid.{IsShapedBy}
 use Rattle.g1_image.proofs.shape.kind_shaped.Goals as goal
 

@@ -1,4 +1,4 @@
-use Rattle.std.proofs.Common.{rules, ◌≡◌, ◌≤◌, ◌+◌, ◌-◌, List, ℕ, ◌++◌, length, take, slice_range, sym, ap, subst, ◌∙◌, ◌<◌, arith, length-append, length-take-le}
+use Rattle.std.proofs.Common.{rules, ◌≡◌, ◌≤◌, ◌+◌, ◌-◌, ◌++◌, length, take, slice_range, sym, ap, subst, ◌∙◌, ◌<◌, arith, length-append, length-take-le}
 use Rattle.std.specs.Vec.{with_items}
 use Rattle.std.proofs.lemmas.List.{with_items_is, places}
 use Rattle.std.proofs.lemmas.Result.{err_from_is_err_and}
@@ -15,7 +15,7 @@ use Rattle.g1_image.proofs.ahead.Ahead.read_on.Goals.{In_ok-count, then-self-gt0
 -- what waits after the read: what waited before it, and what was read
 waits : (g : Over) (c : In_ok-count g) →
     slice_range (with_items c.grow.new.self.room (take c.grow.new.self.end c.deref_mut.result.now ++ (c.read.new.buf ++ post_of c.grow.new.self.end (length c.deref_mut.result.now - c.grow.new.self.end) c.deref_mut.result.now))).items
-      c.grow.new.self.start (c.grow.new.self.end + c.in_ok-count.count)
+    c.grow.new.self.start (c.grow.new.self.end + c.in_ok-count.count)
     ≡ waiting c.args.self.now ++ take c.in_ok-count.count c.read.new.buf
 waits g c =
     let r = c.grow.new.self in
@@ -35,7 +35,7 @@ waits g c =
 -- how many wait then
 more_wait : (g : Over) (c : In_ok-count g) →
     length (slice_range (with_items c.grow.new.self.room (take c.grow.new.self.end c.deref_mut.result.now ++ (c.read.new.buf ++ post_of c.grow.new.self.end (length c.deref_mut.result.now - c.grow.new.self.end) c.deref_mut.result.now))).items
-      c.grow.new.self.start (c.grow.new.self.end + c.in_ok-count.count))
+    c.grow.new.self.start (c.grow.new.self.end + c.in_ok-count.count))
     ≡ length (waiting c.args.self.now) + c.in_ok-count.count
 more_wait g c =
     let n = c.in_ok-count.count in
