@@ -1,10 +1,10 @@
 -- What patches leave in a slice, where in a list a number stands, and lists that are put together of slices.
-use Rattle.std.proofs.Common.{◌≡◌, ℕ, zero, suc, ◌+◌, ◌-◌, ◌*◌, ◌<◌, ◌≤◌, ◌⊎◌, inl, inr, Bool, true, false, cond, not, List, [], ◌∷◌, ◌++◌, Some, None, length, get_or, take, drop, set, position, flat_map, refl, sym, ◌∙◌, ap, subst, arith, leb, ltb, leb-true, le-leb, lt-ltb, le-ltb, eqb, eq-eqb, ne_eqb, length-drop, length-append}
+use Rattle.std.proofs.Common.{◌≡◌, ℕ, zero, suc, ◌+◌, ◌-◌, ◌*◌, ◌<◌, ◌≤◌, ◌⊎◌, inl, inr, Bool, true, false, cond, not, List, [], ◌∷◌, ◌++◌, Some, None, length, get_or, take, drop, set, position, flat_map, refl, sym, ◌∙◌, ap, subst, arith, leb, ltb, leb-true, le-leb, lt-ltb, le-ltb, eqb, eq-eqb, ne_eqb, length-drop, length-append, length-take}
 use Rattle.std.specs.List.{position_or_len}
 use Rattle.std.proofs.lemmas.Bool.{cases_lt, false≢true}
 use Rattle.std.proofs.Math.Nat.{zero-mul, suc-mul}
 use Rattle.std.proofs.Math.Seq.{drop-append_seam, take-append_seam}
-use Rattle.std.proofs.lemmas.List.{drop_more, set_past, get_or-take, get_or-drop, get_or-set_same, get_or-set_other, length-set, length-take-le, take-append-drop, drop-drop}
+use Rattle.std.proofs.lemmas.List.{drop_more, get_or_default, set_past, get_or-take, get_or-drop, get_or-set_same, get_or-set_other, length-set, length-take-le, take-append-drop, drop-drop}
 use Rattle.g1_words.proofs.Firsts.{Distinct}
 use Rattle.g1_words.proofs.Indices.{get_or-In, taken_in}
 use Rattle.g1_words.proofs.Members.{In}
@@ -138,6 +138,16 @@ module _ (ps : List (ℕ × ℕ)) (base : ℕ) (xs : List ℕ) (a b : ℕ) (begi
       ∙ ap (patched (mid ++ drop b ps) base) (patched_off (take a ps) base xs front_off)
       ∙ patched-append mid (drop b ps) base xs
       ∙ patched_off (drop b ps) base (patched mid base xs) (λ k lt. subst (λ n. ((get_or (drop b ps) k (0, 0)).0 < base) ⊎ (base + n ≤ (get_or (drop b ps) k (0, 0)).0)) (sym size) (back_off k lt))
+
+-- the patches between two indices lie between the addresses that these tell
+pub part_there : (ps : List (ℕ × ℕ)) (base end a b : ℕ) → AreBefore ps base a → AreBefore ps end b → (k : ℕ) (d : ℕ × ℕ) → k < length (take (b - a) (drop a ps)) →
+    (base ≤ (get_or (take (b - a) (drop a ps)) k d).0) × ((get_or (take (b - a) (drop a ps)) k d).0 < end)
+part_there ps base end a b begins ends k d lt =
+    let few : k < b - a = omega (arith, lt, length-take (b - a) (drop a ps)) in
+    let inside : a + k < length ps = omega (arith, lt, length-take (b - a) (drop a ps), length-drop a ps) in
+    let at : get_or (take (b - a) (drop a ps)) k d ≡ get_or ps (a + k) (0, 0) = get_or-take (b - a) (drop a ps) k d few ∙ get_or-drop a ps k d ∙ get_or_default ps (a + k) d (0, 0) inside in
+    let slot = ap (λ (x : ℕ × ℕ). x.0) at in
+    (omega (arith, slot, begins.behind (a + k) (omega arith) inside), omega (arith, slot, ends.before (a + k) (omega (arith, few))))
 
 -- one patch is written in a slice, and the others are left
 pub patched_one : (ps : List (ℕ × ℕ)) (k base : ℕ) (xs : List ℕ) → k < length ps → base ≤ (get_or ps k (0, 0)).0

@@ -1,6 +1,6 @@
 -- Words that are laid from a source one part after the other.
 use Rattle.std.proofs.Common.{◌≡◌, ◌≤◌, ◌<◌, ℕ, zero, suc, ◌+◌, ◌-◌, ◌*◌, Bool, List, [], ◌∷◌, ◌++◌, Option, length, take, drop, replicate, slice_index_or, min, arith, refl, sym, ap, ◌∙◌, append_assoc, append-nil, length-append, length-drop, take-append-drop, length-take-le, add-one, drop-cons}
-use Rattle.std.proofs.lemmas.List.{take-append-le}
+use Rattle.std.proofs.lemmas.List.{take-append-le, take_all}
 use Rattle.std.proofs.lemmas.List.Sums.{sum_by-append}
 use Rattle.std.proofs.Math.Seq.{drop-append_seam}
 use lib.Seq.{drop-append-le}
@@ -11,7 +11,7 @@ use Rattle.g1_image.specs.Reading.{IsBytes}
 use Rattle.g1_image.specs.Image.{all_words}
 use Rattle.g1_image.specs.Ahead.{Takes, TakeFails, region_words}
 use Rattle.g1_image.proofs.Words.{take-words_of, drop-words_of, words_of-take, table_words-cons, laid_front}
-use Rattle.g1_image.proofs.Taken.{takes_more, takes_front, fails_after}
+use Rattle.g1_image.proofs.Taken.{takes_none, takes_more, takes_front, fails_after}
 
 -- what follows doesn't matter to the words before it
 pub words_of-front : (m : ℕ) (bs cs : List ℕ) → 8 * m ≤ length bs → words_of m (bs ++ cs) ≡ words_of m bs
@@ -39,6 +39,18 @@ skipped_more m n o a b l count left here w after s mark kept are le within e = r
   size = omega (arith, s.size, le, length-append s.taken (take (8 * here) w), length-take-le (8 * here) w within);
 }
 
+-- before the first word
+pub skipped_none : (m : Bool) (a : Option (List ℕ)) (count : ℕ) → Skipped m m a a count count
+skipped_none m a count = record { taken = []; takes = takes_none m a; size = omega arith }
+
+-- after the last word
+pub skipped_all : (m n : Bool) (a b : Option (List ℕ)) (count left : ℕ) → Skipped m n a b count left → left ≤ 0 → (bs : List ℕ) × Takes m n a b bs × (length bs ≡ 8 * count)
+skipped_all m n a b count left s none = (s.taken, s.takes, omega (arith, s.size))
+
+-- the next words aren't there
+pub skipped_fails : (m n o : Bool) (a b : Option (List ℕ)) (count left : ℕ) (e : Fault) → Skipped m n a b count left → 0 < left → TakeFails n o b 8 e → TakeFails m o a (8 * count) e
+skipped_fails m n o a b count left e s some h = fails_after m n o a b s.taken 8 (8 * count) e s.takes h (omega (arith, s.size))
+
 -- so many words were laid behind others, and so many are left
 pub record Pushed (m n : Bool) (a b : Option (List ℕ)) (count left : ℕ) (old new : List ℕ) : Type 0 where
   pub skipped : Skipped m n a b count left
@@ -58,6 +70,18 @@ pushed_more m n o a b l count left here w after old mid new p mark kept are le w
       skipped = skipped_more m n o a b l count left here w after p.skipped mark kept are le within e;
       words = is ∙ ap (λ x. x ++ words_of here w) p.words ∙ append_assoc old (words_of (count - left) bs) (words_of here w) ∙ ap (λ x. old ++ x) joined;
     }
+
+pub pushed_none : (m : Bool) (a : Option (List ℕ)) (count : ℕ) (old : List ℕ) → Pushed m m a a count count old old
+unfolding skipped_none
+pushed_none m a count old =
+    let n : 0 ≡ count - count = omega arith in
+    record { skipped = skipped_none m a count; words = sym (append-nil old) ∙ ap (λ k. old ++ words_of k []) n }
+
+pub pushed_all : (m n : Bool) (a b : Option (List ℕ)) (count left : ℕ) (old new : List ℕ) → Pushed m n a b count left old new → left ≤ 0 →
+    (bs : List ℕ) × Takes m n a b bs × (length bs ≡ 8 * count) × (new ≡ old ++ words_of count bs)
+pushed_all m n a b count left old new p none =
+    let all : count - left ≡ count = omega arith in
+    (p.skipped.taken, p.skipped.takes, omega (arith, p.skipped.size), p.words ∙ ap (λ k. old ++ words_of k p.skipped.taken) all)
 
 -- a region's words: those that were laid, those that were passed over, and zeros
 pub region_laid : (w top used : ℕ) (old mid new bs cs : List ℕ) → used ≡ min top w → length bs ≡ 8 * used → mid ≡ old ++ words_of used bs → new ≡ mid ++ replicate (w - used) 0 →
@@ -95,6 +119,17 @@ pub record Laid (m n : Bool) (a b : Option (List ℕ)) (w : ℕ) (table : List E
   pub takes : Takes m n a b taken
   pub size : length taken ≡ 8 * table_words (take i table)
   pub words : out ≡ all_words w (take i table) (words_of (table_words (take i table)) taken)
+
+-- before the first region
+pub laid_none : (m : Bool) (a : Option (List ℕ)) (w : ℕ) (table : List Entry) (out : List ℕ) → out ≡ [] → Laid m m a a w table 0 out
+laid_none m a w table out e = record { taken = []; takes = takes_none m a; size = refl; words = e }
+
+-- after the last region
+pub laid_all : (m n : Bool) (a b : Option (List ℕ)) (w : ℕ) (table : List Entry) (i : ℕ) (out : List ℕ) → Laid m n a b w table i out → length table ≤ i →
+    (bs : List ℕ) × Takes m n a b bs × (length bs ≡ 8 * table_words table) × (out ≡ all_words w table (words_of (table_words table) bs))
+laid_all m n a b w table i out l le =
+    let all : take i table ≡ table = take_all i table le in
+    (l.taken, l.takes, l.size ∙ ap (λ t. 8 * table_words t) all, l.words ∙ ap (λ t. all_words w t (words_of (table_words t) l.taken)) all)
 
 take-snoc : (i : ℕ) (table : List Entry) (d : Entry) → i < length table → take (i + 1) table ≡ take i table ++ slice_index_or table i d ∷ []
 take-snoc i [] d lt = absurd (omega (arith, lt))

@@ -218,3 +218,16 @@ marked_as words words2 from from2 to to2 old old2 new new2 a b c d e m =
 
 pub start_in : (h : Heap) (r : ℕ) → 16 ≤ h.geometry.w → r < h.geometry.n → start h r < h.geometry.n * h.geometry.w
 start_in h r some lt = omega (arith, next_start h r h.geometry.n lt, some)
+
+module _ (h : Heap) (r : ℕ) (kind : (region h r).kind ≡ Ordinary) (shaped : IsShapedBy (region h r).kind h r) where
+  ordinary : IsShapedBy Ordinary h r
+  ordinary = subst (λ k. IsShapedBy k h r) kind shaped
+
+  -- objects fill the used words of an ordinary region
+  pub ordinary_filled : (words : List ℕ) (from to : ℕ) → words ≡ h.words → from ≡ start h r → to ≡ end h r → Reaches words from to
+  ordinary_filled words from to a b c =
+      subst (λ x. Reaches x from to) (sym a) (subst (λ x. Reaches h.words x to) (sym b) (subst (λ x. Reaches h.words (start h r) x) (sym c) (ordinary.2, subst (λ k. HoldsBy k h r ordinary.2) kind ordinary.3)))
+
+  -- an ordinary region's used words are some of the heap's
+  pub ordinary_ends : r < h.geometry.n → end h r ≤ h.geometry.n * h.geometry.w
+  ordinary_ends lt = omega (arith, ordinary.1, next_start h r h.geometry.n lt)

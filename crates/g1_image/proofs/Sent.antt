@@ -83,6 +83,9 @@ pub record Sending (old new : Option (List ℕ)) (waited whole left rest : List 
 pub sending_none : (a : Option (List ℕ)) (xs whole : List ℕ) → Sending a a xs whole xs whole
 sending_none a xs whole = record { part = []; sent = sent_none a xs; behind = refl }
 
+pub sending_all : (a b : Option (List ℕ)) (xs ys whole rest : List ℕ) → Sending a b xs whole ys rest → rest ≡ [] → Sent a b xs whole ys
+sending_all a b xs ys whole rest s e = subst (λ l. Sent a b xs l ys) (sym (append-nil s.part) ∙ ap (λ l. s.part ++ l) (sym e) ∙ s.behind) s.sent
+
 pub sending_more : (a b c : Option (List ℕ)) (xs ys zs whole rest come more : List ℕ) → Sending a b xs whole ys rest → rest ≡ come ++ more → Sent b c ys come zs → Sending a c xs whole zs more
 sending_more a b c xs ys zs whole rest come more p e q = record {
   part = p.part ++ come;

@@ -12,9 +12,16 @@ use Rattle.g1_image.specs.Text.{Entry, Version, magic, heading_text, table_words
 use Rattle.g1_image.specs.Reading.{IsBytes}
 use Rattle.g1_image.specs.Faults.{FaultOf, MayFail}
 use Rattle.g1_image.specs.Plain.{PlainIs, FrontFits, front_text}
-use Rattle.g1_image.specs.Source.{input_mark}
+use Rattle.g1_image.specs.Source.{ReadFails, input_mark}
 use Rattle.g1_image.specs.Ahead.{TakeFails, TextFails}
 use Rattle.g1_image.proofs.Files.{front_read, front_text-flat, front_short, plain_trailing}
+
+-- a text isn't read where a read for it fails
+pub read_fails : (l m n : Bool) (a : Option (List ℕ)) (e : Fault) → m ≡ l → ReadFails m n e → TextFails l n a e
+read_fails l m n a fault.Memory same h = h ∙ same
+read_fails l m n a (fault.Device device.Input) same h = h
+read_fails l m n a (fault.Device device.Output) same h = absurd h
+read_fails l m n a _ same h = absurd h
 
 -- a wrong magic is wrong whatever follows
 pub magic_stays : (bytes more : List ℕ) → FaultOf bytes fault.Magic → FaultOf (bytes ++ more) fault.Magic

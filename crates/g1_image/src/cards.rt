@@ -19,6 +19,25 @@ fn is_used(draft: &Draft, c: u32) -> bool
     draft.region(region as u32).kind.is_used()
 }
 
+/// Puts the log's cards into a set, or tells the first that isn't good.
+fn put_log(draft: &Draft, log: &[u32], cards: &mut IndexSet<u32>) -> Result<(), Fault>
+    requires count { length log.now < 2 ^ 32 }
+    requires none { cards.old.keys ≡ [] }
+    ensures ok { OnOk result ((cards.new.keys ≡ log.now) × ((i : ℕ) → i < length log.now → IsGoodLogged draft.now log.now i)) }
+    ensures err { IfErr result (λ e. (e ≡ Fault.Memory) ⊎ ((i : ℕ) × (e ≡ Fault.Card (Stand.Dirty i)) × IsFirstBreach (IsGoodLogged draft.now log.now) (length log.now) i)) }
+{
+    for (i, c) in log.iter().enumerate() {
+        if !is_used(draft, *c) {
+            return Err(Fault::Card(Stand::Dirty(i as u32)));
+        }
+        let added = cards.insert(*c)?;
+        if !added {
+            return Err(Fault::Card(Stand::Dirty(i as u32)));
+        }
+    }
+    Ok(())
+}
+
 /// The log's cards, or the first that isn't good.
 pub(crate) fn check_log(alloc: Global, draft: &Draft, log: &[u32]) -> Result<IndexSet<u32>, Fault>
     requires { length log.now < 2 ^ 32 }
@@ -26,15 +45,7 @@ pub(crate) fn check_log(alloc: Global, draft: &Draft, log: &[u32]) -> Result<Ind
     ensures err { IfErr result (λ e. (e ≡ Fault.Memory) ⊎ ((i : ℕ) × (e ≡ Fault.Card (Stand.Dirty i)) × IsFirstBreach (IsGoodLogged draft.now log.now) (length log.now) i)) }
 {
     let mut cards = IndexSet::new(alloc);
-    for (i, c) in log.iter().enumerate() {
-        if !is_used(draft, *c) {
-            return Err(Fault::Card(Stand::Dirty(i as u32)));
-        }
-        let (_, added) = cards.insert_full(*c)?;
-        if !added {
-            return Err(Fault::Card(Stand::Dirty(i as u32)));
-        }
-    }
+    put_log(draft, log, &mut cards)?;
     Ok(cards)
 }
 

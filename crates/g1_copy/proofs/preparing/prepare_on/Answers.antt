@@ -10,7 +10,10 @@ use Rattle.g1_after.specs.Moved.{remembered_after}
 use Rattle.g1_after.specs.Unnamed.{unnamed_regions}
 use Rattle.g1_rem.proofs.Entering.{lent_back}
 use Rattle.g1_rem.specs.EntryCards.{cards_into}
+use Rattle.g1_copy.specs.declared.fates.Fate.{Fate}
 use Rattle.g1_copy.specs.Fates.{AreFates}
+use Rattle.g1_copy.specs.Gathered.{to_space_words}
+use Rattle.g1_copy.specs.Plans.{IsPauseOf}
 use Rattle.g1_copy.specs.Patches.{AreFirsts}
 use Rattle.g1_copy.proofs.PreparedPause.{all_found, fates_after, firsts_there, found_rise, into_outside, into_rise, into_there, made_for, own_patches, remembered_left, runs_freed, runs_there, table_after}
 use Rattle.g1_copy.proofs.preparing.prepare_on.Given.{Over}
@@ -47,11 +50,41 @@ remembered_by_fate-requires-clause-patches g c κs within =
 
 -- ---- the humongous objects that are freed
 
+-- a table of fates that was lent
+told_fates : (h t : Heap) (set same l : List ℕ) (xs ys : List Fate) → h ≡ t → same ≡ set → ys ≡ xs → AreFates h set (to_space h l) xs → AreFates t same (to_space t l) ys
+told_fates h t set same l xs ys a b d k = subst (AreFates t same (to_space t l)) (sym d) (subst (λ s. AreFates t s (to_space t l) xs) (sym b) (subst (λ x. AreFates x set (to_space x l) xs) a k))
+
 the_tracked : (g : Over) (c : After-heap-heap g) → IsTracked c.args.tracked.now
 the_tracked g c = record { image = subst IsImage c.image.ensures.same c.heap-heap.ensures.valid; covered = c.image.ensures.covered }
 
 the_heap : (g : Over) (c : After-heap-heap g) → c.heap-heap.result.now ≡ c.args.tracked.now.heap
 the_heap g c = c.heap-heap.ensures.same ∙ ap (λ (x : Image). x.heap) c.image.ensures.same
+
+pub fates-requires : goal.fates-requires
+fates-requires g c = subst (λ h. IsPauseOf h c.args.set.now c.args.plan.now) (sym (the_heap g (goal.at.fates-requires g c).After-heap-heap)) c.requires.plan
+
+pub remembered_by_fate-requires-clause-plan : goal.remembered_by_fate-requires-clause-plan
+remembered_by_fate-requires-clause-plan g c κs within = subst (λ s. IsPauseOf c.args.tracked.now.heap s c.args.plan.now) (sym c.requires.plan.same) c.requires.plan
+
+pub remembered_by_fate-requires-clause-fates : goal.remembered_by_fate-requires-clause-fates
+remembered_by_fate-requires-clause-fates g c κs within =
+    told_fates c.heap-heap.result.now c.args.tracked.now.heap c.args.set.now c.args.plan.now.set c.args.plan.now.survivors c.in_ok-fates.fates.items c.deref.result.now
+    (the_heap g (goal.at.remembered_by_fate-requires-clause-fates g c).After-heap-heap) c.requires.plan.same c.deref.ensures.value c.in_ok-fates.ensures
+
+pub remembered_by_fate-requires-clause-gathered : goal.remembered_by_fate-requires-clause-gathered
+remembered_by_fate-requires-clause-gathered g c κs within =
+    c.deref-3.ensures.value ∙ c.in_ok-gathered.ensures ∙ ap (λ h. to_space_words h c.args.plan.now.survivors) (the_heap g (goal.at.remembered_by_fate-requires-clause-gathered g c).After-heap-heap)
+
+pub unnamed-requires-clause-plan : goal.unnamed-requires-clause-plan
+unnamed-requires-clause-plan g c = subst (λ s. IsPauseOf c.args.tracked.now.heap s c.args.plan.now) (sym c.requires.plan.same) c.requires.plan
+
+pub unnamed-requires-clause-fates : goal.unnamed-requires-clause-fates
+unnamed-requires-clause-fates g c =
+    told_fates c.heap-heap.result.now c.args.tracked.now.heap c.args.set.now c.args.plan.now.set c.args.plan.now.survivors c.in_ok-fates.fates.items c.deref-4.result.now
+    (the_heap g (goal.at.unnamed-requires-clause-fates g c).After-heap-heap) c.requires.plan.same c.deref-4.ensures.value c.in_ok-fates.ensures
+
+pub unnamed-requires-clause-remembered : goal.unnamed-requires-clause-remembered
+unnamed-requires-clause-remembered g c = ap (λ l. map (λ s. s.items) l) c.deref-5.ensures.value ∙ c.in_ok-sets.ensures.ok
 
 -- the regions that are freed beside the set
 abbrev freed : Image → List ℕ → List ℕ → List ℕ
@@ -99,6 +132,14 @@ leave_all-requires g c =
     sets ∙ sym (the_fates g b (the_tracked g e) (the_heap g e) runs).one_each ∙ ap length (sym (c.deref-8.ensures.value ∙ fates_back g b))
 
 -- ---- what is made
+
+pub new_regions-requires-clause-plan : goal.new_regions-requires-clause-plan
+new_regions-requires-clause-plan g c =
+    subst (λ h. IsPauseOf h c.args.plan.now.set c.args.plan.now) (sym (the_heap g (goal.at.new_regions-requires-clause-plan g c).After-heap-heap))
+    (subst (λ s. IsPauseOf c.args.tracked.now.heap s c.args.plan.now) (sym c.requires.plan.same) c.requires.plan)
+
+pub new_roots-requires : goal.new_roots-requires
+new_roots-requires g c = subst (λ h. IsPauseOf h c.args.set.now c.args.plan.now) (sym (the_heap g (goal.at.new_roots-requires g c).After-heap-heap)) c.requires.plan
 
 pub firsts-requires : goal.firsts-requires
 firsts-requires g c =

@@ -1,5 +1,6 @@
-use Rattle.std.proofs.Common.{◌≡◌, ◌<◌, ◌*◌, ℕ, List, map, length, inl, inr, refl, sym, ap, subst, ◌∙◌}
-use Rattle.std.specs.Prelude.{Option}
+use Rattle.std.proofs.Common.{◌≡◌, ◌<◌, ◌*◌, ◌^◌, ℕ, List, map, length, inl, inr, refl, sym, ap, subst, ◌∙◌, arith}
+use Rattle.std.proofs.lemmas.List.{length-map}
+use Rattle.std.specs.Prelude.{Option, All}
 use Rattle.std.proofs.lemmas.Result.{err_from_is_err_and}
 use Rattle.g1_words.specs.Geometry.{Geometry}
 use Rattle.g1_words.specs.Heap.{Heap}
@@ -34,6 +35,29 @@ drafted c ws laid =
 -- its table has a meaning
 known : (c : After-check_heap) (ws : List ℕ) → TableKnown (file_in c ws)
 known c ws = subst (λ t. AreKnown t c.args.front.heading.n) c.deref.ensures.value c.in_ok-draft.ensures.known
+
+pub draft_heap-requires-clause-good : goal.draft_heap-requires-clause-good
+draft_heap-requires-clause-good c = c.requires.1.1.good
+
+pub draft_heap-requires-clause-table : goal.draft_heap-requires-clause-table
+draft_heap-requires-clause-table c = ap length c.deref.ensures.value ∙ c.requires.1.1.fits.table.how_many
+
+pub draft_heap-requires-clause-roots : goal.draft_heap-requires-clause-roots
+draft_heap-requires-clause-roots c = c.requires.1.1.root_count
+
+pub check_log-requires : goal.check_log-requires
+check_log-requires c = omega (arith, ap length c.deref-2.ensures.value, c.requires.1.1.fits.heading.dirty)
+
+pub check_remembered-requires-clause-one_each : goal.check_remembered-requires-clause-one_each
+check_remembered-requires-clause-one_each c =
+    let at = (goal.at.check_remembered-requires-clause-one_each c).After-check_heap in
+    let told = c.requires.1 in
+    sym (length-map c.deref-3.result.now (λ s. s.items)) ∙ ap (λ l. length (map (λ s. s.items) l)) c.deref-3.ensures.value ∙ told.1.fits.remembered.how_many
+    ∙ sym (ap (λ h. h.geometry.n) (drafted at told.0 told.2))
+
+pub check_remembered-requires-clause-counts : goal.check_remembered-requires-clause-counts
+check_remembered-requires-clause-counts c =
+    subst (λ l. All (λ s. length s < 2 ^ 32) (map (λ s. s.items) l)) (sym c.deref-3.ensures.value) (λ k d lt. (c.requires.1.1.fits.remembered.each k d lt).0)
 
 pub draft_heap-requires-clause-words : goal.draft_heap-requires-clause-words
 draft_heap-requires-clause-words c =

@@ -1,8 +1,25 @@
 use Rattle.std.proofs.Common.{sym, ap, ◌∙◌, ◌++◌}
+use Rattle.std.proofs.lemmas.Result.{err_from_is_err_and}
 use Rattle.g1_image.specs.Text.{words_of}
 use Rattle.g1_image.specs.Ahead.{waiting}
-use Rattle.g1_image.proofs.Laid.{pushed_more}
+use Rattle.g1_image.proofs.Laid.{skipped_fails, pushed_none, pushed_more, pushed_all}
 use Rattle.g1_image.proofs.pieces.push_next.Goals as goal
+
+pub loop-left-init : goal.loop-left-init
+loop-left-init g c = record { known = c.requires.known; part = pushed_none _ _ c.args.count c.args.out.now.items }
+
+pub returns-in_err-here-clause-err : goal.returns-in_err-here-clause-err
+returns-in_err-here-clause-err g c =
+    let left = err_from_is_err_and c.from_residual.result c.from_residual.ensures.1 in
+    rw (left.1, left.2) (skipped_fails _ _ _ _ _ c.args.count c.loop-left.left c.in_err-here.field-0.0 c.loop-left.invariant.part.skipped c.loop-left-test.true c.in_err-here.ensures.err)
+
+pub returns-in_err-push_read-clause-err : goal.returns-in_err-push_read-clause-err
+returns-in_err-push_read-clause-err g c =
+    let left = err_from_is_err_and c.from_residual-in_err-push_read.result c.from_residual-in_err-push_read.ensures.1 in
+    rw (left.1, left.2) (c.in_ok-here.ensures.mark ∙ c.loop-left.invariant.part.skipped.takes.mark)
+
+pub returns-clause-ok : goal.returns-clause-ok
+returns-clause-ok g c = pushed_all _ _ _ _ c.args.count c.loop-left.left c.args.out.now.items c.loop-left.out.items c.loop-left.invariant.part c.loop-left-test.false
 
 pub loop-left-preserved : goal.loop-left-preserved
 loop-left-preserved g c =

@@ -1,7 +1,19 @@
 use Rattle.std.proofs.Common.{sym, ◌∙◌}
+use Rattle.std.proofs.lemmas.Result.{err_from_is_err_and}
 use Rattle.g1_image.specs.Ahead.{waiting}
-use Rattle.g1_image.proofs.Laid.{skipped_more}
+use Rattle.g1_image.proofs.Laid.{skipped_none, skipped_more, skipped_all, skipped_fails}
 use Rattle.g1_image.proofs.pieces.skip_words.Goals as goal
+
+pub loop-left-init : goal.loop-left-init
+loop-left-init g c = record { known = c.requires.known; part = skipped_none _ _ c.args.count }
+
+pub returns-in_err-here-clause-err : goal.returns-in_err-here-clause-err
+returns-in_err-here-clause-err g c =
+    let left = err_from_is_err_and c.from_residual.result c.from_residual.ensures.1 in
+    rw (left.1, left.2) (skipped_fails _ _ _ _ _ c.args.count c.loop-left.left c.in_err-here.field-0.0 c.loop-left.invariant.part c.loop-left-test.true c.in_err-here.ensures.err)
+
+pub returns-clause-ok : goal.returns-clause-ok
+returns-clause-ok g c = skipped_all _ _ _ _ c.args.count c.loop-left.left c.loop-left.invariant.part c.loop-left-test.false
 
 pub loop-left-preserved : goal.loop-left-preserved
 loop-left-preserved g c =

@@ -1,11 +1,12 @@
 use Rattle.std.proofs.Common.{◌≡◌, ◌-◌, ◌*◌, length, refl, sym, ap, ◌∙◌, arith}
+use Rattle.std.proofs.lemmas.List.{drop_all}
 use Rattle.std.proofs.lemmas.Result.{err_from_is_err_and}
 use Rattle.g1_words.specs.Heap.{free_region}
 use Rattle.g1_image.specs.Text.{words_text}
 use Rattle.g1_image.specs.Image.{used_words}
 use Rattle.g1_image.specs.Sink.{unsent}
 use Rattle.g1_image.proofs.Used.{used_next, rows_left}
-use Rattle.g1_image.proofs.Sent.{sending_none, sending_more, sending_fails}
+use Rattle.g1_image.proofs.Sent.{sending_none, sending_all, sending_more, sending_fails}
 use Rattle.g1_image.proofs.sending.send_used.Goals as goal
 
 pub loop-r-init : goal.loop-r-init
@@ -24,6 +25,15 @@ returns-in_err-send-clause-err g c =
     rw (same.1, same.2) (sending_fails _ _ _ _ _ _ _ _ _ _ c.loop-r.invariant.part
     (used_next c.args.width i c.args.regions.now free_region c.split_at.result.1.now c.split_at.result.0.now c.loop-r.rest.now (omega arith) (c.requires.tops i free_region (omega arith)) c.split_at.ensures.front c.split_at.ensures.back)
     c.in_err-send.ensures.err)
+
+pub returns-in_err-send-clause-mark : goal.returns-in_err-send-clause-mark
+returns-in_err-send-clause-mark g c =
+    let same = err_from_is_err_and c.from_residual.result c.from_residual.ensures.1 in
+    rw same.1 c.in_err-send.ensures.mark
+
+pub returns-clause-ok : goal.returns-clause-ok
+returns-clause-ok g c =
+    sending_all _ _ _ _ _ _ c.loop-r.invariant.part (ap (λ l. words_text (used_words c.args.width l c.loop-r.rest.now)) (drop_all c.loop-r.r-index c.args.regions.now c.loop-r-test.false))
 
 pub loop-r-preserved : goal.loop-r-preserved
 loop-r-preserved g c =

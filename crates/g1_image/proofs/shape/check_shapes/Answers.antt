@@ -1,4 +1,4 @@
-use Rattle.std.proofs.Common.{◌≡◌, arith, true, false, ◌+◌, ◌*◌, ◌^◌, slice_index, sym, ap, ◌∙◌, refl, subst, below_more}
+use Rattle.std.proofs.Common.{◌≡◌, ◌<◌, arith, true, false, ◌+◌, ◌*◌, ◌^◌, slice_index, sym, ap, ◌∙◌, refl, subst, below_more}
 use Rattle.g1_words.specs.Heap.{region, start}
 use Rattle.g1_words.specs.Valid.{IsShaped}
 use Rattle.g1_words.specs.declared.object.Object.{Object}
@@ -6,7 +6,32 @@ use Rattle.g1_words.specs.declared.region.Kind.TheVariants.{HumongousFirst}
 use Rattle.g1_image.specs.Draft.{Latest}
 use Rattle.g1_image.proofs.Runs.{Latest-first, Latest-other}
 use Rattle.g1_image.proofs.shape.check_shapes.Goals as goal
-use Rattle.g1_image.proofs.shape.check_shapes.Goals.{then-is_humongous_first, else-is_humongous_first}
+use Rattle.g1_image.proofs.shape.check_shapes.Goals.{In-loop-r, then-is_humongous_first, else-is_humongous_first}
+
+-- the region that is looked at is one of the heap's
+in_heap : (c : In-loop-r) → c.loop-r.r < c.args.draft.now.geometry.n
+in_heap c = omega (arith, c.loop-r-test.true, c.regions-regions.ensures.value, ap (λ g. g.n) c.geometry-geometry.ensures.same)
+
+pub loop-r-init : goal.loop-r-init
+loop-r-init c = (
+  record { none = λ e q lt. absurd (omega arith); before = λ s. absurd (omega arith); object = λ s. absurd (omega arith); last = λ s. absurd (omega arith) },
+  λ q lt. absurd (omega arith),
+)
+
+pub region_shaped-requires-clause-there : goal.region_shaped-requires-clause-there
+region_shaped-requires-clause-there c = in_heap c
+
+pub region_shaped-requires-clause-latest : goal.region_shaped-requires-clause-latest
+region_shaped-requires-clause-latest c = c.loop-r.invariant.0
+
+pub region_shaped-requires-clause-shaped : goal.region_shaped-requires-clause-shaped
+region_shaped-requires-clause-shaped c = c.loop-r.invariant.1
+
+pub region-requires : goal.region-requires
+region-requires c = in_heap (goal.at.region-requires c).In-loop-r
+
+pub returns-clause-ok : goal.returns-clause-ok
+returns-clause-ok c = λ q lt. c.loop-r.invariant.1 q (omega (arith, lt, c.loop-r-test.false, c.regions-regions.ensures.value, ap (λ g. g.n) c.geometry-geometry.ensures.same))
 
 pub loop-r-preserved : goal.loop-r-preserved
 loop-r-preserved c =

@@ -1,9 +1,16 @@
-use Rattle.std.proofs.Common.{◌≡◌, ◌+◌, ◌*◌, ◌^◌, slice_index, min, sym, subst, ◌∙◌, arith}
+use Rattle.std.proofs.Common.{◌≡◌, ◌+◌, ◌*◌, ◌^◌, slice_index, length, min, sym, ap, subst, ◌∙◌, arith}
 use Rattle.g1_words.specs.Heap.{region, start}
 use Rattle.g1_words.specs.Valid.{IsWholeRun}
+use Rattle.g1_image.proofs.Rows.{start_in}
 use Rattle.g1_image.proofs.Tiled.{header_is}
 use Rattle.g1_image.proofs.shape.humongous_shaped.Goals as goal
 use Rattle.g1_image.proofs.shape.humongous_shaped.Goals.{then-o-region_words-2, else-o-region_words-2}
+
+pub header-o-requires : goal.header-o-requires
+header-o-requires c =
+    let h = c.args.draft.now in
+    let place : c.start.result ≡ start h c.args.r = c.start.ensures.value ∙ ap (λ g. c.args.r * g.w) c.geometry-geometry.ensures.same in
+    omega (arith, place, start_in h c.args.r c.geometry-geometry.ensures.draft.limits.w_least c.requires.there, c.words.ensures.draft.word_count, ap length c.words.ensures.same)
 
 pub returns : goal.returns
 returns c =

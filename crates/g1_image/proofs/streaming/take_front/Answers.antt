@@ -1,10 +1,29 @@
-use Rattle.std.proofs.Common.{map, subst, ◌∙◌}
-use Rattle.std.proofs.KnownBytes.{Keeps-trans}
+use Rattle.std.proofs.Common.{map, refl, subst, ◌∙◌, arith}
+use Rattle.std.proofs.KnownBytes.{Keeps-refl, Keeps-trans}
+use Rattle.std.proofs.lemmas.Result.{err_from_is_err_and}
 use Rattle.g1_image.specs.Ahead.{waiting}
 use Rattle.g1_image.specs.Faults.{FaultOf, MayFail}
-use Rattle.g1_image.proofs.Told.{front_taken, front_fails, at_end, whatever_follows}
+use Rattle.g1_image.proofs.Told.{read_fails, front_taken, front_fails, at_end, whatever_follows}
 use Rattle.g1_image.proofs.streaming.take_front.Goals as goal
 use Rattle.g1_image.proofs.streaming.take_front.Goals.{then-not-more-via-then-not-more, then-not-more-via-else-not-more+then-is_final}
+
+pub loop-more-init : goal.loop-more-init
+loop-more-init g c = record { known = c.requires.known; mark = refl; kept = Keeps-refl _; some = omega arith }
+
+pub loop-more-preserved : goal.loop-more-preserved
+loop-more-preserved g c =
+    let read = c.in_ok-more.ensures.ok in
+    record {
+      known = c.reach.ensures.known;
+      mark = read.mark ∙ c.loop-more.invariant.mark;
+      kept = Keeps-trans _ _ _ c.loop-more.invariant.kept read.kept;
+      some = omega (arith, read.there c.if-not-more.false, c.len-wanted.ensures.value, c.loop-more.invariant.some);
+    }
+
+pub returns-in_err-more-clause-err : goal.returns-in_err-more-clause-err
+returns-in_err-more-clause-err g c =
+    let left = err_from_is_err_and c.from_residual.result c.from_residual.ensures.1 in
+    rw (left.1, left.2) (read_fails _ _ _ _ c.in_err-more.field-0.0 c.loop-more.invariant.mark c.in_err-more.ensures.err)
 
 pub returns-in-Ok-clause-taken : goal.returns-in-Ok-clause-taken
 returns-in-Ok-clause-taken g c =

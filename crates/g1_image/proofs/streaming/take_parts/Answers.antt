@@ -1,11 +1,30 @@
-use Rattle.std.proofs.Common.{◌≡◌, ◌*◌, map, length, ap, subst, ◌∙◌}
+use Rattle.std.proofs.Common.{◌≡◌, ◌*◌, map, length, ap, subst, ◌∙◌, arith}
 use Rattle.std.proofs.lemmas.Result.{err_from_is_err_and}
 use Rattle.g1_image.specs.Text.{table_words, words_of}
 use Rattle.g1_image.specs.Image.{all_words}
 use Rattle.g1_image.specs.Plain.{front_text}
 use Rattle.g1_image.specs.Ahead.{waiting, to_take, TakeFails}
-use Rattle.g1_image.proofs.Told.{words_fail, whole_text, bytes_behind, all_taken}
+use Rattle.g1_image.proofs.Told.{read_fails, words_fail, whole_text, bytes_behind, all_taken}
 use Rattle.g1_image.proofs.streaming.take_parts.Goals as goal
+
+pub returns-in_err-front-clause-err : goal.returns-in_err-front-clause-err
+returns-in_err-front-clause-err g c =
+    let left = err_from_is_err_and c.from_residual.result c.from_residual.ensures.1 in
+    rw (left.1, left.2) c.in_err-front.ensures.err
+
+pub lay_pieces-requires-clause-sizes : goal.lay_pieces-requires-clause-sizes
+lay_pieces-requires-clause-sizes g c =
+    let w = c.in_ok-front.front.heading.w in
+    let rows = ap length c.deref.ensures.value ∙ c.in_ok-front.ensures.ok.entries.how_many in
+    omega (arith, ap (λ n. n * w) rows, c.in_ok-front.ensures.ok.good.sizes.words_most)
+
+pub returns-in_err-reach-clause-err : goal.returns-in_err-reach-clause-err
+returns-in_err-reach-clause-err g c =
+    let left = err_from_is_err_and c.from_residual-in_err-reach.result c.from_residual-in_err-reach.ensures.1 in
+    rw (left.1, left.2) (read_fails _ _ _ _ c.in_err-reach.field-0.0 (c.in_ok-words.ensures.ok.1.mark ∙ c.in_ok-front.ensures.mark) c.in_err-reach.ensures.err)
+
+pub returns-clause-end : goal.returns-clause-end
+returns-clause-end g c = (c.in_ok-reach.ensures.ok.ended c.if-branch.false).0
 
 pub returns-in_err-words-clause-err : goal.returns-in_err-words-clause-err
 returns-in_err-words-clause-err g c =

@@ -1,28 +1,70 @@
-use Rattle.std.proofs.Common.{rules, ◌≡◌, ◌≤◌, ◌+◌, ◌-◌, List, ℕ, ◌++◌, length, take, slice_range, ap, ◌∙◌}
+use Rattle.std.proofs.Common.{rules, ◌≡◌, ◌≤◌, ◌+◌, ◌-◌, ◌++◌, length, take, slice_range, sym, ap, subst, ◌∙◌, ◌<◌, arith, length-append, length-take-le}
 use Rattle.std.specs.Vec.{with_items}
 use Rattle.std.proofs.lemmas.List.{with_items_is, places}
+use Rattle.std.proofs.lemmas.Result.{err_from_is_err_and}
+use Rattle.std.specs.Io.KnownBytes.{IsAtEnd}
+use Rattle.g1_image.specs.Source.{ReadFails}
+use borrow.Author.Tests.{ltb-true, ltb-false, eqb-true}
 use borrow.Rule.Slice.PartMut.{post_of}
 use Rattle.g1_image.specs.Ahead.{waiting}
 use Rattle.g1_image.proofs.Taken.{read_behind, keeps_read}
 use Rattle.g1_image.proofs.ahead.Ahead.read_on.Goals as goal
-use Rattle.g1_image.proofs.ahead.Ahead.read_on.Goals.{then-self-gt0, else-self-gt0}
+use Rattle.g1_image.proofs.ahead.Ahead.read_on.Given.{Over}
+use Rattle.g1_image.proofs.ahead.Ahead.read_on.Goals.{In_ok-count, then-self-gt0, else-self-gt0}
 
-pub returns-clause-kept : goal.returns-clause-kept
-returns-clause-kept g c =
+-- what waits after the read: what waited before it, and what was read
+waits : (g : Over) (c : In_ok-count g) →
+    slice_range (with_items c.grow.new.self.room (take c.grow.new.self.end c.deref_mut.result.now ++ (c.read.new.buf ++ post_of c.grow.new.self.end (length c.deref_mut.result.now - c.grow.new.self.end) c.deref_mut.result.now))).items
+    c.grow.new.self.start (c.grow.new.self.end + c.in_ok-count.count)
+    ≡ waiting c.args.self.now ++ take c.in_ok-count.count c.read.new.buf
+waits g c =
     let r = c.grow.new.self in
     let d = c.deref_mut.result.now in
     let buf = c.read.new.buf in
     let n = c.in_ok-count.count in
     let post = post_of r.end (length d - r.end) d in
-    let all : List ℕ = take r.end d ++ (buf ++ post) in
     let before : waiting r ≡ waiting c.args.self.now = c.in_ok-grow.ensures.same ∙ elim c.if-self-gt0.branch [
       | then-self-gt0 w ↦ ap waiting w.self-is ∙ w.move_to_front.ensures.same
       | else-self-gt0 w ↦ ap waiting w.self-is
     ] in
     let within : r.end ≤ length d = search (rules, places) in
-    let some : n ≤ length buf = c.in_ok-count.ensures.bound in
     let is : (with_items r.room (take r.end d ++ (buf ++ post))).items ≡ take r.end d ++ (buf ++ post) = with_items_is r.room (take r.end d ++ (buf ++ post)) (search (rules, places)) in
-    keeps_read _ _ (waiting c.args.self.now) _ (take n buf)
-    (ap (λ l. slice_range l r.start (r.end + n)) is ∙ read_behind r.start r.end n d buf post r.ordered within some
-    ∙ ap (λ l. l ++ take n buf) (ap (λ l. slice_range l r.start r.end) c.deref_mut.ensures.value ∙ before))
-    c.in_ok-count.ensures.bytes.0
+    ap (λ l. slice_range l r.start (r.end + n)) is ∙ read_behind r.start r.end n d buf post r.ordered within c.in_ok-count.ensures.bound
+    ∙ ap (λ l. l ++ take n buf) (ap (λ l. slice_range l r.start r.end) c.deref_mut.ensures.value ∙ before)
+
+-- how many wait then
+more_wait : (g : Over) (c : In_ok-count g) →
+    length (slice_range (with_items c.grow.new.self.room (take c.grow.new.self.end c.deref_mut.result.now ++ (c.read.new.buf ++ post_of c.grow.new.self.end (length c.deref_mut.result.now - c.grow.new.self.end) c.deref_mut.result.now))).items
+    c.grow.new.self.start (c.grow.new.self.end + c.in_ok-count.count))
+    ≡ length (waiting c.args.self.now) + c.in_ok-count.count
+more_wait g c =
+    let n = c.in_ok-count.count in
+    let buf = c.read.new.buf in
+    omega (arith, ap length (waits g c), length-append (waiting c.args.self.now) (take n buf), length-take-le n buf c.in_ok-count.ensures.bound)
+
+-- where nothing was read, none is left
+at_end : (g : Over) (c : In_ok-count g) → c.in_ok-count.count ≡ 0 → IsAtEnd (g.S.Source.left c.read.new.self)
+at_end g c none =
+    let some : 0 < length c.read.new.buf = search (rules, places) in
+    c.in_ok-count.ensures.bytes.1 none some
+
+pub returns-clause-kept : goal.returns-clause-kept
+returns-clause-kept g c =
+    keeps_read _ _ (waiting c.args.self.now) _ (take c.in_ok-count.count c.read.new.buf) (waits g (goal.at.returns-clause-kept g c).In_ok-count) c.in_ok-count.ensures.bytes.0
+
+pub returns-clause-more : goal.returns-clause-more
+returns-clause-more g c = λ t. omega (arith, more_wait g (goal.at.returns-clause-more g c).In_ok-count, ltb-true 0 c.in_ok-count.count t)
+
+pub returns-clause-end : goal.returns-clause-end
+returns-clause-end g c = λ f.
+    let at = (goal.at.returns-clause-end g c).In_ok-count in
+    let none : c.in_ok-count.count ≡ 0 = omega (arith, ltb-false 0 c.in_ok-count.count f) in
+    (at_end g at none, omega (arith, more_wait g at, none))
+
+pub returns-clause-known : goal.returns-clause-known
+returns-clause-known g c = λ t. at_end g (goal.at.returns-clause-known g c).In_ok-count (eqb-true c.in_ok-count.count 0 t)
+
+pub returns-in_err-count-clause-err : goal.returns-in_err-count-clause-err
+returns-in_err-count-clause-err g c =
+    let left = err_from_is_err_and c.from_residual-in_err-count.result c.from_residual-in_err-count.ensures.1 in
+    rw (left.1, left.2) (subst (λ e. ReadFails (g.S.Source.failed c.args.source.now) (g.S.Source.failed c.read.new.self) e) (sym c.in_err-count.ensures.fault) c.in_err-count.ensures.mark)

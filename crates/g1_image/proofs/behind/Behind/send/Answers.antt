@@ -2,8 +2,16 @@ use Rattle.std.proofs.Common.{◌≡◌, [], ◌++◌, ap, refl, ◌∙◌}
 use Rattle.std.proofs.lemmas.Grind.{flat_map-append}
 use Rattle.std.proofs.lemmas.Result.{err_from_is_err_and}
 use Rattle.g1_image.specs.Text.{u64, words_text}
-use Rattle.g1_image.proofs.Sent.{sent_waits, sent_more, sending_more, sending_fails}
+use Rattle.g1_image.proofs.Sent.{sent_waits, sent_more, sending_none, sending_more, sending_fails}
 use Rattle.g1_image.proofs.behind.Behind.send.Goals as goal
+
+pub loop-rest-init : goal.loop-rest-init
+loop-rest-init g c = record { part = sending_none _ _ _; mark = refl }
+
+pub returns-in_err-make_room-clause-mark : goal.returns-in_err-make_room-clause-mark
+returns-in_err-make_room-clause-mark g c =
+    let same = err_from_is_err_and c.from_residual.result c.from_residual.ensures.1 in
+    rw same.1 c.in_err-make_room.ensures.mark
 
 pub returns-in_err-make_room-clause-err : goal.returns-in_err-make_room-clause-err
 returns-in_err-make_room-clause-err g c =
