@@ -1,4 +1,4 @@
-use Rattle.std.proofs.Common.{◌≡◌, ℕ, ◌<◌, List, ◌++◌, length, get_or, sym, subst, arith}
+use Rattle.std.proofs.Common.{◌≡◌, ℕ, ◌<◌, List, ◌++◌, length, get_or, inl, sym, subst, arith}
 use Rattle.g1_image.specs.Image.{Image}
 use Rattle.g1_trace.specs.declared.command.Command.{Command}
 use Rattle.g1_trace.specs.declared.command.Command.TheVariants.{New}
@@ -60,3 +60,12 @@ returns-clause-only g c = λ told run. c.one_run.ensures.run c.args.cost.now (si
 
 pub loop-command-smaller : goal.loop-command-smaller
 loop-command-smaller g c = omega (arith, c.loop-command-test.true)
+
+pub returns-clause-limits : goal.returns-clause-limits
+returns-clause-limits g c = c.in-Ok.ensures.limits
+
+pub returns-in-Err-clause-refused : goal.returns-in-Err-clause-refused
+returns-in-Err-clause-refused g c = c.in-Err.ensures.refused
+
+pub returns-in-Err-answer_command-clause-refused : goal.returns-in-Err-answer_command-clause-refused
+returns-in-Err-answer_command-clause-refused g c = inl c.in-Err-answer_command.ensures.memory

@@ -4,11 +4,12 @@ use Rattle.g1_words.specs.Heap.{Heap}
 use Rattle.g1_image.specs.Image.{Image, IsImage}
 use Rattle.g1_image.specs.Cards.{Covered}
 use Rattle.g1_trace.specs.declared.command.Reply.{Reply}
+use Rattle.g1_trace.specs.declared.command.Reply.TheVariants.{Ok as Done}
 use Rattle.g1_trace.specs.Commands.{Answer, answer_of}
 use Rattle.g1_trace.specs.Mutator.{heap_view, IsEffect, IsStep}
 use Rattle.g1_trace.specs.Store.{Store, IsPlainStep}
-use Rattle.g1_trace.specs.Views.{EffectFits, Shows}
-use Rattle.g1_trace.proofs.Views.{answer_fits}
+use Rattle.g1_trace.specs.Views.{EffectFits, ForPause, Shows}
+use Rattle.g1_trace.proofs.Views.{answer_fits, answer_pauses}
 use Rattle.g1_trace.proofs.GoesOn.{IfOk-weaken, IfErr-weaken}
 use Rattle.g1_trace.proofs.mutator.Mutator.step.Goals as goal
 
@@ -17,6 +18,12 @@ carry_out-tracked-requires-clause-fits g c κs within =
     let h : Heap = c.self.inside.tracked.heap in
     let told : c.answer-told.result ≡ answer_of (heap_view h) c.args.command.now = c.answer-told.ensures ∙ ap (λ (x : Heap). answer_of (heap_view x) c.args.command.now) (c.heap.ensures.same ∙ ap (λ (i : Image). i.heap) c.image.ensures.same) in
     subst (λ (a : Answer). EffectFits (heap_view h) a.effect) (sym told) (answer_fits (heap_view h) c.args.command.now)
+
+pub carry_out-tracked-requires-clause-paused : goal.carry_out-tracked-requires-clause-paused
+carry_out-tracked-requires-clause-paused g c κs within =
+    let h : Heap = c.self.inside.tracked.heap in
+    let told : c.answer-told.result ≡ answer_of (heap_view h) c.args.command.now = c.answer-told.ensures ∙ ap (λ (x : Heap). answer_of (heap_view x) c.args.command.now) (c.heap.ensures.same ∙ ap (λ (i : Image). i.heap) c.image.ensures.same) in
+    subst (λ (a : Answer). ForPause a.effect (a.reply ≡ Done)) (sym told) (answer_pauses (heap_view h) c.args.command.now)
 
 pub carry_out-tracked-requires-clause-before : goal.carry_out-tracked-requires-clause-before
 carry_out-tracked-requires-clause-before g c κs within = record { image = subst IsImage c.image.ensures.same c.heap.ensures.valid; covered = c.image.ensures.covered }
