@@ -1,12 +1,12 @@
 -- The line of a command is read number by number, and its name and its numbers tell the command.
-use Rattle.std.proofs.Common.{◌≡◌, ℕ, ◌+◌, ◌<◌, ◌≤◌, ◌^◌, List, [], ◌∷◌, ◌++◌, length, get_or, take, drop, Option, Some, None, refl, sym, ◌∙◌, ap, subst, arith}
+use Rattle.std.proofs.Common.{◌≡◌, ℕ, ◌<◌, ◌≤◌, ◌^◌, List, [], ◌∷◌, ◌++◌, length, get_or, take, drop, Option, Some, None, sym, ◌∙◌, ap, subst, arith}
 use Rattle.std.specs.Prelude.{IfSome, IfNone}
 use Rattle.std.specs.Fmt.{decimal}
 use Rattle.g1_trace.specs.declared.command.Command.{Command}
 use Rattle.g1_trace.specs.declared.command.Command.TheVariants.{New, Get, Put, Set, Say, Same, Copy, Drop, Pause}
 use Rattle.g1_trace.specs.TraceText.{spaced, name_of, numbers_of, AllFit, command_line, IsCommandLine}
 use Rattle.g1_trace.specs.Lines.{IsWordEnd}
-use Rattle.g1_trace.proofs.Numerals.{decimal_one, fit_head, fit_rest, fit_cons, fit_none, spaced_end, spaced_one}
+use Rattle.g1_trace.proofs.Numerals.{decimal_one, fit_head, fit_rest, spaced_end, spaced_one}
 use Rattle.g1_trace.proofs.Words.{take_drop}
 use Rattle.g1_trace.proofs.Names.{command_parts}
 

@@ -8,7 +8,7 @@ use Rattle.g1_words.specs.Copy.{renamed}
 use Rattle.g1_trace.specs.declared.command.Command.{Command}
 use Rattle.g1_trace.specs.declared.command.Command.TheVariants.{New, Get, Put, Set, Say, Same, Copy, Drop, Pause}
 use Rattle.g1_trace.specs.declared.command.Reply.TheVariants.{Ok, Range, Number}
-use Rattle.g1_trace.specs.Commands.{View, Nothing, SetRoot, SetSlot, SetValue, MakeNew, MakePause, Answer, answer, answer_of, in_range, not_null, within}
+use Rattle.g1_trace.specs.Commands.{View, Nothing, SetRoot, SetSlot, SetValue, MakeNew, Answer, answer, answer_of, in_range, not_null, within}
 use Rattle.g1_trace.specs.Views.{Seen, SameView, SeenWord, renamed_answer, EffectFits, ForPause}
 
 -- ---- reaching

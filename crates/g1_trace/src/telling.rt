@@ -170,7 +170,16 @@ pub fn run_text<R: Threads + Sync, G: Gate + Sync>(
     let mut lines: u64 = 1;
     while rest.len() > 0 {
         let (next, more) = match answer_line(
-            rt, alloc, mutator, rest, lines + 1, cost, workers, chunk, gate, &mut text,
+            rt,
+            alloc,
+            mutator,
+            rest,
+            lines + 1,
+            cost,
+            workers,
+            chunk,
+            gate,
+            &mut text,
         ) {
             Ok(answered) => answered,
             Err(fault) => return Err(fault),

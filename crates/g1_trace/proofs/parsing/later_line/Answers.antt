@@ -1,6 +1,6 @@
 use Rattle.std.proofs.Common.{[], ◌∷◌}
 use Rattle.g1_trace.proofs.Numerals.{fit_cons, fit_none}
-use Rattle.g1_trace.proofs.CommandLines.{IsLineOf, BeginsWithNumber, line_of, no_first, no_second, no_third, told, told_fits, told_none, only_number, number_more}
+use Rattle.g1_trace.proofs.CommandLines.{BeginsWithNumber, line_of, no_first, no_second, no_third, told, told_fits, told_none, only_number, number_more}
 use Rattle.g1_trace.proofs.parsing.later_line.Goals as goal
 
 pub returns-in-None-clause-none : goal.returns-in-None-clause-none

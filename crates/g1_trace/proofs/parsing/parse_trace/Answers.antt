@@ -1,4 +1,4 @@
-use Rattle.std.proofs.Common.{◌≡◌, ◌+◌, inr, length, refl, arith}
+use Rattle.std.proofs.Common.{◌+◌, inr, length, refl, arith}
 use Rattle.g1_trace.specs.TraceText.{command_line}
 use Rattle.g1_trace.proofs.Texts.{read_start, read_more, read_end, bad_start, bad_first, bad_later, shorter}
 use Rattle.g1_trace.proofs.parsing.parse_trace.Goals as goal

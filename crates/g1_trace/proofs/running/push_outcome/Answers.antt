@@ -1,4 +1,3 @@
-use Rattle.std.proofs.Common.{◌≡◌, ◌∷◌, [], ◌++◌, ◌∙◌, ap, cond, not}
 use Rattle.g1_trace.proofs.running.push_outcome.Goals as goal
 
 pub returns-in-Ok-push-clause-told : goal.returns-in-Ok-push-clause-told

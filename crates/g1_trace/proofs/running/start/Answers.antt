@@ -1,9 +1,6 @@
-use Rattle.std.proofs.Common.{◌≡◌, inl, inr, ◌∙◌, ap, arith, rules}
-use Rattle.g1_words.specs.declared.fault.Fault.{Fault}
+use Rattle.std.proofs.Common.{◌≡◌, ◌∙◌, ap}
 use Rattle.g1_words.specs.Geometry.{Geometry}
-use Rattle.g1_image.specs.Image.{Image}
 use Rattle.g1_trace.specs.Run.{empty_image}
-use Rattle.g1_trace.specs.Running.{AreLimits}
 use Rattle.g1_trace.specs.TraceText.{sizes}
 use Rattle.g1_trace.proofs.GoesOn.{IfOk-weaken}
 use Rattle.g1_trace.proofs.running.start.Goals as goal

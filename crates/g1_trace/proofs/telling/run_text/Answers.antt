@@ -1,4 +1,4 @@
-use Rattle.std.proofs.Common.{length, arith}
+use Rattle.std.proofs.Common.{arith}
 use Rattle.g1_trace.specs.TraceText.{command_line}
 use Rattle.g1_trace.proofs.Texts.{shorter}
 use Rattle.g1_trace.proofs.Tellings.{so_far_start, so_far_answered, so_far_end, so_far_refused}
