@@ -1,6 +1,6 @@
 -- A run that goes on: its beginning, one step more, its end.
 use Rattle.std.proofs.Common.{◌≡◌, ℕ, zero, suc, ◌+◌, ◌<◌, List, [], ◌∷◌, ◌++◌, length, get_or, drop, refl, sym, ◌∙◌, ap, subst, arith}
-use Rattle.std.specs.Prelude.{IfOk, Result, Ok, Err}
+use Rattle.std.specs.Prelude.{IfOk, IfErr, Result, Ok, Err}
 use Rattle.g1_trace.specs.declared.command.Command.{Command}
 use Rattle.g1_trace.specs.declared.command.Reply.{Reply}
 use Rattle.g1_trace.specs.Run.{Replies}
@@ -41,3 +41,7 @@ module _ {S : Type 0} (step : S → Command → Reply → S → Type 0) (start :
 pub IfOk-weaken : {A E : Type 0} (o : Result A E) (P Q : A → Type 0) → ((a : A) → P a → Q a) → IfOk o P → IfOk o Q
 IfOk-weaken (Ok a) P Q f h = f a h
 IfOk-weaken (Err e) P Q f h = h
+
+pub IfErr-weaken : {A E : Type 0} (o : Result A E) (P Q : E → Type 0) → ((e : E) → P e → Q e) → IfErr o P → IfErr o Q
+IfErr-weaken (Ok a) P Q f h = h
+IfErr-weaken (Err e) P Q f h = f e h

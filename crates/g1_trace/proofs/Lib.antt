@@ -26,6 +26,7 @@ pub mod GoesOn
 pub mod Numerals
 pub mod Words
 pub mod Names
+pub mod CommandLines
 pub mod Texts
 pub mod OneText
 pub mod Deciding

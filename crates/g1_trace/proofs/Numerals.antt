@@ -111,6 +111,18 @@ decimal_one x y rest more fx fy p q e =
     let s = one_split (decimal x) (decimal y) rest more (decimal_word x fx) (decimal_word y fy) p q e in
     (sym (digits_value-decimal own x fx) ∙ ap (read_on 0) s.0 ∙ digits_value-decimal own y fy, s.1)
 
+-- what numbers write tells them
+pub spaced_one : (xs ys : List ℕ) → AllFit xs → AllFit ys → spaced xs ≡ spaced ys → xs ≡ ys
+spaced_one [] [] f g e = refl
+spaced_one [] (y ∷ ys) f g e = let l = ap length e in absurd (omega (arith, l))
+spaced_one (x ∷ xs) [] f g e = let l = ap length e in absurd (omega (arith, l))
+spaced_one (x ∷ xs) (y ∷ ys) f g e =
+    let fx = fit_head x xs f in
+    let fy = fit_head y ys g in
+    let d = decimal_one x y (spaced xs) (spaced ys) fx fy (spaced_end xs) (spaced_end ys) (ap (drop 1) e) in
+    let rest = spaced_one xs ys (fit_rest x xs f) (fit_rest y ys g) d.1 in
+    (λ t. d.0 t ∷ rest t)
+
 -- no byte of the list ends a line
 abbrev pub Clean : List ℕ → Type 0
 Clean [] = Unit {0}

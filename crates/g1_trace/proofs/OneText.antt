@@ -8,7 +8,7 @@ use Rattle.g1_trace.specs.declared.command.Command.TheVariants.{New, Get, Put, S
 use Rattle.g1_trace.specs.TraceText.{spaced, name_of, numbers_of, AllFit, command_line, heap_line, ended, IsLineAt, AreLines, IsBadRest}
 use Rattle.g1_trace.specs.Laws.{OneTrace, NoBadLine, OneBadLine}
 use Rattle.g1_trace.proofs.Words.{one_split}
-use Rattle.g1_trace.proofs.Numerals.{decimal_one, decimal_clean, fit_head, fit_rest, spaced_end, Clean, clean_append}
+use Rattle.g1_trace.proofs.Numerals.{decimal_clean, fit_head, fit_rest, spaced_end, spaced_one, Clean, clean_append}
 use Rattle.g1_trace.proofs.Names.{name_word, only_new, only_get, only_put, only_set, only_say, only_same, only_copy, only_drop, only_pause}
 use Rattle.g1_trace.proofs.Texts.{lines_of, ended_lines, later_lines, append_nil}
 
@@ -59,17 +59,6 @@ in_middle [] ys = inl refl
 in_middle (x ∷ xs) ys = inr (in_middle xs ys)
 
 -- ---- one trace a text
-
-spaced_one : (xs ys : List ℕ) → AllFit xs → AllFit ys → spaced xs ≡ spaced ys → xs ≡ ys
-spaced_one [] [] f g e = refl
-spaced_one [] (y ∷ ys) f g e = let l = ap length e in absurd (omega (arith, l))
-spaced_one (x ∷ xs) [] f g e = let l = ap length e in absurd (omega (arith, l))
-spaced_one (x ∷ xs) (y ∷ ys) f g e =
-    let fx = fit_head x xs f in
-    let fy = fit_head y ys g in
-    let d = decimal_one x y (spaced xs) (spaced ys) fx fy (spaced_end xs) (spaced_end ys) (ap (drop 1) e) in
-    let rest = spaced_one xs ys (fit_rest x xs f) (fit_rest y ys g) d.1 in
-    (λ t. d.0 t ∷ rest t)
 
 same_by : (c d : Command) → name_of c ≡ name_of d → numbers_of c ≡ numbers_of d → c ≡ d
 same_by (New r f w) d n q = let o = only_new d (sym n) in ap (λ xs. New (get_or xs 0 0) (get_or xs 1 0) (get_or xs 2 0)) (q ∙ ap numbers_of o.3) ∙ sym o.3

@@ -1,8 +1,11 @@
 -- Lines that are read, done and answered in turn: the beginning, one line more, the end, and the first bad line.
-use Rattle.std.proofs.Common.{◌≡◌, ◌≢◌, ℕ, suc, ◌+◌, ◌<◌, ◌≤◌, inl, inr, List, [], ◌∷◌, ◌++◌, length, get_or, flat_map, refl, sym, ◌∙◌, ap, subst, arith, append_assoc, length-append}
+use Rattle.std.proofs.Common.{◌≡◌, ◌⊎◌, ℕ, ◌+◌, ◌≤◌, inl, inr, List, [], ◌∷◌, ◌++◌, length, flat_map, refl, sym, ◌∙◌, ap, subst, arith, append_assoc, length-append}
 use Rattle.std.proofs.lemmas.Grind.{flat_map-append}
+use Rattle.g1_words.specs.declared.fault.Fault.{Fault}
+use Rattle.g1_words.specs.declared.fault.Fault.TheVariants.{Memory, Line}
 use Rattle.g1_words.specs.Geometry.{Geometry}
 use Rattle.g1_image.specs.Image.{Image}
+use Rattle.g1_image.specs.Cards.{IsTracked}
 use Rattle.g1_choose.specs.declared.parameters.Cost.{Cost}
 use Rattle.g1_trace.specs.declared.command.Command.{Command}
 use Rattle.g1_trace.specs.declared.command.Reply.{Reply}
@@ -11,11 +14,11 @@ use Rattle.g1_trace.specs.Mutator.{IsStep}
 use Rattle.g1_trace.specs.Views.{Shows}
 use Rattle.g1_trace.specs.Run.{Replies, IsRun, empty_store, empty_image}
 use Rattle.g1_trace.specs.Running.{IsHeapSize}
-use Rattle.g1_trace.specs.TraceText.{AllFit, numbers_of, command_line, heap_line, IsCommandLine, IsBadRest, IsFirstBadLine, IsText}
-use Rattle.g1_trace.specs.Telling.{reply_line, reply_lines, IsTold, IsOutsideLimits, BeginsWith, IsBegun, BeginsOutside}
-use Rattle.g1_trace.specs.Laws.{OneTold, StartShows}
+use Rattle.g1_trace.specs.TraceText.{AllFit, numbers_of, command_line, heap_line, IsBadRest, IsFirstBadLine, IsText}
+use Rattle.g1_trace.specs.Telling.{reply_line, reply_lines, IsTold, IsRefusal, IsOutsideLimits, BeginsWith, IsBegun, BeginsOutside}
+use Rattle.g1_trace.specs.Laws.{OneTold, StartShows, StepShows}
 use Rattle.g1_trace.proofs.GoesOn.{append-nil, append-one}
-use Rattle.g1_trace.proofs.Texts.{IsRead, read_start, read_more, read_end, bad_later, bad_end, bad_line}
+use Rattle.g1_trace.proofs.Texts.{IsRead, shorter, read_more, read_end, bad_later}
 use Rattle.g1_trace.proofs.OneText.{one_first, one_trace}
 use Rattle.g1_trace.proofs.OneRun.{one_run}
 
@@ -47,13 +50,6 @@ pub record IsSoFar (cost : Cost) (bytes : List ℕ) (i : Image) (rest text : Lis
   pub shows : Shows store i.heap
   pub plain : Arrives IsPlainStep (empty_store roots) commands replies store
 
-length-line : (line more : List ℕ) → length (line ++ 10 ∷ more) ≡ length line + 1 + length more
-length-line line more = let l = length-append line (10 ∷ more) in omega (arith, l)
-
--- a line and its end are a byte at least
-shorter : (rest line more : List ℕ) → rest ≡ line ++ 10 ∷ more → 1 + length more ≤ length rest
-shorter rest line more e = let l = ap length e ∙ length-line line more in omega (arith, l)
-
 first_shorter : (bytes line rest : List ℕ) → bytes ≡ (line ++ 10 ∷ []) ++ rest → 1 + length rest ≤ length bytes
 first_shorter bytes line rest e = shorter bytes line rest (e ∙ append_assoc line (10 ∷ []) rest)
 
@@ -77,7 +73,7 @@ so_far_start cost bytes i rest text shows b none = record {
 lines_more : (replies : List Reply) (r : Reply) → reply_lines (replies ++ r ∷ []) ≡ reply_lines replies ++ reply_line r
 lines_more replies r = flat_map-append reply_line replies (r ∷ []) ∙ ap (λ xs. reply_lines replies ++ xs) (append-nil (reply_line r))
 
-pub so_far_on : (cost : Cost) (bytes : List ℕ) (i next : Image) (rest text line left longer : List ℕ) (lines : ℕ) (c : Command) (r : Reply) → IsSoFar cost bytes i rest text lines
+so_far_on : (cost : Cost) (bytes : List ℕ) (i next : Image) (rest text line left longer : List ℕ) (lines : ℕ) (c : Command) (r : Reply) → IsSoFar cost bytes i rest text lines
     → rest ≡ line ++ 10 ∷ left → line ≡ command_line c → AllFit (numbers_of c) → IsStep cost i c r next → ((s : Store) → Shows s i.heap → (t : Store) × IsPlainStep s c r t × Shows t next.heap) → longer ≡ text ++ reply_line r
     → IsSoFar cost bytes next left longer (lines + 1)
 so_far_on cost bytes i next rest text line left longer lines c r so e is fits st shows more =
@@ -100,6 +96,13 @@ so_far_on cost bytes i next rest text line left longer lines c r so e is fits st
       plain = arrives_on IsPlainStep (empty_store so.roots) so.commands so.replies so.store plain.0 c r so.plain plain.1;
     }
 
+-- a line is read, done and answered
+pub so_far_answered : (cost : Cost) (bytes : List ℕ) (i next : Image) (rest text left longer : List ℕ) (lines : ℕ) → StepShows → IsTracked i → IsSoFar cost bytes i rest text lines
+    → (c : Command) × (r : Reply) × (rest ≡ command_line c ++ 10 ∷ left) × AllFit (numbers_of c) × IsStep cost i c r next × (longer ≡ text ++ reply_line r)
+    → IsSoFar cost bytes next left longer (lines + 1)
+so_far_answered cost bytes i next rest text left longer lines keeps tracked so (c, r, e, fits, st, more) =
+    so_far_on cost bytes i next rest text (command_line c) left longer lines c r so e refl fits st (λ s shows. keeps cost s i c r next tracked shows st) more
+
 pub so_far_end : (cost : Cost) (bytes : List ℕ) (i : Image) (rest text : List ℕ) (lines : ℕ) → IsSoFar cost bytes i rest text lines → length rest ≡ 0 → IsTold cost bytes text
 so_far_end cost bytes i rest text lines so e = record {
   sizes = so.sizes;
@@ -120,11 +123,11 @@ bad_so_far cost bytes i rest text lines so b =
     let count = so.count in
     bad_later bytes so.sizes.w so.sizes.k so.sizes.n so.roots so.commands rest (lines + 1) so.read (omega (arith, count)) b
 
-pub so_far_unended : (cost : Cost) (bytes : List ℕ) (i : Image) (rest text : List ℕ) (lines : ℕ) → IsSoFar cost bytes i rest text lines → 0 < length rest → ((k : ℕ) → k < length rest → get_or rest k 0 ≢ 10) → IsFirstBadLine bytes (lines + 1)
-so_far_unended cost bytes i rest text lines so some n = bad_so_far cost bytes i rest text lines so (bad_end (length so.commands) rest some n)
-
-pub so_far_bad : (cost : Cost) (bytes : List ℕ) (i : Image) (rest text line more : List ℕ) (lines : ℕ) → IsSoFar cost bytes i rest text lines → rest ≡ line ++ 10 ∷ more → ((k : ℕ) → k < length line → get_or line k 0 ≢ 10) → (IsCommandLine line → ⊥) → IsFirstBadLine bytes (lines + 1)
-so_far_bad cost bytes i rest text line more lines so e n b = bad_so_far cost bytes i rest text lines so (bad_line (length so.commands) rest line more e n b)
+-- memory is refused, or the next line is the first bad one
+pub so_far_refused : (cost : Cost) (bytes : List ℕ) (i : Image) (rest text : List ℕ) (lines : ℕ) (fault : Fault) → IsSoFar cost bytes i rest text lines
+    → (fault ≡ Memory) ⊎ ((fault ≡ Line (lines + 1)) × ((m : ℕ) → IsBadRest (m + 1) rest)) → IsRefusal bytes fault
+so_far_refused cost bytes i rest text lines fault so (inl e) = inl e
+so_far_refused cost bytes i rest text lines fault so (inr (e, bad)) = inr (inl (lines + 1, e, bad_so_far cost bytes i rest text lines so (bad (length so.commands))))
 
 -- ---- numbers outside the limits
 

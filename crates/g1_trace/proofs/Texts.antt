@@ -1,5 +1,5 @@
 -- The lines of a trace that are read so far, and the first bad one.
-use Rattle.std.proofs.Common.{◌≡◌, ◌≢◌, ℕ, suc, ◌+◌, ◌<◌, ◌⊎◌, inl, inr, List, [], ◌∷◌, ◌++◌, length, get_or, map, flat_map, Contains, refl, sym, ◌∙◌, ap, subst, arith, append_assoc}
+use Rattle.std.proofs.Common.{◌≡◌, ◌≢◌, ℕ, suc, ◌+◌, ◌<◌, ◌≤◌, ◌⊎◌, inl, inr, List, [], ◌∷◌, ◌++◌, length, get_or, map, flat_map, Contains, refl, sym, ◌∙◌, ap, subst, arith, append_assoc, length-append}
 use Rattle.std.specs.Prelude.{All}
 use Rattle.std.proofs.lemmas.List.{get_or_default, length-map}
 use Rattle.std.proofs.lemmas.Grind.{flat_map-append}
@@ -58,6 +58,10 @@ read_more bytes w k n roots cs more rest line left c r e is fits longer =
 pub read_end : (bytes : List ℕ) (g : Geometry) (roots : ℕ) (cs : List Command) (rest : List ℕ) → IsRead bytes g.w g.k g.n roots cs rest → length rest ≡ 0 → IsText bytes g roots cs
 read_end bytes g roots cs [] r e = record { text = r.text ∙ ap (λ xs. (heap_line g.w g.k g.n roots ++ 10 ∷ []) ++ xs) (append_nil (lines_of cs)); first = r.first; later = r.later }
 read_end bytes g roots cs (x ∷ rest) r e = absurd (omega (arith, e))
+
+-- a line and its end are a byte at least
+pub shorter : (rest line more : List ℕ) → rest ≡ line ++ 10 ∷ more → 1 + length more ≤ length rest
+shorter rest line more e = let l = ap length e ∙ length-append line (10 ∷ more) in omega (arith, l)
 
 -- ---- the first bad line
 

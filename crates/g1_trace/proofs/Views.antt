@@ -9,7 +9,7 @@ use Rattle.g1_trace.specs.declared.command.Command.{Command}
 use Rattle.g1_trace.specs.declared.command.Command.TheVariants.{New, Get, Put, Set, Say, Same, Copy, Drop, Pause}
 use Rattle.g1_trace.specs.declared.command.Reply.TheVariants.{Ok, Range, Number}
 use Rattle.g1_trace.specs.Commands.{View, Nothing, SetRoot, SetSlot, SetValue, MakeNew, Answer, answer, answer_of, in_range, not_null, within}
-use Rattle.g1_trace.specs.Views.{Seen, SameView, SeenWord, renamed_answer, EffectFits}
+use Rattle.g1_trace.specs.Views.{Seen, SameView, SeenWord, renamed_answer, EffectFits, ForPause}
 
 -- ---- reaching
 
@@ -110,6 +110,37 @@ module _ (v : View) where
   answer_fits (Copy r q) = range r _ (λ h. range q _ (λ _. (h, root_word v q)))
   answer_fits (Drop r) = range r (answer Ok (SetRoot r 0)) (λ h. (h, tt))
   answer_fits (Pause b) = tt
+
+-- ---- a pause is answered by ok
+
+abbrev Pauses : Answer → Type 0
+Pauses a = ForPause a.effect (a.reply ≡ Ok)
+
+pauses_either : (b : Bool) (x y : Answer) → Pauses x → Pauses y → Pauses (cond b x y)
+pauses_either true x y p q = p
+pauses_either false x y p q = q
+
+module _ (v : View) where
+  pauses_range : (r : ℕ) (a : Answer) → Pauses a → Pauses (in_range v r a)
+  pauses_range r a p = pauses_either (ltb r (length v.roots)) a (answer Range Nothing) p tt
+
+  pauses_within : (k : ℕ) (xs : List ℕ) (a : Answer) → Pauses a → Pauses (within v k xs a)
+  pauses_within k xs a p = pauses_either (ltb k (length xs)) a (answer Range Nothing) p tt
+
+  pauses_not_null : (x : ℕ) (rest : ℕ → Answer) → ((a : ℕ) → Pauses (rest a)) → Pauses (not_null v x rest)
+  pauses_not_null zero rest p = tt
+  pauses_not_null (suc a) rest p = p a
+
+  pub answer_pauses : (c : Command) → Pauses (answer_of v c)
+  answer_pauses (New r refs values) = pauses_range r (answer Ok (MakeNew r refs values)) tt
+  answer_pauses (Get r q i) = pauses_range r _ (pauses_range q _ (pauses_not_null (get_or v.roots q 0) _ (λ a. pauses_within i (v.slots a) (answer Ok (SetRoot r (get_or (v.slots a) i 0))) tt)))
+  answer_pauses (Put r i q) = pauses_range r _ (pauses_range q _ (pauses_not_null (get_or v.roots r 0) _ (λ a. pauses_within i (v.slots a) (answer Ok (SetSlot a i (get_or v.roots q 0))) tt)))
+  answer_pauses (Set r i x) = pauses_range r _ (pauses_not_null (get_or v.roots r 0) _ (λ a. pauses_within i (v.values a) (answer Ok (SetValue a i x)) tt))
+  answer_pauses (Say r i) = pauses_range r _ (pauses_not_null (get_or v.roots r 0) _ (λ a. pauses_within i (v.values a) (answer (Number (get_or (v.values a) i 0)) Nothing) tt))
+  answer_pauses (Same r q) = pauses_range r _ (pauses_range q _ tt)
+  answer_pauses (Copy r q) = pauses_range r _ (pauses_range q (answer Ok (SetRoot r (get_or v.roots q 0))) tt)
+  answer_pauses (Drop r) = pauses_range r (answer Ok (SetRoot r 0)) tt
+  answer_pauses (Pause b) = refl
 
 -- ---- two views of the same objects answer alike
 

@@ -40,6 +40,28 @@ impl Model for Mutator {
     ghost view = { λ m. m.tracked };
 }
 
+/// A heap of free regions, with so many roots, all null.
+fn free_heap(alloc: Global, geometry: Geometry, roots: u64) -> Result<Heap, Fault>
+    requires { roots ≤ 65536 }
+    ensures ok { IfOk result (λ h. h ≡ (empty_image geometry roots).heap) }
+    ensures memory { IfErr result (λ e. e ≡ Fault.Memory) }
+{
+    let regions = geometry.regions();
+    let total = regions * geometry.region_words();
+    let free = Region {
+        kind: Kind::Free,
+        top: 0,
+        pinned: false,
+    };
+    Ok(Heap {
+        geometry,
+        words: vec![in alloc; 0u64; total as usize]?,
+        regions: vec![in alloc; free; regions as usize]?,
+        roots: vec![in alloc; 0u64; roots as usize]?,
+        current: None,
+    })
+}
+
 /// An empty remembered set for each region.
 fn no_remembered(alloc: Global, regions: u64) -> Result<Vec<Vec<u32>>, Fault>
     ensures ok { IfOk result (λ v. map (λ s. s.items) v.items ≡ replicate regions []) }
@@ -163,23 +185,10 @@ impl Mutator {
         if roots > 65_536 {
             return Err(Fault::Geometry);
         }
-        let regions = geometry.regions();
-        let total = regions * geometry.region_words();
-        let free = Region {
-            kind: Kind::Free,
-            top: 0,
-            pinned: false,
-        };
-        let heap = Heap {
-            geometry,
-            words: vec![in alloc; 0u64; total as usize]?,
-            regions: vec![in alloc; free; regions as usize]?,
-            roots: vec![in alloc; 0u64; roots as usize]?,
-            current: None,
-        };
+        let heap = free_heap(alloc, geometry, roots)?;
         let image = Image {
             heap,
-            remembered: no_remembered(alloc, regions)?,
+            remembered: no_remembered(alloc, geometry.regions())?,
             log: IndexSet::new(alloc),
         };
         Ok(Mutator {

@@ -1,6 +1,6 @@
 ghost use Rattle.std.specs.Prelude.{◌≡◌, ◌≢◌, ◌⊎◌, ℕ, List, [], ◌∷◌, ◌++◌, ◌+◌, ◌<◌, ◌≤◌, ◌^◌, length, take, drop, slice_index, decimal, IsTrue, ◌↔◌, IfSome, IfNone, IfOk, IfErr};
 ghost use Rattle.g1_trace.specs.declared.command.Command.{Command as CommandOf};
-ghost use Rattle.g1_trace.specs.TraceText.{spaced, AllFit, command_line, heap_line, numbers_of, IsHeapLine, IsCommandLine, IsTraceText, IsFirstBadLine};
+ghost use Rattle.g1_trace.specs.TraceText.{spaced, AllFit, command_line, heap_line, name_of, numbers_of, IsHeapLine, IsCommandLine, IsBadRest, IsTraceText, IsFirstBadLine};
 ghost use Rattle.g1_trace.specs.Lines.{IsWordEnd};
 
 use crate::command::Command;
@@ -143,68 +143,101 @@ pub(crate) fn first_line(line: &[u8]) -> Option<(u64, u64, u64, u64)>
     }
 }
 
-/// The command of a later line.
+/// The command of this name that has one number.
+fn with_one(name: &[u8], number: u64) -> Option<Command>
+    ensures some { IfSome result (λ c. (name.now ≡ name_of c) × (numbers_of c ≡ number ∷ [])) }
+    ensures none { IfNone result ((c : CommandOf) → numbers_of c ≡ number ∷ [] → name.now ≡ name_of c → ⊥) }
+{
+    if is_word(name, b"drop") {
+        return Some(Command::Drop { root: number });
+    }
+    if is_word(name, b"pause") {
+        return Some(Command::Pause { budget: number });
+    }
+    None
+}
+
+/// The command of this name that has two numbers.
+fn with_two(name: &[u8], root: u64, second: u64) -> Option<Command>
+    ensures some { IfSome result (λ c. (name.now ≡ name_of c) × (numbers_of c ≡ root ∷ second ∷ [])) }
+    ensures none { IfNone result ((c : CommandOf) → numbers_of c ≡ root ∷ second ∷ [] → name.now ≡ name_of c → ⊥) }
+{
+    if is_word(name, b"say") {
+        return Some(Command::Say { root, word: second });
+    }
+    if is_word(name, b"same") {
+        return Some(Command::Same {
+            root,
+            other: second,
+        });
+    }
+    if is_word(name, b"copy") {
+        return Some(Command::Copy { root, from: second });
+    }
+    None
+}
+
+/// The command of this name that has three numbers.
+fn with_three(name: &[u8], root: u64, second: u64, third: u64) -> Option<Command>
+    ensures some { IfSome result (λ c. (name.now ≡ name_of c) × (numbers_of c ≡ root ∷ second ∷ third ∷ [])) }
+    ensures none { IfNone result ((c : CommandOf) → numbers_of c ≡ root ∷ second ∷ third ∷ [] → name.now ≡ name_of c → ⊥) }
+{
+    if is_word(name, b"new") {
+        return Some(Command::New {
+            root,
+            refs: second,
+            words: third,
+        });
+    }
+    if is_word(name, b"get") {
+        return Some(Command::Get {
+            root,
+            from: second,
+            slot: third,
+        });
+    }
+    if is_word(name, b"put") {
+        return Some(Command::Put {
+            root,
+            slot: second,
+            from: third,
+        });
+    }
+    if is_word(name, b"set") {
+        return Some(Command::Set {
+            root,
+            word: second,
+            value: third,
+        });
+    }
+    None
+}
+
+/// The command of a later line: how many numbers it has and its name tell which.
 pub(crate) fn later_line(line: &[u8]) -> Option<Command>
     ensures some { IfSome result (λ c. line.now ≡ command_line c) }
     ensures fits { IfSome result (λ c. AllFit (numbers_of c)) }
     ensures none { IfNone result (IsCommandLine line.now → ⊥) }
 {
-    let (name, rest) = line.split_at(word_end(line));
-    if is_word(name, b"new") {
-        return match three(rest) {
-            Some((root, refs, words)) => Some(Command::New { root, refs, words }),
-            None => None,
-        };
+    let (name, numbers) = line.split_at(word_end(line));
+    let (first, others) = match take_number(numbers) {
+        Some(taken) => taken,
+        None => return None,
+    };
+    if others.len() == 0 {
+        return with_one(name, first);
     }
-    if is_word(name, b"get") {
-        return match three(rest) {
-            Some((root, from, slot)) => Some(Command::Get { root, from, slot }),
-            None => None,
-        };
+    let (second, last) = match take_number(others) {
+        Some(taken) => taken,
+        None => return None,
+    };
+    if last.len() == 0 {
+        return with_two(name, first, second);
     }
-    if is_word(name, b"put") {
-        return match three(rest) {
-            Some((root, slot, from)) => Some(Command::Put { root, slot, from }),
-            None => None,
-        };
+    match one(last) {
+        Some(third) => with_three(name, first, second, third),
+        None => None,
     }
-    if is_word(name, b"set") {
-        return match three(rest) {
-            Some((root, word, value)) => Some(Command::Set { root, word, value }),
-            None => None,
-        };
-    }
-    if is_word(name, b"say") {
-        return match two(rest) {
-            Some((root, word)) => Some(Command::Say { root, word }),
-            None => None,
-        };
-    }
-    if is_word(name, b"same") {
-        return match two(rest) {
-            Some((root, other)) => Some(Command::Same { root, other }),
-            None => None,
-        };
-    }
-    if is_word(name, b"copy") {
-        return match two(rest) {
-            Some((root, from)) => Some(Command::Copy { root, from }),
-            None => None,
-        };
-    }
-    if is_word(name, b"drop") {
-        return match one(rest) {
-            Some(root) => Some(Command::Drop { root }),
-            None => None,
-        };
-    }
-    if is_word(name, b"pause") {
-        return match one(rest) {
-            Some(budget) => Some(Command::Pause { budget }),
-            None => None,
-        };
-    }
-    None
 }
 
 /// The first line of the bytes without its end, and the bytes after it; None where no line is ended.
@@ -220,6 +253,28 @@ pub(crate) fn split_line(bytes: &[u8]) -> Option<(&[u8], &[u8])>
         }
     }
     None
+}
+
+/// The command of the first of some later lines, and the lines after it.
+///
+/// # Errors
+///
+/// `Fault::Line` with the line's number where it isn't of its form.
+pub(crate) fn next_command(lines: &[u8], number: u64) -> Result<(Command, &[u8]), Fault>
+    requires { 0 < length lines.now }
+    ensures text { IfOk result (λ r. lines.now ≡ command_line r.0 ++ 10 ∷ r.1.now) }
+    ensures fits { IfOk result (λ r. AllFit (numbers_of r.0)) }
+    ensures fault { IfErr result (λ e. e ≡ Fault.Line number) }
+    ensures bad { IfErr result (λ e. (m : ℕ) → IsBadRest (m + 1) lines.now) }
+{
+    let (line, more) = match split_line(lines) {
+        Some(split) => split,
+        None => return Err(Fault::Line(number)),
+    };
+    match later_line(line) {
+        Some(command) => Ok((command, more)),
+        None => Err(Fault::Line(number)),
+    }
 }
 
 /// The trace whose text these bytes are.
@@ -241,14 +296,9 @@ pub fn parse_trace(alloc: Global, bytes: &[u8]) -> Result<Trace, Fault>
     };
     let mut commands: Vec<Command> = Vec::new(alloc);
     while rest.len() > 0 {
-        let here = commands.len() as u64 + 2;
-        let (line, more) = match split_line(rest) {
-            Some(split) => split,
-            None => return Err(Fault::Line(here)),
-        };
-        let command = match later_line(line) {
-            Some(command) => command,
-            None => return Err(Fault::Line(here)),
+        let (command, more) = match next_command(rest, commands.len() as u64 + 2) {
+            Ok(read) => read,
+            Err(fault) => return Err(fault),
         };
         commands.push(command)?;
         rest = more;

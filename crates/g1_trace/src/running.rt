@@ -1,12 +1,14 @@
-ghost use Rattle.std.specs.Prelude.{◌≡◌, ◌⊎◌, List, IfOk, IfErr};
+ghost use Rattle.std.specs.Prelude.{◌≡◌, ◌⊎◌, List, [], ◌∷◌, ◌++◌, Ok, OnOk, IfOk, IfErr};
+ghost use Rattle.g1_image.specs.Cards.{IsTracked};
 ghost use Rattle.g1_choose.specs.Cost.{IsCost};
 ghost use Rattle.g1_pause.specs.Settings.{AreWorkers, IsChunk};
 ghost use Rattle.g1_trace.specs.declared.command.Reply.{Reply as ReplyOf};
-ghost use Rattle.g1_trace.specs.Run.{IsRun};
+ghost use Rattle.g1_trace.specs.Mutator.{IsStep};
+ghost use Rattle.g1_trace.specs.Run.{IsRun, empty_image};
 ghost use Rattle.g1_trace.specs.Running.{AreLimits};
 ghost use Rattle.g1_trace.specs.TraceText.{sizes};
 
-use crate::command::Reply;
+use crate::command::{Command, Reply};
 use crate::laws;
 use crate::mutator::Mutator;
 use crate::trace::Trace;
@@ -15,6 +17,67 @@ use g1_words::{Fault, Geometry};
 use g1_work::Gate;
 use std::alloc::Global;
 use std::thread::Threads;
+
+/// The heap that a trace starts from.
+fn start(alloc: Global, trace: &Trace) -> Result<Mutator, Fault>
+    ensures ok { IfOk result (λ m. m ≡ empty_image (sizes trace.now) trace.now.roots) }
+    ensures limits { IfOk result (λ m. AreLimits trace.now) }
+    ensures refused { IfErr result (λ e. (e ≡ Fault.Memory) ⊎ ((e ≡ Fault.Geometry) × (AreLimits trace.now → ⊥))) }
+{
+    match Geometry::new(trace.w, trace.k, trace.n) {
+        Ok(geometry) => Mutator::new(alloc, geometry, trace.roots),
+        Err(fault) => Err(fault),
+    }
+}
+
+/// Adds the reply that a command came to.
+///
+/// # Errors
+///
+/// `Fault::Memory`.
+fn push_outcome(replies: &mut Vec<Reply>, outcome: Result<Reply, Fault>) -> Result<(), Fault>
+    requires { IfErr outcome (λ e. e ≡ Fault.Memory) }
+    ensures told { OnOk result ((reply : ReplyOf) × (outcome ≡ Ok reply) × (replies.new.items ≡ replies.old.items ++ reply ∷ [])) }
+    ensures memory { IfErr result (λ e. e ≡ Fault.Memory) }
+{
+    match outcome {
+        Ok(reply) => match replies.push(reply) {
+            Ok(()) => Ok(()),
+            Err(_) => Err(Fault::Memory),
+        },
+        Err(fault) => Err(fault),
+    }
+}
+
+/// Does a command and adds its reply: the heap after it.
+///
+/// # Errors
+///
+/// `Fault::Memory`.
+fn answer_command<R: Threads + Sync, G: Gate + Sync>(
+    rt: &R,
+    alloc: Global,
+    mutator: Mutator,
+    command: &Command,
+    cost: &Cost,
+    workers: u64,
+    chunk: u64,
+    gate: &G,
+    replies: &mut Vec<Reply>,
+) -> Result<Mutator, Fault>
+    requires workers { AreWorkers workers }
+    requires chunk { IsChunk chunk }
+    requires cost { IsCost cost.now }
+    ensures tracked { IfOk result (λ m. IsTracked mutator) }
+    ensures answered { IfOk result (λ m. (reply : ReplyOf) × IsStep cost.now mutator command.now reply m × (replies.new.items ≡ replies.old.items ++ reply ∷ [])) }
+    ensures memory { IfErr result (λ e. e ≡ Fault.Memory) }
+{
+    let (next, outcome) = mutator.step(rt, alloc, command, cost, workers, chunk, gate);
+    match push_outcome(replies, outcome) {
+        Ok(()) => Ok(next),
+        Err(fault) => Err(fault),
+    }
+}
 
 /// The replies to a trace, one a command.
 ///
@@ -41,25 +104,26 @@ pub fn run_trace<R: Threads + Sync, G: Gate + Sync>(
 {
     laws::traces();
     laws::one_run();
-    let geometry = match Geometry::new(trace.w, trace.k, trace.n) {
-        Ok(geometry) => geometry,
-        Err(fault) => return Err(fault),
-    };
-    let mut mutator = match Mutator::new(alloc, geometry, trace.roots) {
+    let mut mutator = match start(alloc, trace) {
         Ok(mutator) => mutator,
         Err(fault) => return Err(fault),
     };
     let mut replies = Vec::new(alloc);
     for command in &trace.commands {
-        let (next, outcome) = mutator.step(rt, alloc, command, cost, workers, chunk, gate);
-        mutator = next;
-        let reply = match outcome {
-            Ok(reply) => reply,
+        mutator = match answer_command(
+            rt,
+            alloc,
+            mutator,
+            command,
+            cost,
+            workers,
+            chunk,
+            gate,
+            &mut replies,
+        ) {
+            Ok(next) => next,
             Err(fault) => return Err(fault),
         };
-        if replies.push(reply).is_err() {
-            return Err(Fault::Memory);
-        }
     }
     Ok(replies)
 }

@@ -1,12 +1,17 @@
-ghost use Rattle.std.specs.Prelude.{◌≡◌, ◌⊎◌, ◌++◌, List, ℕ, OnOk, IfOk, IfErr};
+ghost use Rattle.std.specs.Prelude.{◌≡◌, ◌⊎◌, ◌++◌, ◌∷◌, ◌+◌, ◌<◌, List, ℕ, length, Ok, OnOk, IfOk, IfErr};
+ghost use Rattle.g1_image.specs.Cards.{IsTracked};
 ghost use Rattle.g1_choose.specs.Cost.{IsCost};
 ghost use Rattle.g1_pause.specs.Settings.{AreWorkers, IsChunk};
+ghost use Rattle.g1_trace.specs.declared.command.Command.{Command as CommandOf};
+ghost use Rattle.g1_trace.specs.declared.command.Reply.{Reply as ReplyOf};
+ghost use Rattle.g1_trace.specs.Mutator.{IsStep};
+ghost use Rattle.g1_trace.specs.TraceText.{AllFit, command_line, numbers_of, IsBadRest};
 ghost use Rattle.g1_trace.specs.Telling.{reply_line, IsTold, IsRefusal, IsBegun, BeginsOutside};
 
 use crate::command::Reply;
 use crate::laws;
 use crate::mutator::Mutator;
-use crate::parsing::{first_line, later_line, parse_trace, split_line};
+use crate::parsing::{first_line, next_command, parse_trace, split_line};
 use g1_choose::Cost;
 use g1_words::{Fault, Geometry};
 use g1_work::Gate;
@@ -35,6 +40,25 @@ fn push_number(text: &mut Vec<u8>, value: u64) -> Result<(), AllocError>
     let mut buffer = Buffer::new();
     text.extend_from_slice(buffer.format(value).as_bytes())?;
     text.extend_from_slice(b"\n")
+}
+
+/// Adds the line of what a command came to.
+///
+/// # Errors
+///
+/// `Fault::Memory`.
+fn push_outcome(text: &mut Vec<u8>, outcome: Result<Reply, Fault>) -> Result<(), Fault>
+    requires { IfErr outcome (λ e. e ≡ Fault.Memory) }
+    ensures told { OnOk result ((reply : ReplyOf) × (outcome ≡ Ok reply) × (text.new.items ≡ text.old.items ++ reply_line reply)) }
+    ensures memory { IfErr result (λ e. e ≡ Fault.Memory) }
+{
+    match outcome {
+        Ok(reply) => match push_reply(text, reply) {
+            Ok(()) => Ok(()),
+            Err(_) => Err(Fault::Memory),
+        },
+        Err(fault) => Err(fault),
+    }
 }
 
 /// What is told of bytes whose first line has a number outside the limits: the fault of a line comes
@@ -75,6 +99,43 @@ fn begin(alloc: Global, bytes: &[u8]) -> Result<(Mutator, &[u8]), Fault>
     }
 }
 
+/// Reads the first of some later lines, does its command and adds the reply's line to the text: the
+/// heap after it, and the lines after it.
+///
+/// # Errors
+///
+/// `Fault::Line` with the line's number where it isn't of its form; `Fault::Memory`.
+fn answer_line<'a, R: Threads + Sync, G: Gate + Sync>(
+    rt: &R,
+    alloc: Global,
+    mutator: Mutator,
+    lines: &'a [u8],
+    number: u64,
+    cost: &Cost,
+    workers: u64,
+    chunk: u64,
+    gate: &G,
+    text: &mut Vec<u8>,
+) -> Result<(Mutator, &'a [u8]), Fault>
+    requires workers { AreWorkers workers }
+    requires chunk { IsChunk chunk }
+    requires cost { IsCost cost.now }
+    requires some { 0 < length lines.now }
+    ensures tracked { IfOk result (λ r. IsTracked mutator) }
+    ensures answered { IfOk result (λ r. (c : CommandOf) × (reply : ReplyOf) × (lines.now ≡ command_line c ++ 10 ∷ r.1.now) × AllFit (numbers_of c) × IsStep cost.now mutator c reply r.0 × (text.new.items ≡ text.old.items ++ reply_line reply)) }
+    ensures refused { IfErr result (λ e. (e ≡ Fault.Memory) ⊎ ((e ≡ Fault.Line number) × ((m : ℕ) → IsBadRest (m + 1) lines.now))) }
+{
+    let (command, more) = match next_command(lines, number) {
+        Ok(read) => read,
+        Err(fault) => return Err(fault),
+    };
+    let (next, outcome) = mutator.step(rt, alloc, &command, cost, workers, chunk, gate);
+    match push_outcome(text, outcome) {
+        Ok(()) => Ok((next, more)),
+        Err(fault) => Err(fault),
+    }
+}
+
 /// The replies to the trace whose text the bytes are, a line each. Each line is read, done and
 /// answered in turn, and nothing is kept of it but the reply's text.
 ///
@@ -108,23 +169,22 @@ pub fn run_text<R: Threads + Sync, G: Gate + Sync>(
     let mut text: Vec<u8> = Vec::new(alloc);
     let mut lines: u64 = 1;
     while rest.len() > 0 {
-        let (line, more) = match split_line(rest) {
-            Some(split) => split,
-            None => return Err(Fault::Line(lines + 1)),
-        };
-        let command = match later_line(line) {
-            Some(command) => command,
-            None => return Err(Fault::Line(lines + 1)),
-        };
-        let (next, outcome) = mutator.step(rt, alloc, &command, cost, workers, chunk, gate);
-        mutator = next;
-        let reply = match outcome {
-            Ok(reply) => reply,
+        let (next, more) = match answer_line(
+            rt,
+            alloc,
+            mutator,
+            rest,
+            lines + 1,
+            cost,
+            workers,
+            chunk,
+            gate,
+            &mut text,
+        ) {
+            Ok(answered) => answered,
             Err(fault) => return Err(fault),
         };
-        if push_reply(&mut text, reply).is_err() {
-            return Err(Fault::Memory);
-        }
+        mutator = next;
         lines += 1;
         rest = more;
     }

@@ -1,9 +1,12 @@
-use Rattle.std.proofs.Common.{◌≡◌, ◌+◌, Some, sym, ◌∙◌, ap, subst, arith}
+use Rattle.std.proofs.Common.{◌≡◌, ◌+◌, Some, None, inl, inr, refl, sym, ◌∙◌, ap, subst, arith}
+use Rattle.std.specs.Prelude.{IfOk}
 use Rattle.g1_words.specs.Heap.{Heap}
 use Rattle.g1_image.specs.Image.{Image}
-use Rattle.g1_trace.specs.Commands.{SetRoot, SetSlot}
-use Rattle.g1_trace.specs.Mutator.{heap_view, place_for}
-use Rattle.g1_trace.specs.Views.{EffectFits}
+use Rattle.g1_trace.specs.declared.command.Reply.{Reply}
+use Rattle.g1_trace.specs.declared.command.Reply.TheVariants.{Ok as Done, Full}
+use Rattle.g1_trace.specs.Commands.{Effect, SetRoot, SetSlot, MakePause}
+use Rattle.g1_trace.specs.Mutator.{heap_view, place_for, IsEffect}
+use Rattle.g1_trace.specs.Views.{EffectFits, ForPause}
 use Rattle.g1_trace.proofs.Carrying.{slot_inside, slot_small, slot_kept}
 use Rattle.g1_trace.proofs.KeptTracked.{root_tracked}
 use Rattle.g1_trace.proofs.NewKept.{new_tracked}
@@ -48,3 +51,62 @@ place_object-requires-clause-kept g c =
     let found : place_for c.args.tracked.heap (1 + c.in-MakeNew.refs + c.in-MakeNew.words) ≡ Some c.in-Some.r =
     sym (c.place_for-place.ensures ∙ ap (λ (h : Heap). place_for h (1 + c.in-MakeNew.refs + c.in-MakeNew.words)) (c.heap.ensures.same ∙ ap (λ (i : Image). i.heap) c.image.ensures.same)) ∙ c.in-Some.is in
     new_tracked c.args.tracked c.requires.before c.in-MakeNew.root c.in-MakeNew.refs c.in-MakeNew.words c.in-Some.r found
+
+pub overflow_add-object : goal.overflow_add-object
+overflow_add-object g c =
+    let i : Image = c.args.tracked in
+    let fits : EffectFits (heap_view i.heap) (SetSlot c.in-SetSlot.object c.in-SetSlot.slot c.in-SetSlot.value) = subst (EffectFits (heap_view i.heap)) c.in-SetSlot.is c.requires.fits in
+    let small = slot_small i c.requires.before c.in-SetSlot.object c.in-SetSlot.slot c.in-SetSlot.value fits in
+    omega (arith, small)
+
+pub set_root-requires-clause-root : goal.set_root-requires-clause-root
+set_root-requires-clause-root g c =
+    let i : Image = c.args.tracked in
+    let fits : EffectFits (heap_view i.heap) (SetRoot c.in-SetRoot.root c.in-SetRoot.value) = subst (EffectFits (heap_view i.heap)) c.in-SetRoot.is c.requires.fits in
+    fits.0
+
+pub place_object-requires-clause-place : goal.place_object-requires-clause-place
+place_object-requires-clause-place g c =
+    sym (c.place_for-place.ensures ∙ ap (λ (h : Heap). place_for h (1 + c.in-MakeNew.refs + c.in-MakeNew.words)) (c.heap.ensures.same ∙ ap (λ (i : Image). i.heap) c.image.ensures.same)) ∙ c.in-Some.is
+
+pub place_object-requires-clause-root : goal.place_object-requires-clause-root
+place_object-requires-clause-root g c = subst (EffectFits (heap_view c.args.tracked.heap)) c.in-MakeNew.is c.requires.fits
+
+pub returns-in-Nothing-clause-done : goal.returns-in-Nothing-clause-done
+returns-in-Nothing-clause-done g c =
+    let i : Image = c.args.tracked in
+    subst (λ (e : Effect). IsEffect c.args.cost.now i e c.args.told.reply c.args.told.reply i) (sym c.in-Nothing.is) (refl, refl)
+
+pub returns-in-SetRoot-clause-done : goal.returns-in-SetRoot-clause-done
+returns-in-SetRoot-clause-done g c =
+    subst (λ (e : Effect). IsEffect c.args.cost.now c.args.tracked e c.args.told.reply c.args.told.reply c.set_root.result) (sym c.in-SetRoot.is) (refl, c.set_root.ensures)
+
+pub returns-in-Ok-clause-done : goal.returns-in-Ok-clause-done
+returns-in-Ok-clause-done g c =
+    subst (λ (e : Effect). IsEffect c.args.cost.now c.args.tracked e c.args.told.reply c.args.told.reply c.in-Ok.tracked) (sym c.in-SetSlot.is) (refl, c.in-Ok.ensures.ok)
+
+pub returns-in-SetValue-clause-done : goal.returns-in-SetValue-clause-done
+returns-in-SetValue-clause-done g c =
+    subst (λ (e : Effect). IsEffect c.args.cost.now c.args.tracked e c.args.told.reply c.args.told.reply c.set_data.result) (sym c.in-SetValue.is) (refl, c.set_data.ensures)
+
+pub returns-in-None-clause-done : goal.returns-in-None-clause-done
+returns-in-None-clause-done g c =
+    let i : Image = c.args.tracked in
+    let found : place_for i.heap (1 + c.in-MakeNew.refs + c.in-MakeNew.words) ≡ None =
+    sym (c.place_for-place.ensures ∙ ap (λ (h : Heap). place_for h (1 + c.in-MakeNew.refs + c.in-MakeNew.words)) (c.heap.ensures.same ∙ ap (λ (x : Image). x.heap) c.image.ensures.same)) ∙ c.in-None.is in
+    subst (λ (e : Effect). IsEffect c.args.cost.now i e c.args.told.reply Full i) (sym c.in-MakeNew.is) (inl (found, refl, refl))
+
+pub returns-in-Some-clause-done : goal.returns-in-Some-clause-done
+returns-in-Some-clause-done g c =
+    let i : Image = c.args.tracked in
+    let found : place_for i.heap (1 + c.in-MakeNew.refs + c.in-MakeNew.words) ≡ Some c.in-Some.r =
+    sym (c.place_for-place.ensures ∙ ap (λ (h : Heap). place_for h (1 + c.in-MakeNew.refs + c.in-MakeNew.words)) (c.heap.ensures.same ∙ ap (λ (x : Image). x.heap) c.image.ensures.same)) ∙ c.in-Some.is in
+    subst (λ (e : Effect). IsEffect c.args.cost.now i e c.args.told.reply c.args.told.reply c.place_object.result) (sym c.in-MakeNew.is) (inr (c.in-Some.r, found, refl, c.place_object.ensures))
+
+pub returns-in-MakePause-clause-done : goal.returns-in-MakePause-clause-done
+returns-in-MakePause-clause-done g c =
+    let i : Image = c.args.tracked in
+    let effect : Effect = MakePause c.in-MakePause.budget in
+    let paused : c.args.told.reply ≡ Done = subst (λ (e : Effect). ForPause e (c.args.told.reply ≡ Done)) c.in-MakePause.is c.requires.paused in
+    subst (λ (e : Effect). IfOk c.pause.result.1 (λ r. IsEffect c.args.cost.now i e c.args.told.reply r c.pause.result.0)) (sym c.in-MakePause.is)
+    (subst (λ (p : Reply). IfOk c.pause.result.1 (λ r. IsEffect c.args.cost.now i effect p r c.pause.result.0)) (sym paused) c.pause.ensures.done)

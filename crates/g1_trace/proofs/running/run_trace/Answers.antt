@@ -1,11 +1,9 @@
-use Rattle.std.proofs.Common.{◌≡◌, ℕ, ◌<◌, List, [], ◌∷◌, ◌++◌, length, get_or, not, cond, sym, ◌∙◌, ap, subst, arith}
-use Rattle.std.specs.Prelude.{IfOk}
-use Rattle.g1_words.specs.Geometry.{Geometry}
+use Rattle.std.proofs.Common.{◌≡◌, ℕ, ◌<◌, List, ◌++◌, length, get_or, inl, sym, subst, arith}
 use Rattle.g1_image.specs.Image.{Image}
 use Rattle.g1_trace.specs.declared.command.Command.{Command}
 use Rattle.g1_trace.specs.declared.command.Command.TheVariants.{New}
 use Rattle.g1_trace.specs.declared.command.Reply.{Reply}
-use Rattle.g1_trace.specs.Store.{Store, IsPlainStep}
+use Rattle.g1_trace.specs.Store.{IsPlainStep}
 use Rattle.g1_trace.specs.Mutator.{IsStep}
 use Rattle.g1_trace.specs.Views.{Shows}
 use Rattle.g1_trace.specs.Run.{Replies, IsRun, empty_image, empty_store}
@@ -17,8 +15,7 @@ pub loop-command-init : goal.loop-command-init
 loop-command-init g c =
     let roots : ℕ = c.args.trace.now.roots in
     let all : List Command = c.deref-command-items.result.now in
-    let geometry : c.in-Ok.geometry ≡ sizes c.args.trace.now = (λ t. record { w = c.in-Ok.ensures.ok.0 t; k = c.in-Ok.ensures.ok.1 t; n = c.in-Ok.ensures.ok.2 t }) in
-    let made : c.in-Ok-new.mutator ≡ empty_image (sizes c.args.trace.now) roots = c.in-Ok-new.ensures.ok.0 ∙ ap (λ (x : Geometry). empty_image x roots) geometry in
+    let made : c.in-Ok.mutator ≡ empty_image (sizes c.args.trace.now) roots = c.in-Ok.ensures.ok in
     record {
       heap = subst (λ (i : Image). (rs : List Reply) → Replies (IsStep c.args.cost.now) i all rs → Replies (IsStep c.args.cost.now) (empty_image (sizes c.args.trace.now) roots) all (c.new-replies.result.items ++ rs)) (sym made)
           (leads_start (IsStep c.args.cost.now) (empty_image (sizes c.args.trace.now) roots) all c.new-replies.result.items c.new-replies.ensures.items);
@@ -36,18 +33,14 @@ loop-command-preserved g c =
     let i : Image = c.loop-command.mutator in
     let k : ℕ = c.loop-command.command-index in
     let d : Command = New 0 0 0 in
-    let here : Command = get_or all k d in
-    let next : Image = c.step-next.result.0 in
-    let replied : IsStep c.args.cost.now i here c.in-Ok-outcome.reply next = subst (λ x. IfOk x (λ r. IsStep c.args.cost.now i here r next)) c.in-Ok-outcome.is c.step-next.ensures.replied in
-    let shows : (s : Store) → Shows s i.heap → (t : Store) × IsPlainStep s here c.in-Ok-outcome.reply t × Shows t next.heap =
-    subst (λ x. IfOk x (λ r. (s : Store) → Shows s i.heap → (t : Store) × IsPlainStep s here r t × Shows t next.heap)) c.in-Ok-outcome.is c.step-next.ensures.shows in
-    let pushed = c.is_err.ensures.negation ∙ ap not c.if-is_err.false in
-    let items : c.push.new.self.items ≡ c.loop-command.replies.items ++ c.in-Ok-outcome.reply ∷ [] = c.push.ensures.items ∙ ap (λ b. cond b (c.loop-command.replies.items ++ c.in-Ok-outcome.reply ∷ []) c.loop-command.replies.items) pushed in
+    let next : Image = c.in-Ok-answer_command.next in
+    let answered = c.in-Ok-answer_command.ensures.answered in
+    let longer : List Reply = c.answer_command.new.replies.items in
     let lt : k < length all = omega (arith, c.loop-command-test.true) in
-    let plain = shows inv.plain.0 inv.plain.1 in
+    let plain = c.traces.ensures.step c.args.cost.now inv.plain.0 i (get_or all k d) answered.0 next c.in-Ok-answer_command.ensures.tracked inv.plain.1 answered.1 in
     record {
-      heap = leads_on (IsStep c.args.cost.now) (empty_image (sizes c.args.trace.now) c.args.trace.now.roots) all c.loop-command.replies.items i next k d c.in-Ok-outcome.reply c.push.new.self.items lt inv.heap replied items;
-      plain = (plain.0, plain.2, leads_on IsPlainStep (empty_store c.args.trace.now.roots) all c.loop-command.replies.items inv.plain.0 plain.0 k d c.in-Ok-outcome.reply c.push.new.self.items lt inv.plain.2 plain.1 items);
+      heap = leads_on (IsStep c.args.cost.now) (empty_image (sizes c.args.trace.now) c.args.trace.now.roots) all c.loop-command.replies.items i next k d answered.0 longer lt inv.heap answered.1 answered.2;
+      plain = (plain.0, plain.2, leads_on IsPlainStep (empty_store c.args.trace.now.roots) all c.loop-command.replies.items inv.plain.0 plain.0 k d answered.0 longer lt inv.plain.2 plain.1 answered.2);
     }
 
 pub returns-clause-run : goal.returns-clause-run
@@ -67,3 +60,12 @@ returns-clause-only g c = λ told run. c.one_run.ensures.run c.args.cost.now (si
 
 pub loop-command-smaller : goal.loop-command-smaller
 loop-command-smaller g c = omega (arith, c.loop-command-test.true)
+
+pub returns-clause-limits : goal.returns-clause-limits
+returns-clause-limits g c = c.in-Ok.ensures.limits
+
+pub returns-in-Err-clause-refused : goal.returns-in-Err-clause-refused
+returns-in-Err-clause-refused g c = c.in-Err.ensures.refused
+
+pub returns-in-Err-answer_command-clause-refused : goal.returns-in-Err-answer_command-clause-refused
+returns-in-Err-answer_command-clause-refused g c = inl c.in-Err-answer_command.ensures.memory
