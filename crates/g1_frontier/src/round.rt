@@ -190,43 +190,41 @@ fn still_there(
     Ok(kept)
 }
 
-// One round of claims, in a scope that was made before.
+// One round of claims, in a scope that was made before: the whole seat after, and what won.
 pub(crate) fn round_in<R: Threads + Sync, G: Gate + Sync>(
     rt: &R,
     alloc: Global,
     scope: &Scope,
-    claims: Claims,
+    claims: &Claims,
     seat: ClaimSeat,
     items: &[Item],
     team: Team,
     gate: &G,
-) -> Result<(Claims, ClaimSeat, Vec<(u64, u64)>), Fault>
+) -> Result<(ClaimSeat, Vec<(u64, u64)>), Fault>
     requires scope { IsScope scope.now }
     requires items { All (IsItem scope.now.heap.now) items.now }
     requires few { length items.now < 2 ^ 32 }
-    requires table { IsSeatOf claims seat }
+    requires table { IsSeatOf claims.now seat }
     requires whole { seat.hand.shares ≡ 64 }
-    requires places { length scope.now.window.now * scope.now.heap.now.geometry.w ≤ claims.places }
+    requires places { length scope.now.window.now * scope.now.heap.now.geometry.w ≤ claims.now.places }
     requires rise { Rises (all_pairs_in scope.now items.now) }
     requires ranks { AreRanks (all_pairs_in scope.now items.now) }
     requires above { AreAbove seat.hand.offers (all_pairs_in scope.now items.now) }
-    ensures claims { IfOk result (λ r. r.0 ≡ claims) }
-    ensures table { IfOk result (λ r. IsSeatOf claims r.1) }
-    ensures whole { IfOk result (λ r. r.1.hand.shares ≡ 64) }
-    ensures offers { IfOk result (λ r. AddsOffers (place_in scope.now) (all_pairs_in scope.now items.now) seat.hand.offers r.1.hand.offers) }
-    ensures won { IfOk result (λ r. r.2.items ≡ winners (place_in scope.now) r.1.hand.offers (all_pairs_in scope.now items.now)) }
-    ensures settled { IfOk result (λ r. IsSettled r.1.hand.offers) }
+    ensures table { IfOk result (λ r. IsSeatOf claims.now r.0) }
+    ensures whole { IfOk result (λ r. r.0.hand.shares ≡ 64) }
+    ensures offers { IfOk result (λ r. AddsOffers (place_in scope.now) (all_pairs_in scope.now items.now) seat.hand.offers r.0.hand.offers) }
+    ensures won { IfOk result (λ r. r.1.items ≡ winners (place_in scope.now) r.0.hand.offers (all_pairs_in scope.now items.now)) }
+    ensures settled { IfOk result (λ r. IsSettled r.0.hand.offers) }
     ensures memory { IfErr result (λ e. e ≡ Memory) }
 {
     if team.workers() == 1 || items.len() as u64 <= team.chunk() {
         // A worker alone offers by rising rank, so what it kept is least.
-        let (seat, won) = offer_alone(alloc, scope, &claims, seat, items)?;
-        return Ok((claims, seat, won));
+        return Ok(offer_alone(alloc, scope, claims, seat, items)?);
     }
-    let (mut seat, lists) = offer_all(rt, alloc, scope, &claims, seat, items, team, gate)?;
+    let (mut seat, lists) = offer_all(rt, alloc, scope, claims, seat, items, team, gate)?;
     let kept = merged(alloc, lists)?;
-    let won = still_there(alloc, scope, &claims, &mut seat, kept.as_slice())?;
-    Ok((claims, seat, won))
+    let won = still_there(alloc, scope, claims, &mut seat, kept.as_slice())?;
+    Ok((seat, won))
 }
 
 /// One round of claims: offers what the items name in the window, and answers what won.
@@ -284,5 +282,6 @@ pub fn claim_round<R: Threads + Sync, G: Gate + Sync>(
         positions: positions.as_slice(),
     };
     let team = Team::new(workers, chunk);
-    round_in(rt, alloc, &scope, claims, seat, items, team, gate)
+    let (seat, won) = round_in(rt, alloc, &scope, &claims, seat, items, team, gate)?;
+    Ok((claims, seat, won))
 }

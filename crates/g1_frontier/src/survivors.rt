@@ -119,7 +119,7 @@ pub(crate) fn first_round<R: Threads + Sync, G: Gate + Sync>(
     let first = first_items(alloc, roots, cards)?;
     let items = first.as_slice();
     let hired = hired(team, items.len(), 0);
-    let (claims, seat, won) = round_in(rt, alloc, scope, claims, seat, items, hired, gate)?;
+    let (seat, won) = round_in(rt, alloc, scope, &claims, seat, items, hired, gate)?;
     let mut found = Vec::new(alloc);
     push_addresses(&mut found, won.as_slice())?;
     Ok(Search {
@@ -155,7 +155,7 @@ pub(crate) fn next_round<R: Threads + Sync, G: Gate + Sync>(
     } = search;
     let (items, next) = object_items(alloc, scope.heap, &found[from..], next)?;
     let items = items.as_slice();
-    let (claims, seat, won) = round_in(rt, alloc, scope, claims, seat, items, team, gate)?;
+    let (seat, won) = round_in(rt, alloc, scope, &claims, seat, items, team, gate)?;
     let from = found.len();
     push_addresses(&mut found, won.as_slice())?;
     Ok(Search {

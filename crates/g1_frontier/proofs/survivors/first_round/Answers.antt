@@ -1,7 +1,6 @@
 use Rattle.std.proofs.Common.{arith, refl, ap, sym, subst, ◌≡◌, ◌+◌, ◌<◌, ◌^◌, ◌∙◌, ◌++◌, ℕ, List, [], length, map, All}
 use Rattle.g1_claim.specs.declared.rule.Offer.{Offer}
 use Rattle.g1_claim.specs.declared.rule.Hand.{Hand}
-use Rattle.g1_claim.specs.Claims.{TableView}
 use Rattle.g1_frontier.specs.Window.{place}
 use Rattle.g1_frontier.specs.Items.{IsItem, AreRanks, all_pairs, first_items}
 use Rattle.g1_frontier.specs.Round.{Rises, AddsOffers, winners}
@@ -41,13 +40,13 @@ returns-clause-ok g c =
     let window : List ℕ = c.args.scope.now.window.now in
     let listed : c.as_slice-items.result.now ≡ first_items (length h.roots) c.args.cards.now = c.as_slice-items.ensures.value ∙ c.in_ok-first.ensures ∙ ap (λ (l : List ℕ). first_items (length l) c.args.cards.now) c.roots.ensures in
     let none : c.in_ok-claims.seat.hand.offers ≡ [] = ap (λ (v : Hand). v.offers) c.in_ok-claims.ensures.hand in
-    let r = c.in_ok-claims-2.ensures in
+    let r = c.in_ok-seat.ensures in
     first_search h c.requires.scope.valid window c.args.cards.now c.requires.scope.regions c.requires.cards c.requires.outside c.requires.lead_in
-    (record { claims = c.in_ok-claims-2.claims; seat = c.in_ok-claims-2.seat; found = c.push_addresses.new.found; from = 0; next = length c.roots.result.now + length c.words.result.now })
-    (r.table ∙ sym (ap (λ (t : TableView). t.id) r.claims))
+    (record { claims = c.in_ok-claims.claims; seat = c.in_ok-seat.seat; found = c.push_addresses.new.found; from = 0; next = length c.roots.result.now + length c.words.result.now })
+    r.table
     r.whole
-    (ap (λ (t : TableView). t.places) r.claims ∙ c.in_ok-claims.ensures.places ∙ c.places.ensures)
-    (subst (λ l. AddsOffers (place h window) (all_pairs h window l) [] c.in_ok-claims-2.seat.hand.offers) listed (subst (λ (os : List Offer). AddsOffers (place h window) (all_pairs h window c.as_slice-items.result.now) os c.in_ok-claims-2.seat.hand.offers) none r.offers))
-    (c.in_ok-push_addresses.ensures ∙ (λ i. c.new-found.ensures.items i ++ map (λ (q : ℕ × ℕ). q.1) ((c.as_slice.ensures.value ∙ r.won ∙ ap (λ l. winners (place h window) c.in_ok-claims-2.seat.hand.offers (all_pairs h window l)) listed) i)))
+    (c.in_ok-claims.ensures.places ∙ c.places.ensures)
+    (subst (λ l. AddsOffers (place h window) (all_pairs h window l) [] c.in_ok-seat.seat.hand.offers) listed (subst (λ (os : List Offer). AddsOffers (place h window) (all_pairs h window c.as_slice-items.result.now) os c.in_ok-seat.seat.hand.offers) none r.offers))
+    (c.in_ok-push_addresses.ensures ∙ (λ i. c.new-found.ensures.items i ++ map (λ (q : ℕ × ℕ). q.1) ((c.as_slice.ensures.value ∙ r.won ∙ ap (λ l. winners (place h window) c.in_ok-seat.seat.hand.offers (all_pairs h window l)) listed) i)))
     refl
     (λ i. length (c.roots.ensures i) + length (c.words.ensures i))
