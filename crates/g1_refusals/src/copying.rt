@@ -19,7 +19,7 @@ use g1_pause::{Choice, Settings};
 use g1_rem::{Starts, Tracked, cards_into, image, refine, slots_on};
 use g1_words::{Fault, Heap};
 use g1_work::Open;
-use std::alloc::{AllocError, Global};
+use std::alloc::Global;
 use std::thread::Threads;
 
 /// The pause that collects the regions named; none where a budget stands in their place.
@@ -45,9 +45,10 @@ fn committed<R: Threads + Sync>(
     watch: &mut Watch,
 ) -> Result<(), Fault> {
     let prepared = collected(rt, alloc, settings, &tracked, list, watch)?;
-    watch.at("commit")?;
+    watch.at("commit");
     let after = commit(rt, settings.workers(), tracked, prepared, &Open);
-    watch.image(image(&after))
+    watch.image(image(&after));
+    Ok(())
 }
 
 /// What the pause that collects the regions named writes.
@@ -61,10 +62,10 @@ fn collected<R: Threads + Sync>(
 ) -> Result<Prepared, Fault>
     ensures { IfOk result (λ p. (s : List ℕ) × (l : List ℕ) × IsMadeFor p tracked.now s l) }
 {
-    watch.at("given")?;
+    watch.at("given");
     let chosen = given(alloc, image(tracked).heap(), list)?;
     let set = chosen.as_slice();
-    watch.regions(set)?;
+    watch.regions(set);
     prepared(rt, alloc, settings, tracked, set, watch)
 }
 
@@ -130,14 +131,14 @@ fn made<R: Threads + Sync>(
     ensures { IfOk result (λ p. (s : List ℕ) × (l : List ℕ) × IsMadeFor p tracked.now s l) }
 {
     if watch.is_of(&["prepare_on"]) {
-        watch.at("prepare_on")?;
+        watch.at("prepare_on");
         let prepared = prepare_on(rt, alloc, tracked, starts, remembered, set, plan, cards, 1)?;
-        watch.done()?;
+        watch.done();
         return Ok(prepared);
     }
-    watch.at("prepare")?;
+    watch.at("prepare");
     let prepared = prepare(rt, alloc, tracked, starts, remembered, set, plan)?;
-    watch.done()?;
+    watch.done();
     Ok(prepared)
 }
 
@@ -153,14 +154,14 @@ fn tables<R: Threads + Sync>(
     ensures remembered { IfOk result (λ r. map (λ s. s.items) r.1.items ≡ map (refined tracked.now) (regions tracked.now.heap)) }
 {
     let heap = image(tracked).heap();
-    watch.at("starts")?;
+    watch.at("starts");
     let starts = Starts::build(alloc, heap)?;
-    watch.done()?;
-    slots(alloc, heap, &starts, watch)?;
+    watch.done();
+    slots(alloc, heap, &starts, watch);
     round(rt, alloc, settings, heap, &starts, watch)?;
-    watch.at("refine")?;
+    watch.at("refine");
     let remembered = refine(rt, alloc, tracked, &starts)?;
-    watch.lists(remembered.as_slice())?;
+    watch.lists(remembered.as_slice());
     Ok((starts, remembered))
 }
 
@@ -184,15 +185,15 @@ fn found<R: Threads + Sync>(
 {
     let heap = image(tracked).heap();
     let (workers, chunk) = (settings.workers(), settings.chunk());
-    watch.at("cards_into")?;
+    watch.at("cards_into");
     let into = cards_into(alloc, heap, remembered, set)?;
-    watch.regions(into.as_slice())?;
+    watch.regions(into.as_slice());
     g1_copy::laws::cards_lead_in();
     g1_frontier::laws::refined_lead_in();
     let cards = into.as_slice();
-    watch.at("discover")?;
+    watch.at("discover");
     let survivors = discover(rt, alloc, heap, starts, set, cards, workers, chunk, &Open)?;
-    watch.numbers(survivors.as_slice())?;
+    watch.numbers(survivors.as_slice());
     Ok((into, survivors))
 }
 
@@ -211,10 +212,10 @@ fn placed(
 {
     let heap = image(tracked).heap();
     g1_layout::laws::placeable();
-    watch.at("place")?;
+    watch.at("place");
     let plan = place(alloc, heap, set, survivors)?;
-    watch.numbers(plan.places())?;
-    forwarded(&plan, watch)?;
+    watch.numbers(plan.places());
+    forwarded(&plan, watch);
     Ok(plan)
 }
 
@@ -240,16 +241,16 @@ fn written<R: Threads + Sync>(
     let heap = image(tracked).heap();
     g1_copy::laws::cards_lead_in();
     g1_copy::laws::all_patches();
-    watch.at("patches")?;
+    watch.at("patches");
     let patches = patches(rt, alloc, heap, starts, plan, cards)?;
-    watch.pairs(patches.as_slice())?;
-    watch.at("gather")?;
+    watch.pairs(patches.as_slice());
+    watch.at("gather");
     let gathered = gather(rt, alloc, heap, plan)?;
-    watch.numbers(gathered.as_slice())?;
+    watch.numbers(gathered.as_slice());
     let (slots, words) = (patches.as_slice(), gathered.as_slice());
-    watch.at("new_rem")?;
+    watch.at("new_rem");
     let lists = new_rem(rt, alloc, tracked, remembered, set, plan, slots, words)?;
-    watch.lists(lists.as_slice())?;
+    watch.lists(lists.as_slice());
     Ok(())
 }
 
@@ -266,7 +267,7 @@ fn round<R: Threads + Sync>(
 {
     let (workers, chunk) = (settings.workers(), settings.chunk());
     let (claims, seat) = Claims::new(alloc, 0)?;
-    watch.at("claim_round")?;
+    watch.at("claim_round");
     let (claims, seat, won) = claim_round(
         rt,
         alloc,
@@ -280,29 +281,27 @@ fn round<R: Threads + Sync>(
         chunk,
         &Open,
     )?;
-    watch.pairs(won.as_slice())?;
+    watch.pairs(won.as_slice());
     claims.close(seat);
     Ok(())
 }
 
 /// The slots on each card.
-fn slots(alloc: Global, heap: &Heap, starts: &Starts, watch: &mut Watch) -> Result<(), AllocError>
+fn slots(alloc: Global, heap: &Heap, starts: &Starts, watch: &mut Watch)
     requires { IsStartsOf heap.now starts.now }
 {
     for card in 0..heap.geometry().cards() as u32 {
-        watch.at("slots_on")?;
+        watch.at("slots_on");
         let slots = slots_on(alloc, heap, starts, card);
-        watch.numbers(slots.as_slice())?;
+        watch.numbers(slots.as_slice());
     }
-    Ok(())
 }
 
 /// Where some addresses are after the pause.
-fn forwarded(plan: &Plan, watch: &mut Watch) -> Result<(), AllocError> {
+fn forwarded(plan: &Plan, watch: &mut Watch) {
     for address in [0, 16, 21, 63] {
-        watch.at("forward")?;
+        watch.at("forward");
         let place = plan.forward(address);
-        watch.numbers(&[place])?;
+        watch.numbers(&[place]);
     }
-    Ok(())
 }

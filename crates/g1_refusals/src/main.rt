@@ -118,7 +118,7 @@ fn steps<R: Threads + Sync>(
     watch: &mut Watch,
 ) -> Result<(), Fault> {
     sharing::run(rt, alloc, settings, watch)?;
-    filling::run(rt, settings, watch)?;
+    filling::run(rt, settings, watch);
     let tracked = reading::run(rt, alloc, bytes, watch)?;
     pricing::run(rt, alloc, settings, &tracked, watch)?;
     copying::run(rt, alloc, settings, tracked, watch)

@@ -28,9 +28,10 @@ pub fn run<R: Threads + Sync>(
     } else if watch.is_of(&["pause_run"]) {
         streamed(rt, alloc, settings, bytes, watch)
     } else {
-        watch.at("pause_bytes")?;
+        watch.at("pause_bytes");
         let text = pause_bytes(rt, alloc, bytes, settings, &Open)?;
-        Ok(watch.bytes(text.as_slice())?)
+        watch.bytes(text.as_slice());
+        Ok(())
     }
 }
 
@@ -42,9 +43,10 @@ fn streamed<R: Threads + Sync>(
     watch: &mut Watch,
 ) -> Result<(), Fault> {
     let room = Vec::with_capacity(alloc, ROOM)?;
-    watch.at("pause_run")?;
+    watch.at("pause_run");
     let text = sent(rt, alloc, settings, bytes, room)?;
-    Ok(watch.bytes(text.as_slice())?)
+    watch.bytes(text.as_slice());
+    Ok(())
 }
 
 /// The room with the image after the pause, which a sink wrote there. What `pause_run` promises is not
@@ -71,17 +73,25 @@ fn evacuated<R: Threads + Sync>(
     watch: &mut Watch,
 ) -> Result<(), Fault> {
     let tracked = tracked(rt, alloc, bytes)?;
-    watch.at("evacuate")?;
-    match answer(rt, alloc, settings, tracked) {
-        Ok((after, _)) => watch.image(image(&after)),
-        Err((back, fault)) => refused(image(&back), fault, watch),
-    }
+    watch.at("evacuate");
+    answered(answer(rt, alloc, settings, tracked), watch)
 }
 
-/// `evacuate` handed this image back.
-fn refused(back: &Image, fault: Fault, watch: &mut Watch) -> Result<(), Fault> {
-    watch.refused(&fault, back)?;
-    Err(fault)
+/// `evacuate` answered this.
+fn answered(
+    answer: Result<(Tracked, Report), (Tracked, Fault)>,
+    watch: &mut Watch,
+) -> Result<(), Fault> {
+    match answer {
+        Ok((after, _)) => {
+            watch.image(image(&after));
+            Ok(())
+        }
+        Err((back, fault)) => {
+            watch.refused(&fault, image(&back));
+            Err(fault)
+        }
+    }
 }
 
 /// What `evacuate` promises is not needed here.

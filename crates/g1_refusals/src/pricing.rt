@@ -20,7 +20,7 @@ pub fn run<R: Threads + Sync>(
     tracked: &Tracked,
     watch: &mut Watch,
 ) -> Result<(), Fault> {
-    prices(watch)?;
+    prices(watch);
     match settings.choice() {
         Choice::Budget(budget) => valued(rt, alloc, settings, tracked, *budget, watch),
         Choice::Given(_) => Ok(()),
@@ -28,13 +28,13 @@ pub fn run<R: Threads + Sync>(
 }
 
 /// The cost of a region with two cards and 30 live bytes, and of a pause of two regions.
-fn prices(watch: &mut Watch) -> Result<(), AllocError> {
-    watch.at("cost")?;
+fn prices(watch: &mut Watch) {
+    watch.at("cost");
     let price = cost(&COST, 2, 30);
-    watch.numbers(&[price as u64])?;
-    watch.at("total")?;
+    watch.numbers(&[price as u64]);
+    watch.at("total");
     let price = total(&COST, 3, &[16, 9]);
-    watch.numbers(&[price as u64])
+    watch.numbers(&[price as u64]);
 }
 
 /// The live bytes, and what the budget buys by them.
@@ -50,9 +50,9 @@ fn valued<R: Threads + Sync>(
     let starts = Starts::build(alloc, heap)?;
     let remembered = refine(rt, alloc, tracked, &starts)?;
     let (workers, chunk) = (settings.workers(), settings.chunk());
-    watch.at("live_bytes")?;
+    watch.at("live_bytes");
     let live = live_bytes(rt, alloc, heap, &starts, workers, chunk, &Open)?;
-    watch.numbers(live.as_slice())?;
+    watch.numbers(live.as_slice());
     let dirty = image(tracked).log().len() as u64;
     g1_choose::laws::live_within_used();
     bought(alloc, heap, dirty, &remembered, &live, budget, watch)
@@ -71,12 +71,13 @@ fn bought(
     requires remembered { length remembered.now ≡ heap.now.geometry.n }
     requires live { MayBeLive heap.now live.now }
 {
-    watch.at("order")?;
+    watch.at("order");
     let order = order(alloc, heap, remembered, live, &COST)?;
     tell(alloc, &order, watch)?;
-    watch.at("choose")?;
+    watch.at("choose");
     let set = choose(alloc, heap, dirty, remembered, live, &COST, budget)?;
-    Ok(watch.regions(set.as_slice())?)
+    watch.regions(set.as_slice());
+    Ok(())
 }
 
 /// The call answered the regions of these candidates.
@@ -85,5 +86,6 @@ fn tell(alloc: Global, order: &[Candidate], watch: &mut Watch) -> Result<(), All
     for candidate in order {
         regions.push(candidate.region)?;
     }
-    watch.regions(regions.as_slice())
+    watch.regions(regions.as_slice());
+    Ok(())
 }

@@ -23,9 +23,9 @@ pub fn run<R: Threads + Sync>(
 
 /// The image of the bytes.
 fn decoded(alloc: Global, bytes: &[u8], watch: &mut Watch) -> Result<Image, Fault> {
-    watch.at("decode")?;
+    watch.at("decode");
     let read = decode(alloc, bytes)?;
-    watch.image(&read)?;
+    watch.image(&read);
     Ok(read)
 }
 
@@ -43,30 +43,25 @@ fn covered<R: Threads + Sync>(
     read: Image,
     watch: &mut Watch,
 ) -> Result<Tracked, Fault> {
-    watch.at("verify")?;
+    watch.at("verify");
     match verified(rt, alloc, read) {
-        Ok(tracked) => accepted(tracked, watch),
-        Err((back, fault)) => refused(&back, fault, watch),
+        Ok(tracked) => {
+            watch.image(image(&tracked));
+            Ok(tracked)
+        }
+        Err((back, fault)) => {
+            watch.refused(&fault, &back);
+            Err(fault)
+        }
     }
-}
-
-/// `verify` answered this image.
-fn accepted(tracked: Tracked, watch: &mut Watch) -> Result<Tracked, Fault> {
-    watch.image(image(&tracked))?;
-    Ok(tracked)
-}
-
-/// `verify` handed this image back.
-fn refused(back: &Image, fault: Fault, watch: &mut Watch) -> Result<Tracked, Fault> {
-    watch.refused(&fault, back)?;
-    Err(fault)
 }
 
 /// The image of the bytes, straight from a reader of them.
 pub fn streamed(alloc: Global, bytes: &[u8], watch: &mut Watch) -> Result<(), Fault> {
-    watch.at("read")?;
+    watch.at("read");
     let read = received(alloc, bytes)?;
-    watch.image(&read)
+    watch.image(&read);
+    Ok(())
 }
 
 /// What `read` promises is not needed here.
@@ -101,22 +96,25 @@ fn written(alloc: Global, read: &Image, watch: &mut Watch) -> Result<(), Fault> 
 }
 
 fn encoded(alloc: Global, read: &Image, watch: &mut Watch) -> Result<(), Fault> {
-    watch.at("encode")?;
+    watch.at("encode");
     let text = text_of(alloc, read)?;
-    Ok(watch.bytes(text.as_slice())?)
+    watch.bytes(text.as_slice());
+    Ok(())
 }
 
 fn encoded_into(alloc: Global, read: &Image, watch: &mut Watch) -> Result<(), Fault> {
-    watch.at("encode_into")?;
+    watch.at("encode_into");
     let text = written_into(Vec::new(alloc), read)?;
-    Ok(watch.bytes(text.as_slice())?)
+    watch.bytes(text.as_slice());
+    Ok(())
 }
 
 fn sunk(alloc: Global, read: &Image, watch: &mut Watch) -> Result<(), Fault> {
     let room = Vec::with_capacity(alloc, ROOM)?;
-    watch.at("write")?;
+    watch.at("write");
     let text = sent(alloc, read, room)?;
-    Ok(watch.bytes(text.as_slice())?)
+    watch.bytes(text.as_slice());
+    Ok(())
 }
 
 /// The room with the image's bytes, which a sink wrote there. What `write` promises is not needed here.
@@ -137,16 +135,17 @@ fn written_into(list: Vec<u8>, read: &Image) -> Result<Vec<u8>, Fault> {
 /// The starts of the objects of each region.
 fn objects(alloc: Global, heap: &Heap, watch: &mut Watch) -> Result<(), Fault> {
     for region in 0..heap.geometry().regions() as u32 {
-        watch.at("objects_in")?;
+        watch.at("objects_in");
         let starts = objects_in(alloc, heap, region)?;
-        watch.numbers(starts.as_slice())?;
+        watch.numbers(starts.as_slice());
     }
     Ok(())
 }
 
 /// Two rising lists of cards as one.
 fn cards(alloc: Global, watch: &mut Watch) -> Result<(), Fault> {
-    watch.at("merged")?;
+    watch.at("merged");
     let both = merged(alloc, &[1, 4, 6], &[2, 4])?;
-    Ok(watch.regions(both.as_slice())?)
+    watch.regions(both.as_slice());
+    Ok(())
 }

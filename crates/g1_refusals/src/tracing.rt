@@ -5,7 +5,7 @@ use g1_pause::Settings;
 use g1_trace::{Command, Mutator, Reply, Trace, parse_trace, run_text, run_trace};
 use g1_words::{Fault, Geometry};
 use g1_work::Open;
-use std::alloc::{AllocError, Global};
+use std::alloc::Global;
 use std::thread::Threads;
 
 /// The calls that are asked for on a trace.
@@ -41,10 +41,10 @@ pub fn run<R: Threads + Sync>(
 
 /// The trace that the bytes tell.
 fn parsed(alloc: Global, bytes: &[u8], watch: &mut Watch) -> Result<Trace, Fault> {
-    watch.at("parse_trace")?;
+    watch.at("parse_trace");
     let trace = parse_trace(alloc, bytes)?;
     let commands = trace.commands.len() as u64;
-    watch.numbers(&[trace.w, trace.k, trace.n, trace.roots, commands])?;
+    watch.numbers(&[trace.w, trace.k, trace.n, trace.roots, commands]);
     Ok(trace)
 }
 
@@ -57,9 +57,10 @@ fn answered<R: Threads + Sync>(
     watch: &mut Watch,
 ) -> Result<(), Fault> {
     let (workers, chunk) = (settings.workers(), settings.chunk());
-    watch.at("run_text")?;
+    watch.at("run_text");
     let text = run_text(rt, alloc, bytes, &COST, workers, chunk, &Open)?;
-    Ok(watch.bytes(text.as_slice())?)
+    watch.bytes(text.as_slice());
+    Ok(())
 }
 
 /// The replies to the whole trace.
@@ -71,10 +72,12 @@ fn replied<R: Threads + Sync>(
     watch: &mut Watch,
 ) -> Result<(), Fault> {
     let (workers, chunk) = (settings.workers(), settings.chunk());
-    watch.at("run_trace")?;
+    watch.at("run_trace");
     let replies = run_trace(rt, alloc, trace, &COST, workers, chunk, &Open)?;
-    if watch.is_over()? {
-        tell_all(alloc, replies.as_slice(), watch)?;
+    if watch.is_over() {
+        for reply in &replies {
+            tell(*reply, watch);
+        }
     }
     Ok(())
 }
@@ -92,13 +95,13 @@ fn stepped<R: Threads + Sync>(
     let mut place: u64 = 0;
     for command in &trace.commands {
         if place == number {
-            watch.at("step")?;
+            watch.at("step");
         }
         place = place.saturating_add(1);
         let (next, reply) = step(rt, alloc, settings, mutator, command, watch)?;
         mutator = next;
         if watch.is_of(&["mutator_new", "step"]) {
-            tell(alloc, reply, watch)?;
+            tell(reply, watch);
         }
     }
     Ok(())
@@ -106,9 +109,9 @@ fn stepped<R: Threads + Sync>(
 
 fn begun(alloc: Global, trace: &Trace, watch: &mut Watch) -> Result<Mutator, Fault> {
     let geometry = Geometry::new(trace.w, trace.k, trace.n)?;
-    watch.at("mutator_new")?;
+    watch.at("mutator_new");
     let mutator = Mutator::new(alloc, geometry, trace.roots)?;
-    watch.is_over()?;
+    watch.is_over();
     Ok(mutator)
 }
 
@@ -122,17 +125,27 @@ fn step<R: Threads + Sync>(
     watch: &mut Watch,
 ) -> Result<(Mutator, Reply), Fault> {
     let (mutator, outcome) = given(rt, alloc, settings, mutator, command);
-    let on = watch.is_over()?;
+    let on = watch.is_over();
     match outcome {
         Ok(reply) => Ok((mutator, reply)),
         Err(fault) => {
             if on {
-                watch.fault(&fault)?;
+                watch.fault(&fault);
             }
-            let (mutator, again) = given(rt, alloc, settings, mutator, command);
-            Ok((mutator, again?))
+            again(rt, alloc, settings, mutator, command)
         }
     }
+}
+
+fn again<R: Threads + Sync>(
+    rt: &R,
+    alloc: Global,
+    settings: &Settings,
+    mutator: Mutator,
+    command: &Command,
+) -> Result<(Mutator, Reply), Fault> {
+    let (mutator, outcome) = given(rt, alloc, settings, mutator, command);
+    Ok((mutator, outcome?))
 }
 
 /// What `step` promises is not needed here.
@@ -147,23 +160,13 @@ fn given<R: Threads + Sync>(
     mutator.step(rt, alloc, command, &COST, workers, chunk, &Open)
 }
 
-fn tell_all(alloc: Global, replies: &[Reply], watch: &mut Watch) -> Result<(), AllocError> {
-    for reply in replies {
-        tell(alloc, *reply, watch)?;
-    }
-    Ok(())
-}
-
-fn tell(alloc: Global, reply: Reply, watch: &mut Watch) -> Result<(), AllocError> {
+fn tell(reply: Reply, watch: &mut Watch) {
     match reply {
         Reply::Ok => watch.line("ok"),
         Reply::Full => watch.line("full"),
         Reply::Range => watch.line("range"),
         Reply::Null => watch.line("null"),
         Reply::Room => watch.line("room"),
-        Reply::Number(value) => {
-            let line = format!(in alloc; "{value}")?;
-            watch.line(line.as_str())
-        }
+        Reply::Number(value) => watch.value(value),
     }
 }

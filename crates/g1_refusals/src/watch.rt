@@ -17,6 +17,8 @@ pub struct Watch {
     on: bool,
     // Whether the next image tells what the call answered.
     owed: bool,
+    // Whether there was no memory for something that was to be told: nothing is told after it.
+    lost: bool,
     text: Vec<u8>,
     // What was asked for last as a sign: it is kept, so that no compiler takes the request for idle.
     sign: Vec<u8>,
@@ -34,6 +36,7 @@ impl Watch {
             call: String::from_str(alloc, call)?,
             on: false,
             owed: false,
+            lost: false,
             text: Vec::new(alloc),
             sign: Vec::new(alloc),
         })
@@ -45,132 +48,176 @@ impl Watch {
     }
 
     /// The call of this name comes next.
-    pub fn at(&mut self, call: &str) -> Result<(), AllocError> {
-        if self.call.as_str() == call {
+    pub fn at(&mut self, call: &str) {
+        if self.call.as_str() == call && !self.lost {
             self.on = true;
-            self.text.extend_from_slice(b"watched\n")?;
-            self.sign = Vec::with_capacity(self.alloc, BEGIN)?;
+            self.tell(b"watched\n");
+            self.signal(BEGIN);
         }
-        Ok(())
     }
 
     /// The call is over. Tells whether it was the one that is watched.
-    pub fn is_over(&mut self) -> Result<bool, AllocError> {
-        let on = self.on;
+    pub fn is_over(&mut self) -> bool {
+        let on = self.on && !self.lost;
         if on {
             self.on = false;
-            self.sign = Vec::with_capacity(self.alloc, END)?;
+            self.signal(END);
         }
-        Ok(on)
+        on && !self.lost
     }
 
     /// All that was told, a fault that ended the run included.
     pub fn end(mut self, fault: Option<Fault>) -> Result<Vec<u8>, AllocError> {
+        let fault = if self.lost {
+            Some(Fault::Memory)
+        } else {
+            fault
+        };
         if let Some(fault) = fault {
-            if self.is_over()? {
-                self.fault(&fault)?;
-            }
+            self.ended(&fault)?;
         }
         let Watch { text, .. } = self;
         Ok(text)
     }
 
-    pub fn fault(&mut self, fault: &Fault) -> Result<(), AllocError> {
+    // A fault ended the run.
+    fn ended(&mut self, fault: &Fault) -> Result<(), AllocError> {
+        if self.on {
+            self.sign = Vec::with_capacity(self.alloc, END)?;
+            let line = self.fault_line(fault)?;
+            self.text.extend_from_slice(line.as_bytes())?;
+        }
+        Ok(())
+    }
+
+    fn signal(&mut self, size: usize) {
+        if self.lost {
+            return;
+        }
+        match Vec::with_capacity(self.alloc, size) {
+            Ok(sign) => self.sign = sign,
+            Err(_) => self.lost = true,
+        }
+    }
+
+    fn tell(&mut self, bytes: &[u8]) {
+        if !self.lost && self.text.extend_from_slice(bytes).is_err() {
+            self.lost = true;
+        }
+    }
+
+    // Tells this where there was memory for it.
+    fn tell_made(&mut self, text: Result<String, AllocError>) {
+        match text {
+            Ok(text) => self.tell(text.as_bytes()),
+            Err(_) => self.lost = true,
+        }
+    }
+
+    fn fault_line(&self, fault: &Fault) -> Result<String, AllocError> {
         let number = fault.number();
-        let line = format!(in self.alloc; "fault {number}: {fault}\n")?;
-        self.text.extend_from_slice(line.as_bytes())
+        format!(in self.alloc; "fault {number}: {fault}\n")
     }
 
-    fn number(&mut self, number: u64) -> Result<(), AllocError> {
-        let text = format!(in self.alloc; " {number}")?;
-        self.text.extend_from_slice(text.as_bytes())
+    pub fn fault(&mut self, fault: &Fault) {
+        let line = self.fault_line(fault);
+        self.tell_made(line);
     }
 
-    pub fn line(&mut self, line: &str) -> Result<(), AllocError> {
-        self.text.extend_from_slice(line.as_bytes())?;
-        self.text.extend_from_slice(b"\n")
+    fn number(&mut self, number: u64) {
+        let text = format!(in self.alloc; " {number}");
+        self.tell_made(text);
+    }
+
+    pub fn line(&mut self, line: &str) {
+        self.tell(line.as_bytes());
+        self.tell(b"\n");
+    }
+
+    /// A line with this number alone.
+    pub fn value(&mut self, value: u64) {
+        let line = format!(in self.alloc; "{value}\n");
+        self.tell_made(line);
     }
 
     /// The call answered these numbers.
-    pub fn numbers(&mut self, numbers: &[u64]) -> Result<(), AllocError> {
-        if self.is_over()? {
+    pub fn numbers(&mut self, numbers: &[u64]) {
+        if self.is_over() {
             for number in numbers {
-                self.number(*number)?;
+                self.number(*number);
             }
-            self.line("")?;
+            self.line("");
         }
-        Ok(())
     }
 
     /// The call answered these regions, or these cards.
-    pub fn regions(&mut self, regions: &[u32]) -> Result<(), AllocError> {
-        if self.is_over()? {
-            for region in regions {
-                self.number(u64::from(*region))?;
-            }
-            self.line("")?;
+    pub fn regions(&mut self, regions: &[u32]) {
+        if self.is_over() {
+            self.list(regions);
         }
-        Ok(())
     }
 
     /// The call answered a list for each region.
-    pub fn lists(&mut self, lists: &[Vec<u32>]) -> Result<(), AllocError> {
-        if self.is_over()? {
+    pub fn lists(&mut self, lists: &[Vec<u32>]) {
+        if self.is_over() {
             for list in lists {
-                for card in list {
-                    self.number(u64::from(*card))?;
-                }
-                self.line("")?;
+                self.list(list);
             }
         }
-        Ok(())
+    }
+
+    fn list(&mut self, list: &[u32]) {
+        for number in list {
+            self.number(u64::from(*number));
+        }
+        self.line("");
     }
 
     /// The call answered pairs of numbers.
-    pub fn pairs(&mut self, pairs: &[(u64, u64)]) -> Result<(), AllocError> {
-        if self.is_over()? {
+    pub fn pairs(&mut self, pairs: &[(u64, u64)]) {
+        if self.is_over() {
             for (slot, word) in pairs {
-                self.number(*slot)?;
-                self.number(*word)?;
+                self.number(*slot);
+                self.number(*word);
             }
-            self.line("")?;
+            self.line("");
         }
-        Ok(())
     }
 
     /// The call answered something that the next image shows.
-    pub fn done(&mut self) -> Result<(), AllocError> {
-        if self.is_over()? {
+    pub fn done(&mut self) {
+        if self.is_over() {
             self.owed = true;
         }
-        Ok(())
     }
 
     /// The call answered these bytes.
-    pub fn bytes(&mut self, bytes: &[u8]) -> Result<(), AllocError> {
-        if self.is_over()? {
-            self.text.extend_from_slice(bytes)?;
+    pub fn bytes(&mut self, bytes: &[u8]) {
+        if self.is_over() {
+            self.tell(bytes);
         }
-        Ok(())
     }
 
     /// The call was refused, and handed this image back.
-    pub fn refused(&mut self, fault: &Fault, back: &Image) -> Result<(), Fault> {
-        if self.is_over()? {
-            self.fault(fault)?;
-            let bytes = text_of(self.alloc, back)?;
-            self.text.extend_from_slice(bytes.as_slice())?;
+    pub fn refused(&mut self, fault: &Fault, back: &Image) {
+        if self.is_over() {
+            self.fault(fault);
+            self.shown(back);
         }
-        Ok(())
     }
 
     /// The call answered this image.
-    pub fn image(&mut self, image: &Image) -> Result<(), Fault> {
-        if self.is_over()? || self.owed {
-            let bytes = text_of(self.alloc, image)?;
-            self.text.extend_from_slice(bytes.as_slice())?;
+    pub fn image(&mut self, image: &Image) {
+        if self.is_over() || self.owed {
+            self.shown(image);
         }
-        Ok(())
+    }
+
+    fn shown(&mut self, image: &Image) {
+        match text_of(self.alloc, image) {
+            Ok(bytes) => self.tell(bytes.as_slice()),
+            Err(_) => self.lost = true,
+        }
     }
 }
 

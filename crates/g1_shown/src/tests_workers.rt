@@ -9,7 +9,7 @@ use g1_pause::{Choice, Settings, evacuate};
 use g1_rem::{Starts, Tracked, image, verify};
 use g1_testing::pictures::{shared, shared_after};
 use g1_testing::{image as drawn, text};
-use g1_words::Fault;
+use g1_words::{Fault, Heap};
 use g1_work::{Gate, Part, Task, each_chunk};
 use std::alloc::Global;
 use std::process::Abort;
@@ -133,14 +133,25 @@ fn tracked<R: Threads + Sync>(rt: &R, alloc: Global) -> Result<Tracked, Fault> {
     }
 }
 
-/// The bytes of `shared` after the pause.
+/// The bytes of `shared` after the pause of so many workers.
 fn evacuated<R: Threads + Sync>(
     rt: &R,
     alloc: Global,
-    settings: &Settings,
+    workers: u64,
     gate: &Meeting,
 ) -> Result<Vec<u8>, Fault> {
-    match evacuate(rt, alloc, tracked(rt, alloc)?, settings, gate) {
+    let settings = settings_of(alloc, workers)?;
+    bytes_after(rt, alloc, &settings, tracked(rt, alloc)?, gate)
+}
+
+fn bytes_after<R: Threads + Sync>(
+    rt: &R,
+    alloc: Global,
+    settings: &Settings,
+    before: Tracked,
+    gate: &Meeting,
+) -> Result<Vec<u8>, Fault> {
+    match evacuate(rt, alloc, before, settings, gate) {
         Ok((after, _)) => encode(alloc, image(&after)),
         Err((_, fault)) => Err(fault),
     }
@@ -153,8 +164,7 @@ fn expect_evacuated<T: Threads + Abort + Sync>(
     workers: u64,
     gate: &Meeting,
 ) -> Result<(), Fault> {
-    let settings = settings_of(alloc, workers)?;
-    let found = evacuated(rt, alloc, &settings, gate)?;
+    let found = evacuated(rt, alloc, workers, gate)?;
     let expected = text(alloc, shared_after())?;
     assert_eq!(rt; found.as_slice(), expected.as_slice());
     Ok(())
@@ -175,8 +185,17 @@ fn together_in_each_round(rt: HostRuntime) -> Result<(), Fail> {
 /// The live bytes of the regions of `shared`, as two workers count them.
 fn live<R: Threads + Sync>(rt: &R, alloc: Global, gate: &Meeting) -> Result<Vec<u64>, Fault> {
     let image = drawn(alloc, shared())?;
-    let starts = Starts::build(alloc, image.heap())?;
-    live_bytes(rt, alloc, image.heap(), &starts, 2, 1, gate)
+    live_of(rt, alloc, image.heap(), gate)
+}
+
+fn live_of<R: Threads + Sync>(
+    rt: &R,
+    alloc: Global,
+    heap: &Heap,
+    gate: &Meeting,
+) -> Result<Vec<u64>, Fault> {
+    let starts = Starts::build(alloc, heap)?;
+    live_bytes(rt, alloc, heap, &starts, 2, 1, gate)
 }
 
 #[test]
