@@ -63,17 +63,14 @@ fn compare_objects(alloc: Global, heaps: Heaps<'_>, pairs: &mut Pairs) -> Result
 }
 
 fn compare_regions(heaps: Heaps<'_>) -> Result<(), Lost> {
-    let Heaps {
-        before,
-        after,
-        chosen,
-    } = heaps;
-    if before.geometry() != after.geometry() {
+    let geometry = heaps.before.geometry();
+    if geometry != heaps.after.geometry() {
         return Err(Lost::Sizes);
     }
-    let regions = before.regions().iter().zip(after.regions().iter());
-    for (number, ((old, new), chosen)) in regions.zip(chosen.iter()).enumerate() {
-        compare_told(number as u32, *old, *new, *chosen)?;
+    for region in 0..geometry.regions() as u32 {
+        if let Some((old, new)) = heaps.told(region) {
+            compare_told(region, old, new, heaps.is_in_set(u64::from(region)))?;
+        }
     }
     Ok(())
 }
@@ -104,8 +101,7 @@ fn compare_roots(heaps: Heaps<'_>, pairs: &mut Pairs) -> Result<(), Stop> {
 fn compare_kept(alloc: Global, heaps: Heaps<'_>, pairs: &mut Pairs) -> Result<(), Stop> {
     let regions = heaps.before.geometry().regions();
     for region in 0..regions as u32 {
-        let chosen = heaps.chosen.get(region as usize).copied();
-        if chosen != Some(true) && !heaps.is_freed(region) {
+        if !heaps.is_in_set(u64::from(region)) && !heaps.is_freed(region) {
             compare_region(alloc, heaps, pairs, region)?;
         }
     }

@@ -37,16 +37,26 @@ pub(crate) fn is_freed(old: Region, new: Region) -> bool {
 impl<'a> Heaps<'a> {
     /// Whether the region of this number is of a humongous object's run, and free after.
     pub(crate) fn is_freed(&self, region: u32) -> bool {
-        let old = self.before.regions().get(region as usize);
-        match (old, self.after.regions().get(region as usize)) {
-            (Some(old), Some(new)) => is_freed(*old, *new),
-            _ => false,
+        match self.told(region) {
+            Some((old, new)) => is_freed(old, new),
+            None => false,
         }
+    }
+
+    /// What the two heaps tell of the region of this number.
+    pub(crate) fn told(&self, region: u32) -> Option<(Region, Region)> {
+        let old = self.before.regions().get(region as usize).copied();
+        old.zip(self.after.regions().get(region as usize).copied())
+    }
+
+    /// Whether the region of this number is in the set.
+    pub(crate) fn is_in_set(&self, region: u64) -> bool {
+        self.chosen.get(region as usize).copied().unwrap_or(false)
     }
 
     fn is_chosen(&self, address: u64) -> bool {
         let region = region_of(&self.before.geometry(), address);
-        self.chosen.get(region as usize).copied().unwrap_or(false)
+        self.is_in_set(region)
     }
 
     fn was_free(&self, address: u64) -> bool {
