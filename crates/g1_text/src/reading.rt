@@ -67,13 +67,7 @@ fn begun(alloc: Global, first: &str, words: Words<'_>, line: u64) -> Result<Draf
         return Err(Expected::Heading.into());
     }
     let (w, k, n) = sizes(&mut words)?;
-    let heading = Heading {
-        line,
-        roots: words.named("roots")?,
-        dirty: words.named("dirty")?,
-    };
-    let current = current(&mut words)?;
-    words.end()?;
+    let (heading, current) = heading(words, line)?;
     let Ok(geometry) = Geometry::new(w, k, n) else {
         return Err(Expected::Sizes.into());
     };
@@ -82,7 +76,29 @@ fn begun(alloc: Global, first: &str, words: Words<'_>, line: u64) -> Result<Draf
 
 // W K N
 fn sizes(words: &mut Words<'_>) -> Result<(u64, u64, u64), Expected> {
-    Ok((words.number("W")?, words.number("K")?, words.number("N")?))
+    match (
+        words.take_number(),
+        words.take_number(),
+        words.take_number(),
+    ) {
+        (Some(w), Some(k), Some(n)) => Ok((w, k, n)),
+        (None, _, _) => Err(Expected::Number("W")),
+        (_, None, _) => Err(Expected::Number("K")),
+        _ => Err(Expected::Number("N")),
+    }
+}
+
+// [roots R] [dirty D] [current none|C]
+fn heading(words: Words<'_>, line: u64) -> Result<(Heading, Option<u32>), Expected> {
+    let mut words = words;
+    let heading = Heading {
+        line,
+        roots: words.named("roots")?,
+        dirty: words.named("dirty")?,
+    };
+    let current = current(&mut words)?;
+    words.end()?;
+    Ok((heading, current))
 }
 
 fn current(words: &mut Words<'_>) -> Result<Option<u32>, Expected> {

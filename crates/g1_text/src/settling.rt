@@ -20,8 +20,11 @@ pub(crate) fn settle(draft: &Draft) -> Result<(), Wrong> {
 
 fn settle_heading(draft: &Draft) -> Result<(), Expected> {
     let heading = draft.lines.heading;
-    follows(heading.roots, "roots", draft.roots.len() as u64)?;
-    follows(heading.dirty, "dirty", draft.log.len() as u64)?;
+    follows(heading.roots, "roots", draft.roots.len() as u64).and(follows(
+        heading.dirty,
+        "dirty",
+        draft.log.len() as u64,
+    ))?;
     match draft.current {
         Some(current) => match draft.regions.get(current as usize) {
             Some(region) if region.kind == Kind::Ordinary => Ok(()),
@@ -35,15 +38,15 @@ fn settle_region(draft: &Draft, told: &Told) -> Result<(), Expected> {
     let Some(Region { kind, top, .. }) = draft.regions.get(told.region) else {
         return Err(Expected::NoRegion);
     };
-    let starts = *kind == Kind::Ordinary || *kind == Kind::HumongousFirst;
+    let starts = matches!(kind, Kind::Ordinary | Kind::HumongousFirst);
     if starts && told.found == 0 {
         return Err(Expected::Object);
     }
-    follows(told.top, "top", u64::from(*top))?;
-    follows(told.objects, "objects", told.found)?;
     let cards = match draft.remembered.get(told.region) {
         Some(set) => set.len(),
         None => 0,
     };
-    follows(told.cards, "cards", cards as u64)
+    follows(told.top, "top", u64::from(*top))
+        .and(follows(told.objects, "objects", told.found))
+        .and(follows(told.cards, "cards", cards as u64))
 }

@@ -128,5 +128,5 @@ fn whole(text: &str) -> Option<u64> {
 /// An object's words and its slots, two numbers with a slash between them.
 pub(crate) fn size_and_slots(text: &str) -> Option<(u64, u64)> {
     let (size, slots) = text.split_once('/')?;
-    Some((whole(size)?, whole(slots)?))
+    whole(size).zip(whole(slots))
 }
