@@ -39,23 +39,29 @@ fn perform<T: Threads + Sync, R: Read, W: Write>(
     reader: &mut R,
     writer: &mut W,
 ) -> Result<(), Refusal> {
-    match parse(alloc, words)? {
-        Request::Help(text) => deliver(text.as_bytes(), writer)?,
-        Request::Check => check(rt, alloc, reader, writer)?,
-        Request::Answer(question) => answer(rt, alloc, question, reader, writer)?,
-        Request::Repack(sharing) => {
-            shared(sharing)?;
-            repacked(alloc, reader, writer)?;
-        }
-        Request::Pause(pause) => {
-            let settings = chosen(pause)?;
-            paused(rt, alloc, &settings, reader, writer)?;
-        }
-    }
+    let request = parse(alloc, words)?;
+    answer(rt, alloc, request, reader, writer)?;
     Ok(())
 }
 
+// Does what is asked.
 fn answer<T: Threads + Sync, R: Read, W: Write>(
+    rt: &T,
+    alloc: Global,
+    request: Request,
+    reader: &mut R,
+    writer: &mut W,
+) -> Result<(), Fault> {
+    match request {
+        Request::Help(text) => deliver(text.as_bytes(), writer),
+        Request::Check => check(rt, alloc, reader, writer),
+        Request::Answer(question) => answer_question(rt, alloc, question, reader, writer),
+        Request::Repack(sharing) => repack(alloc, sharing, reader, writer),
+        Request::Pause(pause) => collect(rt, alloc, pause, reader, writer),
+    }
+}
+
+fn answer_question<T: Threads + Sync, R: Read, W: Write>(
     rt: &T,
     alloc: Global,
     question: Question,
@@ -138,6 +144,16 @@ fn show<T: Threads + Sync, R: Read>(
     table(rt, alloc, settings, &image)
 }
 
+fn repack<R: Read, W: Write>(
+    alloc: Global,
+    sharing: Sharing,
+    reader: &mut R,
+    writer: &mut W,
+) -> Result<(), Fault> {
+    shared(sharing)?;
+    repacked(alloc, reader, writer)
+}
+
 fn repacked<R: Read, W: Write>(alloc: Global, reader: &mut R, writer: &mut W) -> Result<(), Fault> {
     let image = read_image(alloc, reader)?;
     let mut sink = ToWriter::new(writer);
@@ -174,6 +190,17 @@ fn choose<T: Threads + Sync, R: Read>(
 ) -> Result<Vec<u8>, Fault> {
     let tracked = read_tracked(rt, alloc, reader)?;
     candidates(rt, alloc, settings, budget, &tracked)
+}
+
+fn collect<T: Threads + Sync, R: Read, W: Write>(
+    rt: &T,
+    alloc: Global,
+    pause: Pause,
+    reader: &mut R,
+    writer: &mut W,
+) -> Result<(), Fault> {
+    let settings = chosen(pause)?;
+    paused(rt, alloc, &settings, reader, writer)
 }
 
 fn paused<T: Threads + Sync, R: Read, W: Write>(

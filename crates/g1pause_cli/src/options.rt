@@ -242,6 +242,14 @@ fn with_options<'a>(
     Ok(command)
 }
 
+// A command with an argument more.
+fn with<'a>(
+    command: Result<Command<'a>, AllocError>,
+    argument: Arg<'a>,
+) -> Result<Command<'a>, AllocError> {
+    command?.arg(argument)
+}
+
 const HOW_MANY: &str = "How many workers share the work, 1 to 64";
 
 // A command with the options on workers. `items` says what a chunk counts, and its range.
@@ -259,8 +267,7 @@ fn repack<'a>(alloc: Global) -> Arg<'a> {
 
 fn show<'a>(alloc: Global) -> Result<Command<'a>, AllocError> {
     let items = "How many regions a worker draws at once, 1 to 65536";
-    let command = shared(alloc, &SHOW, items)?;
-    command.arg(repack(alloc))
+    with(shared(alloc, &SHOW, items), repack(alloc))
 }
 
 const ROOTS: &str = "How many roots or objects a worker draws at once, 1 to 65536";
@@ -282,8 +289,7 @@ fn budget<'a>(alloc: Global) -> Arg<'a> {
 }
 
 fn choose<'a>(alloc: Global) -> Result<Command<'a>, AllocError> {
-    let command = costed(alloc, &CHOOSE, ROOTS)?;
-    command.arg(budget(alloc).required(true))
+    with(costed(alloc, &CHOOSE, ROOTS), budget(alloc).required(true))
 }
 
 const CARDS: &str = "How many roots, cards or objects a worker draws at once, 1 to 65536";
@@ -297,8 +303,8 @@ fn named_regions<'a>(alloc: Global) -> Arg<'a> {
 }
 
 fn pause_command<'a>(alloc: Global) -> Result<Command<'a>, AllocError> {
-    let command = costed(alloc, &PAUSE, CARDS)?.arg(budget(alloc))?;
-    command.arg(named_regions(alloc))
+    let command = with(costed(alloc, &PAUSE, CARDS), budget(alloc));
+    with(command, named_regions(alloc))
 }
 
 const COMMANDS: [&str; 6] = ["show", "check", "live", "choose", "pause", "run"];
@@ -314,9 +320,18 @@ fn program_command<'a>(alloc: Global) -> Result<Command<'a>, AllocError> {
 fn command<'a>(alloc: Global) -> Result<Command<'a>, AllocError> {
     let mut command = program_command(alloc)?;
     for name in COMMANDS {
-        command = command.subcommand(command_named(alloc, name)?)?;
+        command = with_command(alloc, command, name)?;
     }
     Ok(command)
+}
+
+fn with_command<'a>(
+    alloc: Global,
+    command: Command<'a>,
+    name: &str,
+) -> Result<Command<'a>, AllocError> {
+    let added = command_named(alloc, name)?;
+    command.subcommand(added)
 }
 
 fn command_named<'a>(alloc: Global, name: &str) -> Result<Command<'a>, AllocError> {
