@@ -1,0 +1,441 @@
+#!/usr/bin/env python3
+"""planted.py --all | CRATE ..
+
+Tries the wrong bodies crates/CRATE/planted/*.edit, of all crates or of those that are named: the prover has to refuse
+each function in which one is planted. It takes the libraries that `rt ci` left in crates/*/out, or builds those that
+are not there or older than their sources.
+
+A row is a must-fail edit (`rt help`) whose first line says what it turns:
+
+  turns: FUNCTION: WHAT IT DOES WRONG     FUNCTION is the one that has to be refused, as a check prints it below its crate
+  expect: proves                          in a row that changes nothing but the words: the check has to prove it
+  file: src/FILE.rt
+  old: TEXT
+  new: TEXT
+
+Rows in different functions of a crate are tried in one check of a copy. If a function calls one that this check refused,
+its row is tried again without the other. All other functions count by their contracts, which `rt ci` has just proved:
+in the copy their bodies are cut off, and a hole is their proof. Each crate with rows has one that proves, so that a
+check which refuses everything is seen.
+
+A row is bad if its text is not found, if it changes no line of its function, if it does not compile, if the prover
+cannot read it, or if it is refused only because a proof names what the row took away.
+
+The batches read what one kit prints. With another kit the rows are tried one by one by `rt must-fail`, which takes about
+an hour.
+
+The last line is 'N refused, M failed'. Statuses: 0 if none failed, 1 if one did, 2 if nothing could be tried.
+"""
+import argparse
+import importlib.machinery
+import importlib.util
+import os
+import pathlib
+import re
+import shutil
+import subprocess
+import sys
+import tempfile
+from concurrent.futures import ThreadPoolExecutor
+from dataclasses import dataclass, field
+
+ROOT = pathlib.Path(__file__).resolve().parent.parent
+HEAD = re.compile(r"( *)(?:pub(?:\([^)]*\))? )?(?:const |unsafe |extern \"C\" )*fn (\w+)")
+IMPL = re.compile(r"impl(<.*?>)? (?:([\w:]+)(<.*>)? for )?([\w:]+)")
+OPENS = re.compile(r" *\{$|(?! *(?:requires|ensures|ghost)\b).* \{$")
+TYPE = re.compile(r"^(?:pub(?:\(.*\))? )?(?:struct|enum) (\w+)", re.M)
+# What a proof says of a name that a row took away.
+NAMES = re.compile(r"has no field|is not in scope|has no `|was not admitted|is no name")
+FAULT = re.compile(r"^(?:\./)?(src/\S+?):(\d+):\d+: error", re.M)
+# The kits whose checks the batches can read: the logic is one, but what a check prints is a kit's own.
+KITS = ("rattle-kit-13b",)
+# What is said of a hole that is no proof of its function.
+BAD_HOLE = re.compile(r"^(?:\./)?proofs/\S+/Proof\.antt:\S+ error|^error.*Proof\.antt", re.M)
+REFUSED, PROVES, BAD, UNSETTLED = "refused", "NOT REFUSED", "BAD", "NOT SETTLED"
+
+
+class Stop(Exception):
+    """Nothing can be tried, and why."""
+
+
+@dataclass
+class Function:
+    """Where a function is written: its file below the crate, its first line and its last, from 0."""
+    name: str
+    path: str
+    first: int
+    last: int
+    opens: int  # the line that opens its body, or its last
+    is_plain: bool  # its proof is its own: it shares no cycle of calls
+
+
+@dataclass
+class Row:
+    """A planted row: what it changes, by file and line, and what came of it."""
+    label: str
+    function: str = ""
+    proves: bool = False
+    lines: dict = field(default_factory=dict)
+    touched: set = field(default_factory=set)
+    is_alone: bool = False
+    verdict: str = ""
+    why: str = ""
+
+    def settle(self, verdict, why):
+        self.verdict, self.why = verdict, why
+
+    def is_well(self):
+        return self.verdict == (PROVES if self.proves else REFUSED)
+
+    def said(self):
+        return f"proved, as it must be: {self.function}" if self.proves and self.is_well() else f"{self.verdict}: {self.why}"
+
+    def holds(self, path, line):
+        return line in self.lines.get(path, {})
+
+
+def load_rt():
+    """The kit's rt as a module, whose reading of edits and of crates.txt is used."""
+    found = shutil.which("rt")
+    if not found:
+        raise Stop("rt is not on the path")
+    sys.dont_write_bytecode = True
+    loader = importlib.machinery.SourceFileLoader("kit_rt", os.path.realpath(found))
+    module = importlib.util.module_from_spec(importlib.util.spec_from_loader("kit_rt", loader))
+    loader.exec_module(module)
+    return module
+
+
+def module_of(path):
+    parts = pathlib.PurePath(path).with_suffix("").parts[1:]
+    return [part for part in parts if part not in ("lib", "main", "mod")]
+
+
+def trait_of(impl):
+    """How a check spells the trait of an impl in a method's name: with the types that it is given, if they are no parameters."""
+    words = re.findall(r"\w+", impl[3] or "")
+    return (impl[2] or "").rpartition("::")[2] + "".join(it for it in words if it not in re.findall(r"\w+", impl[1] or ""))
+
+
+def functions_of(folder):
+    """The functions of a crate, as `rt fmt` lays them out: each head on a line, and its end at the same column."""
+    files = sorted(pathlib.Path(folder, "src").rglob("*.rt"))
+    texts = {str(file.relative_to(folder)): file.read_text() for file in files}
+    homes = {it: module_of(path) for path, text in texts.items() for it in TYPE.findall(text)}
+    found = {}
+    for path, text in texts.items():
+        holder, lines = [], text.split("\n")
+        for number, line in enumerate(lines):
+            head, impl = HEAD.match(line), IMPL.match(line)
+            if impl:
+                of = impl[4].rpartition("::")[2]
+                holder = [*homes.get(of, module_of(path)), of + trait_of(impl)]
+            elif line.startswith("}"):
+                holder = []
+            if head and len(head[1]) == 4 * bool(holder):
+                last = next((at for at in range(number, len(lines)) if lines[at] == head[1] + "}"), number)
+                name = "::".join([*(holder or module_of(path)), head[2]])
+                above = lines[max(number - 3, 0):number]
+                opens = next((at for at in range(number, last) if OPENS.match(lines[at])), last)
+                found[name] = Function(name, path, number, last, opens, not any("#[cycle" in it for it in above))
+    return found
+
+
+def changed(crate, texts):
+    """The lines that differ from the crate's own, by file and number."""
+    lines = {}
+    for path, text in texts.items():
+        before = pathlib.Path(crate.folder, path).read_text().split("\n")
+        lines[path] = {at: new for at, (old, new) in enumerate(zip(before, text.split("\n"))) if old != new}
+    return lines
+
+
+def read_row(rt, crate, functions, file):
+    """A row, settled as bad if it cannot be tried."""
+    row = Row(f"{crate.name}/{file.stem}")
+    text = file.read_text(errors="replace")
+    texts, why = rt.read_edit(str(file), crate.folder)
+    if why:
+        row.settle(BAD, why)
+        return row
+    row.lines = changed(crate, texts)
+    for path, lines in row.lines.items():
+        before = pathlib.Path(crate.folder, path).read_text().split("\n")
+        for at in lines:
+            own = {it.name for it in functions.values() if it.path == path and it.first <= at <= it.last}
+            row.touched |= own
+            row.is_alone |= not own and not before[at].startswith("use ")
+    turns = re.match(r"turns: (\S+): \S", text)
+    row.function, row.proves = turns[1] if turns else "", bool(re.search(r"^expect: proves$", text, re.M))
+    if not turns:
+        row.settle(BAD, f"its first line is not 'turns: FUNCTION: WHAT'; it changes {' '.join(sorted(row.touched)) or 'no function'}")
+    elif row.function not in row.touched:
+        row.settle(BAD, f"it changes no line of {row.function}")
+    elif not all(path.startswith("src/") for path in texts):
+        row.settle(BAD, "a row changes src/ alone")
+    return row
+
+
+def fits(row, batch, calls):
+    """Whether a row can be tried in one check with these: no line and no function in common, and no call between them."""
+    if row.is_alone or any(it.is_alone for it in batch):
+        return not batch
+    for it in batch:
+        shares = any(row.holds(path, line) for path, lines in it.lines.items() for line in lines)
+        calls_it = it.function in calls.get(row.function, ()) or row.function in calls.get(it.function, ())
+        if shares or calls_it or row.function in it.touched or it.function in row.touched:
+            return False
+    return True
+
+
+def next_batch(rows, calls):
+    batch = []
+    for row in rows:
+        if fits(row, batch, calls):
+            batch.append(row)
+    return batch
+
+
+class Trial:
+    """The trial of a crate's rows, over a folder of its own in which the prover keeps what it has read."""
+
+    def __init__(self, rt, crate, functions, kept):
+        self.rt, self.crate, self.functions, self.kept = rt, crate, functions, kept
+        self.calls, self.with_holes = {}, True
+
+    def run(self, rows):
+        """Tries the rows that are not settled, in as few checks as there have to be."""
+        while left := [row for row in rows if not row.verdict]:
+            batch = next_batch(left, self.calls)
+            said = self.check(batch)
+            if self.with_holes and self.is_of_a_hole(batch, said):
+                self.with_holes = False
+                continue
+            self.read(batch, said)
+            if not any(row.verdict for row in batch):
+                self.part(batch, said)
+
+    def part(self, batch, said):
+        """Has each row of a batch of which nothing was said be tried by itself; a single one is not settled by more."""
+        for row in batch:
+            row.is_alone = True
+        if len(batch) == 1:
+            batch[0].settle(UNSETTLED, next((it for it in said.split("\n") if "error" in it), said[-200:]).strip()[:200])
+
+    def is_of_a_hole(self, batch, said):
+        """Whether the check refuses what leave_open wrote: then the crate's functions are checked as they are."""
+        touched = {name for row in batch for name in row.touched}
+        others = [it for it in self.functions.values() if it.name not in touched]
+        faults = [(path, int(line) - 1) for path, line in FAULT.findall(said)]
+        in_others = any(it.path == path and it.first <= line <= it.last for it in others for path, line in faults)
+        return in_others or bool(BAD_HOLE.search(said))
+
+    def check(self, batch):
+        """Checks the functions of a batch in a copy of the crate that has its rows, and returns what the prover says."""
+        with tempfile.TemporaryDirectory(prefix="planted-") as room:
+            for part in self.rt.rtlib.PARTS:
+                if os.path.isdir(f"{self.crate.folder}/{part}"):
+                    shutil.copytree(f"{self.crate.folder}/{part}", f"{room}/{part}")
+            for path in {path for row in batch for path in row.lines}:
+                lines = pathlib.Path(room, path).read_text().split("\n")
+                for row in batch:
+                    for at, new in row.lines.get(path, {}).items():
+                        lines[at] = new
+                pathlib.Path(room, path).write_text("\n".join(lines))
+            asked = {row.function for row in batch}
+            if self.with_holes:
+                for function in self.functions.values():
+                    if function.is_plain and function.opens < function.last - 1 and function.name not in asked:
+                        self.leave_open(room, function)
+            flags = ["--jobs", "1", "--allow-holes", *(word for name in sorted(asked) for word in ("--only", name))]
+            lib = self.rt.rtlib
+            words = [lib.RATTLE, "check", *self.crate.words(flags, keeps=False), "--incremental", self.kept]
+            how = {"cwd": room, "stdin": subprocess.DEVNULL, "stdout": subprocess.PIPE, "stderr": subprocess.STDOUT}
+            return subprocess.run([*lib.guarded(), *words], **how, errors="replace").stdout
+
+    def leave_open(self, room, function):
+        """Has the check take a function by its contract: its body is cut off, and its proof is a hole."""
+        file = pathlib.Path(room, function.path)
+        lines = file.read_text().split("\n")
+        body = range(function.opens + 1, function.last)
+        lines[body.start:body.stop] = ["unreachable!()", *[""] * (len(body) - 1)]
+        file.write_text("\n".join(lines))
+        path = function.name.split("::")
+        folder = pathlib.Path(room, "proofs", *path)
+        folder.mkdir(parents=True, exist_ok=True)
+        for old in ("Invariants.antt", "Answers.antt"):
+            folder.joinpath(old).unlink(missing_ok=True)
+        shutil.rmtree(folder.parent / "fn" / path[-1], ignore_errors=True)
+        statement = f"Rattle.{self.crate.name}.proofs.{'.'.join(path)}.Statement.{{statement}}"
+        proof = f"pub {path[-1]}_spec : {{M : Type 1}} → statement M\n{path[-1]}_spec = ?\n"
+        folder.joinpath("Proof.antt").write_text(f"use {statement}\n\n{proof}")
+
+    def read(self, batch, said):
+        """Settles those rows of a batch of which the check says enough."""
+        if self.rt.rtlib.STALE.search(said):
+            raise Stop(f"{self.crate.name}: a library below cannot be used: remove crates/*/out")
+        lines = said.split("\n")
+        faults = [FAULT.match(it) for it in lines]
+        is_read = any(it.startswith("only=") for it in lines)
+        for row in batch:
+            own = [it.string for it in faults if it and self.is_of(row, it[1], int(it[2]) - 1)]
+            if own and (not is_read or any(self.rt.unread(it, row.lines) for it in own)):
+                row.settle(BAD, own[0][:200])
+        if is_read:
+            asked = {row.function for row in batch}
+            for row in batch:
+                if not row.verdict:
+                    self.read_function(row, asked - {row.function}, lines)
+
+    def is_of(self, row, path, line):
+        function = self.functions[row.function]
+        return row.holds(path, line) or path == function.path and function.first <= line <= function.last
+
+    def read_function(self, row, others, lines):
+        """Settles a row by the line of its function, unless that calls another of the batch which was refused."""
+        head = f"fn {self.crate.name}::{row.function}: "
+        told = next((it[len(head):] for it in lines if it.startswith(head)), "")
+        called = {it.partition("::")[2] for it in re.findall(r"`([\w:]+)`", told.partition("it calls ")[2])}
+        # (what a hole is the proof of is not proved either, and is no reason)
+        called = called & others if self.with_holes else called
+        if called:
+            self.calls.setdefault(row.function, set()).update(called)
+        elif told.startswith(("proved", "no holes", "depends on a hole in")):
+            row.settle(PROVES, f"{row.function} is proved with it")
+        elif told.startswith(("no proof", "not proved")):
+            self.settle_refused(row, told, lines)
+        elif told:
+            row.settle(UNSETTLED, told[:200])
+
+    def settle_refused(self, row, told, lines):
+        goals = re.search(r"`search` did not prove (.*?)(?:;|$)", told)
+        folder = "proofs/" + row.function.replace("::", "/") + "/"
+        faults = [it for it in lines if re.match(rf"(?:\./)?{re.escape(folder)}\S+ error", it)]
+        reasons = [it for it in faults if not NAMES.search(it)]
+        function = self.functions[row.function]
+        notes = [re.match(r"note: (\S+?):(\d+):\d+: (.*)", it) for it in lines]
+        own = [it[3] for it in notes if it and self.is_of(row, it[1], int(it[2]) - 1)]
+        if goals:
+            row.settle(REFUSED, f"{function.name}: not proved: {goals[1]}")
+        elif reasons:
+            row.settle(REFUSED, f"{function.name}: its proof no longer fits: {reasons[0].partition(' error: ')[2]}")
+        elif own:
+            row.settle(REFUSED, f"{function.name}: {own[0]}")
+        elif faults:
+            row.settle(BAD, f"only its proof refuses it, which names what the row took away: {faults[0][:160]}")
+        else:
+            row.settle(REFUSED, f"{function.name}: {told}")
+
+
+def is_fresh(dep):
+    """Whether rt ci built this library after all that it is made from was written; it leaves no stamp."""
+    made = pathlib.Path(dep.rlib, "format")
+    if not made.is_file() or os.path.exists(f"{dep.folder}/out/rlib/stamp"):
+        return False
+    parts = [pathlib.Path(it.folder, part) for it in [dep, *dep.below()] for part in ("src", "specs", "proofs")]
+    newest = max((file.stat().st_mtime for part in parts for file in part.rglob("*")), default=0)
+    return newest <= made.stat().st_mtime
+
+
+def build_libraries(crate):
+    """Has the libraries below a crate built: as rt ci left them, or as rt must-fail builds them."""
+    if not all(is_fresh(dep) for dep in crate.below()):
+        for dep in crate.below():
+            if dep.build_rlib(["--jobs", "1"], anew=False):
+                raise Stop(f"{crate.name}: its library {dep.name} is not proved")
+
+
+def try_crate(rt, crate):
+    functions = functions_of(crate.folder)
+    rows = [read_row(rt, crate, functions, file) for file in sorted(pathlib.Path(crate.folder, "planted").glob("*.edit"))]
+    if not any(row.proves for row in rows):
+        rows.append(Row(f"{crate.name}/planted", verdict=BAD, why="no row of this crate is one that proves"))
+    with tempfile.TemporaryDirectory(prefix="planted-kept-") as kept:
+        Trial(rt, crate, functions, kept).run(rows)
+    print("\n".join(f"planted {row.label}: {row.said()}" for row in rows), flush=True)
+    return rows
+
+
+def try_all(names):
+    """Tries the rows of these crates, or of all, side by side as rt ci tries edits."""
+    os.chdir(ROOT)
+    rt = load_rt()
+    rt.rtlib.guarded()
+    crates = [it for it in rt.rtlib.crates_below(str(ROOT)) if os.path.isdir(f"{it.folder}/planted")]
+    unknown = set(names) - {it.name for it in crates}
+    if unknown or not crates:
+        raise Stop(f"no rows: {', '.join(sorted(unknown)) or 'crates/*/planted'}")
+    crates = [it for it in crates if not names or it.name in names]
+    for crate in crates:
+        build_libraries(crate)
+    work = {(it.name, "edits"): ([], it.count(rb"\n"), rt.need(it), lambda given, jobs, it=it: try_crate(rt, it)) for it in crates}
+    return [row for rows in rt.in_lanes(work).values() for row in rows]
+
+
+def tried_by_rt(name):
+    """Has `rt must-fail` try a crate's rows in the place of its must-fail edits, and returns what it says of each."""
+    folder, planted = ROOT / "crates" / name / "must-fail", ROOT / "crates" / name / "planted"
+    rows = {file.name: file.read_text() for file in sorted(planted.glob("*.edit"))}
+    with tempfile.TemporaryDirectory(prefix="planted-aside-") as aside:
+        if folder.is_dir():
+            shutil.move(folder, aside)
+        try:
+            folder.mkdir()
+            for file, text in rows.items():
+                if not re.search(r"^expect: proves$", text, re.M):
+                    folder.joinpath(file).write_text(re.sub(r"^turns: .*\n", "", text))
+            said = subprocess.run(["rt", "must-fail", name], cwd=ROOT, stdout=subprocess.PIPE, stderr=subprocess.STDOUT, text=True).stdout
+        finally:
+            shutil.rmtree(folder)
+            if pathlib.Path(aside, "must-fail").is_dir():
+                shutil.move(pathlib.Path(aside, "must-fail"), folder)
+    wanted = [file for file, text in rows.items() if not re.search(r"^expect: proves$", text, re.M)]
+    return [row_by_rt(name, file, said) for file in wanted]
+
+
+def row_by_rt(name, file, said):
+    row = Row(f"{name}/{pathlib.Path(file).stem}")
+    told = re.search(rf"must-fail {name}/{re.escape(file)}: (.*)", said)
+    is_refused = told and told[1].startswith("refused, as it must be")
+    row.settle(REFUSED if is_refused else UNSETTLED, told[1][:200] if told else said[-200:].strip())
+    return row
+
+
+def try_all_by_rt(names):
+    """Tries the rows of these crates, or of all, one by one, a crate a processor."""
+    crates = sorted(it.parent.name for it in ROOT.glob("crates/*/planted"))
+    with ThreadPoolExecutor(os.cpu_count() or 1) as pool:
+        tried = list(pool.map(tried_by_rt, [it for it in crates if not names or it in names]))
+    rows = [row for rows in tried for row in rows]
+    print("\n".join(f"planted {row.label}: {row.said()}" for row in rows), flush=True)
+    return rows
+
+
+def is_known_kit():
+    if not shutil.which("rt"):
+        raise Stop("rt is not on the path")
+    version = subprocess.run(["rt", "version"], stdout=subprocess.PIPE, text=True).stdout
+    return version.startswith(tuple(f"{it} " for it in KITS))
+
+
+def main():
+    parser = argparse.ArgumentParser(description=__doc__, formatter_class=argparse.RawDescriptionHelpFormatter)
+    parser.add_argument("crates", metavar="CRATE", nargs="*", help="a crate with rows")
+    parser.add_argument("--all", action="store_true", help="all crates with rows")
+    options = parser.parse_args()
+    if options.all == bool(options.crates):
+        parser.error("either --all or crates")
+    try:
+        rows = try_all(options.crates) if is_known_kit() else try_all_by_rt(options.crates)
+    except (Stop, OSError, AttributeError) as error:
+        print(f"planted.py: {error}", file=sys.stderr)
+        return 2
+    failed = [row for row in rows if not row.is_well()]
+    for row in failed:
+        print(f"planted: FAILED: {row.label}: {row.said()}")
+    print(f"{sum(row.is_well() and not row.proves for row in rows)} refused, {len(failed)} failed")
+    return 1 if failed else 0
+
+
+if __name__ == "__main__":
+    sys.exit(main())
