@@ -1,6 +1,6 @@
 -- Words that are laid from a source one part after the other.
 use Rattle.std.proofs.Common.{◌≡◌, ◌≤◌, ◌<◌, ℕ, zero, suc, ◌+◌, ◌-◌, ◌*◌, Bool, List, [], ◌∷◌, ◌++◌, Option, length, take, drop, replicate, slice_index_or, min, arith, refl, sym, ap, ◌∙◌, append_assoc, append-nil, length-append, length-drop, take-append-drop, length-take-le, add-one, drop-cons}
-use Rattle.std.proofs.lemmas.List.{take-append-le, take_all}
+use Rattle.std.proofs.lemmas.List.{take-append-le, take_all, replicate-append-replicate}
 use Rattle.std.proofs.lemmas.List.Sums.{sum_by-append}
 use Rattle.std.proofs.Math.Seq.{drop-append_seam}
 use lib.Seq.{drop-append-le}
@@ -83,13 +83,19 @@ pushed_all m n a b count left old new p none =
     let all : count - left ≡ count = omega arith in
     (p.skipped.taken, p.skipped.takes, omega (arith, p.skipped.size), p.words ∙ ap (λ k. old ++ words_of k p.skipped.taken) all)
 
--- a region's words: those that were laid, those that were passed over, and zeros
-pub region_laid : (w top used : ℕ) (old mid new bs cs : List ℕ) → used ≡ min top w → length bs ≡ 8 * used → mid ≡ old ++ words_of used bs → new ≡ mid ++ replicate (w - used) 0 →
-    new ≡ old ++ region_words w top (bs ++ cs)
-region_laid w top used old mid new bs cs u len p q =
+-- a region's words: those that were laid, and zeros that are still to come; those that were passed over don't matter
+pub region_laid : (w top used : ℕ) (old new bs cs : List ℕ) → used ≡ min top w → length bs ≡ 8 * used → new ≡ old ++ words_of used bs → new ++ replicate (w - used) 0 ≡ old ++ region_words w top (bs ++ cs)
+region_laid w top used old new bs cs u len p =
     let front : words_of used bs ≡ words_of (min top w) (bs ++ cs) = sym (words_of-front used bs cs (omega (arith, len))) ∙ ap (λ k. words_of k (bs ++ cs)) u in
     let pad : w - used ≡ w - top = omega (arith, u) in
-    q ∙ ap (λ x. x ++ replicate (w - used) 0) p ∙ append_assoc old (words_of used bs) (replicate (w - used) 0) ∙ (λ t. old ++ (front t ++ replicate (pad t) 0))
+    ap (λ x. x ++ replicate (w - used) 0) p ∙ append_assoc old (words_of used bs) (replicate (w - used) 0) ∙ (λ t. old ++ (front t ++ replicate (pad t) 0))
+
+-- a region without a used word
+pub none_laid : (old : List ℕ) (zeros w : ℕ) → old ++ replicate (zeros + w) 0 ≡ (old ++ replicate zeros 0) ++ region_words w 0 []
+none_laid old zeros w =
+    let used : min 0 w ≡ 0 = omega arith in
+    let pad : w - 0 ≡ w = omega arith in
+    ap (λ l. old ++ l) (sym (replicate-append-replicate zeros w 0)) ∙ sym (append_assoc old (replicate zeros 0) (replicate w 0)) ∙ (λ t. (old ++ replicate zeros 0) ++ (words_of (sym used t) [] ++ replicate (sym pad t) 0))
 
 table_words-snoc : (es : List Entry) (e : Entry) → table_words (es ++ e ∷ []) ≡ table_words es + e.top
 table_words-snoc es e = omega (arith, sum_by-append (λ (e : Entry). e.top) es (e ∷ []), table_words-cons e [])
@@ -151,12 +157,12 @@ laid_more m n o a b c w table i d out new bs l lt t len is =
       words = is ∙ ap (λ x. x ++ region_words w e.top bs) l.words ∙ sym (all_words-snoc w es e l.taken bs l.size len) ∙ ap (λ x. all_words w x (words_of (table_words x) (l.taken ++ bs))) (sym split);
     }
 
--- the next region isn't there
-pub laid_fails : (m n o : Bool) (a b : Option (List ℕ)) (w : ℕ) (table : List Entry) (i : ℕ) (d : Entry) (out : List ℕ) (e : Fault) → Laid m n a b w table i out → i < length table →
-    TakeFails n o b (8 * (slice_index_or table i d).top) e → TakeFails m o a (8 * table_words table) e
-laid_fails m n o a b w table i d out e l lt h =
+-- what the table announces of the first regions, of the next one, and in all
+pub table_words-next : (table : List Entry) (i : ℕ) (d : Entry) → i < length table →
+    (table_words (take (i + 1) table) ≡ table_words (take i table) + (slice_index_or table i d).top) × (table_words (take i table) + (slice_index_or table i d).top ≤ table_words table)
+table_words-next table i d lt =
     let x : Entry = slice_index_or table i d in
     let parts : table_words table ≡ table_words (take i table) + table_words (drop i table) = ap table_words (sym (take-append-drop i table)) ∙ sum_by-append (λ (e : Entry). e.top) (take i table) (drop i table) in
     let split : drop i table ≡ x ∷ drop (i + 1) table = drop-cons table i d lt ∙ ap (λ k. x ∷ drop k table) (sym (add-one i)) in
     let sum : table_words (drop i table) ≡ x.top + table_words (drop (i + 1) table) = ap table_words split ∙ table_words-cons x (drop (i + 1) table) in
-    fails_after m n o a b l.taken (8 * x.top) (8 * table_words table) e l.takes h (omega (arith, l.size, parts, sum))
+    (ap table_words (take-snoc i table d lt) ∙ table_words-snoc (take i table) x, omega (arith, parts, sum))

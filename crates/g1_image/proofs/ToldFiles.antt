@@ -26,7 +26,7 @@ decided_power : (n : ℕ) → Decided (IsPowerOfTwo n)
 decided_power n = decided_as (ones n ≡ 1) (IsPowerOfTwo n) (power_of_ones (n + 1) n (omega arith)) (λ p. ap ones p.1 ∙ ones_of_power p.0) (decided_eq (ones n) 1)
 
 -- sizes within the limits
-decided_limits : (w k n : ℕ) → Decided (IsWithinLimits w k n)
+pub decided_limits : (w k n : ℕ) → Decided (IsWithinLimits w k n)
 decided_limits w k n =
     let W : Type 0 = IsPowerOfTwo w × ((16 ≤ w) × (w ≤ 65536)) in
     let K : Type 0 = IsPowerOfTwo k × ((4 ≤ k) × ((k ≤ 64) × (k ≤ w))) in

@@ -4,6 +4,7 @@ pub mod Image
 pub mod Faults
 pub mod Plain
 pub mod Front
+pub mod Growing
 pub mod Draft
 pub mod Marks
 pub mod Bits

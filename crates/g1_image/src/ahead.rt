@@ -8,7 +8,7 @@ use std::alloc::{AllocError, Global};
 // An image may have 134 million bytes: few calls read it, and a small one doesn't take much room.
 pub(crate) const PIECE: usize = 65_536;
 
-/// The bytes that wait stand in the room, from a start to an end. A source that has ended is asked no
+/// The bytes that wait are in the room, from a start to an end. A source that has ended is asked no
 /// more: one more read of a terminal would wait for another line.
 #[derive(Drop)]
 pub(crate) struct Ahead {
@@ -77,7 +77,7 @@ impl Ahead {
         self.end = end - start;
     }
 
-    /// Makes the room twice as large where the bytes reach its end.
+    /// Makes the room twice as large if the bytes reach its end.
     fn grow(&mut self) -> Result<(), AllocError>
         ensures same { OnOk result (waiting self.new ≡ waiting self.old) }
         ensures room { OnOk result (self.new.end < vec_len self.new.room) }
@@ -91,7 +91,7 @@ impl Ahead {
         Ok(())
     }
 
-    /// Reads behind the bytes, and tells whether there were any.
+    /// Reads behind the bytes, and returns whether there were any.
     fn read_on<S: Source>(&mut self, source: &mut S) -> Result<bool, Fault>
         requires known { KnowsEnd self.old (S.left source.old) }
         ensures known { KnowsEnd self.new (S.left source.new) }
@@ -115,7 +115,7 @@ impl Ahead {
         Ok(count > 0)
     }
 
-    /// Reads until so many bytes wait, and tells whether they do.
+    /// Reads until this many bytes wait, and returns whether they do.
     pub(crate) fn reach<S: Source>(&mut self, source: &mut S, wanted: usize) -> Result<bool, Fault>
         requires known { KnowsEnd self.old (S.left source.old) }
         ensures known { KnowsEnd self.new (S.left source.new) }

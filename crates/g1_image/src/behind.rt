@@ -7,7 +7,7 @@ use byteorder::{ByteOrder, LittleEndian};
 use g1_words::Fault;
 use std::alloc::AllocError;
 
-/// The bytes that wait stand at the front of the room. All its memory is taken when it is made, so that
+/// The bytes that wait are at the front of the room. All its memory is taken when it is made, so that
 /// nothing else than the sink can fail once a byte was written.
 #[derive(Drop)]
 pub(crate) struct Behind {
@@ -47,7 +47,7 @@ impl Behind {
         Ok(())
     }
 
-    /// Writes the bytes that wait where there is no room behind them for a word.
+    /// Writes the bytes that wait if there is no room behind them for a word.
     fn make_room<S: Sink>(&mut self, sink: &mut S) -> Result<(), Fault>
         ensures room { OnOk result (self.new.end + 8 ≤ vec_len self.new.room) }
         ensures ok { OnOk result (Sent (S.written sink.old) (S.written sink.new) (unsent self.old) [] (unsent self.new)) }
@@ -71,7 +71,7 @@ impl Behind {
         self.end = to;
     }
 
-    /// Has these words wait, too, and writes what waits where the room is full.
+    /// Has these words wait, too, and writes what waits if the room is full.
     pub(crate) fn send<S: Sink>(&mut self, sink: &mut S, words: &[u64]) -> Result<(), Fault>
         ensures ok { OnOk result (Sent (S.written sink.old) (S.written sink.new) (unsent self.old) (words_text words.now) (unsent self.new)) }
         ensures err { IfErr result (SendFails (S.written sink.old) (S.written sink.new) (unsent self.old) (words_text words.now)) }

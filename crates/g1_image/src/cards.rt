@@ -7,7 +7,7 @@ use g1_words::{Fault, Stand};
 use indexmap::IndexSet;
 use std::alloc::Global;
 
-/// Tells whether a card stands in a used region.
+/// Returns whether a card lies in a used region.
 fn is_used(draft: &Draft, c: u32) -> bool
     ensures { IsTrue result ↔ IsUsedCard draft.now c }
 {
@@ -19,7 +19,7 @@ fn is_used(draft: &Draft, c: u32) -> bool
     draft.region(region as u32).kind.is_used()
 }
 
-/// Puts the log's cards into a set, or tells the first that isn't good.
+/// Puts the log's cards into a set, or returns the first that isn't good.
 fn put_log(draft: &Draft, log: &[u32], cards: &mut IndexSet<u32>) -> Result<(), Fault>
     requires count { length log.now < 2 ^ 32 }
     requires none { cards.old.keys ≡ [] }
@@ -49,7 +49,7 @@ pub(crate) fn check_log(alloc: Global, draft: &Draft, log: &[u32]) -> Result<Ind
     Ok(cards)
 }
 
-/// Tells whether a remembered set may be that of a region.
+/// Returns whether a remembered set may be that of a region.
 fn is_remembered_set(draft: &Draft, r: u32, cards: &[u32]) -> bool
     requires there { r < draft.now.geometry.n }
     requires count { length cards.now < 2 ^ 32 }
@@ -74,7 +74,7 @@ fn is_remembered_set(draft: &Draft, r: u32, cards: &[u32]) -> bool
     true
 }
 
-/// Tells the first region whose remembered set isn't good.
+/// Returns the first region whose remembered set isn't good.
 pub(crate) fn check_remembered(draft: &Draft, remembered: &[Vec<u32>]) -> Result<(), Fault>
     requires one_each { length remembered.now ≡ draft.now.geometry.n }
     requires counts { All (λ s. length s < 2 ^ 32) (map (λ s. s.items) remembered.now) }

@@ -99,7 +99,7 @@ impl<'a> Cursor<'a> {
         LittleEndian::read_u32(front)
     }
 
-    /// Takes a heading, where its bytes are there.
+    /// Takes a heading, if its bytes are there.
     pub(crate) fn heading(&mut self) -> Option<Heading>
         ensures found { IfSome result (λ h. HeadingFits h × (self.old ≡ heading_text h ++ self.new)) }
         ensures short { IfNone result (length self.old < 24) }
@@ -139,7 +139,7 @@ impl<'a> Cursor<'a> {
         Ok(())
     }
 
-    /// Takes the magic of a version, or tells the fault of the bytes.
+    /// Takes the magic of a version, or returns the fault of the bytes.
     pub(crate) fn magic(&mut self) -> Result<Version, Fault>
         ensures ok { IfOk result (λ v. self.old ≡ magic v ++ self.new) }
         ensures err { IfErr result (FaultOf self.old) }
@@ -157,7 +157,7 @@ impl<'a> Cursor<'a> {
         Ok(version)
     }
 
-    /// Takes the magic and a heading within the limits, or tells the fault of the bytes.
+    /// Takes the magic and a heading within the limits, or returns the fault of the bytes.
     pub(crate) fn opening(&mut self) -> Result<(Heading, Version), Fault>
         ensures ok { IfOk result (λ x. HeadingFits x.0 × IsGoodHeading x.0 × (self.old ≡ magic x.1 ++ (heading_text x.0 ++ self.new))) }
         ensures err { IfErr result (FaultOf self.old) }
@@ -174,7 +174,7 @@ impl<'a> Cursor<'a> {
     }
 }
 
-/// Tells whether a heading is within the limits.
+/// Returns whether a heading is within the limits.
 fn is_good_heading(h: &Heading) -> bool
     ensures { IsTrue result ↔ IsGoodHeading h.now }
 {

@@ -17,7 +17,7 @@ use crate::table::{check_flags, regions};
 use g1_words::{Fault, Geometry, Heap};
 use std::alloc::Global;
 
-/// Tells the first fault of a heap's regions and references.
+/// Returns the first fault of a heap's regions and references.
 fn check_heap(alloc: Global, draft: &Draft) -> Result<(), Fault>
     ensures ok { OnOk result (IsGoodHeap draft.now) }
     ensures err { IfErr result (λ e. (e ≡ Fault.Memory) ⊎ HeapFault draft.now e) }
@@ -29,7 +29,7 @@ fn check_heap(alloc: Global, draft: &Draft) -> Result<(), Fault>
     Ok(())
 }
 
-/// The heap that a file tells, before it is looked at.
+/// The heap in a file, before it is checked.
 fn draft_heap(
     alloc: Global,
     h: &Heading,

@@ -28,7 +28,7 @@ fn push_table(out: &mut Vec<u8>, regions: &[Region]) -> Result<(), AllocError>
     Ok(())
 }
 
-/// Writes what stands before the words of an image, in the place of the bytes that a list has.
+/// Writes what precedes the words of an image, instead of the bytes that a list has.
 pub(crate) fn write_front(out: &mut Vec<u8>, image: &Image) -> Result<(), AllocError>
     ensures { OnOk result (IsTextIn Version.Two (out.new.items ++ words_text (file_of Version.Two image.now).words) image.now) }
 {
@@ -59,27 +59,13 @@ pub fn encode(alloc: Global, image: &Image) -> Result<Vec<u8>, Fault>
     ensures err { IfErr result (λ e. e ≡ Fault.Memory) }
 {
     let mut out = Vec::new(alloc);
-    encode_into(&mut out, image)?;
-    Ok(out)
-}
-
-/// Writes the text of an image, of version 2, in the place of the bytes that a list has. A list that has the room
-/// doesn't grow, so bytes that nobody reads any more lend theirs.
-///
-/// # Errors
-///
-/// `Fault::Memory` where a growth was refused: the list then has a beginning of the text.
-pub fn encode_into(out: &mut Vec<u8>, image: &Image) -> Result<(), Fault>
-    ensures ok { OnOk result (IsTextIn Version.Two out.new.items image.now) }
-    ensures err { IfErr result (λ e. e ≡ Fault.Memory) }
-{
-    write_front(out, image)?;
+    write_front(&mut out, image)?;
     let heap = image.heap();
     push_used(
-        out,
+        &mut out,
         heap.geometry().region_words() as usize,
         heap.regions(),
         heap.words(),
     )?;
-    Ok(())
+    Ok(out)
 }

@@ -1,7 +1,7 @@
 ghost use Rattle.g1_image.specs.Laws.{CardsInRegions, CardsRise, ExactRemembered, RefinedRemembered, CoveredImage, UncoveredSlots, UncoveredRise, OneFile, OneImage, OneText, TextsExist};
 ghost use Rattle.g1_image.specs.Verdict.{OneFault, NoFaultOfText, AlwaysOne};
 
-/// What the cards of an image tell.
+/// What the cards of an image show.
 pub fn remembered_cards()
     ensures regions { CardsInRegions }
     ensures rising { CardsRise }
@@ -17,7 +17,7 @@ pub fn cover()
 {}
 
 /// Bytes are the text of one file and of one image at most. An image has one text of version 2, and one
-/// of version 1 where no region is pinned.
+/// of version 1 if no region is pinned.
 pub fn one_text()
     ensures file { OneFile }
     ensures image { OneImage }

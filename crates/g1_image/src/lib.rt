@@ -2,12 +2,12 @@
 //!
 //! An image is a heap with each region's remembered set and the dirty log. Its text is the magic, a
 //! heading of six numbers, the region table, the roots, the log, the remembered sets and the used
-//! words. `decode` reads forward once: the parts, then the regions' kinds and shapes, the references
-//! and the cards, and tells the fault of the first of these stages that finds one. `read` does so with
-//! the bytes that a source gives piece by piece: what stands before the words is looked for in twice as
-//! many bytes until it is there whole, the words go straight to their places, and the source is read to
-//! its end whatever fault its bytes have. `write` sends the text of an image to a sink the same way: what
-//! stands before the words whole, and the words in pieces.
+//! words. `decode` reads forward once: the parts, then the regions' kinds and shapes, the
+//! references and the cards, and returns the fault of the first of these stages that finds one.
+//! `read` does so with the bytes that a source gives piece by piece: what precedes the words is
+//! looked for in twice as many bytes until it is there whole, the words go straight to their
+//! places, and the source is read to its end whatever fault its bytes have. `write` sends the text
+//! of an image to a sink the same way: what precedes the words whole, and the words in pieces.
 #![tactic(auto)]
 
 mod ahead;
@@ -35,7 +35,7 @@ mod table;
 mod writing;
 
 pub use decoding::decode;
-pub use encoding::{encode, encode_into};
+pub use encoding::encode;
 pub use image::Image;
 pub use sending::write;
 pub use sink::Sink;

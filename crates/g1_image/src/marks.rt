@@ -40,7 +40,7 @@ impl Marks {
         self.count
     }
 
-    /// Tells whether a mark is set.
+    /// Returns whether a mark is set.
     pub(crate) fn is_set(&self, at: usize) -> bool
         requires { at < length self.now }
         ensures { result ≡ slice_index_or self.now at false }

@@ -1,15 +1,17 @@
 //! The words of an image, straight from a source to their places.
-ghost use Rattle.std.specs.Prelude.{◌≡◌, ◌≤◌, ◌<◌, ◌*◌, ◌^◌, ◌++◌, ℕ, List, length, OnOk, IfOk, IfErr};
+ghost use Rattle.std.specs.Prelude.{◌≡◌, ◌≤◌, ◌<◌, ◌*◌, ◌^◌, ◌++◌, ◌+◌, ℕ, List, [], length, replicate, OnOk, IfOk, IfErr};
 ghost use Rattle.std.specs.Io.KnownBytes.{Keeps};
 ghost use Rattle.g1_image.specs.Text.{words_of, table_words};
 ghost use Rattle.g1_image.specs.Image.{all_words};
 ghost use Rattle.g1_image.specs.Reading.{IsBytes};
 ghost use Rattle.g1_image.specs.Ahead.{waiting, to_take, KnowsEnd, Takes, TakeFails, region_words};
+ghost use Rattle.g1_image.specs.Growing.{laid_words};
 
 use crate::ahead::Ahead;
 use crate::cursor::Entry;
 use crate::laying::{push_read, push_zeros};
 use crate::source::Source;
+use crate::table::table_words as announced;
 use g1_words::Fault;
 use std::alloc::Global;
 
@@ -73,28 +75,81 @@ fn skip_words<S: Source>(source: &mut S, ahead: &mut Ahead, count: u32) -> Resul
     Ok(())
 }
 
+/// The words of the regions so far: those in the list, and so many zeros behind them. The zeros come
+/// into the list with the words that follow them.
+#[derive(Drop)]
+struct Growing {
+    words: Vec<u64>,
+    zeros: u32,
+}
+
+/// Writes the zeros that are still to come, once so many words wait.
+fn push_gap<S: Source>(
+    source: &mut S,
+    ahead: &mut Ahead,
+    laid: &mut Growing,
+    wanted: u64,
+) -> Result<(), Fault>
+    requires known { KnowsEnd ahead.old (S.left source.old) }
+    requires small { wanted ≤ 2 ^ 44 }
+    ensures known { KnowsEnd ahead.new (S.left source.new) }
+    ensures none { OnOk result (Takes (S.failed source.old) (S.failed source.new) (to_take ahead.old (S.left source.old)) (to_take ahead.new (S.left source.new)) []) }
+    ensures words { OnOk result (laid.new.words.items ≡ laid.old.words.items ++ replicate laid.old.zeros 0) }
+    ensures err { IfErr result (TakeFails (S.failed source.old) (S.failed source.new) (to_take ahead.old (S.left source.old)) (8 * wanted)) }
+{
+    if !ahead.reach(source, 8 * wanted as usize)? {
+        return Err(Fault::Short);
+    }
+    push_zeros(&mut laid.words, laid.zeros)?;
+    Ok(())
+}
+
+/// The list is at most this many times as long as the words that are known to be there. A smaller number
+/// makes more words wait if free regions come first, more than a cache holds: at 64, two megabytes.
+const LENGTHENED: u64 = 64;
+
+/// How many words have to wait before the list reaches up to a place: a part of them, or all that are
+/// left. A short text that announces large regions takes no room for them.
+fn words_wanted(place: u64, taken: u64, left: u64) -> u64
+    ensures { result ≤ left }
+{
+    left.min((place / LENGTHENED).saturating_sub(taken))
+}
+
 /// Writes a region's words at the end: its used words, and zeros after them.
 fn push_region<S: Source>(
     source: &mut S,
     ahead: &mut Ahead,
-    out: &mut Vec<u64>,
+    laid: &mut Growing,
     w: u32,
     top: u32,
+    taken: u64,
+    left: u64,
 ) -> Result<(), Fault>
     requires known { KnowsEnd ahead.old (S.left source.old) }
+    requires sizes { laid.old.zeros + w ≤ 2 ^ 25 }
+    requires small { left ≤ 2 ^ 44 }
+    requires there { top ≤ left }
     ensures known { KnowsEnd ahead.new (S.left source.new) }
-    ensures ok { OnOk result ((bs : List ℕ) × Takes (S.failed source.old) (S.failed source.new) (to_take ahead.old (S.left source.old)) (to_take ahead.new (S.left source.new)) bs × (length bs ≡ 8 * top) × (out.new.items ≡ out.old.items ++ region_words w top bs)) }
-    ensures err { IfErr result (TakeFails (S.failed source.old) (S.failed source.new) (to_take ahead.old (S.left source.old)) (8 * top)) }
+    ensures ok { OnOk result ((bs : List ℕ) × Takes (S.failed source.old) (S.failed source.new) (to_take ahead.old (S.left source.old)) (to_take ahead.new (S.left source.new)) bs × (length bs ≡ 8 * top) × (laid_words laid.new ≡ laid_words laid.old ++ region_words w top bs)) }
+    ensures zeros { OnOk result (laid.new.zeros ≤ laid.old.zeros + w) }
+    ensures err { IfErr result (TakeFails (S.failed source.old) (S.failed source.new) (to_take ahead.old (S.left source.old)) (8 * left)) }
 {
+    if top == 0 {
+        laid.zeros += w;
+        return Ok(());
+    }
+    let place = laid.words.len() as u64 + u64::from(laid.zeros);
+    push_gap(source, ahead, laid, words_wanted(place, taken, left))?;
     let used = if top < w { top } else { w };
-    push_next(source, ahead, out, used)?;
+    push_next(source, ahead, &mut laid.words, used)?;
     skip_words(source, ahead, top - used)?;
-    push_zeros(out, w - used)?;
+    laid.zeros = w - used;
     Ok(())
 }
 
 /// The words of the regions, from the bytes that come next: each region's used words first and zeros
-/// after them.
+/// after them. The list grows with the words that are there.
 pub(crate) fn lay_pieces<S: Source>(
     alloc: Global,
     w: u32,
@@ -102,15 +157,24 @@ pub(crate) fn lay_pieces<S: Source>(
     source: &mut S,
     ahead: &mut Ahead,
 ) -> Result<Vec<u64>, Fault>
+    requires count { length table.now ≤ 4096 }
     requires sizes { length table.now * w ≤ 2 ^ 24 }
     requires known { KnowsEnd ahead.old (S.left source.old) }
     ensures known { KnowsEnd ahead.new (S.left source.new) }
     ensures ok { IfOk result (λ v. (bs : List ℕ) × Takes (S.failed source.old) (S.failed source.new) (to_take ahead.old (S.left source.old)) (to_take ahead.new (S.left source.new)) bs × (length bs ≡ 8 * table_words table.now) × (v.items ≡ all_words w table.now (words_of (table_words table.now) bs))) }
     ensures err { IfErr result (TakeFails (S.failed source.old) (S.failed source.new) (to_take ahead.old (S.left source.old)) (8 * table_words table.now)) }
 {
-    let mut out = Vec::with_capacity(alloc, table.len() * w as usize)?;
+    let total = announced(table);
+    let mut laid = Growing {
+        words: Vec::new(alloc),
+        zeros: 0,
+    };
+    let mut taken = 0;
     for e in table {
-        push_region(source, ahead, &mut out, w, e.top)?;
+        push_region(source, ahead, &mut laid, w, e.top, taken, total - taken)?;
+        taken += u64::from(e.top);
     }
-    Ok(out)
+    let Growing { mut words, zeros } = laid;
+    push_zeros(&mut words, zeros)?;
+    Ok(words)
 }

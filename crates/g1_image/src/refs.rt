@@ -52,7 +52,7 @@ pub(crate) fn starts(alloc: Global, draft: &Draft) -> Result<Marks, AllocError>
     Ok(marks)
 }
 
-/// Tells whether a word is null or names an object.
+/// Returns whether a word is null or references an object.
 fn is_reference(draft: &Draft, marks: &Marks, x: u64) -> bool
     requires { StartsAre draft.now marks.now }
     ensures { IsTrue result ↔ IsReference draft.now x }
@@ -66,7 +66,7 @@ fn is_reference(draft: &Draft, marks: &Marks, x: u64) -> bool
     marks.is_set((x - 1) as usize)
 }
 
-/// Tells the first root that names no object.
+/// Returns the first root that references no object.
 pub(crate) fn check_roots(draft: &Draft, marks: &Marks) -> Result<(), Fault>
     requires { StartsAre draft.now marks.now }
     ensures ok { OnOk result ((i : ℕ) → i < length draft.now.roots → IsReference draft.now (slice_index draft.now.roots i)) }
@@ -80,7 +80,7 @@ pub(crate) fn check_roots(draft: &Draft, marks: &Marks) -> Result<(), Fault>
     Ok(())
 }
 
-/// Tells the first of some words that names no object.
+/// Returns the first of some words that references no object.
 fn first_stray(draft: &Draft, marks: &Marks, words: &[u64]) -> Option<usize>
     requires { StartsAre draft.now marks.now }
     ensures found { IfSome result (λ i. IsFirstBreach (λ i. IsReference draft.now (slice_index words.now i)) (length words.now) i) }
@@ -94,7 +94,7 @@ fn first_stray(draft: &Draft, marks: &Marks, words: &[u64]) -> Option<usize>
     None
 }
 
-/// Tells the first slot that names no object.
+/// Returns the first slot that references no object.
 pub(crate) fn check_slots(draft: &Draft, marks: &Marks) -> Result<(), Fault>
     requires starts { StartsAre draft.now marks.now }
     requires shaped { ShapedBelow draft.now draft.now.geometry.n }

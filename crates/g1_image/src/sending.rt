@@ -42,7 +42,7 @@ fn send_used<S: Sink>(
 ///
 /// # Errors
 ///
-/// `Fault::Memory`: nothing was written. `Fault::Device(Device::Output)` where a write failed: a
+/// `Fault::Memory`: nothing was written. `Fault::Device(Device::Output)` if a write failed: a
 /// beginning of the text was written.
 pub fn write<S: Sink>(alloc: Global, image: &Image, sink: &mut S) -> Result<(), Fault>
     ensures text { (text : List ℕ) × IsTextIn Version.Two text image.now × Writes text (S.written sink.old) (S.written sink.new) result }

@@ -8,7 +8,7 @@ ghost use Rattle.g1_image.specs.Faults.{IsFirstBreach};
 use crate::draft::Draft;
 use g1_words::{Fault, Kind, header};
 
-/// Tells whether objects that aren't humongous fill the words between two addresses.
+/// Returns whether objects that aren't humongous fill the words between two addresses.
 fn is_tiled(words: &[u64], from: u64, to: u64, region_words: u64) -> bool
     requires order { from ≤ to }
     requires in_words { to ≤ length words.now }
@@ -33,7 +33,7 @@ fn is_tiled(words: &[u64], from: u64, to: u64, region_words: u64) -> bool
     true
 }
 
-/// Tells whether the regions of a run from region r on are there.
+/// Returns whether the regions of a run from region r on are there.
 fn is_run(draft: &Draft, r: u32, size: u64) -> bool
     requires there { r < draft.now.geometry.n }
     requires size { size < 2 ^ 32 }
@@ -123,7 +123,7 @@ fn continuation_shaped(draft: &Draft, r: u32, first: u32, size: u64) -> bool
     top == least
 }
 
-/// Tells whether a region keeps the rules of its kind.
+/// Returns whether a region keeps the rules of its kind.
 fn kind_shaped(draft: &Draft, r: u32, first: u32, size: u64) -> bool
     requires there { r < draft.now.geometry.n }
     requires latest { Latest draft.now r first size }
@@ -139,7 +139,7 @@ fn kind_shaped(draft: &Draft, r: u32, first: u32, size: u64) -> bool
     }
 }
 
-/// Tells whether a region may be the current one, where it is.
+/// Returns whether a region may be the current one, if it is.
 fn current_shaped(draft: &Draft, r: u32) -> bool
     requires there { r < draft.now.geometry.n }
     ensures { IsTrue result ↔ (draft.now.current ≡ Some r → (region draft.now r).kind ≡ Ordinary) }
@@ -153,7 +153,7 @@ fn current_shaped(draft: &Draft, r: u32) -> bool
     }
 }
 
-/// Tells whether a region keeps the rules.
+/// Returns whether a region keeps the rules.
 fn region_shaped(draft: &Draft, r: u32, first: u32, size: u64) -> bool
     requires there { r < draft.now.geometry.n }
     requires latest { Latest draft.now r first size }
@@ -166,7 +166,7 @@ fn region_shaped(draft: &Draft, r: u32, first: u32, size: u64) -> bool
     current_shaped(draft, r)
 }
 
-/// Tells the first region that breaks a rule.
+/// Returns the first region that breaks a rule.
 pub(crate) fn check_shapes(draft: &Draft) -> Result<(), Fault>
     ensures ok { OnOk result (ShapedBelow draft.now draft.now.geometry.n) }
     ensures err { IfErr result (λ e. (r : ℕ) × (e ≡ Fault.Shape r) × IsFirstBreach (IsShaped draft.now) draft.now.geometry.n r) }

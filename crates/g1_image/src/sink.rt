@@ -18,7 +18,7 @@ pub trait Sink {
     ///
     /// # Errors
     ///
-    /// `Fault::Device(Device::Output)` where the write failed; no byte was written then.
+    /// `Fault::Device(Device::Output)` if the write failed; no byte was written then.
     fn write(&mut self, bytes: &[u8]) -> Result<usize, Fault>
         ensures bound { IfOk result (λ n. (n ≤ length bytes.now) × (0 < length bytes.now → 0 < n)) }
         ensures bytes { WriteAppends (written self.old) (written self.new) result bytes.now }
@@ -30,8 +30,8 @@ pub trait Sink {
 ///
 /// # Errors
 ///
-/// `Fault::Device(Device::Output)` where a write failed: the beginning of the bytes that was written
-/// before stands.
+/// `Fault::Device(Device::Output)` if a write failed: the beginning of the bytes that was written
+/// before is there.
 pub(crate) fn write_all<S: Sink>(sink: &mut S, bytes: &[u8]) -> Result<(), Fault>
     ensures ok { OnOk result (Appends (S.written sink.old) (S.written sink.new) bytes.now) }
     ensures err { IfErr result (λ e. (e ≡ Fault.Device Device.Output) × ((k : ℕ) × (k < length bytes.now) × Appends (S.written sink.old) (S.written sink.new) (take k bytes.now))) }

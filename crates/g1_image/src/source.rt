@@ -14,11 +14,11 @@ pub trait Source {
     ghost failed: { Self → Bool };
 
     /// Reads into the front of `buf`, and gives how many bytes it read: none, into a buffer that
-    /// isn't empty, only where none are left.
+    /// isn't empty, only if none are left.
     ///
     /// # Errors
     ///
-    /// `Fault::Device(Device::Input)` where the read failed; no byte is lost then.
+    /// `Fault::Device(Device::Input)` if the read failed; no byte is lost then.
     fn read(&mut self, buf: &mut [u8]) -> Result<usize, Fault>
         ensures bound { IfOk result (λ n. n ≤ length buf.new) }
         ensures bytes { ReadConsumes (left self.old) (left self.new) result buf.new }

@@ -10,10 +10,10 @@ use g1_words::{Device, Fault};
 use std::io;
 use std::io::{ErrorKind, Read, Write};
 
-/// How often a call is made that a signal interrupts: without end, as far as anyone can tell.
+/// How often a call is made that a signal interrupts: without end, as far as anyone can see.
 const TRIES: u64 = u64::MAX;
 
-/// One read, made again where a signal interrupted it.
+/// One read, made again if a signal interrupted it.
 fn read_again<R: Read>(reader: &mut R, buf: &mut [u8]) -> io::Result<usize>
     ensures bound { ReadsAtMost result buf.new }
     ensures bytes { ReadConsumes (R.remaining reader.old) (R.remaining reader.new) result buf.new }
@@ -27,7 +27,7 @@ fn read_again<R: Read>(reader: &mut R, buf: &mut [u8]) -> io::Result<usize>
     Err(io::Error::from(ErrorKind::Interrupted))
 }
 
-/// One write, made again where a signal interrupted it.
+/// One write, made again if a signal interrupted it.
 fn write_again<W: Write>(writer: &mut W, bytes: &[u8]) -> io::Result<usize>
     ensures bound { WritesAtMost result bytes.now }
     ensures bytes { WriteAppends (W.contents writer.old) (W.contents writer.new) result bytes.now }
@@ -41,7 +41,8 @@ fn write_again<W: Write>(writer: &mut W, bytes: &[u8]) -> io::Result<usize>
     Err(io::Error::from(ErrorKind::Interrupted))
 }
 
-/// A reader as a source.
+/// A reader as a source. A read that a signal interrupted is made again, however often. A read that
+/// would block has failed: nothing here waits, and a caller whose reader has nothing yet waits itself.
 #[derive(Drop)]
 pub struct FromReader<R> {
     inner: R,
@@ -77,7 +78,8 @@ impl<R: Read> Source for FromReader<R> {
     }
 }
 
-/// A writer as a sink.
+/// A writer as a sink. A write that a signal interrupted is made again, however often. A write that
+/// would block has failed, and so has one that takes no byte.
 #[derive(Drop)]
 pub struct ToWriter<W> {
     inner: W,
@@ -96,11 +98,12 @@ impl<W: Write> ToWriter<W> {
         }
     }
 
-    /// Hands on what the writer has kept back.
+    /// Hands on what the writer has kept back, by one call of its flush, which is not made again. The
+    /// call is made after a write that failed, too: the writer may have kept back what it took before.
     ///
     /// # Errors
     ///
-    /// `Fault::Device(Device::Output)` where the writer couldn't.
+    /// `Fault::Device(Device::Output)` if the writer couldn't.
     pub fn flush(&mut self) -> Result<(), Fault>
         ensures written { Keeps (⟦<ToWriter<W> as Sink>⟧.written self.old) (⟦<ToWriter<W> as Sink>⟧.written self.new) }
         ensures mark { ⟦<ToWriter<W> as Sink>⟧.failed self.new ≡ marked (⟦<ToWriter<W> as Sink>⟧.failed self.old) result }

@@ -1,4 +1,4 @@
-//! The image that a source tells.
+//! The image in a source.
 ghost use Rattle.std.specs.Prelude.{◌≡◌, ◌≢◌, ◌≤◌, ◌<◌, ◌⊎◌, ◌++◌, ℕ, List, [], length, drop, map, IfSome, OnOk, IfOk, IfErr, IsTrue, IsFalse};
 ghost use Rattle.std.specs.Io.KnownBytes.{IsAtEnd, Consumes};
 ghost use Rattle.g1_image.specs.Source.{IsReadOut, input_mark};
@@ -16,7 +16,7 @@ use crate::source::Source;
 use g1_words::{Device, Fault};
 use std::alloc::Global;
 
-/// Tells whether a fault of some bytes is one of all bytes that begin with them, too.
+/// Returns whether a fault of some bytes is one of all bytes that begin with them, too.
 fn is_final(fault: &Fault) -> bool
     ensures { IsTrue result → (bytes more : List ℕ) → FaultOf bytes fault.now → FaultOf (bytes ++ more) fault.now }
 {
@@ -28,7 +28,7 @@ fn is_final(fault: &Fault) -> bool
     }
 }
 
-/// Tells whether a fault is one of the bytes that were read.
+/// Returns whether a fault is one of the bytes that were read.
 fn is_of_bytes(fault: &Fault) -> bool
     ensures yes { IsTrue result → (fault.now ≢ Fault.Memory) × (fault.now ≢ Fault.Device Device.Input) }
     ensures no { IsFalse result → (fault.now ≡ Fault.Memory) ⊎ (fault.now ≡ Fault.Device Device.Input) }
@@ -96,11 +96,12 @@ fn take_parts<S: Source>(
 }
 
 /// The image whose text is left in a source, read to its end: as `decode` of those bytes, but the words
-/// go straight to their places, and the text is never in memory as a whole.
+/// go straight to their places, and the text is never in memory as a whole. Their list grows with the
+/// words that are there: a short text that announces a large heap takes no room for it.
 ///
 /// # Errors
 ///
-/// `Fault::Device(Device::Input)` where a read failed, `Fault::Memory`, and the fault of the bytes.
+/// `Fault::Device(Device::Input)` if a read failed, `Fault::Memory`, and the fault of the bytes.
 pub fn read<S: Source>(alloc: Global, source: &mut S) -> Result<Image, Fault>
     ensures ok { IfOk result (λ i. IfSome (S.left source.old) (λ xs. IsTextOf xs i)) }
     ensures err { IfErr result (λ e. (e ≡ Fault.Device Device.Input) ⊎ IfSome (S.left source.old) (λ xs. MayFail xs e)) }

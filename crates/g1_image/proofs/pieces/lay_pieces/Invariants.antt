@@ -1,9 +1,15 @@
+use Rattle.std.proofs.Common.{◌≡◌, ◌≤◌, ◌*◌, take}
+use Rattle.g1_image.specs.Text.{table_words}
 use Rattle.g1_image.specs.Ahead.{to_take, KnowsEnd}
+use Rattle.g1_image.specs.Growing.{laid_words}
 use Rattle.g1_image.proofs.Laid.{Laid}
 use Rattle.g1_image.proofs.pieces.lay_pieces.Given as goal
 
 abbrev pub invariant-loop-e : goal.invariant-loop-e
 invariant-loop-e g l = record {
   known : KnowsEnd l.ahead (g.S.Source.left l.source);
-  part : Laid (g.S.Source.failed l.fn.source) (g.S.Source.failed l.source) (to_take l.fn.ahead (g.S.Source.left l.fn.source)) (to_take l.ahead (g.S.Source.left l.source)) l.w l.table l.e-index l.out.items;
+  zeros : l.laid.zeros ≤ l.e-index * l.w;
+  taken : l.taken ≡ table_words (take l.e-index l.table);
+  within : l.taken ≤ table_words l.table;
+  part : Laid (g.S.Source.failed l.fn.source) (g.S.Source.failed l.source) (to_take l.fn.ahead (g.S.Source.left l.fn.source)) (to_take l.ahead (g.S.Source.left l.source)) l.w l.table l.e-index (laid_words l.laid);
 }

@@ -4,7 +4,7 @@ use Rattle.g1_words.proofs.Objects.{tops_fit}
 use Rattle.g1_image.specs.declared.cursor.Version.TheVariants.{Two}
 use Rattle.g1_image.specs.Text.{words_text}
 use Rattle.g1_image.specs.Image.{used_words, IsTextIn}
-use Rattle.g1_image.proofs.encoding.encode_into.Goals as goal
+use Rattle.g1_image.proofs.encoding.encode.Goals as goal
 
 pub push_used-requires-clause-tops : goal.push_used-requires-clause-tops
 push_used-requires-clause-tops c =
