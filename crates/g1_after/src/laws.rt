@@ -1,4 +1,4 @@
-ghost use Rattle.g1_after.specs.After.{ToSpaceObjects, ObjectsAfter, ValidAfter, CoveredAfter, ImageExists, RefsAfter, ExactByRefs, ExactStays, TrackedAfter};
+ghost use Rattle.g1_after.specs.After.{ToSpaceObjects, ObjectsAfter, ValidAfter, CoveredAfter, ImageExists, OneMoved, RefsAfter, ExactByRefs, ExactStays, TrackedAfter, GraphMoved, NothingIntoSet};
 ghost use Rattle.g1_after.specs.Freed.{ObjectsLeft, RefsLeft, NothingIntoUnnamed, ValidLeft, GraphLeft, TrackedLeft, NamedByCards};
 ghost use Rattle.g1_after.specs.Laws.{OneImageAfter, PauseExists, ObjectsPaused, CopiesPaused, TrackedPaused, GraphStays, NothingIntoFreed};
 
@@ -9,13 +9,16 @@ pub fn survivors_moved()
     ensures valid { ValidAfter }
     ensures covered { CoveredAfter }
     ensures exists { ImageExists }
+    ensures one { OneMoved }
     ensures refs { RefsAfter }
     ensures exact { ExactByRefs }
     ensures stays { ExactStays }
     ensures tracked { TrackedAfter }
+    ensures graph { GraphMoved }
+    ensures nothing { NothingIntoSet }
 {}
 
-/// What holds of a heap in which the humongous objects are freed that nothing names.
+/// What holds of a heap in which the humongous objects that nothing references are freed.
 pub fn unnamed_freed()
     ensures objects { ObjectsLeft }
     ensures refs { RefsLeft }
@@ -25,7 +28,7 @@ pub fn unnamed_freed()
     ensures tracked { TrackedLeft }
 {}
 
-/// A humongous object is named by a root, or by a card of its remembered set.
+/// Which remembered cards show that another object references a humongous one.
 pub fn named_by_cards()
     ensures { NamedByCards }
 {}

@@ -49,7 +49,7 @@ module _ (cost : Cost) (i : Image) (tracked : IsTracked i) where
         | inr le ↦ (Ok (image_paused i set e.0), done set e.0 s e.1 le (pause_exists i set e.0 valid (record { ordinary = set_ordinary cost i choice set s; survivors = e.1; room = le })))
       ]
 
-  evacuation_exists : (choice : Choice) → (x : Result Image Fault) × IsEvacuated cost choice i x
+  pub evacuation_exists : (choice : Choice) → (x : Result Image Fault) × IsEvacuated cost choice i x
   evacuation_exists (Budget b) =
       let lives = live_bytes_exist i.heap valid in
       let set = set_exists cost i.heap (map (refined i) (regions i.heap)) lives.0 (length i.log) b in

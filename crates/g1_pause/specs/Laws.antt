@@ -36,6 +36,10 @@ AnswerByAsking = (cost : Cost) (c d : Choice) (bytes : List ℕ) (x : Result (Li
 abbrev pub LiveBytesExist : Type 0
 LiveBytesExist = (h : Heap) → IsValid h → (lives : List ℕ) × IsLiveBytes h lives
 
+-- a tracked image has a pause, whatever the choice and the cost
+abbrev pub EvacuationExists : Type 0
+EvacuationExists = (cost : Cost) (i : Image) (choice : Choice) → IsTracked i → (x : Result Image Fault) × IsEvacuated cost choice i x
+
 -- bytes always have an answer
 abbrev pub AnswerExists : Type 0
 AnswerExists = (cost : Cost) (choice : Choice) (bytes : List ℕ) → IsBytes bytes → (x : Result (List ℕ) Fault) × IsAnswer cost choice bytes x

@@ -45,7 +45,7 @@ pub(crate) fn paused<R: Threads + Sync, G: Gate + Sync>(
 /// # Errors
 ///
 /// The fault of bytes that are no image's text; `Fault::Uncovered` with the lowest slot that isn't
-/// covered; `Fault::Set` and `Fault::Room` as `evacuate` tells them; `Fault::Memory`.
+/// covered; `Fault::Set` and `Fault::Room` as `evacuate` returns them; `Fault::Memory`.
 pub fn pause_bytes<R: Threads + Sync, G: Gate + Sync>(
     rt: &R,
     alloc: Global,

@@ -14,8 +14,8 @@ use g1_work::Gate;
 use std::alloc::Global;
 use std::thread::Threads;
 
-/// The collection set, rising: what the budget buys, or the regions that are named. `remembered` are the
-/// refined sets. Only a budget asks for the live bytes.
+/// The collection set, rising: what the budget buys, or the regions that are given. `remembered`
+/// are the refined sets. Only a budget asks for the live bytes.
 ///
 /// # Errors
 ///

@@ -20,7 +20,7 @@ use g1_work::Gate;
 use std::alloc::Global;
 use std::thread::Threads;
 
-/// All that the pause writes, made ready, and its report. The image stays as it is, so that a refusal
+/// All that the pause writes, prepared, and its report. The image stays as it is, so that a refusal
 /// leaves nothing to undo.
 fn planned<R: Threads + Sync, G: Gate + Sync>(
     rt: &R,
@@ -67,7 +67,7 @@ fn planned<R: Threads + Sync, G: Gate + Sync>(
 /// # Errors
 ///
 /// `Fault::Set` with the first region of a given list that is out of range, isn't ordinary, is pinned
-/// or stands earlier in the list; `Fault::Room` where the survivors need more regions than are free;
+/// or is earlier in the list; `Fault::Room` if the survivors need more regions than are free;
 /// `Fault::Memory`. The image that comes back equals the one handed in.
 pub fn evacuate<R: Threads + Sync, G: Gate + Sync>(
     rt: &R,

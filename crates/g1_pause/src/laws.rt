@@ -1,4 +1,4 @@
-ghost use Rattle.g1_pause.specs.Laws.{OneSetFor, OneEvacuation, OneAnswer, EvacuationByAsking, AnswerByAsking, AnswerExists, LiveBytesExist, EvacuationFollows, AnswerFollows};
+ghost use Rattle.g1_pause.specs.Laws.{OneSetFor, OneEvacuation, OneAnswer, EvacuationByAsking, AnswerByAsking, EvacuationExists, AnswerExists, LiveBytesExist, EvacuationFollows, AnswerFollows};
 
 /// A choice has one set, a tracked image one pause, and bytes one answer.
 pub fn one_answer()
@@ -7,7 +7,7 @@ pub fn one_answer()
     ensures answer { OneAnswer }
 {}
 
-/// Of a choice only the budget counts, or which regions a list names, in which order.
+/// Of a choice only the budget counts, or which regions a list has, in which order.
 pub fn same_choice()
     ensures evacuation { EvacuationByAsking }
     ensures answer { AnswerByAsking }
@@ -24,7 +24,8 @@ pub fn live_bytes_exist()
     ensures { LiveBytesExist }
 {}
 
-/// Bytes always have an answer, whatever the choice and the cost.
+/// A tracked image always has a pause and bytes always an answer, whatever the choice and the cost.
 pub fn always_one()
-    ensures { AnswerExists }
+    ensures evacuation { EvacuationExists }
+    ensures answer { AnswerExists }
 {}

@@ -6,16 +6,16 @@
 //!
 //! 1. The table of starts and the refined remembered sets are built once, and lent to what follows.
 //! 2. The collection set is what the budget buys by the refined sets and the live bytes, or the
-//!    regions that the caller names.
+//!    regions that the caller gives.
 //! 3. The cards of those refined sets lead into the set. From the roots and from them its survivors
 //!    are found.
 //! 4. Each survivor gets its place in a free region, or the pause is refused for want of room.
-//! 5. All that the pause writes is made ready, and its report with it. Up to here memory may be
+//! 5. All that the pause writes is prepared, and its report with it. Up to here memory may be
 //!    refused, and the image is as it was.
 //! 6. A commit puts it in place. It takes no memory and refuses nothing.
 //!
-//! The answer is told by the image, the choice and the cost. The workers, the chunk and the gate leave
-//! no trace in it.
+//! The answer is determined by the image, the choice and the cost. The workers, the chunk and the
+//! gate leave no trace in it.
 #![tactic(auto)]
 
 mod bytes;

@@ -18,8 +18,8 @@ use std::thread::Threads;
 ///
 /// # Errors
 ///
-/// `Fault::Device(Device::Input)` where a read failed, `Fault::Memory`, and the refusals of
-/// `pause_bytes`: nothing was written. `Fault::Device(Device::Output)` where a write failed: a
+/// `Fault::Device(Device::Input)` if a read failed, `Fault::Memory`, and the refusals of
+/// `pause_bytes`: nothing was written. `Fault::Device(Device::Output)` if a write failed: a
 /// beginning of the answer was written.
 pub fn pause_run<R: Threads + Sync, I: Source, O: Sink, G: Gate + Sync>(
     rt: &R,

@@ -12,7 +12,7 @@ use std::marker::Model;
 pub enum Choice {
     /// Those that give most garbage for their cost, as far as this budget goes.
     Budget(u64),
-    /// These, in whatever order they are named.
+    /// These, in whatever order they are given.
     Given(Vec<u32>),
 }
 
@@ -62,7 +62,7 @@ fn is_cost(cost: &Cost) -> bool
 
 impl Settings {
     /// Settings of 1 to 64 workers that draw chunks of 1 to 65,536 items, with cost parameters below
-    /// 2^32 each. The choice is not looked at, and is given up where the settings are refused.
+    /// 2^32 each. The choice is not looked at, and is given up if the settings are refused.
     ///
     /// # Errors
     ///

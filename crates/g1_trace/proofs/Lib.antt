@@ -31,3 +31,4 @@ pub mod Texts
 pub mod OneText
 pub mod Deciding
 pub mod Tellings
+pub mod Existing

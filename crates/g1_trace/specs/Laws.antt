@@ -11,7 +11,7 @@ use Rattle.g1_trace.specs.declared.command.Reply.{Reply}
 use Rattle.g1_trace.specs.Store.{Store, IsPlainStep}
 use Rattle.g1_trace.specs.Mutator.{IsStep}
 use Rattle.g1_trace.specs.TraceText.{IsText, IsFirstBadLine}
-use Rattle.g1_trace.specs.Telling.{IsTold}
+use Rattle.g1_trace.specs.Telling.{IsTold, IsOutsideLimits}
 use Rattle.g1_trace.specs.Views.{Shows}
 use Rattle.g1_trace.specs.Run.{Replies, IsRun, empty_store, empty_image}
 
@@ -33,6 +33,10 @@ StepKeeps = (cost : Cost) (i : Image) (c : Command) (reply : Reply) (j : Image) 
 abbrev pub OneStep : Type 0
 OneStep = (cost : Cost) (i : Image) (c : Command) (reply told : Reply) (j k : Image) → IsStep cost i c reply j → IsStep cost i c told k → (reply ≡ told) × (j ≡ k)
 
+-- every command has a step on every tracked image
+abbrev pub StepExists : Type 0
+StepExists = (cost : Cost) (i : Image) (c : Command) → IsTracked i → (reply : Reply) × (j : Image) × IsStep cost i c reply j
+
 -- at the start there is nothing to show
 abbrev pub StartShows : Type 0
 StartShows = (g : Geometry) (roots : ℕ) → Shows (empty_store roots) (empty_image g roots).heap
@@ -49,6 +53,10 @@ WholeTraces = (cost : Cost) (g : Geometry) (roots : ℕ) (commands : List Comman
 -- the replies of a run are told by the trace and the cost
 abbrev pub OneRun : Type 0
 OneRun = (cost : Cost) (g : Geometry) (roots : ℕ) (commands : List Command) (replies told : List Reply) → IsRun cost g roots commands replies → IsRun cost g roots commands told → replies ≡ told
+
+-- every list of commands has a run on a heap within the limits
+abbrev pub RunExists : Type 0
+RunExists = (cost : Cost) (g : Geometry) (roots : ℕ) (commands : List Command) → IsWithinLimits g.w g.k g.n → roots ≤ 65536 → AllByRecursion WritesWord commands → (replies : List Reply) × IsRun cost g roots commands replies
 
 -- a text is that of one trace
 abbrev pub OneTrace : Type 0
@@ -69,3 +77,7 @@ TextOrBadLine = (bytes : List ℕ) → ((g : Geometry) × (roots : ℕ) × (comm
 -- the text of a run's replies is told by the trace's text and the cost
 abbrev pub OneTold : Type 0
 OneTold = (cost : Cost) (bytes answer other : List ℕ) → IsTold cost bytes answer → IsTold cost bytes other → answer ≡ other
+
+-- any bytes have a text of replies, a first bad line, or a number outside the limits
+abbrev pub AlwaysTold : Type 0
+AlwaysTold = (cost : Cost) (bytes : List ℕ) → ((answer : List ℕ) × IsTold cost bytes answer) ⊎ (((n : ℕ) × IsFirstBadLine bytes n) ⊎ IsOutsideLimits bytes)

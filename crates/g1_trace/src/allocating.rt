@@ -9,7 +9,7 @@ use g1_image::Image;
 use g1_rem::{Tracked, image};
 use g1_words::{Heap, Kind, REFS_RANGE, Region};
 
-/// Tells whether a region is free.
+/// Returns whether a region is free.
 fn is_free(heap: &Heap, r: u32) -> bool
     requires { r < heap.now.geometry.n }
     ensures { result ≡ is_free_region heap.now r }
@@ -34,7 +34,7 @@ fn lowest_free(heap: &Heap) -> Option<u32>
     None
 }
 
-/// The lowest run of so many free regions, one after another.
+/// The lowest run of this many free regions, one after another.
 fn lowest_run(heap: &Heap, count: u64) -> Option<u32>
     requires { 0 < count }
     ensures { result ≡ find (is_free_run heap.now count) (regions heap.now) }
@@ -50,8 +50,8 @@ fn lowest_run(heap: &Heap, count: u64) -> Option<u32>
     None
 }
 
-/// Where an object of so many words goes: a humongous one to the lowest run of free regions, any
-/// other to the current region where it ends within it, else to the lowest free one.
+/// Where an object of this many words goes: a humongous one to the lowest run of free regions, any
+/// other to the current region if it ends within it, else to the lowest free one.
 fn region_for(heap: &Heap, size: u64) -> Option<u32>
     requires some { 0 < size }
     requires fits { size ≤ heap.now.geometry.n * heap.now.geometry.w }
@@ -73,7 +73,7 @@ fn region_for(heap: &Heap, size: u64) -> Option<u32>
     }
 }
 
-/// Where a new object with so many slots and data words goes.
+/// Where a new object with this many slots and data words goes.
 pub(crate) fn place_for(heap: &Heap, refs: u64, words: u64) -> Option<u32>
     ensures { result ≡ place_for heap.now (1 + refs + words) }
 {
@@ -224,8 +224,8 @@ fn place_humongous(tracked: Tracked, r: u32, root: u64, size: u64, refs: u64) ->
     }
 }
 
-/// The image with a new object that a root names, in the region where it goes. One header is written,
-/// and as many regions as it takes: the words were 0 before.
+/// The image with a new object that a root references, in the region where it goes. One header is
+/// written, and as many regions as it takes: the words were 0 before.
 pub(crate) fn place_object(tracked: Tracked, r: u32, root: u64, refs: u64, words: u64) -> Tracked
     requires place { place_for tracked.heap (1 + refs + words) ≡ Some r }
     requires root { root < length tracked.heap.roots }

@@ -27,7 +27,7 @@ fn done(effect: Effect) -> Answer
     }
 }
 
-/// The object that a root names. Its header tells it, at no more cost than one word.
+/// The object that a root references. Its header shows it, at no more cost than one word.
 fn object_of(heap: &Heap, root: u64) -> Option<Object>
     requires { root < length heap.now.roots }
     ensures named { IfSome result (λ o. slice_index heap.now.roots root ≡ o.at + 1) }
@@ -173,7 +173,7 @@ fn answer_copy(heap: &Heap, root: u64, from: u64) -> Answer
     })
 }
 
-/// What a command replies and does on a heap, where there is place. No more than a few words are read.
+/// What a command replies and does on a heap, if there is place. No more than a few words are read.
 pub(crate) fn answer(heap: &Heap, command: &Command) -> Answer
     ensures { result ≡ answer_of (heap_view heap.now) command.now }
 {

@@ -2,9 +2,10 @@
 /// from 0.
 #[derive(Debug, Clone, Copy, PartialEq, Eq)]
 pub enum Command {
-    /// The root names a new object with so many null slots, and so many data words that are 0.
+    /// The root references a new object with this many null slots, and this many data words that
+    /// are 0.
     New { root: u64, refs: u64, words: u64 },
-    /// The root becomes a slot of the object that another root names.
+    /// The root becomes a slot of the object that another root references.
     Get { root: u64, from: u64, slot: u64 },
     /// A slot of the root's object becomes what another root is.
     Put { root: u64, slot: u64, from: u64 },
@@ -12,7 +13,7 @@ pub enum Command {
     Set { root: u64, word: u64, value: u64 },
     /// Tells a data word of the root's object.
     Say { root: u64, word: u64 },
-    /// Tells whether both roots name the same object, or none.
+    /// Returns whether both roots name the same object, or none.
     Same { root: u64, other: u64 },
     /// The root becomes what another root is.
     Copy { root: u64, from: u64 },
@@ -31,7 +32,7 @@ pub enum Reply {
     Full,
     /// There is no such root, slot or data word.
     Range,
-    /// The root names nothing.
+    /// The root is null.
     Null,
     /// A pause found no room for its survivors, and nothing changed.
     Room,

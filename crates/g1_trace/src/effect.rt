@@ -11,13 +11,13 @@ pub enum Effect {
     SetSlot { object: u64, slot: u64, value: u64 },
     /// A data word of an object becomes the value.
     SetValue { object: u64, place: u64, value: u64 },
-    /// A root names a new object.
+    /// A root references a new object.
     MakeNew { root: u64, refs: u64, words: u64 },
     /// A pause is made.
     MakePause { budget: u64 },
 }
 
-/// What a command replies and does where there is place.
+/// What a command replies and does if there is place.
 #[derive(Debug, Clone, Copy, PartialEq, Eq)]
 pub struct Answer {
     pub reply: Reply,

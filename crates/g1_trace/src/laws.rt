@@ -1,4 +1,4 @@
-ghost use Rattle.g1_trace.specs.Laws.{StepShows, StepKeeps, OneStep, StartShows, StartTracked, WholeTraces, OneRun, OneTrace, NoBadLine, OneBadLine, TextOrBadLine, OneTold};
+ghost use Rattle.g1_trace.specs.Laws.{StepShows, StepKeeps, OneStep, StartShows, StartTracked, WholeTraces, OneRun, StepExists, RunExists, OneTrace, NoBadLine, OneBadLine, TextOrBadLine, OneTold, AlwaysTold};
 
 /// What a mutator's image shows is what the plain store shows, whatever a pause moves or frees.
 pub fn traces()
@@ -19,6 +19,13 @@ pub fn one_run()
     ensures run { OneRun }
 {}
 
+/// A command has a reply and an image after on every tracked image, and a trace within the limits has
+/// replies.
+pub fn always_one()
+    ensures step { StepExists }
+    ensures run { RunExists }
+{}
+
 /// Every string of bytes is the text of one trace or has one first bad line, and never both.
 pub fn one_text()
     ensures one { OneTrace }
@@ -27,7 +34,8 @@ pub fn one_text()
     ensures always { TextOrBadLine }
 {}
 
-/// Bytes have one text of replies.
+/// Bytes have one text of replies, or a first bad line, or a first line outside the limits.
 pub fn one_answer()
-    ensures { OneTold }
+    ensures one { OneTold }
+    ensures always { AlwaysTold }
 {}

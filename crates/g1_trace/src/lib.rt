@@ -1,22 +1,23 @@
 //! A mutator over a Garbage-First collector, and whole traces of what it does: the write barrier of
 //! Detlefs, Flood, Heller, Printezis, "Garbage-First Garbage Collection", 2004, allocation by regions,
-//! and pauses anywhere. No mutator can tell that a pause happened, but by finding place after it.
+//! and pauses anywhere. No mutator can observe a pause, except by finding place after it.
 //!
 //! A `Mutator` holds a heap image whose references are covered. `step` does one command on it:
 //!
-//! 1. The command is answered by the roots and by the header of the object that a root names: whether
-//!    there are such roots, such an object, such a slot or data word, and then what is to be done.
-//! 2. A slot is written by the barrier. Where it names an object of another region, its card is in the
-//!    dirty log before the slot is written, so every reference stays covered.
+//! 1. The command is answered by the roots and by the header of the object that a root references:
+//!    whether there are such roots, such an object, such a slot or data word, and then what is to
+//!    be done.
+//! 2. A slot is written by the barrier. If it references an object of another region, its card is
+//!    in the dirty log before the slot is written, so every reference stays covered.
 //! 3. A new object goes to the top of the current region, else to the lowest free one; a humongous one
 //!    to the lowest run of free regions. Its words are 0 there already. Without a place it is refused,
 //!    and nothing changes.
 //! 4. A pause evacuates what its budget buys, or finds no room and changes nothing.
 //!
-//! `parse_trace` reads a trace's text, `run_trace` does its commands, and `run_text` does both line by
-//! line and tells the replies as text. The replies are told by the trace and the cost: those of a plain
-//! store, which never moves or frees an object, with `full` and `room` exactly where the heap beside it
-//! has no place.
+//! `parse_trace` reads a trace's text, `run_trace` does its commands, and `run_text` does both line
+//! by line and returns the replies as text. The replies are determined by the trace and the cost:
+//! those of a plain store, which never moves or frees an object, with `full` and `room` exactly if
+//! the heap beside it has no place.
 #![tactic(auto)]
 
 mod allocating;

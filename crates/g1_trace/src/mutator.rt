@@ -40,7 +40,7 @@ impl Model for Mutator {
     ghost view = { λ m. m.tracked };
 }
 
-/// A heap of free regions, with so many roots, all null.
+/// A heap of free regions, with this many roots, all null.
 fn free_heap(alloc: Global, geometry: Geometry, roots: u64) -> Result<Heap, Fault>
     requires { roots ≤ 65536 }
     ensures ok { IfOk result (λ h. h ≡ (empty_image geometry roots).heap) }
@@ -108,7 +108,7 @@ fn pause<R: Threads + Sync, G: Gate + Sync>(
     }
 }
 
-/// The image with another data word of an object. Its header tells where its data words begin.
+/// The image with another data word of an object. Its header says where its data words begin.
 fn set_data(tracked: Tracked, object: u64, place: u64, value: u64) -> Tracked
     requires before { IsTracked tracked }
     requires fits { EffectFits (heap_view tracked.heap) (Effect.SetValue object place value) }
@@ -118,7 +118,7 @@ fn set_data(tracked: Tracked, object: u64, place: u64, value: u64) -> Tracked
     set_value(tracked, object + 1 + refs + place, value)
 }
 
-/// Does what a command does, where the table of commands answers so.
+/// Does what a command does, if the table of commands answers so.
 ///
 /// # Errors
 ///
@@ -173,11 +173,11 @@ fn carry_out<R: Threads + Sync, G: Gate + Sync>(
 }
 
 impl Mutator {
-    /// A heap of free regions, with so many roots, all null.
+    /// A heap of free regions, with this many roots, all null.
     ///
     /// # Errors
     ///
-    /// `Fault::Geometry` where there are more than 65,536 roots; `Fault::Memory`.
+    /// `Fault::Geometry` if there are more than 65,536 roots; `Fault::Memory`.
     pub fn new(alloc: Global, geometry: Geometry, roots: u64) -> Result<Mutator, Fault>
         ensures ok { IfOk result (λ m. (m ≡ empty_image geometry roots) × (roots ≤ 65536)) }
         ensures err { IfErr result (λ e. (e ≡ Fault.Memory) ⊎ ((e ≡ Fault.Geometry) × (65536 < roots))) }
@@ -197,7 +197,7 @@ impl Mutator {
     }
 
     /// Does one command. A few words are read and written; a new object besides looks for a free
-    /// region where the current one is full, and a pause does what a pause does.
+    /// region if the current one is full, and a pause does what a pause does.
     ///
     /// # Errors
     ///

@@ -122,7 +122,7 @@ fn four(bytes: &[u8]) -> Option<(u64, u64, u64, u64)>
     }
 }
 
-/// Tells whether the bytes are a word's.
+/// Returns whether the bytes are a word's.
 fn is_word(name: &[u8], word: &[u8]) -> bool
     ensures { IsTrue result ↔ (name.now ≡ word.now) }
 {
@@ -213,7 +213,7 @@ fn with_three(name: &[u8], root: u64, second: u64, third: u64) -> Option<Command
     None
 }
 
-/// The command of a later line: how many numbers it has and its name tell which.
+/// The command of a later line: how many numbers it has and its name say which.
 pub(crate) fn later_line(line: &[u8]) -> Option<Command>
     ensures some { IfSome result (λ c. line.now ≡ command_line c) }
     ensures fits { IfSome result (λ c. AllFit (numbers_of c)) }
@@ -240,7 +240,7 @@ pub(crate) fn later_line(line: &[u8]) -> Option<Command>
     }
 }
 
-/// The first line of the bytes without its end, and the bytes after it; None where no line is ended.
+/// The first line of the bytes without its end, and the bytes after it; None if no line is ended.
 pub(crate) fn split_line(bytes: &[u8]) -> Option<(&[u8], &[u8])>
     ensures some { IfSome result (λ r. (bytes.now ≡ r.0.now ++ 10 ∷ r.1.now) × ((k : ℕ) → k < length r.0.now → slice_index r.0.now k ≢ 10)) }
     ensures none { IfNone result ((k : ℕ) → k < length bytes.now → slice_index bytes.now k ≢ 10) }
@@ -259,7 +259,7 @@ pub(crate) fn split_line(bytes: &[u8]) -> Option<(&[u8], &[u8])>
 ///
 /// # Errors
 ///
-/// `Fault::Line` with the line's number where it isn't of its form.
+/// `Fault::Line` with the line's number if it isn't of its form.
 pub(crate) fn next_command(lines: &[u8], number: u64) -> Result<(Command, &[u8]), Fault>
     requires { 0 < length lines.now }
     ensures text { IfOk result (λ r. lines.now ≡ command_line r.0 ++ 10 ∷ r.1.now) }

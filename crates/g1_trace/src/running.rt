@@ -83,7 +83,7 @@ fn answer_command<R: Threads + Sync, G: Gate + Sync>(
 ///
 /// # Errors
 ///
-/// `Fault::Geometry` where a number of its first line is outside the limits of a heap, or there are
+/// `Fault::Geometry` if a number of its first line is outside the limits of a heap, or there are
 /// more than 65,536 roots; `Fault::Memory`.
 pub fn run_trace<R: Threads + Sync, G: Gate + Sync>(
     rt: &R,

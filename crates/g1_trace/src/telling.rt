@@ -61,8 +61,8 @@ fn push_outcome(text: &mut Vec<u8>, outcome: Result<Reply, Fault>) -> Result<(),
     }
 }
 
-/// What is told of bytes whose first line has a number outside the limits: the fault of a line comes
-/// first.
+/// What is reported of bytes whose first line has a number outside the limits: the fault of a line
+/// comes first.
 fn outside(alloc: Global, bytes: &[u8]) -> Fault
     requires { BeginsOutside bytes.now }
     ensures { IsRefusal bytes.now result }
@@ -73,7 +73,7 @@ fn outside(alloc: Global, bytes: &[u8]) -> Fault
     }
 }
 
-/// The heap that a trace's first line tells, and the lines after it.
+/// The heap of a trace's first line, and the lines after it.
 fn begin(alloc: Global, bytes: &[u8]) -> Result<(Mutator, &[u8]), Fault>
     ensures ok { IfOk result (λ r. IsBegun bytes.now r.0 r.1.now) }
     ensures refused { IfErr result (IsRefusal bytes.now) }
@@ -104,7 +104,7 @@ fn begin(alloc: Global, bytes: &[u8]) -> Result<(Mutator, &[u8]), Fault>
 ///
 /// # Errors
 ///
-/// `Fault::Line` with the line's number where it isn't of its form; `Fault::Memory`.
+/// `Fault::Line` with the line's number if it isn't of its form; `Fault::Memory`.
 fn answer_line<'a, R: Threads + Sync, G: Gate + Sync>(
     rt: &R,
     alloc: Global,
@@ -142,7 +142,7 @@ fn answer_line<'a, R: Threads + Sync, G: Gate + Sync>(
 /// # Errors
 ///
 /// `Fault::Line` with the number, from 1, of the first line that isn't of its form; else
-/// `Fault::Geometry` where a number of the first line is outside the limits of a heap, or there are
+/// `Fault::Geometry` if a number of the first line is outside the limits of a heap, or there are
 /// more than 65,536 roots; `Fault::Memory`.
 pub fn run_text<R: Threads + Sync, G: Gate + Sync>(
     rt: &R,

@@ -79,19 +79,20 @@ pub(crate) fn set_value(tracked: Tracked, at: u64, value: u64) -> Tracked
     }
 }
 
-/// Tells whether a reference word that is written at an address names an object of another region.
+/// Returns whether a reference word that is written at an address references an object of another
+/// region.
 fn crosses(geometry: &Geometry, at: u64, value: u64) -> bool
     ensures { IsTrue result ↔ (0 < value) × (at / geometry.now.w ≢ (value - 1) / geometry.now.w) }
 {
     value > 0 && region_of(geometry, at) != region_of(geometry, value - 1)
 }
 
-/// The log after a slot is written: with the slot's card, where the value names an object of another
-/// region.
+/// The log after a slot is written: with the slot's card, if the value references an object of
+/// another region.
 ///
 /// # Errors
 ///
-/// `Fault::Memory` where the log can't grow, with the log as it was.
+/// `Fault::Memory` if the log can't grow, with the log as it was.
 fn log_slot(log: &mut IndexSet<u32>, geometry: &Geometry, at: u64, value: u64) -> Result<(), Fault>
     requires { at < 2 ^ 24 }
     ensures ok { OnOk result (log.new.keys ≡ log_with geometry.now log.old.keys at value) }
@@ -105,11 +106,11 @@ fn log_slot(log: &mut IndexSet<u32>, geometry: &Geometry, at: u64, value: u64) -
 }
 
 /// The image with another value of a slot, by the write barrier: the slot's card is logged first,
-/// where the value names an object of another region and the card isn't logged yet.
+/// if the value references an object of another region and the card isn't logged yet.
 ///
 /// # Errors
 ///
-/// `Fault::Memory` where the log can't grow, with the image as it was.
+/// `Fault::Memory` if the log can't grow, with the image as it was.
 pub(crate) fn set_slot(tracked: Tracked, at: u64, value: u64) -> Result<Tracked, (Tracked, Fault)>
     requires at { at < length tracked.heap.words }
     requires small { at < 2 ^ 24 }

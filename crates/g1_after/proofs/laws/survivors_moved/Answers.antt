@@ -13,7 +13,10 @@ use Rattle.g1_after.proofs.CoveredAfter.{covered_after}
 use Rattle.g1_after.proofs.Existence.{made_is_moved}
 use Rattle.g1_after.proofs.RefsMoved.{refs_after, exact_by_refs}
 use Rattle.g1_after.proofs.CardsAfter.{tracked_after}
+use Rattle.g1_after.proofs.Determined.{moved_unique}
 use Rattle.g1_after.proofs.ExactStays.{exact_stays}
+use Rattle.g1_after.proofs.PausedLaws.{ref_not_into_set}
+use Rattle.g1_after.proofs.SameGraphs.{no_root_into_set, same_graph}
 use Rattle.g1_after.proofs.laws.survivors_moved.Goals as goal
 
 pub returns-clause-to_space : goal.returns-clause-to_space
@@ -33,6 +36,9 @@ returns-clause-covered c = λ i set l j v a m. covered_after i set l j (built i.
 pub returns-clause-exists : goal.returns-clause-exists
 returns-clause-exists c = λ i set l v a. made_is_moved i set l (built i.heap v) a.ordinary a.survivors a.room
 
+pub returns-clause-one : goal.returns-clause-one
+returns-clause-one c = moved_unique
+
 pub returns-clause-refs : goal.returns-clause-refs
 returns-clause-refs c = λ i set l j v a m. refs_after i set l j (built i.heap v) a.ordinary a.survivors a.room m
 
@@ -44,3 +50,9 @@ returns-clause-stays c = exact_stays
 
 pub returns-clause-tracked : goal.returns-clause-tracked
 returns-clause-tracked c = λ i set l j t a m. tracked_after i set l j t a.ordinary a.survivors a.room m
+
+pub returns-clause-graph : goal.returns-clause-graph
+returns-clause-graph c = λ i set l j v a m. same_graph i set l j (sound i.heap v) a.ordinary a.survivors a.room m
+
+pub returns-clause-nothing : goal.returns-clause-nothing
+returns-clause-nothing c = λ i set l j v a m. (no_root_into_set i set l j (sound i.heap v) a.ordinary a.survivors a.room m, ref_not_into_set i set l j v a m)

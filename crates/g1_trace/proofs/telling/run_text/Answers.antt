@@ -30,7 +30,7 @@ returns-clause-told g c =
     so_far_end c.args.cost.now c.args.bytes.now l.mutator l.rest.now l.text.items l.lines l.invariant (omega (arith, c.loop-rest-test.false))
 
 pub returns-clause-only : goal.returns-clause-only
-returns-clause-only g c = λ other told. c.one_answer.ensures c.args.cost.now c.args.bytes.now other c.loop-rest.text.items told (returns-clause-told g c)
+returns-clause-only g c = λ other told. c.one_answer.ensures.one c.args.cost.now c.args.bytes.now other c.loop-rest.text.items told (returns-clause-told g c)
 
 pub returns-in-Err-clause-refused : goal.returns-in-Err-clause-refused
 returns-in-Err-clause-refused g c = c.in-Err.ensures.refused
