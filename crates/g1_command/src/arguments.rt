@@ -8,7 +8,7 @@ use std::rt::Env;
 ///
 /// # Errors
 ///
-/// A usage text where a word is not text, and `Fault::Memory`. The program's name is word 1 there.
+/// A usage text if a word is not text, and `Fault::Memory`. The program's name is word 1 there.
 pub fn words<R: Env>(rt: &R, alloc: Global) -> Result<Vec<String>, Refusal> {
     let mut words = Vec::new(alloc);
     for place in 1..usize::MAX {

@@ -1,11 +1,12 @@
 //! What the programs have in common: their words, the values among them, the streams, and how a
-//! refusal is told.
+//! refusal is reported.
 //!
 //! 1. `words` gives the words behind a program's name, as text.
 //! 2. `number`, `region` and `regions` read the whole numbers among the values that clap found; a
-//!    `Misuse` is told with the usage of its command.
-//! 3. `read_all` reads the whole input, `deliver` writes the whole answer.
-//! 4. `refuse` tells a refusal, in one write, and gives its exit status.
+//!    `Misuse` is reported with the usage of its command.
+//! 3. `read_all` reads the whole input, `deliver` writes the whole answer; `deliver_text` writes one
+//!    that a person reads, who may stop.
+//! 4. `refuse` reports a refusal, in one write, and gives its exit status.
 #![tactic(auto)]
 
 mod arguments;
@@ -15,5 +16,5 @@ mod values;
 
 pub use arguments::words;
 pub use refusal::{Refusal, refuse, status};
-pub use streams::{deliver, read_all};
-pub use values::{Argument, Misuse, explain, number, region, regions, whole};
+pub use streams::{BROKEN_PIPE, deliver, deliver_text, read_all};
+pub use values::{Argument, Misuse, explain, number, region, region_in, regions, whole};

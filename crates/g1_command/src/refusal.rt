@@ -1,4 +1,7 @@
-//! Why a request is not answered, and the exit status that stands for it.
+//! Why a request is not answered, and its exit status.
+ghost use Rattle.std.specs.Prelude.{◌≡◌};
+ghost use Rattle.g1_command.specs.Status.{status_of};
+
 use arrayvec::ArrayString;
 use g1_words::Fault;
 use std::alloc::{AllocError, AllocFailed};
@@ -8,14 +11,14 @@ use std::io::Write;
 /// Why a request is not answered.
 #[derive(Debug, Drop)]
 pub enum Refusal {
-    /// A text that is told as it stands, and the exit status.
+    /// A text that is reported as it is, and the exit status.
     Told { status: u8, text: String },
-    /// A fault, which is told in a line with its number.
+    /// A fault, which is reported in a line with its number.
     Fault(Fault),
 }
 
 impl Refusal {
-    /// Words that are no request, as this text tells.
+    /// Words that are no request, as this text says.
     pub fn usage(text: String) -> Refusal {
         Refusal::Told { status: 2, text }
     }
@@ -43,7 +46,7 @@ impl<T: Drop> From<AllocFailed<T>> for Refusal {
 // is no request for memory, so that a want of memory can be told.
 const LINE: usize = 128;
 
-/// Tells a refusal in one write, and gives the exit status that stands for it. The line of a fault
+/// Reports a refusal in one write, and returns its exit status. The line of a fault
 /// begins with the program's name, which has at most 40 bytes.
 pub fn refuse<E: Write>(program: &str, refusal: &Refusal, errors: &mut E) -> u8 {
     // The status tells the refusal even where its text cannot be written.
@@ -64,7 +67,9 @@ pub fn refuse<E: Write>(program: &str, refusal: &Refusal, errors: &mut E) -> u8 
 
 /// The exit status of a fault: 2 a number or a line that is out of form, 3 bytes that are no image's,
 /// 4 cover, 5 a pause that can't be, 6 the machine.
-pub fn status(fault: &Fault) -> u8 {
+pub fn status(fault: &Fault) -> u8
+    ensures { result ≡ status_of fault.now }
+{
     match fault {
         Fault::Settings(_) | Fault::Line(_) => 2,
         Fault::Magic

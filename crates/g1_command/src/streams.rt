@@ -28,7 +28,7 @@ impl<'r, R: Read> Read for Watched<'r, R> {
 ///
 /// # Errors
 ///
-/// `Fault::Device(Device::Input)` where a read failed, and `Fault::Memory`.
+/// `Fault::Device(Device::Input)` if a read failed, and `Fault::Memory`.
 pub fn read_all<R: Read>(alloc: Global, reader: &mut R) -> Result<Vec<u8>, Fault> {
     let mut bytes = Vec::new(alloc);
     let mut watched = Watched {
@@ -46,14 +46,32 @@ pub fn read_all<R: Read>(alloc: Global, reader: &mut R) -> Result<Vec<u8>, Fault
 ///
 /// # Errors
 ///
-/// `Fault::Device(Device::Output)` where a write failed: a beginning of the answer may stand then.
+/// `Fault::Device(Device::Output)` if a write failed: a beginning of the answer may be written then.
 pub fn deliver<W: Write>(answer: &[u8], writer: &mut W) -> Result<(), Fault> {
-    let written = match writer.write_all(answer) {
-        Ok(()) => writer.flush(),
-        Err(error) => Err(error),
-    };
-    match written {
+    match written(answer, writer) {
         Ok(()) => Ok(()),
         Err(_) => Err(Fault::Device(Device::Output)),
     }
+}
+
+/// The exit status of a program that a broken pipe ends, as a shell shows it.
+pub const BROKEN_PIPE: u8 = 141;
+
+/// Writes a text as `deliver` does, and returns its status: the given one, or `BROKEN_PIPE` if its reader
+/// went away, who has read what he wanted.
+///
+/// # Errors
+///
+/// `Fault::Device(Device::Output)` if a write failed in another way.
+pub fn deliver_text<W: Write>(status: u8, text: &[u8], writer: &mut W) -> Result<u8, Fault> {
+    match written(text, writer) {
+        Ok(()) => Ok(status),
+        Err(error) if error.kind() == ErrorKind::BrokenPipe => Ok(BROKEN_PIPE),
+        Err(_) => Err(Fault::Device(Device::Output)),
+    }
+}
+
+fn written<W: Write>(answer: &[u8], writer: &mut W) -> io::Result<()> {
+    writer.write_all(answer)?;
+    writer.flush()
 }

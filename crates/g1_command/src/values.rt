@@ -6,7 +6,7 @@ use g1_words::Fault;
 use std::alloc::{AllocError, AllocFailed, Global};
 
 /// An argument that takes whole numbers: its name for clap, how messages show it, and the range that
-/// they tell.
+/// they say.
 #[derive(Debug, Clone, Copy)]
 pub struct Argument {
     pub id: &'static str,
@@ -30,7 +30,7 @@ impl Argument {
 /// Why the values of a command are no request.
 #[derive(Debug, Drop)]
 pub enum Misuse {
-    /// A value is wrong, as this message tells.
+    /// A value is wrong, as this message says.
     Value(String),
     /// The machine refused memory.
     Memory,
@@ -78,7 +78,7 @@ fn usage_of(command: Command<'_>, path: &str) -> Result<String, AllocError> {
     command.bin_name(path)?.render_usage()
 }
 
-/// What clap says in place of matches: a text that was asked for, or why the words are no request.
+/// What clap says instead of matches: a text that was asked for, or why the words are no request.
 pub fn explain(alloc: Global, error: &Error) -> Result<String, Refusal> {
     if error.kind() == ErrorKind::OutOfMemory {
         return Err(Refusal::Fault(Fault::Memory));
@@ -99,7 +99,7 @@ pub fn whole(text: &str) -> Option<u64> {
     text.parse::<u64>().ok()
 }
 
-/// The number of an argument, where it has one.
+/// The number of an argument, if it has one.
 pub fn number(
     alloc: Global,
     values: &ArgMatches<'_>,
@@ -114,7 +114,7 @@ pub fn number(
     }
 }
 
-/// The region that an argument names, where it has one. It need not be one of an image's.
+/// The region in an argument, if it has one. It need not be one of an image's.
 pub fn region(
     alloc: Global,
     values: &ArgMatches<'_>,
@@ -126,7 +126,7 @@ pub fn region(
     }
 }
 
-/// The regions that an argument names. They need not be those of an image.
+/// The regions in an argument. They need not be those of an image.
 pub fn regions(
     alloc: Global,
     values: &ArgMatches<'_>,
@@ -139,7 +139,8 @@ pub fn regions(
     Ok(regions)
 }
 
-fn region_in(alloc: Global, argument: &Argument, text: &str) -> Result<u32, Misuse> {
+/// The region that a part of an argument's value names.
+pub fn region_in(alloc: Global, argument: &Argument, text: &str) -> Result<u32, Misuse> {
     match whole(text).map(u32::try_from) {
         Some(Ok(region)) => Ok(region),
         _ => Err(argument.refuse(alloc, text)),
