@@ -17,7 +17,7 @@ pub(crate) fn no_cards(alloc: Global, regions: u64) -> Result<Vec<Vec<u32>>, All
     Ok(lists)
 }
 
-/// Adds a card to a list that ends below it, unless the card stands there already.
+/// Adds a card to a list that ends below it, unless the card is there already.
 fn push_once(cards: &mut Vec<u32>, card: u32) -> Result<(), AllocError>
     ensures { OnOk result ((before : List ℕ) (b : Bool) → All (λ c. c < card) before → cards.old.items ≡ with_card before card b → cards.new.items ≡ with_card before card true) }
 {
@@ -29,8 +29,8 @@ fn push_once(cards: &mut Vec<u32>, card: u32) -> Result<(), AllocError>
     Ok(())
 }
 
-/// Adds a slot's card to the list of the region that its word leads into, where that is another one.
-/// Where the lists are those of slots that don't stand above it, it goes to a list's end.
+/// Adds a slot's card to the list of the region that its word leads into, if that is another one.
+/// If the lists are those of slots that don't lie above it, it goes to a list's end.
 pub(crate) fn add_slot(
     heap: &Heap,
     slot: u64,

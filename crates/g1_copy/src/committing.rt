@@ -10,7 +10,7 @@ use g1_words::Heap;
 use g1_work::Gate;
 use std::thread::Threads;
 
-/// The image after the pause, from what was made ready for it, written in place in one pass over the
+/// The image after the pause, from what was prepared for it, written in place in one pass over the
 /// regions. Takes no memory and refuses nothing.
 pub fn commit<R: Threads + Sync, G: Gate + Sync>(
     rt: &R,

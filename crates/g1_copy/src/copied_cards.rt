@@ -10,7 +10,7 @@ use g1_words::{Heap, REFS_RANGE};
 use std::alloc::{AllocError, Global};
 
 /// Adds the cards of an object's slots to the lists of the regions that these lead into. The object's
-/// words begin at an index of those given, and will stand at a place in the heap, above the slots
+/// words begin at an index of those given, and will be at a place in the heap, above the slots
 /// whose cards the lists have.
 fn add_object(
     heap: &Heap,

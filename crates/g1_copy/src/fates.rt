@@ -11,7 +11,8 @@ use std::alloc::{AllocError, Global};
 /// What a pause does with a region.
 #[derive(Clone, Copy)]
 pub(crate) enum Fate {
-    /// It is of the set, or of the run of a humongous object that nothing names; free afterwards.
+    /// It is of the set, or of the run of a humongous object that nothing references; free
+    /// afterwards.
     Freed,
     /// Survivors are placed in it: those of the run with this index.
     Filled(usize),
@@ -51,7 +52,7 @@ pub(crate) fn free(fates: &mut [Fate], set: &[u32])
     }
 }
 
-/// The fate of each region where the survivors of a set move. All that is done region by region goes
+/// The fate of each region if the survivors of a set move. All that is done region by region goes
 /// by this table.
 pub(crate) fn fates(
     alloc: Global,

@@ -19,7 +19,7 @@ fn write_patches(words: &mut [u64], start: usize, patches: &[(u64, u64)])
     }
 }
 
-/// What is written over the regions of a heap, in regions of so many words.
+/// What is written over the regions of a heap, in regions of this many words.
 #[derive(Drop)]
 struct Filling<'a> {
     region_words: usize,

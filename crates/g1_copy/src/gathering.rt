@@ -15,11 +15,11 @@ use rayon::prelude::*;
 use std::alloc::{AllocError, Global};
 use std::thread::Threads;
 
-/// A thread is worth starting for so many words: to copy them takes as long as some threads take to
+/// A thread is worth starting for this many words: to copy them takes as long as some threads take to
 /// start.
 const WORDS_A_THREAD: usize = 65_536;
 
-/// The object whose header stands at an address.
+/// The object whose header is at an address.
 pub(crate) fn object(heap: &Heap, a: u64) -> Object
     requires { a < length heap.now.words }
     ensures { result ≡ object_at heap.now a }
@@ -32,7 +32,7 @@ pub(crate) fn object(heap: &Heap, a: u64) -> Object
     }
 }
 
-/// A reference word after what it names moved: null stays null.
+/// A reference word after what it references moved: null stays null.
 pub(crate) fn renamed(plan: &Plan, reference: u64) -> u64
     requires { renamed (moved_to plan.now.survivors plan.now.places) reference < 2 ^ 64 }
     ensures { result ≡ renamed (moved_to plan.now.survivors plan.now.places) reference }
@@ -165,7 +165,7 @@ pub fn gather(
     Ok(gather_by(rt, alloc, heap, plan, MOST_WORKERS)?)
 }
 
-/// As `gather`, with one thread where there is one worker.
+/// As `gather`, with one thread if there is one worker.
 pub(crate) fn gather_by(
     rt: &(impl Threads + Sync),
     alloc: Global,

@@ -43,7 +43,7 @@ impl Headers {
         }
     }
 
-    /// The survivor at an index. Its header, and those of the next ones, are read where none is left.
+    /// The survivor at an index. Its header, and those of the next ones, are read if none is left.
     pub(crate) fn object(&mut self, heap: &Heap, plan: &Plan, i: usize) -> Object
         requires plan { IsPlanOf heap.now plan.now }
         requires index { i < length plan.now.survivors }

@@ -13,7 +13,7 @@ use g1_words::{Fault, Heap};
 use std::alloc::{AllocError, Global};
 use std::thread::Threads;
 
-/// Adds a slot with its new word, if it names a survivor.
+/// Adds a slot with its new word, if it references a survivor.
 fn push_patch(
     heap: &Heap,
     plan: &Plan,

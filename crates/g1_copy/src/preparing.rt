@@ -25,7 +25,7 @@ use std::alloc::{AllocError, Global};
 use std::marker::Model;
 use std::thread::Threads;
 
-/// All that a pause writes, made ready.
+/// All that a pause writes, prepared.
 #[derive(Drop)]
 pub struct Prepared {
     /// What is done with each region.
@@ -165,7 +165,7 @@ pub fn prepare(
     )
 }
 
-/// As `prepare`, for a caller that has listed the cards that lead into the set, with one thread where
+/// As `prepare`, for a caller that has listed the cards that lead into the set, with one thread if
 /// there is one worker.
 ///
 /// # Errors

@@ -119,7 +119,7 @@ fn joined_alone(
     Ok(sets)
 }
 
-/// The remembered sets after the pause, by so many threads.
+/// The remembered sets after the pause, by this many threads.
 fn joined_by_threads(
     rt: &(impl Threads + Sync),
     alloc: Global,
@@ -200,7 +200,7 @@ pub(crate) fn remembered_by_fate(
 
 /// The remembered sets after the pause, one a region: of a region of the set none; of one of
 /// to-space the cards of slots elsewhere that now name an object in it; of any other its refined set
-/// without the set's cards, and the to-space cards that hold a slot which names an object in it.
+/// without the set's cards, and the to-space cards that hold a slot which references an object in it.
 ///
 /// `remembered` are the refined sets, `patches` those of all slots outside the set, and `gathered` the
 /// words of to-space. Linear in the sets, the patches and the slots of the survivors.

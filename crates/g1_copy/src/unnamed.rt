@@ -20,7 +20,7 @@ use g1_rem::{Starts, Tracked, image, leads_into};
 use g1_words::{Heap, Kind, Object, region_of, size_at};
 use std::alloc::{AllocError, Global};
 
-/// Sets the marks of the regions in which a root names an object.
+/// Sets the marks of the regions in which a root references an object.
 fn mark_rooted(heap: &Heap, rooted: &mut [bool])
     requires { length rooted.old ≡ heap.now.geometry.n }
     ensures { AreMarked (is_rooted heap.now) rooted.old rooted.new }
@@ -44,8 +44,8 @@ fn lies_in(heap: &Heap, region: u64, object: &Object) -> bool
     object.at < start + region_words && start < object.at + object.size
 }
 
-/// Whether a slot on a card of the remembered set, outside the object's own run, names the humongous
-/// object that begins in a region.
+/// Whether a slot on a card of the remembered set, outside the object's own run, references the
+/// humongous object that begins in a region.
 fn names(
     alloc: Global,
     heap: &Heap,
@@ -97,7 +97,7 @@ fn one_names(
     false
 }
 
-/// Whether a humongous object begins in a region, and nothing names it.
+/// Whether a humongous object begins in a region, and nothing references it.
 fn is_unnamed(
     alloc: Global,
     heap: &Heap,
@@ -149,7 +149,7 @@ fn unnamed_firsts(
     Ok(firsts)
 }
 
-/// The first regions of the humongous objects that nothing names once the survivors have moved,
+/// The first regions of the humongous objects that nothing references once the survivors have moved,
 /// rising. `fates` are those of the set and to-space, `remembered` the sets after the moves. Linear in
 /// the regions, the roots, the remembered cards of humongous regions and the slots on them.
 pub(crate) fn unnamed(
@@ -174,7 +174,7 @@ pub(crate) fn unnamed(
     unnamed_firsts(alloc, heap, starts, fates, &rooted, remembered)
 }
 
-/// Adds so many regions, from one on.
+/// Adds this many regions, from one on.
 fn push_run(runs: &mut Vec<u32>, first: u64, count: u64) -> Result<(), AllocError>
     requires { first + count ≤ 2 ^ 32 }
     ensures { OnOk result (runs.new.items ≡ runs.old.items ++ range_with_len first count) }
@@ -234,7 +234,7 @@ fn leave_each(heap: &Heap, fates: &[Fate], sets: &mut [Vec<u32>])
     }
 }
 
-/// The same where these regions were freed beside the set. Where there are none the sets stay as they
+/// The same if these regions were freed beside the set. If there are none the sets stay as they
 /// are, and no card is looked at.
 pub(crate) fn leave_all(heap: &Heap, fates: &[Fate], freed: &[u32], sets: &mut [Vec<u32>])
     requires { length sets.old ≡ length fates.now }

@@ -1,13 +1,13 @@
 //! Where the survivors of a pause are placed.
 //!
-//! The regions that are free before the pause are used in rising number. The first survivor stands at
-//! the start of the lowest one; each next one directly after the last where it ends within the region,
+//! The regions that are free before the pause are used in rising number. The first survivor goes to
+//! the start of the lowest one; each next one directly after the last if it ends within the region,
 //! else at the start of the next free region (next fit). `place` goes by these steps:
 //!
-//! 1. It counts the regions that the survivors need, on beyond the free ones, and refuses where they
+//! 1. It counts the regions that the survivors need, on beyond the free ones, and refuses if they
 //!    need more than are free. No memory was taken until then.
 //! 2. It lists to-space, and each survivor's new address.
-//! 3. It lists the runs: which stretch of the survivors stands in each region of to-space, and where
+//! 3. It lists the runs: which stretch of the survivors is in each region of to-space, and where
 //!    the region's last object ends.
 //! 4. It writes the new addresses into a table over the words of the collection set, from which
 //!    `Plan::forward` answers by one look-up.

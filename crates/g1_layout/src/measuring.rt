@@ -15,7 +15,7 @@ pub(crate) fn next_fit(geometry: &Geometry, from: u64, size: u64) -> u64
     if from + size <= next { from } else { next }
 }
 
-/// The number of regions that survivors take, whether or not so many are free.
+/// The number of regions that survivors take, whether or not as many are free.
 pub(crate) fn need(heap: &Heap, survivors: &[u64]) -> u64
     requires { CanLay heap.now survivors.now }
     ensures { result ≡ need heap.now survivors.now }

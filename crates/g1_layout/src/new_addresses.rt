@@ -57,7 +57,7 @@ fn index_of(geometry: &Geometry, positions: &[Option<u32>], a: u64) -> Option<us
     }
 }
 
-/// The new address that a word tells of what stands at an address.
+/// The new address, by a word, of what is at an address.
 fn told(word: u32, a: u64) -> u64
     ensures { result ≡ told word a }
 {
@@ -95,7 +95,7 @@ impl Table {
     ghost use Rattle.g1_layout.specs.Words.{IsTable, goes_to};
     ghost use Rattle.g1_layout.specs.Forwards.{Forwards};
 
-    /// The table that tells each survivor's place, and of any other address the address itself.
+    /// The table that has each survivor's place, and for any other address the address itself.
     pub(crate) fn new(
         alloc: Global,
         geometry: &Geometry,
@@ -122,7 +122,7 @@ impl Table {
         })
     }
 
-    /// What the table tells for an address.
+    /// What the table has for an address.
     pub(crate) fn get(&self, a: u64) -> u64
         requires { IsTable self.now.geometry.w self.now.positions.items self.now.words.items }
         ensures { result ≡ goes_to self.now.geometry.w self.now.positions.items self.now.words.items a }

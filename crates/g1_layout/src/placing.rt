@@ -91,8 +91,8 @@ fn runs(
 ///
 /// # Errors
 ///
-/// `Fault::Room` where the survivors need more regions than are free, with both numbers and before
-/// any memory was taken; `Fault::Memory` where a growth was refused.
+/// `Fault::Room` if the survivors need more regions than are free, with both numbers and before
+/// any memory was taken; `Fault::Memory` if a growth was refused.
 pub fn place(alloc: Global, heap: &Heap, set: &[u32], survivors: &[u64]) -> Result<Plan, Fault>
     requires { CanPlace heap.now set.now survivors.now }
     ensures plan { IfOk result (λ p. p ≡ plan_of heap.now set.now survivors.now) }

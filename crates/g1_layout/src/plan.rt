@@ -4,7 +4,7 @@ ghost use Rattle.g1_words.specs.Layout.{moved_to};
 use crate::new_addresses::Table;
 use std::marker::Model;
 
-/// The survivors that stand in one region of to-space.
+/// The survivors that are in one region of to-space.
 #[derive(Debug, Clone, Copy, PartialEq, Eq)]
 pub struct Run {
     /// The region's number.
@@ -82,7 +82,7 @@ impl Plan {
         self.to_space.len() as u64
     }
 
-    /// The new address of what stands at an address: a survivor's place, and any other address itself.
+    /// The new address of what is at an address: a survivor's place, and any other address itself.
     pub fn forward(&self, a: u64) -> u64
         ensures { result ≡ moved_to self.now.survivors self.now.places a }
     {

@@ -138,7 +138,7 @@ fn told(
 /// The time is linear in what the roots reach, and in the words of both heaps for two empty tables.
 ///
 /// # Errors
-/// `Fault::Memory` where a growth was refused.
+/// `Fault::Memory` if a growth was refused.
 pub fn compare(
     alloc: Global,
     before: &Heap,

@@ -1,5 +1,5 @@
-/// How two words that one path leads to disagree. Of several ways the first one in this order is told.
-/// Addresses count words.
+/// How two words that one path leads to disagree. Of several ways the first one in this order is
+/// reported. Addresses count words.
 #[derive(Debug, Clone, Copy, PartialEq, Eq, Drop)]
 pub enum How {
     /// The word before is null, the one after isn't.
@@ -25,7 +25,7 @@ pub enum How {
         before: u64,
         after: u64,
     },
-    /// The objects have so many slots.
+    /// The objects have this many slots.
     Slots {
         before: u64,
         after: u64,
@@ -39,7 +39,7 @@ pub enum How {
 /// The first place where two heaps differ, for whoever reads from the roots.
 #[derive(Drop)]
 pub enum Difference {
-    /// The heaps have so many roots.
+    /// The heaps have this many roots.
     Roots {
         before: u64,
         after: u64,

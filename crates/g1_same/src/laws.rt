@@ -1,6 +1,6 @@
 ghost use Rattle.g1_same.specs.Laws.{NeverBoth, OneFirst, OneRenaming};
 
-/// A difference tells that no renaming makes the one graph the other.
+/// A difference shows that no renaming makes the one graph the other.
 pub fn never_both()
     ensures { NeverBoth }
 {}

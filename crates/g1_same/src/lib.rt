@@ -2,21 +2,21 @@
 //!
 //! A pause may give every object another address. What a program can see of a heap is its graph: the
 //! roots, and from them object by object the sizes, the slots and the data words. Two heaps show one
-//! graph where a one-to-one renaming of the reached objects makes the one the other. Regions, cards and
+//! graph if a one-to-one renaming of the reached objects makes the one the other. Regions, cards and
 //! dead objects don't count.
 //!
 //! 1. Both heaps are searched at once, breadth first. The roots are compared by number, and then the
 //!    slots of each pair of objects that was found, in the order in which the pairs are found. So two
 //!    finite automata are compared, state by state (Hopcroft, Karp 1971); here a slot's number is the
 //!    letter that is read.
-//! 2. Two words agree where both are null, where they name a pair that was found, or where they name
+//! 2. Two words agree if both are null, if they reference a pair that was found, or if they reference
 //!    two objects that are both new, of one size, as many slots and the same data words: a new pair.
-//! 3. Two tables tell which: by an object's address before, and by its address after, the place of its
+//! 3. Two tables say which: by an object's address before, and by its address after, the place of its
 //!    pair. Two equal entries are a pair or two new objects. Else one object before is two after, or
 //!    two before are one after.
-//! 4. At the first two words that disagree the search ends. The path to them is told by going back
-//!    from a pair to the one whose slot named it. Since pairs are found in breadth-first order, no
-//!    path that comes before leads to a difference.
+//! 4. At the first two words that disagree the search ends. The path to them is found by going back
+//!    from a pair to the one whose slot referenced it. Since pairs are found in breadth-first
+//!    order, no path that comes before leads to a difference.
 //! 5. Where no slot is left, the pairs are the renaming.
 //!
 //! Each reached object, slot and data word is looked at once. The tables have 4 bytes for each word of

@@ -36,7 +36,7 @@ fn first_other(here: &[u64], there: &[u64], a: u64, b: u64, count: u64) -> Optio
     None
 }
 
-/// The object at an address where one stands.
+/// The object at an address at which one starts.
 pub fn object(heap: &Heap, a: u64) -> Object
     requires { Contains (objects heap.now) (object_at heap.now a) }
     ensures size { result.size ≡ (object_at heap.now a).size }
@@ -129,7 +129,7 @@ fn meet(before: &Heap, after: &Heap, walk: &Walk, x: u64, y: u64) -> Met
     }
 }
 
-/// Links two words that stand where this way leads, or tells how they disagree.
+/// Links two words to which this way leads, or returns how they disagree.
 pub fn link(
     before: &Heap,
     after: &Heap,

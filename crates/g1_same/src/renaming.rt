@@ -1,4 +1,4 @@
-/// The objects that the roots of one heap reach, and where each stands in another heap.
+/// The objects that the roots of one heap reach, and the address of each in another heap.
 #[derive(Drop)]
 pub struct Renaming {
     /// Their addresses, in words, in breadth-first order: what the roots name, by number, then what

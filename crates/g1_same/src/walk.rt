@@ -7,14 +7,14 @@ use crate::difference::How;
 use g1_words::Heap;
 use std::alloc::{AllocError, Global};
 
-/// The pairs of objects that were found, how each was found, and the tables that tell them.
+/// The pairs of objects that were found, how each was found, and the tables that find them.
 #[derive(Drop)]
 pub struct Walk {
     /// The address before of each pair.
     pub before: Vec<u64>,
     /// The address after of each pair.
     pub after: Vec<u64>,
-    /// 0 where a root names the pair, else 1 more than the place of the pair whose slot does.
+    /// 0 if a root references the pair, else 1 more than the place of the pair whose slot does.
     pub from: Vec<u32>,
     /// The number of that root or slot.
     pub number: Vec<u32>,
