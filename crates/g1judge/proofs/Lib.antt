@@ -1,0 +1,4 @@
+pub mod Reached
+pub mod Following
+pub mod Statuses
+pub mod Texts

@@ -1,0 +1,113 @@
+-- The status of a verdict is exactly what the bytes are.
+use Rattle.std.proofs.Common.{◌≡◌, ◌⊎◌, ◌↔◌, ℕ, inl, inr, List, ◌∷◌, [], refl, sym, subst, ◌∙◌, arith}
+use Rattle.g1_words.specs.Graph.{SameGraph}
+use Rattle.g1_image.specs.Cards.{Covered, uncovered}
+use Rattle.g1_image.specs.Laws.{OneImage}
+use Rattle.g1_image.specs.Verdict.{NoFaultOfText}
+use Rattle.g1judge.specs.declared.verdict.Verdict.TheVariants.{Good, Same, Differ, NoImage, Uncovered, Memory}
+use Rattle.g1judge.specs.Judged.{IsText, JudgesCover}
+use Rattle.g1judge.specs.Laws.{ShowOneGraph, ShowTwoGraphs, HasFault, IsCoveredText, IsBareText, PairStatus, ImageStatus, CoverStatus, MemoryStatus}
+
+other : {A : Type 0} (m n : ℕ) → (m ≡ n → ⊥) → (A → ⊥) → (m ≡ n) ↔ A
+other m n f g = ((λ e. absurd (f e)), λ a. absurd (g a))
+
+module _ (one : OneImage) (none : NoFaultOfText) where
+  no_fault : (bytes : List ℕ) → IsText bytes → HasFault bytes → ⊥
+  no_fault bytes t f = none bytes t.0 f.0 t.1 f.1
+
+  neither : (before after : List ℕ) → IsText before → IsText after → HasFault before ⊎ HasFault after → ⊥
+  neither before after s t (inl f) = no_fault before s f
+  neither before after s t (inr f) = no_fault after t f
+
+  -- two readings of two texts are of the same images
+  both : (before after : List ℕ) → ShowOneGraph before after → ShowTwoGraphs before after → ⊥
+  both before after (g, h, s, t, same) (i, j, u, v, never) =
+      never (subst (λ z. SameGraph i.heap z.heap) (one after h j t v) (subst (λ z. SameGraph z.heap h.heap) (one before g i s u) same))
+
+  pub pair_status : PairStatus
+  pair_status before after Good j = absurd j
+  pair_status before after (Same objects words) (g, h, s, t, shown) =
+      let shows : ShowOneGraph before after = (g, h, s, t, shown.2.same) in
+      inr record {
+        zero = ((λ e. shows), λ z. refl);
+        one = other 0 1 (λ e. omega (arith, e)) (both before after shows);
+        three = other 0 3 (λ e. omega (arith, e)) (neither before after (g, s) (h, t));
+        no_other = inl refl;
+      }
+  pair_status before after (Differ d ends) (g, h, s, t, shown) =
+      let shows : ShowTwoGraphs before after = (g, h, s, t, shown.never) in
+      inr record {
+        zero = other 1 0 (λ e. omega (arith, e)) (λ z. both before after z shows);
+        one = ((λ e. shows), λ z. refl);
+        three = other 1 3 (λ e. omega (arith, e)) (neither before after (g, s) (h, t));
+        no_other = inr (inl refl);
+      }
+  pair_status before after (NoImage image e) j =
+      let bad : HasFault before ⊎ HasFault after = elim j [ inl k ↦ inl (e, k.1) | inr k ↦ inr (e, k.2) ] in
+      inr record {
+        zero = other 3 0 (λ e. omega (arith, e)) (λ z. neither before after (z.0, z.2) (z.1, z.3) bad);
+        one = other 3 1 (λ e. omega (arith, e)) (λ z. neither before after (z.0, z.2) (z.1, z.3) bad);
+        three = ((λ e. bad), λ z. refl);
+        no_other = inr (inr refl);
+      }
+  pair_status before after (Uncovered slot) j = absurd j
+  pair_status before after Memory j = inl refl
+
+  pub image_status : ImageStatus
+  image_status bytes Good j = inr record {
+    zero = ((λ e. j), λ z. refl);
+    three = other 0 3 (λ e. omega (arith, e)) (no_fault bytes j);
+    no_other = inl refl;
+  }
+  image_status bytes (Same objects words) j = absurd j
+  image_status bytes (Differ d ends) j = absurd j
+  image_status bytes (NoImage image e) j =
+      let bad : HasFault bytes = (e, j.1) in
+      inr record {
+        zero = other 3 0 (λ e. omega (arith, e)) (λ t. no_fault bytes t bad);
+        three = ((λ e. bad), λ z. refl);
+        no_other = inr refl;
+      }
+  image_status bytes (Uncovered slot) j = absurd j
+  image_status bytes Memory j = inl refl
+
+  one_cover : (bytes : List ℕ) → IsCoveredText bytes → IsBareText bytes → ⊥
+  one_cover bytes (i, t, covered) (j, u, bare) = bare (subst Covered (one bytes i j t u) covered)
+
+  bare_text : (bytes : List ℕ) (slot : ℕ) → JudgesCover bytes (Uncovered slot) → IsBareText bytes
+  bare_text bytes slot (i, t, others, is) = (i, t, λ (c : uncovered i ≡ []). let e : [] ≡ slot ∷ others = sym c ∙ is in cc)
+
+  pub cover_status : CoverStatus
+  cover_status bytes Good j = inr record {
+    zero = ((λ e. j), λ z. refl);
+    three = other 0 3 (λ e. omega (arith, e)) (no_fault bytes (j.0, j.1));
+    four = other 0 4 (λ e. omega (arith, e)) (one_cover bytes j);
+    no_other = inl refl;
+  }
+  cover_status bytes (Same objects words) j = absurd j
+  cover_status bytes (Differ d ends) j = absurd j
+  cover_status bytes (NoImage image e) j =
+      let bad : HasFault bytes = (e, j.1) in
+      inr record {
+        zero = other 3 0 (λ e. omega (arith, e)) (λ t. no_fault bytes (t.0, t.1) bad);
+        three = ((λ e. bad), λ z. refl);
+        four = other 3 4 (λ e. omega (arith, e)) (λ t. no_fault bytes (t.0, t.1) bad);
+        no_other = inr (inl refl);
+      }
+  cover_status bytes (Uncovered slot) j =
+      let bare = bare_text bytes slot j in
+      inr record {
+        zero = other 4 0 (λ e. omega (arith, e)) (λ t. one_cover bytes t bare);
+        three = other 4 3 (λ e. omega (arith, e)) (no_fault bytes (j.0, j.1));
+        four = ((λ e. bare), λ z. refl);
+        no_other = inr (inr refl);
+      }
+  cover_status bytes Memory j = inl refl
+
+pub memory_status : MemoryStatus
+memory_status Good = ((λ e. absurd (omega (arith, e))), λ e. cc)
+memory_status (Same objects words) = ((λ e. absurd (omega (arith, e))), λ e. cc)
+memory_status (Differ d ends) = ((λ e. absurd (omega (arith, e))), λ e. cc)
+memory_status (NoImage image e) = ((λ e. absurd (omega (arith, e))), λ e. cc)
+memory_status (Uncovered slot) = ((λ e. absurd (omega (arith, e))), λ e. cc)
+memory_status Memory = ((λ e. refl), λ e. refl)

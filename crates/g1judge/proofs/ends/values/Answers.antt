@@ -1,0 +1,18 @@
+use Rattle.std.proofs.Common.{subst}
+use Rattle.g1_same.specs.Same.{IsClash}
+use Rattle.g1judge.proofs.Following.{value_before, value_after}
+use Rattle.g1judge.proofs.ends.values.Goals as goal
+
+pub value-requires : goal.value-requires
+value-requires c =
+    let g = c.args.before.now in
+    let h = c.args.after.now in
+    let r = c.requires in
+    value_before g h r.0 c.args.old c.args.new c.in-Data.word c.geometry.ensures.valid r.1 (subst (λ how. IsClash g h r.0 how c.args.old c.args.new) c.in-Data.is r.3)
+
+pub value-requires-in-Data : goal.value-requires-in-Data
+value-requires-in-Data c =
+    let g = c.args.before.now in
+    let h = c.args.after.now in
+    let r = c.requires in
+    value_after g h r.0 c.args.old c.args.new c.in-Data.word c.geometry-2.ensures.valid r.2 (subst (λ how. IsClash g h r.0 how c.args.old c.args.new) c.in-Data.is r.3)

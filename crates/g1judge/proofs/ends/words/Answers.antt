@@ -1,0 +1,12 @@
+use Rattle.std.proofs.Common.{arith}
+use Rattle.std.proofs.lemmas.List.Sums.{sum_by_more_le}
+use Rattle.g1_words.specs.Heap.{object_at}
+use Rattle.g1judge.proofs.Reached.{words_fit}
+use Rattle.g1judge.proofs.ends.words.Goals as goal
+
+pub overflow_add-words : goal.overflow_add-words
+overflow_add-words c =
+    let h = c.args.heap.now in
+    let more = sum_by_more_le (λ a. (object_at h a).size) c.args.renamed.now c.loop-address.address-index 0 c.loop-address-test.true in
+    let few = words_fit h c.requires.0 c.args.renamed.now c.requires.1 c.geometry-sizes.ensures.valid c.requires.2 in
+    omega (arith, more, few, c.loop-address.invariant, c.size_at-words.ensures)

@@ -1,0 +1,104 @@
+-- What bytes are found to be.
+use Rattle.std.specs.Prelude.{◌≡◌, ◌≢◌, ◌<◌, ℕ, zero, suc, ◌+◌, ◌⊎◌, List, length, ◌∷◌, sum_by, Contains}
+use Rattle.g1_words.specs.declared.fault.Fault.{Fault}
+use Rattle.g1_words.specs.declared.fault.Fault.TheVariants as fault
+use Rattle.g1_words.specs.Heap.{Heap, word, object_at, objects}
+use Rattle.g1_words.specs.Graph.{SameGraph}
+use Rattle.g1_image.specs.Image.{Image, IsTextOf}
+use Rattle.g1_image.specs.Faults.{FaultOf}
+use Rattle.g1_image.specs.Cards.{Covered, uncovered}
+use Rattle.g1_same.specs.declared.difference.How.{How}
+use Rattle.g1_same.specs.declared.difference.How.TheVariants.{Data}
+use Rattle.g1_same.specs.declared.difference.Difference.{Difference}
+use Rattle.g1_same.specs.declared.difference.Difference.TheVariants.{Roots, At}
+use Rattle.g1_same.specs.Path.{Together}
+use Rattle.g1_same.specs.Same.{IsFirstDifference, IsRenaming}
+use Rattle.g1judge.specs.declared.verdict.Ends.{Ends}
+use Rattle.g1judge.specs.declared.verdict.Verdict.{Verdict}
+use Rattle.g1judge.specs.declared.verdict.Verdict.TheVariants.{Good, Same, Differ, NoImage, Uncovered, Memory}
+
+-- the words of the objects at these addresses, together
+abbrev pub words_of : Heap → List ℕ → ℕ
+words_of h l = sum_by (λ a. (object_at h a).size) l
+
+-- the data word of this number of the object that a reference word names
+abbrev pub data_word : Heap → ℕ → ℕ → ℕ
+data_word h zero k = 0
+data_word h (suc a) k = word h (a + 1 + (object_at h a).refs + k)
+
+-- the reference word names an object that has a data word of this number
+pub record HasDataWord (h : Heap) (x k : ℕ) : Type 0 where
+  pub address : ℕ
+  pub is : x ≡ suc address
+  pub object : Contains (objects h) (object_at h address)
+  pub within : (object_at h address).refs + 1 + k < (object_at h address).size
+
+-- the values of two data words that differ; of another difference, none
+abbrev pub AreValues : Heap → Heap → How → ℕ → ℕ → ℕ → ℕ → Type 0
+AreValues g h (Data k) x y u v = (u ≡ data_word g x k) × (v ≡ data_word h y k)
+AreValues g h _ x y u v = (u ≡ 0) × (v ≡ 0)
+
+-- the reference words that the path leads to in both heaps, and the values; another number of roots has no path
+abbrev pub AreEnds : Heap → Heap → Difference → Ends → Type 0
+AreEnds g h (Roots m n) e = (e.before ≡ 0) × (e.after ≡ 0) × (e.word_before ≡ 0) × (e.word_after ≡ 0)
+AreEnds g h (At k ss how) e = Together g h (k ∷ ss.items) e.before e.after × AreValues g h how e.before e.after e.word_before e.word_after
+
+-- two heaps show one graph, and the roots reach so many objects and words
+abbrev pub ShowSame : Heap → Heap → ℕ → ℕ → Type 0
+ShowSame g h objects words = (olds : List ℕ) × (news : List ℕ) × IsRenaming g h olds news × (objects ≡ length olds) × (words ≡ words_of g olds)
+
+-- two heaps do not show one graph, this is their first difference, and there its path ends
+pub record ShowOther (g h : Heap) (d : Difference) (e : Ends) : Type 0 where
+  pub first : IsFirstDifference g h d
+  pub ends : AreEnds g h d e
+  pub never : SameGraph g h → ⊥
+
+-- what two images are to each other
+abbrev pub JudgesImages : Image → Image → Verdict → Type 0
+JudgesImages g h (Same objects words) = ShowSame g.heap h.heap objects words
+JudgesImages g h (Differ d e) = ShowOther g.heap h.heap d e
+JudgesImages g h Memory = Unit {0}
+JudgesImages g h _ = ⊥
+
+-- what an image is by its slots
+abbrev pub JudgesSlots : Image → Verdict → Type 0
+JudgesSlots i Good = Covered i
+JudgesSlots i (Uncovered slot) = (others : List ℕ) × (uncovered i ≡ slot ∷ others)
+JudgesSlots i Memory = Unit {0}
+JudgesSlots i _ = ⊥
+
+-- bytes that were not read to an image
+abbrev pub IsUnread : ℕ → Fault → Verdict → Type 0
+IsUnread which e (NoImage image f) = (image ≡ which) × (f ≡ e) × (e ≢ fault.Memory)
+IsUnread which e Memory = e ≡ fault.Memory
+IsUnread which e _ = ⊥
+
+-- the bytes are some image's text
+abbrev pub IsText : List ℕ → Type 0
+IsText bytes = (i : Image) × IsTextOf bytes i
+
+-- THE VERDICT of two byte strings. Memory may be refused at any time.
+abbrev pub JudgesPair : List ℕ → List ℕ → Verdict → Type 0
+JudgesPair before after (Same objects words) =
+    (g : Image) × (h : Image) × IsTextOf before g × IsTextOf after h × ShowSame g.heap h.heap objects words
+JudgesPair before after (Differ d e) =
+    (g : Image) × (h : Image) × IsTextOf before g × IsTextOf after h × ShowOther g.heap h.heap d e
+JudgesPair before after (NoImage image e) =
+    ((image ≡ 1) × FaultOf before e) ⊎ ((image ≡ 2) × IsText before × FaultOf after e)
+JudgesPair before after Memory = Unit {0}
+JudgesPair before after _ = ⊥
+
+-- THE VERDICT of bytes: an image's text, or their fault
+abbrev pub JudgesImage : List ℕ → Verdict → Type 0
+JudgesImage bytes Good = IsText bytes
+JudgesImage bytes (NoImage image e) = (image ≡ 1) × FaultOf bytes e
+JudgesImage bytes Memory = Unit {0}
+JudgesImage bytes _ = ⊥
+
+-- THE VERDICT of bytes on cover: a covered image's text, or an image's with the lowest slot that is not covered, or their fault
+abbrev pub JudgesCover : List ℕ → Verdict → Type 0
+JudgesCover bytes Good = (i : Image) × IsTextOf bytes i × Covered i
+JudgesCover bytes (Uncovered slot) = (i : Image) × IsTextOf bytes i × (others : List ℕ) × (uncovered i ≡ slot ∷ others)
+JudgesCover bytes (NoImage image e) = (image ≡ 1) × FaultOf bytes e
+JudgesCover bytes Memory = Unit {0}
+JudgesCover bytes _ = ⊥

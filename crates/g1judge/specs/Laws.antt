@@ -1,0 +1,65 @@
+-- The laws that public functions of this crate prove.
+use Rattle.std.specs.Prelude.{◌≡◌, ◌↔◌, ◌⊎◌, ℕ, List}
+use Rattle.g1_words.specs.declared.fault.Fault.{Fault}
+use Rattle.g1_words.specs.Graph.{SameGraph}
+use Rattle.g1_image.specs.Image.{Image, IsTextOf}
+use Rattle.g1_image.specs.Faults.{FaultOf}
+use Rattle.g1_image.specs.Cards.{Covered}
+use Rattle.g1judge.specs.declared.verdict.Verdict.{Verdict}
+use Rattle.g1judge.specs.declared.verdict.Verdict.TheVariants.{Memory}
+use Rattle.g1judge.specs.Judged.{IsText, JudgesPair, JudgesImage, JudgesCover}
+use Rattle.g1judge.specs.Answered.{status_of}
+
+-- the bytes are the texts of two images that show one graph from their roots
+abbrev pub ShowOneGraph : List ℕ → List ℕ → Type 0
+ShowOneGraph before after = (g : Image) × (h : Image) × IsTextOf before g × IsTextOf after h × SameGraph g.heap h.heap
+
+-- the bytes are the texts of two images that do not
+abbrev pub ShowTwoGraphs : List ℕ → List ℕ → Type 0
+ShowTwoGraphs before after = (g : Image) × (h : Image) × IsTextOf before g × IsTextOf after h × (SameGraph g.heap h.heap → ⊥)
+
+-- the bytes are no image's text: they have a fault
+abbrev pub HasFault : List ℕ → Type 0
+HasFault bytes = (e : Fault) × FaultOf bytes e
+
+-- the bytes are the text of an image each of whose slots is covered
+abbrev pub IsCoveredText : List ℕ → Type 0
+IsCoveredText bytes = (i : Image) × IsTextOf bytes i × Covered i
+
+-- the bytes are the text of an image with a slot that is not covered
+abbrev pub IsBareText : List ℕ → Type 0
+IsBareText bytes = (i : Image) × IsTextOf bytes i × (Covered i → ⊥)
+
+-- what the status of g1_same says, each way round
+pub record SaysOfPair (before after : List ℕ) (status : ℕ) : Type 0 where
+  pub zero : (status ≡ 0) ↔ ShowOneGraph before after
+  pub one : (status ≡ 1) ↔ ShowTwoGraphs before after
+  pub three : (status ≡ 3) ↔ (HasFault before ⊎ HasFault after)
+  pub no_other : (status ≡ 0) ⊎ (status ≡ 1) ⊎ (status ≡ 3)
+
+-- what the status of g1_image says
+pub record SaysOfImage (bytes : List ℕ) (status : ℕ) : Type 0 where
+  pub zero : (status ≡ 0) ↔ IsText bytes
+  pub three : (status ≡ 3) ↔ HasFault bytes
+  pub no_other : (status ≡ 0) ⊎ (status ≡ 3)
+
+-- what the status of g1_covered says
+pub record SaysOfCover (bytes : List ℕ) (status : ℕ) : Type 0 where
+  pub zero : (status ≡ 0) ↔ IsCoveredText bytes
+  pub three : (status ≡ 3) ↔ HasFault bytes
+  pub four : (status ≡ 4) ↔ IsBareText bytes
+  pub no_other : (status ≡ 0) ⊎ (status ≡ 3) ⊎ (status ≡ 4)
+
+-- where memory was not refused, the status of a verdict is exactly what the bytes are
+abbrev pub PairStatus : Type 0
+PairStatus = (before after : List ℕ) (v : Verdict) → JudgesPair before after v → (v ≡ Memory) ⊎ SaysOfPair before after (status_of v)
+
+abbrev pub ImageStatus : Type 0
+ImageStatus = (bytes : List ℕ) (v : Verdict) → JudgesImage bytes v → (v ≡ Memory) ⊎ SaysOfImage bytes (status_of v)
+
+abbrev pub CoverStatus : Type 0
+CoverStatus = (bytes : List ℕ) (v : Verdict) → JudgesCover bytes v → (v ≡ Memory) ⊎ SaysOfCover bytes (status_of v)
+
+-- 6 is the status of memory alone
+abbrev pub MemoryStatus : Type 0
+MemoryStatus = (v : Verdict) → (status_of v ≡ 6) ↔ (v ≡ Memory)

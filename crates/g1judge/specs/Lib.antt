@@ -1,0 +1,3 @@
+pub mod Judged
+pub mod Answered
+pub mod Laws

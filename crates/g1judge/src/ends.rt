@@ -1,0 +1,83 @@
+ghost use Rattle.std.specs.Prelude.{◌≡◌, ◌∷◌, ℕ, List};
+ghost use Rattle.g1_words.specs.Heap.{Heap};
+ghost use Rattle.g1_same.specs.Path.{LeadsTo};
+ghost use Rattle.g1_same.specs.Same.{IsClash, IsFirstDifference, IsRenaming};
+ghost use Rattle.g1judge.specs.Judged.{AreEnds, AreValues, HasDataWord, words_of, data_word};
+
+use crate::verdict::Ends;
+use g1_same::{Difference, How};
+use g1_words::{Heap, header, size_at};
+
+/// The words of all objects that are renamed.
+pub fn words(heap: &Heap, renamed: &[u64]) -> u64
+    requires { (h : Heap) × (news : List ℕ) × IsRenaming heap.now h renamed.now news }
+    ensures { result ≡ words_of heap.now renamed.now }
+{
+    let _sizes = heap.geometry();
+    let mut words = 0;
+    for address in renamed {
+        words += size_at(heap, *address);
+    }
+    words
+}
+
+// The reference word that a path leads to.
+fn reached(heap: &Heap, root: u64, slots: &[u64]) -> u64
+    requires { (y : ℕ) × LeadsTo heap.now (root ∷ slots.now) y }
+    ensures { LeadsTo heap.now (root ∷ slots.now) result }
+{
+    let _sizes = heap.geometry();
+    let mut reference = heap.roots()[root as usize];
+    for slot in slots {
+        reference = heap.words()[(reference + *slot) as usize];
+    }
+    reference
+}
+
+// The data word of this number of the object that a reference names.
+fn value(heap: &Heap, reference: u64, number: u64) -> u64
+    requires { HasDataWord heap.now reference number }
+    ensures { result ≡ data_word heap.now reference number }
+{
+    let _sizes = heap.geometry();
+    let object = header(heap.words(), reference - 1);
+    heap.words()[(reference + object.refs + number) as usize]
+}
+
+// The values of two data words that differ.
+fn values(before: &Heap, after: &Heap, how: &How, old: u64, new: u64) -> (u64, u64)
+    requires { (p : List ℕ) × LeadsTo before.now p old × LeadsTo after.now p new × IsClash before.now after.now p how.now old new }
+    ensures { AreValues before.now after.now how.now old new result.0 result.1 }
+{
+    let _sizes = (before.geometry(), after.geometry());
+    match how {
+        How::Data { word } => (value(before, old, *word), value(after, new, *word)),
+        _ => (0, 0),
+    }
+}
+
+/// What stands where the path to the first difference of two heaps ends.
+pub fn ends(before: &Heap, after: &Heap, difference: &Difference) -> Ends
+    requires { IsFirstDifference before.now after.now difference.now }
+    ensures { AreEnds before.now after.now difference.now result }
+{
+    match difference {
+        Difference::Roots { .. } => Ends {
+            before: 0,
+            after: 0,
+            word_before: 0,
+            word_after: 0,
+        },
+        Difference::At { root, slots, how } => {
+            let old = reached(before, *root, slots.as_slice());
+            let new = reached(after, *root, slots.as_slice());
+            let (word_before, word_after) = values(before, after, how, old, new);
+            Ends {
+                before: old,
+                after: new,
+                word_before,
+                word_after,
+            }
+        }
+    }
+}

@@ -1,0 +1,58 @@
+ghost use Rattle.std.specs.Prelude.{◌≡◌, ◌⊎◌};
+ghost use Rattle.g1judge.specs.declared.verdict.Verdict.{Verdict};
+ghost use Rattle.g1judge.specs.Judged.{JudgesPair, JudgesImage, JudgesCover};
+ghost use Rattle.g1judge.specs.Answered.{status_of, answer_of, path_of, written};
+ghost use Rattle.g1judge.specs.Laws.{SaysOfPair, SaysOfImage, SaysOfCover};
+
+use crate::answer::Answer;
+use crate::answering::say;
+use crate::judging::{judge_cover, judge_image, judge_pair};
+use crate::laws;
+use std::alloc::Global;
+
+/// The version of these calls: of their names, of what they take, and of what an answer says.
+#[unsafe(no_mangle)]
+pub extern "C" fn g1_version() -> u32
+    ensures { result ≡ 1 }
+{
+    1
+}
+
+/// Whether two byte strings are the texts of two images that show one graph from their roots.
+#[unsafe(no_mangle)]
+pub extern "C" fn g1_same(
+    alloc: Global,
+    before: &[u8],
+    after: &[u8],
+    path: &mut [u64],
+    answer: &mut Answer,
+) -> u32
+    ensures said { (v : Verdict) × JudgesPair before.now after.now v × (result ≡ status_of v) × (answer.new ≡ answer_of v) × (path.new ≡ written (path_of v) path.old) }
+    ensures status { (result ≡ 6) ⊎ SaysOfPair before.now after.now result }
+{
+    let verdict = judge_pair(alloc, before, after);
+    laws::pair_status();
+    say(&verdict, path, answer)
+}
+
+/// Whether bytes are an image's text.
+#[unsafe(no_mangle)]
+pub extern "C" fn g1_image(alloc: Global, bytes: &[u8], answer: &mut Answer) -> u32
+    ensures said { (v : Verdict) × JudgesImage bytes.now v × (result ≡ status_of v) × (answer.new ≡ answer_of v) }
+    ensures status { (result ≡ 6) ⊎ SaysOfImage bytes.now result }
+{
+    let verdict = judge_image(alloc, bytes);
+    laws::image_status();
+    say(&verdict, &mut [], answer)
+}
+
+/// Whether bytes are the text of an image each of whose slots is covered.
+#[unsafe(no_mangle)]
+pub extern "C" fn g1_covered(alloc: Global, bytes: &[u8], answer: &mut Answer) -> u32
+    ensures said { (v : Verdict) × JudgesCover bytes.now v × (result ≡ status_of v) × (answer.new ≡ answer_of v) }
+    ensures status { (result ≡ 6) ⊎ SaysOfCover bytes.now result }
+{
+    let verdict = judge_cover(alloc, bytes);
+    laws::cover_status();
+    say(&verdict, &mut [], answer)
+}

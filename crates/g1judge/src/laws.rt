@@ -1,0 +1,32 @@
+ghost use Rattle.g1judge.specs.Laws.{PairStatus, ImageStatus, CoverStatus, MemoryStatus};
+
+/// Where memory was not refused, `g1_same` returns 0 exactly where both byte strings are images' texts
+/// that show one graph, 1 exactly where they are and show two, and 3 exactly where one has a fault.
+pub fn pair_status()
+    ensures { PairStatus }
+{
+    g1_image::laws::one_text();
+    g1_image::laws::one_fault();
+}
+
+/// The same of `g1_image`: 0 exactly where the bytes are an image's text, and 3 where they have a fault.
+pub fn image_status()
+    ensures { ImageStatus }
+{
+    g1_image::laws::one_text();
+    g1_image::laws::one_fault();
+}
+
+/// The same of `g1_covered`: 0 exactly where the bytes are a covered image's text, 4 exactly where they
+/// are an image's that is not, and 3 exactly where they have a fault.
+pub fn cover_status()
+    ensures { CoverStatus }
+{
+    g1_image::laws::one_text();
+    g1_image::laws::one_fault();
+}
+
+/// 6 is returned for memory alone.
+pub fn memory_status()
+    ensures { MemoryStatus }
+{}

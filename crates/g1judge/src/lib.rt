@@ -1,0 +1,26 @@
+//! The judge of heap images for a program in C, C++ or Rust that has the images in its own memory.
+//!
+//! A static library. Its calls take the bytes of images, and write what they find into what the caller
+//! gives; `include/g1judge.h` declares them for C. They start no thread and keep nothing from one call
+//! to the next, so several threads may call them at once.
+//!
+//! 1. `g1_same` says whether two images show one graph from their roots, else the first difference with
+//!    the path to it, else the fault of the first image, else that of the second.
+//! 2. `g1_image` says whether bytes are an image's text, else their fault.
+//! 3. `g1_covered` asks beside that whether each slot is covered, and says the lowest that is not.
+//! 4. What a call finds is a `Verdict`. Its status is what the call returns, and is the one with which
+//!    `g1heap` and `g1pause` end; its numbers are an `Answer`; its path goes into the caller's buffer as
+//!    far as there is room, and the answer says how long it is.
+//!
+//! Each call states again the clauses of the call below it: `decode` of g1_image, `first_uncovered` of
+//! g1_rem, `compare` of g1_same. That the three statuses of a sound answer exclude each other, and that
+//! memory alone has its status, are laws.
+#![tactic(auto)]
+
+mod answer;
+mod answering;
+mod ends;
+mod exports;
+mod judging;
+pub mod laws;
+mod verdict;

@@ -1,0 +1,28 @@
+use g1_same::Difference;
+use g1_words::Fault;
+
+/// What stands where a path ends: the reference words, and of two data words that differ both values.
+#[derive(Clone, Copy, Drop)]
+pub struct Ends {
+    pub before: u64,
+    pub after: u64,
+    pub word_before: u64,
+    pub word_after: u64,
+}
+
+/// What bytes are found to be.
+#[derive(Drop)]
+pub enum Verdict {
+    /// What was asked of one image is so.
+    Good,
+    /// Two images show one graph, and the roots reach so much.
+    Same { objects: u64, words: u64 },
+    /// Two images differ.
+    Differ { difference: Difference, ends: Ends },
+    /// The bytes of the first image or of the second are no image's text.
+    NoImage { image: u32, fault: Fault },
+    /// The lowest slot of an image that is not covered.
+    Uncovered(u64),
+    /// A request for memory was refused.
+    Memory,
+}

@@ -1,0 +1,378 @@
+/* What tools/test_judge.py runs: the calls of the archive and of the writer, one command each. Its lines are for that
+   script. */
+#define G1W_REALLOC(block, size) counted_realloc(block, size)
+#define G1W_FREE(block) counted_free(block)
+#include <stddef.h>
+static void *counted_realloc(void *block, size_t size);
+static void counted_free(void *block);
+#include "g1image.h"
+#include "g1judge.h"
+
+#include <pthread.h>
+#include <stdio.h>
+#include <time.h>
+
+enum { PATH = 4096 };
+
+/* ---- memory that counts what is in use, and refuses a request */
+
+typedef struct counter {
+  long requests, refused, used, most;
+  long refuse_at, refuse_from; /* the request to refuse, and the one from which on all are; -1 none */
+  size_t bytes, most_bytes;
+} counter;
+
+static counter of_writer = {0, 0, 0, 0, -1, -1, 0, 0}, of_judge = {0, 0, 0, 0, -1, -1, 0, 0};
+
+static int refuses(counter *c) {
+  long n = c->requests++;
+  int no = n == c->refuse_at || (c->refuse_from >= 0 && n >= c->refuse_from);
+  c->refused += no;
+  return no;
+}
+
+static void *change(counter *c, void *block, size_t size) {
+  size_t *old = block ? (size_t *)block - 2 : NULL, had = old ? *old : 0, *new;
+  if (refuses(c)) return NULL;
+  new = realloc(old, size + 16);
+  if (!new) return NULL;
+  *new = size;
+  c->bytes += size - had;
+  c->used += !old;
+  if (c->bytes > c->most_bytes) c->most_bytes = c->bytes;
+  return new + 2;
+}
+
+static void drop(counter *c, void *block) {
+  size_t *old = block ? (size_t *)block - 2 : NULL;
+  if (!old) return;
+  c->bytes -= *old;
+  c->used--;
+  free(old);
+}
+
+static void *counted_realloc(void *block, size_t size) { return change(&of_writer, block, size); }
+static void counted_free(void *block) { drop(&of_writer, block); }
+static void *judge_get(void *c, size_t size) { return change(c, NULL, size); }
+static void *judge_resize(void *c, void *block, size_t size) { return change(c, block, size); }
+static void judge_release(void *c, void *block) { drop(c, block); }
+
+/* ---- files and lines */
+
+typedef struct file {
+  uint8_t *bytes;
+  size_t length;
+} file;
+
+/* The file in a block of its own size, so that a read past its end is seen. */
+static file read_file(const char *name) {
+  file f = {NULL, 0};
+  FILE *in = fopen(name, "rb");
+  if (!in || fseek(in, 0, SEEK_END)) exit(7);
+  f.length = (size_t)ftell(in);
+  rewind(in);
+  f.bytes = malloc(f.length ? f.length : 1);
+  if (!f.bytes || fread(f.bytes, 1, f.length, in) != f.length) exit(6);
+  fclose(in);
+  return f;
+}
+
+static void print_answer(uint32_t status, const g1_answer *a, const uint64_t *path, size_t room) {
+  const uint64_t numbers[] = {a->image, a->fault, a->place, a->kind,   a->at,    a->root,    a->slots,
+                              a->before, a->after, a->first, a->second, a->third, a->objects, a->words};
+  printf("%u", status);
+  for (size_t i = 0; i < sizeof numbers / sizeof *numbers; i++) printf(" %llu", (unsigned long long)numbers[i]);
+  for (size_t i = 0; i < a->slots && i < room; i++) printf(" %llu", (unsigned long long)path[i]);
+  printf("\n");
+}
+
+static const uint64_t MARK = 0xabababababababab;
+
+/* One call with so much room for the path, in a block of that size; the rest of the room has to stay as it was. */
+static uint32_t same(file a, file b, size_t room, g1_answer *answer, uint64_t *path) {
+  uint64_t *given = malloc(room ? room * 8 : 1);
+  uint32_t status;
+  if (!given) exit(6);
+  for (size_t i = 0; i < room; i++) given[i] = MARK;
+  memset(answer, 0xcd, sizeof *answer);
+  status = g1_same(a.bytes, a.length, b.bytes, b.length, given, room, answer);
+  for (size_t i = answer->slots; i < room; i++)
+    if (given[i] != MARK) printf("path written behind its end\n");
+  for (size_t i = 0; i < room && i < answer->slots; i++) path[i] = given[i];
+  free(given);
+  return status;
+}
+
+/* One pair, with room for the path, and the same with too little. */
+static void pair(const char *before, const char *after) {
+  static uint64_t path[PATH], few[PATH];
+  file a = read_file(before), b = read_file(after);
+  g1_answer answer, again;
+  uint32_t status = same(a, b, PATH, &answer, path);
+  const size_t rooms[] = {0, 1, answer.slots ? answer.slots - 1 : 0, answer.slots};
+  print_answer(status, &answer, path, PATH);
+  for (int k = 0; k < 4; k++) {
+    uint32_t other = same(a, b, rooms[k], &again, few);
+    size_t there = rooms[k] < answer.slots ? rooms[k] : answer.slots;
+    if (other != status || memcmp(&again, &answer, sizeof answer)) printf("another answer with room for %zu\n", rooms[k]);
+    if (memcmp(few, path, there * 8)) printf("another path with room for %zu\n", rooms[k]);
+  }
+  free(a.bytes);
+  free(b.bytes);
+}
+
+/* all FILE ..: each pair. pairs: the pairs that standard input names, two names a line. */
+static void all(int count, char **names) {
+  for (int i = 0; i < count; i++)
+    for (int j = 0; j < count; j++) pair(names[i], names[j]);
+}
+
+static void pairs(void) {
+  char before[400], after[400];
+  while (scanf("%399s %399s", before, after) == 2) pair(before, after);
+}
+
+/* each FILE ..: g1_image and g1_covered. */
+static void each(int count, char **names) {
+  for (int i = 0; i < count; i++) {
+    file f = read_file(names[i]);
+    g1_answer answer;
+    uint32_t status;
+    memset(&answer, 0xcd, sizeof answer);
+    status = g1_image(f.bytes, f.length, &answer);
+    print_answer(status, &answer, NULL, 0);
+    memset(&answer, 0xcd, sizeof answer);
+    status = g1_covered(f.bytes, f.length, &answer);
+    print_answer(status, &answer, NULL, 0);
+    free(f.bytes);
+  }
+}
+
+/* null FILE: no bytes at all, and no room for the path, by NULL. */
+static void null(const char *name) {
+  file f = read_file(name), none = {NULL, 0};
+  g1_answer answer;
+  print_answer(g1_same(none.bytes, 0, none.bytes, 0, NULL, 0, &answer), &answer, NULL, 0);
+  print_answer(g1_same(f.bytes, f.length, none.bytes, 0, NULL, 0, &answer), &answer, NULL, 0);
+  print_answer(g1_same(none.bytes, 0, f.bytes, f.length, NULL, 0, &answer), &answer, NULL, 0);
+  print_answer(g1_same(f.bytes, f.length, f.bytes, f.length, NULL, 0, &answer), &answer, NULL, 0);
+  print_answer(g1_image(none.bytes, 0, &answer), &answer, NULL, 0);
+  print_answer(g1_covered(none.bytes, 0, &answer), &answer, NULL, 0);
+  free(f.bytes);
+}
+
+/* ---- threads */
+
+typedef struct job {
+  file a, b;
+  long calls, wrong;
+} job;
+
+static void *run(void *given) {
+  job *j = given;
+  uint64_t path[16], first_path[16];
+  g1_answer first, answer;
+  uint32_t first_status = same(j->a, j->b, 16, &first, first_path);
+  for (long i = 0; i < j->calls; i++) {
+    uint32_t status = same(j->a, j->b, 16, &answer, path);
+    size_t there = answer.slots < 16 ? answer.slots : 16;
+    j->wrong += status != first_status || memcmp(&answer, &first, sizeof first) || memcmp(path, first_path, there * 8);
+  }
+  print_answer(first_status, &first, first_path, 16);
+  return NULL;
+}
+
+/* threads CALLS A B A B A B A B: four threads, each on images of its own. */
+static void threads(long calls, char **names) {
+  job jobs[4];
+  pthread_t ids[4];
+  long wrong = 0;
+  for (int i = 0; i < 4; i++) {
+    job j = {read_file(names[2 * i]), read_file(names[2 * i + 1]), calls, 0};
+    jobs[i] = j;
+  }
+  for (int i = 0; i < 4; i++) pthread_create(&ids[i], NULL, run, &jobs[i]);
+  for (int i = 0; i < 4; i++) pthread_join(ids[i], NULL);
+  for (int i = 0; i < 4; i++) {
+    wrong += jobs[i].wrong;
+    free(jobs[i].a.bytes);
+    free(jobs[i].b.bytes);
+  }
+  printf("wrong %ld\n", wrong);
+}
+
+/* ---- requests for memory refused */
+
+static uint32_t call(int which, file a, file b, g1_answer *answer) {
+  uint64_t path[4];
+  if (which == 0) return g1_same(a.bytes, a.length, b.bytes, b.length, path, 4, answer);
+  return which == 1 ? g1_image(a.bytes, a.length, answer) : g1_covered(a.bytes, a.length, answer);
+}
+
+/* One call with a request refused, or all from one on. 1 if the answer is memory's, or if none was refused. */
+static int is_memory(int which, file a, file b, long at, long from) {
+  g1_answer answer, blank;
+  uint32_t status;
+  memset(&blank, 0, sizeof blank);
+  blank.fault = 13;
+  of_judge.requests = of_judge.refused = 0;
+  of_judge.refuse_at = at;
+  of_judge.refuse_from = from;
+  status = call(which, a, b, &answer);
+  if (of_judge.used) printf("%ld blocks are left\n", of_judge.used);
+  if (!of_judge.refused) return 1;
+  /* a request that is asked again in a smaller size may be refused once and not matter */
+  if (status != G1_MEMORY && from < 0) return status == G1_GOOD || status == G1_DIFFER || status == G1_UNCOVERED;
+  return status == G1_MEMORY && !memcmp(&answer, &blank, sizeof blank);
+}
+
+/* refuse A B: each request of each call. */
+static void refuse(const char *first, const char *second) {
+  file a = read_file(first), b = read_file(second);
+  const g1_memory memory = {judge_get, judge_resize, judge_release, &of_judge};
+  long tried = 0, wrong = 0, most[3];
+  g1_set_memory(&memory);
+  for (int which = 0; which < 3; which++) {
+    g1_answer answer;
+    of_judge.requests = 0;
+    of_judge.refuse_at = of_judge.refuse_from = -1;
+    call(which, a, b, &answer);
+    most[which] = of_judge.requests;
+    for (long n = 0; n < most[which]; n++) {
+      wrong += !is_memory(which, a, b, n, -1) + !is_memory(which, a, b, -1, n);
+      tried += 2;
+    }
+  }
+  g1_set_memory(NULL);
+  printf("requests %ld %ld %ld tried %ld wrong %ld\n", most[0], most[1], most[2], tried, wrong);
+  free(a.bytes);
+  free(b.bytes);
+}
+
+/* ---- the writer */
+
+static uint64_t numbers[1 << 16];
+
+/* Reads the lines of one image: `image W`, `stale`, `root P`, `object P SLOTS BYTES` and that many slots and words of data,
+   until `end FILE`. Writes the image there and prints its fault, or its length and the pointer at each object's address. */
+static int write_one(FILE *in) {
+  char word[16], name[400];
+  g1_writer w;
+  const uint8_t *bytes;
+  size_t length, slots, size;
+  unsigned long long n;
+  memset(&w, 0, sizeof w);
+  while (fscanf(in, "%15s", word) == 1) {
+    if (!strcmp(word, "end")) break;
+    if (!strcmp(word, "stale")) g1w_keep_stale(&w);
+    if (!strcmp(word, "image") && fscanf(in, "%llu", &n) == 1) g1w_begin(&w, (uint32_t)n);
+    if (!strcmp(word, "root") && fscanf(in, "%llu", &n) == 1) g1w_root(&w, n);
+    if (!strcmp(word, "object") && fscanf(in, "%llu %zu %zu", &n, &slots, &size) == 3) {
+      uint64_t pointer = n, *data;
+      for (size_t i = 0; i < slots + (size + 7) / 8; i++) {
+        if (fscanf(in, "%llu", &n) != 1) return 0;
+        numbers[i] = n;
+      }
+      data = malloc(size ? size : 1); /* of its own size, so that a read past its end is seen */
+      memcpy(data, numbers + slots, size);
+      g1w_object(&w, pointer, slots ? numbers : NULL, slots, size ? data : NULL, size);
+      free(data);
+    }
+  }
+  if (fscanf(in, "%399s", name) != 1) return 0;
+  if (g1w_end(&w, &bytes, &length)) {
+    printf("fault %d pointer %llu holder %llu slot %llu\n", w.fault, (unsigned long long)w.pointer,
+           (unsigned long long)w.holder, (unsigned long long)w.slot);
+  } else {
+    FILE *out = fopen(name, "wb");
+    uint64_t heap = (uint64_t)(w.regions + w.run_regions) * w.region_words, within;
+    if (!out || fwrite(bytes, 1, length, out) != length) exit(6);
+    fclose(out);
+    printf("length %zu stale %llu at", length, (unsigned long long)w.stale);
+    for (uint64_t at = 0; at < heap; at++) {
+      uint64_t pointer = g1w_at(&w, at, &within);
+      if (pointer && !within) printf(" %llu %llu", (unsigned long long)at, (unsigned long long)pointer);
+    }
+    printf("\n");
+  }
+  fflush(stdout);
+  g1w_free(&w);
+  if (of_writer.used) printf("%ld blocks are left\n", of_writer.used);
+  return 1;
+}
+
+/* A tree of so many objects of `words` words, two slots and data, or fewer slots in smaller ones. */
+static int tree(g1_writer *w, uint64_t objects, uint32_t words, const uint8_t **bytes, size_t *length) {
+  uint32_t slots = words > 2 ? 2 : words - 1, data = words - 1 - slots;
+  uint64_t content[64] = {0};
+  g1w_begin(w, 4096);
+  g1w_root(w, 0x10000);
+  for (uint64_t i = 0; i < objects; i++) {
+    uint64_t to[2] = {2 * i + 1 < objects ? 0x10000 + 48 * (2 * i + 1) : 0, 2 * i + 2 < objects ? 0x10000 + 48 * (2 * i + 2) : 0};
+    content[0] = i;
+    g1w_object(w, 0x10000 + 48 * i, to, slots, content, 8 * (size_t)data);
+  }
+  return g1w_end(w, bytes, length);
+}
+
+static double seconds(void) { return (double)clock() / CLOCKS_PER_SEC; }
+
+/* many OBJECTS WORDS: two images of so many objects, each the same, what they cost, and the judge. */
+static void many(uint64_t objects, uint32_t words) {
+  g1_writer w, v;
+  const uint8_t *a, *b;
+  size_t n, m, most;
+  g1_answer answer;
+  double start = seconds(), written, judged;
+  of_writer.bytes = of_writer.most_bytes = 0;
+  if (tree(&w, objects, words, &a, &n)) exit(6);
+  written = seconds() - start;
+  most = of_writer.most_bytes;
+  if (tree(&v, objects, words, &b, &m)) exit(6);
+  start = seconds();
+  print_answer(g1_same(a, n, b, m, NULL, 0, &answer), &answer, NULL, 0);
+  judged = seconds() - start;
+  printf("length %zu memory %zu written %.3f judged %.3f\n", n, most, written, judged);
+  g1w_free(&w);
+  g1w_free(&v);
+}
+
+/* scarce OBJECTS: each request of the writer refused in turn, and all from one on. */
+static void scarce(uint64_t objects) {
+  long most, wrong = 0, tried = 0;
+  g1_writer w;
+  const uint8_t *bytes;
+  size_t length;
+  of_writer.requests = 0;
+  if (tree(&w, objects, 4, &bytes, &length)) exit(6);
+  g1w_free(&w);
+  most = of_writer.requests;
+  for (long n = 0; n < 2 * most; n++) {
+    int fault;
+    of_writer.requests = 0;
+    of_writer.refuse_at = n < most ? n : -1;
+    of_writer.refuse_from = n < most ? -1 : n - most;
+    fault = tree(&w, objects, 4, &bytes, &length);
+    wrong += fault != G1W_MEMORY || bytes || length;
+    tried++;
+    g1w_free(&w);
+    wrong += of_writer.used != 0;
+  }
+  printf("requests %ld tried %ld wrong %ld\n", most, tried, wrong);
+}
+
+int main(int count, char **words) {
+  const char *command = count > 1 ? words[1] : "";
+  if (g1_version() != G1_VERSION) return 9;
+  if (!strcmp(command, "all")) all(count - 2, words + 2);
+  else if (!strcmp(command, "pairs")) pairs();
+  else if (!strcmp(command, "each")) each(count - 2, words + 2);
+  else if (!strcmp(command, "null") && count == 3) null(words[2]);
+  else if (!strcmp(command, "threads") && count == 11) threads(atol(words[2]), words + 3);
+  else if (!strcmp(command, "refuse") && count == 4) refuse(words[2], words[3]);
+  else if (!strcmp(command, "write")) while (write_one(stdin)) continue;
+  else if (!strcmp(command, "many") && count == 4) many(strtoull(words[2], NULL, 10), (uint32_t)atol(words[3]));
+  else if (!strcmp(command, "scarce") && count == 3) scarce(strtoull(words[2], NULL, 10));
+  else return 2;
+  return 0;
+}

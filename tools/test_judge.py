@@ -1,0 +1,619 @@
+#!/usr/bin/env python3
+"""test_judge.py [--heap FILE] [--archive FILE] [--graphs N] [--runs N] [--only WORD]
+
+Builds the callers of judge/test.c and of examples/vm with the C compiler ($CC, cc) and links them with libg1judge.a, as
+tools/build_judge.py makes it; a second time with the sanitizers for addresses and undefined behaviour. Then it tries
+
+  headers  both, alone and in either order, as C and as C++
+  calls    all pairs of the example images, with room for the path, with none, with too little: status, fault, path and
+           numbers are compared with what `g1heap same` prints; each image, and N damaged ones, with image_text.py
+  null     no bytes and no path, by a null pointer
+  threads  four threads at once, each on images of its own
+  refuse   each request for memory of each call refused, one alone and all from one on
+  writer   N random graphs (2000) written by include/g1image.h and laid out by heap_image.py, in another order of objects
+           and other regions: `g1heap same` finds them the same, and an error in one of them; the writer's refusals; each of
+           its requests for memory refused; a million objects, with their time and memory
+  vm       the virtual machine without an error, and with each of its three errors until it happened in N runs (20)
+  rust     examples/judge-rust, if cargo is there
+  page     the commands of docs/LINK.md, in a fresh copy of the checkout
+
+--heap is crates/g1heap/out/g1heap and --archive is judge/out/libg1judge.a if they are not given. The last line is
+'N passed, M failed', and the status is 0 only if none failed and one passed.
+"""
+import argparse
+import os
+import pathlib
+import random
+import re
+import shlex
+import shutil
+import struct
+import subprocess
+import sys
+import tempfile
+
+sys.path.insert(0, str(pathlib.Path(__file__).resolve().parent / "lib"))
+
+import check_pages  # noqa: E402
+import image_text  # noqa: E402
+from heap_image import FIRST, CONTINUATION, FREE, NULL, ORDINARY, Image, drawn, from_bytes  # noqa: E402
+
+TOP = pathlib.Path(__file__).resolve().parent.parent
+KINDS = {"split": 4, "joined": 5, "size": 6, "slots": 7, "data": 8}
+PLACES = {"region": 1, "root": 2, "slot": 3, "log place": 4}
+FIELDS = ("image", "fault", "place", "kind", "at", "root", "slots", "before", "after", "first", "second", "third", "objects",
+          "words")
+SANITIZERS = ["-g", "-O1", "-fsanitize=address,undefined", "-fno-sanitize-recover=all"]
+
+
+class Tally:
+    """How much passed, and what did not."""
+
+    def __init__(self):
+        self.passed, self.failed = 0, 0
+
+    def expect(self, what, found, expected):
+        if found == expected:
+            self.passed += 1
+        else:
+            self.failed += 1
+            print(f"FAILED {what}: {found!r}, expected {expected!r}")
+
+    def count(self, what, tried, wrong, said=""):
+        """Many cases at once, of which so many are wrong."""
+        self.passed += tried - wrong
+        self.failed += wrong
+        if wrong or said:
+            print(f"FAILED {what}: {wrong} of {tried} {said}")
+
+
+def answer(**fields):
+    """The numbers of an answer in their order; what is not said is 0."""
+    return [fields.get(name, 0) for name in FIELDS]
+
+
+def reference(text):
+    return int(text.removeprefix("object ")) + 1 if text != "null" else 0
+
+
+def of_fault(which, line):
+    """The answer to 'N: TEXT', a fault of the first image or the second."""
+    number, text = line.split(": ")
+    named = re.search(r"(region|root|slot|log place) (\d+)$", text)
+    place, at = (PLACES[named[1]], int(named[2])) if named else (0, 0)
+    return answer(image=which, fault=int(number), place=place, at=at)
+
+
+def of_difference(line):
+    """The answer to a line 'differ ..' of g1heap."""
+    roots = re.fullmatch(r"differ roots: (\d+) before, (\d+) after", line)
+    if roots:
+        return answer(kind=1, first=int(roots[1]), second=int(roots[2]))
+    found = re.fullmatch(r"differ (\w+) at root (\d+)((?: slot \d+)*): (.*?) before, (.*?) after(?:; (.*))?", line)
+    kind, detail = found[1], [int(number) for number in re.findall(r"\d+", found[6] or "")]
+    before, after = reference(found[4]), reference(found[5])
+    path = [int(slot) for slot in re.findall(r"\d+", found[3])]
+    numbers = {"null": lambda: (0, 0, 0), "split": lambda: (detail[0], detail[1], after - 1),
+               "joined": lambda: (detail[1], before - 1, detail[0]), "size": lambda: (*detail, 0),
+               "slots": lambda: (*detail, 0), "data": lambda: tuple(detail)}[kind]()
+    code = KINDS.get(kind) or (2 if before == NULL else 3)
+    return answer(kind=code, root=int(found[2]), slots=len(path), before=before, after=after, first=numbers[0],
+                  second=numbers[1], third=numbers[2]) + path
+
+
+def by_heap(heap, before, after):
+    """What the call has to say of two files: what `g1heap same` prints, as a status and the numbers of an answer."""
+    ran = subprocess.run([heap, "same", before, after], capture_output=True, text=True)
+    line = (ran.stdout or ran.stderr).rstrip("\n")
+    if ran.returncode == 0:
+        objects, words = re.findall(r"\d+", line)
+        return [0] + answer(objects=int(objects), words=int(words))
+    if ran.returncode == 1:
+        return [1] + of_difference(line)
+    found = re.fullmatch(r"g1heap: (.*): fault (\d+: .*)", line)
+    return [ran.returncode] + of_fault(1 if found[1] == str(before) else 2, found[2]) if found else [ran.returncode, line]
+
+
+def by_text(data, cover):
+    """The same of one image, from the reading of image_text.py."""
+    fault = image_text.fault_of(data, cover)
+    if fault is None:
+        return [0] + answer()
+    return [4 if fault.startswith("9:") else 3] + of_fault(1, fault)
+
+
+class Programs:
+    """The callers in C, plain and with the sanitizers."""
+
+    def __init__(self, room, archive):
+        self.room, self.archive = pathlib.Path(room), archive
+        cc = shlex.split(os.environ.get("CC", "cc"))
+        common = ["-std=c11", "-Wall", "-Wextra", "-Wpedantic", "-Werror", "-pthread", "-I", TOP / "include"]
+        machine = [TOP / "examples/vm" / name for name in ("vm.c", "collector.c", "judge.c")]
+        for name, flags in (("", ["-O2"]), ("_checked", SANITIZERS)):
+            for what, sources in (("test", [TOP / "judge/test.c"]), ("vm", machine)):
+                subprocess.run([*cc, *common, *flags, *sources, archive, "-o", self.room / (what + name)], check=True)
+
+    def run(self, name, *words, text=None, env=None):
+        return subprocess.run([self.room / name, *map(str, words)], input=text, capture_output=True, text=True,
+                              env={**os.environ, **(env or {})})
+
+    def lines(self, tally, name, *words, text=None):
+        """What a command prints, line by line; an end by anything but 0 is a failure."""
+        ran = self.run(name, *words, text=text)
+        tally.expect(f"{name} {words[0]}: its end", (ran.returncode, ran.stderr[-2000:]), (0, ""))
+        return ran.stdout.splitlines()
+
+
+def check_headers(tally, programs, options):
+    """Both headers alone, in either order, as C11, C17 and C++11 to C++20, with all warnings."""
+    compilers = [(shlex.split(os.environ.get("CC", "cc")), "c", ("c11", "c17")),
+                 (shlex.split(os.environ.get("CXX", "c++")), "c++", ("c++11", "c++14", "c++17", "c++20"))]
+    for compiler, language, standards in compilers:
+        if not shutil.which(compiler[0]):
+            print(f"headers: no {compiler[0]}, left out")
+            continue
+        for standard in standards:
+            for names in (("g1judge.h",), ("g1image.h",), ("g1judge.h", "g1image.h"), ("g1image.h", "g1judge.h")):
+                text = "".join(f'#include "{name}"\n' for name in (*names, *names))
+                words = [*compiler, "-x", language, f"-std={standard}", "-Wall", "-Wextra", "-Wpedantic", "-Wshadow",
+                         "-Werror", "-fsyntax-only", "-I", TOP / "include", "-"]
+                ran = subprocess.run(words, input=text, capture_output=True, text=True)
+                tally.expect(f"headers: {language} {standard} {names}", (ran.returncode, ran.stderr[:2000]), (0, ""))
+
+
+def numbers(line):
+    """The numbers of a line; another line is itself, and so equals no answer."""
+    words = line.split()
+    return [int(word) for word in words] if all(word.isdigit() for word in words) else words
+
+
+def differing(lines, expected):
+    """How many of the expected answers are not there, each at its line."""
+    return sum(i >= len(lines) or numbers(lines[i]) != wanted for i, wanted in enumerate(expected))
+
+
+def examples():
+    return sorted(TOP.glob("examples/*.img")) + sorted(TOP.glob("examples/refused/*.img"))
+
+
+def damaged(rng, count):
+    """Texts of small images, each with some bytes changed, cut off or added."""
+    for _ in range(count):
+        data = bytearray(drawn(rng, covered=rng.random() < 0.5).to_bytes())
+        how = rng.random()
+        if how < 0.1:
+            del data[rng.randrange(len(data)):]
+        elif how < 0.2:
+            data += bytes(rng.randint(1, 9))
+        elif how < 0.9:
+            for _ in range(rng.randint(1, 3)):
+                data[rng.randrange(len(data))] = rng.choice((0, 1, 2, 3, 4, 0x10, 0x20, 0xff, rng.randrange(256)))
+        yield bytes(data)
+
+
+def check_pairs(tally, programs, options):
+    """Random graphs, the second with an error of each kind in turn: what g1heap prints, and what is planted."""
+    rng = random.Random(options.seed + 4)
+    listed, expected, planted = [], [], []
+    room = programs.room / "pairs"
+    room.mkdir()
+    for i in range(options.graphs // 2):
+        error = ERRORS[i % len(ERRORS)]
+        files = room / f"{i}a", room / f"{i}b"
+        for file, data in zip(files, pair(rng, rng.choice((3, 10, 40, 150)), error)):
+            file.write_bytes(data)
+        listed.append("{} {}\n".format(*files))
+        expected.append(by_heap(options.heap, *files))
+        planted.append(error)
+    for name in ("test", "test_checked"):
+        lines = programs.lines(tally, name, "pairs", text="".join(listed))
+        wrong = differing(lines, expected)
+        tally.count(f"{name}: planted pairs", len(expected), wrong)
+    kinds = {error: {wanted[4] or -wanted[0] for wanted, e in zip(expected, planted) if e == error} for error in ERRORS}
+    for error, wanted in ERRORS_SAY.items():
+        tally.expect(f"planted {error}", kinds[error] - {0} >= {wanted}, True)
+    lengths = [wanted[7] for wanted in expected]
+    print(f"calls: {len(expected)} pairs of random graphs, paths of up to {max(lengths)} slots, {sum(n > 1 for n in lengths)} longer than 1")
+    shutil.rmtree(room)
+
+
+def check_calls(tally, programs, options):
+    files = examples()
+    expected = [by_heap(options.heap, a, b) for a in files for b in files]
+    for name in ("test", "test_checked"):
+        lines = programs.lines(tally, name, "all", *files)
+        wrong = differing(lines, expected)
+        tally.count(f"{name}: all pairs", len(expected), wrong)
+    print(f"calls: {len(expected)} pairs of examples, by status", {s: sum(e[0] == s for e in expected) for s in (0, 1, 3)})
+    check_pairs(tally, programs, options)
+    check_each(tally, programs, options)
+
+
+def check_each(tally, programs, options):
+    rng = random.Random(options.seed)
+    texts = [file.read_bytes() for file in examples()] + list(damaged(rng, options.graphs))
+    each = programs.room / "each"
+    each.mkdir()
+    for i, text in enumerate(texts):
+        (each / str(i)).write_bytes(text)
+    lines = programs.lines(tally, "test_checked", "each", *(each / str(i) for i in range(len(texts))))
+    expected = [by_text(text, cover) for text in texts for cover in (False, True)]
+    tally.count("each image", len(expected), differing(lines, expected))
+    faults = sorted({wanted[2] for wanted in expected})
+    print(f"calls: {len(texts)} images, with the faults {faults}")
+    shutil.rmtree(each)
+
+
+def check_null(tally, programs, options):
+    file = TOP / "examples/one_object.img"
+    short = answer(image=1, fault=3)
+    second = answer(image=2, fault=3)
+    wanted = [[3] + short, [3] + second, [3] + short, by_heap(options.heap, file, file), [3] + short, [3] + short]
+    for name in ("test", "test_checked"):
+        tally.expect(f"{name}: null", [numbers(line) for line in programs.lines(tally, name, "null", file)], wanted)
+
+
+def check_threads(tally, programs, options):
+    rng = random.Random(options.seed + 1)
+    pairs, expected = [], []
+    for i in range(4):
+        before, after = pair(rng, 4000, error=("none", "data", "split", "stale root")[i])
+        for end, data in (("a", before), ("b", after)):
+            pairs.append(programs.room / f"thread{i}{end}")
+            pairs[-1].write_bytes(data)
+        expected.append(by_heap(options.heap, *pairs[-2:]))
+    for name, calls in (("test", 400), ("test_checked", 50)):
+        lines = programs.lines(tally, name, "threads", calls, *pairs)
+        tally.expect(f"{name}: threads", lines[-1:], ["wrong 0"])
+        found = sorted(numbers(line)[:15] for line in lines[:-1])
+        tally.expect(f"{name}: answers of threads", found, sorted(wanted[:15] for wanted in expected))
+    print(f"threads: 4 at once, {4 * 450} calls, statuses {[wanted[0] for wanted in expected]}")
+
+
+def check_refuse(tally, programs, options):
+    rng = random.Random(options.seed + 2)
+    for error in ("none", "data"):
+        before, after = pair(rng, 300, error)
+        a, b = programs.room / "refuse_a", programs.room / "refuse_b"
+        a.write_bytes(before)
+        b.write_bytes(after)
+        lines = programs.lines(tally, "test_checked", "refuse", a, b)
+        tried, wrong = numbers(lines[-1].split("tried ")[1].replace("wrong", ""))
+        tally.count("refused memory", tried, wrong, "".join(lines[:-1]))
+        print("refuse:", lines[-1])
+
+
+# ---- graphs, by pointers of their own
+
+
+class Graph:
+    """Objects by their pointers: slots, which are pointers or 0, and data words; and roots."""
+
+    def __init__(self, rng, count, most_words=12):
+        self.pointers = rng.sample(range(1, 1 << 48), count)
+        count_of = lambda *usual: range(rng.choice((*usual, rng.randint(0, most_words))))
+        self.slots = {p: [self.any(rng) for _ in count_of(0, 1, 2, 3)] for p in self.pointers}
+        self.data = {p: [rng.choice((0, 1, rng.getrandbits(64))) for _ in count_of(0, 1)] for p in self.pointers}
+        self.bytes = {p: self.cut(rng, p) for p in self.pointers}
+        self.roots = [self.any(rng) for _ in range(rng.randint(0, 6))]
+
+    def cut(self, rng, pointer):
+        """How many bytes of data an object has: what is left of its last word is 0."""
+        data, cut = self.data[pointer], rng.choice((0, rng.randrange(8)))
+        if not data:
+            return 0
+        data[-1] &= (1 << 64 - 8 * cut) - 1
+        return 8 * len(data) - cut
+
+    def any(self, rng):
+        return rng.choice(self.pointers) if self.pointers and rng.random() < 0.8 else NULL
+
+    def size(self, pointer):
+        return 1 + len(self.slots[pointer]) + len(self.data[pointer])
+
+    def lines(self, rng, width, name, stale=False):
+        """What judge/test.c reads, the objects in any order."""
+        out = [f"image {width}", *(["stale"] if stale else []), *(f"root {p}" for p in self.roots)]
+        for p in rng.sample(self.pointers, len(self.pointers)):
+            words = [p, len(self.slots[p]), self.bytes[p], *self.slots[p], *self.data[p]]
+            out.append(" ".join(map(str, ["object", *words])))
+        return "\n".join([*out, f"end {name}\n"])
+
+    def image(self, rng, width):
+        """The same heap laid out by this script, in another order, with gaps and free regions: docs/IMAGE.md."""
+        places, at, tops = {}, 0, {}
+        for p in rng.sample(self.pointers, len(self.pointers)):
+            size = self.size(p)
+            if 4 * size > 3 * width:
+                at += -at % width
+                places[p] = at
+                for r in range(-(-size // width)):
+                    tops[at // width + r] = (CONTINUATION if r else FIRST, min(width, size - r * width))
+                at += -(-size // width) * width
+                continue
+            if at % width + size > width or (at % width and rng.random() < 0.05):
+                at += -at % width + width * (rng.random() < 0.1)
+            places[p] = at
+            at += size
+            tops[places[p] // width] = (ORDINARY, (at - 1) % width + 1)
+        image = Image(width, min(width, 16), at // width + 2)
+        for r, (kind, top) in tops.items():
+            image.kinds[r], image.tops[r] = kind, top
+        word = lambda p: places[p] + 1 if p else 0
+        for p, place in places.items():
+            body = [self.size(p) << 32 | len(self.slots[p]), *map(word, self.slots[p]), *self.data[p]]
+            image.words[place:place + len(body)] = body
+        image.roots = [word(p) for p in self.roots]
+        return image
+
+
+ERRORS = ("none", "roots", "null before", "null after", "split", "joined", "size", "slots", "data", "stale root", "stale slot")
+ERRORS_SAY = {"roots": 1, "null before": 2, "null after": 3, "split": 4, "joined": 5, "size": 6, "slots": 7, "data": 8,
+              "stale root": -3, "stale slot": -3}  # the kind, or less than 0 the status
+
+
+def plant(rng, graph, p, error):
+    """What has to be so before an error at object p, and a change that makes it."""
+    slots, data, copy = graph.slots[p], graph.data[p], max(graph.pointers) + 1
+    if error in ("null before", "null after", "split", "joined"):
+        slots += [p, p]
+
+    def twin():
+        graph.pointers.append(copy)
+        graph.slots[copy], graph.data[copy] = slots[:], data[:]
+
+    def change():
+        if error == "roots":
+            graph.roots.append(p)
+        elif error in ("null before", "null after"):
+            slots[-1] = p if error == "null before" else NULL
+        elif error == "split":
+            twin()
+            slots[-1] = copy
+        elif error == "joined":
+            graph.pointers.remove(copy)
+            slots[-1] = p
+        elif error == "size":
+            data.append(rng.getrandbits(64))
+        elif error == "slots":
+            slots.append(data.pop() and NULL)
+        elif error == "data":
+            data[rng.randrange(len(data))] ^= 1 << rng.randrange(64)
+
+    if error == "null before":
+        slots[-1] = NULL
+    if error == "joined":
+        twin()
+        slots[-1] = copy
+    if error in ("slots", "data"):
+        data.append(rng.getrandbits(64))
+    return change
+
+
+def pair(rng, count, error):
+    """Two images of one graph, or with an error of the second at an object that its roots reach, deep in it if it can be."""
+    graph = Graph(rng, count, most_words=6)
+    chain = rng.sample(graph.pointers, rng.randint(1, len(graph.pointers)))
+    for p, q in zip(chain, chain[1:]):
+        graph.slots[p].insert(rng.randint(0, len(graph.slots[p])), q)
+    graph.roots.insert(rng.randint(0, len(graph.roots)), chain[0])
+    change = plant(rng, graph, chain[-1], error)
+    before = graph.image(rng, 64)
+    change()
+    after = graph.image(rng, 64)
+    if error == "stale root":
+        after.roots[-1] = len(after.words) + 1
+    if error == "stale slot":
+        slots = [slot for address in after.objects() for slot in after.slots(address)]
+        if slots:
+            after.words[rng.choice(slots)] = len(after.words) + 1
+    return before.to_bytes(), after.to_bytes()
+
+
+def live(graph):
+    """How many objects and words the roots reach."""
+    found = list(dict.fromkeys(p for p in graph.roots if p))
+    seen = set(found)
+    for p in found:
+        for q in graph.slots[p]:
+            if q and q not in seen:
+                seen.add(q)
+                found.append(q)
+    return len(found), sum(graph.size(p) for p in found)
+
+
+def check_graphs(tally, programs, options):
+    rng = random.Random(options.seed + 3)
+    wrong, wrong_maps, texts, made = 0, 0, [], []
+    for i in range(options.graphs):
+        graph = Graph(rng, rng.choice((0, 1, 2, 5, rng.randint(0, 60))), rng.choice((3, 12, 70)))
+        width = rng.choice((16, 32, 64, 256))
+        texts.append(graph.lines(rng, width, programs.room / f"w{i}"))
+        made.append((graph, width))
+    lines = programs.lines(tally, "test_checked", "write", text="".join(texts))
+    for i, ((graph, width), line) in enumerate(zip(made, lines)):
+        laid, written = programs.room / "laid", programs.room / f"w{i}"
+        laid.write_bytes(graph.image(rng, rng.choice((16, 64, 256))).to_bytes())
+        objects, words = live(graph)
+        for files in ((laid, written), (written, laid)):
+            wrong += by_heap(options.heap, *files) != [0] + answer(objects=objects, words=words)
+        wrong_maps += not is_map(graph, from_bytes(written.read_bytes()), line)
+        written.unlink()
+    tally.count("graphs: g1heap same", 2 * len(made), wrong + 2 * (len(made) - len(lines)))
+    tally.count("graphs: maps", len(made), wrong_maps)
+    objects = sum(len(graph.pointers) for graph, _ in made)
+    print(f"writer: {len(made)} graphs, {objects} objects, the same as laid out by heap_image.py, both ways")
+
+
+def is_map(graph, image, line):
+    """Whether the pointers at the addresses of an image are those of its objects, word for word."""
+    found = re.fullmatch(r"length \d+ stale 0 at((?: \d+ \d+)*)", line)
+    if not found:
+        return False
+    told = numbers(found[1])
+    pointers = dict(zip(told[::2], told[1::2]))
+    back = {p: at for at, p in pointers.items()}
+    if set(pointers) != set(image.objects()) or set(back) != set(graph.pointers):
+        return False
+    word = lambda p: back[p] + 1 if p else 0
+    return image.roots == [word(p) for p in graph.roots] and all(
+        [image.words[q] for q in image.slots(at)] == [word(q) for q in graph.slots[p]]
+        and [image.words[q] for q in image.content(at)] == graph.data[p] for at, p in pointers.items())
+
+
+REFUSALS = (  # the lines of an image, and what its end says: fault, pointer, holder, slot
+    ("image 0\nroot 0\n", (2, 0, 0, 0)), ("image 8\n", (2, 0, 0, 0)), ("image 48\n", (2, 0, 0, 0)),
+    ("image 131072\n", (2, 0, 0, 0)),
+    ("image 16\n" + "root 0\n" * 65537, (3, 0, 0, 0)),
+    ("image 16\nobject 0 0 0\n", (5, 0, 0, 0)),
+    ("image 16\nobject 7 0 0\nobject 9 0 0\nobject 7 0 0\n", (6, 7, 0, 0)),
+    ("image 16\nroot 0\nroot 3\nobject 4 0 0\n", (7, 3, 0, 1)),
+    ("image 16\nobject 4 3 0 4 0 11\n", (7, 11, 4, 2)),
+    ("image 16\nobject 4 1 0 5\nobject 6 1 0 5\n", (7, 5, 4, 0)),
+)
+
+
+def check_refusals(tally, programs, options):
+    for text, wanted in REFUSALS:
+        lines = programs.lines(tally, "test_checked", "write", text=f"{text}end {programs.room}/refused\n")
+        tally.expect(f"writer: {text[:40]!r}", lines, ["fault {} pointer {} holder {} slot {}".format(*wanted)])
+    # 4,096 regions of 16 words, and one more; and one word more than 2^24
+    object_of = lambda p, words: f"object {p} 0 {8 * (words - 1)} " + "0 " * (words - 1) + "\n"
+    full = "image 16\n" + "".join(object_of(p, 9) for p in range(1, 4097))
+    for words in (0, 1, 7, 8, 13):
+        more = object_of(5000, words) if words else ""
+        lines = programs.lines(tally, "test", "write", text=f"{full}{more}end {programs.room}/refused\n")
+        found = [line.split(" pointer")[0] for line in lines if line.startswith("fault")]
+        tally.expect(f"writer: 4096 regions and {words} words", found, ["fault 4"] if words > 7 else [])
+    text = "".join(f"image 16\nstale\nroot {root}\nobject 4 2 0 4 11\nend {programs.room}/{name}\n"
+                   for root, name in ((99, "stale"), (4, "stale_slot")))
+    lines = [re.sub("length [0-9]+ ", "", line) for line in programs.lines(tally, "test_checked", "write", text=text)]
+    tally.expect("writer: stale", lines, ["stale 2 at 0 4", "stale 1 at 0 4"])
+    for name, place, at in (("stale", 2, 0), ("stale_slot", 3, 2)):
+        found = numbers(programs.lines(tally, "test_checked", "each", programs.room / name)[0])
+        tally.expect(f"writer: {name}", found, [3] + answer(image=1, fault=7, place=place, at=at))
+
+
+def check_writer(tally, programs, options):
+    check_graphs(tally, programs, options)
+    check_refusals(tally, programs, options)
+    for name, objects in (("test_checked", 3000), ("test", 100000)):
+        line = programs.lines(tally, name, "scarce", objects)[-1]
+        tried, wrong = numbers(line.split("tried ")[1].replace("wrong", ""))
+        tally.count("writer: refused memory", tried, wrong)
+        print(f"writer: {objects} objects, {line}")
+    programs.lines(tally, "test_checked", "many", 100000, 4)
+    for words in (1, 2, 4, 8):
+        best = None
+        for _ in range(5):
+            said, cost = programs.lines(tally, "test", "many", 1000000, words)
+            reached = 1000000 if words > 1 else 1
+            slots = 2 if words > 2 else words - 1
+            tally.expect("a million objects", numbers(said)[0], 0)
+            if slots == 2:
+                tally.expect("a million objects", numbers(said)[-2:], [reached, reached * words])
+            length, memory, written, judged = re.findall(r"[\d.]+", cost)
+            best = min(best or 9, float(written))
+        tally.expect(f"memory for a million objects of {words} words", int(memory) <= 3 * int(length), True)
+        tally.expect(f"seconds for a million objects of {words} words: {best}", best <= 0.3, True)
+        print(f"writer: 1000000 objects of {words} words: {best:.3f} s, {int(memory) / int(length):.2f} times the image; judge {judged} s")
+
+
+def check_vm(tally, programs, options):
+    for name, collections in (("vm", 60), ("vm_checked", 10)):
+        for seed in range(options.runs):
+            ran = programs.run(name, collections, seed, env={"VM_DEBUG": "1"})
+            tally.expect(f"{name} {seed}: no error", (ran.returncode, ran.stderr), (0, ""))
+    endings = {"slot": ("stale", "which is no object's"), "twice": ("split", "one object is two"), "torn": ("data", "data word")}
+    for bug, (kind, detail) in endings.items():
+        happened = found = seed = 0
+        while happened < options.runs and seed < 20 * options.runs:
+            seed += 1
+            ran = programs.run("vm" if seed % 4 else "vm_checked", 40, seed, env={"VM_DEBUG": "1", "VM_BUG": bug})
+            times = int(re.search(r"error taken (\d+) times", ran.stdout)[1])
+            happened += times > 0
+            if times:
+                said = re.search(rf"collection \d+: {kind}\n  root \d+.*0x[0-9a-f]+", ran.stdout) and detail in ran.stdout
+                found += ran.returncode == 1 and bool(said)
+                if ran.returncode != 1 or not said:
+                    print(f"not found: VM_BUG={bug} seed {seed}: status {ran.returncode}\n{ran.stdout}{ran.stderr[-1500:]}")
+            else:
+                tally.expect(f"vm {bug} {seed}: the error did not happen", ran.returncode, 0)
+        tally.count(f"vm: {bug}", options.runs, options.runs - found)
+        print(f"vm: {bug}: found in {found} of {happened} runs where it happened, of {seed} in all")
+
+
+def check_rust(tally, programs, options):
+    if not shutil.which("cargo"):
+        return print("rust: no cargo, left out")
+    folder = programs.room / "lib"
+    folder.mkdir()
+    shutil.copyfile(options.archive, folder / "libg1judge.a")
+    env = {**os.environ, "G1JUDGE": str(folder), "CARGO_TARGET_DIR": str(programs.room / "target")}
+    made = subprocess.run(["cargo", "build", "--offline", "--release", "--quiet"], cwd=TOP / "examples/judge-rust", env=env)
+    tally.expect("rust: cargo build", made.returncode, 0)
+    files = examples()[:6] + sorted(TOP.glob("examples/refused/*.img"))[:2]
+    wrong = 0
+    for a in files:
+        for b in files:
+            wanted = by_heap(options.heap, a, b)
+            ran = subprocess.run([programs.room / "target/release/judge-rust", a, b], capture_output=True, text=True)
+            said = dict(zip(("", *FIELDS), wanted))
+            line = {0: "same objects {objects} words {words}", 1: f"differ kind {{kind}}: root {{root}}, {{slots}} slots {wanted[15:]}: "
+                    "{before} before, {after} after; {first} {second} {third}", 3: "image {image} fault {fault} at {at}"}[wanted[0]]
+            wrong += (ran.returncode, ran.stdout) != (wanted[0], line.format(**said) + "\n")
+    tally.count("rust", len(files) ** 2, wrong)
+    print(f"rust: {len(files) ** 2} pairs")
+
+
+def check_page(tally, programs, options):
+    """docs/LINK.md with the commands that need the archive, in a fresh copy of the checkout."""
+    if not shutil.which("cargo"):
+        return print("page: no cargo, left out")
+    plain = check_pages.copy_of
+
+    def with_archive(checkout, target, built):
+        plain(checkout, target, built)
+        (target / "judge/out").mkdir(parents=True)
+        shutil.copyfile(options.archive, target / "judge/out/libg1judge.a")
+
+    check_pages.copy_of = with_archive
+    text = re.sub(r"<!-- not run: it needs the archive.*? -->\n", "\n", (TOP / "docs/LINK.md").read_text())
+    steps, wrong = check_pages.check_page("docs/LINK.md", text, TOP, {})
+    tally.count("docs/LINK.md", steps, len(wrong), "\n".join(wrong))
+    print(f"page: {steps} commands")
+
+
+CHECKS = {"headers": check_headers, "calls": check_calls, "null": check_null, "threads": check_threads, "refuse": check_refuse, "writer": check_writer,
+          "vm": check_vm, "rust": check_rust, "page": check_page}
+
+
+def main():
+    parser = argparse.ArgumentParser(description=__doc__, formatter_class=argparse.RawDescriptionHelpFormatter)
+    parser.add_argument("--heap", default=TOP / "crates/g1heap/out/g1heap", type=pathlib.Path)
+    parser.add_argument("--archive", default=TOP / "judge/out/libg1judge.a", type=pathlib.Path)
+    parser.add_argument("--graphs", default=2000, type=int)
+    parser.add_argument("--runs", default=20, type=int)
+    parser.add_argument("--seed", default=1, type=int)
+    parser.add_argument("--only", choices=CHECKS)
+    options = parser.parse_args()
+    for file in (options.heap, options.archive):
+        if not file.is_file():
+            sys.exit(f"test_judge.py: {file}: no such file")
+    options.heap, options.archive = options.heap.resolve(), options.archive.resolve()
+    tally = Tally()
+    with tempfile.TemporaryDirectory() as room:
+        try:
+            programs = Programs(room, options.archive)
+        except (OSError, subprocess.CalledProcessError) as error:
+            sys.exit(f"test_judge.py: {error}")
+        for name, check in CHECKS.items():
+            if options.only in (None, name):
+                check(tally, programs, options)
+    print(f"{tally.passed} passed, {tally.failed} failed")
+    sys.exit(0 if tally.passed and not tally.failed else 1)
+
+
+if __name__ == "__main__":
+    main()
