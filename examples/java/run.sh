@@ -12,7 +12,7 @@ the program. Last it makes a page with the pictures of the heap before and after
 
 The images and the page are kept in FOLDER, if one is named. With --image it begins at this image, and so it does
 with the small one that lies here where there is no java, javac or jcmd. The
-programs are taken from where they are built, or from the variables G1PAUSE and G1HEAP.
+programs are those of out/, which tools/build.py builds, or of the variables G1PAUSE and G1HEAP.
 Statuses: 0 done; 1 something was not as it must be; 2 usage.
 END
 }
@@ -20,8 +20,8 @@ END
 set -eu
 here=$(cd "$(dirname "$0")" && pwd)
 top=$(cd "$here/../.." && pwd)
-program=${G1PAUSE:-$top/crates/g1pause/out/g1pause}
-heap=${G1HEAP:-$top/crates/g1heap/out/g1heap}
+program=${G1PAUSE:-$top/out/g1pause}
+heap=${G1HEAP:-$top/out/g1heap}
 
 image=
 case "${1:-}" in
@@ -33,7 +33,7 @@ if [ -z "$image" ] && { [ $# -lt 5 ] || [ ! -f "$here/$1.java" ]; }; then
     exit 2
 fi
 if [ ! -x "$program" ]; then
-    echo "run.sh: $program is not there: build it by rt run in crates/g1pause, or name it by G1PAUSE=FILE" >&2
+    echo "run.sh: $program is not there: build it by tools/build.py, or name it by G1PAUSE=FILE" >&2
     exit 2
 fi
 

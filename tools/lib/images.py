@@ -104,3 +104,10 @@ def many_slots():
     regions = numbers(*[1, 4096] * 24, 1, 2, *[0, 0] * 7)
     remembered = numbers(*[0] * 24, 24 * 1024, *range(24 * 1024), *[0] * 7)
     return b"G1IMAGE1" + numbers(4096, 4, 32, 0, 0, 32) + regions + remembered + pairs + struct.pack("<2IQ", 0, 2, 7)
+
+
+def all_dirty():
+    """65 regions, all of whose 1,064,960 cards are dirty: the slot of the one object of region 64 names that of region 0."""
+    cards = 65 * 16_384
+    front = numbers(65_536, 4, 65, 0, cards, 65) + numbers(*[1, 2] * 65) + numbers(*range(cards - 1, -1, -1))
+    return b"G1IMAGE1" + front + numbers(*[0] * 65) + struct.pack("<2IQ", 0, 2, 0) * 64 + struct.pack("<2IQ", 1, 2, 1)

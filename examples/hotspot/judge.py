@@ -1,0 +1,85 @@
+#!/usr/bin/env python3
+"""Judges the collectors of Java virtual machines: judge.py [--objects N] [--collections NAME ..] [--only NAME] JAVA ..
+
+For each JAVA, a command as `java` or a path, and each collector that it has, it runs Judge.java three times, with a full
+collection, with young ones, and with six rounds of both. Each run dumps its heap before and after. Both dumps become
+images of what hangs from Judge.root, and `g1heap same` compares them. A second judge in plain Python, which shares
+nothing with these, compares the dumps themselves, and counts the objects that have moved. It prints a line for each run.
+
+A run fails if either judge finds a difference, if their numbers of objects or words are not the same, or if the
+collector has not run between the dumps. The last line is 'N passed, M failed'.
+Statuses: 0 all passed; 1 a run failed; 2 usage, or a program is not there.
+"""
+import argparse
+import pathlib
+import re
+import sys
+import tempfile
+
+import jvm
+
+HOW = ("full", "young", "mixed")
+STEPS = 1_500_000  # arrays that die young
+
+
+def counts(said, when):
+    """How often each part of the collector had run."""
+    line = next((line for line in said.splitlines() if line.startswith(when)), "")
+    return {name: int(count) for name, count in re.findall(r"\| ([^|]+?) (\d+)(?= \||$)", line)}
+
+
+def collections(said):
+    """What ran between the dumps."""
+    before, after = counts(said, "before"), counts(said, "after")
+    ran = {name: after[name] - before.get(name, 0) for name in after}
+    return ", ".join(f"{name} {count}" for name, count in ran.items() if count)
+
+
+def judged(heap, java, options, how, objects, room):
+    """The line of one run, and whether it passed."""
+    said = java.run(options, "Judge", objects, STEPS, room / "dump", how)
+    if "another identity hash" in said:
+        return "an object has another identity hash", False
+    dumps = [room / f"dump_{when}.hprof" for when in ("before", "after")]
+    before, after = (jvm.convert(dump) for dump in dumps)
+    line, plain = jvm.verdict(heap, before, after), jvm.plain_verdict(*dumps)
+    for file in (*dumps, *before, *after):
+        file.unlink()
+    ran = collections(said)
+    if not ran:
+        return "the collector has not run", False
+    same = re.fullmatch(r"(same objects \d+ words \d+), (\d+) of them at another address", plain)
+    if not same or same[1] != line:
+        return f"{line}\n    plain judge: {plain}", False
+    return f"{line}, moved {same[2]}, ran {ran}", True
+
+
+def work(options):
+    heap, passed, failed = jvm.heap_program(), 0, 0
+    with tempfile.TemporaryDirectory() as folder:
+        room = pathlib.Path(folder)
+        for java in [jvm.Java(command, room) for command in options.java]:
+            for name, flags in java.collectors():
+                for how in options.collections if not options.only or options.only == name else ():
+                    try:
+                        line, good = judged(heap, java, flags, how, options.objects, room)
+                    except jvm.Problem as problem:
+                        line, good = str(problem), False
+                    print(f"{java.version} {name} {how}: {line}", flush=True)
+                    passed, failed = passed + good, failed + (not good)
+    print(f"{passed} passed, {failed} failed")
+    return 1 if failed or not passed else 0
+
+
+def main():
+    parser = argparse.ArgumentParser(description=__doc__, formatter_class=argparse.RawDescriptionHelpFormatter)
+    parser.add_argument("java", nargs="+", metavar="JAVA", help="a java: a command or a path")
+    parser.add_argument("--objects", type=int, default=200_000, metavar="N", help="about so many objects (200000)")
+    parser.add_argument("--collections", nargs="+", default=HOW, choices=HOW, metavar="NAME", help="full, young, mixed")
+    parser.add_argument("--only", choices=jvm.COLLECTORS, metavar="NAME", help="this collector alone")
+    options = parser.parse_args()
+    return jvm.ended("judge", lambda: work(options))
+
+
+if __name__ == "__main__":
+    sys.exit(main())

@@ -1,0 +1,131 @@
+"""What judge.py, across.py and plants.py share: the collectors of a java, a run of Judge, and the verdict on two dumps."""
+import os
+import pathlib
+import re
+import shutil
+import subprocess
+import sys
+
+HERE = pathlib.Path(__file__).resolve().parent
+TOP = HERE.parent.parent
+CONVERTER, PATHS = TOP / "tools" / "hprof2image.py", TOP / "tools" / "hprof_path.py"
+ROOT = "Judge.root"
+MOST_HEAP = "-Xmx160m"
+SECONDS = 900  # for one program
+COLLECTORS = {
+    "Serial": ["-XX:+UseSerialGC"],
+    "Parallel": ["-XX:+UseParallelGC"],
+    "G1": ["-XX:+UseG1GC"],
+    "ZGC": ["-XX:+UseZGC"],
+    "ZGC generational": ["-XX:+UseZGC", "-XX:+ZGenerational"],
+    "Shenandoah": ["-XX:+UseShenandoahGC"],
+    "Shenandoah generational": ["-XX:+UseShenandoahGC", "-XX:+UnlockExperimentalVMOptions",
+                                "-XX:ShenandoahGCMode=generational"],
+}
+
+
+class Problem(Exception):
+    """One line that says why there is no verdict."""
+
+
+def run(*words, output=None):
+    """Runs a program: its status, and what it said."""
+    try:
+        done = subprocess.run([str(word) for word in words], stdout=output or subprocess.PIPE, stderr=subprocess.PIPE,
+                              stdin=subprocess.DEVNULL, timeout=SECONDS, check=False)
+    except OSError as error:
+        raise Problem(f"{words[0]}: {error.strerror}") from None
+    except subprocess.TimeoutExpired:
+        raise Problem(f"{words[0]}: was ended after {SECONDS} seconds") from None
+    return done.returncode, (done.stdout or b"").decode(errors="replace"), done.stderr.decode(errors="replace")
+
+
+def last_line(text):
+    lines = text.strip().splitlines()
+    return lines[-1] if lines else "it said nothing"
+
+
+def heap_program():
+    """The built g1heap: that of G1HEAP, or where it is built, or on the path."""
+    named = os.environ.get("G1HEAP")
+    if named:
+        return named
+    built = TOP / "out" / "g1heap"
+    found = str(built) if built.exists() else shutil.which("g1heap")
+    if not found:
+        raise Problem("there is no g1heap: build it by tools/build.py, or name it by G1HEAP=FILE")
+    return found
+
+
+class Java:
+    """A java, with the programs compiled for it."""
+
+    def __init__(self, command, room, sources=("Judge.java",)):
+        self.command = shutil.which(command)
+        if not self.command:
+            raise Problem(f"there is no java '{command}'")
+        status, _, errors = run(self.command, "-version")
+        found = re.search(r'version "([^"]+)"', errors)
+        if status or not found:
+            raise Problem(f"{command}: no java: {last_line(errors)}")
+        self.version = found[1]
+        self.major = int(re.match(r"(?:1\.)?(\d+)", self.version)[1])
+        self.classes = room / f"classes_{self.version}"
+        beside = pathlib.Path(self.command).resolve().with_name("javac")
+        javac = str(beside) if beside.exists() else shutil.which("javac")
+        if not javac:
+            raise Problem(f"{command}: there is no javac beside it, and none on the path")
+        status, _, errors = run(javac, "-nowarn", "-d", self.classes, *(HERE / source for source in sources))
+        if status:
+            raise Problem(f"{javac}: {last_line(errors)}")
+
+    def collectors(self):
+        """The collectors that this java has, with their options."""
+        for name, options in COLLECTORS.items():
+            status, _, errors = run(self.command, *options, "-version")
+            if status == 0 and "gnoring option" not in errors:
+                yield name, options
+
+    def run(self, options, *words):
+        """Runs a class with its words, and returns what it said."""
+        status, out, errors = run(self.command, *options, MOST_HEAP, "-cp", self.classes, *words)
+        if status:
+            raise Problem(f"java ended with status {status}: {last_line(errors or out)}")
+        return out
+
+
+def convert(dump, left_out=()):
+    """Makes an image with its names beside a dump."""
+    image, names = dump.with_suffix(".img"), dump.with_suffix(".names")
+    words = [word for field in left_out for word in ("--without", field)]
+    with open(image, "wb") as file:
+        status, _, errors = run(CONVERTER, "--from", ROOT, *words, "--names", names, dump, output=file)
+    if status:
+        raise Problem(last_line(errors))
+    return image, names
+
+
+def verdict(heap, before, after):
+    """What g1heap says of two images with their names, and in a second line, if they differ, the program's names."""
+    _, out, errors = run(heap, "same", before[0], after[0])
+    said = last_line(out or errors)
+    if not said.startswith("differ"):
+        return said
+    done = subprocess.run([PATHS, *before, *after], input=said, capture_output=True, text=True, check=False)
+    return f"{said}\n    {last_line(done.stdout or done.stderr)}"
+
+
+def plain_verdict(before, after, left_out=()):
+    """What the second judge says."""
+    words = [word for field in left_out for word in ("--without", field)]
+    _, out, errors = run(HERE / "plain_judge.py", before, after, ROOT, *words)
+    return last_line(out or errors)
+
+
+def ended(script, work):
+    """Ends a script with its status. What stops it is said in one line."""
+    try:
+        return work()
+    except Problem as problem:
+        print(f"{script}: {problem}", file=sys.stderr)
+        return 2

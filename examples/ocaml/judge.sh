@@ -1,0 +1,46 @@
+#!/bin/sh
+# judge.sh [DEPTH]: judges OCaml's minor collection, major collection and compaction on the heap of judge.ml. It needs
+# ocamlopt (4.13 or later 4.x) and g1heap on the path. The status is 1 if a collection changed what the program can see, or
+# if the change that the program itself makes at the end is not found.
+set -eu
+if [ "${1:-}" = --help ]; then
+    cat <<'END'
+judge.sh [DEPTH]
+
+Judges OCaml's minor collection, major collection and compaction on the heap of judge.ml, with trees of DEPTH levels
+(16). It needs ocamlopt (4.13 or later 4.x) and g1heap on the path.
+Statuses: 0 done; 1 a collection changed what the program can see, or the change that the program itself makes at the
+end is not found; 2 no ocamlopt or no g1heap.
+END
+    exit 0
+fi
+for program in ocamlopt g1heap; do
+    command -v "$program" > /dev/null || { echo "judge.sh: no $program on the path" >&2; exit 2; }
+done
+depth=${1:-16}
+here=$(cd "$(dirname "$0")" && pwd)
+room=$(mktemp -d)
+trap 'rm -rf "$room"' EXIT
+cp "$here/walk_stubs.c" "$here/judge.ml" "$room"
+cd "$room"
+ocamlopt -ccopt -O2 -o judge walk_stubs.c judge.ml
+./judge "$depth"
+for name in before minor major compact changed; do
+    g1heap make < "$name.txt" > "$name.img"
+done
+
+# The walk writes the objects in the same order each time, so line N of both lists is the same object.
+moved() {
+    paste -d ' ' before.txt.addresses "$1.txt.addresses" | awk '$2 != $4' | wc -l
+}
+
+status=0
+for name in minor major compact; do
+    verdict=$(g1heap same before.img "$name.img") || status=1
+    echo "$name: $(moved "$name") objects moved: $verdict"
+done
+if verdict=$(g1heap same before.img changed.img); then
+    status=1
+fi
+echo "changed: $verdict"
+exit $status

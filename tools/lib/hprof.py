@@ -1,0 +1,413 @@
+"""Heap dumps of Java virtual machines, for the scripts beside it: where each part lies, and what each object is.
+
+A dump is a file in the form HPROF 1.0.2, or 1.0.1 as HotSpot 8 writes it. It is mapped and not read into memory: an
+object is opened at its place in the file when its turn comes. The file is foreign, so each length in it is checked.
+"""
+import hashlib
+import mmap
+import struct
+import sys
+import time
+from array import array
+
+VERSIONS = (b"JAVA PROFILE 1.0.1\0", b"JAVA PROFILE 1.0.2\0")
+TEXT, LOAD_CLASS, HEAP_DUMP, HEAP_DUMP_SEGMENT, HEAP_DUMP_END = 0x01, 0x02, 0x0C, 0x1C, 0x2C
+CLASS, INSTANCE, OBJECTS, PRIMITIVES = 0x20, 0x21, 0x22, 0x23
+REFERENCE = 2
+TYPES = {4: ("boolean", 1), 5: ("char", 2), 6: ("float", 4), 7: ("double", 8), 8: ("byte", 1), 9: ("short", 2),
+         10: ("int", 4), 11: ("long", 8)}
+LETTERS = {"Z": "boolean", "C": "char", "F": "float", "D": "double", "B": "byte", "S": "short", "I": "int",
+           "J": "long"}
+STEP = 1 << 22  # bytes that are read between two reports of progress
+
+
+class Refusal(Exception):
+    """One line for the user, and the status to end with."""
+
+    def __init__(self, status, text):
+        super().__init__(text)
+        self.status = status
+
+
+def bad(text):
+    return Refusal(3, text)
+
+
+class Progress:
+    """Says how far a long work is: one line that changes on a terminal, else a line every two seconds."""
+
+    def __init__(self, file, wanted):
+        self.file, self.terminal = file, file.isatty()
+        self.wanted = wanted or self.terminal
+        self.next = time.monotonic() + 0.5
+
+    def __call__(self, text, done, whole=None):
+        now = time.monotonic()
+        if not self.wanted or now < self.next:
+            return
+        self.next = now + (0.2 if self.terminal else 2)
+        how_far = f"{done:,} of {whole:,}" if whole else f"{done:,}"
+        print(f"\r\033[K{text}: {how_far}" if self.terminal else f"{text}: {how_far}",
+              end="" if self.terminal else "\n", file=self.file, flush=True)
+
+    def end(self):
+        if self.wanted and self.terminal:
+            print("\r\033[K", end="", file=self.file, flush=True)
+
+
+def quiet(_text, _done, _whole=None):
+    """The progress that nobody asked for."""
+
+
+class Group:
+    """The objects of one type and one length: where they lie in the dump, in its order, and their identifiers."""
+
+    __slots__ = ("names", "places")
+
+    def __init__(self):
+        self.names, self.places = array("Q"), array("Q")
+
+
+class Groups(dict):
+    """The group of each tag, class or type, and length, made when it is first asked for."""
+
+    def __missing__(self, key):
+        self[key] = Group()
+        return self[key]
+
+
+class ClassDump:
+    """What the dump says of one class. Fields and statics are pairs of the identifier of a name and a type."""
+
+    def __init__(self, above, references, constants, statics, data, fields):
+        self.above = above  # the class above, 0 for none
+        self.references = references  # the identifiers in its slots
+        self.constants = constants  # how many of these stand in its pool of constants
+        self.statics = statics  # its static fields, with the identifier that each holds, or 0
+        self.data = data  # the bytes of its static fields and constants that are no references
+        self.fields = fields  # the fields of its instances
+
+
+def mapped(file):
+    try:
+        return mmap.mmap(file.fileno(), 0, access=mmap.ACCESS_READ)
+    except (OSError, ValueError):  # a pipe, an empty file, or bytes in memory
+        return file.read()
+
+
+def check_version(data):
+    head = data[:len(VERSIONS[0]) + 12]
+    if head.startswith(VERSIONS) and len(head) == len(VERSIONS[0]) + 12:
+        return
+    if head.startswith(b"\x1f\x8b"):
+        raise bad("a compressed file: unpack it with gunzip first")
+    text, _, _ = head.partition(b"\0")
+    if text.startswith(b"JAVA PROFILE ") and len(text) < len(head) and text + b"\0" not in VERSIONS:
+        raise bad(f"version '{text.decode('latin-1')}': only JAVA PROFILE 1.0.1 and 1.0.2 are known")
+    if head and any(version.startswith(head[:len(version)]) for version in VERSIONS):
+        raise bad("cut short: the file ends within its first line")
+    raise bad("not a heap dump: it does not begin with JAVA PROFILE 1.0.2")
+
+
+def type_bytes(kind):
+    if kind not in TYPES:
+        raise bad(f"a value has the unknown type {kind}")
+    return TYPES[kind][1]
+
+
+def java_name(text):
+    """A class's name as Java writes it: [[Ljava/lang/String; is java.lang.String[][]."""
+    depth = len(text) - len(text.lstrip("["))
+    inner = text[depth:]
+    if depth and inner.startswith("L") and inner.endswith(";"):
+        inner = inner[1:-1]
+    elif depth:
+        inner = LETTERS.get(inner, inner)
+    return inner.replace("/", ".").replace(" ", "_") + "[]" * depth
+
+
+class Dump:
+    """A dump: its objects by type and length, its classes, its roots and its texts."""
+
+    def __init__(self, file, progress=quiet):
+        self.data = mapped(file)
+        check_version(self.data)
+        self.id_bytes, = struct.unpack_from(">I", self.data, len(VERSIONS[0]))
+        if self.id_bytes not in (4, 8):
+            raise bad(f"identifiers of {self.id_bytes} bytes: only 4 and 8 are known")
+        self.id_code = "I" if self.id_bytes == 4 else "Q"
+        self.shape_parts()
+        self.groups, self.roots = Groups(), array("Q")
+        self.texts, self.class_names, self.classes = {}, {}, {}
+        try:
+            self.read_records(progress)
+        except (struct.error, IndexError):
+            raise bad(f"cut short: the file ends at byte {len(self.data)}, within the heap") from None
+
+    def shape_parts(self):
+        """How the parts of the heap begin: what stands behind the tag, and how long it is."""
+        code, size = self.id_code, self.id_bytes
+        self.instance = struct.Struct(f">x{code}4x{code}I")
+        self.objects = struct.Struct(f">x{code}4xI{code}")
+        self.primitives = struct.Struct(f">x{code}4xIB")
+        # How many bytes stand behind the identifier of each kind of root.
+        self.root_bytes = {0xFF: 0, 0x01: size, 0x02: 8, 0x03: 8, 0x04: 4, 0x05: 0, 0x06: 4, 0x07: 0, 0x08: 8}
+
+    def read_records(self, progress):
+        data, size, last = self.data, self.id_bytes, None
+        at, end = len(VERSIONS[0]) + 12, len(self.data)
+        while at < end:
+            tag, _time, length = struct.unpack_from(">BII", data, at)
+            at += 9
+            if at + length > end:
+                raise bad(f"cut short: the file ends at byte {end}, within a record")
+            if tag == TEXT:
+                self.texts[self.ids(at, 1)[0]] = (at + size, at + length)
+            elif tag == LOAD_CLASS:
+                self.class_names[self.ids(at + 4, 1)[0]], = self.ids(at + 8 + size, 1)
+            elif tag in (HEAP_DUMP, HEAP_DUMP_SEGMENT):
+                self.read_parts(at, at + length, progress)
+            if tag in (HEAP_DUMP, HEAP_DUMP_SEGMENT, HEAP_DUMP_END):
+                last = tag
+            at += length
+        if last in (None, HEAP_DUMP_SEGMENT):
+            raise bad("cut short: the file ends before the end of the heap dump")
+
+    def read_parts(self, at, end, progress):
+        """Finds the parts of the heap between two places."""
+        while at < end:
+            progress("reading the dump, bytes", at, len(self.data))
+            at = self.read_some(at, min(end, at + STEP))
+        if at > end:
+            raise bad(f"a part of the heap passes the end of its record, at byte {end}")
+
+    def read_some(self, at, end):
+        """Finds the parts that begin before `end`, and returns where the next one begins."""
+        data, groups = self.data, self.groups
+        instance, objects, primitives = (part.unpack_from for part in (self.instance, self.objects, self.primitives))
+        heads, id_bytes = (self.instance.size, self.objects.size, self.primitives.size), self.id_bytes
+        while at < end:
+            tag, place = data[at], at
+            if tag == INSTANCE:
+                name, kind, count = instance(data, at)
+                at += heads[0] + count
+            elif tag == PRIMITIVES:
+                name, count, kind = primitives(data, at)
+                at += heads[2] + count * type_bytes(kind)
+            elif tag == OBJECTS:
+                name, count, kind = objects(data, at)
+                at += heads[1] + count * id_bytes
+            elif tag == CLASS:
+                name, at = self.read_class(at + 1)
+                kind, count = name, 0
+            elif tag in self.root_bytes:
+                self.roots.extend(self.ids(at + 1, 1))
+                at += 1 + id_bytes + self.root_bytes[tag]
+                continue
+            else:
+                raise bad(f"a part of the heap has the unknown tag {tag:#04x}, at byte {at}")
+            group = groups[tag, kind, count]
+            group.names.append(name)
+            group.places.append(place)
+        return at
+
+    def ids(self, at, count):
+        return struct.unpack_from(f">{count}{self.id_code}", self.data, at)
+
+    def short(self, at):
+        return struct.unpack_from(">H", self.data, at)[0]
+
+    def read_class(self, at):
+        """Reads what stands of a class behind the tag, and returns its identifier and where it ends."""
+        size = self.id_bytes
+        name, = self.ids(at, 1)
+        above, *others = self.ids(at + size + 4, 6)
+        references, statics, data = [above, *others[:3]], [], []
+        at, _ = self.read_values(at + 7 * size + 8, 2, references, data)
+        constants = len(references) - 4
+        at, found = self.read_values(at, size, references, data)
+        statics += found
+        count = self.short(at)
+        at += 2
+        fields = [struct.unpack_from(f">{self.id_code}B", self.data, at + i * (size + 1)) for i in range(count)]
+        self.classes[name] = ClassDump(above, references, constants, statics, b"".join(data), fields)
+        return name, at + count * (size + 1)
+
+    def read_values(self, at, head, references, data):
+        """Reads constants or static fields: behind a number or a name of `head` bytes a type, then the value."""
+        found, count = [], self.short(at)
+        at += 2
+        for _ in range(count):
+            name, kind, value = int.from_bytes(self.data[at:at + head], "big"), self.data[at + head], 0
+            at += head + 1
+            if kind == REFERENCE:
+                value, = self.ids(at, 1)
+                references.append(value)
+                at += self.id_bytes
+            else:
+                data.append(self.data[at:at + type_bytes(kind)])
+                at += type_bytes(kind)
+            found.append((name, kind, value))
+        return at, found
+
+    def text(self, name):
+        """A text of the dump, as the name of a field."""
+        start, end = self.texts.get(name, (0, 0))
+        return self.data[start:end].decode("utf-8", "replace").replace(" ", "_") or f"name@{name:x}"
+
+    def class_name(self, kind):
+        name = self.class_names.get(kind)
+        return java_name(self.text(name)) if name in self.texts else f"class@{kind:x}"
+
+    def fields_of(self, kind):
+        """The fields of an instance, those of its own class first: the class, the field's name, and its type."""
+        found, seen = [], set()
+        while kind:
+            if kind not in self.classes or kind in seen:
+                raise bad(f"the class {kind:#x} of an instance is not in the dump")
+            seen.add(kind)
+            owner = self.class_name(kind)
+            found += [(owner, self.text(name), type_) for name, type_ in self.classes[kind].fields]
+            kind = self.classes[kind].above
+        return found
+
+
+# From a dump to objects of words.
+
+
+def words_of(count):
+    """How many words so many bytes take."""
+    return (count + 7) // 8
+
+
+def name_label(name):
+    """What stands for a class in an image whose labels have to outlast a collection."""
+    return int.from_bytes(hashlib.sha256(name.encode()).digest()[:8], "little")
+
+
+class Shape:
+    """How the objects of one type and length are cut into references and data, from where they begin in the dump."""
+
+    def __init__(self, dump, name, label, head, array_of=None):
+        self.dump, self.name, self.label, self.array_of = dump, name, label, array_of
+        self.pieces, self.place = [f"{head}x"], head
+        self.slots, self.fields, self.runs = [], [], []  # runs: of data that lie together, and are copied together
+        self.null_slots, self.zeros, self.data_bytes = [], [], 0
+
+    def add_slots(self, names, left_out=False):
+        if left_out:
+            self.null_slots += range(len(self.slots), len(self.slots) + len(names))
+        self.slots += names
+        self.pieces.append(f"{len(names)}{self.dump.id_code}")
+        self.place += len(names) * self.dump.id_bytes
+
+    def add_data(self, name, count, left_out=False):
+        if left_out:
+            self.zeros.append((self.data_bytes, self.data_bytes + count))
+        if self.runs and sum(self.runs[-1]) == self.place:
+            self.runs[-1][1] += count
+        else:
+            self.runs.append([self.place, count])
+        self.fields.append((name, self.data_bytes, count))
+        self.pieces.append(f"{count}x")
+        self.data_bytes += count
+        self.place += count
+
+    def end(self):
+        """All fields are there."""
+        self.references = struct.Struct(">" + "".join(self.pieces))
+        pads = [place - end for (place, _), end in zip(self.runs, [0, *map(sum, self.runs)])]
+        self.content = struct.Struct(">" + "".join(f"{pad}x{count}s" for pad, (_, count) in zip(pads, self.runs)))
+        self.data_words = words_of(self.data_bytes)
+        self.size = 2 + len(self.slots) + self.data_words
+        return self
+
+    def open(self, at):
+        """The identifiers in the slots, and the bytes of data."""
+        data = self.dump.data
+        names = self.references.unpack_from(data, at) if self.slots else ()
+        content = b"".join(self.content.unpack_from(data, at)) if self.runs else b""
+        if self.null_slots:
+            names = [0 if i in self.null_slots else name for i, name in enumerate(names)]
+        for start, end in self.zeros:
+            content = content[:start] + bytes(end - start) + content[end:]
+        return names, content
+
+    def step(self, slot):
+        """The slot in a path."""
+        return f"[{slot}]" if self.array_of == "objects" else f".{self.slots[slot]}"
+
+    def slot_names(self):
+        return ["[]"] if self.array_of == "objects" else self.slots
+
+    def data_names(self):
+        """A name for each data word: the fields in it, joined by a comma if it has several."""
+        if self.array_of:
+            return ["class"] if self.array_of == "objects" else ["length", self.name]
+        words = [[] for _ in range(self.data_words)]
+        for field, start, count in self.fields:
+            for word in range(start // 8, (start + count - 1) // 8 + 1):
+                words[word].append(field)
+        return ["class", *[",".join(word) for word in words]]
+
+
+def instance_shape(dump, kind, count, label, left_out=()):
+    shape = Shape(dump, dump.class_name(kind), label, dump.instance.size)
+    for owner, field, type_ in dump.fields_of(kind):
+        left = f"{owner}.{field}" in left_out
+        if type_ == REFERENCE:
+            shape.add_slots([field], left)
+        else:
+            shape.add_data(field, type_bytes(type_), left)
+    expected = shape.place - dump.instance.size
+    if count != expected:
+        raise bad(f"an instance has {count} bytes of fields, and its class says {expected}")
+    return shape.end()
+
+
+def objects_shape(dump, kind, count, label):
+    shape = Shape(dump, dump.class_name(kind), label, dump.objects.size, "objects")
+    shape.slots = range(count)
+    shape.pieces.append(f"{count}{dump.id_code}")
+    return shape.end()
+
+
+def primitives_shape(dump, kind, count):
+    name, width = TYPES[kind]
+    shape = Shape(dump, f"{name}[]", kind << 32 | count, dump.primitives.size, "values")
+    if count:
+        shape.add_data(name, count * width)
+    return shape.end()
+
+
+class ClassShape(Shape):
+    """A class with its constants and static fields. They stand in no order of their own, so they are read before."""
+
+    def __init__(self, dump, kind):
+        super().__init__(dump, f"{dump.class_name(kind)}.class", kind, 0)
+        self.found = dump.classes[kind]
+        self.slots = ["super", "loader", "signers", "domain", *["constant"] * self.found.constants]
+        self.slots += [dump.text(name) for name, type_, _value in self.found.statics if type_ == REFERENCE]
+        self.data_words = words_of(len(self.found.data))
+        self.size = 2 + len(self.slots) + self.data_words
+
+    def open(self, _at):
+        return self.found.references, self.found.data
+
+    def data_names(self):
+        return ["class", "static[]"]
+
+
+def main_of(script, run):
+    """Runs a script's work, and turns what stops it into one line and a status."""
+    try:
+        return run() or 0
+    except Refusal as refusal:
+        print(f"{script}: {refusal}", file=sys.stderr)
+        return refusal.status
+    except OSError as error:
+        print(f"{script}: {error.filename or 'input or output'}: {error.strerror or error}", file=sys.stderr)
+        return 6
+    except MemoryError:
+        print(f"{script}: out of memory", file=sys.stderr)
+        return 6

@@ -1,0 +1,90 @@
+#!/usr/bin/env python3
+"""real_traces.py G1PAUSE [--seed N] [--runs 3] [--only NAME]
+
+Runs the four programs of examples/programs (a cache, binary trees, JSON, a small Scheme) on a heap that writes a trace, runs
+each trace through `G1PAUSE run`, and compares each reply with that of a plain store. The heap pauses every few hundred words,
+each time with another budget; `--runs` traces are made of each program, with other pauses. A line for each trace has what it
+did; the last line is 'N passed, M failed'. With `--write FOLDER` the traces are written there as NAME-SEED.trace.
+"""
+import argparse
+import importlib.util
+import os
+import pathlib
+import subprocess
+import sys
+
+sys.path.insert(0, str(pathlib.Path(__file__).resolve().parent / "lib"))
+
+import traced  # noqa: E402
+
+PROGRAMS = ["lru_cache", "binary_trees", "json_lists", "scheme"]
+FOLDER = os.path.join(os.path.dirname(os.path.abspath(__file__)), "..", "examples", "programs")
+
+
+def program(name):
+    spec = importlib.util.spec_from_file_location(name, os.path.join(FOLDER, f"{name}.py"))
+    module = importlib.util.module_from_spec(spec)
+    spec.loader.exec_module(module)
+    return module
+
+
+def made(name, seed):
+    """The traced heap after the program has run, and whether its result is right."""
+    heap = traced.Heap(words=256, card=4, regions=4096, roots=60000, pauses=traced.Pauses(every=700, seed=f"{name} {seed}"))
+    module = program(name)
+    result = module.run(heap)
+    heap.end()
+    return heap, result == module.expected()
+
+
+def first_wrong(heap, told):
+    """What the first wrong reply is, or None."""
+    for number, (line, wanted, got) in enumerate(zip(heap.lines[1:], heap.replies, told), 2):
+        if wanted != got:
+            return f"line {number}: {line} -> {got}, expected {wanted}"
+    if len(told) != len(heap.replies):
+        return f"{len(told)} replies for {len(heap.replies)} commands"
+    return None
+
+
+def fault(g1pause, heap):
+    """What is wrong with the replies of `G1PAUSE run` to a heap's trace, or None."""
+    try:
+        done = subprocess.run([g1pause, "run"], input=heap.text(), capture_output=True, timeout=60)
+    except subprocess.TimeoutExpired:
+        return "no answer within 60 seconds"
+    if done.returncode:
+        return f"status {done.returncode} {done.stderr.decode(errors='replace').strip()}"
+    return first_wrong(heap, done.stdout.decode().splitlines())
+
+
+def judged(g1pause, name, seed, folder):
+    heap, is_right = made(name, seed)
+    if folder:
+        with open(os.path.join(folder, f"{name}-{seed}.trace"), "wb") as file:
+            file.write(heap.text())
+    wrong = fault(g1pause, heap) if is_right else "the program's own result is wrong"
+    print(f"{name} {seed}: {len(heap.replies)} commands, {heap.objects} objects, {heap.pauses.count} pauses, "
+          f"at most {heap.held} roots: {wrong or 'every reply is right'}", flush=True)
+    return wrong is None
+
+
+def main():
+    parser = argparse.ArgumentParser(description=__doc__, formatter_class=argparse.RawDescriptionHelpFormatter)
+    parser.add_argument("g1pause", metavar="G1PAUSE")
+    parser.add_argument("--seed", type=int, default=1, metavar="N")
+    parser.add_argument("--runs", type=int, default=3, metavar="N")
+    parser.add_argument("--only", choices=PROGRAMS, metavar="NAME")
+    parser.add_argument("--write", metavar="FOLDER")
+    options = parser.parse_args()
+    if not os.access(options.g1pause, os.X_OK):
+        sys.exit(f"real_traces.py: no program {options.g1pause}")
+    sys.setrecursionlimit(100000)
+    names = [options.only] if options.only else PROGRAMS
+    answers = [judged(options.g1pause, name, seed, options.write)
+               for name in names for seed in range(options.seed, options.seed + options.runs)]
+    print(f"{sum(answers)} passed, {len(answers) - sum(answers)} failed")
+    sys.exit(not all(answers))
+
+
+main()
