@@ -10,7 +10,7 @@ use std::alloc::{AllocError, Global};
 ///
 /// # Errors
 ///
-/// `Fault::Memory` alone. What is lost is told by `Lost`.
+/// `Fault::Memory` alone. `Lost` says what is lost.
 pub fn kept(
     alloc: Global,
     before: &Heap,
@@ -77,13 +77,28 @@ fn compare_regions(heaps: Heaps<'_>) -> Result<(), Lost> {
 
 // What the heaps tell of a region, which is of the set or not.
 fn compare_told(number: u32, old: Region, new: Region, chosen: bool) -> Result<(), Lost> {
-    if chosen && new.kind != Kind::Free {
-        return Err(Lost::Set(number));
+    if chosen {
+        return match new.kind {
+            Kind::Free => Ok(()),
+            _ => Err(Lost::Set(number)),
+        };
     }
-    if !chosen && old.kind != Kind::Free && !is_freed(old, new) && old != new {
+    if old.kind == Kind::Free || is_freed(old, new) {
+        return Ok(());
+    }
+    compare_in_use(number, old, new)
+}
+
+// A region outside the set that was in use, and was not freed.
+fn compare_in_use(number: u32, old: Region, new: Region) -> Result<(), Lost> {
+    if old.kind != new.kind || old.top != new.top {
         return Err(Lost::Region(number));
     }
-    Ok(())
+    match (old.pinned, new.pinned) {
+        (true, false) => Err(Lost::Unpinned(number)),
+        (false, true) => Err(Lost::Pinned(number)),
+        _ => Ok(()),
+    }
 }
 
 fn compare_roots(heaps: Heaps<'_>, pairs: &mut Pairs) -> Result<(), Stop> {

@@ -13,9 +13,9 @@ pub(crate) struct Heaps<'a> {
 /// Objects of the set and their copies, as far as they are found.
 #[derive(Drop)]
 pub(crate) struct Pairs {
-    /// By the address of an object, the word that names its copy, or 0.
+    /// By the address of an object, the word that references its copy, or 0.
     copies: Vec<u64>,
-    /// By the address of a copy, the word that names its object, or 0.
+    /// By the address of a copy, the word that references its object, or 0.
     objects: Vec<u64>,
     /// In the order in which they were found.
     found: Vec<Pair>,
@@ -28,8 +28,8 @@ pub(crate) struct Pair {
     pub(crate) after: u64,
 }
 
-/// Whether a region of a humongous object's run is free after. A pause may free such an object where
-/// nothing names it; whatever still named it would name no object.
+/// Whether a region of a humongous object's run is free after. A pause may free such an object if
+/// nothing references it; whatever still referenced it would reference no object.
 pub(crate) fn is_freed(old: Region, new: Region) -> bool {
     matches!(old.kind, Kind::HumongousFirst | Kind::Continuation) && new.kind == Kind::Free
 }
@@ -43,7 +43,7 @@ impl<'a> Heaps<'a> {
         }
     }
 
-    /// What the two heaps tell of the region of this number.
+    /// What the two heaps have of the region of this number.
     pub(crate) fn told(&self, region: u32) -> Option<(Region, Region)> {
         let old = self.before.regions().get(region as usize).copied();
         old.zip(self.after.regions().get(region as usize).copied())
@@ -82,9 +82,9 @@ impl Pairs {
         self.found.get(number).copied()
     }
 
-    /// Whether a reference word is after what it should be: the same where it led out of the set,
-    /// else a word that names the object's copy.
-    fn follow(&mut self, heaps: Heaps<'_>, word: u64, now: u64) -> Result<bool, AllocError> {
+    /// Whether a reference word is after what it should be: the same if it led out of the set,
+    /// else a word that references the object's copy.
+    fn follow(&mut self, heaps: Heaps<'_>, word: u64, now: u64) -> Result<bool, Stop> {
         let Some(before) = word.checked_sub(1) else {
             return Ok(word == now);
         };
@@ -103,10 +103,13 @@ impl Pairs {
         if *copy != 0 || *object != 0 {
             return Ok(*copy == now && *object == word);
         }
+        if !heaps.was_free(after) {
+            return Err(Lost::Copy { before, after }.into());
+        }
         *copy = now;
         *object = word;
         self.found.push(Pair { before, after })?;
-        Ok(heaps.was_free(after))
+        Ok(true)
     }
 
     /// The first place of a reference word that is not after what it should be.
@@ -115,7 +118,7 @@ impl Pairs {
         heaps: Heaps<'_>,
         words: &[u64],
         now: &[u64],
-    ) -> Result<Option<u64>, AllocError> {
+    ) -> Result<Option<u64>, Stop> {
         for (place, (word, now)) in words.iter().zip(now.iter()).enumerate() {
             if !self.follow(heaps, *word, *now)? {
                 return Ok(Some(place as u64));

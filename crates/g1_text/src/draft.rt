@@ -1,4 +1,4 @@
-use crate::expected::Expected;
+use crate::expected::{Expected, Refusal};
 use g1_words::{Geometry, Kind, Region};
 use std::alloc::{AllocError, Global};
 
@@ -44,7 +44,7 @@ pub(crate) struct Lines {
     pub(crate) regions: Vec<Told>,
 }
 
-/// What the first line tells of those below it, where it does.
+/// What the first line says of those below it, if it does.
 #[derive(Clone, Copy)]
 pub(crate) struct Heading {
     pub(crate) line: u64,
@@ -52,7 +52,7 @@ pub(crate) struct Heading {
     pub(crate) dirty: Option<u64>,
 }
 
-/// What a region's line tells of those below it, where it does.
+/// What a region's line says of those below it, if it does.
 #[derive(Clone, Copy)]
 pub(crate) struct Told {
     pub(crate) line: u64,
@@ -136,6 +136,17 @@ impl Draft {
         Ok(())
     }
 
+    /// Adds the regions up to this one, in which the humongous object above them goes on.
+    pub(crate) fn continue_run_to(&mut self, region: u64) -> Result<(), Refusal> {
+        for _ in self.regions.len() as u64..=region {
+            if self.beyond == 0 {
+                return Err(Expected::NoContinuation.into());
+            }
+            self.continue_run()?;
+        }
+        Ok(())
+    }
+
     /// Adds all regions in which the humongous object above them goes on.
     pub(crate) fn close_run(&mut self) -> Result<(), AllocError> {
         for _ in 0..self.geometry.regions() {
@@ -147,14 +158,14 @@ impl Draft {
         Ok(())
     }
 
-    /// Adds the regions that no line told.
+    /// Adds the regions that have no line.
     pub(crate) fn close(&mut self) -> Result<(), AllocError> {
         self.close_run()?;
         let regions = self.geometry.regions();
         self.fill_up_to(regions)
     }
 
-    /// Takes room for an object of so many words behind the last one.
+    /// Takes room for an object of this many words behind the last one.
     pub(crate) fn take_room(&mut self, size: u64) -> Result<(), Expected> {
         let place = self.regions.len() as u64;
         let behind = self.geometry.regions().saturating_sub(place);

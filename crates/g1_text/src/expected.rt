@@ -5,7 +5,7 @@ use std::alloc::{AllocError, AllocFailed};
 use std::fmt;
 use thiserror::Error;
 
-/// What should stand in a line in the place of what stands there.
+/// What should be in a line instead of what is there.
 #[derive(Debug, Clone, Copy, PartialEq, Eq)]
 pub enum Expected {
     Text,
@@ -14,7 +14,7 @@ pub enum Expected {
     Sizes,
     Line,
     Word(&'static str),
-    /// A number that stands for this: below 2^64, or below 2^32 for a region or a card.
+    /// A number of this: below 2^64, or below 2^32 for a region or a card.
     Number(&'static str),
     /// The number that follows from the other lines.
     Follows(&'static str, u64),
@@ -22,7 +22,7 @@ pub enum Expected {
     Reference,
     Root,
     Roots(u64),
-    /// A slot, counted from 0, that is null or names an object.
+    /// A slot, counted from 0, that is null or references an object.
     Slot(u64),
     Region(u64, u64),
     NoRegion,
@@ -34,7 +34,7 @@ pub enum Expected {
     Size,
     AtMost(u64),
     AtLeast(u64),
-    /// So many slots and so many data words behind the size.
+    /// This many slots and this many data words behind the size.
     Content(u64, u64),
     Current,
     Dirty,

@@ -1,13 +1,13 @@
-//! The lines of a heap image: what a person reads and writes in the place of its bytes.
+//! The lines of a heap image: what a person reads and writes instead of its bytes.
 //!
-//! 1. `image_lines` tells an image line by line: its heading, its roots, its dirty cards, and for
+//! 1. `image_lines` prints an image line by line: its heading, its roots, its dirty cards, and for
 //!    each region its numbers, its remembered cards and its objects. `region_lines` and
-//!    `object_line` tell a part.
+//!    `object_line` print a part.
 //! 2. `make` reads lines and gives the image's bytes. Each line's numbers are compared with what
 //!    follows from the lines above it, so whatever follows may be left out: addresses, tops, counts,
 //!    free and continuation regions, and, by the word `covered`, remembered sets.
 //! 3. What was read is written as bytes, and `decode` judges these: `make` has no rules of its own for
-//!    references and cards. A fault of `decode` is told of the line that it comes from.
+//!    references and cards. A fault of `decode` is reported for the line that it comes from.
 #![tactic(auto)]
 
 mod covering;

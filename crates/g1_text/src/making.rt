@@ -11,7 +11,7 @@ use g1_image::decode;
 use g1_words::{Fault, Place, Stand};
 use std::alloc::Global;
 
-/// The bytes of the image that lines tell.
+/// The bytes of the image that lines describe.
 ///
 /// # Errors
 ///

@@ -2,7 +2,7 @@ use crate::draft::Draft;
 use g1_words::{Kind, Region};
 use std::alloc::{AllocError, Global};
 
-/// The bytes that tell what was read, good or not.
+/// The bytes of what was read, good or not.
 pub(crate) fn packed(alloc: Global, draft: &Draft) -> Result<Vec<u8>, AllocError> {
     let mut out = Vec::from_slice(alloc, b"G1IMAGE2")?;
     push_heading(&mut out, draft)?;

@@ -4,7 +4,7 @@ use g1_image::Image;
 use g1_words::{Fault, Heap, Object, REFS_RANGE, Region, objects_in};
 use std::alloc::{AllocError, Global};
 
-/// The lines of an image, in their full form: each number and each set stands there.
+/// The lines of an image, in their full form: each number and each set is there.
 ///
 /// # Errors
 ///

@@ -19,10 +19,19 @@ pub(crate) fn read(alloc: Global, text: &[u8]) -> Result<Draft, Wrong> {
         }
     }
     let Some(mut draft) = draft else {
-        return Err(Refusal::Expected(Expected::Heading).at(number));
+        return Err(Refusal::Expected(Expected::Heading).at(last_line(text, number)));
     };
     draft.close()?;
     Ok(draft)
+}
+
+// The number of the last line. The LF that ends it begins no other one.
+fn last_line(text: &[u8], pieces: u64) -> u64 {
+    if text.ends_with(b"\n") {
+        pieces.saturating_sub(1)
+    } else {
+        pieces
+    }
 }
 
 // A line with no word says nothing, nor does one that begins with '#'.
@@ -199,10 +208,7 @@ impl Draft {
         let number = told.unwrap_or(next);
         check_number(number, next, self.geometry.regions())?;
         if kind == Kind::Continuation {
-            if self.beyond == 0 || number != next {
-                return Err(Expected::NoContinuation.into());
-            }
-            self.continue_run()?;
+            self.continue_run_to(number)?;
         } else {
             self.fill_up_to(number)?;
             self.add_empty(kind)?;
@@ -262,7 +268,7 @@ impl Draft {
 fn root(words: Words<'_>, next: u64) -> Result<u64, Expected> {
     let mut words = words;
     if words.len() > 1 {
-        follows(Some(words.number("root")?), "root", next)?;
+        follows(words.take_number(), "root", next)?;
     }
     let reference = words.reference()?;
     words.end()?;

@@ -40,7 +40,7 @@ impl<'a> Words<'a> {
         Some(word)
     }
 
-    /// Reads the next word where it is this one, and tells whether it was.
+    /// Reads the next word if it is this one, and returns whether it was.
     pub(crate) fn take(&mut self, word: &str) -> bool {
         let found = self.peek() == Some(word);
         if found {
@@ -49,7 +49,7 @@ impl<'a> Words<'a> {
         found
     }
 
-    /// Reads the last word where it is this one, and tells whether it was.
+    /// Reads the last word if it is this one, and returns whether it was.
     pub(crate) fn take_last(&mut self, word: &str) -> bool {
         let last = self.to.saturating_sub(1);
         let found = self.from < self.to && self.words.get(last).copied() == Some(word);
@@ -68,14 +68,14 @@ impl<'a> Words<'a> {
         }
     }
 
-    /// Reads the next word where it is a number.
+    /// Reads the next word if it is a number.
     pub(crate) fn take_number(&mut self) -> Option<u64> {
         let number = whole(self.peek()?)?;
         self.pass();
         Some(number)
     }
 
-    /// Reads a number, which stands for this.
+    /// Reads a number of this.
     pub(crate) fn number(&mut self, what: &'static str) -> Result<u64, Expected> {
         self.take_number().ok_or(Expected::Number(what))
     }
@@ -89,7 +89,7 @@ impl<'a> Words<'a> {
         }
     }
 
-    /// Reads a word and the number behind it, where this word is the next.
+    /// Reads a word and the number behind it, if this word is the next.
     pub(crate) fn named(&mut self, word: &'static str) -> Result<Option<u64>, Expected> {
         if self.take(word) {
             Ok(Some(self.number(word)?))

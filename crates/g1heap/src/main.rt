@@ -3,19 +3,25 @@
 #![tactic(auto)]
 
 use g1_command::{refuse, words};
-use g1heap_cli::{NAME, program};
+use g1heap_cli::{NAME, Terminals, program};
+use std::io::IsTerminal;
 use std::process::ExitCode;
 
 fn main(rt: HostRuntime) -> ExitCode {
     let alloc = rt.alloc();
-    let mut errors = rt.stderr();
+    let (mut reader, mut writer, mut errors) = (rt.stdin(), rt.stdout(), rt.stderr());
+    let terminals = Terminals {
+        input: reader.is_terminal(),
+        output: writer.is_terminal(),
+    };
     let status = match words(&rt, alloc) {
         Ok(words) => program(
             &rt,
             alloc,
             words.as_slice(),
-            &mut rt.stdin(),
-            &mut rt.stdout(),
+            terminals,
+            &mut reader,
+            &mut writer,
             &mut errors,
         ),
         Err(refusal) => refuse(NAME, &refusal, &mut errors),

@@ -2,9 +2,12 @@
 use crate::comparing::{difference_line, same_line};
 use crate::files::{read_bytes, read_image};
 use crate::options::{NAME, Part, Request, Same, parse};
+use crate::output::{Output, write_file};
 use crate::refusal::{no_object, no_region, of_file, wrong_line};
+use crate::summary::summary;
+use crate::terminals::{Terminals, allow, announce};
 use g1_choose::given;
-use g1_command::{Refusal, deliver, refuse};
+use g1_command::{Refusal, deliver, deliver_text, refuse};
 use g1_image::Image;
 use g1_kept::{Lost, kept};
 use g1_rem::verify;
@@ -16,32 +19,37 @@ use std::io::{Read, Write};
 use std::rt::Files;
 use std::thread::Threads;
 
-/// Runs the program on the words after its name, and gives its exit status: 0, 1 where two heaps
-/// differ, or that of the refusal which is then told on `errors`. Files and the reader are read when
-/// the words were found to be a request. The writer is written last, and not at all where there is a
-/// refusal, unless it was the writer that failed.
+/// Runs the program on the words after its name, and gives its exit status: 0, 1 if two heaps
+/// differ, 141 if the reader of a text went away, or that of the refusal which is then reported on
+/// `errors`. Files and the reader are read when the words were found to be a request. The writer is
+/// written last, and not at all if there is a refusal, unless it was the writer that failed.
 pub fn program<T: Threads + Sync + Files, R: Read, W: Write, E: Write>(
     rt: &T,
     alloc: Global,
     words: &[String],
+    terminals: Terminals,
     reader: &mut R,
     writer: &mut W,
     errors: &mut E,
 ) -> u8 {
-    match perform(rt, alloc, words, reader, writer) {
+    match perform(rt, alloc, words, terminals, reader, writer, errors) {
         Ok(status) => status,
         Err(refusal) => refuse(NAME, &refusal, errors),
     }
 }
 
-fn perform<T: Threads + Sync + Files, R: Read, W: Write>(
+fn perform<T: Threads + Sync + Files, R: Read, W: Write, E: Write>(
     rt: &T,
     alloc: Global,
     words: &[String],
+    terminals: Terminals,
     reader: &mut R,
     writer: &mut W,
+    errors: &mut E,
 ) -> Result<u8, Refusal> {
     let request = parse(alloc, words)?;
+    allow(alloc, terminals, &request)?;
+    announce(terminals, &request, errors);
     answer(rt, alloc, &request, reader, writer)
 }
 
@@ -54,17 +62,50 @@ fn answer<T: Threads + Sync + Files, R: Read, W: Write>(
     writer: &mut W,
 ) -> Result<u8, Refusal> {
     match request {
-        Request::Help(text) => written(0, text.as_bytes(), writer),
+        Request::Help(text) => Ok(deliver_text(0, text.as_bytes(), writer)?),
         Request::Same(same) => answer_same(rt, alloc, same, reader, writer),
-        Request::Print { image, part } => print(rt, alloc, image.as_str(), *part, reader, writer),
-        Request::Make { lines } => write_made(rt, alloc, lines.as_str(), reader, writer),
+        Request::Print {
+            image,
+            part,
+            output,
+        } => {
+            let text = printed(rt, alloc, image.as_str(), *part, reader)?;
+            hand_over_text(rt, alloc, text.as_bytes(), output, writer)
+        }
+        Request::Make { lines, output } => {
+            let bytes = made_of(rt, alloc, lines.as_str(), reader)?;
+            hand_over(rt, alloc, bytes.as_slice(), output, writer)
+        }
     }
 }
 
-// The status, when the answer that it stands for is written.
-fn written<W: Write>(status: u8, answer: &[u8], writer: &mut W) -> Result<u8, Refusal> {
-    deliver(answer, writer)?;
-    Ok(status)
+// The status, when the lines are where they are to go.
+fn hand_over_text<T: Files, W: Write>(
+    rt: &T,
+    alloc: Global,
+    text: &[u8],
+    output: &Output,
+    writer: &mut W,
+) -> Result<u8, Refusal> {
+    match output {
+        Output::File(_) => hand_over(rt, alloc, text, output, writer),
+        _ => Ok(deliver_text(0, text, writer)?),
+    }
+}
+
+// The status, when the bytes are where they are to go.
+fn hand_over<T: Files, W: Write>(
+    rt: &T,
+    alloc: Global,
+    bytes: &[u8],
+    output: &Output,
+    writer: &mut W,
+) -> Result<u8, Refusal> {
+    match output {
+        Output::File(name) => write_file(rt, alloc, name.as_str(), bytes)?,
+        _ => deliver(bytes, writer)?,
+    }
+    Ok(0)
 }
 
 // Tells whether two images show the same. The status is 1 where they differ.
@@ -76,7 +117,7 @@ fn answer_same<T: Threads + Sync + Files, R: Read, W: Write>(
     writer: &mut W,
 ) -> Result<u8, Refusal> {
     let (status, text) = same_answer(rt, alloc, same, reader)?;
-    written(status, text.as_bytes(), writer)
+    Ok(deliver_text(status, text.as_bytes(), writer)?)
 }
 
 fn same_answer<T: Threads + Sync + Files, R: Read>(
@@ -210,19 +251,7 @@ fn uncovered<T: Threads + Sync>(rt: &T, alloc: Global, image: Image) -> Option<F
     Some(fault)
 }
 
-fn print<T: Files, R: Read, W: Write>(
-    rt: &T,
-    alloc: Global,
-    name: &str,
-    part: Part,
-    reader: &mut R,
-    writer: &mut W,
-) -> Result<u8, Refusal> {
-    let text = printed(rt, alloc, name, part, reader)?;
-    written(0, text.as_bytes(), writer)
-}
-
-fn printed<T: Files, R: Read>(
+fn printed<T: Threads + Sync + Files, R: Read>(
     rt: &T,
     alloc: Global,
     name: &str,
@@ -230,13 +259,16 @@ fn printed<T: Files, R: Read>(
     reader: &mut R,
 ) -> Result<String, Refusal> {
     let image = read_image(rt, alloc, name, reader)?;
+    if part == Part::Summary {
+        return Ok(summary(rt, alloc, &image)?);
+    }
     lines(alloc, &image, name, part)
 }
 
 fn lines(alloc: Global, image: &Image, name: &str, part: Part) -> Result<String, Refusal> {
     let heap = image.heap();
     let text = match part {
-        Part::Whole => image_lines(alloc, image),
+        Part::Whole | Part::Summary => image_lines(alloc, image),
         Part::Region(region) if u64::from(region) < heap.geometry().regions() => {
             region_lines(alloc, image, region)
         }
@@ -247,17 +279,6 @@ fn lines(alloc: Global, image: &Image, name: &str, part: Part) -> Result<String,
         },
     };
     Ok(text?)
-}
-
-fn write_made<T: Files, R: Read, W: Write>(
-    rt: &T,
-    alloc: Global,
-    name: &str,
-    reader: &mut R,
-    writer: &mut W,
-) -> Result<u8, Refusal> {
-    let bytes = made_of(rt, alloc, name, reader)?;
-    written(0, bytes.as_slice(), writer)
 }
 
 fn made_of<T: Files, R: Read>(

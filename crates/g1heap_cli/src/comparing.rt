@@ -3,7 +3,7 @@ use g1_same::{Difference, How, Renaming};
 use g1_words::{Heap, REFS_RANGE};
 use std::alloc::{AllocError, Global};
 
-/// The line that tells how much is reached where two heaps show the same graph.
+/// The line that says how much is reached if two heaps show the same graph.
 pub fn same_line(alloc: Global, before: &Heap, renaming: &Renaming) -> Result<String, AllocError> {
     let objects = renaming.before.len();
     let mut words = 0u64;
@@ -13,7 +13,7 @@ pub fn same_line(alloc: Global, before: &Heap, renaming: &Renaming) -> Result<St
     format!(in alloc; "same objects {objects} words {words}\n")
 }
 
-/// The line that tells where two heaps differ: the path from a root, what stands there, and how it
+/// The line that says where two heaps differ: the path from a root, what is there, and how it
 /// differs.
 pub fn difference_line(
     alloc: Global,

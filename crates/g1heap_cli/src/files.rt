@@ -1,4 +1,4 @@
-//! Files that are named on the command line.
+//! Files on the command line.
 use crate::refusal::{closed, of_file};
 use g1_command::{Refusal, read_all};
 use g1_image::{FromReader, Image, read};
@@ -8,31 +8,31 @@ use std::fs;
 use std::io::{ErrorKind, Read};
 use std::rt::Files;
 
-/// The name that stands for standard input.
-pub const STANDARD_INPUT: &str = "-";
+/// The name that means standard input, or standard output.
+pub const STANDARD_STREAM: &str = "-";
 
-/// All bytes of a file, or of the reader where the name stands for standard input.
+/// All bytes of a file, or of the reader if the name means standard input.
 pub fn read_bytes<T: Files, R: Read>(
     rt: &T,
     alloc: Global,
     name: &str,
     reader: &mut R,
 ) -> Result<Vec<u8>, Refusal> {
-    if name == STANDARD_INPUT {
+    if name == STANDARD_STREAM {
         return named(alloc, name, read_all(alloc, reader));
     }
     let mut file = opened(rt, alloc, name)?;
     named(alloc, name, read_all(alloc, &mut file))
 }
 
-/// The image in a file, or that which the reader tells where the name stands for standard input.
+/// The image in a file, or that of the reader if the name means standard input.
 pub fn read_image<T: Files, R: Read>(
     rt: &T,
     alloc: Global,
     name: &str,
     reader: &mut R,
 ) -> Result<Image, Refusal> {
-    if name == STANDARD_INPUT {
+    if name == STANDARD_STREAM {
         return named(alloc, name, read(alloc, &mut FromReader::new(reader)));
     }
     let file = opened(rt, alloc, name)?;

@@ -1,15 +1,21 @@
 //! Two heaps compared, heaps printed and heaps made: what the program g1heap does.
 //!
-//! The words after the program's name are read into a request, then the files that it names, and the
-//! answer is built in memory and written at once. A refusal is told on standard error, and then
-//! nothing is on standard output, unless the refusal is that writing there failed.
+//! The words after the program's name are read into a request, then its files, and the
+//! answer is built in memory and written at once. A refusal is reported on standard error, and then
+//! nothing is on standard output, unless the refusal is that writing there failed. A file that is
+//! asked for by `-o` is whole or not there.
 #![tactic(auto)]
 
 mod commands;
 mod comparing;
 mod files;
 mod options;
+mod output;
 mod refusal;
+mod regions;
+mod summary;
+mod terminals;
 
 pub use commands::{compared, program};
 pub use options::{NAME, Same};
+pub use terminals::Terminals;

@@ -1,7 +1,9 @@
 //! The command line.
-use crate::files::STANDARD_INPUT;
+use crate::files::STANDARD_STREAM;
+use crate::output::Output;
+use crate::regions::{regions_in, tied};
 use clap::{Arg, ArgAction, ArgMatches, Command, Error};
-use g1_command::{Argument, Misuse, Refusal, explain, number, region, regions};
+use g1_command::{Argument, Misuse, Refusal, explain, number, region};
 use std::alloc::{AllocError, Global};
 
 /// The program's name.
@@ -10,14 +12,21 @@ pub const NAME: &str = "g1heap";
 /// What the words ask for.
 #[derive(Debug, Drop)]
 pub enum Request {
-    /// This text, which tells how the program is used.
+    /// This text, which says how the program is used.
     Help(String),
     /// Whether two images show the same graph.
     Same(Same),
     /// The lines of an image, or of a part of it.
-    Print { image: String, part: Part },
-    /// The image that lines tell.
-    Make { lines: String },
+    Print {
+        image: String,
+        part: Part,
+        output: Output,
+    },
+    /// The image that lines describe.
+    Make {
+        lines: String,
+        output: Output,
+    },
 }
 
 /// Two images to compare. At most one is standard input.
@@ -27,7 +36,7 @@ pub struct Same {
     pub after: String,
     /// Whether the references of the second are to be covered.
     pub covered: bool,
-    /// The regions of a pause that is to have kept all others; empty where nothing is asked of it.
+    /// The regions of a pause that is to have kept all others; empty if nothing is asked of it.
     pub set: Vec<u32>,
 }
 
@@ -38,6 +47,8 @@ pub enum Part {
     Region(u32),
     /// The object at an address.
     Object(u64),
+    /// Its numbers alone.
+    Summary,
 }
 
 // The options that take numbers, with the ranges that messages tell.
@@ -72,6 +83,7 @@ Statuses:
   5  a region of the set is not there, not ordinary, pinned, or named twice
   6  no memory, or a read or a write that failed
   7  a file that can't be opened
+  141  the reader of the answer went away
 
 Example: g1heap same BEFORE - < IMAGE";
 
@@ -81,9 +93,10 @@ Statuses:
   2  wrong words, or a region or an object that the image doesn't have
   3  the file is no image
   6  no memory, or a read or a write that failed
-  7  a file that can't be opened
+  7  a file that can't be opened or written
+  141  the reader of the answer went away
 
-Example: g1heap print - < IMAGE";
+Example: g1heap print < IMAGE";
 
 const AFTER_MAKE: &str = "\
 Statuses:
@@ -91,9 +104,9 @@ Statuses:
   2  wrong words
   3  a line is not as it has to be
   6  no memory, or a read or a write that failed
-  7  a file that can't be opened
+  7  a file that can't be opened or written
 
-Example: g1heap make < LINES > IMAGE";
+Example: g1heap make -o IMAGE < LINES";
 
 const AFTER_ALL: &str = "\
 Statuses:
@@ -104,9 +117,10 @@ Statuses:
   4  a slot is not covered
   5  a region of the set is not there, not ordinary, pinned, or named twice
   6  no memory, or a read or a write that failed
-  7  a file that can't be opened
+  7  a file that can't be opened or written
+  141  the reader of the answer went away
 
-Example: g1heap print - < IMAGE";
+Example: g1heap print < IMAGE";
 
 // A command: its name, and what its help says before and after its arguments.
 struct Usage {
@@ -138,14 +152,18 @@ static MAKE_USAGE: Usage = Usage {
 enum Form {
     /// By its place.
     File,
-    /// By its place, or not at all, which stands for standard input.
+    /// By its place, or not at all, which means standard input.
     FileOrNone,
     /// By its name alone.
     Flag,
     /// By its name and a value.
     Value,
-    /// By its name and a value, where the option `region` isn't.
+    /// By its name and a value, if the option `region` isn't.
     ValueWithoutRegion,
+    /// By its name alone, where no part is asked for.
+    FlagWithoutPart,
+    /// By its name, or by its first letter, and a value.
+    Output,
     /// By its name and one value or more.
     Values,
 }
@@ -180,17 +198,17 @@ static SAME_ROWS: [Row; 4] = [
     Row {
         id: "set",
         value: "REGION",
-        help: "Also asks that AFTER keeps all that a pause of these regions keeps",
+        help: "Also asks that AFTER keeps all that a pause of these regions keeps, as in 1,2,5-9",
         form: Form::Values,
     },
 ];
 
-static PRINT_ROWS: [Row; 3] = [
+static PRINT_ROWS: [Row; 5] = [
     Row {
         id: "image",
         value: "IMAGE",
         help: "An image, or - for standard input",
-        form: Form::File,
+        form: Form::FileOrNone,
     },
     Row {
         id: "region",
@@ -204,19 +222,40 @@ static PRINT_ROWS: [Row; 3] = [
         help: "Only the line of the object at this address",
         form: Form::ValueWithoutRegion,
     },
+    Row {
+        id: "summary",
+        value: "",
+        help: "Only how many regions, words, cards and roots there are",
+        form: Form::FlagWithoutPart,
+    },
+    OUTPUT_ROW,
 ];
 
-static MAKE_ROWS: [Row; 1] = [Row {
-    id: "lines",
-    value: "LINES",
-    help: "The lines, or - for standard input",
-    form: Form::FileOrNone,
-}];
+static MAKE_ROWS: [Row; 2] = [
+    Row {
+        id: "lines",
+        value: "LINES",
+        help: "The lines, or - for standard input",
+        form: Form::FileOrNone,
+    },
+    OUTPUT_ROW,
+];
+
+const OUTPUT_ROW: Row = Row {
+    id: "output",
+    value: "FILE",
+    help: "Writes this file, once the answer is whole, or - for standard output",
+    form: Form::Output,
+};
 
 fn argument<'a>(alloc: Global, row: &Row) -> Result<Arg<'a>, AllocError> {
     let argument = Arg::new(alloc, row.id).help(row.help);
     match row.form {
         Form::Flag => Ok(argument.long(row.id).action(ArgAction::SetTrue)),
+        Form::FlagWithoutPart => argument
+            .long(row.id)
+            .action(ArgAction::SetTrue)
+            .conflicts_with_all(&["region", "object"]),
         form => with_values(argument.value_name(row.value), row.id, form),
     }
 }
@@ -226,9 +265,10 @@ fn with_values<'a>(argument: Arg<'a>, id: &'a str, form: Form) -> Result<Arg<'a>
     let argument = argument.action(ArgAction::Set);
     match form {
         Form::File => Ok(argument.required(true)),
-        Form::FileOrNone => Ok(argument.default_value(STANDARD_INPUT)),
+        Form::FileOrNone => Ok(argument.default_value(STANDARD_STREAM)),
         Form::ValueWithoutRegion => argument.long(id).conflicts_with("region"),
         Form::Values => Ok(argument.long(id).num_args(1..).action(ArgAction::Append)),
+        Form::Output => Ok(argument.long(id).short('o')),
         _ => Ok(argument.long(id)),
     }
 }
@@ -286,6 +326,9 @@ fn with_command<'a>(
 }
 
 fn part_of(alloc: Global, values: &ArgMatches<'_>) -> Result<Part, Misuse> {
+    if values.get_flag("summary") {
+        return Ok(Part::Summary);
+    }
     if let Some(region) = region(alloc, values, &REGION)? {
         return Ok(Part::Region(region));
     }
@@ -296,15 +339,19 @@ fn part_of(alloc: Global, values: &ArgMatches<'_>) -> Result<Part, Misuse> {
 }
 
 fn name_in<'a>(values: &ArgMatches<'a>, id: &str) -> &'a str {
-    values.get_str(id).unwrap_or(STANDARD_INPUT)
+    values.get_str(id).unwrap_or(STANDARD_STREAM)
 }
 
 fn name_of(alloc: Global, values: &ArgMatches<'_>, id: &str) -> Result<String, AllocError> {
     String::from_str(alloc, name_in(values, id))
 }
 
+fn output_of(alloc: Global, values: &ArgMatches<'_>) -> Result<Output, AllocError> {
+    Output::named(alloc, values.get_str("output"))
+}
+
 fn same_of(alloc: Global, values: &ArgMatches<'_>) -> Result<Request, Misuse> {
-    if name_in(values, "before") == STANDARD_INPUT && name_in(values, "after") == STANDARD_INPUT {
+    if name_in(values, "before") == STANDARD_STREAM && name_in(values, "after") == STANDARD_STREAM {
         let message = "only one of the images can be standard input";
         return Err(Misuse::Value(String::from_str(alloc, message)?));
     }
@@ -312,7 +359,7 @@ fn same_of(alloc: Global, values: &ArgMatches<'_>) -> Result<Request, Misuse> {
         before: name_of(alloc, values, "before")?,
         after: name_of(alloc, values, "after")?,
         covered: values.get_flag("covered"),
-        set: regions(alloc, values, &SET)?,
+        set: regions_in(alloc, &SET, values.get_strs(SET.id).unwrap_or(&[]))?,
     }))
 }
 
@@ -323,9 +370,11 @@ fn request_of(alloc: Global, name: &str, values: &ArgMatches<'_>) -> Result<Requ
         "print" => Ok(Request::Print {
             image: name_of(alloc, values, "image")?,
             part: part_of(alloc, values)?,
+            output: output_of(alloc, values)?,
         }),
         _ => Ok(Request::Make {
             lines: name_of(alloc, values, "lines")?,
+            output: output_of(alloc, values)?,
         }),
     }
 }
@@ -336,7 +385,8 @@ fn matched<'a>(alloc: Global, words: &'a [String]) -> Result<ArgMatches<'a>, Err
 
 /// Reads the words after the program's name.
 pub fn parse(alloc: Global, words: &[String]) -> Result<Request, Refusal> {
-    match &matched(alloc, words) {
+    let words = tied(alloc, words)?;
+    match &matched(alloc, words.as_slice()) {
         Ok(matches) => asked(alloc, matches),
         Err(error) => help(alloc, error),
     }

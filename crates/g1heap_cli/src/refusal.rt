@@ -4,7 +4,7 @@ use g1_text::Expected;
 use g1_words::Fault;
 use std::alloc::{AllocError, Global};
 
-/// A fault of the file of this name. A want of memory is of no file.
+/// A fault of the file of this name. Running out of memory is of no file.
 pub fn of_file(alloc: Global, name: &str, fault: Fault) -> Refusal {
     if fault == Fault::Memory {
         return Refusal::Fault(fault);
@@ -19,6 +19,11 @@ pub fn of_file(alloc: Global, name: &str, fault: Fault) -> Refusal {
 /// A file that can't be opened.
 pub fn closed(alloc: Global, name: &str) -> Refusal {
     told(7, format!(in alloc; "g1heap: {name}: can't be opened\n"))
+}
+
+/// A file that can't be made, or can't get its name.
+pub fn unwritten(alloc: Global, name: &str) -> Refusal {
+    told(7, format!(in alloc; "g1heap: {name}: can't be written\n"))
 }
 
 /// A line of a file that is not what is expected there.

@@ -15,9 +15,9 @@ use std::io::{Read, Write};
 use std::thread::Threads;
 
 /// Runs the program on the words after its name, and gives its exit status: 0, or that of the
-/// refusal which is then told on `errors`. The reader is read to its end, but not before the words
-/// were found to be a request with numbers in their ranges; the writer is written last, and not at
-/// all where there is a refusal, unless it was the writer that failed.
+/// refusal which is then reported on `errors`. The reader is read to its end, but not before the
+/// words were found to be a request with numbers in their ranges; the writer is written last, and
+/// not at all if there is a refusal, unless it was the writer that failed.
 pub fn program<T: Threads + Sync, R: Read, W: Write, E: Write>(
     rt: &T,
     alloc: Global,

@@ -75,7 +75,7 @@ fn candidate_lines(
     let (taken, total) = bought(alloc, heap, dirty, remembered, live, parameters, budget)?;
     let order = order(alloc, heap, remembered, live, parameters)?;
     // What is chosen is the beginning of the order.
-    lines(alloc, &order, taken, total)
+    choice_lines(alloc, &order, taken, total)
 }
 
 // How many regions the budget buys, and what a pause costs that collects them.
@@ -143,7 +143,13 @@ fn costs_of(
     Ok(costs)
 }
 
-fn lines(alloc: Global, order: &[Candidate], taken: usize, total: u128) -> Result<Vec<u8>, Fault> {
+/// The lines of candidates in their order, of which the first so many are taken, and of the total.
+pub fn choice_lines(
+    alloc: Global,
+    order: &[Candidate],
+    taken: usize,
+    total: u128,
+) -> Result<Vec<u8>, Fault> {
     let mut text = String::new(alloc);
     for (place, candidate) in order.iter().enumerate() {
         let Candidate {

@@ -1,4 +1,5 @@
 //! The command line.
+use clap::error::ErrorKind;
 use clap::{Arg, ArgAction, ArgMatches, Command, Error};
 use g1_choose::Cost;
 use g1_command::{Argument, Misuse, Refusal, explain, number, regions};
@@ -10,7 +11,7 @@ pub const NAME: &str = "g1pause";
 /// What the words ask for. Numbers are whole, and may be out of their ranges.
 #[derive(Debug, Drop)]
 pub enum Request {
-    /// This text, which tells how the program is used.
+    /// This text, which says how the program is used.
     Help(String),
     /// Whether every reference of an image into another region is covered.
     Check,
@@ -42,7 +43,7 @@ pub enum Question {
     },
 }
 
-/// A pause that collects what a budget buys, or the regions that are named. Both may stand here.
+/// A pause that collects what a budget buys, or the regions that are given. Both may be here.
 #[derive(Debug, Drop)]
 pub struct Pause {
     pub sharing: Sharing,
@@ -107,7 +108,7 @@ static BUDGET: Argument = Argument {
 static REGIONS: Argument = Argument {
     id: "regions",
     shown: "[REGION]...",
-    range: "a region's number, below 4294967296",
+    range: "a region's number, below 4294967296; the image comes on standard input",
 };
 
 // A command's name, what it does, and what stands at the end of its help.
@@ -414,8 +415,32 @@ fn matched<'a>(alloc: Global, words: &'a [String]) -> Result<ArgMatches<'a>, Err
 pub fn parse(alloc: Global, words: &[String]) -> Result<Request, Refusal> {
     match matched(alloc, words) {
         Ok(matches) => request_in(alloc, &matches),
-        Err(error) => Ok(Request::Help(explain(alloc, &error)?)),
+        Err(error) => match explain(alloc, &error) {
+            Ok(text) => Ok(Request::Help(text)),
+            Err(refusal) => Err(with_hint(&error, refusal)?),
+        },
     }
+}
+
+// What clap says. A file is the argument that is given most often where there is none.
+fn with_hint(error: &Error, refusal: Refusal) -> Result<Refusal, AllocError> {
+    match refusal {
+        Refusal::Told { status, text } => {
+            let mut text = text;
+            if has_one_file_more(error, text.as_str()) {
+                text.push_str(FROM_INPUT)?;
+            }
+            Ok(Refusal::Told { status, text })
+        }
+        Refusal::Fault(fault) => Ok(Refusal::Fault(fault)),
+    }
+}
+
+const FROM_INPUT: &str = "\nThe input comes on standard input: write '< FILE' instead of 'FILE'.\n";
+
+// Whether an argument is too many that is no option.
+fn has_one_file_more(error: &Error, text: &str) -> bool {
+    error.kind() == ErrorKind::UnknownArgument && !text.starts_with("error: unexpected argument '-")
 }
 
 fn request_in(alloc: Global, matches: &ArgMatches<'_>) -> Result<Request, Refusal> {

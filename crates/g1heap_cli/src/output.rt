@@ -1,0 +1,111 @@
+//! Where an answer goes.
+use crate::files::STANDARD_STREAM;
+use crate::refusal::{of_file, unwritten};
+use g1_command::Refusal;
+use g1_words::{Device, Fault};
+use std::alloc::{AllocError, Global};
+use std::fs::{File, OpenOptions};
+use std::io::{ErrorKind, Write};
+use std::rt::Files;
+use std::{fs, io};
+
+/// Where an answer goes.
+#[derive(Debug, Drop)]
+pub enum Output {
+    /// To standard output, since nothing else is said.
+    Default,
+    /// To standard output, which is asked for.
+    Standard,
+    /// To the file of this name.
+    File(String),
+}
+
+impl Output {
+    /// The output that a name stands for, if one is given.
+    pub fn named(alloc: Global, name: Option<&str>) -> Result<Output, AllocError> {
+        match name {
+            None => Ok(Output::Default),
+            Some(STANDARD_STREAM) => Ok(Output::Standard),
+            Some(name) => Ok(Output::File(String::from_str(alloc, name)?)),
+        }
+    }
+}
+
+/// Writes an answer to a file. It is written beside the file, and gets the file's name when it is whole, so
+/// that no failure leaves a part of an answer or takes away what the file was before. What is no file, as a
+/// device or a pipe, is written where it is.
+pub fn write_file<T: Files>(
+    rt: &T,
+    alloc: Global,
+    name: &str,
+    answer: &[u8],
+) -> Result<(), Refusal> {
+    match fs::metadata(rt, name) {
+        Ok(found) if !found.is_file() => write_device(rt, alloc, name, answer),
+        _ => replace(rt, alloc, name, answer),
+    }
+}
+
+fn write_device<T: Files>(rt: &T, alloc: Global, name: &str, answer: &[u8]) -> Result<(), Refusal> {
+    let mut file = opened(alloc, name, OpenOptions::new().write(true).open(rt, name))?;
+    written(alloc, name, file.write_all(answer))
+}
+
+fn replace<T: Files>(rt: &T, alloc: Global, name: &str, answer: &[u8]) -> Result<(), Refusal> {
+    let beside = free_name(rt, alloc, name)?;
+    let done = write_beside(rt, alloc, name, beside.as_str(), answer);
+    if done.is_err() {
+        let _ = fs::remove_file(rt, beside.as_str());
+    }
+    done
+}
+
+fn write_beside<T: Files>(
+    rt: &T,
+    alloc: Global,
+    name: &str,
+    beside: &str,
+    answer: &[u8],
+) -> Result<(), Refusal> {
+    let mut file = opened(alloc, name, File::create(rt, beside))?;
+    written(alloc, name, file.write_all(answer))?;
+    opened(alloc, name, fs::rename(rt, beside, name))
+}
+
+// How many names are tried.
+const TRIED: u32 = 100;
+
+// A name beside the file's that no file has. The file of this name is made, so that nobody else takes it.
+fn free_name<T: Files>(rt: &T, alloc: Global, name: &str) -> Result<String, Refusal> {
+    for number in 1..TRIED {
+        let beside = format!(in alloc; "{name}.part{number}")?;
+        match File::create_new(rt, beside.as_str()) {
+            Ok(_) => return Ok(beside),
+            Err(error) if error.kind() == ErrorKind::AlreadyExists => (),
+            Err(error) => return Err(failed(alloc, name, &error)),
+        }
+    }
+    Err(unwritten(alloc, name))
+}
+
+fn failed(alloc: Global, name: &str, error: &io::Error) -> Refusal {
+    if error.kind() == ErrorKind::OutOfMemory {
+        return Fault::Memory.into();
+    }
+    unwritten(alloc, name)
+}
+
+// What was opened or renamed for the file of this name.
+fn opened<V: Drop>(alloc: Global, name: &str, done: io::Result<V>) -> Result<V, Refusal> {
+    match done {
+        Ok(value) => Ok(value),
+        Err(error) => Err(failed(alloc, name, &error)),
+    }
+}
+
+fn written(alloc: Global, name: &str, done: io::Result<()>) -> Result<(), Refusal> {
+    match done {
+        Ok(()) => Ok(()),
+        Err(_) => Err(of_file(alloc, name, Fault::Device(Device::Output))),
+    }
+}

@@ -1,0 +1,89 @@
+//! A heap in a few lines.
+use g1_image::Image;
+use g1_mark::live_bytes;
+use g1_rem::Starts;
+use g1_words::{Fault, Heap, Kind};
+use g1_work::Open;
+use std::alloc::{AllocError, Global};
+use std::thread::Threads;
+
+// The search for live objects is done by one thread.
+const WORKERS: u64 = 1;
+
+const CHUNK: u64 = 64;
+
+/// The heap's sizes, its regions by kind, its used, live and garbage words, its cards and its roots: a line
+/// each.
+pub fn summary<T: Threads + Sync>(rt: &T, alloc: Global, image: &Image) -> Result<String, Fault> {
+    let heap = image.heap();
+    let starts = Starts::build(alloc, heap)?;
+    let live = live_bytes(rt, alloc, heap, &starts, WORKERS, CHUNK, &Open)?;
+    Ok(lines(alloc, image, live.as_slice())?)
+}
+
+fn lines(alloc: Global, image: &Image, live: &[u64]) -> Result<String, AllocError> {
+    let heap = image.heap();
+    let geometry = heap.geometry();
+    let (w, k, n) = (
+        geometry.region_words(),
+        geometry.card_words(),
+        geometry.regions(),
+    );
+    let mut text = format!(in alloc; "heap {w} {k} {n}\n")?;
+    push_regions(&mut text, heap)?;
+    push_words(&mut text, heap, live)?;
+    let (remembered, dirty) = (remembered_cards(image), image.log().len());
+    let roots = heap.roots().len();
+    write!(
+        text,
+        "cards remembered {remembered} dirty {dirty}\nroots {roots}\n"
+    )?;
+    Ok(text)
+}
+
+const KINDS: [Kind; 4] = [
+    Kind::Free,
+    Kind::Ordinary,
+    Kind::HumongousFirst,
+    Kind::Continuation,
+];
+
+fn push_regions(text: &mut String, heap: &Heap) -> Result<(), AllocError> {
+    text.push_str("regions")?;
+    for kind in KINDS {
+        let count = heap
+            .regions()
+            .iter()
+            .filter(|region| region.kind == kind)
+            .count();
+        write!(text, " {kind} {count}")?;
+    }
+    let pinned = heap.regions().iter().filter(|region| region.pinned).count();
+    write!(text, " pinned {pinned}\n")
+}
+
+// The words below the tops of all regions, those of the objects that the roots reach, and the others.
+fn push_words(text: &mut String, heap: &Heap, live: &[u64]) -> Result<(), AllocError> {
+    let mut used = 0u64;
+    for region in heap.regions() {
+        used = used.saturating_add(u64::from(region.top));
+    }
+    let mut bytes = 0u64;
+    for region_bytes in live {
+        bytes = bytes.saturating_add(*region_bytes);
+    }
+    let live = bytes / 8;
+    let garbage = used.saturating_sub(live);
+    write!(
+        text,
+        "used {used} words\nlive {live} words\ngarbage {garbage} words\n"
+    )
+}
+
+fn remembered_cards(image: &Image) -> u64 {
+    let mut cards = 0u64;
+    for set in image.remembered() {
+        cards = cards.saturating_add(set.len() as u64);
+    }
+    cards
+}
