@@ -133,12 +133,12 @@ impl Write for Calls {
     }
 }
 
-// The fault is told as this line, in one write, and has this status.
-fn expect_one_write<T: Abort>(rt: &T, alloc: Global, fault: Fault, line: &str, wanted: u8) {
+// The refusal is told as this text, in one write, and has this status.
+fn expect_one_write<T: Abort>(rt: &T, alloc: Global, refusal: &Refusal, line: &str, wanted: u8) {
     let text = Vec::new(alloc);
     let mut errors = Calls { count: 0, text };
-    let ended = refuse("the_name", &Refusal::Fault(fault), &mut errors);
-    assert!(rt; status(&fault) == wanted && errors.count == 1, "{line}");
+    let ended = refuse("the_name", refusal, &mut errors);
+    assert_eq!(rt; errors.count, 1, "{line}");
     let found = (ended, b"".as_slice(), errors.text.as_slice());
     expect_told(rt, line, b"", found, (wanted, b"", line.as_bytes()));
 }
@@ -194,6 +194,12 @@ fn faults() -> &'static [(Fault, &'static str, u8)] {
             6,
         ),
         (Fault::Line(9), "the_name: fault 15: line 9\n", 2),
+        (Fault::Line(65_536), "the_name: fault 15: line 65536\n", 2),
+        (
+            Fault::Line(u64::MAX),
+            "the_name: fault 15: line 18446744073709551615\n",
+            2,
+        ),
         (
             Fault::Flags(9),
             "the_name: fault 16: flags of region 9\n",
@@ -203,10 +209,15 @@ fn faults() -> &'static [(Fault, &'static str, u8)] {
 }
 
 #[test]
-fn a_fault_is_one_write(rt: HostRuntime) {
+fn a_refusal_is_one_write(rt: HostRuntime) -> Result<(), AllocError> {
     for (fault, line, wanted) in faults() {
-        expect_one_write(&rt, rt.alloc(), *fault, line, *wanted);
+        assert_eq!(rt; status(fault), *wanted, "{line}");
+        expect_one_write(&rt, rt.alloc(), &Refusal::Fault(*fault), line, *wanted);
     }
+    let text = "error: what is wrong\n\nUsage: how it is used\n";
+    let usage = Refusal::usage(String::from_str(rt.alloc(), text)?);
+    expect_one_write(&rt, rt.alloc(), &usage, text, 2);
+    Ok(())
 }
 
 fn expect_numbers<T: Abort>(rt: &T, rows: &[(&str, Option<u64>)]) {
@@ -304,12 +315,20 @@ fn a_word_that_is_not_text_is_shown(rt: HostRuntime) {
 #[test]
 fn words_may_be_long_or_empty(rt: HostRuntime) -> Result<(), Refusal> {
     let called = Called {
-        words: &[b"\xff", b"show", b"\xc3\xa9", b"", &[b'x'; 300]],
+        words: &[
+            b"\xff",
+            b"show",
+            b"\xc3\xa9",
+            b"",
+            &[b'x'; 300],
+            &[b'x'; 70_000],
+        ],
     };
     let words = words(&called, rt.alloc())?;
-    assert!(rt; words.len() == 4);
+    assert!(rt; words.len() == 5);
     assert_eq!(rt; words[1].as_str(), "\u{e9}");
     assert_eq!(rt; words[2].as_str(), "");
     assert_eq!(rt; words[3].len(), 300);
+    assert_eq!(rt; words[4].len(), 70_000);
     Ok(())
 }

@@ -1,8 +1,9 @@
 use crate::told::{Told, expect_end, expect_told, expect_usage, words_of};
+use g1_command::refuse;
 use g1_image::{Image, decode};
 use g1_testing::{Stream, Trouble};
 use g1_text::make;
-use g1heap_cli::{Same, compared, program};
+use g1heap_cli::{Same, Terminals, compared, program};
 use std::alloc::{AllocError, Global};
 use std::io::{Read, Write};
 use std::process::Abort;
@@ -11,7 +12,7 @@ use std::test::Fail;
 use std::thread::Threads;
 
 // One object in the second of four regions, named by the one root, byte by byte.
-const ONE_OBJECT: &[u8] = b"G1IMAGE2\
+pub(crate) const ONE_OBJECT: &[u8] = b"G1IMAGE2\
     \x10\0\0\0\x04\0\0\0\x04\0\0\0\x01\0\0\0\0\0\0\0\x04\0\0\0\
     \0\0\0\0\0\0\0\0\0\0\0\0\x01\0\0\0\x04\0\0\0\0\0\0\0\
     \0\0\0\0\0\0\0\0\0\0\0\0\0\0\0\0\0\0\0\0\0\0\0\0\
@@ -19,13 +20,18 @@ const ONE_OBJECT: &[u8] = b"G1IMAGE2\
     \0\0\0\0\0\0\0\0\0\0\0\0\0\0\0\0\
     \x01\0\0\0\x04\0\0\0\0\0\0\0\0\0\0\0\x07\0\0\0\0\0\0\0\x09\0\0\0\0\0\0\0";
 
-const ONE_OBJECT_LINES: &str = "heap 16 4 4 roots 1 dirty 0 current none\n\
+pub(crate) const ONE_OBJECT_LINES: &str = "heap 16 4 4 roots 1 dirty 0 current none\n\
     root 0 16\n\
     region 0 free top 0 objects 0 cards 0\n\
     region 1 ordinary top 4 objects 1 cards 0\n\
     object 16 4/1 - 7 9\n\
     region 2 free top 0 objects 0 cards 0\n\
     region 3 free top 0 objects 0 cards 0\n";
+
+const PIPES: Terminals = Terminals {
+    input: false,
+    output: false,
+};
 
 // Runs the program on the words of a line, and gives its status and what it wrote to standard error.
 fn run<R: Read, W: Write>(
@@ -37,7 +43,15 @@ fn run<R: Read, W: Write>(
 ) -> Result<(u8, Vec<u8>), AllocError> {
     let words = words_of(alloc, line)?;
     let mut errors = Vec::new(alloc);
-    let status = program(rt, alloc, words.as_slice(), reader, writer, &mut errors);
+    let status = program(
+        rt,
+        alloc,
+        words.as_slice(),
+        PIPES,
+        reader,
+        writer,
+        &mut errors,
+    );
     Ok((status, errors))
 }
 
@@ -53,7 +67,7 @@ fn outcome<R: Read>(
     Ok((status, out, errors))
 }
 
-fn expect<T: Threads + Abort + Sync + Files>(
+pub(crate) fn expect<T: Threads + Abort + Sync + Files>(
     rt: &T,
     alloc: Global,
     line: &str,
@@ -68,7 +82,7 @@ fn expect<T: Threads + Abort + Sync + Files>(
 }
 
 // Lines, and what each answers to an input.
-fn expect_answers<T: Threads + Abort + Sync + Files>(
+pub(crate) fn expect_answers<T: Threads + Abort + Sync + Files>(
     rt: &T,
     alloc: Global,
     rows: &[(&str, &[u8], &[u8])],
@@ -117,188 +131,17 @@ fn prints_an_image(rt: HostRuntime) -> Result<(), AllocError> {
                 "g1heap: -: no object starts at 17\n",
             ),
             (
+                "print - --object 4294967312",
+                ONE_OBJECT,
+                2,
+                "g1heap: -: no object starts at 4294967312\n",
+            ),
+            (
                 "print - --region 4",
                 ONE_OBJECT,
                 2,
                 "g1heap: -: no region 4\n",
             ),
-        ],
-    )
-}
-
-#[test]
-fn makes_an_image(rt: HostRuntime) -> Result<(), AllocError> {
-    expect_answers(
-        &rt,
-        rt.alloc(),
-        &[
-            ("make", ONE_OBJECT_LINES.as_bytes(), ONE_OBJECT),
-            (
-                "make",
-                b"heap 16 4 4\nroot 16\nregion 1 ordinary\nobject 4/1 - 7 9",
-                ONE_OBJECT,
-            ),
-            (
-                "make",
-                b"# by hand\n\nheap 16 4 4\ncovered\n  region 1 ordinary top 4\nobject 4/1 - 7 9\nroot 0 16\n",
-                ONE_OBJECT,
-            ),
-        ],
-    )
-}
-
-// Lines that make no image, and what is told of them.
-fn expect_wrong<T: Threads + Abort + Sync + Files>(
-    rt: &T,
-    alloc: Global,
-    line: &str,
-    rows: &[(&[u8], &str)],
-) -> Result<(), AllocError> {
-    for (lines, told) in rows {
-        expect(rt, alloc, line, lines, (3, b"", told.as_bytes()))?;
-    }
-    Ok(())
-}
-
-#[test]
-fn tells_a_wrong_line(rt: HostRuntime) -> Result<(), AllocError> {
-    expect_wrong(
-        &rt,
-        rt.alloc(),
-        "make -",
-        &[
-            (
-                b"heap 16 4 4\nheap 16 4 4\n",
-                "g1heap: -: line 2: expected 'root', 'dirty', 'covered', 'region', 'remembered' or 'object'\n",
-            ),
-            (
-                b"heap 16 4 4\nroot 0 x\n",
-                "g1heap: -: line 2: expected '-' or an address\n",
-            ),
-            (
-                b"heap 16 4 4\nroot 1 -\n",
-                "g1heap: -: line 2: expected root 0\n",
-            ),
-            (
-                b"heap 16 4 4\nroot 16\n",
-                "g1heap: -: line 2: expected '-' or the address of an object\n",
-            ),
-            (
-                b"heap 16 4 4\nregion 4 free\n",
-                "g1heap: -: line 2: expected a region from 0 to 3\n",
-            ),
-            (
-                b"heap 16 4 4\nregion 1 free\nregion 1 free\n",
-                "g1heap: -: line 3: expected a region from 2 to 3\n",
-            ),
-            (
-                b"heap 16 4 4\nregion full\n",
-                "g1heap: -: line 2: expected 'free', 'ordinary', 'humongous' or 'continuation'\n",
-            ),
-            (
-                b"heap 16 4 4\nregion continuation\n",
-                "g1heap: -: line 2: expected no continuation where no humongous object goes on\n",
-            ),
-            (
-                b"heap 16 4 4\nregion ordinary\n",
-                "g1heap: -: line 2: expected an object in this region\n",
-            ),
-            (
-                b"heap 16 4 4\nregion ordinary top 3\nobject 4/0 1 2 3\n",
-                "g1heap: -: line 2: expected top 4\n",
-            ),
-            (
-                b"heap 16 4 4\nregion ordinary objects 2\nobject 1/0\n",
-                "g1heap: -: line 2: expected objects 1\n",
-            ),
-            (
-                b"heap 16 4 4\nregion ordinary cards 1\nobject 1/0\n",
-                "g1heap: -: line 2: expected cards 0\n",
-            ),
-            (
-                b"heap 16 4 4\nobject 1/0\n",
-                "g1heap: -: line 2: expected no object here: the region above takes none, or no further one\n",
-            ),
-            (
-                b"heap 16 4 4\nregion ordinary\nobject 1/1\n",
-                "g1heap: -: line 3: expected SIZE/SLOTS, at least one word and fewer slots than words\n",
-            ),
-            (
-                b"heap 16 4 4\nregion ordinary\nobject 13/0 ..\n",
-                "g1heap: -: line 3: expected an object of at most 12 words\n",
-            ),
-            (
-                b"heap 16 4 4\nregion humongous\nobject 12/0 ..\n",
-                "g1heap: -: line 3: expected an object of at least 13 words\n",
-            ),
-            (
-                b"heap 16 4 4\nregion 3 humongous\nobject 17/0 ..\n",
-                "g1heap: -: line 3: expected an object of at most 16 words\n",
-            ),
-            (
-                b"heap 16 4 4\nregion ordinary\nobject 1 1/0\n",
-                "g1heap: -: line 3: expected object 0\n",
-            ),
-            (
-                b"heap 16 4 4\nregion ordinary\nobject 3/1 - 5 6\n",
-                "g1heap: -: line 3: expected 1 slots and 1 data words\n",
-            ),
-            (
-                b"heap 16 4 4\nregion ordinary\nobject 3/1 -\n",
-                "g1heap: -: line 3: expected 1 slots and 1 data words\n",
-            ),
-            (
-                b"heap 16 4 4\nregion ordinary\nobject 2/0 -\n",
-                "g1heap: -: line 3: expected a whole number as data word\n",
-            ),
-            (
-                b"heap 16 4 4\nregion ordinary\nobject 3/2 0 1\n",
-                "g1heap: -: line 3: expected '-' or the address of an object in slot 1\n",
-            ),
-            (
-                b"heap 16 4 4\ndirty cards 16\n",
-                "g1heap: -: line 2: expected cards of regions in use, each once\n",
-            ),
-            (
-                b"heap 16 4 4\nregion ordinary\nobject 1/0\nremembered 0 cards 0\n",
-                "g1heap: -: line 4: expected rising cards of other regions in use\n",
-            ),
-            (
-                b"heap 16 4 4\nremembered 1 cards 0\ncovered\n",
-                "g1heap: -: line 2: expected no remembered cards beside 'covered'\n",
-            ),
-            (
-                b"heap 16 4 4\ncovered 1\n",
-                "g1heap: -: line 2: expected the end of the line\n",
-            ),
-            (
-                b"heap 16 4 4\ndirty 1\n",
-                "g1heap: -: line 2: expected 'cards'\n",
-            ),
-        ],
-    )
-}
-
-#[test]
-fn tells_a_wrong_text(rt: HostRuntime) -> Result<(), AllocError> {
-    expect_wrong(
-        &rt,
-        rt.alloc(),
-        "make",
-        &[
-            (
-                b"heap 24 4 4",
-                "g1heap: -: line 1: expected the sizes of a heap, and a current region of it\n",
-            ),
-            (
-                b"heap 16 4 4 current 0",
-                "g1heap: -: line 1: expected an ordinary region as the current one\n",
-            ),
-            (
-                b"",
-                "g1heap: -: line 1: expected 'heap W K N' before all other lines\n",
-            ),
-            (b"heap 16 4 4\n\xff", "g1heap: -: line 2: expected text\n"),
         ],
     )
 }
@@ -319,6 +162,19 @@ const TWO: &str =
 // A dead object that names one, and the same with that one moved out of region 1.
 const DEAD_OWNER: &str =
     "heap 16 4 4\nregion ordinary\nobject 2/1 16\nregion ordinary\nobject 3/0 1 2";
+
+// The same, with region 0 pinned: before, and when region 1 was collected.
+const PINNED_OWNER: &str =
+    "heap 16 4 4\nregion ordinary pinned\nobject 2/1 16\nregion ordinary\nobject 3/0 1 2";
+
+const PINNED_OWNER_AFTER: &str =
+    "heap 16 4 4\nregion ordinary pinned\nobject 2/1 32\nregion 2 ordinary\nobject 3/0 1 2";
+
+const DEAD_OWNER_AFTER: &str =
+    "heap 16 4 4\nregion ordinary\nobject 2/1 32\nregion 2 ordinary\nobject 3/0 1 2";
+
+// An object of more than 2^16 words.
+const LARGE: &str = "heap 65536 64 2\nroot 0\nregion humongous\nobject 65537/0 ..";
 
 fn image_of(alloc: Global, lines: &str) -> Result<Image, Fail> {
     let bytes = make(alloc, lines.as_bytes())?;
@@ -421,6 +277,7 @@ fn tells_the_first_difference(rt: HostRuntime) -> Result<(), Fail> {
                 "differ data at root 0: object 16 before, object 1 after; data word 1 is 2 before, 9 after\n",
             ),
             (ONE, DEAD_OWNER, "differ roots: 2 before, 0 after\n"),
+            (LARGE, LARGE, "same objects 1 words 65537\n"),
         ],
     )
 }
@@ -438,6 +295,11 @@ fn a_set_is_free_after_a_pause(rt: HostRuntime) -> Result<(), Fail> {
                 PAIR,
                 "differ region 1: in the set, and not free after\n",
             ),
+            (
+                DEAD_OWNER,
+                "heap 16 4 4\nregion ordinary\nobject 2/1 32\nregion ordinary\nobject 1/0\nregion ordinary\nobject 3/0 1 2",
+                "differ region 1: in the set, and not free after\n",
+            ),
         ],
     )
 }
@@ -452,8 +314,23 @@ fn tells_what_a_pause_would_keep(rt: HostRuntime) -> Result<(), Fail> {
         &[
             (
                 DEAD_OWNER,
-                "heap 16 4 4\nregion ordinary\nobject 2/1 32\nregion 2 ordinary\nobject 3/0 1 2",
+                DEAD_OWNER_AFTER,
                 "same objects 0 words 0\nkept\n",
+            ),
+            (
+                PINNED_OWNER,
+                PINNED_OWNER_AFTER,
+                "same objects 0 words 0\nkept\n",
+            ),
+            (
+                PINNED_OWNER,
+                DEAD_OWNER_AFTER,
+                "differ region 0: outside the set, pinned before and not after\n",
+            ),
+            (
+                DEAD_OWNER,
+                PINNED_OWNER_AFTER,
+                "differ region 0: outside the set, pinned after and not before\n",
             ),
             (
                 DEAD_OWNER,
@@ -468,7 +345,27 @@ fn tells_what_a_pause_would_keep(rt: HostRuntime) -> Result<(), Fail> {
             (
                 DEAD_OWNER,
                 "heap 16 4 4\nregion ordinary\nobject 2/1 -\nregion 2 ordinary\nobject 3/0 1 2",
-                "differ object 0: slot 0 in 0 after names another object, or none\n",
+                "differ object 0: slot 0 in 0 after references another object, or none\n",
+            ),
+            (
+                "heap 16 4 4\nregion ordinary\nobject 3/2 - 16\nregion ordinary\nobject 3/0 1 2",
+                "heap 16 4 4\nregion ordinary\nobject 3/2 - -\nregion 2 ordinary\nobject 3/0 1 2",
+                "differ object 0: slot 1 in 0 after references another object, or none\n",
+            ),
+            (
+                "heap 16 4 4\nroot -\nroot 0\nregion ordinary\nobject 1/0\nregion ordinary\nobject 3/0 1 2",
+                "heap 16 4 4\nroot -\nroot 32\nregion ordinary\nobject 1/0\nregion 2 ordinary\nobject 1/0",
+                "differ root 1: another object after, or none\n",
+            ),
+            (
+                "heap 16 4 4\nroot 16\nregion 1 ordinary\nobject 3/0 1 2\nregion ordinary\nobject 3/0 1 2",
+                "heap 16 4 4\nroot 32\nregion 2 ordinary\nobject 3/0 1 2",
+                "differ object 16: 32 after is in a region that was not free\n",
+            ),
+            (
+                "heap 16 4 4\nregion ordinary\nobject 2/1 16\nregion ordinary\nobject 3/0 1 2\nregion ordinary\nobject 3/0 1 2",
+                DEAD_OWNER_AFTER,
+                "differ object 16: 32 after is in a region that was not free\n",
             ),
             (
                 DEAD_OWNER,
@@ -477,6 +374,22 @@ fn tells_what_a_pause_would_keep(rt: HostRuntime) -> Result<(), Fail> {
             ),
         ],
     )
+}
+
+// A set that no pause of the heap before has is a fault of that file.
+#[test]
+fn a_wrong_set_is_of_the_file_before(rt: HostRuntime) -> Result<(), Fail> {
+    let alloc = rt.alloc();
+    let (old, new) = (image_of(alloc, PAIR)?, image_of(alloc, PAIR_MOVED)?);
+    let mut errors = Vec::new(alloc);
+    let status = match compared(alloc, &asked(alloc, &[2])?, &old, &new) {
+        Ok(_) => 0,
+        Err(refusal) => refuse("g1heap", &refusal, &mut errors),
+    };
+    let found = (status, b"".as_slice(), errors.as_slice());
+    let told = b"g1heap: before: fault 10: set region 2\n".as_slice();
+    expect_told(&rt, "same", b"", found, (5, b"", told));
+    Ok(())
 }
 
 // Each call of the reader fails.
@@ -539,13 +452,14 @@ fn usage_faults_come_before_the_input(rt: HostRuntime) -> Result<(), AllocError>
             "same",
             "same a",
             "same - -",
+            "same - - --covered",
+            "same --set 1 --covered -- - -",
             "same a b c",
             "same a b --set",
             "same a b --set +1",
             "same a b --set 1 x",
             "same a b --set 4294967296",
             "same a b --covered=1",
-            "print",
             "print - --region x",
             "print - --region 1 --object 16",
             "print - --object 18446744073709551616",
@@ -567,7 +481,7 @@ fn a_wrong_value_is_told_with_its_range(rt: HostRuntime) -> Result<(), AllocErro
         rt.alloc(),
         &[
             (
-                "same a b --set 1 x",
+                "same a b --set x",
                 b"",
                 2,
                 "error: invalid value 'x' for '--set <REGION>...': not a whole number (a region's number, below 4294967296)\n\n\
@@ -585,14 +499,14 @@ fn a_wrong_value_is_told_with_its_range(rt: HostRuntime) -> Result<(), AllocErro
                 b"",
                 2,
                 "error: invalid value '4294967296' for '--region <R>': not a whole number (a region's number, below 4294967296)\n\n\
-                Usage: g1heap print [OPTIONS] <IMAGE>\n\nFor more information, try 'g1heap print --help'.\n",
+                Usage: g1heap print [OPTIONS] [IMAGE]\n\nFor more information, try 'g1heap print --help'.\n",
             ),
             (
                 "print - --object +1",
                 b"",
                 2,
                 "error: invalid value '+1' for '--object <A>': not a whole number (an address, below 18446744073709551616)\n\n\
-                Usage: g1heap print [OPTIONS] <IMAGE>\n\nFor more information, try 'g1heap print --help'.\n",
+                Usage: g1heap print [OPTIONS] [IMAGE]\n\nFor more information, try 'g1heap print --help'.\n",
             ),
         ],
     )
@@ -601,22 +515,23 @@ fn a_wrong_value_is_told_with_its_range(rt: HostRuntime) -> Result<(), AllocErro
 const MAKE_HELP: &str = "\
 Writes the image that lines tell
 
-Usage: g1heap make [LINES]
+Usage: g1heap make [OPTIONS] [LINES]
 
 Arguments:
   [LINES]  The lines, or - for standard input [default: -]
 
 Options:
-  -h, --help  Print help
+  -o, --output <FILE>  Writes this file, once the answer is whole, or - for standard output
+  -h, --help           Print help
 
 Statuses:
   0  done
   2  wrong words
   3  a line is not as it has to be
   6  no memory, or a read or a write that failed
-  7  a file that can't be opened
+  7  a file that can't be opened or written
 
-Example: g1heap make < LINES > IMAGE
+Example: g1heap make -o IMAGE < LINES
 ";
 
 #[test]
@@ -651,15 +566,15 @@ fn help_ends_with_statuses_and_an_example(rt: HostRuntime) -> Result<(), AllocEr
         &[
             (
                 "--help",
-                "\n  7  a file that can't be opened\n\nExample: g1heap print - < IMAGE\n",
+                "\n  7  a file that can't be opened or written\n  141  the reader of the answer went away\n\nExample: g1heap print < IMAGE\n",
             ),
             (
                 "same --help",
-                "\n  7  a file that can't be opened\n\nExample: g1heap same BEFORE - < IMAGE\n",
+                "\n  7  a file that can't be opened\n  141  the reader of the answer went away\n\nExample: g1heap same BEFORE - < IMAGE\n",
             ),
             (
                 "print --help",
-                "\n  7  a file that can't be opened\n\nExample: g1heap print - < IMAGE\n",
+                "\n  7  a file that can't be opened or written\n  141  the reader of the answer went away\n\nExample: g1heap print < IMAGE\n",
             ),
         ],
     )

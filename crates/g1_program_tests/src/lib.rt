@@ -9,6 +9,9 @@
 //! - `words`: how the words of g1pause become a request, and what is told of wrong ones.
 //! - `pins`: pinned regions and the current one.
 //! - `heap`: what g1heap answers.
+//! - `lines`: what g1heap makes of lines.
+//! - `limits`: numbers of the command line at the ends of their ranges, and a total beyond 64 bits.
+//! - `conventions`: where g1heap writes, what it says to a person at a terminal, and where options may be.
 //!
 //! Most tests are tables, whose rows are the words of a line, the bytes of an input, and what is told of
 //! them. `told` compares what is told, and `images` has the images that rows name.
@@ -17,9 +20,15 @@
 #[cfg(test)]
 mod command;
 #[cfg(test)]
+mod conventions;
+#[cfg(test)]
 mod heap;
 #[cfg(test)]
 mod images;
+#[cfg(test)]
+mod limits;
+#[cfg(test)]
+mod lines;
 #[cfg(test)]
 mod pause;
 #[cfg(test)]

@@ -162,6 +162,7 @@ static TABLES: &[(&str, Text, Text)] = &[
         First(ONE_OBJECT),
         Plain(ONE_OBJECT_TABLE),
     ),
+    ("show --chunk 3", First(ONE_OBJECT), Plain(ONE_OBJECT_TABLE)),
     ("show", First(DIRTY), Plain(DIRTY_TABLE)),
     (
         "show --workers 3 --chunk 1",

@@ -48,7 +48,7 @@ fn a_wrong_value_is_told_with_its_range(rt: HostRuntime) -> Result<(), AllocErro
             ),
             (
                 "pause 1 4294967296",
-                "error: invalid value '4294967296' for '[REGION]...': not a whole number (a region's number, below 4294967296)\n\n\
+                "error: invalid value '4294967296' for '[REGION]...': not a whole number (a region's number, below 4294967296; the image comes on standard input)\n\n\
                 Usage: g1pause pause [OPTIONS] [REGION]...\n\nFor more information, try 'g1pause pause --help'.\n",
             ),
         ],

@@ -1,6 +1,6 @@
 //! Images out of bytes, and back.
 use crate::watch::{Watch, text_of};
-use g1_image::{FromReader, Image, ToWriter, decode, encode_into, read};
+use g1_image::{FromReader, Image, ToWriter, decode, read};
 use g1_rem::{Tracked, image, merged, verify};
 use g1_words::{Fault, Heap, objects_in};
 use std::alloc::Global;
@@ -88,23 +88,15 @@ pub fn tracked<R: Threads + Sync>(rt: &R, alloc: Global, bytes: &[u8]) -> Result
     }
 }
 
-/// The image as bytes, in a list of its own, in one that is there, and from a sink.
+/// The image as bytes, in a list and from a sink.
 fn written(alloc: Global, read: &Image, watch: &mut Watch) -> Result<(), Fault> {
     encoded(alloc, read, watch)?;
-    encoded_into(alloc, read, watch)?;
     sunk(alloc, read, watch)
 }
 
 fn encoded(alloc: Global, read: &Image, watch: &mut Watch) -> Result<(), Fault> {
     watch.at("encode");
     let text = text_of(alloc, read)?;
-    watch.bytes(text.as_slice());
-    Ok(())
-}
-
-fn encoded_into(alloc: Global, read: &Image, watch: &mut Watch) -> Result<(), Fault> {
-    watch.at("encode_into");
-    let text = written_into(Vec::new(alloc), read)?;
     watch.bytes(text.as_slice());
     Ok(())
 }
@@ -122,14 +114,6 @@ fn sent(alloc: Global, read: &Image, room: Vec<u8>) -> Result<Vec<u8>, Fault> {
     let mut sink = ToWriter::new(room);
     g1_image::write(alloc, read, &mut sink)?;
     Ok(sink.into_inner())
-}
-
-/// The list, with the image's bytes in the place of its own. What `encode_into` promises is not needed
-/// here.
-fn written_into(list: Vec<u8>, read: &Image) -> Result<Vec<u8>, Fault> {
-    let mut list = list;
-    encode_into(&mut list, read)?;
-    Ok(list)
 }
 
 /// The starts of the objects of each region.

@@ -18,6 +18,9 @@
 //!   from stream to stream.
 //! - `trace`: replies of whole traces, and which line of a bad one is told.
 //! - `same`: which difference of two heaps is told.
+//! - `steps`: calls that a pause makes or does without, each by itself.
+//! - `sizes`: calls at sizes at which none may give up for memory.
+//! - `crowds`: up to 64 workers at the same time, in a gate that they leave together (`crowd`).
 //!
 //! Images are drawn as lines by `g1_testing`. Workers that work at the same time look for one another
 //! in a gate, here as in `g1_shown`.
@@ -29,6 +32,10 @@ mod choose;
 mod claim;
 #[cfg(test)]
 mod copy;
+#[cfg(test)]
+mod crowd;
+#[cfg(test)]
+mod crowds;
 #[cfg(test)]
 mod expecting;
 #[cfg(test)]
@@ -49,6 +56,10 @@ mod regions;
 mod rem;
 #[cfg(test)]
 mod same;
+#[cfg(test)]
+mod sizes;
+#[cfg(test)]
+mod steps;
 #[cfg(test)]
 mod trace;
 #[cfg(test)]

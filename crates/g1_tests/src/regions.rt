@@ -103,3 +103,48 @@ fn together(rt: HostRuntime) {
     }
     expect_equal(&rt, words, [0, 0, 0, 0, 1, 1, 1, 1]);
 }
+
+// Which runs the gate was told of.
+#[derive(Drop)]
+struct Noting {
+    told: AtomicU64,
+}
+
+impl Gate for Noting {
+    fn at(&self, _part: Part, number: u64) {
+        if number < 64 {
+            self.told.fetch_or(1 << number, Ordering::SeqCst);
+        }
+    }
+}
+
+// Writes over a region's words which runs the gate was told of before.
+#[derive(Drop)]
+struct Told<'a> {
+    gate: &'a Noting,
+}
+
+impl<'a> Fill for Told<'a> {
+    ghost ready = { λ _ _ _. Unit {0} };
+
+    ghost fills = { λ _ _ _ _. Unit {0} };
+
+    fn fill(&self, _region: usize, words: &mut [u64]) {
+        words.fill(self.gate.told.load(Ordering::SeqCst));
+    }
+}
+
+#[test]
+fn the_gate_is_told_before_a_run_is_filled(rt: HostRuntime) {
+    for workers in [1, 2, 4, 8, 64] {
+        let gate = Noting {
+            told: AtomicU64::new(0),
+        };
+        let mut words = [0; 8];
+        each_region_mut(&rt, workers, &mut words, 1, &Told { gate: &gate }, &gate);
+        for (region, told) in words.iter().enumerate() {
+            let run = region as u64 * workers.min(8) / 8;
+            expect_equal(&rt, told >> run & 1, 1);
+        }
+    }
+}
