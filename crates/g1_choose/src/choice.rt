@@ -92,7 +92,7 @@ pub fn order(
     Ok(candidates)
 }
 
-/// The regions of the longest beginning that the budget pays, where this much is spent in any case.
+/// The regions of the longest beginning that the budget pays, if this much is spent in any case.
 fn affordable(
     alloc: Global,
     order: &[Candidate],
@@ -115,7 +115,7 @@ fn affordable(
 }
 
 /// The collection set that the budget pays, rising: the longest beginning of the order whose total is
-/// at most the budget. It is empty where not even the pause alone is within the budget.
+/// at most the budget. It is empty if not even the pause alone is within the budget.
 ///
 /// # Errors
 ///

@@ -22,7 +22,7 @@ pub fn bought()
     ensures only_candidates { OnlyCandidates }
 {}
 
-/// A list that is named is accepted, or has one first bad place.
+/// A list that a caller gives is accepted, or has one first bad place.
 pub fn accepted_or_bad()
     ensures either { AcceptedOrBad }
     ensures not_both { AcceptedNotBad }

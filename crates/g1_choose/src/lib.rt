@@ -1,15 +1,15 @@
 //! Which regions a pause collects: those that give most garbage for their cost, as far as a budget
 //! goes (Detlefs, Flood, Heller, Printezis, "Garbage-First Garbage Collection", 2004).
 //!
-//! 1. `cost` tells what collecting one region costs: so much for each card of its remembered set,
+//! 1. `cost` is the cost of collecting one region: a price for each card of its remembered set,
 //!    and so much for each byte that is still live in it. `total` adds what the pause costs in any
 //!    case, and so much for each dirty card.
 //! 2. `order` lists the candidates, the ordinary regions with garbage that aren't pinned, by
 //!    efficiency: garbage for the cost. Two candidates are compared by products, never by a quotient
-//!    that is rounded; where they are equal, the lower region comes first.
+//!    that is rounded; if they are equal, the lower region comes first.
 //! 3. `choose` takes the longest beginning of that order whose total is within the budget. A region
-//!    that doesn't fit ends the choice, also where a later one would fit.
-//! 4. `given` takes a list of regions that the caller names.
+//!    that doesn't fit ends the choice, even if a later one would fit.
+//! 4. `given` takes a list of regions from the caller.
 #![tactic(auto)]
 
 mod candidate;

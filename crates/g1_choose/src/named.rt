@@ -34,7 +34,7 @@ fn check(alloc: Global, heap: &Heap, list: &[u32]) -> Result<(), Fault>
 /// # Errors
 ///
 /// `Fault::Set` of the first region of the list that is out of range, isn't ordinary, is pinned, or
-/// stands earlier in the list; else `Fault::Memory` alone.
+/// is earlier in the list; else `Fault::Memory` alone.
 pub fn given(alloc: Global, heap: &Heap, list: &[u32]) -> Result<Vec<u32>, Fault>
     ensures rising { IfOk result (λ v. v.items ≡ filter (has list.now) (regions heap.now)) }
     ensures accepted { OnOk result (AreTakeable heap.now list.now) }

@@ -3,7 +3,7 @@ ghost use Rattle.g1_choose.specs.Cost.{IsCost, cost, total};
 
 use crate::parameters::Cost;
 
-/// The cost of a region with so many remembered cards and so many live bytes.
+/// The cost of a region with this many remembered cards and this many live bytes.
 pub fn cost(parameters: &Cost, rs_size: u64, live: u64) -> u128
     requires { IsCost parameters.now }
     ensures value { result ≡ cost parameters.now rs_size live }

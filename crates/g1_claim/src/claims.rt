@@ -9,7 +9,7 @@ use g1_words::Fault;
 use std::alloc::Global;
 use std::marker::Model;
 
-/// The word of a place where nobody has offered.
+/// The word of a place at which nobody has offered.
 pub const EMPTY: u64 = u64::MAX;
 
 const SHARES: u32 = 64;
@@ -59,7 +59,7 @@ impl Model for ClaimSeat {
 }
 
 impl Claims {
-    /// A table of so many places, all words `EMPTY`, and the seat of all 64 shares.
+    /// A table of this many places, all words `EMPTY`, and the seat of all 64 shares.
     ///
     /// # Errors
     /// `Memory`.
@@ -82,7 +82,7 @@ impl Claims {
         Ok((claims, seat))
     }
 
-    /// Offers a rank at a place. The answer is true exactly where this step lowered the word.
+    /// Offers a rank at a place. The answer is true exactly if this step lowered the word.
     ///
     /// It is one `fetch_min` on the word.
     pub fn offer(&self, seat: &mut ClaimSeat, place: u64, rank: u64) -> bool

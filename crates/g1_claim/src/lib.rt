@@ -8,12 +8,12 @@
 //!    shares. A thread needs a seat of its own; a seat that has several shares can be split.
 //! 2. To offer a rank at a place, a thread makes one `fetch_min` on its word. It answers whether
 //!    this step lowered the word. Nothing is tried again, nothing waits, and no memory is taken.
-//! 3. One load of a word tells the least rank so far.
+//! 3. One load of a word returns the least rank so far.
 //! 4. Seats are joined again. Once a seat has all 64 shares, each word is the least of the ranks
 //!    that this seat holds for its place, and closing the table with it gives the words.
 //!
 //! What holds of the words between any two steps is one definition, `Claiming` of `specs/Rule`.
-//! What a seat has offered and seen stands in the proofs alone: the lists take no bytes.
+//! What a seat has offered and seen is in the proofs alone: the lists take no bytes.
 #![tactic(auto)]
 
 mod claims;

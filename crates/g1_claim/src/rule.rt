@@ -1,4 +1,4 @@
-//! What threads keep of the words, and what each step on one tells.
+//! What threads keep of the words, and what each step on one returns.
 ghost use Rattle.std.specs.Prelude.{ℕ, List};
 ghost use Rattle.std.specs.Borrow.{ftrue};
 ghost use Rattle.g1_claim.specs.declared.rule.Offer.{Offer};

@@ -2,7 +2,7 @@
 //!
 //! Small heaps and images (`specs/Examples.antt`), with what the definitions say of each, proved by
 //! computing: which objects survive and in which order, where they are placed, what is live, and the
-//! whole image after a pause. No code stands between the examples and the definitions.
+//! whole image after a pause. No code is between the examples and the definitions.
 #![tactic(auto)]
 
 mod choosing;
@@ -53,8 +53,9 @@ pub fn pauses()
     ensures humongous_owner_after { Moved humongous_owner_image (3 ∷ []) humongous_owner_after }
 {}
 
-/// Humongous objects that nothing names go in a pause, once: what only they name goes in the next. A slot
-/// of its own keeps no object, and a dead object's slot does while that object stands.
+/// Humongous objects that nothing references go in a pause, once: what only they reference goes in
+/// the next. A slot of its own keeps no object, and a dead object's slot does while that object is
+/// there.
 pub fn humongous_objects()
     ensures two { map (λ o. o.at) (humongous chain.heap) ≡ 0 ∷ 32 ∷ [] }
     ensures first { map (λ o. o.at) (unnamed chain.heap) ≡ 0 ∷ [] }
@@ -84,7 +85,7 @@ pub fn kept_rules()
 {}
 
 /// The texts of four images, before and after a pause, byte by byte, and one of version 2. A file of
-/// version 2 tells what is pinned, and a pause leaves it so.
+/// version 2 says what is pinned, and a pause leaves it so.
 pub fn texts()
     ensures one_object { file_text (file_of One one_object) ≡ one_object_text }
     ensures one_object_after { file_text (file_of One one_object_after) ≡ one_object_after_text }

@@ -11,16 +11,16 @@
 //! 2. The items of the first round are the roots, then the cards that lead into the window. Every
 //!    slot of an item has a rank: root i has i; a slot on a card the number of roots plus its
 //!    address; slots of objects follow, numbered on in the order in which the objects were found.
-//! 3. The workers draw chunks of a round's items. For each slot that names an object in the window
-//!    they offer its rank at the object's place, and keep rank and address where the offer lowered
-//!    the word.
+//! 3. The workers draw chunks of a round's items. For each slot that references an object in the
+//!    window they offer its rank at the object's place, and keep rank and address if the offer
+//!    lowered the word.
 //! 4. When all have ended, their lists are merged by rank. An address whose rank is still the word
 //!    is found. A worker alone offers by rising rank, so all that it kept is found.
 //! 5. What a round found is the next round's items, until a round finds nothing. Since ranks rise
 //!    over all rounds, a place that has a word keeps it.
 //!
 //! So the answer is the same for all workers and chunk sizes. A round takes memory in proportion to
-//! what it looks at and finds. Where a region stands in the window is told by a table of four bytes
+//! what it looks at and finds. A region's place in the window is in a table of four bytes
 //! for each region of the heap: `discover` makes one for all its rounds, `claim_round` one a call.
 #![tactic(auto)]
 

@@ -163,7 +163,7 @@ impl<'a> Offers<'a> {
     }
 }
 
-/// The items of a round, by chunks of so many.
+/// The items of a round, by chunks of this many.
 #[derive(Drop)]
 pub struct Round<'a> {
     pub offers: Offers<'a>,

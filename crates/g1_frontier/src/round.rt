@@ -229,7 +229,7 @@ pub(crate) fn round_in<R: Threads + Sync, G: Gate + Sync>(
 
 /// One round of claims: offers what the items name in the window, and answers what won.
 ///
-/// Each slot of an item that names an object in the window offers the item's rank for it at that
+/// Each slot of an item that references an object in the window offers the item's rank for it at that
 /// object's place. The answer has the table and the whole seat back, and, by rising rank, the rank
 /// and address of each offer of this round whose rank is now the word of its place. It is the same
 /// for all `workers` (1 to 64) and `chunk` sizes (1 to 65,536 items).

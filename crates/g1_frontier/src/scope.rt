@@ -44,7 +44,7 @@ impl<'a> Scope<'a> {
         self.window.len() as u64 * self.heap.geometry().region_words()
     }
 
-    /// Where an address of the window stands among its words.
+    /// The place of an address of the window among its words.
     pub fn place(&self, address: u64) -> Option<u64>
         requires scope { IsScope self.now }
         ensures found { IfSome result (λ p. (inside self.now address ≡ true) × (p ≡ place_in self.now address) × (p < length self.now.window.now * self.now.heap.now.geometry.w)) }

@@ -168,12 +168,12 @@ pub(crate) fn next_round<R: Threads + Sync, G: Gate + Sync>(
 }
 
 /// The survivors of a window of regions: the addresses of the objects in it that are reached from
-/// the roots, or from slots outside the window, over references within it. They stand in the order
+/// the roots, or from slots outside the window, over references within it. They are in the order
 /// in which a breadth-first search finds them: what the roots name, by root number, what the slots
-/// outside name, by address, then what the first survivor names, the second, and so on.
+/// outside reference, by address, then what the first survivor references, the second, and so on.
 ///
 /// The window's regions and the cards rise. No card lies in the window, and every slot outside that
-/// names an object in the window lies on one of the cards; other cards may be among them. Each
+/// references an object in the window lies on one of the cards; other cards may be among them. Each
 /// object found, each slot of it and each card is looked at once. The answer is the same for all
 /// `workers` (1 to 64) and `chunk` sizes (1 to 65,536 items).
 ///

@@ -28,7 +28,7 @@ fn place_of(set: &[u32], from: usize, card: u32) -> usize
     place
 }
 
-/// Tells whether a mark is set. One past the last isn't.
+/// Returns whether a mark is set. One past the last isn't.
 fn is_marked(marks: &[bool], number: u32) -> bool
     ensures { result ≡ slice_index_or marks.now number false }
 {
@@ -38,7 +38,7 @@ fn is_marked(marks: &[bool], number: u32) -> bool
     }
 }
 
-/// A mark for each card, set where the card is dirty; none at all where the log is empty.
+/// A mark for each card, set if the card is dirty; none at all if the log is empty.
 fn dirty_marks(alloc: Global, image: &Image) -> Result<Vec<bool>, AllocError>
     ensures { IfOk result (λ v. AreDirty image.now v.items) }
 {
@@ -53,7 +53,7 @@ fn dirty_marks(alloc: Global, image: &Image) -> Result<Vec<bool>, AllocError>
     Ok(dirty)
 }
 
-/// Tells whether a slot isn't covered. The places in the remembered sets move on with the slots.
+/// Returns whether a slot isn't covered. The places in the remembered sets move on with the slots.
 fn is_uncovered(image: &Image, dirty: &[bool], places: &mut [usize], p: u64) -> bool
     requires dirty { AreDirty image.now dirty.now }
     requires slot { p < length image.now.heap.words }
@@ -137,8 +137,11 @@ fn first_of(image: &Image, dirty: &[bool], places: &mut [usize]) -> Option<u64>
     None
 }
 
-/// The lowest slot that isn't covered.
-fn first_uncovered(alloc: Global, image: &Image) -> Result<Option<u64>, Fault>
+/// The lowest slot that isn't covered, as `verify` finds it, without the image in its hands.
+///
+/// # Errors
+/// `Fault::Memory` where a growth was refused.
+pub fn first_uncovered(alloc: Global, image: &Image) -> Result<Option<u64>, Fault>
     ensures ok { IfOk result (IsFirstOf (uncovered image.now)) }
     ensures lowest { IfOk result (λ found. (p q : ℕ) → found ≡ Some p → Contains (uncovered image.now) q → p ≤ q) }
     ensures memory { IfErr result (λ e. e ≡ Fault.Memory) }
@@ -155,7 +158,7 @@ fn first_uncovered(alloc: Global, image: &Image) -> Result<Option<u64>, Fault>
 /// moves on with the slots. Linear in the used words, the slots and the cards.
 ///
 /// # Errors
-/// `Fault::Uncovered` with the address of the lowest slot that isn't covered, `Fault::Memory` where a
+/// `Fault::Uncovered` with the address of the lowest slot that isn't covered, `Fault::Memory` if a
 /// growth was refused.
 pub fn verify(
     rt: &(impl Threads + Sync),

@@ -60,7 +60,7 @@ fn left_over(
     Ok(left)
 }
 
-/// The cards outside a set of regions that stand in the remembered set of one of them, rising:
+/// The cards outside a set of regions that are in the remembered set of one of them, rising:
 /// these lead into the set. `remembered` has one entry a region.
 ///
 /// Linear in the cards of the heap and in the remembered sets of the set's regions.

@@ -43,8 +43,8 @@ fn one_leads(heap: &Heap, slots: &[u64], region: u32) -> bool
     false
 }
 
-/// Whether a slot on the card, of another region, names an object in the region. Linear in the slots
-/// on the card, and takes no memory.
+/// Whether a slot on the card, of another region, references an object in the region. Linear in the
+/// slots on the card, and takes no memory.
 pub fn leads_into(alloc: Global, heap: &Heap, starts: &Starts, region: u32, card: u32) -> bool
     requires starts { IsStartsOf heap.now starts.now }
     requires card { card < card_count heap.now }

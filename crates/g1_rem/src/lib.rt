@@ -1,7 +1,7 @@
 //! Remembered sets of a region heap: which slots lie on a card, whether every reference between
 //! regions is covered, and which cards lead into a region.
 //!
-//! 1. `Starts` tells for each card the object over its first word, wherever that object began: on an
+//! 1. `Starts` has for each card the object over its first word, wherever that object began: on an
 //!    earlier card, or in an earlier region of a humongous object's run.
 //! 2. `slots_on` walks from there over the objects that reach the card, and gives the slots whose own
 //!    address lies on it.
@@ -9,13 +9,13 @@
 //!    that region's remembered set or in the dirty log; else the lowest such slot is the fault. What
 //!    passes is a `Tracked` image, whose type keeps this from then on.
 //! 4. `refine` looks at the dirty cards alone: it adds to each region's remembered set those that
-//!    hold a slot of another region that names an object in it. `refine_by` does so with so many
-//!    workers at most.
+//!    hold a slot of another region that references an object in it. `refine_by` does so with this
+//!    many workers at most.
 //! 5. `merged` makes one rising list of two, each card once: a set and the cards that join it.
 //! 6. `cards_into` lists the cards that lead into a set of regions: those of the remembered sets of
 //!    its regions that lie outside it.
-//! 7. `leads_into` asks the slots on one card whether one of them, of another region, names an object
-//!    in a region.
+//! 7. `leads_into` asks the slots on one card whether one of them, of another region, references an
+//!    object in a region.
 //!
 //! The sets and the log are those of Detlefs, Flood, Heller, Printezis, "Garbage-First Garbage
 //! Collection", 2004.
@@ -32,7 +32,7 @@ mod slots;
 mod starts;
 mod tracked;
 
-pub use cover::verify;
+pub use cover::{first_uncovered, verify};
 pub use entry_cards::cards_into;
 pub use leads::leads_into;
 pub use merging::merged;

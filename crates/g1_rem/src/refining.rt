@@ -21,11 +21,11 @@ use rayon::prelude::*;
 use std::alloc::{AllocError, Global};
 use std::thread::Threads;
 
-/// A thread is worth starting for so many cards: a merge takes a few nanoseconds a card, and a thread
-/// takes tens of microseconds to start and an arena of its own for what it allocates.
+/// A thread is worth starting for this many cards: a merge takes a few nanoseconds a card, and a
+/// thread takes tens of microseconds to start and an arena of its own for what it allocates.
 pub const CARDS_A_THREAD: usize = 32_768;
 
-/// How many cards some lists have, or the greatest number where they have more.
+/// How many cards some lists have, or the greatest number if they have more.
 pub fn cards_in(lists: &[Vec<u32>]) -> usize
     ensures { result ≡ min (sum_by (λ s. length s.items) lists.now) (2 ^ 64 - 1) }
 {
@@ -66,7 +66,7 @@ fn dirty_cards(
     Ok(cards)
 }
 
-/// Adds a card to a list that ends below it, unless the card stands there already.
+/// Adds a card to a list that ends below it, unless the card is there already.
 fn push_once(cards: &mut Vec<u32>, card: u32) -> Result<(), AllocError>
     ensures { OnOk result ((before : List ℕ) (b : Bool) → All (λ c. c < card) before → cards.old.items ≡ with_card before card b → cards.new.items ≡ with_card before card true) }
 {
@@ -182,7 +182,7 @@ fn refined_alone(
     Ok(sets)
 }
 
-/// Each region's remembered set with the dirty cards that lead into the region, by so many threads.
+/// Each region's remembered set with the dirty cards that lead into the region, by this many threads.
 fn refined_by_threads(
     rt: &(impl Threads + Sync),
     alloc: Global,
@@ -228,12 +228,12 @@ fn refined_remembered(
 }
 
 /// The refined remembered set of each region: its remembered set with those dirty cards that hold a
-/// slot of another region which names an object in it. The log stays as it is.
+/// slot of another region which references an object in it. The log stays as it is.
 ///
 /// Looks at the slots on the dirty cards alone, beside copying the sets.
 ///
 /// # Errors
-/// `Fault::Memory` where a growth was refused.
+/// `Fault::Memory` if a growth was refused.
 pub fn refine(
     rt: &(impl Threads + Sync),
     alloc: Global,
@@ -247,10 +247,10 @@ pub fn refine(
     refine_by(rt, alloc, tracked, starts, MOST_WORKERS)
 }
 
-/// As `refine`, with this many workers at most. One where it is 0.
+/// As `refine`, with this many workers at most. One if it is 0.
 ///
 /// # Errors
-/// `Fault::Memory` where a growth was refused.
+/// `Fault::Memory` if a growth was refused.
 pub fn refine_by(
     rt: &(impl Threads + Sync),
     alloc: Global,

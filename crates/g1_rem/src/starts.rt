@@ -11,7 +11,7 @@ use std::marker::Model;
 /// wherever that object began: on an earlier card, or in an earlier region.
 #[derive(Drop)]
 pub struct Starts {
-    /// One above the address, and 0 where no object is there: half the room of an `Option`.
+    /// One above the address, and 0 if no object is there: half the room of an `Option`.
     pub(crate) firsts: Vec<u32>,
 }
 
@@ -63,7 +63,7 @@ impl Starts {
     /// The starts of a heap, in one pass over its objects and cards.
     ///
     /// # Errors
-    /// `Fault::Memory` where a growth was refused.
+    /// `Fault::Memory` if a growth was refused.
     pub fn build(alloc: Global, heap: &Heap) -> Result<Starts, Fault>
         ensures ok { IfOk result (λ s. IsStartsOf heap.now s) }
         ensures memory { IfErr result (λ e. e ≡ Fault.Memory) }
@@ -77,7 +77,7 @@ impl Starts {
         Ok(Starts { firsts })
     }
 
-    /// The address, in words, of the object over the first word of a card of the heap; none where no
+    /// The address, in words, of the object over the first word of a card of the heap; none if no
     /// object is there.
     pub fn first(&self, card: u32) -> Option<u32>
         requires { card < length self.now }

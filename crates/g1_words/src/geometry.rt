@@ -41,7 +41,7 @@ pub(crate) fn over(a: u64, power: u64) -> u64
     a >> power.trailing_zeros()
 }
 
-/// Tells whether a number is a power of two.
+/// Returns whether a number is a power of two.
 fn is_power(x: u64) -> bool
     ensures { IsTrue result ↔ IsPowerOfTwo x }
 {

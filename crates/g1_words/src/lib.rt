@@ -1,4 +1,4 @@
-//! The words of a region heap: its sizes, its regions, the objects that stand in them, and the
+//! The words of a region heap: its sizes, its regions, the objects in them, and the
 //! faults of the whole project.
 //!
 //! A heap is divided into equal regions (Detlefs, Flood, Heller, Printezis, "Garbage-First Garbage

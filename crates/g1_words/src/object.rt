@@ -22,7 +22,7 @@ pub struct Object {
 /// A header word is the object's size in words times this, plus its number of reference slots.
 pub const REFS_RANGE: u64 = 4_294_967_296;
 
-/// What the word at an address tells, read as a header: the object that stands there, if one does.
+/// What the word at an address says, read as a header: the object that starts there, if one does.
 pub fn header(words: &[u64], at: u64) -> Object
     requires { at < length words.now }
     ensures value { result ≡ header words.now at }
@@ -40,7 +40,7 @@ pub fn header(words: &[u64], at: u64) -> Object
     }
 }
 
-/// The size in words, the header included, that the word at an address tells as a header.
+/// The size in words, the header included, of the word at an address, read as a header.
 pub fn size_at(heap: &Heap, a: u64) -> u64
     requires { a < length heap.now.words }
     ensures { result ≡ (object_at heap.now a).size }

@@ -74,7 +74,7 @@ impl Dealer {
         Ok((dealer, seat))
     }
 
-    /// The next number below the count of chunks, or None where every one has been drawn.
+    /// The next number below the count of chunks, or None if every one has been drawn.
     ///
     /// It is one step on the cursor. A seat that has had None makes no further step, and answers
     /// None.

@@ -135,7 +135,7 @@ fn run_all<R: Threads + Sync, T: Task + Sync, G: Gate + Sync>(
 /// Runs the task once on each chunk below `chunks`, and gives the states and the outs.
 ///
 /// There is one worker for each state, 1 to 64. Each draws chunks until none is left, and before
-/// each run tells the gate of the chunk as `Deal`. The states come back in their order, each as the
+/// each run reports the chunk to the gate as `Deal`. The states come back in their order, each as the
 /// chunks that its worker drew, in rising order, made it; the outs are in the order of the chunks.
 /// A worker for which no thread can be had does its part on the thread that asked. With at most one
 /// chunk no thread is started.

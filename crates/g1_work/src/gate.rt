@@ -1,4 +1,4 @@
-/// The part of the work that a gate is told of.
+/// The part of the work that is reported to a gate.
 #[derive(Clone, Copy, Debug, PartialEq, Eq)]
 pub enum Part {
     /// Chunks that workers draw, by their numbers.
@@ -7,7 +7,7 @@ pub enum Part {
     Fill,
 }
 
-/// A watcher for tests. It is told of each piece of work before it is done, by the thread that
+/// A watcher for tests. Each piece of work is reported to it before it is done, by the thread that
 /// does it, and changes no answer.
 pub trait Gate {
     fn at(&self, part: Part, number: u64);

@@ -7,23 +7,23 @@
 //! 1. A dealer is made with the cursor at 0, and with one seat that has 64 shares. A thread needs
 //!    a seat of its own; a seat that has several shares can be split.
 //! 2. To draw, a thread adds one to the cursor by a single `fetch_add`. What it finds is its
-//!    number, or, from the count of chunks on, tells that every number has been drawn. Nothing is
+//!    number, or, from the count of chunks on, reports that every number has been drawn. Nothing is
 //!    tried again, nothing waits, and no memory is taken.
-//! 3. One load of the cursor tells how many numbers have been drawn.
-//! 4. Seats are joined again. The seat of all 64 shares has drawn each number once where it knows
+//! 3. One load of the cursor shows how many numbers have been drawn.
+//! 4. Seats are joined again. The seat of all 64 shares has drawn each number once if it knows
 //!    that all are drawn, and closing the dealer with it gives the cursor.
 //! 5. `each_chunk` runs a task so: a worker for each state draws chunks until none is left, and
 //!    keeps what each gave. Then each chunk's out is put at its place.
 //!
 //! A `Team` is how many workers share some work and how many items one of them draws at once: each
 //! call that is handed the two numbers makes one, and the functions below it ask for no range again.
-//! Work that is not drawn goes by its size: `threads_for` tells how many threads its items feed.
+//! Work that is not drawn goes by its size: `threads_for` says how many threads its items feed.
 //!
 //! Words that are written in place are not drawn: `each_region_mut` cuts them into runs of regions,
 //! and lends each run to one thread alone.
 //!
 //! What holds of the cursor between any two steps is one definition, `Dealing` of `specs/Rule`.
-//! What a seat has drawn stands in the proofs alone: the list takes no bytes.
+//! What a seat has drawn is in the proofs alone: the list takes no bytes.
 #![tactic(auto)]
 
 mod dealer;

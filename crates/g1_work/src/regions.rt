@@ -9,9 +9,9 @@ use std::thread::{Threads, join_mut};
 /// Fills each region of a list of words in place, the regions being its slices of `width` words.
 ///
 /// The regions are cut into as many runs as there are workers, 1 to 64, or as there are regions, if
-/// these are fewer. The runs follow one another, are lent to threads disjointly, and each is told to
-/// the gate as `Fill` once before it is filled. A run for which no thread can be had is filled by the
-/// thread that asked. Takes no memory and refuses nothing.
+/// these are fewer. The runs follow one another, are lent to threads disjointly, and each is
+/// reported to the gate as `Fill` once before it is filled. A run for which no thread can be had is
+/// filled by the thread that asked. Takes no memory and refuses nothing.
 pub fn each_region_mut<R: Threads + Sync, F: Fill + Sync, G: Gate + Sync>(
     rt: &R,
     workers: u64,

@@ -1,4 +1,4 @@
-//! What threads keep of the cursor, and what each step on it tells.
+//! What threads keep of the cursor, and what each step on it returns.
 ghost use Rattle.std.specs.Prelude.{ℕ, Bool, List};
 ghost use Rattle.std.specs.Borrow.{ftrue};
 

@@ -6,7 +6,7 @@ use std::marker::Model;
 /// Each worker needs a share of a dealer, which has as many.
 pub const MOST_WORKERS: u64 = 64;
 
-/// A draw costs nothing beside so many items: larger chunks would only leave other workers idle.
+/// A draw costs nothing beside this many items: larger chunks would only leave other workers idle.
 pub const MOST_CHUNK: u64 = 65_536;
 
 /// How many threads some items feed: each has the least number of them that is worth a thread, and no
@@ -46,7 +46,7 @@ impl Clone for Team {
 impl Copy for Team {}
 
 impl Team {
-    /// A team of so many workers that draw so many items at once.
+    /// A team of this many workers that draw this many items at once.
     pub fn new(workers: u64, chunk: u64) -> Team
         requires workers { (0 < workers) × (workers ≤ 64) }
         requires chunk { (0 < chunk) × (chunk ≤ 65536) }
