@@ -5,7 +5,7 @@ The heap has COUNT words (2^24 if not given) in regions of W words and cards of 
 the regions is free. The others hold objects mostly of 2 to 10 words, some arrays, and some humongous objects. A
 slot is null, or names an object of its own region, or, more seldom, any object at all; few objects are named by
 the roots, so many are dead. A remembered set has exactly the cards that aren't dirty and hold a slot from outside
-that names one of its region's objects. The same arguments give the same bytes.
+that names one of its region's objects. The same arguments give the same bytes. Sizes that no image has are refused.
 """
 import argparse, array, random, struct, sys
 
@@ -20,7 +20,7 @@ def sizes_and_refs(rng, region_words, count):
     drawn = []
     for _ in range(count):
         if rng.random() < 0.01:
-            size = rng.randint(16, min(most, 256))
+            size = rng.randint(min(most, 16), min(most, 256))
             refs = rng.choice((0, size - 1))
         else:
             size = rng.randint(2, 10)
@@ -96,6 +96,9 @@ class Heap:
         """Fills the slots, and draws the roots and the dirty log."""
         used = [r for r in range(self.regions) if self.tops[r]]
         owners = [r for r in used if self.objects[r]]
+        if not owners:
+            self.log, self.dirty, self.roots = [], set(), []
+            return
         cards = self.region_words // self.card_words
         held = [r * cards + c for r in used for c in range(cards)]
         self.log = self.rng.sample(held, min(DIRTY, len(held) // 50))
@@ -157,6 +160,22 @@ def write_array(file, numbers):
     numbers.tofile(file)
 
 
+def is_power(number, least, most):
+    return least <= number <= most and number & (number - 1) == 0
+
+
+def wrong_sizes(width, card_words, count):
+    """Why no image has these sizes, or None."""
+    if not is_power(width, 16, 65536):
+        return f"W is {width}, and not a power of two from 16 to 65536"
+    if not is_power(card_words, 4, min(64, width)):
+        return f"K is {card_words}, and not a power of two from 4 to {min(64, width)}"
+    most = min(1 << 24, 4096 * width)
+    if not width <= count <= most:
+        return f"COUNT is {count}, and with regions of {width} words it is from {width} to {most}"
+    return None
+
+
 def main():
     parser = argparse.ArgumentParser(description=__doc__, formatter_class=argparse.RawDescriptionHelpFormatter)
     parser.add_argument("region_words", type=int, metavar="W")
@@ -165,6 +184,9 @@ def main():
     parser.add_argument("--words", type=int, default=1 << 24, metavar="COUNT")
     parser.add_argument("--seed", type=int, default=1, metavar="S")
     options = parser.parse_args()
+    wrong = wrong_sizes(options.region_words, options.card, options.words)
+    if wrong:
+        sys.exit(f"images.py: {wrong}")
     heap = Heap(options.region_words, options.card, options.words, options.seed)
     heap.place()
     heap.link()

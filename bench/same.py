@@ -14,7 +14,7 @@ import sys
 import tempfile
 
 HERE = pathlib.Path(__file__).resolve().parent
-CRATES = HERE.parent / "crates"
+OUT = HERE.parent / "out"
 MB = 1_000_000
 
 
@@ -44,14 +44,14 @@ def paused(program, image, after):
 
 def main():
     parser = argparse.ArgumentParser(description=__doc__, formatter_class=argparse.RawDescriptionHelpFormatter)
-    parser.add_argument("--g1heap", default=str(CRATES / "g1heap" / "out" / "g1heap"), metavar="FILE")
-    parser.add_argument("--g1pause", default=str(CRATES / "g1pause" / "out" / "g1pause"), metavar="FILE")
+    parser.add_argument("--g1heap", default=str(OUT / "g1heap"), metavar="FILE")
+    parser.add_argument("--g1pause", default=str(OUT / "g1pause"), metavar="FILE")
     parser.add_argument("--rounds", type=int, default=5, metavar="R")
     parser.add_argument("--seed", default="1", metavar="S")
     options = parser.parse_args()
     for program in (options.g1heap, options.g1pause):
         if not pathlib.Path(program).is_file():
-            parser.error(f"{program} is not there: build it by rt run in its crate, or name it by --g1heap or --g1pause")
+            parser.error(f"{program} is not there: build it by tools/build.py, or name it by --g1heap or --g1pause")
     with tempfile.TemporaryDirectory() as folder:
         image, after = pathlib.Path(folder) / "before.img", pathlib.Path(folder) / "after.img"
         for width in (65536, 4096):

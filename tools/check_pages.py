@@ -1,23 +1,30 @@
 #!/usr/bin/env python3
-"""Runs the command lines of the pages, and compares what they print with what stands there: check_pages.py [PAGE ..]
+"""Reads the pages as a reader does: runs their command lines, and follows their links: check_pages.py [PAGE ..]
 
-Without pages: README.md and those of docs/, examples/, examples/*/ and bench/. It needs the built programs, and finds
-them where they are built, or by --program and --heap.
+Without pages: README.md and those of docs/, examples/, examples/*/ and bench/, and all scripts beside them. It needs
+the built programs, and takes those of out/, which tools/build.py builds, or those that --program and --heap name.
 
-What is a command: a block of code (indented by four spaces, or fenced) whose first word is one of those in COMMANDS
-below. Each of its lines is run, but for lines that go on: after a backslash at their end, or up to the last line of a
-<<END. What such a line is to print stands in the block directly behind it, with only empty lines between: standard
-output and standard error together. A command with no such block has to end with status 0.
+What is a command: a block of code (indented by four spaces, or fenced) whose first word is one of those in
+tools/lib/pages.py. Each of its lines is run, but for lines that go on: after a backslash at their end, or up to the
+last line of a <<END. What such a line is to print is in the block directly behind it, with only empty lines between:
+standard output and standard error together. A command with no such block has to end with status 0.
   <!-- figures vary -->        above that block: numbers in it may be others
-  <!-- not run: WHY -->        above a block of commands: it is left out, which is told
-  <!-- needs: PROGRAM .. -->   anywhere: the page is left out where one of these is not on the path, which is told
+  <!-- not run: WHY -->        above a block of commands: it is left out, which is said
+  <!-- needs: PROGRAM .. -->   anywhere: the page is left out if one of these is not on the path, which is said
 
-Each page runs from top to bottom in one shell, in a fresh copy of the checkout's files beside the built programs. After
-it nothing may stand there that did not before, and no file may have changed: so a page that makes a picture which is
-in the repository has to make the same one again.
-The last line is 'N passed, M failed', and the status 0 only where none failed and one passed.
+Each page runs from top to bottom in one shell, in a fresh checkout: a copy of the repository's files, with the built
+programs in out/. None of our programs is on the path of that shell, so a page has to say how it gets them: a page that
+calls g1pause or g1heap has to name tools/build.py, which finds them built, and has to put out/ on the path or to write
+it. After the page no file may be there that was not, and none may have changed, but those of out/: so a page that
+makes a picture which is in the repository has to make the same one again.
+
+Of each page it also looks at the links, to pages, to headings and to files; at the files that sentences name in the
+way of `tools/build.py`; and at the scripts that are called, in a block or in a sentence: each is an executable file
+that answers --help. Of the scripts, whether each .py file in tools/ is such a script, and none in tools/lib/ is.
+The last line is 'N passed, M failed', and the status 0 only if none failed and one passed.
 """
 import argparse
+import os
 import pathlib
 import re
 import shutil
@@ -25,97 +32,16 @@ import subprocess
 import sys
 import tempfile
 
-TOP = pathlib.Path(__file__).resolve().parent.parent
-PAGES = ("README.md", "docs/*.md", "examples/*.md", "examples/*/*.md", "bench/*.md")
-PROGRAMS = ("g1pause", "g1heap")
-COMMANDS = {*PROGRAMS, "bash", "cat", "cd", "cmp", "cp", "diff", "echo", "exec", "export", "for", "gunzip", "head",
-            "java", "javac", "jcmd", "ls", "mkdir", "mkfifo", "mktemp", "printf", "python3", "rm", "rt", "sed", "sh",
-            "sleep", "time", "ulimit", "until", "wc"}
-FOLDERS = ("tools/", "bench/", "examples/", "crates/", ".ci/", "./", "(", "PATH=")
-LEFT_OUT = re.compile(r"<!-- not run: (.*) -->")
-NEEDS = re.compile(r"<!-- needs: (.*) -->")
-VARY = "<!-- figures vary -->"
-HERE = re.compile(r"<<['\"]?(\w+)")
+sys.path.insert(0, str(pathlib.Path(__file__).resolve().parent / "lib"))
+
+import pages  # noqa: E402 (it is in lib/)
+import stamp  # noqa: E402
+
+TOP = stamp.TOP
+PAGES = ("README.md", "*.md", "docs/*.md", "examples/*.md", "examples/*/*.md", "bench/*.md")
 SECONDS = 900  # for one page
-
-
-class Block:
-    """Lines of code, the number of the first one, and the line of text right above them."""
-
-    def __init__(self, number, lines, above):
-        self.number, self.lines, self.above = number, lines, above
-
-    def is_command(self):
-        first = self.lines[0].split(" ")[0]
-        return first in COMMANDS or first.startswith(FOLDERS) and not first.endswith(":")
-
-
-def blocks(text):
-    """The blocks of code of a page. Two follow each other directly with empty lines and comments alone between."""
-    found, lines, above, fence, blank = [], [], "", None, True
-    for number, line in enumerate(text.splitlines() + [""], 1):
-        if fence is not None:
-            if line.strip() == fence:
-                fence = None
-                found.append(Block(number - len(lines), lines, above))
-                lines, above = [], "directly"
-            else:
-                lines.append(line)
-        elif line.startswith("    ") and line.strip() and (blank or lines):
-            lines.append(line[4:])
-        else:
-            if lines:
-                found.append(Block(number - len(lines), lines, above))
-                lines, above = [], "directly"
-            if line.startswith("```"):
-                fence = "```"
-            elif line.strip():
-                above = line.strip() if not line.startswith("<!--") or above != "directly" else "directly " + line
-        blank = not line.strip()
-    return found
-
-
-class Step:
-    """One command, and what it is to print, if the page says so."""
-
-    def __init__(self, number, command):
-        self.number, self.command = number, command
-        self.expected, self.vary = None, False
-
-
-def commands_of(block):
-    """The commands of a block: a line each, unless it goes on."""
-    steps, command, number, last = [], [], block.number, None
-    for at, line in enumerate(block.lines, block.number):
-        number = number if command else at
-        command.append(line)
-        begun = HERE.search(line) if last is None else None
-        last = begun.group(1) if begun else (None if line == last else last)
-        if last is None and not line.endswith("\\"):
-            steps.append(Step(number, "\n".join(command)))
-            command = []
-    return steps
-
-
-def steps_of(text):
-    """The commands of a page, and those that are left out with the reason."""
-    steps, left_out, before = [], [], None
-    for block in blocks(text):
-        if block.is_command():
-            reason = LEFT_OUT.search(block.above)
-            if reason:
-                left_out += [(step, reason.group(1)) for step in commands_of(block)]
-                before = None
-            else:
-                steps += commands_of(block)
-                before = steps[-1]
-        elif before is None or not block.above.startswith("directly"):
-            before = None
-        elif before.expected is None:
-            before.expected, before.vary = block.lines, VARY in block.above
-        else:  # an empty line within the output
-            before.expected = before.expected + ["", *block.lines]
-    return steps, left_out
+SCRIPT = (".py", ".sh")
+MODULES = "tools/lib/"
 
 
 def shell_text(steps, folder):
@@ -158,18 +84,21 @@ def files_of(checkout):
 
 
 def copy_of(checkout, target, programs):
+    """A fresh checkout in which the programs were built."""
     for name in files_of(checkout):
         (target / name).parent.mkdir(parents=True, exist_ok=True)
         shutil.copy2(checkout / name, target / name)
+    out = target / "out"
     for name, program in programs.items():
-        place = target / "crates" / name / "out" / name
-        place.parent.mkdir(parents=True, exist_ok=True)
-        place.symlink_to(program)
+        out.mkdir(exist_ok=True)
+        shutil.copy2(program, out / name)
+    if set(programs) == set(stamp.PROGRAMS):
+        stamp.write(out, "UNPROVED", "any", stamp.sources(target), stamp.PROGRAMS)
 
 
 def contents(folder):
     return {path.relative_to(folder): path.read_bytes() for path in folder.rglob("*")
-            if path.is_file() and "out" not in path.relative_to(folder).parts}
+            if path.is_file() and not {"out", "__pycache__"} & set(path.relative_to(folder).parts)}
 
 
 def differences(before, after):
@@ -183,21 +112,25 @@ def differences(before, after):
             yield f"makes another {name} than the one in the repository"
 
 
-def check_page(name, text, checkout, programs):
-    """How many steps are as the page says, and what is wrong with the others."""
-    steps, left_out = steps_of(text)
-    for step, reason in left_out:
-        print(f"{name}:{step.number}: not run, {reason}: {step.command}")
+def bare_path(checkout):
+    """The path of a shell that has nothing of the checkout's."""
+    folders = os.environ.get("PATH", "").split(":")
+    return ":".join(folder for folder in folders if not pathlib.Path(folder).resolve().is_relative_to(checkout))
+
+
+def run_steps(name, steps, checkout, programs):
+    """What is wrong with the commands of a page."""
     wrong = []
     with tempfile.TemporaryDirectory() as room:
         copy, folder = pathlib.Path(room) / "checkout", pathlib.Path(room) / "answers"
         folder.mkdir()
+        copy.mkdir()
         copy_of(checkout, copy, programs)
         before = contents(copy)
-        path = ":".join(str(copy / "crates" / program / "out") for program in programs)
-        script = f"PATH={path}:$PATH\n{shell_text(steps, folder)}"
+        environment = dict(os.environ, PATH=bare_path(checkout), PYTHONDONTWRITEBYTECODE="1")
         try:
-            subprocess.run(["bash", "-c", script], cwd=copy, check=False, timeout=SECONDS)
+            subprocess.run(["bash", "-c", shell_text(steps, folder)], cwd=copy, env=environment, check=False,
+                           timeout=SECONDS)
         except subprocess.TimeoutExpired:
             wrong.append(f"{name}: was ended after {SECONDS} seconds")
         for at, step in enumerate(steps):
@@ -205,47 +138,137 @@ def check_page(name, text, checkout, programs):
             if problem:
                 wrong.append(f"{name}:{step.number}: {step.command}\n  {problem}")
         wrong += [f"{name}: {problem}" for problem in differences(before, contents(copy))]
+    return wrong
+
+
+def check_page(name, text, checkout, programs):
+    """How many commands of a page are as it says, and what is wrong with the others."""
+    steps, left_out = pages.steps_of(text)
+    for step, reason in left_out:
+        print(f"{name}:{step.number}: not run, {reason}: {step.command}")
+    wrong = run_steps(name, steps, checkout, programs)
+    if pages.calls_programs(text) and "tools/build.py" not in text:
+        wrong.append(f"{name}: calls a program, and does not say that tools/build.py builds it")
     return len(steps), wrong
+
+
+def wrong_link(page, target):
+    """What is wrong with a link, or None."""
+    path, _, anchor = target.partition("#")
+    if re.match(r"[a-z]+:", target):
+        return None
+    file = page.parent / path if path else page
+    if not file.exists():
+        return "there is no such file"
+    if anchor and file.suffix == ".md" and anchor not in pages.anchors(file.read_text()):
+        return "the page has no such heading"
+    return None
+
+
+def check_names(name, page, text, checkout):
+    """How many links and names of files a page has, and what is wrong with them."""
+    wrong = [f"{name}:{number}: link to {target}: {wrong_link(page, target)}"
+             for number, target in pages.links(text) if wrong_link(page, target)]
+    names = [(number, match.group()) for number, code in pages.words_in(text)
+             for match in [pages.OURS.fullmatch(code.split(" ")[0])] if match]
+    for number, path in names:
+        if "out" not in path.split("/") and not (checkout / path).exists():
+            wrong.append(f"{name}:{number}: there is no {path}")
+    return len(pages.links(text)) + len(names), wrong
+
+
+def answers_help(path):
+    """What is wrong with a script that a reader calls, or None."""
+    if not os.access(path, os.X_OK):
+        return "has no executable bit"
+    done = subprocess.run([path, "--help"], stdin=subprocess.DEVNULL, capture_output=True, text=True, check=False,
+                          timeout=60, env=dict(os.environ, PYTHONDONTWRITEBYTECODE="1"))
+    if done.returncode or path.name not in done.stdout:
+        return f"does not answer --help: status {done.returncode}"
+    return None
+
+
+def check_scripts(names, checkout):
+    """How many scripts of these names there are, and what is wrong with them."""
+    wrong = []
+    for name in names:
+        problem = answers_help(checkout / name) if (checkout / name).is_file() else None
+        if problem:
+            wrong.append(f"{name}: {problem}")
+    return len(names), wrong
+
+
+def modules(checkout):
+    """What is a module of scripts and can be called, or is a script and can't be."""
+    for path in sorted(checkout.glob("tools/*.py")):
+        if not os.access(path, os.X_OK):
+            yield f"tools/{path.name}: is no script: a module of scripts is in tools/lib/"
+    for path in sorted(checkout.glob("tools/lib/*")):
+        if path.is_file() and os.access(path, os.X_OK):
+            yield f"tools/lib/{path.name}: has the executable bit, and is a module"
 
 
 def missing(text, programs):
     """The first program that the page needs and that is not there."""
-    needed = [name for match in NEEDS.finditer(text) for name in match.group(1).split()]
-    return next((name for name in needed if name not in programs and not shutil.which(name)), None)
+    return next((name for name in pages.needed(text) if name not in programs and not shutil.which(name)), None)
 
 
-def built(name, given):
-    program = pathlib.Path(given) if given else TOP / "crates" / name / "out" / name
-    return program.resolve() if program.exists() else None
+def check_all(files, programs):
+    """How many things of these pages are right, and what is wrong."""
+    ran, wrong, scripts = 0, [], set()
+    for page in files:
+        name = str(page.relative_to(TOP)) if TOP in page.parents else str(page)
+        text = page.read_text()
+        scripts |= {script for _, script in pages.scripts_in(text)
+                    if script.endswith(SCRIPT) and not script.startswith(MODULES)}
+        found = [check_names(name, page, text, TOP)]
+        if missing(text, programs):
+            print(f"{name}: not run, there is no {missing(text, programs)}")
+        else:
+            found.append(check_page(name, text, TOP, programs))
+        ran += sum(count for count, _ in found)
+        problems = [problem for _, wrong_ones in found for problem in wrong_ones]
+        for problem in problems:
+            print(problem)
+        commands = found[1][0] if len(found) > 1 else 0
+        print(f"{name}: {commands} commands, {found[0][0]} links and names, {len(problems)} wrong")
+        wrong += problems
+    count, problems = check_scripts(sorted(scripts), TOP)
+    for problem in problems:
+        print(problem)
+    print(f"{count} scripts that pages call, {len(problems)} wrong")
+    return ran + count, wrong + problems
+
+
+def given(options):
+    """The programs: those that are named, else those of out/."""
+    named = {"g1pause": options.program, "g1heap": options.heap}
+    found = {name: pathlib.Path(named[name] or TOP / "out" / name).resolve() for name in stamp.PROGRAMS}
+    return {name: program for name, program in found.items() if program.exists()}
 
 
 def main():
     parser = argparse.ArgumentParser(description=__doc__, formatter_class=argparse.RawDescriptionHelpFormatter)
-    parser.add_argument("pages", metavar="PAGE", nargs="*", help="the pages (default: all)")
-    parser.add_argument("--program", metavar="FILE", help="g1pause (default: where it is built)")
-    parser.add_argument("--heap", metavar="FILE", help="g1heap (default: where it is built)")
+    parser.add_argument("pages", metavar="PAGE", nargs="*", help="the pages (default: all, and the scripts)")
+    parser.add_argument("--program", metavar="FILE", help="g1pause (default: out/g1pause)")
+    parser.add_argument("--heap", metavar="FILE", help="g1heap (default: out/g1heap)")
     options = parser.parse_args()
-    programs = {name: built(name, given) for name, given in zip(PROGRAMS, (options.program, options.heap))}
-    if programs["g1pause"] is None:
-        parser.error("g1pause is not built: run (cd crates/g1pause && rt run), or name it by --program FILE")
-    programs = {name: program for name, program in programs.items() if program}
-    pages = [pathlib.Path(page).resolve() for page in options.pages] or sorted(
-        page for pattern in PAGES for page in TOP.glob(pattern))
-    passed = failed = 0
-    for page in pages:
-        name = str(page.relative_to(TOP)) if TOP in page.parents else str(page)
-        text = page.read_text()
-        if missing(text, programs):
-            print(f"{name}: not run, there is no {missing(text, programs)}")
-            continue
-        ran, wrong = check_page(name, text, TOP, programs)
-        for problem in wrong:
+    programs = given(options)
+    for name in stamp.PROGRAMS:
+        if name not in programs:
+            parser.error(f"{name} is not built: call tools/build.py, or name it by --program or --heap")
+        if shutil.which(name, path=bare_path(TOP)):
+            parser.error(f"{name} is on the path, so a page that does not say where it is would pass: take it off")
+    files = [pathlib.Path(page).resolve() for page in options.pages] or sorted(
+        {page for pattern in PAGES for page in TOP.glob(pattern)})
+    passed, wrong = check_all(files, programs)
+    if not options.pages:
+        problems = list(modules(TOP))
+        for problem in problems:
             print(problem)
-        print(f"{name}: {ran} commands, {len(wrong)} wrong")
-        failed += len(wrong)
-        passed += max(0, ran - len(wrong))
-    print(f"{passed} passed, {failed} failed")
-    return 1 if failed or not passed else 0
+        wrong += problems
+    print(f"{max(0, passed - len(wrong))} passed, {len(wrong)} failed")
+    return 1 if wrong or not passed else 0
 
 
 if __name__ == "__main__":

@@ -6,7 +6,9 @@ Draws N small heaps (1000) and sets, evacuates each set as tools/opponent.py doe
 reached; with --g1pause also that `check` finds it covered, and that the answer of `g1pause pause R ..` to the heap
 with exact remembered sets is found the same, kept and covered too. Then an error of each kind of tools/plant_errors.py is
 planted. What `same` tells of it, line by line, is compared with a judge of this script's own, which walks both
-heaps from the definition; and `same --set` has to find it wherever roots or objects outside the set lead to it.
+heaps from the definition; and `same --set` has to find it wherever roots or objects outside the set lead to it, or a
+region is not as a pause of the set leaves it, and `same --covered` wherever a slot is not covered. Some heaps have more
+than 256 roots, and some have an object outside the set that is equal to one of the set.
 The last line is 'N passed, M failed', after a count for each kind of error.
 """
 import argparse
@@ -17,9 +19,11 @@ import subprocess
 import sys
 import tempfile
 
-from heap_image import FREE, NULL, ORDINARY, drawn, from_bytes
-from opponent import NoRoom, Opponent
-from plant_errors import ERRORS, Planter
+sys.path.insert(0, str(pathlib.Path(__file__).resolve().parent / "lib"))
+
+from heap_image import FREE, NULL, ORDINARY, drawn, from_bytes  # noqa: E402
+from opponent import NoRoom, Opponent  # noqa: E402
+from plant_errors import ERRORS, MORE_ERRORS, Planter  # noqa: E402
 
 
 def tells(before, after, x, y, forth, back):
@@ -61,11 +65,51 @@ def judged(before, after, more=()):
     return f"same objects {len(forth)} words {sum(before.size(a) for a in forth)}\n"
 
 
+def region_line(before, after, chosen):
+    """The line of `same --set` for the first region that is not as a pause of the set leaves it. None where all are."""
+    for region in range(before.regions):
+        if region in chosen:
+            if after.kinds[region] != FREE:
+                return f"differ region {region}: in the set, and not free after\n"
+        elif before.kinds[region] == FREE or before.kinds[region] != ORDINARY and after.kinds[region] == FREE:
+            continue
+        elif (before.kinds[region], before.tops[region]) != (after.kinds[region], after.tops[region]):
+            return f"differ region {region}: outside the set, with another kind or top after\n"
+        elif before.pinned[region] != after.pinned[region]:
+            how = "before and not after" if before.pinned[region] else "after and not before"
+            return f"differ region {region}: outside the set, pinned {how}\n"
+    return None
+
+
+def uncovered(image):
+    """The lowest slot that references an object of another region and that neither its set nor the log tells."""
+    for address in image.objects():
+        for slot in image.slots(address):
+            region = image.region_of(image.words[slot] - 1)
+            told = (*image.sets[region], *image.log) if image.words[slot] != NULL else ()
+            if image.words[slot] != NULL and region != image.region_of(slot) and slot // image.card_words not in told:
+                return slot
+    return None
+
+
+def add_twin(rng, image, chosen):
+    """Puts an equal of an object of the set behind the last object of a region outside it, where there is room."""
+    width = image.region_words
+    objects = [address for region in chosen for address in image.objects_in(region)]
+    others = [r for r in range(image.regions) if r not in chosen and image.kinds[r] == ORDINARY]
+    rooms = [(a, r) for a in objects for r in others if image.tops[r] + image.size(a) <= width]
+    if rooms:
+        address, region = rng.choice(rooms)
+        at, size = region * width + image.tops[region], image.size(address)
+        image.words[at:at + size] = image.words[address:address + size]
+        image.tops[region] += size
+
+
 class Judge:
     def __init__(self, options, folder):
         self.options, self.folder = options, folder
         self.passed = self.failed = 0
-        self.counts = collections.Counter()
+        self.counts = collections.Counter({error: 0 for error in ERRORS + MORE_ERRORS})
 
     def judge(self, name, good):
         self.passed += bool(good)
@@ -86,6 +130,10 @@ class Judge:
         if not ordinary or FREE not in before.kinds:
             return False
         chosen = rng.sample(ordinary, rng.randint(1, min(4, len(ordinary))))
+        if rng.random() < 0.3:
+            add_twin(rng, before, chosen)
+        if rng.random() < 0.1:
+            before.roots = [NULL] * 256 + before.roots
         opponent = Opponent(before, chosen, rng, rng.randint(1, 4), rng.choice((4, 12, 48)))
         try:
             after = opponent.evacuate()
@@ -99,10 +147,9 @@ class Judge:
             done = subprocess.run([self.options.g1pause, "check"], input=after.to_bytes(), capture_output=True)
             self.judge(f"{name}: check", done.stdout == b"covered\n")
             self.paused(f"{name}: g1pause", before, chosen, expected)
-        planter = Planter(after, opponent.copies, rng)
-        outside = [a + 1 for a in before.objects() if before.region_of(a) not in chosen]
-        for error in ERRORS:
-            self.planted(f"{name}: {error}", error, before, getattr(planter, error)(), outside, words)
+        planter = Planter(before, opponent, after, rng)
+        for error in ERRORS + MORE_ERRORS:
+            self.planted(f"{name}: {error}", error, before, getattr(planter, error)(), chosen)
         return True
 
     def paused(self, name, before, chosen, expected):
@@ -116,7 +163,7 @@ class Judge:
             answer = self.same(from_bytes(done.stdout), "--covered", "--set", *regions)
             self.judge(name, answer == (0, expected, ""))
 
-    def planted(self, name, error, before, after, outside, words):
+    def planted(self, name, error, before, after, chosen):
         if after is None:
             return
         self.counts[error] += 1
@@ -126,12 +173,26 @@ class Judge:
             return
         expected = judged(before, after)
         self.judge(f"{name}: {expected}", (status, out, err) == (int(expected[:4] != "same"), expected, ""))
-        whole = judged(before, after, [(f"object {word - 1}", word, word) for word in outside])
-        status, out, err = self.same(after, *words)
-        found = (status, out[:6]) == (1, "differ")
-        self.judge(f"{name}, with the set: {whole}", found == (whole[:4] != "same") and not err)
         self.counts[f"{error}, and a root leads to it"] += expected[:4] != "same"
-        self.counts[f"{error}, and a root or an object outside the set leads to it"] += found
+        self.with_set(name, error, before, after, chosen, expected)
+        if expected[:4] == "same":
+            self.with_cover(name, error, after, expected)
+
+    def with_set(self, name, error, before, after, chosen, expected):
+        status, out, err = self.same(after, "--set", *(str(r) for r in chosen))
+        region = region_line(before, after, chosen) if expected[:4] == "same" else None
+        outside = [a + 1 for a in before.objects() if before.region_of(a) not in chosen]
+        whole = region or judged(before, after, [(f"object {word - 1}", word, word) for word in outside])
+        found = (status, out[:6]) == (1, "differ")
+        self.judge(f"{name}, with the set: {whole}", found == (whole[:4] != "same") and not err and region in (None, out))
+        self.counts[f"{error}, and --set finds it"] += found
+
+    def with_cover(self, name, error, after, expected):
+        slot = uncovered(after)
+        covered = (0, f"{expected}covered\n", "")
+        told = covered if slot is None else (4, "", f"g1heap: after: fault 9: uncovered slot {slot}\n")
+        self.judge(f"{name}, with cover: {told}", self.same(after, "--covered") == told)
+        self.counts[f"{error}, and --covered finds it"] += slot is not None
 
 
 def main():

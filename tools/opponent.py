@@ -13,7 +13,14 @@ import pathlib
 import random
 import sys
 
-from heap_image import FREE, NULL, ORDINARY, from_bytes
+sys.path.insert(0, str(pathlib.Path(__file__).resolve().parent / "lib"))
+
+from heap_image import FREE, NULL, ORDINARY, from_bytes  # noqa: E402
+
+
+def refused(image, region):
+    """Whether no pause collects a region: it is not in the heap, not ordinary, or pinned."""
+    return not 0 <= region < image.regions or image.kinds[region] != ORDINARY or image.pinned[region]
 
 
 class NoRoom(Exception):
@@ -123,6 +130,9 @@ def main():
     parser.add_argument("--buffer", type=int, default=12, metavar="WORDS")
     options = parser.parse_args()
     image = from_bytes(pathlib.Path(options.image).read_bytes())
+    for region in options.set:
+        if refused(image, region):
+            sys.exit(f"no pause collects region {region} of {options.image}")
     opponent = Opponent(image, options.set, random.Random(options.seed), options.threads, options.buffer)
     try:
         after = opponent.evacuate()

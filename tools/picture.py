@@ -16,7 +16,7 @@ import pathlib
 import subprocess
 import sys
 
-PROGRAM = pathlib.Path(__file__).resolve().parent.parent / "crates" / "g1pause" / "out" / "g1pause"
+PROGRAM = pathlib.Path(__file__).resolve().parent.parent / "out" / "g1pause"
 COSTS = ("fixed", "dirty", "card", "byte")
 # Up to so many regions: columns, and the pixels from one cell to the next.
 GRIDS = ((8, 4, 72), (32, 8, 56), (256, 16, 32), (1024, 32, 18), (4096, 64, 10))
@@ -323,7 +323,7 @@ def main():
     parser.add_argument("--budget", metavar="N", help="frames what g1pause choose takes for this budget")
     for name in COSTS:
         parser.add_argument(f"--{name}", metavar="N", help="handed to g1pause choose")
-    parser.add_argument("--program", metavar="FILE", default=str(PROGRAM), help="g1pause (default: where it is built)")
+    parser.add_argument("--program", metavar="FILE", default=str(PROGRAM), help="g1pause (default: out/g1pause)")
     options = parser.parse_args()
     images = [options.image] + ([options.after] if options.after else [])
     try:

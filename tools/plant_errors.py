@@ -1,8 +1,10 @@
 #!/usr/bin/env python3
-"""plant_errors.py G1HEAP [--image FILE --set R ..] [--seed S]
+"""plant_errors.py G1HEAP [--image FILE --set R ..] [--seed S] [--all]
 
 Evacuates an image (examples/shared_targets.img, region 1) as tools/opponent.py does, then plants one error of each
 kind that a collector's builder meets into the image after, and prints the line that `g1heap same` tells of it.
+With --all it asks `same --covered --set R ..`, and also plants the errors that only these find. An image may have no
+place for an error, which is printed in its place.
 """
 import argparse
 import pathlib
@@ -11,8 +13,10 @@ import subprocess
 import sys
 import tempfile
 
-from heap_image import FREE, NULL, ORDINARY, from_bytes
-from opponent import Opponent
+sys.path.insert(0, str(pathlib.Path(__file__).resolve().parent / "lib"))
+
+from heap_image import FREE, NULL, ORDINARY, from_bytes  # noqa: E402
+from opponent import NoRoom, Opponent, refused  # noqa: E402
 
 EXAMPLES = pathlib.Path(__file__).resolve().parent.parent / "examples"
 
@@ -20,9 +24,10 @@ EXAMPLES = pathlib.Path(__file__).resolve().parent.parent / "examples"
 class Planter:
     """Errors planted in the image after an evacuation. A holder is a root or a slot."""
 
-    def __init__(self, after, copies, rng):
-        self.after, self.copies, self.rng = after, copies, rng
-        self.origins = {to + 1: address + 1 for address, to in copies.items()}
+    def __init__(self, before, opponent, after, rng):
+        self.before, self.chosen = before, sorted(opponent.chosen)
+        self.after, self.copies, self.rng = after, opponent.copies, rng
+        self.origins = {to + 1: address + 1 for address, to in opponent.copies.items()}
         self.objects = list(after.objects())
 
     def holders(self):
@@ -44,6 +49,9 @@ class Planter:
 
     def named_copies(self):
         return [h for h in self.holders() if self.word(self.after, h) in self.origins]
+
+    def words_before(self, address):
+        return tuple(self.before.words[address:address + self.before.size(address)])
 
     def copied_twice(self):
         """Two names of one object lead to two copies of it."""
@@ -95,8 +103,66 @@ class Planter:
         image.roots.pop()
         return image
 
+    def card_lost(self):
+        """A remembered set lacks a card."""
+        region = self.pick(r for r, cards in enumerate(self.after.sets) if cards)
+        if region is None:
+            return None
+        image = self.after.copy()
+        image.sets[region].remove(self.rng.choice(image.sets[region]))
+        return image
+
+    def region_not_freed(self):
+        """A region of the set is still in use, with a dead object of fewer words than it held."""
+        region = self.pick(r for r in self.chosen if self.before.tops[r] > 1)
+        if region is None:
+            return None
+        width = self.after.region_words
+        image, top = self.after.copy(), self.rng.randint(1, min(self.before.tops[region] - 1, 3 * width // 4))
+        image.kinds[region], image.tops[region] = ORDINARY, top
+        image.words[region * width] = top << 32
+        return image
+
+    def repinned(self, pinned):
+        """One of the regions with this pin, of those outside the set that were in use, has the other one."""
+        region = self.pick(r for r in range(self.after.regions) if self.after.pinned[r] == pinned
+                           and r not in self.chosen and self.before.kinds[r] == ORDINARY)
+        if region is None:
+            return None
+        image = self.after.copy()
+        image.pinned[region] = not pinned
+        return image
+
+    def pin_lost(self):
+        """A region outside the set is no longer pinned."""
+        return self.repinned(True)
+
+    def pin_new(self):
+        """A region outside the set is pinned, and was not."""
+        return self.repinned(False)
+
+    def equal_object_in_use(self):
+        """Whatever referenced a copy references an equal object outside the set, which was there before."""
+        equal = {}
+        for at in self.before.objects():
+            if self.before.region_of(at) not in self.chosen:
+                equal.setdefault(self.words_before(at), []).append(at)
+        twin = self.pick((to, at) for address, to in self.copies.items() for at in equal.get(self.words_before(address), []))
+        if twin is None:
+            return None
+        copy, other = twin[0] + 1, twin[1] + 1
+        image = self.after.copy()
+        image.roots = [other if word == copy else word for word in image.roots]
+        for kind, slot in self.holders():
+            if kind == "slot" and image.words[slot] == copy:
+                image.words[slot] = other
+        image.make_exact()
+        return image
+
 
 ERRORS = ("copied_twice", "slot_not_updated", "slot_to_a_wrong_copy", "data_torn", "lost_root", "root_left_out")
+# Those that `same` finds with --covered or --set alone.
+MORE_ERRORS = ("card_lost", "region_not_freed", "pin_lost", "pin_new", "equal_object_in_use")
 
 
 def main():
@@ -105,21 +171,33 @@ def main():
     parser.add_argument("--image", default=str(EXAMPLES / "shared_targets.img"))
     parser.add_argument("--set", type=int, nargs="+", default=[1], metavar="R")
     parser.add_argument("--seed", type=int, default=1, metavar="S")
+    parser.add_argument("--all", action="store_true")
     options = parser.parse_args()
     rng = random.Random(options.seed)
-    before = pathlib.Path(options.image)
-    opponent = Opponent(from_bytes(before.read_bytes()), options.set, rng)
-    planter = Planter(opponent.evacuate(), opponent.copies, rng)
+    path, program = pathlib.Path(options.image), pathlib.Path(options.g1heap).resolve()
+    if not program.is_file():
+        sys.exit(f"{options.g1heap} is not there")
+    before = from_bytes(path.read_bytes())
+    for region in options.set:
+        if refused(before, region):
+            sys.exit(f"no pause collects region {region} of {options.image}")
+    opponent = Opponent(before, options.set, rng)
+    try:
+        planter = Planter(before, opponent, opponent.evacuate(), rng)
+    except NoRoom:
+        sys.exit("the free regions do not suffice")
+    asked = ["--covered", "--set", *(str(r) for r in options.set)] if options.all else []
     with tempfile.TemporaryDirectory() as folder:
-        for error in ("no error",) + ERRORS:
+        for error in ("no error",) + ERRORS + (MORE_ERRORS if options.all else ()):
             image = planter.after if error == "no error" else getattr(planter, error)()
-            if image is None:
-                sys.exit(f"{error}: the image has no place for it")
-            (pathlib.Path(folder) / "after.img").write_bytes(image.to_bytes())
-            done = subprocess.run([str(pathlib.Path(options.g1heap).resolve()), "same", str(before.resolve()), "after.img"], cwd=folder,
-                                  capture_output=True, text=True)
-            line = (done.stdout + done.stderr).strip()
-            print(f"{error.replace('_', ' ')}: status {done.returncode}\n    {line}")
+            told = f"{error.replace('_', ' ')}: the image has no place for it"
+            if image is not None:
+                (pathlib.Path(folder) / "after.img").write_bytes(image.to_bytes())
+                done = subprocess.run([str(program), "same", str(path.resolve()), "after.img", *asked], cwd=folder,
+                                      capture_output=True, text=True)
+                line = (done.stdout + done.stderr).strip().replace("\n", "\n    ")
+                told = f"{error.replace('_', ' ')}: status {done.returncode}\n    {line}"
+            print(told)
 
 
 if __name__ == "__main__":

@@ -4,10 +4,11 @@
 Shows that `print` and `make` go there and back, on each image (default: examples/*.img) and on N random small
 ones (1000). Of each it is asked that
 
+- `print` gives the lines that this script writes of the image, by docs/HEAP_TEXT.md;
 - `print` and then `make` gives the image's bytes, of version 2;
 - lines in which all is left out that may be (addresses, tops, counts, numbers of roots, free regions that others
-  follow, continuations, and remembered sets where they are what the references say) make the same bytes, and
-  `print` then gives the lines in their full form;
+  follow, continuations, the last words of objects, and remembered sets where they are what the references say) make
+  the same bytes, and `print` then gives the lines in their full form. In every second image a CR ends each line;
 - with --g1pause, the heading and the lines of regions are what `g1pause show` prints;
 - each region and each object printed alone is its lines of the whole.
 
@@ -20,10 +21,48 @@ import subprocess
 import sys
 import tempfile
 
-from heap_image import drawn, from_bytes
-from image_text import in_version_two
+sys.path.insert(0, str(pathlib.Path(__file__).resolve().parent / "lib"))
+
+from heap_image import CONTINUATION, FIRST, FREE, NULL, ORDINARY, drawn, from_bytes  # noqa: E402
+from image_text import in_version_two  # noqa: E402
 
 EXAMPLES = pathlib.Path(__file__).resolve().parent.parent / "examples"
+
+
+KINDS = {FREE: "free", ORDINARY: "ordinary", FIRST: "humongous", CONTINUATION: "continuation"}
+
+
+def reference(word):
+    return "-" if word == NULL else str(word - 1)
+
+
+def object_line(image, at):
+    words = [reference(image.words[slot]) for slot in image.slots(at)] + [str(image.words[p]) for p in image.content(at)]
+    return " ".join([f"object {at} {image.size(at)}/{len(image.slots(at))}", *words])
+
+
+def lines_of(image):
+    """The lines of an image in their full form."""
+    current = "none" if image.current is None else image.current
+    sizes = f"{image.region_words} {image.card_words} {image.regions}"
+    lines = [f"heap {sizes} roots {len(image.roots)} dirty {len(image.log)} current {current}"]
+    lines += [f"root {number} {reference(word)}" for number, word in enumerate(image.roots)]
+    lines += [" ".join(["dirty cards", *map(str, image.log)])] if image.log else []
+    for region, (kind, top, cards) in enumerate(zip(image.kinds, image.tops, image.sets)):
+        objects, pinned = list(image.objects_in(region)), " pinned" if image.pinned[region] else ""
+        lines.append(f"region {region} {KINDS[kind]} top {top} objects {len(objects)} cards {len(cards)}{pinned}")
+        lines += [" ".join([f"remembered {region} cards", *map(str, cards)])] if cards else []
+        lines += [object_line(image, at) for at in objects]
+    return lines
+
+
+def cut(words):
+    """The words of an object's line without its address, and with two dots for the nulls and zeros at its end."""
+    size, *content = words[2:]
+    slots, left = int(size.split("/")[1]), len(content)
+    while left and content[left - 1] == ("-" if left <= slots else "0"):
+        left -= 1
+    return " ".join(["object", size, *content[:left], *([] if left == len(content) else [".."])])
 
 
 def shortened(lines, exact):
@@ -34,13 +73,13 @@ def shortened(lines, exact):
         if words[0] == "heap":
             at = words.index("current")
             out.append(" ".join(words[:4] + ([] if words[at + 1] == "none" else words[at:])))
-            out += ["# remembered sets follow", "covered"] if exact else []
+            out += ["#remembered sets follow", "covered"] if exact else []
         elif words[0] == "root":
             out.append(f"root {words[2]}")
         elif words[0] == "region" and words[2] in ("ordinary", "humongous"):
             out.append(f"\tregion {words[1]}  {words[2]} {'pinned' if words[-1] == 'pinned' else ''}")
         elif words[0] == "object":
-            out.append(" ".join(["object"] + words[2:]))
+            out.append(cut(words))
         elif words[0] == "dirty" or words[0] == "remembered" and not exact:
             out.append(line)
     return out
@@ -61,7 +100,7 @@ class Tries:
         if not good:
             print(f"failed: {name}")
 
-    def image(self, name, data, parts):
+    def image(self, name, data, parts, end="\n"):
         g1heap = self.options.g1heap
         text = self.run(g1heap, ["print", "-"], data)
         if not isinstance(text, bytes):
@@ -69,10 +108,11 @@ class Tries:
             return
         self.judge(f"{name}: print and make", self.run(g1heap, ["make"], text) == data)
         image = from_bytes(data)
+        self.judge(f"{name}: print", text == "".join(f"{line}\n" for line in lines_of(image)).encode())
         exact = image.copy()
         exact.make_exact()
         lines = text.decode().splitlines()
-        short = "\n".join(shortened(lines, exact.sets == image.sets)).encode()
+        short = end.join(shortened(lines, exact.sets == image.sets)).encode()
         made = self.run(g1heap, ["make", "-"], short)
         self.judge(f"{name}: make of short lines", made == data)
         if made == data:
@@ -113,7 +153,7 @@ def main():
         for path in [pathlib.Path(x) for x in options.images] or sorted(EXAMPLES.glob("*.img")):
             tries.image(path.name, in_version_two(path.read_bytes()), True)
         for number in range(options.random):
-            tries.image(f"random image {number}", drawn(rng).to_bytes(), number % 50 == 0)
+            tries.image(f"random image {number}", drawn(rng).to_bytes(), number % 50 == 0, ("\n", "\r\n")[number % 2])
     print(f"{tries.passed} passed, {tries.failed} failed")
     return 1 if tries.failed or not tries.passed else 0
 

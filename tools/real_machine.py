@@ -1,10 +1,11 @@
 #!/usr/bin/env python3
-"""real_machine.py BINARY
+"""real_machine.py BINARY [--heap HEAP]
 
 Runs the built program against what a real machine does: streams that are closed, full or broken, limits on files, on
 memory and on threads, a process that is stopped and goes on, and calls that a signal interrupts. What the program has
 to do in each case stands in docs/HOSTILE.md. It needs Linux; a case that this machine cannot make is named as left
-out. The last line is 'N passed, M failed'.
+out. HEAP is the built g1heap: its commands that read images get the short images, too. The last line is 'N passed, M
+failed'.
 """
 import argparse
 import ctypes
@@ -18,13 +19,37 @@ import sys
 import tempfile
 import time
 
-from images import ONE_OBJECT, ONE_OBJECT_AFTER, SHARED, SHARED_AFTER
-from refusing import Judge, compiled
+sys.path.insert(0, str(pathlib.Path(__file__).resolve().parent / "lib"))
+
+from images import ONE_OBJECT, ONE_OBJECT_AFTER, SHARED, SHARED_AFTER  # noqa: E402
+from refusing import Judge, compiled  # noqa: E402
 
 INPUT = (b"", b"g1pause: fault 14: input\n", 6)
 OUTPUT = (b"", b"g1pause: fault 14: output\n", 6)
 MEMORY = (b"", b"g1pause: fault 13: memory\n", 6)
 STEPS = 40
+FREE, ORDINARY = 0, 1
+# The commands that read an image: all from standard input, and two of g1heap also from a file.
+READERS = (["show"], ["check"], ["live"], ["choose", "--budget", "1"], ["pause", "0"], ["show", "--repack"])
+HEAP_READERS = (["print", "-"], ["same", "-", "FILE"], ["same", "FILE", "-"])
+
+
+def short(tops, words):
+    """An image of 256 regions of 65,536 words, 128 MB in all, whose regions have these tops. Of the words that they
+    announce it has only the first."""
+    table = b"".join(struct.pack("<3I", ORDINARY if top else FREE, top, 0) for top in tops)
+    objects = struct.pack("<2I", 0, 1) * words
+    return b"G1IMAGE2" + struct.pack("<6I", 65_536, 64, 256, 0, 0, 256) + table + bytes(4 * 256) + objects
+
+
+# Each announces many words: all regions full, and no word; a word in each region but the last, which is full;
+# the same with a half of the last region's words; and a word behind free regions, with a full region behind it.
+SHORT_IMAGES = {
+    "no word": short([65_536] * 256, 0),
+    "a word a region": short([1] * 255 + [65_536], 255),
+    "a word a region and half of the last": short([1] * 255 + [65_536], 255 + 32_768),
+    "a word behind free regions": short([0] * 254 + [1, 65_536], 1),
+}
 
 
 def chain(before):
@@ -136,6 +161,32 @@ class Machine(Judge):
             told.append(good)
         self.judge(f"too little at first, enough at last: {told.count(True)} answers", not told[0] and told[-1])
 
+    def short_images(self, heap):
+        """Under a limit that the announced words wouldn't fit into, the fault is that they aren't there."""
+        for megabytes in (60, 120):
+            for kind, image in SHORT_IMAGES.items():
+                for words in READERS:
+                    name = f"{' '.join(words)}, {kind}, {megabytes} MB"
+                    self.judge(name, self.limited(self.binary, words, image, megabytes) == (b"", b"g1pause: fault 3: short\n", 3))
+                if heap:
+                    self.short_heaps(heap, kind, image, megabytes)
+
+    def short_heaps(self, heap, kind, image, megabytes):
+        with tempfile.NamedTemporaryFile() as file:
+            file.write(image)
+            file.flush()
+            for words in HEAP_READERS:
+                paths = [file.name if word == "FILE" else word for word in words]
+                told = f"g1heap: {paths[1]}: fault 3: short\n".encode()
+                name = f"g1heap {' '.join(words)}, {kind}, {megabytes} MB"
+                self.judge(name, self.limited(heap, paths, image, megabytes) == (b"", told, 3))
+
+    def limited(self, program, words, data, megabytes):
+        limit = megabytes * 1_000_000
+        done = subprocess.run([program, *words], input=data, capture_output=True, timeout=120,
+                              preexec_fn=lambda: resource.setrlimit(resource.RLIMIT_AS, (limit, limit)))
+        return done.stdout, done.stderr, done.returncode
+
     def threads(self):
         wanted = (self.large_after, b"", 0)
         words = ["pause", "--workers", "64", "--chunk", "1", *self.all]
@@ -161,6 +212,10 @@ class Machine(Judge):
         os.environ["LD_PRELOAD"] = str(library)
         for words, answer in ((["pause", "1"], SHARED_AFTER), (["show", "--repack"], SHARED), (["check"], b"covered\n")):
             self.judge(f"interrupted calls, {' '.join(words)}", self.run(words, SHARED) == (answer, b"", 0))
+        # A read that was interrupted is none that failed: what is wanting then is memory.
+        trace = b"heap 16 4 4 1\n" + b"same 0 0\n" * (1 << 22)
+        low = self.run(["run"], trace, before=lambda: resource.setrlimit(resource.RLIMIT_AS, (32 << 20, 32 << 20)))
+        self.judge(f"interrupted calls and too little memory: {low}", low == MEMORY)
         del os.environ["LD_PRELOAD"]
 
 
@@ -179,13 +234,16 @@ def no_threads():
 
 def main():
     parser = argparse.ArgumentParser(description=__doc__, formatter_class=argparse.RawDescriptionHelpFormatter)
-    parser.add_argument("binary", metavar="BINARY", help="the built program, crates/g1pause/out/g1pause")
-    machine = Machine(str(pathlib.Path(parser.parse_args().binary).resolve()))
+    parser.add_argument("binary", metavar="BINARY", help="the built program, out/g1pause")
+    parser.add_argument("--heap", metavar="HEAP", help="the built g1heap, out/g1heap")
+    options = parser.parse_args()
+    machine = Machine(str(pathlib.Path(options.binary).resolve()))
     machine.streams()
     for ignored in (False, True):
         machine.broken_pipe(ignored)
     machine.file_size()
     machine.memory()
+    machine.short_images(options.heap and str(pathlib.Path(options.heap).resolve()))
     machine.threads()
     machine.signals()
     with tempfile.TemporaryDirectory() as room:

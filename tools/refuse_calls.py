@@ -7,7 +7,7 @@ DRIVER, the built crates/g1_refusals, tells where it begins and ends. Each run h
 ample memory, which is written here from the definitions and by hand, or Memory. After Memory `verify` and `evacuate`
 have to hand back the image as it was, and after Memory from a command of a trace the same command is given again: the
 replies have to be those of the trace. The calls that take no memory run with every request refused, and have to answer.
-On two images of some size calls run with ample memory alone, and none may tell Memory.
+On images of some size calls run with ample memory alone, and none may tell Memory.
 It needs a C compiler. The last line is 'N passed, M failed'.
 """
 import argparse
@@ -15,20 +15,29 @@ import pathlib
 import sys
 import tempfile
 
-from images import (GAP, GAP_AFTER, NO_ROOM, ONE_OBJECT, ONE_OBJECT_AFTER, OUTSIDE_SLOT, OUTSIDE_SLOT_AFTER,
-                    REPLIES, SHARED, SHARED_AFTER, THREE, THREE_AFTER, TRACE, UNCOVERED, long_chain, many_slots)
-from refusing import ENDLESS, Judge, Refusing
+sys.path.insert(0, str(pathlib.Path(__file__).resolve().parent / "lib"))
+
+from images import (GAP, GAP_AFTER, HELD, HELD_AFTER, MANY_DIRTY, NAMED_BY_UNNAMED, NAMED_BY_UNNAMED_AFTER,
+                    NAMED_BY_UNNAMED_END, NO_ROOM, ONE_OBJECT, ONE_OBJECT_AFTER, OUTSIDE_SLOT, OUTSIDE_SLOT_AFTER,
+                    OWN_SLOT, OWN_SLOT_AFTER, REPLIES, SHARED, SHARED_AFTER, THREE, THREE_AFTER, TRACE, UNCOVERED,
+                    UNNAMED_OWNER, UNNAMED_OWNER_AFTER, all_dirty, long_chain, many_slots)
+from refusing import ENDLESS, Judge, Refusing  # noqa: E402
 
 MEMORY = b"fault 13: memory\n"
 SIZE = 1 << 32
 SHARING = ["1 64", "8 1"]
-# Whole pauses: the words behind workers and chunk, the image, and the image after.
+# Whole pauses: the words behind workers and chunk, the image, and the image after. The last five free humongous objects.
 PAUSES = [
     ("1", ONE_OBJECT, ONE_OBJECT_AFTER),
     ("1", OUTSIDE_SLOT, OUTSIDE_SLOT_AFTER),
     ("1", SHARED, SHARED_AFTER),
     ("1 0", GAP, GAP_AFTER),
     ("budget 42", THREE, THREE_AFTER),
+    ("", NAMED_BY_UNNAMED, NAMED_BY_UNNAMED_AFTER),
+    ("", NAMED_BY_UNNAMED_AFTER, NAMED_BY_UNNAMED_END),
+    ("", OWN_SLOT, OWN_SLOT_AFTER),
+    ("0", HELD, HELD_AFTER),
+    ("3", UNNAMED_OWNER, UNNAMED_OWNER_AFTER),
 ]
 
 
@@ -44,7 +53,6 @@ STEPS = {
     "decode": SHARED,
     "read": SHARED,
     "encode": SHARED,
-    "encode_into": SHARED,
     "write": SHARED,
     "objects_in": lists([0, 4]) + b"watched\n" + lists([16, 21]) + (b"watched\n" + lists([])) * 2,
     "verify": SHARED,
@@ -87,6 +95,8 @@ FREE = {
     "claims_close": lists([9, NEVER]),
     "each_region_mut": lists([region for region in range(7) for _ in range(2)]),
 }
+# A count whose bytes aren't there: nothing is asked for, so no refusal is met.
+NOTHING_THERE = {"decode": (MANY_DIRTY, b"fault 3: short\n")}
 # On images of some size, with ample memory alone: the call, the regions, the image, and what it answers.
 CHAIN = " ".join(str(region) for region in range(49))
 LARGE = [
@@ -95,6 +105,7 @@ LARGE = [
     ("refine", "24", many_slots, lambda: lists(*[[]] * 24, range(24 * 1024), *[[]] * 7)),
     ("cards_into", "24", many_slots, lambda: lists(range(24 * 1024))),
     ("patches", "24", many_slots, lambda: lists(n for slot in range(1, 24 * 4096, 2) for n in (slot, 25 * 4096 + 1))),
+    ("refine", "64", all_dirty, lambda: lists([64 * 16_384], *[[]] * 64)),
     ("new_rem", "24", many_slots, lambda: lists(*[[]] * 25, range(24 * 1024), *[[]] * 6)),
 ]
 # Refusals that are not Memory: the call, the words, the image, and what is told.
@@ -158,6 +169,8 @@ class Sweep(Judge):
             self.takes(call, f"{sharing} budget 42", THREE, told)
         for call, told in FREE.items():
             self.free(call, f"{sharing} 1", SHARED, told)
+        for call, (data, told) in NOTHING_THERE.items():
+            self.free(call, f"{sharing} 1", data, told)
         for call, words, data, told in REFUSALS:
             back = data if told.endswith(data) else b""
             self.sweep(call, f"{sharing} {words}", data, told, back)

@@ -17,12 +17,14 @@ import pathlib
 import sys
 import tempfile
 
+sys.path.insert(0, str(pathlib.Path(__file__).resolve().parent / "lib"))
+
 from images import (DIRTY, GAP, GAP_AFTER, HELD, HELD_AFTER, HUMONGOUS, HUMONGOUS_AFTER, HUMONGOUS_WITHOUT_CARDS,
                     LOGGED, NAMED_BY_UNNAMED, NAMED_BY_UNNAMED_AFTER, NAMED_BY_UNNAMED_END, NO_ROOM, ONE_OBJECT,
                     ONE_OBJECT_AFTER, OUTSIDE_SLOT, OUTSIDE_SLOT_AFTER, OWN_SLOT, OWN_SLOT_AFTER, SHARED, SHARED_AFTER,
                     SHARED_BUT_CARD_0, SHARED_BUT_CARD_1, SHARED_WITHOUT_CARDS, THREE, THREE_AFTER, UNCOVERED,
                     UNNAMED_OWNER, UNNAMED_OWNER_AFTER)
-from refusing import Judge, Refusing, run
+from refusing import Judge, Refusing, run  # noqa: E402
 
 MEMORY = (b"", b"g1pause: fault 13: memory\n", 6)
 USAGE = (b"", b"", 2)
@@ -112,7 +114,7 @@ def is_usage(answer):
 
 def main():
     parser = argparse.ArgumentParser(description=__doc__, formatter_class=argparse.RawDescriptionHelpFormatter)
-    parser.add_argument("binary", metavar="BINARY", help="the built program, crates/g1pause/out/g1pause")
+    parser.add_argument("binary", metavar="BINARY", help="the built program, out/g1pause")
     parser.add_argument("--first", action="store_true", help="end at the first failure")
     options = parser.parse_args()
     with tempfile.TemporaryDirectory() as room:

@@ -4,17 +4,30 @@
 Runs the commands of g1heap on each image (default: examples/*.img) while requests for memory are refused, as
 tools/refuse_memory.py does for g1pause: every request from the Nth on, and the Nth alone. Each run has to answer
 what the program answers with ample memory, or `fault 13: memory`, of a file or of none, with status 6 and nothing
-on standard output; and each command has to meet a refusal, and to tell Memory for one. The last line is
-'N passed, M failed'.
+on standard output; and each command has to meet a refusal, and to tell Memory for one. So does a command whose file
+the machine has no memory to open. The last line is 'N passed, M failed'.
 """
 import argparse
+import os
 import pathlib
 import re
 import sys
 import tempfile
 
-from refusing import Judge, Refusing, run
+sys.path.insert(0, str(pathlib.Path(__file__).resolve().parent / "lib"))
 
+from refusing import Judge, Refusing, compiled, run  # noqa: E402
+
+# The system has no memory to open a file.
+UNOPENED = r"""
+#include <errno.h>
+
+int open(const char *path, int flags, ...) {
+    (void)path, (void)flags;
+    errno = ENOMEM;
+    return -1;
+}
+"""
 MEMORY = re.compile(rb"g1heap: (.*: )?fault 13: memory\n")
 
 
@@ -38,6 +51,13 @@ class Sweep(Judge):
         self.judge(f"{name}: requests were refused, and it was told", some and memory)
 
 
+def unopened(judge, folder, binary, path):
+    environment = dict(os.environ, LD_PRELOAD=str(compiled(folder, "unopened.so", UNOPENED, "-shared", "-fPIC")))
+    for words in (["print", path], ["make", path], ["same", path, path]):
+        answer = run([binary, *words], b"", environment)
+        judge.judge(f"no memory to open a file, {words[0]}: {answer}", is_memory(answer))
+
+
 def shortened(lines):
     """The lines without what follows from the others."""
     kept = b"\n".join(line for line in lines.splitlines() if not line.startswith(b"remembered"))
@@ -46,7 +66,7 @@ def shortened(lines):
 
 def main():
     parser = argparse.ArgumentParser(description=__doc__, formatter_class=argparse.RawDescriptionHelpFormatter)
-    parser.add_argument("binary", metavar="G1HEAP", help="the built program, crates/g1heap/out/g1heap")
+    parser.add_argument("binary", metavar="G1HEAP", help="the built program, out/g1heap")
     parser.add_argument("images", metavar="IMAGE", nargs="*", type=pathlib.Path, default=[])
     parser.add_argument("--first", action="store_true", help="end at the first failure")
     options = parser.parse_args()
@@ -54,6 +74,7 @@ def main():
     examples = pathlib.Path(__file__).resolve().parent.parent / "examples"
     with tempfile.TemporaryDirectory() as room:
         sweep = Sweep(pathlib.Path(room))
+        unopened(sweep, pathlib.Path(room), binary, str(examples / "one_object.img"))
         for image in options.images or sorted(examples.glob("*.img")):
             data, path = image.read_bytes(), str(image.resolve())
             lines = run([binary, "print", "-"], data)[0]

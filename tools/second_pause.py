@@ -20,8 +20,10 @@ import argparse
 import pathlib
 import sys
 
-from image_text import FIRST, ORDINARY, fault_of, free_regions, graph, named_humongous, read
-from refusing import Judge, run
+sys.path.insert(0, str(pathlib.Path(__file__).resolve().parent / "lib"))
+
+from image_text import FIRST, ORDINARY, fault_of, free_regions, graph, named_humongous, read  # noqa: E402
+from refusing import Judge, run  # noqa: E402
 
 BUDGETS = ["0", "1000", "1000000", "18446744073709551615"]
 REGIONS = 4  # so many ordinary regions are tried alone
@@ -96,7 +98,7 @@ class Tries(Judge):
 
 def main():
     parser = argparse.ArgumentParser(description=__doc__, formatter_class=argparse.RawDescriptionHelpFormatter)
-    parser.add_argument("binary", metavar="BINARY", help="the built program, crates/g1pause/out/g1pause")
+    parser.add_argument("binary", metavar="BINARY", help="the built program, out/g1pause")
     parser.add_argument("images", metavar="IMAGE", nargs="*", type=pathlib.Path, default=[])
     parser.add_argument("--first", action="store_true", help="end at the first failure")
     options = parser.parse_args()

@@ -18,7 +18,7 @@ import unittest.mock
 
 TOP = pathlib.Path(__file__).resolve().parent.parent
 sys.dont_write_bytecode = True
-sys.path[:0] = [str(TOP / "bench"), str(TOP / "tools")]
+sys.path[:0] = [str(TOP / "bench"), str(TOP / "tools"), str(TOP / "tools" / "lib")]
 
 import compare  # noqa: E402
 import hostile  # noqa: E402
@@ -261,6 +261,34 @@ class Images(unittest.TestCase):
         self.assertEqual(len(heap.words), 6_553_600)
         heap = hostile.made("two_chains", "1")
         self.assertEqual([len(heap.roots), len(heap.words) // 4 // 1000], [2, 100])
+
+
+class Drawn(Folder):
+    """bench/images.py at the ends of its sizes."""
+
+    def drawn(self, *words):
+        """The status, what is told of a refusal, and the image."""
+        path = self.room / "drawn.img"
+        path.unlink(missing_ok=True)
+        done = subprocess.run([sys.executable, str(TOP / "bench/images.py"), words[0], str(path), *words[1:]],
+                              capture_output=True, text=True)
+        return done.returncode, done.stderr, path.read_bytes() if path.exists() else None
+
+    def test_sizes_that_no_image_has_are_refused(self):
+        for words in (["100"], ["8"], ["131072"], ["32"], ["16", "--card", "16"], ["64", "--card", "128"],
+                      ["64", "--card", "3"], ["64", "--words", "32"], ["64", "--words", "262145"],
+                      ["65536", "--words", str((1 << 24) + 1)]):
+            status, told, image = self.drawn(*words)
+            self.assertEqual((status, told.count("\n"), image), (1, 1, None), words)
+            self.assertTrue(told.startswith("images.py: "), told)
+
+    def test_the_smallest_sizes_are_those_of_images(self):
+        for words in (["16", "--card", "16", "--words", "65536"], ["16", "--card", "4", "--words", "16"],
+                      ["32", "--card", "4", "--words", "4096"], ["64", "--words", "100000"]):
+            for seed in ("1", "2", "3"):
+                status, told, image = self.drawn(*words, "--seed", seed)
+                self.assertEqual((status, told), (0, ""), words)
+                self.assertIsNone(fault_of(image, True), words)
 
 
 if __name__ == "__main__":

@@ -11,11 +11,14 @@ import subprocess
 import sys
 import tempfile
 
-from refusing import Judge, compiled
+sys.path.insert(0, str(pathlib.Path(__file__).resolve().parent / "lib"))
+
+from refusing import BEGIN, END, Judge, compiled  # noqa: E402
 
 TOOLS = pathlib.Path(__file__).resolve().parent
 # `real` runs the program with its outputs caught; `say` answers in its place.
 HEAD = r"""
+#include <stdlib.h>
 #include <string.h>
 #include <sys/wait.h>
 #include <unistd.h>
@@ -90,9 +93,12 @@ DRIVERS = {
                                   "if (write(1, out, out_size) != out_size) _exit(96); return status;",
 }
 
+# A driver that does its work without a thread: it asks for memory as one does that begins and ends.
+IDLE = f'void *volatile sign = malloc({BEGIN}); free(sign); sign = malloc({END}); free(sign); say("watched\\n", 8, "", 0);'
+
 
 # A script ends with the first answer that it fails.
-FIRST = {script: ["--first"] for script in ("refuse_memory.py", "second_pause.py", "refuse_calls.py")}
+FIRST = {script: ["--first"] for script in ("refuse_memory.py", "second_pause.py", "refuse_calls.py", "count_threads.py")}
 
 
 def passes(script, *words):
@@ -108,7 +114,7 @@ def broken(folder, name, real, body):
 
 def main():
     parser = argparse.ArgumentParser(description=__doc__, formatter_class=argparse.RawDescriptionHelpFormatter)
-    parser.add_argument("binary", metavar="BINARY", help="the built program, crates/g1pause/out/g1pause")
+    parser.add_argument("binary", metavar="BINARY", help="the built program, out/g1pause")
     parser.add_argument("driver", nargs="?", metavar="DRIVER", help="the built driver, crates/g1_refusals/out/g1_refusals")
     options = parser.parse_args()
     binary, *drivers = (str(pathlib.Path(x).resolve()) for x in (options.binary, options.driver) if x)
@@ -129,6 +135,9 @@ def main():
             for name, body in DRIVERS.items():
                 program = broken(folder, f"driver_{name}", driver, body)
                 judge.judge(f"refuse_calls.py fails {name}", not passes("refuse_calls.py", program))
+            judge.judge("count_threads.py passes the driver", passes("count_threads.py", driver))
+            idle = broken(folder, "driver_idle", driver, IDLE)
+            judge.judge("count_threads.py fails a driver that starts no thread", not passes("count_threads.py", idle))
     return judge.end()
 
 

@@ -3,12 +3,15 @@
 
 Heap dumps are made here by hand, with identifiers of 4 and of 8 bytes, and the images expected of them were laid out by
 hand. Pages with a wrong output, a command that fails, a file left behind or a picture that changed have to fail.
-A picture is made of what a stand-in for g1pause says. The examples have to be those that examples/make.py makes.
+A picture is made of what a stand-in for g1pause says. Planted rows are tried by a stand-in for the prover, of which what
+each function says is known: one that is proved, unread or refused only for another has to fail. The examples have to be those that examples/make.py makes.
 Each script has to answer --help, and to say what it wants where it is called without arguments.
 """
 import contextlib
 import io
+import os
 import pathlib
+import re
 import struct
 import subprocess
 import sys
@@ -21,6 +24,7 @@ sys.path.insert(0, str(TOP / "tools"))
 
 import check_pages  # noqa: E402
 import hprof2image  # noqa: E402
+import planted  # noqa: E402
 
 OBJECT, A, ARRAY = 0x10, 0x20, 0x30  # classes
 INT, BYTE, LONG, REFERENCE = 10, 8, 11, 2
@@ -153,8 +157,8 @@ class Dumps(unittest.TestCase):
         self.assertEqual(converted(Maker(8).heap(), regions=4)[0][16:20], struct.pack("<I", 4))
 
     def test_no_heap_at_all_is_told(self):
-        self.assertIn("W 4096 with N from 4096 to 4096", str(hprof2image.too_many([8192] * 2048, 16, 9, 512 * 2048)))
-        self.assertIn("no heap holds them", str(hprof2image.too_many([1 << 20] * 17, 4096, 9, 17 * 256)))
+        self.assertIn("W 4096 with N from 4096 to 4096", str(hprof2image.too_many([(8192, 2048)], 16, 9, 512 * 2048)))
+        self.assertIn("no heap holds them", str(hprof2image.too_many([(1 << 20, 17)], 4096, 9, 17 * 256)))
 
     def test_a_dump_in_one_record_needs_no_end(self):
         make = Maker(8)
@@ -275,6 +279,167 @@ class Examples(unittest.TestCase):
                 self.assertEqual(path.read_bytes(), kept.read_bytes(), kept)
 
 
+# A crate of three functions, and a prover that says of a function what stands for it in its body. What it says is what
+# rattle prints for such a body.
+TOY = """\
+fn first() -> u64
+{
+    1
+}
+
+fn second() -> u64
+{
+    2
+}
+
+fn third() -> u64
+{
+    second() + 1
+}
+"""
+PROVER = """\
+import pathlib, re, sys
+text = pathlib.Path("src/lib.rt").read_text()
+bodies = {name: body for name, body in re.findall(r"fn (\\w+)[^{]*{(.*?)\\n}", text, re.S)}
+asked = [word for flag, word in zip(sys.argv, sys.argv[1:]) if flag == "--only"]
+lines = text.split("\\n")
+if "garbled" in text:
+    print(f"src/lib.rt:{1 + next(at for at, line in enumerate(lines) if 'garbled' in line)}:5: error: expected the end of the file")
+    sys.exit(1)
+for name in asked:
+    kept = pathlib.Path("proofs", name, "Proof.antt").exists()
+    is_open = "wrong" in bodies[name]
+    calls = "; it calls `toy::second`, which is not proved" if "second()" in bodies[name] and "wrong" in bodies["second"] else ""
+    if "gone" in bodies[name]:
+        print(f"./proofs/{name}/Answers.antt:1:2: error: `c` has no field `x`")
+        print(f"fn toy::{name}: not proved")
+    elif is_open:
+        print(f"fn toy::{name}: no proof: expected answers; `search` did not prove `returns`{calls}")
+    else:
+        print(f"fn toy::{name}: not proved{calls}" if calls else f"fn toy::{name}: no holes")
+print(f"only={len(asked)} holes=0")
+"""
+
+
+class StandIn:
+    """What planted.py takes of rt, over a crate of three functions."""
+
+    def __init__(self, folder):
+        self.folder, self.name = str(folder / "crates/toy"), "toy"
+        folder.joinpath("prover.py").write_text(PROVER)
+        self.RATTLE, self.prover = sys.executable, str(folder / "prover.py")
+        self.rtlib, self.PARTS, self.STALE = self, ("src", "specs", "proofs"), re.compile("Run the lower steps again")
+
+    def crates_below(self, _root):
+        return [self]
+
+    def guarded(self):
+        return ["env", "--", self.RATTLE, self.prover]
+
+    def below(self):
+        return []
+
+    def count(self, _pattern):
+        return 1
+
+    def need(self, _crate):
+        return 1
+
+    def words(self, flags, keeps):
+        return flags
+
+    def unread(self, line, _changed):
+        return "expected the end" in line
+
+    def in_lanes(self, tasks):
+        return {key: call({}, 1) for key, (_, _, _, call) in tasks.items()}
+
+    def read_edit(self, edit, folder):
+        old, new = re.search(r"^old: (.*)\nnew: (.*)$", pathlib.Path(edit).read_text(), re.M).groups()
+        text = pathlib.Path(folder, "src/lib.rt").read_text()
+        return ({"src/lib.rt": text.replace(old, new)}, None) if text.count(old) == 1 else (None, "an 'old:' text is not there once")
+
+
+class Planted(unittest.TestCase):
+    def setUp(self):
+        self.room = tempfile.TemporaryDirectory()
+        self.folder = pathlib.Path(self.room.name)
+        for name in ("src", "planted"):
+            self.folder.joinpath("crates/toy", name).mkdir(parents=True)
+        self.folder.joinpath("crates/toy/src/lib.rt").write_text(TOY)
+        self.row("control", "first", "    1", "    1 + 0", expect="expect: proves\n")
+
+    def tearDown(self):
+        self.room.cleanup()
+
+    def row(self, name, function, old, new, expect=""):
+        text = f"turns: {function}: what it does\n{expect}file: src/lib.rt\nold: {old}\nnew: {new}\n"
+        self.folder.joinpath(f"crates/toy/planted/{name}.edit").write_text(text)
+
+    def tried(self):
+        """What each row came to, by its name, and the last line and status."""
+        was, rt = (planted.ROOT, planted.load_rt), StandIn(self.folder)
+        planted.ROOT, planted.load_rt = self.folder, lambda: rt
+        here, words = os.getcwd(), sys.argv
+        sys.argv = ["planted.py", "toy"]
+        try:
+            with contextlib.redirect_stdout(io.StringIO()) as out:
+                status = planted.main()
+        finally:
+            (planted.ROOT, planted.load_rt), sys.argv = was, words
+            os.chdir(here)
+        lines = out.getvalue().splitlines()
+        return dict(line[len("planted toy/"):].split(": ", 1) for line in lines if line.startswith("planted toy/")), lines[-1], status
+
+    def test_a_row_that_is_refused_passes(self):
+        self.row("turned", "second", "    2", "    2 + wrong")
+        rows, last, status = self.tried()
+        self.assertEqual((last, status), ("1 refused, 0 failed", 0))
+        self.assertEqual(rows["turned"], "refused: second: not proved: `returns`")
+        self.assertIn("proved, as it must be", rows["control"])
+
+    def test_a_row_that_is_proved_fails(self):
+        self.row("turned", "second", "    2", "    1 + 1")
+        rows, last, status = self.tried()
+        self.assertEqual((last, status), ("0 refused, 1 failed", 1))
+        self.assertIn("NOT REFUSED", rows["turned"])
+
+    def test_a_control_that_is_refused_fails(self):
+        self.row("control", "first", "    1", "    1 + wrong", expect="expect: proves\n")
+        self.assertEqual(self.tried()[1:], ("0 refused, 1 failed", 1))
+
+    def test_a_crate_without_a_control_fails(self):
+        self.folder.joinpath("crates/toy/planted/control.edit").unlink()
+        self.row("turned", "second", "    2", "    2 + wrong")
+        self.assertEqual(self.tried()[1:], ("1 refused, 1 failed", 1))
+
+    def test_a_caller_is_tried_again_without_what_it_calls(self):
+        self.row("turned", "second", "    2", "    2 + wrong")
+        self.row("unturned", "third", "    second() + 1", "    second() + 1 + 0")
+        rows, last, status = self.tried()
+        self.assertEqual((last, status), ("1 refused, 1 failed", 1))
+        self.assertIn("NOT REFUSED", rows["unturned"])
+
+    def test_a_row_that_cannot_be_read_is_bad_alone(self):
+        self.row("turned", "second", "    2", "    2 + wrong")
+        self.row("unread", "third", "    second() + 1", "    garbled")
+        rows, last, status = self.tried()
+        self.assertEqual((last, status), ("1 refused, 1 failed", 1))
+        self.assertIn("BAD: src/lib.rt:13:5: error", rows["unread"])
+
+    def test_a_row_that_only_takes_a_name_away_is_bad(self):
+        self.row("turned", "second", "    2", "    gone")
+        self.assertIn("BAD: only its proof refuses it", self.tried()[0]["turned"])
+
+    def test_a_row_that_names_no_function_or_another_is_bad(self):
+        self.row("nobody", "fourth", "    2", "    2 + wrong")
+        self.row("another", "second", "    1", "    1 + wrong")
+        rows, last, status = self.tried()
+        self.assertEqual((last, status), ("0 refused, 2 failed", 1))
+        self.assertIn("BAD: it changes no line of fourth", rows["nobody"])
+        self.assertIn("BAD: it changes no line of second", rows["another"])
+
+
 class Scripts(unittest.TestCase):
     """All scripts, in a copy where no program is built, so that none has all that it wants."""
 
@@ -283,7 +448,7 @@ class Scripts(unittest.TestCase):
         cls.room = tempfile.TemporaryDirectory()
         cls.folder = pathlib.Path(cls.room.name)
         cls.scripts = []
-        for path in sorted([*TOP.glob("tools/*.py"), *TOP.glob("bench/*.py"), *TOP.glob("examples/**/*.py"), *TOP.glob("examples/**/*.sh")]):
+        for path in sorted([*TOP.glob("tools/**/*.py"), *TOP.glob("bench/*.py"), *TOP.glob("examples/**/*.py"), *TOP.glob("examples/**/*.sh")]):
             copy = cls.folder / path.relative_to(TOP)
             copy.parent.mkdir(parents=True, exist_ok=True)
             copy.write_bytes(path.read_bytes())
@@ -310,7 +475,7 @@ class Scripts(unittest.TestCase):
 
     def test_each_says_what_it_wants(self):
         for path in self.scripts:
-            if path.name in ("test_tools.py", "test_bench.py"):  # they want nothing
+            if path.name in ("test_tools.py", "test_bench.py", "test_hprof.py"):  # they want nothing
                 continue
             with self.subTest(path.name):
                 status, out, errors = self.run_script(path)

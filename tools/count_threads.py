@@ -1,0 +1,102 @@
+#!/usr/bin/env python3
+"""count_threads.py DRIVER
+
+Counts the threads that calls of the library start which no gate is told of: those that merge remembered sets, sort
+the log and make a pause ready. DRIVER, the built crates/g1_refusals, runs each on an image with more cards than one
+thread is given, and tells where the call begins and ends. The call has to start at least one thread, and no more than
+there may be workers; on an image of few cards it has to start none. On a machine of one processor nothing is counted.
+It needs a C compiler. The last line is 'N passed, M failed'.
+"""
+import argparse
+import os
+import pathlib
+import sys
+import tempfile
+
+sys.path.insert(0, str(pathlib.Path(__file__).resolve().parent / "lib"))
+
+from images import SHARED, all_dirty, numbers  # noqa: E402
+from refusing import BEGIN, END, Judge, compiled, run  # noqa: E402
+
+LIBRARY = r"""
+#define _GNU_SOURCE
+#include <dlfcn.h>
+#include <fcntl.h>
+#include <pthread.h>
+#include <stdatomic.h>
+#include <stdio.h>
+#include <stdlib.h>
+#include <unistd.h>
+
+extern void *__libc_malloc(size_t);
+
+static atomic_int counts;
+static atomic_long threads;
+
+static void report(void) {
+    char text[24];
+    int file = open(getenv("THREADS_REPORT"), O_CREAT | O_TRUNC | O_WRONLY, 0600);
+    int length = snprintf(text, sizeof text, "%ld", atomic_load(&threads));
+    if (file < 0 || write(file, text, length) != length) abort();
+    close(file);
+}
+
+void *malloc(size_t size) {
+    if (size == BEGIN || size == END) atomic_store(&counts, size == BEGIN);
+    if (size == END) report();
+    return __libc_malloc(size);
+}
+
+int pthread_create(pthread_t *thread, const pthread_attr_t *how, void *(*work)(void *), void *what) {
+    static int (*real)(pthread_t *, const pthread_attr_t *, void *(*)(void *), void *);
+    if (!real) real = dlsym(RTLD_NEXT, "pthread_create");
+    if (atomic_load(&counts)) atomic_fetch_add(&threads, 1);
+    return real(thread, how, work, what);
+}
+"""
+WORKERS = 64
+CALLS = ["refine", "new_rem", "prepare"]
+
+
+def all_remembered():
+    """Each of 96 regions, of one object without slots, remembers the 256 cards of each other: enough for 64 threads."""
+    full, cards = 96, range(96 * 256)
+    own = [(region * 256, region * 256 + 256) for region in range(full)]
+    sets = b"".join(numbers(len(cards) - 256, *cards[:first], *cards[last:]) for first, last in own)
+    front = numbers(1024, 4, full + 1, 0, 0, full + 1) + numbers(*[1, 1] * full, 0, 0)
+    return b"G1IMAGE1" + front + sets + numbers(0) + numbers(0, 1) * full
+
+
+def count(library, report, command, image):
+    """The threads that the call started, or nothing where the run failed."""
+    environment = dict(os.environ, LD_PRELOAD=str(library), THREADS_REPORT=str(report))
+    report.unlink(missing_ok=True)
+    _, errors, status = run(command, image, environment)
+    return int(report.read_text()) if status == 0 and not errors and report.exists() else None
+
+
+def main():
+    parser = argparse.ArgumentParser(description=__doc__, formatter_class=argparse.RawDescriptionHelpFormatter)
+    parser.add_argument("driver", metavar="DRIVER", help="the built driver, crates/g1_refusals/out/g1_refusals")
+    parser.add_argument("--first", action="store_true", help="end at the first failure")
+    options = parser.parse_args()
+    if len(os.sched_getaffinity(0)) < 2:
+        print("one processor: nothing is counted")
+        return 0
+    driver, judge = str(pathlib.Path(options.driver).resolve()), Judge()
+    with tempfile.TemporaryDirectory() as room:
+        folder = pathlib.Path(room)
+        words = ["-shared", "-fPIC", f"-DBEGIN={BEGIN}", f"-DEND={END}"]
+        library = compiled(folder, "count.so", LIBRARY, *words)
+        large = [(call, all_remembered()) for call in CALLS] + [("refine", all_dirty())]
+        for call, image in large:
+            started = count(library, folder / "threads", [driver, call, str(WORKERS), "1", "0"], image)
+            judge.judge(f"{call} of many cards: {started} threads", started is not None and 1 <= started < WORKERS)
+        for call in CALLS:
+            started = count(library, folder / "threads", [driver, call, str(WORKERS), "1", "1"], SHARED)
+            judge.judge(f"{call} of few cards: {started} threads", started == 0)
+    return judge.end()
+
+
+if __name__ == "__main__":
+    sys.exit(main())

@@ -1,0 +1,162 @@
+#!/usr/bin/env python3
+"""limits.py G1PAUSE G1HEAP
+
+Asks both programs of images in which a number is at its limit, or one more than what 16 bits hold: roots, dirty cards,
+cards of a set, objects and words of a region, regions, and candidates. What they have to print is written here by hand
+or by the rules of docs/COMMANDS.md and docs/HEAP_TEXT.md. The last line is 'N passed, M failed'.
+"""
+import argparse
+import pathlib
+import subprocess
+import sys
+import tempfile
+
+sys.path.insert(0, str(pathlib.Path(__file__).resolve().parent / "lib"))
+
+from heap_image import NULL, ORDINARY, Image  # noqa: E402
+from print_make import lines_of  # noqa: E402
+from refusing import Judge  # noqa: E402
+
+MANY = 1 << 16
+
+
+def in_use(image, region, sizes):
+    """Puts objects of these sizes, which have no slots, into a region."""
+    at = region * image.region_words
+    for size in sizes:
+        image.words[at] = size << 32
+        at += size
+    image.kinds[region], image.tops[region] = ORDINARY, at - region * image.region_words
+
+
+def many_roots():
+    image = Image(16, 4, 2)
+    in_use(image, 1, [1])
+    image.roots = [NULL] * (MANY - 1) + [17]
+    return image
+
+
+def many_objects():
+    """A full region of the largest size with as many objects as words. It is pinned."""
+    image = Image(MANY, 64, 2)
+    in_use(image, 0, [1] * MANY)
+    image.pinned[0] = True
+    image.roots = [MANY]
+    return image
+
+
+def many_cards():
+    """Five regions of the largest size and cards of the smallest, and a card for each of the last 2^16."""
+    image = Image(MANY, 4, 5)
+    in_use(image, 0, [1])
+    for region in range(1, 5):
+        in_use(image, region, [3 * MANY // 4, MANY // 4])
+    return image, list(range(MANY // 4, MANY // 4 + MANY))
+
+
+def many_remembered():
+    image, cards = many_cards()
+    image.sets[0] = cards
+    return image
+
+
+def many_dirty():
+    image, cards = many_cards()
+    image.log = cards
+    return image
+
+
+def many_regions():
+    """In each region two objects of a word, of which the very last one is live."""
+    image = Image(16, 4, 4096)
+    for region in range(image.regions):
+        in_use(image, region, [1, 1])
+    image.roots = [4095 * 16 + 2]
+    return image
+
+
+def current_last():
+    image = many_regions()
+    image.current = 4095
+    return image
+
+
+def choice(rows, total):
+    """The lines of `choose`: regions with their cost and garbage, and whether they are taken."""
+    lines = [f"region {region} cost {cost} garbage {garbage} {word}" for region, cost, garbage, word in rows]
+    return lines + [f"total {total}"]
+
+
+LARGE = [(region, 0, 8 * MANY, "taken") for region in range(1, 5)]
+LEFT = [(region, 0, 8 * MANY, "left") for region in range(1, 5)]
+SMALL = [(region, 0, 16, "taken") for region in range(4095)]
+LIVE = [f"region {region} live 0" for region in range(4095)] + ["region 4095 live 8"]
+# Each image, and what lines of g1pause answer to it.
+ROWS = (
+    (many_roots, {"live": ["region 0 live 0", "region 1 live 8"], "choose --budget 0": ["total 0"], "check": ["covered"]}),
+    (many_objects, {"live": ["region 0 live 8", "region 1 live 0"], "choose --budget 0": ["total 0"]}),
+    (many_remembered, {"choose --budget 65536": choice([*LARGE, (0, 65536, 8, "taken")], 65536),
+                       "choose --budget 65535": choice([*LARGE, (0, 65536, 8, "left")], 0)}),
+    (many_dirty, {"choose --budget 65536": choice([(0, 0, 8, "taken"), *LARGE], 65536),
+                  "choose --budget 196607 --dirty 3": choice([(0, 0, 8, "left"), *LEFT], 196608)}),
+    (many_regions, {"live": LIVE, "choose --budget 8": choice([*SMALL, (4095, 8, 8, "taken")], 8),
+                    "choose --budget 7": choice([*SMALL, (4095, 8, 8, "left")], 0)}),
+    (current_last, {"live": LIVE}),
+)
+
+
+class Limits(Judge):
+    def __init__(self, g1pause, g1heap):
+        super().__init__()
+        self.g1pause, self.g1heap = g1pause, g1heap
+
+    def run(self, program, words, data):
+        done = subprocess.run([program, *words], input=data, capture_output=True, timeout=120)
+        return done.stdout, done.stderr, done.returncode
+
+    def answers(self, name, program, words, data, answer):
+        self.judge(f"{name}: {' '.join(words)}", self.run(program, words, data) == (answer, b"", 0))
+
+    def image(self, name, image, rows, folder):
+        data, lines = image.to_bytes(), lines_of(image)
+        text = "".join(f"{line}\n" for line in lines).encode()
+        table = "".join(f"{line}\n" for line in lines if line.startswith(("heap", "region"))).encode()
+        self.answers(name, self.g1heap, ["print", "-"], data, text)
+        self.answers(name, self.g1heap, ["make"], text, data)
+        self.answers(name, self.g1pause, ["show"], data, table)
+        self.answers(name, self.g1pause, ["show", "--repack"], data, data)
+        path = folder / "image"
+        path.write_bytes(data)
+        reached = image.reached()
+        same = f"same objects {len(reached)} words {sum(map(image.size, reached))}\n".encode()
+        self.answers(name, self.g1heap, ["same", str(path), "-"], data, same)
+        for words, lines in rows.items():
+            answer = "".join(f"{line}\n" for line in lines).encode()
+            self.answers(name, self.g1pause, words.split(), data, answer)
+
+    def beyond(self):
+        """A number more than there may be."""
+        lines = b"heap 16 4 4\n" + b"root -\n" * (MANY + 1)
+        told = f"g1heap: -: line {MANY + 2}: expected at most {MANY} roots\n".encode()
+        self.judge("a root too many", self.run(self.g1heap, ["make"], lines) == (b"", told, 3))
+        data = many_roots().to_bytes()
+        more = data[:20] + (MANY + 1).to_bytes(4, "little") + data[24:]
+        told = b"g1pause: fault 2: geometry\n"
+        self.judge("a root too many, in bytes", self.run(self.g1pause, ["show"], more) == (b"", told, 3))
+
+
+def main():
+    parser = argparse.ArgumentParser(description=__doc__, formatter_class=argparse.RawDescriptionHelpFormatter)
+    parser.add_argument("g1pause", metavar="G1PAUSE", help="the built program, crates/g1pause/out/g1pause")
+    parser.add_argument("g1heap", metavar="G1HEAP", help="the built program, crates/g1heap/out/g1heap")
+    options = parser.parse_args()
+    limits = Limits(*(str(pathlib.Path(path).resolve()) for path in (options.g1pause, options.g1heap)))
+    with tempfile.TemporaryDirectory() as room:
+        for made, rows in ROWS:
+            limits.image(made.__name__, made(), rows, pathlib.Path(room))
+    limits.beyond()
+    return limits.end()
+
+
+if __name__ == "__main__":
+    sys.exit(main())

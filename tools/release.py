@@ -1,0 +1,197 @@
+#!/usr/bin/env python3
+"""Makes a release of the programs that tools/build.py proved: release.py FOLDER
+
+It writes FOLDER/g1pause-VERSION-x86_64-linux.tar.gz and the same name with .sha256. In the tar:
+  bin/            the programs, stripped
+  include/, lib/  the headers and the library of the judge, if the repository has them; in lib/debug/ the symbols
+  share/          manual pages, completion for bash, the pages and the examples
+  install.sh, uninstall.sh   PREFIX=FOLDER ./install.sh installs all this
+  RELEASE         the version, the commit, the kit, and the sums of the programs as rt built them
+  SHA256SUMS      the sums of all other files
+
+It refuses programs that are not proved. Those of out/ are, if out/PROVED says so of the sources and of the kit that
+are here, if the checkout is that of a commit, without changes, and if rt itself says that its programs are those of
+the sources and are these. The same commit, kit and programs give the same bytes.
+
+It needs rt, git and help2man (Debian: apt-get install help2man). Statuses: 0 done; 1 refused; 2 usage.
+"""
+import argparse
+import gzip
+import hashlib
+import io
+import pathlib
+import shutil
+import subprocess
+import sys
+import tarfile
+import tempfile
+
+sys.path.insert(0, str(pathlib.Path(__file__).resolve().parent / "lib"))
+
+import manual  # noqa: E402 (it is in lib/)
+import stamp  # noqa: E402
+import unproved  # noqa: E402
+
+TOP = stamp.TOP
+OUT = TOP / "out"
+NOTHING_CHANGED = "nothing has changed since the last proved build"
+SECONDS = 120  # that rt may take to say so
+SYSTEM = "x86_64-linux"
+
+
+class Refused(Exception):
+    """Why there is no release."""
+
+
+def git(*words):
+    done = subprocess.run(["git", *words], cwd=TOP, capture_output=True, text=True, check=False)
+    if done.returncode:
+        raise Refused(f"git {words[0]}: {done.stderr.strip()}")
+    return done.stdout.strip()
+
+
+def commit_of():
+    """The commit that the checkout is, and its time."""
+    changed = git("status", "--porcelain")
+    if changed:
+        raise Refused(f"the checkout has what no commit has: {changed.splitlines()[0].strip()}")
+    return git("rev-parse", "HEAD"), int(git("log", "-1", "--format=%ct"))
+
+
+def ask_stamp():
+    """Sees that out/PROVED is of these sources, programs and kit."""
+    said = stamp.read(OUT, "PROVED")
+    if not said:
+        raise Refused("out/ has no proved programs: call tools/build.py")
+    if not stamp.is_current(OUT, "PROVED", stamp.sources()):
+        raise Refused("the programs of out/ are not those of the sources: call tools/build.py")
+    if said["kit"] != stamp.kit():
+        raise Refused(f"the programs were proved by {said['kit']}, and rt is {stamp.kit()}: call tools/build.py")
+
+
+def ask_rt(name):
+    """Sees that rt holds the program for the one that it proved and built, and that it is that of out/."""
+    built = TOP / "crates" / name / "out" / name
+    if not built.is_file() or stamp.sum_of(built) != stamp.sum_of(OUT / name):
+        raise Refused(f"out/{name} is not the program that rt built: call tools/build.py")
+    try:
+        done = subprocess.run(["rt", "run", "--", "--version"], cwd=TOP / "crates" / name, stdin=subprocess.DEVNULL,
+                              stdout=subprocess.PIPE, stderr=subprocess.STDOUT, text=True, errors="replace",
+                              timeout=SECONDS, check=False)
+    except subprocess.TimeoutExpired:
+        raise Refused(f"rt has to prove {name} again: call tools/build.py") from None
+    if done.returncode or NOTHING_CHANGED not in done.stdout:
+        raise Refused(f"rt does not say that {name} is proved: call tools/build.py")
+
+
+def split(kit, name, room):
+    """The program without its symbols, and the symbols."""
+    plain, symbols = room / name, room / f"{name}.debug"
+    run = {"executable": kit / "toolchain" / "bin" / "clang", "check": True, "cwd": room}
+    subprocess.run(["llvm-objcopy", "--only-keep-debug", OUT / name, symbols], **run)
+    subprocess.run(["llvm-objcopy", "--strip-all", "--keep-section=.comment", f"--add-gnu-debuglink={symbols}",
+                    OUT / name, plain], **run)
+    return plain.read_bytes(), symbols.read_bytes()
+
+
+def programs(version, seconds, room):
+    """The programs, their symbols, manual pages and completions."""
+    files, kit = {}, unproved.kit_folder()
+    for name in stamp.PROGRAMS:
+        files[f"bin/{name}"], files[f"lib/debug/{name}.debug"] = split(kit, name, room)
+        for page, text in manual.pages(OUT / name, version, seconds).items():
+            files[f"share/man/man1/{page}"] = text.encode()
+        files[f"share/bash-completion/completions/{name}"] = manual.completion(OUT / name).encode()
+    return files
+
+
+def judge(room):
+    """The headers of the judge, and its library, which its own script has rt prove."""
+    files = {f"include/{path.name}": path.read_bytes() for path in sorted(TOP.glob("include/*.h"))}
+    script = TOP / "tools" / "build_judge.py"
+    if script.is_file():
+        done = subprocess.run([script, room], capture_output=True, text=True, check=False)
+        if done.returncode:
+            raise Refused(f"tools/build_judge.py: {(done.stderr or done.stdout).strip().splitlines()[-1]}")
+        files["lib/libg1judge.a"] = (room / "libg1judge.a").read_bytes()
+    return files
+
+
+def pages():
+    """The pages and the examples, as they are in the repository."""
+    names = git("ls-files", "-z", "*.md", "*.cff", "docs", "examples").split("\0")
+    kept = sorted({name for name in names if name and not name.startswith(("crates/", "tools/"))})
+    return {f"share/doc/g1pause/{name}": (TOP / name).read_bytes() for name in kept}
+
+
+def about(version, commit):
+    """What the release was made of."""
+    sums = [f"{name} {stamp.sum_of(OUT / name)}" for name in stamp.PROGRAMS]
+    return "\n".join([f"version {version}", f"commit {commit}", f"kit {stamp.kit()}", *sums]) + "\n"
+
+
+def with_lists(files):
+    """The files of a release, with the list of those that are installed, and all sums."""
+    files = dict(files)
+    files["share/g1pause/uninstall.sh"] = files["uninstall.sh"]
+    installed = sorted(name for name in files if "/" in name) + ["share/g1pause/files"]
+    files["share/g1pause/files"] = "".join(f"{name}\n" for name in installed).encode()
+    sums = [f"{hashlib.sha256(files[name]).hexdigest()}  {name}\n" for name in sorted(files)]
+    return {**files, "SHA256SUMS": "".join(sums).encode()}
+
+
+def is_called(name, content):
+    return name.startswith("bin/") or content.startswith(b"#!")
+
+
+def packed(files, folder, seconds):
+    """A tar of the files, sorted, of one time and of one owner, compressed without a name or a time."""
+    tar = io.BytesIO()
+    with tarfile.open(fileobj=tar, mode="w", format=tarfile.USTAR_FORMAT) as archive:
+        for name in sorted(files):
+            entry = tarfile.TarInfo(f"{folder}/{name}")
+            entry.size, entry.mtime = len(files[name]), seconds
+            entry.mode = 0o755 if is_called(name, files[name]) else 0o644
+            archive.addfile(entry, io.BytesIO(files[name]))
+    return gzip.compress(tar.getvalue(), mtime=0)
+
+
+def release(target):
+    """Makes the release, and gives the file's path."""
+    commit, seconds = commit_of()
+    ask_stamp()
+    for name in stamp.PROGRAMS:
+        ask_rt(name)
+    version = manual.said([OUT / "g1pause", "--version"]).split()[1]
+    with tempfile.TemporaryDirectory() as folder:
+        room = pathlib.Path(folder)
+        files = {**programs(version, seconds, room), **judge(room), **pages()}
+    for name in ("install.sh", "uninstall.sh"):
+        files[name] = (TOP / name).read_bytes()
+    files["RELEASE"] = about(version, commit).encode()
+    name = f"g1pause-{version}-{SYSTEM}"
+    content = packed(with_lists(files), name, seconds)
+    target.mkdir(parents=True, exist_ok=True)
+    (target / f"{name}.tar.gz").write_bytes(content)
+    (target / f"{name}.tar.gz.sha256").write_text(f"{hashlib.sha256(content).hexdigest()}  {name}.tar.gz\n")
+    return target / f"{name}.tar.gz"
+
+
+def main():
+    parser = argparse.ArgumentParser(description=__doc__, formatter_class=argparse.RawDescriptionHelpFormatter)
+    parser.add_argument("folder", metavar="FOLDER", type=pathlib.Path, help="where the release is written")
+    options = parser.parse_args()
+    for tool, where in (("rt", "the Rattle kit"), ("git", "git"), ("help2man", "Debian's package help2man")):
+        if not shutil.which(tool):
+            parser.error(f"there is no {tool} on the path: it comes with {where}")
+    try:
+        made = release(options.folder)
+    except Refused as refusal:
+        print(f"release.py: {refusal}", file=sys.stderr)
+        return 1
+    print(f"{made}: {made.stat().st_size} bytes")
+    return 0
+
+
+if __name__ == "__main__":
+    sys.exit(main())
