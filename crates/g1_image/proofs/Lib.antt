@@ -11,7 +11,6 @@ pub mod Tests
 pub mod Tiled
 pub mod Runs
 pub mod Rows
-pub mod Bits
 pub mod Slots
 pub mod Logs
 pub mod Drafts

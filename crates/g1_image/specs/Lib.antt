@@ -7,7 +7,6 @@ pub mod Front
 pub mod Growing
 pub mod Draft
 pub mod Marks
-pub mod Bits
 pub mod Judged
 pub mod Cards
 pub mod Laws

@@ -20,7 +20,6 @@ mod encoding;
 mod image;
 pub mod laws;
 mod laying;
-mod marks;
 mod pieces;
 mod plain;
 mod reading;

@@ -7,7 +7,6 @@ ghost use Rattle.g1_image.specs.Marks.{InRow, Marked, StartsAre};
 ghost use Rattle.g1_image.specs.Faults.{IsFirstBreach, IsGoodSlot};
 
 use crate::draft::Draft;
-use crate::marks::Marks;
 use g1_words::{Fault, Kind, Place, header};
 use std::alloc::{AllocError, Global};
 

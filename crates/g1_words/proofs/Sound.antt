@@ -1,5 +1,5 @@
 -- What a valid heap keeps, told of the lists that are computed.
-use Rattle.std.proofs.Common.{◌≡◌, ◌≢◌, ℕ, zero, suc, ◌+◌, ◌-◌, ◌*◌, ◌/◌, ◌<◌, ◌≤◌, inl, inr, Contains, flat_map, arith, refl, sym, ap, subst, ◌∙◌, div-add-mod'}
+use Rattle.std.proofs.Common.{◌≡◌, ◌≢◌, ℕ, zero, suc, ◌+◌, ◌-◌, ◌*◌, ◌/◌, ◌<◌, ◌≤◌, inl, inr, Contains, length, flat_map, arith, refl, sym, ap, subst, ◌∙◌, div-add-mod'}
 use Rattle.std.proofs.lemmas.Bool.{cases_lt}
 use Rattle.std.proofs.Math.Nat.{le-div_iff_mul-le, mul-sub}
 use Rattle.g1_words.specs.declared.object.Object.{Object}
@@ -10,6 +10,7 @@ use Rattle.g1_words.specs.Valid.{IsObject, HasObject, IsReference, IsShapedBy, I
 use Rattle.g1_words.specs.References.{Ref, refs, refs_at, named, root_targets}
 use Rattle.g1_words.proofs.Members.{In, In-from_contains, Contains-from_in, flat_map_cases, map_cases}
 use Rattle.g1_words.proofs.Tiling.{Tiles-le, same_object}
+use Rattle.g1_words.proofs.Bounds.{object_within}
 use Rattle.g1_words.proofs.Objects.{StandsIn, object_stands, object_place, div_between}
 use Rattle.g1_words.proofs.Computed.{object_is, has_contains, contains_has, in_region_has, none_in_past, range_below, range_above}
 
@@ -136,3 +137,10 @@ module _ (h : Heap) (valid : IsValid h) where
         let named_there : In (named (word h p.0)) e.target = subst (λ (x : Ref). In (named (word h p.0)) x.target) q.2 q.1 in
         reference_named h (word h p.0) e.target valid (valid.slots o p.0 (has_of o (Contains-from_in (objects h) o m.1)) (b.0, b.1)) named_there;
   }
+
+-- an object of the heap ends within its words, and so do its slots within it
+pub object_in : (h : Heap) (a : ℕ) → IsValid h → Contains (objects h) (object_at h a) →
+    ((object_at h a).refs < (object_at h a).size) × (a + (object_at h a).size ≤ length h.words)
+object_in h a valid c =
+    let within = object_within h valid (object_at h a) (contains_has h (object_at h a) valid.shaped c) in
+    ((sound h valid).slots_fit (object_at h a) c, omega (arith, within, valid.word_count))

@@ -1,5 +1,6 @@
 pub mod Fault
 pub mod Geometry
+pub mod Marks
 pub mod Lists
 pub mod Kind
 pub mod Header

@@ -1,6 +1,6 @@
 -- The rules that a heap keeps. They speak of its objects as a relation: these objects stand end to end.
 use Rattle.std.specs.Prelude.{◌≡◌, ◌≤◌, ◌<◌, ℕ, ◌+◌, ◌-◌, ◌*◌, ◌^◌, ◌⊎◌, List, [], ◌∷◌, Some, length, min, slice_index, All, Contains, IfSome, IsTrue}
-use Rattle.g1_words.specs.Geometry.{IsWithinLimits}
+use Rattle.g1_words.specs.Geometry.{IsWithinLimits, most_roots}
 use Rattle.g1_words.specs.Heap.{Heap, region, start, end}
 use Rattle.g1_words.specs.declared.object.Object.{Object}
 use Rattle.g1_words.specs.declared.region.Kind.{Kind}
@@ -92,7 +92,7 @@ pub record IsValid (h : Heap) : Type 0 where
   pub word_count : length h.words ≡ h.geometry.n * h.geometry.w
   pub word_fits : All (λ x. x < 2 ^ 64) h.words
   pub region_count : length h.regions ≡ h.geometry.n
-  pub root_count : length h.roots ≤ 65536
+  pub root_count : length h.roots ≤ most_roots
   pub shaped : AllShaped h
   pub pins : (r : ℕ) → r < h.geometry.n → MayBePinned h r
   pub zero_above : (r i : ℕ) → r < h.geometry.n → (region h r).top ≤ i → i < h.geometry.w → slice_index h.words (start h r + i) ≡ 0

@@ -1,6 +1,6 @@
 ghost use Rattle.std.specs.Prelude.{◌≡◌, ◌≤◌, ◌<◌, ◌*◌, ◌/◌, ◌^◌, ℕ, IfOk, IfErr, IsTrue, ◌↔◌};
 ghost use Rattle.g1_words.specs.Geometry.{IsWithinLimits};
-ghost use Rattle.std.specs.Int.{IsPowerOfTwo};
+ghost use Rattle.std.specs.Int.{IsPowerOfTwo, div_ceil};
 
 use crate::fault::Fault;
 use std::marker::Model;
@@ -153,6 +153,27 @@ impl Geometry {
         ensures value { result ≡ card * self.now.k / self.now.w }
         ensures limits { IsWithinLimits self.now.w self.now.k self.now.n }
     {
-        self.card_start(card) / self.w
+        over(self.card_start(card), self.w)
+    }
+
+    /// The most words of an object that is not humongous, the header included.
+    pub fn most_ordinary(&self) -> u64
+        ensures { result ≡ 3 * self.now.w / 4 }
+    {
+        3 * self.w / 4
+    }
+
+    /// Whether an object of this many words is humongous: it takes more than three quarters of a region.
+    pub fn is_humongous(&self, size: u64) -> bool
+        ensures { IsTrue result ↔ (3 * self.now.w < 4 * size) }
+    {
+        size > self.most_ordinary()
+    }
+
+    /// How many regions an object of this many words takes, if it starts at the start of one.
+    pub fn regions_for(&self, size: u64) -> u64
+        ensures { result ≡ div_ceil size self.now.w }
+    {
+        size.div_ceil(self.w)
     }
 }

@@ -12,13 +12,16 @@ mod fault;
 mod geometry;
 mod heap;
 pub mod laws;
+mod marks;
 mod object;
 mod region;
 
 pub use fault::{Device, Fault, Place, Stand};
 pub use geometry::Geometry;
 pub use heap::{Heap, MOST_ROOTS, pinned};
+pub use marks::Marks;
 pub use object::{
-    Object, REFS_RANGE, card_of, header, object_at, objects_in, region_of, size_at, slots_of,
+    Object, REFS_RANGE, card_of, data, header, header_word, object_at, objects_in, region_of,
+    size_at, slots, slots_of,
 };
 pub use region::{Kind, Region};

@@ -1,4 +1,4 @@
-ghost use Rattle.std.specs.Prelude.{◌≡◌, ◌≤◌, ◌<◌, ◌+◌, ◌*◌, ◌/◌, ◌^◌, ◌-◌, ℕ, List, length, map, slice_index, Contains, IfSome, IfNone, IfOk, IfErr};
+ghost use Rattle.std.specs.Prelude.{◌≡◌, ◌≤◌, ◌<◌, ◌+◌, ◌*◌, ◌/◌, ◌^◌, ◌-◌, ℕ, List, length, map, slice_index, slice_range, Contains, IfSome, IfNone, IfOk, IfErr};
 ghost use Rattle.g1_words.specs.Header.{header};
 ghost use Rattle.g1_words.specs.Heap.{object_at, objects_in, objects};
 ghost use Rattle.g1_words.specs.Valid.{IsObject, Tiles};
@@ -38,6 +38,39 @@ pub fn header(words: &[u64], at: u64) -> Object
         size: header / REFS_RANGE,
         refs: header % REFS_RANGE,
     }
+}
+
+/// The header word of an object of this many words, the header included, with this many slots.
+pub fn header_word(size: u64, refs: u64) -> u64
+    requires size { size < 2 ^ 32 }
+    requires refs { refs < 2 ^ 32 }
+    ensures { result ≡ size * 2 ^ 32 + refs }
+{
+    size * REFS_RANGE + refs
+}
+
+/// The slots of an object among these words, by number.
+pub fn slots<'a>(words: &'a [u64], object: &Object) -> &'a [u64]
+    requires refs { object.now.refs < object.now.size }
+    requires within { object.now.at + object.now.size ≤ length words.now }
+    ensures value { result.now ≡ slice_range words.now (object.now.at + 1) (object.now.at + 1 + object.now.refs) }
+    ensures count { length result.now ≡ object.now.refs }
+    ensures each { (i : ℕ) → i < object.now.refs → slice_index result.now i ≡ slice_index words.now (object.now.at + 1 + i) }
+{
+    let first = object.at as usize + 1;
+    &words[first..first + object.refs as usize]
+}
+
+/// The data words of an object among these words, by number.
+pub fn data<'a>(words: &'a [u64], object: &Object) -> &'a [u64]
+    requires refs { object.now.refs < object.now.size }
+    requires within { object.now.at + object.now.size ≤ length words.now }
+    ensures value { result.now ≡ slice_range words.now (object.now.at + 1 + object.now.refs) (object.now.at + object.now.size) }
+    ensures count { length result.now + 1 + object.now.refs ≡ object.now.size }
+    ensures each { (i : ℕ) → object.now.refs + i + 1 < object.now.size → slice_index result.now i ≡ slice_index words.now (object.now.at + 1 + object.now.refs + i) }
+{
+    let first = object.at as usize + 1 + object.refs as usize;
+    &words[first..(object.at + object.size) as usize]
 }
 
 /// The size in words, the header included, of the word at an address, read as a header.

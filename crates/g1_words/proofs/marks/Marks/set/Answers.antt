@@ -1,9 +1,9 @@
 use Rattle.std.proofs.Common.{arith, ◌≡◌, ◌<◌, ◌*◌, ◌/◌, ◌%◌, ◌^◌, length, slice_index, set, true, ap, ◌∙◌}
 use Rattle.std.specs.Int.Bits.{bit_or}
 use Rattle.std.proofs.lemmas.Grind.{get_or_default_zero}
-use Rattle.g1_image.specs.Bits.{marks_of}
-use Rattle.g1_image.proofs.Bits.{length-marks_of, marks_of-set}
-use Rattle.g1_image.proofs.marks.Marks.set.Goals as goal
+use Rattle.g1_words.specs.Marks.{marks_of}
+use Rattle.g1_words.proofs.Bits.{length-marks_of, marks_of-set}
+use Rattle.g1_words.proofs.marks.Marks.set.Goals as goal
 
 pub index_mut-requires : goal.index_mut-requires
 index_mut-requires c = omega (arith, c.requires, c.self.invariant, ap length c.self.view_is, length-marks_of c.self.inside.count c.self.inside.bits.items)

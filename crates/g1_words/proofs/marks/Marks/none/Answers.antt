@@ -1,7 +1,7 @@
 use Rattle.std.proofs.Common.{rules, arith, ◌≡◌, ◌+◌, ◌/◌, ap, ◌∙◌, replicate}
-use Rattle.g1_image.specs.Bits.{marks_of}
-use Rattle.g1_image.proofs.Bits.{marks_of-none}
-use Rattle.g1_image.proofs.marks.Marks.none.Goals as goal
+use Rattle.g1_words.specs.Marks.{marks_of}
+use Rattle.g1_words.proofs.Bits.{marks_of-none}
+use Rattle.g1_words.proofs.marks.Marks.none.Goals as goal
 
 pub returns : goal.returns
 returns c =

@@ -3,8 +3,8 @@ use Rattle.std.specs.Prelude.{slice_index_or}
 use Rattle.std.specs.Int.{bit_at}
 use Rattle.std.proofs.lemmas.Nat.Bits.{shr_and_one}
 use Rattle.std.proofs.lemmas.Grind.{get_or_default_zero}
-use Rattle.g1_image.proofs.Bits.{length-marks_of, mark_of}
-use Rattle.g1_image.proofs.marks.Marks.is_set.Goals as goal
+use Rattle.g1_words.proofs.Bits.{length-marks_of, mark_of}
+use Rattle.g1_words.proofs.marks.Marks.is_set.Goals as goal
 
 pub index-requires : goal.index-requires
 index-requires c = omega (arith, c.requires, c.self.invariant, ap length c.self.view_is, length-marks_of c.self.inside.count c.self.inside.bits.items)

@@ -6,7 +6,7 @@ use Rattle.std.proofs.lemmas.List.{same_lists, get_or-replicate, length-replicat
 use Rattle.std.proofs.lemmas.List.FromFn.{get_or-map-range_with_len, length-map-range_with_len}
 use Rattle.std.proofs.lemmas.Nat.Bits.{bit_at-zero, bit_at_set_same, bit_at_set_other}
 use Rattle.std.proofs.lemmas.Bool.{cases_eq}
-use Rattle.g1_image.specs.Bits.{is_set, marks_of}
+use Rattle.g1_words.specs.Marks.{is_set, marks_of}
 
 pub length-marks_of : (count : ℕ) (bits : List ℕ) → length (marks_of count bits) ≡ count
 length-marks_of count bits = length-map-range_with_len (is_set bits) 0 count

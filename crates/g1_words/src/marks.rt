@@ -5,14 +5,14 @@ use std::marker::Model;
 
 /// A mark for each number below a bound, one bit each.
 #[derive(Drop)]
-pub(crate) struct Marks {
+pub struct Marks {
     count: usize,
     bits: Vec<u64>,
 }
 
 impl Model for Marks {
     ghost use Rattle.std.specs.Prelude.{◌≤◌, ◌*◌, List, Bool, length};
-    ghost use Rattle.g1_image.specs.Bits.{marks_of};
+    ghost use Rattle.g1_words.specs.Marks.{marks_of};
 
     ghost Value = { List Bool };
 
@@ -23,7 +23,7 @@ impl Model for Marks {
 
 impl Marks {
     /// So many marks, none of them set.
-    pub(crate) fn none(alloc: Global, count: usize) -> Result<Marks, AllocError>
+    pub fn none(alloc: Global, count: usize) -> Result<Marks, AllocError>
         ensures { IfOk result (λ m. m ≡ replicate count false) }
     {
         let words = count / 64 + 1;
@@ -34,14 +34,14 @@ impl Marks {
     }
 
     /// How many marks there are.
-    pub(crate) fn len(&self) -> usize
+    pub fn len(&self) -> usize
         ensures { result ≡ length self.now }
     {
         self.count
     }
 
     /// Returns whether a mark is set.
-    pub(crate) fn is_set(&self, at: usize) -> bool
+    pub fn is_set(&self, at: usize) -> bool
         requires { at < length self.now }
         ensures { result ≡ slice_index_or self.now at false }
     {
@@ -49,7 +49,7 @@ impl Marks {
     }
 
     /// Sets a mark.
-    pub(crate) fn set(&mut self, at: usize)
+    pub fn set(&mut self, at: usize)
         requires { at < length self.old }
         ensures { self.new ≡ set self.old at true }
     {
