@@ -7,7 +7,7 @@ ghost use Rattle.g1_image.specs.Marks.{InRow, Marked, StartsAre};
 ghost use Rattle.g1_image.specs.Faults.{IsFirstBreach, IsGoodSlot};
 
 use crate::draft::Draft;
-use g1_words::{Fault, Kind, Place, header};
+use g1_words::{Fault, Kind, Marks, Place, header};
 use std::alloc::{AllocError, Global};
 
 /// Marks the objects that fill the words between two addresses.
