@@ -17,6 +17,7 @@
 #![tactic(auto)]
 
 mod claims;
+pub mod laws;
 mod rule;
 
 pub use claims::{ClaimSeat, Claims, EMPTY, shares};

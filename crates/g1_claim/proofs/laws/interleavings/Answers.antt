@@ -1,0 +1,8 @@
+use Rattle.g1_claim.proofs.Interleaving.{least_so_far, won_so_far}
+use Rattle.g1_claim.proofs.laws.interleavings.Goals as goal
+
+pub returns-clause-least : goal.returns-clause-least
+returns-clause-least c = least_so_far
+
+pub returns-clause-won : goal.returns-clause-won
+returns-clause-won c = won_so_far
