@@ -37,6 +37,14 @@ impl<'a> Run<'a> {
             input,
         }
     }
+
+    fn on_screen(line: &'a str, input: &'a [u8]) -> Run<'a> {
+        Run {
+            line,
+            terminals: SCREEN,
+            input,
+        }
+    }
 }
 
 // The status, and what is written to standard error.
@@ -267,27 +275,38 @@ impl Write for Closed {
     }
 }
 
+// A run whose output nobody reads any more.
+fn expect_unread<T: Threads + Abort + Sync + Files>(
+    rt: &T,
+    alloc: Global,
+    run: Run<'_>,
+    status: u8,
+    error: &str,
+) -> Result<(), AllocError> {
+    let (found, errors) = told(rt, alloc, run, &mut Closed)?;
+    expect_told(
+        rt,
+        run.line,
+        run.input,
+        (found, b"", errors.as_slice()),
+        (status, b"", error.as_bytes()),
+    );
+    Ok(())
+}
+
 #[test]
 fn a_reader_of_text_may_go_away(rt: HostRuntime) -> Result<(), Fail> {
     let alloc = rt.alloc();
     let image = text(alloc, pictures::one_object())?;
     let lines = pictures::one_object().as_bytes();
-    for (line, input, status, error) in [
-        ("--help", lines, 141, ""),
-        ("--version", lines, 141, ""),
-        ("print", image.as_slice(), 141, ""),
-        ("print --summary", image.as_slice(), 141, ""),
-        ("make", lines, 6, "g1heap: fault 14: output\n"),
-    ] {
-        let (found, errors) = told(&rt, alloc, Run::piped(line, input), &mut Closed)?;
-        expect_told(
-            &rt,
-            line,
-            input,
-            (found, b"", errors.as_slice()),
-            (status, b"", error.as_bytes()),
-        );
+    for line in ["--help", "--version"] {
+        expect_unread(&rt, alloc, Run::piped(line, lines), 141, "")?;
     }
+    for line in ["print", "print --summary"] {
+        expect_unread(&rt, alloc, Run::piped(line, &image), 141, "")?;
+    }
+    let make = Run::piped("make", lines);
+    expect_unread(&rt, alloc, make, 6, "g1heap: fault 14: output\n")?;
     Ok(())
 }
 
@@ -295,29 +314,23 @@ fn a_reader_of_text_may_go_away(rt: HostRuntime) -> Result<(), Fail> {
 fn a_terminal_is_told_what_is_waited_for(rt: HostRuntime) -> Result<(), Fail> {
     let alloc = rt.alloc();
     let image = text(alloc, pictures::one_object())?;
+    let picture = ONE_OBJECT_LINES.as_bytes();
     let lines = pictures::one_object().as_bytes();
     let waits = "g1heap: waiting for an image on standard input\n";
     let types = "g1heap: waiting for lines on standard input, which Ctrl-D ends\n";
     let bytes =
         "g1heap: an image is not written to a terminal: name a file, as in '-o FILE', or write '-o -'\n";
     let missing = "g1heap: no/such: can't be opened\n";
-    for (line, input, expected) in [
-        (
-            "print",
-            image.as_slice(),
-            (0, ONE_OBJECT_LINES.as_bytes(), waits),
-        ),
-        ("print no/such", b"", (7, b"", missing)),
-        ("make", lines, (2, b"", bytes)),
-        ("make -o -", lines, (0, image.as_slice(), types)),
-        ("make -o /dev/null", lines, (0, b"", types)),
+    let print = Run::on_screen("print", &image);
+    expect(&rt, alloc, print, (0, picture, waits))?;
+    let make = Run::on_screen("make -o -", lines);
+    expect(&rt, alloc, make, (0, &image, types))?;
+    for (line, expected) in [
+        ("print no/such", (7, b"", missing)),
+        ("make", (2, b"", bytes)),
+        ("make -o /dev/null", (0, b"", types)),
     ] {
-        let run = Run {
-            line,
-            terminals: SCREEN,
-            input,
-        };
-        expect(&rt, alloc, run, expected)?;
+        expect(&rt, alloc, Run::on_screen(line, lines), expected)?;
     }
     Ok(())
 }
