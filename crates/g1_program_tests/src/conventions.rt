@@ -325,12 +325,17 @@ fn a_terminal_is_told_what_is_waited_for(rt: HostRuntime) -> Result<(), Fail> {
     expect(&rt, alloc, print, (0, picture, waits))?;
     let make = Run::on_screen("make -o -", lines);
     expect(&rt, alloc, make, (0, &image, types))?;
-    for (line, expected) in [
-        ("print no/such", (7, b"", missing)),
-        ("make", (2, b"", bytes)),
-        ("make -o /dev/null", (0, b"", types)),
+    for (line, status, error) in [
+        ("print no/such", 7, missing),
+        ("make", 2, bytes),
+        ("make -o /dev/null", 0, types),
     ] {
-        expect(&rt, alloc, Run::on_screen(line, lines), expected)?;
+        expect(
+            &rt,
+            alloc,
+            Run::on_screen(line, lines),
+            (status, b"", error),
+        )?;
     }
     Ok(())
 }
