@@ -5,6 +5,7 @@ Heap dumps are made here by hand, with identifiers of 4 and of 8 bytes, and the 
 hand. Pages with a wrong output, a command that fails, a file left behind or a picture that changed have to fail.
 A picture is made of what a stand-in for g1pause says. Planted rows are tried by a stand-in for the prover, of which what
 each function says is known: one that is proved, unread or refused only for another has to fail. The examples have to be those that examples/make.py makes.
+Tables of definitions and of the map that leave something out, or name what is not there, have to fail; those of the repository have to pass.
 Each script has to answer --help, and to say what it wants where it is called without arguments.
 """
 import contextlib
@@ -23,6 +24,7 @@ sys.dont_write_bytecode = True
 sys.path.insert(0, str(TOP / "tools"))
 
 import check_pages  # noqa: E402
+import check_tables  # noqa: E402
 import hprof2image  # noqa: E402
 import planted  # noqa: E402
 
@@ -230,6 +232,88 @@ class Pages(unittest.TestCase):
 
     def test_a_block_that_is_left_out_is_not_run(self):
         self.assertEqual(self.wrong("<!-- not run: it fails -->\n\n    cat nothing-here\n"), [])
+
+
+TREE = {
+    "docs/HEADLINE.md": "It is `g1_a/specs/Top.antt`.\n",
+    "docs/DEFINITIONS.md": "Read 2 files, 3 lines.\n\n| Read | File | It defines |\n|---|---|---|\n| 1 | `g1_a/specs/Low.antt` | a |\n"
+                           "| 2 | `g1_a/specs/Top.antt` | b |\n\n| File | It defines |\n|---|---|\n| `g1_b/specs/One.antt`, `Two.antt` | c |\n"
+                           "\n## The laws\n\n| Function | It says |\n|---|---|\n| `g1_a::laws::first`, `second` | d |\n",
+    "docs/MAP.md": "## The crates, lowest first\n\n| Crate | Room for |\n|---|---|\n| `g1_a`, `g1_b` | e |\n\n## Where to change what\n\n"
+                   "| Change | Begin with | Then |\n|---|---|---|\n| f | `g1_a/src/{laws,lib}.rt` | `main.rt` of g1_b |\n",
+    "crates/g1_a/specs/Lib.antt": "pub mod Low\n",
+    "crates/g1_a/specs/Low.antt": "use Rattle.std.specs.Prelude.{List}\n",
+    "crates/g1_a/specs/Top.antt": "use Rattle.g1_a.specs.Low.{low}\nuse Rattle.g1_a.specs.declared.fault.Fault.{Fault}\n",
+    "crates/g1_a/src/laws.rt": "pub fn first()\n{}\npub fn second()\n{}\n",
+    "crates/g1_a/src/lib.rt": "",
+    "crates/g1_b/specs/One.antt": "",
+    "crates/g1_b/specs/Two.antt": "use Rattle.g1_a.specs.Top\n",
+    "crates/g1_b/src/main.rt": "",
+}
+
+
+class Tables(unittest.TestCase):
+    """Tables of a small tree, with one thing changed."""
+
+    def wrong(self, name=None, old="", new="", gone=None):
+        """What is wrong after a file has other words, or is gone."""
+        with tempfile.TemporaryDirectory() as room:
+            for path, text in TREE.items():
+                if path == name:
+                    self.assertEqual(text.count(old) if old else 1, 1, path)
+                    text = text.replace(old, new) if old else text + new
+                if path != gone:
+                    target = pathlib.Path(room) / path
+                    target.parent.mkdir(parents=True, exist_ok=True)
+                    target.write_text(text)
+            return check_tables.check(pathlib.Path(room))[1]
+
+    def test_right_tables_pass(self):
+        self.assertEqual(self.wrong(), [])
+
+    def test_the_tables_of_the_repository_pass(self):
+        looked, wrong = check_tables.check(TOP)
+        self.assertGreater(looked, 300)
+        self.assertEqual(wrong, [])
+
+    def test_a_file_that_the_headline_needs_has_a_number(self):
+        page = "docs/DEFINITIONS.md"
+        self.assertEqual(self.wrong(page, "| 1 | `g1_a/specs/Low.antt` | a |\n| 2 |", "| `g1_a/specs/Low.antt` | a |\n| 1 |"),
+                         ["DEFINITIONS: g1_a/specs/Low.antt has no number, and the headline depends on it"])
+        self.assertIn("DEFINITIONS: g1_b/specs/Two.antt has no number, and the headline depends on it",
+                      self.wrong("crates/g1_a/specs/Low.antt", "", "use Rattle.g1_b.specs.Two.{two}\n"))
+
+    def test_a_file_that_it_does_not_need_has_none(self):
+        self.assertIn("DEFINITIONS: g1_a/specs/Low.antt has a number, and the headline does not depend on it",
+                      self.wrong("crates/g1_a/specs/Top.antt", "use Rattle.g1_a.specs.Low.{low}\n", "\n"))
+
+    def test_numbers_and_counts_are_right(self):
+        page = "docs/DEFINITIONS.md"
+        for old, new in (("| 2 |", "| 3 |"), ("2 files", "3 files"), ("3 lines", "4 lines"), ("Read 2 files, 3 lines.", "Read.")):
+            self.assertEqual(len(self.wrong(page, old, new)), 1, new)
+
+    def test_each_file_is_in_one_row(self):
+        page = "docs/DEFINITIONS.md"
+        self.assertEqual(self.wrong(page, ", `Two.antt`", ""), ["DEFINITIONS: g1_b/specs/Two.antt is in no row"])
+        self.assertEqual(self.wrong(page, ", `Two.antt`", ", `Two.antt`, `One.antt`"), ["DEFINITIONS: g1_b/specs/One.antt is in 2 rows"])
+        self.assertEqual(self.wrong(page, ", `Two.antt`", ", `Two.antt`, `Three.antt`"), ["DEFINITIONS: there is no g1_b/specs/Three.antt"])
+        self.assertEqual(self.wrong(gone="crates/g1_b/specs/Two.antt"), ["DEFINITIONS: there is no g1_b/specs/Two.antt"])
+
+    def test_each_law_is_in_one_row(self):
+        page = "docs/DEFINITIONS.md"
+        self.assertEqual(self.wrong(page, ", `second`", ""), ["DEFINITIONS: g1_a::laws::second is in no row"])
+        self.assertEqual(self.wrong(page, ", `second`", ", `second`, `third`"), ["DEFINITIONS: there is no g1_a::laws::third"])
+
+    def test_each_crate_is_in_one_row(self):
+        page = "docs/MAP.md"
+        self.assertEqual(self.wrong(page, ", `g1_b`", ""), ["MAP: g1_b is in no row"])
+        self.assertEqual(self.wrong(page, ", `g1_b`", ", `g1_b`, `g1_c`"), ["MAP: there is no crate g1_c"])
+        self.assertEqual(self.wrong(page, ", `g1_b`", ", `g1_b`, `g1_a`"), ["MAP: g1_a is in 2 rows"])
+
+    def test_a_row_of_changes_names_what_is_there(self):
+        page = "docs/MAP.md"
+        for old, new in (("{laws,lib}", "{laws,libs}"), ("`main.rt`", "`mains.rt`"), ("`main.rt` of g1_b", "`main.rt` of g1_a")):
+            self.assertEqual(len(self.wrong(page, old, new)), 1, new)
 
 
 SAYS = """#!{python}

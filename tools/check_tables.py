@@ -1,0 +1,183 @@
+#!/usr/bin/env python3
+"""Checks the tables of docs/DEFINITIONS.md and docs/MAP.md against the tree: check_tables.py [CHECKOUT]
+
+Of DEFINITIONS:
+  - the numbered rows are the files that the headline depends on: those that docs/HEADLINE.md names, and what they import,
+    as far as it is in a specs/ folder of ours; the page's count of these files and of their lines is right;
+  - each file of specs/ is in one row, and each file of a row exists (Lib.antt, which only lists a crate's files, is
+    in none);
+  - each function of the laws exists, and each function of a laws.rt is in one row.
+Of MAP:
+  - the tables of crates have each crate of crates/ once;
+  - each file that a row of changes names exists, in the folder that the row names or in a crate of that row.
+A line for each problem; the last line is 'N passed, M failed'. Statuses: 0 none failed; 1 some did; 2 usage.
+"""
+import argparse
+import collections
+import pathlib
+import re
+import sys
+
+TOP = pathlib.Path(__file__).resolve().parent.parent
+CODE = re.compile(r"`([^`\n]+)`")
+ROW = re.compile(r"^\| (?!-)(.*) \|$", re.M)
+USE = re.compile(r"^use Rattle\.(\w+)\.specs\.([\w.]+?)(?:\.\{.*|\s*)$", re.M)
+COUNTS = re.compile(r"(\d+) files, ([\d,]+) lines")
+LAW = re.compile(r"^pub fn (\w+)", re.M)
+FILE = re.compile(r"(?:[\w.-]+/)*[\w-]+\.(?:rt|antt|md|py|h)")
+
+
+def rows(text):
+    """The cells of each row of a page's tables."""
+    return [row.split(" | ") for row in ROW.findall(text)]
+
+
+def section(text, heading):
+    """The lines below a heading, up to the next one."""
+    return f"\n{text}".partition(f"\n## {heading}\n")[2].partition("\n## ")[0]
+
+
+def expanded(name):
+    """The names that `a/{b,c}.rt` stands for."""
+    before, brace, rest = name.partition("{")
+    if not brace:
+        return [name]
+    inner, _, after = rest.partition("}")
+    return [before + part.strip() + after for part in inner.split(",")]
+
+
+def codes(cell):
+    """The names in a cell, written out."""
+    return [name for code in CODE.findall(cell) for name in expanded(code)]
+
+
+def in_folder_of_last(names, separator):
+    """Names of which one without a folder is in that of the name before it."""
+    folder, found = "", []
+    for name in names:
+        folder, last = name.rpartition(separator)[::2] if separator in name else (folder, name)
+        found.append(f"{folder}{separator}{last}")
+    return found
+
+
+def twice(names):
+    return [f"{name} is in {count} rows" for name, count in collections.Counter(names).items() if count > 1]
+
+
+def specs_of(tree):
+    """All files of definitions, by their paths below crates/."""
+    crates = tree / "crates"
+    return {str(path.relative_to(crates)): path for path in crates.glob("*/specs/**/*.antt") if path.name != "Lib.antt"}
+
+
+def imported(path, specs):
+    """The files of ours that a file imports."""
+    names = [f"{crate}/specs/{module.replace('.', '/')}.antt" for crate, module in USE.findall(path.read_text())]
+    return [name for name in names if name in specs]
+
+
+def reached(names, specs):
+    """These files, and all that they import."""
+    found, left = set(), [name for name in names if name in specs]
+    while left:
+        name = left.pop()
+        if name not in found:
+            found.add(name)
+            left += imported(specs[name], specs)
+    return found
+
+
+def check_headline(text, headline, specs):
+    """What is wrong with the numbered rows."""
+    cells = [row for row in rows(text) if row[0].isdigit()]
+    listed = [name for row in cells for name in codes(row[1])]
+    needed = reached([name for name in codes(headline) if "/specs/" in name], specs)
+    wrong = [f"{name} has a number, and the headline does not depend on it" for name in listed if name not in needed]
+    wrong += [f"{name} has no number, and the headline depends on it" for name in sorted(needed - set(listed))]
+    if [int(row[0]) for row in cells] != list(range(1, len(cells) + 1)):
+        wrong.append("the numbers of the first table do not go up by one")
+    lines = sum(len(specs[name].read_text().splitlines()) for name in needed)
+    said, is_so = COUNTS.search(text), (str(len(needed)), f"{lines:,}")
+    if not said or said.groups() != is_so:
+        wrong.append(f"the headline's files are {is_so[0]} files, {is_so[1]} lines")
+    return len(needed) + 1, wrong
+
+
+def check_files(text, specs):
+    """What is wrong with the files that rows name."""
+    cells = [row[1] if row[0].isdigit() else row[0] for row in rows(text)]
+    listed = [name for cell in cells if ".antt`" in cell for name in in_folder_of_last(codes(cell), "/")]
+    wrong = [f"there is no {name}" for name in listed if name not in specs]
+    wrong += [f"{name} is in no row" for name in sorted(specs) if name not in listed]
+    return len(specs), wrong + twice(listed)
+
+
+def check_laws(text, tree):
+    """What is wrong with the rows of laws."""
+    listed = [name for row in rows(section(text, "The laws")) for name in in_folder_of_last(codes(row[0]), "::")]
+    laws = {f"{path.parts[-3]}::laws::{name}" for path in tree.glob("crates/*/src/laws.rt")
+            for name in LAW.findall(path.read_text())}
+    wrong = [f"there is no {name}" for name in listed if name not in laws]
+    wrong += [f"{name} is in no row" for name in sorted(laws - set(listed))]
+    return len(laws), wrong + twice(listed)
+
+
+def check_crates(text, tree):
+    """What is wrong with the tables of crates."""
+    crates = {path.name for path in tree.glob("crates/*") if (path / "src").is_dir()}
+    listed = [name for row in rows(section(text, "The crates, lowest first")) for name in codes(row[0])]
+    wrong = [f"there is no crate {name}" for name in listed if name not in crates]
+    wrong += [f"{name} is in no row" for name in sorted(crates - set(listed))]
+    return len(crates), wrong + twice(listed)
+
+
+def exists(name, crates, tree):
+    """Whether a row that speaks of these crates can mean a file of this name."""
+    if "/" in name:
+        return (tree / "crates" / name).is_file() or (tree / name).is_file()
+    return any(path.is_file() for crate in crates for folder in ("src", "specs")
+               for path in [tree / "crates" / crate / folder / name])
+
+
+def check_changes(text, tree):
+    """What is wrong with the files that rows of changes name."""
+    found, wrong = 0, []
+    known = {path.name for path in tree.glob("crates/*")}
+    for row in rows(section(text, "Where to change what")):
+        line = " | ".join(row)
+        crates = [word for word in re.findall(r"\bg1\w+", line) if word in known]
+        for name in [name for name in codes(line) if FILE.fullmatch(name)]:
+            found += 1
+            if not exists(name, crates, tree):
+                wrong.append(f"{row[0]}: there is no {name} in {', '.join(sorted(set(crates))) or 'the tree'}")
+    return found, wrong
+
+
+def check(tree):
+    """How many things were looked at, and what is wrong, with the page before it."""
+    definitions = (tree / "docs/DEFINITIONS.md").read_text()
+    headline, table = (tree / "docs/HEADLINE.md").read_text(), (tree / "docs/MAP.md").read_text()
+    specs = specs_of(tree)
+    found = [("DEFINITIONS", *check_headline(definitions, headline, specs)),
+             ("DEFINITIONS", *check_files(definitions, specs)), ("DEFINITIONS", *check_laws(definitions, tree)),
+             ("MAP", *check_crates(table, tree)), ("MAP", *check_changes(table, tree))]
+    return sum(count for _, count, _ in found), [f"{page}: {text}" for page, _, wrong in found for text in wrong]
+
+
+def main():
+    parser = argparse.ArgumentParser(description=__doc__, formatter_class=argparse.RawDescriptionHelpFormatter)
+    parser.add_argument("checkout", metavar="CHECKOUT", nargs="?", type=pathlib.Path, default=TOP,
+                        help="the repository (default: the one that this script is in)")
+    tree = parser.parse_args().checkout
+    for name in ("docs/DEFINITIONS.md", "docs/HEADLINE.md", "docs/MAP.md"):
+        if not (tree / name).is_file():
+            parser.error(f"{tree} is no checkout of the repository: there is no {name}")
+    looked, wrong = check(tree)
+    for problem in wrong:
+        print(problem)
+    print(f"{max(0, looked - len(wrong))} passed, {len(wrong)} failed")
+    return 1 if wrong or not looked else 0
+
+
+if __name__ == "__main__":
+    sys.exit(main())
