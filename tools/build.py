@@ -9,7 +9,8 @@ with the sums of the sources and of the programs. Where the programs are those o
 
 While it proves, the screen has a line for each crate: its number of all, its name and the time that it took. What the
 prover says goes to out/build.log. All crates were proved in 23 minutes on four processors. A proof takes 6 GB of room on
-the disk, and no more crates are proved at once than there are 3 GB of free memory for. It may be interrupted: what is proved is kept, and the next call goes on from there.
+the disk, and no more crates are proved at once than there are 3 GB of free memory for. It may be interrupted: what is
+proved is kept, and the next call goes on from there.
 
 It needs the Rattle kit: its command `rt` on the path. Statuses: 0 built; 1 not proved or not built; 2 usage, or no
 rt; 130 interrupted.
