@@ -51,8 +51,7 @@ true_or_false true = inl refl
 true_or_false false = inr refl
 
 -- the region at a place is good, and those before it are
-pub good_more : (h : Heap) (list : List ℕ) (i : ℕ) → ((j : ℕ) → j < i → IsBadAt h list j → ⊥) → slice_index list i < h.geometry.n →
-    kind h (slice_index list i) ≡ Ordinary → IsFalse (pinned h (slice_index list i))
+pub good_more : (h : Heap) (list : List ℕ) (i : ℕ) → ((j : ℕ) → j < i → IsBadAt h list j → ⊥) → slice_index list i < h.geometry.n → kind h (slice_index list i) ≡ Ordinary → IsFalse (pinned h (slice_index list i))
     → (Contains (take i list) (slice_index list i) → ⊥) → (j : ℕ) → j < i + 1 → IsBadAt h list j → ⊥
 good_more h list i before lt ordinary unpinned new j below bad =
     elim (same_or_not j i) [

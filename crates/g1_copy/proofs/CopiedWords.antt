@@ -231,8 +231,7 @@ module _ (h : Heap) (set l : List ℕ) (valid : IsValid h) (can : CanPlace h set
       let r = get_or (free_regions h) t 0 in
       let width : t * h.geometry.w + h.geometry.w - t * h.geometry.w ≡ h.geometry.w = omega arith in
       let rest = length-drop (t * w) (to_space_words h l) in
-      let count : length (take h.geometry.w (drop (t * h.geometry.w) (to_space_words h l))) ≡ h.geometry.w =
-          length-take-le w (drop (t * w) (to_space_words h l)) (omega (arith, rest, (region_ends t there).0)) in
+      let count : length (take h.geometry.w (drop (t * h.geometry.w) (to_space_words h l))) ≡ h.geometry.w = length-take-le w (drop (t * w) (to_space_words h l)) (omega (arith, rest, (region_ends t there).0)) in
       ap (λ n. take n (drop (t * w) (to_space_words h l))) width
       ∙ same_number_lists (take w (drop (t * w) (to_space_words h l))) (placed_words h l r) (count ∙ sym (length-placed_words h l r))
       (λ k lt.
@@ -345,8 +344,7 @@ module _ (h : Heap) (p : Plan) (made : IsPlanOf h p) where
           -- what they name is there
           pub slots_named : (k : ℕ) → k < slice_index words at % 2 ^ 32 → slice_index words (at + k + 1) ≤ h.geometry.n * h.geometry.w
           slots_named k less =
-              let is : slice_index words (at + k + 1) ≡ slice_index (placed_words h p.survivors (get_or (free_regions h) one.0 0))
-                  (offset h p.set p.survivors valid can room i + k + 1) = λ j. slice_index (words_there j) (at_offset j + k + 1) in
+              let is : slice_index words (at + k + 1) ≡ slice_index (placed_words h p.survivors (get_or (free_regions h) one.0 0)) (offset h p.set p.survivors valid can room i + k + 1) = λ j. slice_index (words_there j) (at_offset j + k + 1) in
               omega (arith, is, named_there h p.set p.survivors valid can room one.0 there i from to k (omega (arith, less, refs_are)))
 
           -- the slots of the survivors before this one stand below it

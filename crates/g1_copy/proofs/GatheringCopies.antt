@@ -78,8 +78,7 @@ module _ (h : Heap) (set l : List ℕ) (valid : IsValid h) (can : CanPlace h set
   forward_below a lt = elim (bool_cases (has l a)) [
     | inl t ↦
         let k = within_region h set l valid can room a (Contains-from_in l a (in_from_has l a t)) in
-        let free = is_free_region h (region_of h (forward h l a)) (taken_in (need h l) (free_regions h) (region_of h (forward h l a))
-            (In-from_contains (to_space h l) (region_of h (forward h l a)) k.0)) in
+        let free = is_free_region h (region_of h (forward h l a)) (taken_in (need h l) (free_regions h) (region_of h (forward h l a)) (In-from_contains (to_space h l) (region_of h (forward h l a)) k.0)) in
         let parts : forward h l a / h.geometry.w * h.geometry.w + forward h l a % h.geometry.w ≡ forward h l a = div-add-mod' (forward h l a) h.geometry.w in
         let below : (forward h l a / h.geometry.w + 1) * h.geometry.w ≤ h.geometry.n * h.geometry.w = mul-le-mul_right h.geometry.w (omega (arith, free.1)) in
         let offset : forward h l a % h.geometry.w < h.geometry.w = mod-lt (forward h l a) (omega (arith, valid.limits.w_least)) in

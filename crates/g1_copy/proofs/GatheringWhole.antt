@@ -107,8 +107,7 @@ module _ (h : Heap) (p : Plan) (valid : IsValid h) (made : IsPlanOf h p) where
       ext_get_or 0 (take k (drop a words)) (replicate w 0) (len ∙ size ∙ sym (length-replicate w 0))
       (λ i less.
       let near : i < w = omega (arith, less, len, size) in
-      get_or-take k (drop a words) i 0 (omega (arith, near, size)) ∙ get_or-drop a words i 0
-          ∙ f.empty (a + i) (omega (arith, at)) (omega (arith, at, near, within)) ∙ sym (get_or-replicate w i 0 0 near))
+      get_or-take k (drop a words) i 0 (omega (arith, near, size)) ∙ get_or-drop a words i 0 ∙ f.empty (a + i) (omega (arith, at)) (omega (arith, at, near, within)) ∙ sym (get_or-replicate w i 0 0 near))
 
   pub FilledTo-more : (n a k : ℕ) (words region : List ℕ) → n < need h p.survivors → a ≡ n * h.geometry.w → k ≡ h.geometry.w → FilledTo h p.survivors n words
       → region ≡ placed_words h p.survivors (get_or (free_regions h) (a / h.geometry.w) 0) → FilledTo h p.survivors (n + 1) (put_mid a k words region)

@@ -101,8 +101,7 @@ module _ (h : Heap) (set l : List ℕ) (valid : IsValid h) (can : CanPlace h set
       let x = get_or-zip (places h l) (sizes_of h l) i (0, 0) (omega arith) (omega arith) in
       let y = get_or-zip (places h l) (sizes_of h l) j (0, 0) (omega arith) (omega arith) in
       let s : get_or (sizes_of h l) i 0 ≡ width i = size_is h l positive lay room i (omega arith) in
-      let first : (get_or (zip (places h l) (sizes_of h l)) i (0, 0)).0 + (get_or (zip (places h l) (sizes_of h l)) i (0, 0)).1 ≡ place i + width i =
-          (λ t. (x t).0 + (x t).1) ∙ ap (λ z. place i + z) s in
+      let first : (get_or (zip (places h l) (sizes_of h l)) i (0, 0)).0 + (get_or (zip (places h l) (sizes_of h l)) i (0, 0)).1 ≡ place i + width i = (λ t. (x t).0 + (x t).1) ∙ ap (λ z. place i + z) s in
       let second : (get_or (zip (places h l) (sizes_of h l)) j (0, 0)).0 ≡ place j = λ t. (y t).0 in
       omega (arith, p, first, second)
 

@@ -76,8 +76,7 @@ length-patched [] base xs = refl
 length-patched (x ∷ ps) base xs = length-patched ps base (cond (leb base x.0) (set xs (x.0 - base) x.1) xs) ∙ length_at x.0 x.1 base xs (leb base x.0)
 
 -- the word at k: where each patch there writes x, and there is one or x stands there
-pub patched_is : (ps : List (ℕ × ℕ)) (base k x : ℕ) (xs : List ℕ) → k < length xs → ((v : ℕ) → In ps (base + k, v) → v ≡ x) →
-    (get_or xs k 0 ≡ x) ⊎ In ps (base + k, x) → get_or (patched ps base xs) k 0 ≡ x
+pub patched_is : (ps : List (ℕ × ℕ)) (base k x : ℕ) (xs : List ℕ) → k < length xs → ((v : ℕ) → In ps (base + k, v) → v ≡ x) → (get_or xs k 0 ≡ x) ⊎ In ps (base + k, x) → get_or (patched ps base xs) k 0 ≡ x
 patched_is [] base k x xs lt f (inl e) = e
 patched_is [] base k x xs lt f (inr m) = absurd m
 patched_is (y ∷ ps) base k x xs lt f d =

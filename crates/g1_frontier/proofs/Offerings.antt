@@ -61,8 +61,7 @@ module _ (place : ℕ → ℕ) where
       at false = refl
 
   -- one more of a list
-  pub tried_more : {A : Type 0} (f : A → List (ℕ × ℕ)) (xs : List A) (n : ℕ) (d : A) (a b c : Holder) → n < length xs →
-      HasTried place (flat_map f (take n xs)) a b → HasTried place (f (get_or xs n d)) b c → HasTried place (flat_map f (take (n + 1) xs)) a c
+  pub tried_more : {A : Type 0} (f : A → List (ℕ × ℕ)) (xs : List A) (n : ℕ) (d : A) (a b c : Holder) → n < length xs → HasTried place (flat_map f (take n xs)) a b → HasTried place (f (get_or xs n d)) b c → HasTried place (flat_map f (take (n + 1) xs)) a c
   tried_more f xs n d a b c lt x y =
       subst (λ ps. HasTried place ps a c) (flat_map_more f [] (take n xs) (get_or xs n d) ∙ ap (flat_map f) (sym (take_more xs n d lt)))
       (tried_append (flat_map f (take n xs)) (f (get_or xs n d)) a b c x y)

@@ -226,8 +226,7 @@ module _ (h : Heap) (r : ℕ) (kind : (region h r).kind ≡ Ordinary) (shaped : 
   -- objects fill the used words of an ordinary region
   pub ordinary_filled : (words : List ℕ) (from to : ℕ) → words ≡ h.words → from ≡ start h r → to ≡ end h r → Reaches words from to
   ordinary_filled words from to a b c =
-      subst (λ x. Reaches x from to) (sym a) (subst (λ x. Reaches h.words x to) (sym b)
-          (subst (λ x. Reaches h.words (start h r) x) (sym c) (ordinary.2, subst (λ k. HoldsBy k h r ordinary.2) kind ordinary.3)))
+      subst (λ x. Reaches x from to) (sym a) (subst (λ x. Reaches h.words x to) (sym b) (subst (λ x. Reaches h.words (start h r) x) (sym c) (ordinary.2, subst (λ k. HoldsBy k h r ordinary.2) kind ordinary.3)))
 
   -- an ordinary region's used words are some of the heap's
   pub ordinary_ends : r < h.geometry.n → end h r ≤ h.geometry.n * h.geometry.w

@@ -88,8 +88,7 @@ one_by_one : (h : Heading) (r : List ℕ) → heading_text h ++ r ≡ u32 h.w ++
 one_by_one h r = simp append_assoc
 
 -- six numbers, one behind another, are a heading
-six_numbers : (h : Heading) (bytes r1 r2 r3 r4 r5 r6 : List ℕ) → bytes ≡ u32 h.w ++ r1 → r1 ≡ u32 h.k ++ r2 → r2 ≡ u32 h.n ++ r3 →
-    r3 ≡ u32 h.roots ++ r4 → r4 ≡ u32 h.dirty ++ r5 → r5 ≡ u32 h.current ++ r6 →
+six_numbers : (h : Heading) (bytes r1 r2 r3 r4 r5 r6 : List ℕ) → bytes ≡ u32 h.w ++ r1 → r1 ≡ u32 h.k ++ r2 → r2 ≡ u32 h.n ++ r3 → r3 ≡ u32 h.roots ++ r4 → r4 ≡ u32 h.dirty ++ r5 → r5 ≡ u32 h.current ++ r6 →
     bytes ≡ heading_text h ++ r6
 six_numbers h bytes r1 r2 r3 r4 r5 r6 a b c d e f =
     a ∙ ap (λ l. u32 h.w ++ l) (b ∙ ap (λ l. u32 h.k ++ l) (c ∙ ap (λ l. u32 h.n ++ l) (d ∙ ap (λ l. u32 h.roots ++ l) (e ∙ ap (λ l. u32 h.dirty ++ l) f)))) ∙ sym (one_by_one h r6)
@@ -136,8 +135,7 @@ differs v bytes i lt n = elim (cases_lt i (length bytes)) [
 -- the bytes that are there agree with a version's magic, or one differs
 told_magic : (v : Version) (bytes : List ℕ) → ((i : ℕ) → i < 8 → AgreesAt v bytes i) ⊎ Differs bytes v
 told_magic v bytes =
-    elim (first_breach (AgreesAt v bytes) (λ i. decided_under (i < length bytes) (slice_index bytes i ≡ slice_index (magic v) i)
-        (decided_lt i (length bytes)) (decided_eq (slice_index bytes i) (slice_index (magic v) i))) 8) [
+    elim (first_breach (AgreesAt v bytes) (λ i. decided_under (i < length bytes) (slice_index bytes i ≡ slice_index (magic v) i) (decided_lt i (length bytes)) (decided_eq (slice_index bytes i) (slice_index (magic v) i))) 8) [
       | inl agrees ↦ inl agrees
       | inr x ↦ inr (differs v bytes x.0 x.1.within x.1.breach)
     ]
@@ -181,8 +179,7 @@ told_opening bytes b = elim (told_magic One bytes) [
 
 -- the bytes are those of a whole file
 abbrev pub IsPlain : List ℕ → Type 0
-IsPlain bytes = (v : Version) × (h : Heading) × (table : List Entry) × (roots : List ℕ) × (log : List ℕ) × (remembered : List (List ℕ))
-    × (words : List ℕ) × PlainIs bytes v h table roots log remembered words
+IsPlain bytes = (v : Version) × (h : Heading) × (table : List Entry) × (roots : List ℕ) × (log : List ℕ) × (remembered : List (List ℕ)) × (words : List ℕ) × PlainIs bytes v h table roots log remembered words
 
 -- what stands behind the heading
 told_body : (bytes : List ℕ) → IsBytes bytes → Opened bytes → IsPlain bytes ⊎ AnyFault bytes

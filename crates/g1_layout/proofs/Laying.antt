@@ -81,8 +81,7 @@ pub record Placing (h : Heap) (l : List ℕ) (i end : ℕ) (ps : List ℕ) : Typ
 pub Placing-start : (h : Heap) (l : List ℕ) → Placing h l 0 0 []
 Placing-start h l = record { laying = Laying-start h l; whole = refl }
 
-pub Placing-step : (h : Heap) (l : List ℕ) (i end s r : ℕ) (ps : List ℕ) → 0 < h.geometry.w → h.geometry.w ≤ 65536 → CanLay h l →
-    Placing h l i end ps → i < length l → s ≡ (object_at h (get_or l i 0)).size
+pub Placing-step : (h : Heap) (l : List ℕ) (i end s r : ℕ) (ps : List ℕ) → 0 < h.geometry.w → h.geometry.w ≤ 65536 → CanLay h l → Placing h l i end ps → i < length l → s ≡ (object_at h (get_or l i 0)).size
     → r ≡ get_or (to_space h l) (next_fit h.geometry.w end s / h.geometry.w) 0
     → Placing h l (i + 1) (next_fit h.geometry.w end s + s) (ps ++ (r * h.geometry.w + next_fit h.geometry.w end s % h.geometry.w) ∷ [])
 Placing-step h l i end s r ps pos most can k lt e f =

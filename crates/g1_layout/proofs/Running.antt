@@ -273,10 +273,8 @@ module _ (h : Heap) (l : List ℕ) (pos : 0 < h.geometry.w) (can : CanLay h l) (
           let s = stretch_lies k (omega arith) (omega arith) in
           let ends : end ≡ get_or (places h l) k 0 + size k - region * h.geometry.w = last.1 k (omega arith) (omega arith) in
           let z : (get_or (places h l) k 0) / h.geometry.w ≡ region = place_region k s.0 ∙ ap (λ q. get_or (free_regions h) q 0) s.1 in
-          inr (subst (In ends_of) (sym ends) (In-map (λ (x : ℕ × ℕ). x.0 + x.1 - start h region)
-              (filter (λ x. eqb (region_of h x.0) region) (zip (places h l) (sizes_of h l))) (get_or (places h l) k 0, size k)
-          (In-filter (λ (x : ℕ × ℕ). eqb (region_of h x.0) region) (zip (places h l) (sizes_of h l)) (get_or (places h l) k 0,
-              size k) (pair_in k s.0) (eq-eqb (get_or (places h l) k 0 / h.geometry.w) region z))))
+          inr (subst (In ends_of) (sym ends) (In-map (λ (x : ℕ × ℕ). x.0 + x.1 - start h region) (filter (λ x. eqb (region_of h x.0) region) (zip (places h l) (sizes_of h l))) (get_or (places h l) k 0, size k)
+          (In-filter (λ (x : ℕ × ℕ). eqb (region_of h x.0) region) (zip (places h l) (sizes_of h l)) (get_or (places h l) k 0, size k) (pair_in k s.0) (eq-eqb (get_or (places h l) k 0 / h.geometry.w) region z))))
     ]))
 
 -- a run up to the survivor at an index
@@ -334,7 +332,6 @@ Running-end h l ps r from to end pos can room is k none last stop t there e f =
       λ j n ge.
           let s = stands j ge (omega arith) in
           let before : to - 1 ≡ j = omega arith in
-          last (omega arith) ∙ ap (λ x. get_or ps x 0 + (object_at h (get_or l x 0)).size - r * h.geometry.w) before
-              ∙ (λ i. get_or (is i) j 0 + sym (size_is h l pos can room j s.0) i - e i * h.geometry.w),
+          last (omega arith) ∙ ap (λ x. get_or ps x 0 + (object_at h (get_or l x 0)).size - r * h.geometry.w) before ∙ (λ i. get_or (is i) j 0 + sym (size_is h l pos can room j s.0) i - e i * h.geometry.w),
     ) in
     λ i. record { region = e i; from = f i; to = g i; end = ends i }

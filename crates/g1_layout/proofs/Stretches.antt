@@ -150,8 +150,7 @@ module _ (h : Heap) (set l : List ℕ) (valid : IsValid h) (can : CanPlace h set
       let f = fits h l positive lay room k c.1 in
       let offset : forward h l a % h.geometry.w ≡ row_of k % h.geometry.w = ap (λ x. x % h.geometry.w) to ∙ offset_at k c.1 in
       let size : get_or (sizes_of h l) k 0 ≡ (object_at h a).size = size_is h l positive lay room k c.1 ∙ ap (λ x. (object_at h x).size) is in (
-        subst (Contains (to_space h l)) (sym region) (Contains-from_in (to_space h l) (get_or (free_regions h) (row_of k / h.geometry.w) 0)
-            (In-take (need h l) (free_regions h) (row_of k / h.geometry.w) 0 below (omega arith))),
+        subst (Contains (to_space h l)) (sym region) (Contains-from_in (to_space h l) (get_or (free_regions h) (row_of k / h.geometry.w) 0) (In-take (need h l) (free_regions h) (row_of k / h.geometry.w) 0 below (omega arith))),
         omega (arith, f.1, offset, size),
       )
 

@@ -55,8 +55,7 @@ behind_later i places p q valid le b = record {
   some = omega (arith, valid.limits.k_least)
 
 -- one place moved on
-pub behind_set : (i : Image) (places : List ℕ) (p r place : ℕ) → r < i.heap.geometry.n → AreBehind i places p →
-    IsBehind (remembered_of i r) place (card_of i.heap p) → AreBehind i (set places r place) p
+pub behind_set : (i : Image) (places : List ℕ) (p r place : ℕ) → r < i.heap.geometry.n → AreBehind i places p → IsBehind (remembered_of i r) place (card_of i.heap p) → AreBehind i (set places r place) p
 behind_set i places p r place lt b here = record {
   one_each = length-set places r place ∙ b.one_each;
   each = λ q lt'. elim (cases_lt q r) [
@@ -88,8 +87,7 @@ ready_start i places n valid none e = record {
 }
 
 -- an object's slots are passed
-pub ready_next : (i : Image) (places later : List ℕ) (o : Object) (os : List Object) (p : ℕ) → IsValid i.heap → (r : AreReadyFor i places (o ∷ os)) →
-    p ≤ o.at + o.size → AreBehind i later p → AreReadyFor i later os
+pub ready_next : (i : Image) (places later : List ℕ) (o : Object) (os : List Object) (p : ℕ) → IsValid i.heap → (r : AreReadyFor i places (o ∷ os)) → p ≤ o.at + o.size → AreBehind i later p → AreReadyFor i later os
 ready_next i places later o os p valid r le b = record {
   from = o.at + o.size;
   behind = behind_later i later p (o.at + o.size) valid le b;

@@ -77,8 +77,7 @@ module _ (i : Image) (tracked : IsTracked i) where
               ]
               | inr new ↦ elim (logged_now i (a + k) e.target) [
                 | inl s ↦ inl (ap (region_of i.heap) new.0 ∙ s)
-                | inr s ↦ inr (inr (subst (λ z. Contains (logged i (a + k) z) (card_of i.heap e.slot)) (sym new.1)
-                    (subst (λ z. Contains (logged i (a + k) (suc e.target)) (card_of i.heap z)) (sym new.0) s)))
+                | inr s ↦ inr (inr (subst (λ z. Contains (logged i (a + k) z) (card_of i.heap e.slot)) (sym new.1) (subst (λ z. Contains (logged i (a + k) (suc e.target)) (card_of i.heap z)) (sym new.0) s)))
               ]
             ]);
       }
@@ -148,8 +147,7 @@ module _ (h : Heap) (v : IsBuilt h) (rs : List ℕ) where
 
   shaped_roots : (r : ℕ) (k : Kind) → IsBuiltBy h r k → IsBuiltBy (record h { roots = rs }) r k
   shaped_roots r Free s = s
-  shaped_roots r Ordinary s = (s.0, s.1, subst (λ os. IsTiled (record h { roots = rs }) (r * h.geometry.w) os (r * h.geometry.w + top h r))
-      (sym (same_in r)) (tiled_roots (r * h.geometry.w) (objects_in h r) (r * h.geometry.w + top h r) s.2))
+  shaped_roots r Ordinary s = (s.0, s.1, subst (λ os. IsTiled (record h { roots = rs }) (r * h.geometry.w) os (r * h.geometry.w + top h r)) (sym (same_in r)) (tiled_roots (r * h.geometry.w) (objects_in h r) (r * h.geometry.w + top h r) s.2))
   shaped_roots r HumongousFirst s = record { refs = s.refs; humongous = s.humongous; run = s.run }
   shaped_roots r Continuation s = s
 

@@ -147,8 +147,7 @@ module _ (h : Heap) (v : IsBuilt h) (r size refs0 root : ℕ) (lt : r < h.geomet
   new_run c l =
       let k = count_above c l in
       let e : r + c - r ≡ c = omega arith in
-      (in_heap (r + c) (omega (arith, k)), top_run (r + c) (omega arith) (omega (arith, k)) ∙ ap (λ x. min h.geometry.w (size - x * h.geometry.w)) e,
-          λ p. kind_later (r + c) (omega (arith, p)) (omega (arith, k)))
+      (in_heap (r + c) (omega (arith, k)), top_run (r + c) (omega arith) (omega (arith, k)) ∙ ap (λ x. min h.geometry.w (size - x * h.geometry.w)) e, λ p. kind_later (r + c) (omega (arith, p)) (omega (arith, k)))
 
   new_first : BeginsRun j r
   new_first = let f = sym object_here in record {

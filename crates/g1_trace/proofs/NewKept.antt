@@ -29,8 +29,7 @@ used_below h e r n = elim (cases_lt r h.geometry.n) [
   | inr ge ↦ absurd (n (ap (λ (q : Region). q.kind) (get_or_past h.regions r free_region (omega (arith, e, ge)))))
 ]
 
-module _ (i : Image) (tracked : IsTracked i) (r size refs0 root : ℕ) (unused : IsUnused i.heap (r * i.heap.geometry.w + top i.heap r) size)
-    (fits : refs0 < size) (small : size ≤ 2 ^ 24) (lt : r < i.heap.geometry.n) where
+module _ (i : Image) (tracked : IsTracked i) (r size refs0 root : ℕ) (unused : IsUnused i.heap (r * i.heap.geometry.w + top i.heap r) size) (fits : refs0 < size) (small : size ≤ 2 ^ 24) (lt : r < i.heap.geometry.n) where
   abbrev h : Heap
   h = i.heap
 
@@ -72,8 +71,7 @@ module _ (i : Image) (tracked : IsTracked i) (r size refs0 root : ℕ) (unused :
       (subst (λ y. top i.heap y + size ≤ i.heap.geometry.w) same (leb-true (top i.heap x + size) i.heap.geometry.w f)) (inl (ap (kind i.heap) (sym same) ∙ k.1))
 
   new_at : (big cur : Bool) → is_humongous i.heap size ≡ big → fits_current i.heap size i.heap.current ≡ cur
-      → cond big (find (is_free_run i.heap (run_length i.heap size)) (regions i.heap))
-          (cond cur i.heap.current (find (is_free_region i.heap) (regions i.heap))) ≡ Some r → IsTracked (with_heap i (heap_with i.heap r size refs0 root))
+      → cond big (find (is_free_run i.heap (run_length i.heap size)) (regions i.heap)) (cond cur i.heap.current (find (is_free_region i.heap) (regions i.heap))) ≡ Some r → IsTracked (with_heap i (heap_with i.heap r size refs0 root))
   new_at true cur e f q =
       let v = built i.heap tracked.image.heap in
       let m = found (is_free_run i.heap (run_length i.heap size)) (regions i.heap) r q in
@@ -92,8 +90,7 @@ module _ (i : Image) (tracked : IsTracked i) (r size refs0 root : ℕ) (unused :
 pub new_tracked : (i : Image) → IsTracked i → (root refs0 words r : ℕ) → place_for i.heap (1 + refs0 + words) ≡ Some r → IsTracked (with_heap i (heap_with i.heap r (1 + refs0 + words) refs0 root))
 new_tracked i tracked root refs0 words r place = by (ltb (i.heap.geometry.n * i.heap.geometry.w) (1 + refs0 + words)) refl place
   where
-    by : (b : Bool) → ltb (i.heap.geometry.n * i.heap.geometry.w) (1 + refs0 + words) ≡ b →
-        cond b None (region_for i.heap (1 + refs0 + words)) ≡ Some r → IsTracked (with_heap i (heap_with i.heap r (1 + refs0 + words) refs0 root))
+    by : (b : Bool) → ltb (i.heap.geometry.n * i.heap.geometry.w) (1 + refs0 + words) ≡ b → cond b None (region_for i.heap (1 + refs0 + words)) ≡ Some r → IsTracked (with_heap i (heap_with i.heap r (1 + refs0 + words) refs0 root))
     by true e p = absurd (clash p)
       where
         clash : None ≡ Some r → ⊥

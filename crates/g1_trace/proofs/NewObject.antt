@@ -33,8 +33,7 @@ tiled_tiles h (suc m) a (o ∷ os) end t le =
     let k = tiled_from h (a + o.size) os end t.2 in
     let pos : o.refs < o.size = t.1.0 in
     let size : o.size ≡ (object_at h a).size = ap (λ (x : Object). x.size) t.0 in
-    ap (λ b. elim b as (λ _. List Object) [ true ↦ object_at h a ∷ tiles h m (a + (object_at h a).size) end | false ↦ [] ])
-        (lt-ltb a end (omega (arith, k, pos))) ∙ ((λ i. sym t.0 i ∷ tiles h m (a + sym size i) end) ∙ ap (λ xs. o ∷ xs) (tiled_tiles h m (a + o.size) os end t.2 (omega (arith, pos, le))))
+    ap (λ b. elim b as (λ _. List Object) [ true ↦ object_at h a ∷ tiles h m (a + (object_at h a).size) end | false ↦ [] ]) (lt-ltb a end (omega (arith, k, pos))) ∙ ((λ i. sym t.0 i ∷ tiles h m (a + sym size i) end) ∙ ap (λ xs. o ∷ xs) (tiled_tiles h m (a + o.size) os end t.2 (omega (arith, pos, le))))
 
 pub tiled_append : (h : Heap) (b : ℕ) (os : List Object) (end : ℕ) (new : Object) → IsTiled h b os end → new ≡ object_at h end → IsPlain h new → IsTiled h b (os ++ new ∷ []) (end + new.size)
 tiled_append h b [] end new t e p = (e ∙ ap (object_at h) (sym t), p, ap (λ x. x + new.size) t)
@@ -120,8 +119,7 @@ module _ (h : Heap) (v : IsBuilt h) (r size refs0 root : ℕ) (lt : r < h.geomet
         (subst (λ xs. In xs new) (sym here) (In-append_right (objects_in h r) (new ∷ []) new (inl refl)))))
 
     named_there : (b : ℕ) → Contains (objects h) (object_at h b) → Contains (objects j) (object_at j b)
-    named_there b c = subst (λ o. Contains (objects j) o) (sym (same_object b (no_header (object_at h b) c)))
-        (Contains-from_in (objects j) (object_at h b) (old_stays (object_at h b) (In-from_contains (objects h) (object_at h b) c)))
+    named_there b c = subst (λ o. Contains (objects j) o) (sym (same_object b (no_header (object_at h b) c))) (Contains-from_in (objects j) (object_at h b) (old_stays (object_at h b) (In-from_contains (objects h) (object_at h b) c)))
 
     -- the new object's slots name nothing
     pub refs_stay : (e : Ref) → In (refs j) e → In (refs h) e
@@ -134,8 +132,7 @@ module _ (h : Heap) (v : IsBuilt h) (r size refs0 root : ℕ) (lt : r < h.geomet
               let c = Contains-from_in (objects h) x.0 old in
               let p = pos_of x.0 c in
               let n : s.0 ≡ r * h.geometry.w + top h r → ⊥ = λ q. unused.apart x.0 s.0 c (omega (arith, b)) (omega (arith, b, p)) (omega (arith, q)) (omega (arith, q, fits)) in
-              In-flat_map (λ o. flat_map (refs_at h) (slots o)) (objects h) x.0 e old (In-flat_map (refs_at h) (slots x.0) s.0 e s.1
-                  (subst (λ z. In (map (λ b. record { slot = s.0; target = b }) (named z)) e) (same_word s.0 n) s.2))
+              In-flat_map (λ o. flat_map (refs_at h) (slots o)) (objects h) x.0 e old (In-flat_map (refs_at h) (slots x.0) s.0 e s.1 (subst (λ z. In (map (λ b. record { slot = s.0; target = b }) (named z)) e) (same_word s.0 n) s.2))
           | inr q ↦
               let at : x.0.at ≡ r * h.geometry.w + top h r = ap (λ (o : Object). o.at) q in
               let rs : x.0.refs ≡ refs0 = ap (λ (o : Object). o.refs) q in
@@ -162,8 +159,7 @@ module _ (h : Heap) (v : IsBuilt h) (r size refs0 root : ℕ) (lt : r < h.geomet
       shaped = shaped;
       pins = pins;
       zero_above = zeros;
-      root_named = λ b c. elim (In-set h.roots root (suc (r * h.geometry.w + top h r)) (suc b)
-          (named-in (set h.roots root (suc (r * h.geometry.w + top h r))) b (In-from_contains (root_targets j) b c))) [
+      root_named = λ b c. elim (In-set h.roots root (suc (r * h.geometry.w + top h r)) (suc b) (named-in (set h.roots root (suc (r * h.geometry.w + top h r))) b (In-from_contains (root_targets j) b c))) [
         | inl q ↦ let e : r * h.geometry.w + top h r ≡ b = omega (arith, q) in subst (λ x. Contains (objects j) (object_at j x)) e new_there
         | inr m ↦ named_there b (v.root_named b (Contains-from_in (root_targets h) b (in-named h.roots b m)))
       ];
@@ -197,8 +193,7 @@ module _ (h : Heap) (v : IsBuilt h) (r size refs0 root : ℕ) (lt : r < h.geomet
     other_at q Ordinary l n t o k s = (
       subst (λ x. 0 < x) (sym t) s.0,
       subst (λ x. x ≤ h.geometry.w) (sym t) s.1,
-      subst (λ os. IsTiled j (q * h.geometry.w) os (q * h.geometry.w + top j q)) (sym o)
-          (subst (λ x. IsTiled j (q * h.geometry.w) (objects_in h q) (q * h.geometry.w + x)) (sym t) (tiled_kept (q * h.geometry.w) (objects_in h q) (q * h.geometry.w + top h q) (in_all q l) s.2)),
+      subst (λ os. IsTiled j (q * h.geometry.w) os (q * h.geometry.w + top j q)) (sym o) (subst (λ x. IsTiled j (q * h.geometry.w) (objects_in h q) (q * h.geometry.w + x)) (sym t) (tiled_kept (q * h.geometry.w) (objects_in h q) (q * h.geometry.w + top h q) (in_all q l) s.2)),
     )
     other_at q HumongousFirst l n t o k s =
         let f = sym (first_same q room n) in

@@ -93,8 +93,7 @@ module _ (h : Heap) (v : IsBuilt h) (r size refs0 root : ℕ) (lt : r < h.geomet
       (λ q l. elim (equal_or_not q r) [
         | inl n ↦ other_shaped h v r size refs0 root lt unused fits small low_room no_first runs_stay q l n (region_else q l n)
         | inr e ↦ subst (λ x. IsBuiltBy j x (kind j x)) (sym e) (subst (IsBuiltBy j r) (sym kind_here)
-            (let t = top_here in (omega (arith, t, fits), omega (arith, t, inside), subst (λ os. IsTiled j (r * h.geometry.w) os
-                (r * h.geometry.w + top j r)) (sym ordinary_here) (subst (λ x. IsTiled j (r * h.geometry.w) (objects_in h r ++ new ∷ []) (r * h.geometry.w + x)) (sym top_here) new_tiled))))
+            (let t = top_here in (omega (arith, t, fits), omega (arith, t, inside), subst (λ os. IsTiled j (r * h.geometry.w) os (r * h.geometry.w + top j r)) (sym ordinary_here) (subst (λ x. IsTiled j (r * h.geometry.w) (objects_in h r ++ new ∷ []) (r * h.geometry.w + x)) (sym top_here) new_tiled))))
       ])
       (zeros_kept h v r size refs0 root lt unused fits small low_room (λ q l. elim (equal_or_not q r) [
         | inl n ↦ let t : top j q ≡ top h q = ap (λ (z : Region). z.top) (region_else q l n) in omega (arith, t)

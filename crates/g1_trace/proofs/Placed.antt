@@ -21,35 +21,29 @@ use Rattle.g1_trace.proofs.Tables.{same_list}
 
 -- ---- the image put together again
 
-pub ordinary_same : (i : Image) (r size refs root : ℕ) (heap : Heap) (remembered : List (List ℕ)) (log : List ℕ) (at used : ℕ) (pin : Bool) →
-    record { heap = heap; remembered = remembered; log = log } ≡ i → at ≡ end i.heap r → used ≡ top i.heap r + size → pin ≡ pinned i.heap r
+pub ordinary_same : (i : Image) (r size refs root : ℕ) (heap : Heap) (remembered : List (List ℕ)) (log : List ℕ) (at used : ℕ) (pin : Bool) → record { heap = heap; remembered = remembered; log = log } ≡ i → at ≡ end i.heap r → used ≡ top i.heap r + size → pin ≡ pinned i.heap r
     → with_heap i (ordinary_heap i.heap r size refs root) ≡ record {
-      heap = record { geometry = heap.geometry; words = set heap.words at (size * 2 ^ 32 + refs); regions =
-          set heap.regions r (record { kind = Ordinary; top = used; pinned = pin }); roots = set heap.roots root (at + 1); current = Some r };
+      heap = record { geometry = heap.geometry; words = set heap.words at (size * 2 ^ 32 + refs); regions = set heap.regions r (record { kind = Ordinary; top = used; pinned = pin }); roots = set heap.roots root (at + 1); current = Some r };
       remembered = remembered;
       log = log;
     }
 ordinary_same i r size refs root heap remembered log at used pin e a u k =
     let h : heap ≡ i.heap = ap (λ (x : Image). x.heap) e in
     let next : suc (end i.heap r) ≡ at + 1 = omega (arith, a) in
-    let whole : (x : Heap) (p q n : ℕ) (b : Bool) → Heap = λ x p q n b. record { geometry = x.geometry; words = set x.words p (size * 2 ^ 32 + refs);
-        regions = set x.regions r (record { kind = Ordinary; top = q; pinned = b }); roots = set x.roots root n; current = Some r } in
+    let whole : (x : Heap) (p q n : ℕ) (b : Bool) → Heap = λ x p q n b. record { geometry = x.geometry; words = set x.words p (size * 2 ^ 32 + refs); regions = set x.regions r (record { kind = Ordinary; top = q; pinned = b }); roots = set x.roots root n; current = Some r } in
     let image : (x : Image) (p q n : ℕ) (b : Bool) → Image = λ x p q n b. record { heap = whole x.heap p q n b; remembered = x.remembered; log = x.log } in
     λ s. image (sym e s) (sym a s) (sym u s) (next s) (sym k s)
 
-pub ordinary_parts : (i : Image) (r size refs root : ℕ) (heap : Heap) (remembered : List (List ℕ)) (log : List ℕ) (at used : ℕ) (pin : Bool) →
-    record { heap = heap; remembered = remembered; log = log } ≡ i → at ≡ end i.heap r → used ≡ top i.heap r + size → pin ≡ pinned i.heap r
+pub ordinary_parts : (i : Image) (r size refs root : ℕ) (heap : Heap) (remembered : List (List ℕ)) (log : List ℕ) (at used : ℕ) (pin : Bool) → record { heap = heap; remembered = remembered; log = log } ≡ i → at ≡ end i.heap r → used ≡ top i.heap r + size → pin ≡ pinned i.heap r
     → IsTracked (with_heap i (ordinary_heap i.heap r size refs root))
     → IsTracked (record {
-      heap = record { geometry = heap.geometry; words = set heap.words at (size * 2 ^ 32 + refs); regions =
-          set heap.regions r (record { kind = Ordinary; top = used; pinned = pin }); roots = set heap.roots root (at + 1); current = Some r };
+      heap = record { geometry = heap.geometry; words = set heap.words at (size * 2 ^ 32 + refs); regions = set heap.regions r (record { kind = Ordinary; top = used; pinned = pin }); roots = set heap.roots root (at + 1); current = Some r };
       remembered = remembered;
       log = log;
     })
 ordinary_parts i r size refs root heap remembered log at used pin e a u k t = subst IsTracked (ordinary_same i r size refs root heap remembered log at used pin e a u k) t
 
-pub humongous_same : (i : Image) (r size refs root : ℕ) (heap : Heap) (remembered : List (List ℕ)) (log : List ℕ) (at : ℕ) (table : List Region) →
-    record { heap = heap; remembered = remembered; log = log } ≡ i → at ≡ end i.heap r
+pub humongous_same : (i : Image) (r size refs root : ℕ) (heap : Heap) (remembered : List (List ℕ)) (log : List ℕ) (at : ℕ) (table : List Region) → record { heap = heap; remembered = remembered; log = log } ≡ i → at ≡ end i.heap r
     → table ≡ run_taken i.heap.geometry.w i.heap.regions r size (run_length i.heap size)
     → with_heap i (humongous_heap i.heap r size refs root) ≡ record {
       heap = record { geometry = heap.geometry; words = set heap.words at (size * 2 ^ 32 + refs); regions = table; roots = set heap.roots root (at + 1); current = heap.current };
@@ -58,13 +52,11 @@ pub humongous_same : (i : Image) (r size refs root : ℕ) (heap : Heap) (remembe
     }
 humongous_same i r size refs root heap remembered log at table e a u =
     let next : suc (end i.heap r) ≡ at + 1 = omega (arith, a) in
-    let whole : (x : Heap) (p n : ℕ) (rs : List Region) → Heap = λ x p n rs. record { geometry = x.geometry; words =
-        set x.words p (size * 2 ^ 32 + refs); regions = rs; roots = set x.roots root n; current = x.current } in
+    let whole : (x : Heap) (p n : ℕ) (rs : List Region) → Heap = λ x p n rs. record { geometry = x.geometry; words = set x.words p (size * 2 ^ 32 + refs); regions = rs; roots = set x.roots root n; current = x.current } in
     let image : (x : Image) (p n : ℕ) (rs : List Region) → Image = λ x p n rs. record { heap = whole x.heap p n rs; remembered = x.remembered; log = x.log } in
     λ s. image (sym e s) (sym a s) (next s) (sym u s)
 
-pub humongous_parts : (i : Image) (r size refs root : ℕ) (heap : Heap) (remembered : List (List ℕ)) (log : List ℕ) (at : ℕ) (table : List Region) →
-    record { heap = heap; remembered = remembered; log = log } ≡ i → at ≡ end i.heap r
+pub humongous_parts : (i : Image) (r size refs root : ℕ) (heap : Heap) (remembered : List (List ℕ)) (log : List ℕ) (at : ℕ) (table : List Region) → record { heap = heap; remembered = remembered; log = log } ≡ i → at ≡ end i.heap r
     → table ≡ run_taken i.heap.geometry.w i.heap.regions r size (run_length i.heap size)
     → IsTracked (with_heap i (humongous_heap i.heap r size refs root))
     → IsTracked (record {

@@ -59,21 +59,16 @@ module _ (v : View) (P : Effect → Type 0) (nothing : P Nothing) where
 answer_writes : (v : View) (c : Command) → WritesWord c → EffectWritesWord (answer_of v c).effect
 unfolding EffectWritesWord
 answer_writes v (New r refs words) m = behind_range v EffectWritesWord tt r (answer reply.Ok (MakeNew r refs words)) tt
-answer_writes v (Get r q p) m = behind_range v EffectWritesWord tt r _ (behind_range v EffectWritesWord tt q _
-    (behind_null v EffectWritesWord tt (get_or v.roots q 0) _ (λ a. behind_within v EffectWritesWord tt p (v.slots a) (answer reply.Ok (SetRoot r (get_or (v.slots a) p 0))) tt)))
-answer_writes v (Put r p q) m = behind_range v EffectWritesWord tt r _ (behind_range v EffectWritesWord tt q _
-    (behind_null v EffectWritesWord tt (get_or v.roots r 0) _ (λ a. behind_within v EffectWritesWord tt p (v.slots a) (answer reply.Ok (SetSlot a p (get_or v.roots q 0))) tt)))
-answer_writes v (Set r p x) m = behind_range v EffectWritesWord tt r _ (behind_null v EffectWritesWord tt (get_or v.roots r 0) _
-    (λ a. behind_within v EffectWritesWord tt p (v.values a) (answer reply.Ok (SetValue a p x)) m))
-answer_writes v (Say r p) m = behind_range v EffectWritesWord tt r _ (behind_null v EffectWritesWord tt (get_or v.roots r 0) _
-    (λ a. behind_within v EffectWritesWord tt p (v.values a) (answer (reply.Number (get_or (v.values a) p 0)) Nothing) tt))
+answer_writes v (Get r q p) m = behind_range v EffectWritesWord tt r _ (behind_range v EffectWritesWord tt q _ (behind_null v EffectWritesWord tt (get_or v.roots q 0) _ (λ a. behind_within v EffectWritesWord tt p (v.slots a) (answer reply.Ok (SetRoot r (get_or (v.slots a) p 0))) tt)))
+answer_writes v (Put r p q) m = behind_range v EffectWritesWord tt r _ (behind_range v EffectWritesWord tt q _ (behind_null v EffectWritesWord tt (get_or v.roots r 0) _ (λ a. behind_within v EffectWritesWord tt p (v.slots a) (answer reply.Ok (SetSlot a p (get_or v.roots q 0))) tt)))
+answer_writes v (Set r p x) m = behind_range v EffectWritesWord tt r _ (behind_null v EffectWritesWord tt (get_or v.roots r 0) _ (λ a. behind_within v EffectWritesWord tt p (v.values a) (answer reply.Ok (SetValue a p x)) m))
+answer_writes v (Say r p) m = behind_range v EffectWritesWord tt r _ (behind_null v EffectWritesWord tt (get_or v.roots r 0) _ (λ a. behind_within v EffectWritesWord tt p (v.values a) (answer (reply.Number (get_or (v.values a) p 0)) Nothing) tt))
 answer_writes v (Same r q) m = behind_range v EffectWritesWord tt r _ (behind_range v EffectWritesWord tt q _ tt)
 answer_writes v (Copy r q) m = behind_range v EffectWritesWord tt r _ (behind_range v EffectWritesWord tt q (answer reply.Ok (SetRoot r (get_or v.roots q 0))) tt)
 answer_writes v (Drop r) m = behind_range v EffectWritesWord tt r (answer reply.Ok (SetRoot r 0)) tt
 answer_writes v (Pause b) m = tt
 
-effect_tracked : (cost : Cost) (i : Image) (e : Effect) (told reply : Reply) (j : Image) → IsTracked i → EffectFits (heap_view i.heap) e →
-    EffectWritesWord e → IsEffect cost i e told reply j → IsTracked j
+effect_tracked : (cost : Cost) (i : Image) (e : Effect) (told reply : Reply) (j : Image) → IsTracked i → EffectFits (heap_view i.heap) e → EffectWritesWord e → IsEffect cost i e told reply j → IsTracked j
 unfolding EffectWritesWord
 effect_tracked cost i Nothing told reply j tr fits w (q, e) = subst IsTracked (sym e) tr
 effect_tracked cost i (SetRoot r x) told reply j tr fits w (q, e) = subst IsTracked (sym e) (root_tracked i tr r x fits.1)

@@ -42,8 +42,7 @@ module _ (w : ℕ) (regions : List Region) (r size : ℕ) where
 
   at_taken : (m q : ℕ) → q < length regions
       → get_or (run_taken w regions r size m) q free_region ≡ cond (leb r q && ltb q (r + m)) (run_region (table_heap w regions) r size q) (get_or regions q free_region)
-  at_taken m q lt = get_or-map-range_with_len (λ q. cond (leb r q && ltb q (r + m)) (run_region (table_heap w regions) r size q)
-      (get_or regions q free_region)) 0 (length regions) q q free_region lt (omega arith)
+  at_taken m q lt = get_or-map-range_with_len (λ q. cond (leb r q && ltb q (r + m)) (run_region (table_heap w regions) r size q) (get_or regions q free_region)) 0 (length regions) q q free_region lt (omega arith)
 
   taken_size : (m : ℕ) → length (run_taken w regions r size m) ≡ length regions
   taken_size m = length-map-range_with_len (λ q. cond (leb r q && ltb q (r + m)) (run_region (table_heap w regions) r size q) (get_or regions q free_region)) 0 (length regions)
@@ -57,8 +56,7 @@ module _ (w : ℕ) (regions : List Region) (r size : ℕ) where
 
   -- nothing is taken yet
   pub none_taken : regions ≡ run_taken w regions r size 0
-  none_taken = same_list free_region regions (run_taken w regions r size 0) (sym (taken_size 0))
-      (λ q lt. sym (at_taken 0 q lt ∙ ap (λ b. cond b (run_region (table_heap w regions) r size q) (get_or regions q free_region)) (not_first q)))
+  none_taken = same_list free_region regions (run_taken w regions r size 0) (sym (taken_size 0)) (λ q lt. sym (at_taken 0 q lt ∙ ap (λ b. cond b (run_region (table_heap w regions) r size q) (get_or regions q free_region)) (not_first q)))
 
   others_same : (i q : ℕ) → q ≢ r + i → (leb r q && ltb q (r + (i + 1))) ≡ (leb r q && ltb q (r + i))
   others_same i q n = ap (λ b. leb r q && b) (same_bool (ltb q (r + (i + 1))) (ltb q (r + i))
@@ -70,8 +68,7 @@ module _ (w : ℕ) (regions : List Region) (r size : ℕ) where
       → x ≡ region_with (cond (eqb i 0) HumongousFirst Continuation) (min w (size - i * w)) → set table (r + i) x ≡ run_taken w regions r size (i + 1)
   one_taken i table x lt e is =
       ap (λ xs. set xs (r + i) x) e
-      ∙ same_list free_region (set (run_taken w regions r size i) (r + i) x) (run_taken w regions r size (i + 1))
-          (length-set (run_taken w regions r size i) (r + i) x ∙ taken_size i ∙ sym (taken_size (i + 1)))
+      ∙ same_list free_region (set (run_taken w regions r size i) (r + i) x) (run_taken w regions r size (i + 1)) (length-set (run_taken w regions r size i) (r + i) x ∙ taken_size i ∙ sym (taken_size (i + 1)))
       (λ q l. let small : q < length regions = (let a = length-set (run_taken w regions r size i) (r + i) x in let b = taken_size i in omega (arith, l, a, b)) in
       elim (equal_or_not q (r + i)) [
         | inl n ↦ get_or-set_other (run_taken w regions r size i) (r + i) q x free_region n ∙ at_taken i q small

@@ -73,8 +73,7 @@ module _ (h : Heap) (r q m : ℕ) (o : Object) (lr : r < length h.roots) (lq : q
       let e : get_or h.roots q 0 ≡ suc o.at = omega (arith, n) in
       let c = slot_count h o.at in
       let f = refs_is in
-      sym (range_yes (heap_view h) r _ lr ∙ range_yes (heap_view h) q _ lq ∙ names (heap_view h) (get_or h.roots q 0) o.at _ e
-          ∙ within_no (heap_view h) m ((heap_view h).slots o.at) _ (omega (arith, c, f, le)))
+      sym (range_yes (heap_view h) r _ lr ∙ range_yes (heap_view h) q _ lq ∙ names (heap_view h) (get_or h.roots q 0) o.at _ e ∙ within_no (heap_view h) m ((heap_view h).slots o.at) _ (omega (arith, c, f, le)))
 
   pub get_done : (x : ℕ) → get_or h.roots q 0 ≡ o.at + 1 → m < o.refs → x ≡ word h (o.at + 1 + m) → answer Ok (SetRoot r x) ≡ answer_of (heap_view h) (Get r q m)
   get_done x n lt w =
@@ -82,16 +81,14 @@ module _ (h : Heap) (r q m : ℕ) (o : Object) (lr : r < length h.roots) (lq : q
       let c = slot_count h o.at in
       let f = refs_is in
       ap (λ y. answer Ok (SetRoot r y)) (w ∙ sym (slot_read h o.at m (omega (arith, f, lt))))
-      ∙ sym (range_yes (heap_view h) r _ lr ∙ range_yes (heap_view h) q _ lq ∙ names (heap_view h) (get_or h.roots q 0) o.at _ e
-          ∙ within_yes (heap_view h) m ((heap_view h).slots o.at) _ (omega (arith, c, f, lt)))
+      ∙ sym (range_yes (heap_view h) r _ lr ∙ range_yes (heap_view h) q _ lq ∙ names (heap_view h) (get_or h.roots q 0) o.at _ e ∙ within_yes (heap_view h) m ((heap_view h).slots o.at) _ (omega (arith, c, f, lt)))
 
   pub put_range : get_or h.roots r 0 ≡ o.at + 1 → o.refs ≤ m → answer Range Nothing ≡ answer_of (heap_view h) (Put r m q)
   put_range n le =
       let e : get_or h.roots r 0 ≡ suc o.at = omega (arith, n) in
       let c = slot_count h o.at in
       let f = refs_is in
-      sym (range_yes (heap_view h) r _ lr ∙ range_yes (heap_view h) q _ lq ∙ names (heap_view h) (get_or h.roots r 0) o.at _ e
-          ∙ within_no (heap_view h) m ((heap_view h).slots o.at) _ (omega (arith, c, f, le)))
+      sym (range_yes (heap_view h) r _ lr ∙ range_yes (heap_view h) q _ lq ∙ names (heap_view h) (get_or h.roots r 0) o.at _ e ∙ within_no (heap_view h) m ((heap_view h).slots o.at) _ (omega (arith, c, f, le)))
 
   pub put_done : (x : ℕ) → get_or h.roots r 0 ≡ o.at + 1 → m < o.refs → x ≡ get_or h.roots q 0 → answer Ok (SetSlot o.at m x) ≡ answer_of (heap_view h) (Put r m q)
   put_done x n lt w =
@@ -99,8 +96,7 @@ module _ (h : Heap) (r q m : ℕ) (o : Object) (lr : r < length h.roots) (lq : q
       let c = slot_count h o.at in
       let f = refs_is in
       ap (λ y. answer Ok (SetSlot o.at m y)) w
-      ∙ sym (range_yes (heap_view h) r _ lr ∙ range_yes (heap_view h) q _ lq ∙ names (heap_view h) (get_or h.roots r 0) o.at _ e
-          ∙ within_yes (heap_view h) m ((heap_view h).slots o.at) _ (omega (arith, c, f, lt)))
+      ∙ sym (range_yes (heap_view h) r _ lr ∙ range_yes (heap_view h) q _ lq ∙ names (heap_view h) (get_or h.roots r 0) o.at _ e ∙ within_yes (heap_view h) m ((heap_view h).slots o.at) _ (omega (arith, c, f, lt)))
 
 -- ---- one root: a data word is read or written
 

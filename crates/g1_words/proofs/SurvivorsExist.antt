@@ -51,8 +51,7 @@ module _ (seeds : List ℕ) (children : ℕ → List ℕ) where
 
   module _ (bound : List ℕ) (inside : (a : ℕ) → Reached seeds children a → In bound a) where
     next_from : (fuel n : ℕ) (t : List ℕ) → found_in seeds children (suc n) ≡ found_in seeds children n ++ t → length bound < suc fuel + length (found_in seeds children n)
-        → (length bound < fuel + length (found_in seeds children (suc n)) → (m : ℕ) × (found_in seeds children m ≡ found_in seeds children (suc m))) →
-            (m : ℕ) × (found_in seeds children m ≡ found_in seeds children (suc m))
+        → (length bound < fuel + length (found_in seeds children (suc n)) → (m : ℕ) × (found_in seeds children m ≡ found_in seeds children (suc m))) → (m : ℕ) × (found_in seeds children m ≡ found_in seeds children (suc m))
     next_from fuel n [] e lt rest = (n, sym (e ∙ append-nil (found_in seeds children n)))
     next_from fuel n (x ∷ t) e lt rest = let k = ap length e ∙ length-append (found_in seeds children n) (x ∷ t) in rest (omega arith)
 

@@ -43,8 +43,7 @@ loop-region-preserved c =
       count = length-set c.loop-region.named.items (slice_index list i) true ∙ invariant.count;
       marks = marked_more h.geometry.n i c.loop-region.named.items list invariant.count c.loop-region-test.true in_heap invariant.marks;
       good = good_more h list i invariant.good in_heap (sym (ap (λ q. q.kind) c.region.ensures) ∙ taken.0) (sym (ap (λ q. q.pinned) c.region.ensures) ∙ taken.1)
-          (λ again. let marked = (invariant.marks r in_heap).1 again in let unmarked = get_or_default c.loop-region.named.items r false
-              c.index.result.now (omega (arith, c.if-place-len.false, c.len.ensures)) ∙ sym c.index.ensures ∙ c.if-index.false in cc);
+          (λ again. let marked = (invariant.marks r in_heap).1 again in let unmarked = get_or_default c.loop-region.named.items r false c.index.result.now (omega (arith, c.if-place-len.false, c.len.ensures)) ∙ sym c.index.ensures ∙ c.if-index.false in cc);
     }
 
 pub loop-region-smaller : goal.loop-region-smaller

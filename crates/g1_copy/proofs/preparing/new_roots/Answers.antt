@@ -10,8 +10,7 @@ loop-root-init c = c.in_ok-roots.ensures.items
 
 pub renamed-requires : goal.renamed-requires
 renamed-requires c =
-    root_fits c.args.heap.now c.args.set.now c.args.plan.now c.geometry-geometry.ensures.valid c.requires c.roots-root-items.result.now
-        c.loop-root.root-index 0 c.roots-root-items.ensures c.loop-root-test.true
+    root_fits c.args.heap.now c.args.set.now c.args.plan.now c.geometry-geometry.ensures.valid c.requires c.roots-root-items.result.now c.loop-root.root-index 0 c.roots-root-items.ensures c.loop-root-test.true
 
 pub loop-root-preserved : goal.loop-root-preserved
 loop-root-preserved c =

@@ -65,8 +65,7 @@ loop-at-preserved-then-is_set c =
     let q = c.header-o.result in
     let r = read (goal.at.loop-at-preserved-then-is_set c).After-header-o in
     SlotsBelow-object h at q r.some c.requires.shaped r.start r.word c.header-o.ensures.refs c.header-o.ensures.size c.loop-at.invariant
-    (λ i lt. subst (λ x. IsReference h x) (slot_is ws h.words (at + 1) q.refs i c.words-words.ensures.same lt)
-        (c.in_default.ensures.none i (omega (arith, slot_count ws (at + 1) q.refs r.slots_end, lt))))
+    (λ i lt. subst (λ x. IsReference h x) (slot_is ws h.words (at + 1) q.refs i c.words-words.ensures.same lt) (c.in_default.ensures.none i (omega (arith, slot_count ws (at + 1) q.refs r.slots_end, lt))))
 
 pub loop-at-preserved : goal.loop-at-preserved
 loop-at-preserved c =

@@ -20,8 +20,7 @@ returns c =
     let e : c.from.result * c.region_words-region_words.result ≡ (c.args.r - c.args.first) * h.geometry.w = λ t. c.from.ensures t * w t in
     let top : c.from-top.result ≡ (region h c.args.r).top = cc in
     let least : c.if-left-region_words.least ≡ min h.geometry.w (c.args.size - (c.args.r - c.args.first) * h.geometry.w) =
-    elim c.if-left-region_words.branch [ then-left-region_words b ↦ omega (arith, b.least-is, b.if-left-region_words.true, e, w)
-        | else-left-region_words b ↦ omega (arith, b.least-is, b.if-left-region_words.false, e, w) ] in (
+    elim c.if-left-region_words.branch [ then-left-region_words b ↦ omega (arith, b.least-is, b.if-left-region_words.true, e, w) | else-left-region_words b ↦ omega (arith, b.least-is, b.if-left-region_words.false, e, w) ] in (
       (λ t. continued_by h c.args.r c.args.first c.args.size c.requires.latest c.requires.shaped (omega arith) (omega (arith, e, c.if-before-size.false))
           (sym top ∙ eqb-true c.from-top.result c.if-left-region_words.least t ∙ least)),
       (λ s. eq-eqb c.from-top.result c.if-left-region_words.least (top ∙ (continues h c.args.r c.args.first c.args.size c.requires.latest c.requires.shaped (omega arith) s).1 ∙ sym least)),

@@ -35,5 +35,4 @@ new-requires-clause-low c =
     let l = c.args.survivors.now in
     let valid = c.geometry-geometry.ensures.valid in
     let room : need h l ≤ length (free_regions h) = omega (arith, c.if-need-free.false, c.need-need.ensures, c.free_count-free.ensures) in
-    subst (All (λ p. p < 2 ^ 24)) (sym (c.deref-4.ensures.value ∙ c.in_ok-places.ensures))
-        (places_low h l (omega (arith, valid.limits.w_least)) (can_lay h c.args.set.now l valid c.requires) room valid.limits.words_most)
+    subst (All (λ p. p < 2 ^ 24)) (sym (c.deref-4.ensures.value ∙ c.in_ok-places.ensures)) (places_low h l (omega (arith, valid.limits.w_least)) (can_lay h c.args.set.now l valid c.requires) room valid.limits.words_most)

@@ -5,8 +5,7 @@ use Rattle.g1_pause.proofs.report.copied_words.Goals as goal
 pub overflow_add-count : goal.overflow_add-count
 overflow_add-count c =
     let a : ℕ = get_or c.args.survivors.now c.loop-a.a-index 0 in
-    let fits = Counted-fits c.args.heap.now c.args.survivors.now c.loop-a.a-index c.loop-a.count (get_or c.words-words.result.now a 0)
-        c.loop-a-test.true (ap (λ l. get_or l a 0) c.words-words.ensures) (omega (arith, c.type_inv.words a))
+    let fits = Counted-fits c.args.heap.now c.args.survivors.now c.loop-a.a-index c.loop-a.count (get_or c.words-words.result.now a 0) c.loop-a-test.true (ap (λ l. get_or l a 0) c.words-words.ensures) (omega (arith, c.type_inv.words a))
     c.loop-a.invariant c.requires.few in
     omega (arith, fits)
 
@@ -16,8 +15,7 @@ loop-a-init c = Counted-start c.args.heap.now c.args.survivors.now
 pub loop-a-preserved : goal.loop-a-preserved
 loop-a-preserved c =
     let a : ℕ = get_or c.args.survivors.now c.loop-a.a-index 0 in
-    Counted-step c.args.heap.now c.args.survivors.now c.loop-a.a-index c.loop-a.count (get_or c.words-words.result.now a 0) c.loop-a-test.true
-        (ap (λ l. get_or l a 0) c.words-words.ensures) (omega (arith, c.type_inv.words a)) c.loop-a.invariant
+    Counted-step c.args.heap.now c.args.survivors.now c.loop-a.a-index c.loop-a.count (get_or c.words-words.result.now a 0) c.loop-a-test.true (ap (λ l. get_or l a 0) c.words-words.ensures) (omega (arith, c.type_inv.words a)) c.loop-a.invariant
 
 pub returns : goal.returns
 returns c = Counted-end c.args.heap.now c.args.survivors.now c.loop-a.a-index c.loop-a.count c.loop-a.invariant (omega (arith, c.loop-a.auto.a-index-end, c.loop-a-test.false))

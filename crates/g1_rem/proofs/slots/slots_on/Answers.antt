@@ -16,12 +16,10 @@ returns-in-None-clause-items c =
     let valid = c.geometry-geometry.ensures.valid in
     let k : c.card_words.result ≡ c.args.heap.now.geometry.k = c.card_words.ensures.value ∙ ap (λ g. g.k) c.geometry-geometry.ensures.same in
     let over : IsOver c.args.heap.now (c.args.card * c.args.heap.now.geometry.k) None =
-    over_at h (c.args.card * h.geometry.k) (c.args.card * h.geometry.k) (slice_index_or c.args.starts.now c.args.card None) None refl
-        (sym c.in-None.ensures) (c.requires.starts.each c.args.card (omega (arith, c.requires.card, c.requires.starts.one_each))) in
+    over_at h (c.args.card * h.geometry.k) (c.args.card * h.geometry.k) (slice_index_or c.args.starts.now c.args.card None) None refl (sym c.in-None.ensures) (c.requires.starts.each c.args.card (omega (arith, c.requires.card, c.requires.starts.one_each))) in
     c.new.ensures.items ∙ none_on h valid c.args.card (c.args.card * h.geometry.k) (c.args.card * h.geometry.k + h.geometry.k) refl refl over
 
-row : (c : goal.After-card_words-in-Some) → RowOn c.args.heap.now c.args.card (c.args.card * c.card_words.result)
-    (c.args.card * c.card_words.result + c.card_words-in-Some.result) c.from-at.result c.match-region.end
+row : (c : goal.After-card_words-in-Some) → RowOn c.args.heap.now c.args.card (c.args.card * c.card_words.result) (c.args.card * c.card_words.result + c.card_words-in-Some.result) c.from-at.result c.match-region.end
 row c =
     let h = c.args.heap.now in
     let a : ℕ = c.from-at.result in
@@ -34,8 +32,7 @@ row c =
     let f : c.args.card * c.card_words.result + c.card_words-in-Some.result ≡ c.args.card * c.card_words.result + c.args.heap.now.geometry.k = ap (λ x. c.args.card * c.card_words.result + x) k2 in
     let same : slice_index_or c.args.starts.now c.args.card None ≡ Some c.from-at.result = sym c.in-Some.ensures ∙ ap (λ x. Some x) (sym c.from-at.ensures) in
     let over : IsOver c.args.heap.now (c.args.card * c.card_words.result) (Some c.from-at.result) =
-    over_at h (c.args.card * h.geometry.k) (c.args.card * c.card_words.result) (slice_index_or c.args.starts.now c.args.card None) (Some a) (sym e)
-        same (c.requires.starts.each c.args.card (omega (arith, c.requires.card, c.requires.starts.one_each))) in
+    over_at h (c.args.card * h.geometry.k) (c.args.card * c.card_words.result) (slice_index_or c.args.starts.now c.args.card None) (Some a) (sym e) same (c.requires.starts.each c.args.card (omega (arith, c.requires.card, c.requires.starts.one_each))) in
     elim c.match-region.branch [
       | in-Ordinary v ↦ (
           let is : kind c.args.heap.now (c.from-at.result / c.args.heap.now.geometry.w) ≡ Ordinary =
@@ -47,8 +44,7 @@ row c =
       | in-Free v ↦ (
           let is : kind c.args.heap.now (c.from-at.result / c.args.heap.now.geometry.w) ≢ Ordinary =
           (λ q. let same = ap (λ q. q.kind) c.region-region.ensures ∙ ap (kind c.args.heap.now) number ∙ q in elim v.in-Free.is [ inl e ↦ cc | inr f ↦ elim f [ inl e ↦ cc | inr e ↦ cc ] ]) in
-          let until : c.match-region.end ≡ c.from-at.result + (object_at c.args.heap.now c.from-at.result).size =
-              v.end-is ∙ ap (λ l. c.from-at.result + slice_index l c.from-at.result / 2 ^ 32) v.words.ensures in
+          let until : c.match-region.end ≡ c.from-at.result + (object_at c.args.heap.now c.from-at.result).size = v.end-is ∙ ap (λ l. c.from-at.result + slice_index l c.from-at.result / 2 ^ 32) v.words.ensures in
           subst (λ x. RowOn c.args.heap.now c.args.card (c.args.card * c.card_words.result) (c.args.card * c.card_words.result + c.card_words-in-Some.result) c.from-at.result x) (sym until)
           (alone_row_on h c.args.card lo (lo + c.card_words-in-Some.result) a valid e f over is))
     ]

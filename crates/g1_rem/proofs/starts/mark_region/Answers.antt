@@ -12,8 +12,7 @@ use Rattle.g1_rem.proofs.starts.mark_region.Goals.{In-objects, After-size_at-siz
 -- the object whose cards are marked
 front : (c : In-objects) → NextOf c.args.heap.now c.args.region c.objects.invariant.0.place c.objects.at
 front c =
-    marking_front c.args.heap.now c.args.region c.objects.at c.objects_end-end.result (map address_below c.objects.firsts.items)
-        c.geometry-geometry.ensures.valid c.requires.region c.objects.invariant.0 c.objects-test.true
+    marking_front c.args.heap.now c.args.region c.objects.at c.objects_end-end.result (map address_below c.objects.firsts.items) c.geometry-geometry.ensures.valid c.requires.region c.objects.invariant.0 c.objects-test.true
 
 -- its size, as it was read
 size_read : (c : After-size_at-size) → c.size_at-size.result ≡ (object_at c.args.heap.now c.objects.at).size
@@ -23,8 +22,7 @@ pub objects-init : goal.objects-init
 objects-init c =
     let h = c.args.heap.now in
     let from : c.start-at.result ≡ start c.args.heap.now c.args.region = c.start-at.ensures.value ∙ ap (λ g. c.args.region * g.w) c.geometry-geometry.ensures.same in
-    (marking_start h c.args.region c.start-at.result c.objects_end-end.result (map address_below c.args.firsts.now.items)
-        c.geometry-geometry.ensures.valid c.requires.region from c.objects_end-end.ensures c.requires.told, c.requires.room)
+    (marking_start h c.args.region c.start-at.result c.objects_end-end.result (map address_below c.args.firsts.now.items) c.geometry-geometry.ensures.valid c.requires.region from c.objects_end-end.ensures c.requires.told, c.requires.room)
 
 pub size_at-size-requires : goal.size_at-size-requires
 size_at-size-requires c =
@@ -46,8 +44,7 @@ mark-requires-in-objects-clause-address c =
 
 pub objects-smaller : goal.objects-smaller
 objects-smaller c =
-    let some = marking_some c.args.heap.now c.args.region c.objects.at c.objects_end-end.result (map address_below c.objects.firsts.items)
-        c.geometry-geometry.ensures.valid c.requires.region c.objects.invariant.0 c.objects-test.true c.size_at-size.result c.size_at-size.ensures in
+    let some = marking_some c.args.heap.now c.args.region c.objects.at c.objects_end-end.result (map address_below c.objects.firsts.items) c.geometry-geometry.ensures.valid c.requires.region c.objects.invariant.0 c.objects-test.true c.size_at-size.result c.size_at-size.ensures in
     omega (arith, some, c.objects-test.true)
 
 pub objects-preserved : goal.objects-preserved
@@ -62,8 +59,7 @@ objects-preserved c =
     let gap = subst (λ k. IsMarkedTo old mid k at None) k c.in_ok-mark.ensures.marked in
     let cards = subst (λ v. IsMarkedTo mid new c.args.heap.now.geometry.k (at + size) v) (below_next at)
     (subst (λ k. IsMarkedTo mid new k (at + size) (address_below (at + 1))) k c.in_ok-mark-2.ensures.marked) in (
-      marking_step c.args.heap.now c.args.region at c.objects_end-end.result old c.geometry-geometry.ensures.valid c.requires.region
-          c.objects.invariant.0 c.objects-test.true mid new size (size_read b.After-size_at-size) gap cards,
+      marking_step c.args.heap.now c.args.region at c.objects_end-end.result old c.geometry-geometry.ensures.valid c.requires.region c.objects.invariant.0 c.objects-test.true mid new size (size_read b.After-size_at-size) gap cards,
       subst (λ k. length c.mark-in-objects.new.firsts.items * k ≤ 2 ^ 25) k c.mark-in-objects.ensures.room,
     )
 

@@ -113,8 +113,7 @@ link-requires-clause-way c =
     let grown : HasGrown u w = c.loop-number.invariant.grown in
     let n_old : n < (object_at g a).refs = omega (arith, c.loop-number-test.true, c.object-old.ensures.refs) in
     let n_new : n < (object_at h b).refs = omega (arith, n_old, refs) in
-    slot_way g h w.before.items w.after.items place n a b _ _ (omega (arith, c.requires.place, grown.more)) (grown.olds place c.requires.place
-        ∙ sym a_is) (grown.news place c.requires.place ∙ sym b_is) n_old n_new
+    slot_way g h w.before.items w.after.items place n a b _ _ (omega (arith, c.requires.place, grown.more)) (grown.olds place c.requires.place ∙ sym a_is) (grown.news place c.requires.place ∙ sym b_is) n_old n_new
     (ap (λ l. slice_index l (a + 1 + n)) (sym c.words-here.ensures)) (ap (λ l. slice_index l (b + 1 + n)) (sym c.words-there.ensures))
 
 pub returns-in-Some-clause-grown : goal.returns-in-Some-clause-grown
@@ -145,8 +144,7 @@ returns-in-Some-clause-stop c =
     let k = some_then (λ (how : How). IsSeen g h v how x y × IsBelow v (place + 1) n × IsLeast g h v how x y) c.in_ok-how.field-0 c.in-Some.how c.in-Some.is c.in_ok-how.ensures.clash in (
       x,
       y,
-      slot_way g h v.before.items v.after.items place n a b x y (omega (arith, c.requires.place, more.more)) (more.olds place c.requires.place
-          ∙ sym a_is) (more.news place c.requires.place ∙ sym b_is) n_old n_new
+      slot_way g h v.before.items v.after.items place n a b x y (omega (arith, c.requires.place, more.more)) (more.olds place c.requires.place ∙ sym a_is) (more.news place c.requires.place ∙ sym b_is) n_old n_new
           (ap (λ l. slice_index l (a + 1 + n)) (sym c.words-here.ensures)) (ap (λ l. slice_index l (b + 1 + n)) (sym c.words-there.ensures)),
       k.0,
       k.1,
@@ -177,21 +175,18 @@ loop-number-preserved c =
     let l = none_then (IsLinked v (place + 1) n x y) c.in_ok-how.field-0 c.in_default.not-Some c.in_ok-how.ensures.linked in
     let one : place + 1 ≡ suc place = omega arith in
     let l' : IsLinked v (suc place) n (word g (a + 1 + n)) (word h (b + 1 + n)) =
-    subst (λ q. IsLinked v (suc place) n (slice_index q (a + 1 + n)) (word h (b + 1 + n))) c.words-here.ensures
-        (subst (λ q. IsLinked v (suc place) n x (slice_index q (b + 1 + n))) c.words-there.ensures (subst (λ z. IsLinked v z n x y) one l)) in
+    subst (λ q. IsLinked v (suc place) n (slice_index q (a + 1 + n)) (word h (b + 1 + n))) c.words-here.ensures (subst (λ q. IsLinked v (suc place) n x (slice_index q (b + 1 + n))) c.words-there.ensures (subst (λ z. IsLinked v z n x y) one l)) in
     record {
       walk = c.in_ok-how.ensures.walk;
       grown = grown_more u w v grown c.in_ok-how.ensures.grown;
-      linked = slots_more g h w v place n a b c.in_ok-how.ensures.grown (omega (arith, c.requires.place, grown.more))
-          (grown.olds place c.requires.place ∙ sym a_is) (grown.news place c.requires.place ∙ sym b_is) c.loop-number.invariant.linked l';
+      linked = slots_more g h w v place n a b c.in_ok-how.ensures.grown (omega (arith, c.requires.place, grown.more)) (grown.olds place c.requires.place ∙ sym a_is) (grown.news place c.requires.place ∙ sym b_is) c.loop-number.invariant.linked l';
       below = c.in_ok-how.ensures.below;
     }
 
 pub returns-in-Some-clause-until : goal.returns-in-Some-clause-until
 returns-in-Some-clause-until c =
     let w : Walk = c.loop-number.walk in
-    (omega arith, slots_kept c.args.before.now c.args.after.now w c.link.new.walk c.args.place c.loop-number.number c.in_ok-how.ensures.grown
-        (omega (arith, c.requires.place, c.loop-number.invariant.grown.more)) c.loop-number.invariant.linked)
+    (omega arith, slots_kept c.args.before.now c.args.after.now w c.link.new.walk c.args.place c.loop-number.number c.in_ok-how.ensures.grown (omega (arith, c.requires.place, c.loop-number.invariant.grown.more)) c.loop-number.invariant.linked)
 
 pub returns-clause-linked : goal.returns-clause-linked
 returns-clause-linked c =

@@ -10,11 +10,9 @@ pub invariant_of-heap : goal.invariant_of-heap
 invariant_of-heap c =
     let i : Image = c.args.tracked in
     let shown = c.image.view_is ∙ c.tracked.view_is in
-    let before : Heap = record { geometry = c.heap.inside.geometry; words = c.heap.inside.words.items; regions = c.heap.inside.regions.items; roots =
-        c.heap.inside.roots.items; current = c.heap.inside.current } in
+    let before : Heap = record { geometry = c.heap.inside.geometry; words = c.heap.inside.words.items; regions = c.heap.inside.regions.items; roots = c.heap.inside.roots.items; current = c.heap.inside.current } in
     let remembered : List (List ℕ) = map (λ s. s.items) c.image.inside.remembered.items in
-    let same : record { heap = before; remembered = remembered; log = c.image.inside.log.keys } ≡ i =
-        (λ t. record { heap = c.heap.view_is t; remembered = remembered; log = c.image.inside.log.keys }) ∙ shown in
+    let same : record { heap = before; remembered = remembered; log = c.image.inside.log.keys } ≡ i = (λ t. record { heap = c.heap.view_is t; remembered = remembered; log = c.image.inside.log.keys }) ∙ shown in
     let here : before ≡ i.heap = ap (λ (x : Image). x.heap) same in
     let there : c.args.r < length c.heap.inside.regions.items = omega (arith, c.requires.region, ap (λ (x : Heap). length x.regions) here) in
     let read : c.index.result.now ≡ get_or i.heap.regions c.args.r free_region =
@@ -22,19 +20,15 @@ invariant_of-heap c =
     let used : c.index.result.now.top ≡ top i.heap c.args.r = ap (λ (x : Region). x.top) read in
     let w : c.region_words.result ≡ i.heap.geometry.w = c.region_words.ensures.value ∙ ap (λ (x : Heap). x.geometry.w) here in
     let at : c.from.result * c.region_words.result + c.from-2.result ≡ end i.heap c.args.r = (λ t. c.from.ensures t * w t + (c.from-2.ensures ∙ used) t) in
-    (ordinary_parts i c.args.r c.args.size c.args.refs c.args.root before remembered c.image.inside.log.keys
-        (c.from.result * c.region_words.result + c.from-2.result) (c.index.result.now.top + c.args.size) c.index.result.now.pinned same at
-        (ap (λ x. x + c.args.size) used) (ap (λ (x : Region). x.pinned) read) c.requires.kept).image.heap
+    (ordinary_parts i c.args.r c.args.size c.args.refs c.args.root before remembered c.image.inside.log.keys (c.from.result * c.region_words.result + c.from-2.result) (c.index.result.now.top + c.args.size) c.index.result.now.pinned same at (ap (λ x. x + c.args.size) used) (ap (λ (x : Region). x.pinned) read) c.requires.kept).image.heap
 
 pub invariant_of-result : goal.invariant_of-result
 invariant_of-result c =
     let i : Image = c.args.tracked in
     let shown = c.image.view_is ∙ c.tracked.view_is in
-    let before : Heap = record { geometry = c.heap.inside.geometry; words = c.heap.inside.words.items; regions = c.heap.inside.regions.items; roots =
-        c.heap.inside.roots.items; current = c.heap.inside.current } in
+    let before : Heap = record { geometry = c.heap.inside.geometry; words = c.heap.inside.words.items; regions = c.heap.inside.regions.items; roots = c.heap.inside.roots.items; current = c.heap.inside.current } in
     let remembered : List (List ℕ) = map (λ s. s.items) c.image.inside.remembered.items in
-    let same : record { heap = before; remembered = remembered; log = c.image.inside.log.keys } ≡ i =
-        (λ t. record { heap = c.heap.view_is t; remembered = remembered; log = c.image.inside.log.keys }) ∙ shown in
+    let same : record { heap = before; remembered = remembered; log = c.image.inside.log.keys } ≡ i = (λ t. record { heap = c.heap.view_is t; remembered = remembered; log = c.image.inside.log.keys }) ∙ shown in
     let here : before ≡ i.heap = ap (λ (x : Image). x.heap) same in
     let there : c.args.r < length c.heap.inside.regions.items = omega (arith, c.requires.region, ap (λ (x : Heap). length x.regions) here) in
     let read : c.index.result.now ≡ get_or i.heap.regions c.args.r free_region =
@@ -42,19 +36,15 @@ invariant_of-result c =
     let used : c.index.result.now.top ≡ top i.heap c.args.r = ap (λ (x : Region). x.top) read in
     let w : c.region_words.result ≡ i.heap.geometry.w = c.region_words.ensures.value ∙ ap (λ (x : Heap). x.geometry.w) here in
     let at : c.from.result * c.region_words.result + c.from-2.result ≡ end i.heap c.args.r = (λ t. c.from.ensures t * w t + (c.from-2.ensures ∙ used) t) in
-    (ordinary_parts i c.args.r c.args.size c.args.refs c.args.root before remembered c.image.inside.log.keys
-        (c.from.result * c.region_words.result + c.from-2.result) (c.index.result.now.top + c.args.size) c.index.result.now.pinned same at
-        (ap (λ x. x + c.args.size) used) (ap (λ (x : Region). x.pinned) read) c.requires.kept).image
+    (ordinary_parts i c.args.r c.args.size c.args.refs c.args.root before remembered c.image.inside.log.keys (c.from.result * c.region_words.result + c.from-2.result) (c.index.result.now.top + c.args.size) c.index.result.now.pinned same at (ap (λ x. x + c.args.size) used) (ap (λ (x : Region). x.pinned) read) c.requires.kept).image
 
 pub invariant_of-result-2 : goal.invariant_of-result-2
 invariant_of-result-2 c =
     let i : Image = c.args.tracked in
     let shown = c.image.view_is ∙ c.tracked.view_is in
-    let before : Heap = record { geometry = c.heap.inside.geometry; words = c.heap.inside.words.items; regions = c.heap.inside.regions.items; roots =
-        c.heap.inside.roots.items; current = c.heap.inside.current } in
+    let before : Heap = record { geometry = c.heap.inside.geometry; words = c.heap.inside.words.items; regions = c.heap.inside.regions.items; roots = c.heap.inside.roots.items; current = c.heap.inside.current } in
     let remembered : List (List ℕ) = map (λ s. s.items) c.image.inside.remembered.items in
-    let same : record { heap = before; remembered = remembered; log = c.image.inside.log.keys } ≡ i =
-        (λ t. record { heap = c.heap.view_is t; remembered = remembered; log = c.image.inside.log.keys }) ∙ shown in
+    let same : record { heap = before; remembered = remembered; log = c.image.inside.log.keys } ≡ i = (λ t. record { heap = c.heap.view_is t; remembered = remembered; log = c.image.inside.log.keys }) ∙ shown in
     let here : before ≡ i.heap = ap (λ (x : Image). x.heap) same in
     let there : c.args.r < length c.heap.inside.regions.items = omega (arith, c.requires.region, ap (λ (x : Heap). length x.regions) here) in
     let read : c.index.result.now ≡ get_or i.heap.regions c.args.r free_region =
@@ -62,19 +52,15 @@ invariant_of-result-2 c =
     let used : c.index.result.now.top ≡ top i.heap c.args.r = ap (λ (x : Region). x.top) read in
     let w : c.region_words.result ≡ i.heap.geometry.w = c.region_words.ensures.value ∙ ap (λ (x : Heap). x.geometry.w) here in
     let at : c.from.result * c.region_words.result + c.from-2.result ≡ end i.heap c.args.r = (λ t. c.from.ensures t * w t + (c.from-2.ensures ∙ used) t) in
-    (ordinary_parts i c.args.r c.args.size c.args.refs c.args.root before remembered c.image.inside.log.keys
-        (c.from.result * c.region_words.result + c.from-2.result) (c.index.result.now.top + c.args.size) c.index.result.now.pinned same at
-        (ap (λ x. x + c.args.size) used) (ap (λ (x : Region). x.pinned) read) c.requires.kept).covered
+    (ordinary_parts i c.args.r c.args.size c.args.refs c.args.root before remembered c.image.inside.log.keys (c.from.result * c.region_words.result + c.from-2.result) (c.index.result.now.top + c.args.size) c.index.result.now.pinned same at (ap (λ x. x + c.args.size) used) (ap (λ (x : Region). x.pinned) read) c.requires.kept).covered
 
 pub returns : goal.returns
 returns c =
     let i : Image = c.args.tracked in
     let shown = c.image.view_is ∙ c.tracked.view_is in
-    let before : Heap = record { geometry = c.heap.inside.geometry; words = c.heap.inside.words.items; regions = c.heap.inside.regions.items; roots =
-        c.heap.inside.roots.items; current = c.heap.inside.current } in
+    let before : Heap = record { geometry = c.heap.inside.geometry; words = c.heap.inside.words.items; regions = c.heap.inside.regions.items; roots = c.heap.inside.roots.items; current = c.heap.inside.current } in
     let remembered : List (List ℕ) = map (λ s. s.items) c.image.inside.remembered.items in
-    let same : record { heap = before; remembered = remembered; log = c.image.inside.log.keys } ≡ i =
-        (λ t. record { heap = c.heap.view_is t; remembered = remembered; log = c.image.inside.log.keys }) ∙ shown in
+    let same : record { heap = before; remembered = remembered; log = c.image.inside.log.keys } ≡ i = (λ t. record { heap = c.heap.view_is t; remembered = remembered; log = c.image.inside.log.keys }) ∙ shown in
     let here : before ≡ i.heap = ap (λ (x : Image). x.heap) same in
     let there : c.args.r < length c.heap.inside.regions.items = omega (arith, c.requires.region, ap (λ (x : Heap). length x.regions) here) in
     let read : c.index.result.now ≡ get_or i.heap.regions c.args.r free_region =
@@ -82,6 +68,4 @@ returns c =
     let used : c.index.result.now.top ≡ top i.heap c.args.r = ap (λ (x : Region). x.top) read in
     let w : c.region_words.result ≡ i.heap.geometry.w = c.region_words.ensures.value ∙ ap (λ (x : Heap). x.geometry.w) here in
     let at : c.from.result * c.region_words.result + c.from-2.result ≡ end i.heap c.args.r = (λ t. c.from.ensures t * w t + (c.from-2.ensures ∙ used) t) in
-    sym (ordinary_same i c.args.r c.args.size c.args.refs c.args.root before remembered c.image.inside.log.keys
-        (c.from.result * c.region_words.result + c.from-2.result) (c.index.result.now.top + c.args.size) c.index.result.now.pinned same at
-        (ap (λ x. x + c.args.size) used) (ap (λ (x : Region). x.pinned) read))
+    sym (ordinary_same i c.args.r c.args.size c.args.refs c.args.root before remembered c.image.inside.log.keys (c.from.result * c.region_words.result + c.from-2.result) (c.index.result.now.top + c.args.size) c.index.result.now.pinned same at (ap (λ x. x + c.args.size) used) (ap (λ (x : Region). x.pinned) read))

@@ -11,8 +11,7 @@ invariant_of-result c =
     let g : Geometry = c.args.geometry in
     let total : c.regions-regions.result * c.region_words.result ≡ g.n * g.w = (λ t. c.regions-regions.ensures.value t * c.region_words.ensures.value t) in
     let words : c.in_ok-vec.field-0.items ≡ replicate (g.n * g.w) 0 = c.in_ok-vec.ensures.items_if_clones_equal (λ y e. e) ∙ ap (λ m. replicate m 0) total in
-    let regions : c.in_ok-vec-2.field-0.items ≡ replicate g.n free_region = c.in_ok-vec-2.ensures.items_if_clones_equal (λ y e. e)
-        ∙ ap (λ m. replicate m free_region) c.regions-regions.ensures.value in
+    let regions : c.in_ok-vec-2.field-0.items ≡ replicate g.n free_region = c.in_ok-vec-2.ensures.items_if_clones_equal (λ y e. e) ∙ ap (λ m. replicate m free_region) c.regions-regions.ensures.value in
     let roots : c.in_ok-vec-3.field-0.items ≡ replicate c.args.roots 0 = c.in_ok-vec-3.ensures.items_if_clones_equal (λ y e. e) in
     let made : Heap = record { geometry = g; words = c.in_ok-vec.field-0.items; regions = c.in_ok-vec-2.field-0.items; roots = c.in_ok-vec-3.field-0.items; current = None } in
     let same : made ≡ (empty_image g c.args.roots).heap = λ t. record { geometry = g; words = words t; regions = regions t; roots = roots t; current = None } in
@@ -23,7 +22,6 @@ returns-clause-ok c =
     let g : Geometry = c.args.geometry in
     let total : c.regions-regions.result * c.region_words.result ≡ g.n * g.w = (λ t. c.regions-regions.ensures.value t * c.region_words.ensures.value t) in
     let words : c.in_ok-vec.field-0.items ≡ replicate (g.n * g.w) 0 = c.in_ok-vec.ensures.items_if_clones_equal (λ y e. e) ∙ ap (λ m. replicate m 0) total in
-    let regions : c.in_ok-vec-2.field-0.items ≡ replicate g.n free_region = c.in_ok-vec-2.ensures.items_if_clones_equal (λ y e. e)
-        ∙ ap (λ m. replicate m free_region) c.regions-regions.ensures.value in
+    let regions : c.in_ok-vec-2.field-0.items ≡ replicate g.n free_region = c.in_ok-vec-2.ensures.items_if_clones_equal (λ y e. e) ∙ ap (λ m. replicate m free_region) c.regions-regions.ensures.value in
     let roots : c.in_ok-vec-3.field-0.items ≡ replicate c.args.roots 0 = c.in_ok-vec-3.ensures.items_if_clones_equal (λ y e. e) in
     λ t. record { geometry = g; words = words t; regions = regions t; roots = roots t; current = None }

@@ -10,40 +10,35 @@ pub overflow_add-object-3 : goal.overflow_add-object-3
 overflow_add-object-3 c =
     let i : Image = c.args.tracked in
     let words = c.words.ensures ∙ ap (λ (h : Heap). h.words) (c.heap.ensures.same ∙ ap (λ (x : Image). x.heap) c.image.ensures.same) in
-    let at : c.args.object + 1 + get_or c.words.result.now c.args.object 0 % 4294967296 + c.args.place
-        ≡ value_address i.heap c.args.object c.args.place = ap (λ ws. c.args.object + 1 + get_or ws c.args.object 0 % 4294967296 + c.args.place) words in
+    let at : c.args.object + 1 + get_or c.words.result.now c.args.object 0 % 4294967296 + c.args.place ≡ value_address i.heap c.args.object c.args.place = ap (λ ws. c.args.object + 1 + get_or ws c.args.object 0 % 4294967296 + c.args.place) words in
     omega (arith, at, value_inside i c.requires.before c.args.object c.args.place c.args.value c.requires.fits, value_small i c.requires.before c.args.object c.args.place c.args.value c.requires.fits)
 
 pub set_value-requires-clause-at : goal.set_value-requires-clause-at
 set_value-requires-clause-at c =
     let i : Image = c.args.tracked in
     let words = c.words.ensures ∙ ap (λ (h : Heap). h.words) (c.heap.ensures.same ∙ ap (λ (x : Image). x.heap) c.image.ensures.same) in
-    let at : c.args.object + 1 + get_or c.words.result.now c.args.object 0 % 4294967296 + c.args.place
-        ≡ value_address i.heap c.args.object c.args.place = ap (λ ws. c.args.object + 1 + get_or ws c.args.object 0 % 4294967296 + c.args.place) words in
+    let at : c.args.object + 1 + get_or c.words.result.now c.args.object 0 % 4294967296 + c.args.place ≡ value_address i.heap c.args.object c.args.place = ap (λ ws. c.args.object + 1 + get_or ws c.args.object 0 % 4294967296 + c.args.place) words in
     omega (arith, at, value_inside i c.requires.before c.args.object c.args.place c.args.value c.requires.fits)
 
 pub set_value-requires-clause-kept : goal.set_value-requires-clause-kept
 set_value-requires-clause-kept c =
     let i : Image = c.args.tracked in
     let words = c.words.ensures ∙ ap (λ (h : Heap). h.words) (c.heap.ensures.same ∙ ap (λ (x : Image). x.heap) c.image.ensures.same) in
-    let at : c.args.object + 1 + get_or c.words.result.now c.args.object 0 % 4294967296 + c.args.place
-        ≡ value_address i.heap c.args.object c.args.place = ap (λ ws. c.args.object + 1 + get_or ws c.args.object 0 % 4294967296 + c.args.place) words in
+    let at : c.args.object + 1 + get_or c.words.result.now c.args.object 0 % 4294967296 + c.args.place ≡ value_address i.heap c.args.object c.args.place = ap (λ ws. c.args.object + 1 + get_or ws c.args.object 0 % 4294967296 + c.args.place) words in
     subst (λ p. IsTracked (with_words i (set i.heap.words p c.args.value) i.log)) (sym at) (value_kept i c.requires.before c.args.object c.args.place c.args.value c.requires.fits c.ranges.value.fits)
 
 pub overflow_add-object : goal.overflow_add-object
 overflow_add-object c =
     let i : Image = c.args.tracked in
     let words = c.words.ensures ∙ ap (λ (h : Heap). h.words) (c.heap.ensures.same ∙ ap (λ (x : Image). x.heap) c.image.ensures.same) in
-    let at : c.args.object + 1 + get_or c.words.result.now c.args.object 0 % 4294967296 + c.args.place
-        ≡ value_address i.heap c.args.object c.args.place = ap (λ ws. c.args.object + 1 + get_or ws c.args.object 0 % 4294967296 + c.args.place) words in
+    let at : c.args.object + 1 + get_or c.words.result.now c.args.object 0 % 4294967296 + c.args.place ≡ value_address i.heap c.args.object c.args.place = ap (λ ws. c.args.object + 1 + get_or ws c.args.object 0 % 4294967296 + c.args.place) words in
     omega (arith, at, value_inside i c.requires.before c.args.object c.args.place c.args.value c.requires.fits, value_small i c.requires.before c.args.object c.args.place c.args.value c.requires.fits)
 
 pub overflow_add-object-2 : goal.overflow_add-object-2
 overflow_add-object-2 c =
     let i : Image = c.args.tracked in
     let words = c.words.ensures ∙ ap (λ (h : Heap). h.words) (c.heap.ensures.same ∙ ap (λ (x : Image). x.heap) c.image.ensures.same) in
-    let at : c.args.object + 1 + get_or c.words.result.now c.args.object 0 % 4294967296 + c.args.place
-        ≡ value_address i.heap c.args.object c.args.place = ap (λ ws. c.args.object + 1 + get_or ws c.args.object 0 % 4294967296 + c.args.place) words in
+    let at : c.args.object + 1 + get_or c.words.result.now c.args.object 0 % 4294967296 + c.args.place ≡ value_address i.heap c.args.object c.args.place = ap (λ ws. c.args.object + 1 + get_or ws c.args.object 0 % 4294967296 + c.args.place) words in
     omega (arith, at, value_inside i c.requires.before c.args.object c.args.place c.args.value c.requires.fits, value_small i c.requires.before c.args.object c.args.place c.args.value c.requires.fits)
 
 pub bounds-words-object : goal.bounds-words-object
@@ -56,6 +51,5 @@ pub returns : goal.returns
 returns c =
     let i : Image = c.args.tracked in
     let words = c.words.ensures ∙ ap (λ (h : Heap). h.words) (c.heap.ensures.same ∙ ap (λ (x : Image). x.heap) c.image.ensures.same) in
-    let at : c.args.object + 1 + get_or c.words.result.now c.args.object 0 % 4294967296 + c.args.place
-        ≡ value_address i.heap c.args.object c.args.place = ap (λ ws. c.args.object + 1 + get_or ws c.args.object 0 % 4294967296 + c.args.place) words in
+    let at : c.args.object + 1 + get_or c.words.result.now c.args.object 0 % 4294967296 + c.args.place ≡ value_address i.heap c.args.object c.args.place = ap (λ ws. c.args.object + 1 + get_or ws c.args.object 0 % 4294967296 + c.args.place) words in
     c.set_value.ensures ∙ ap (λ p. with_words i (set i.heap.words p c.args.value) i.log) at

@@ -6,8 +6,7 @@ use Rattle.g1_trace.proofs.Tellings.{begins}
 use Rattle.g1_trace.proofs.telling.begin.Goals as goal
 
 pub returns-in-None-first_line-clause-refused : goal.returns-in-None-first_line-clause-refused
-returns-in-None-first_line-clause-refused c = inr (inl (1, refl, bad_first c.args.bytes.now c.in-Some.split.0.now c.in-Some.split.1.now
-    c.in-Some.ensures.some.0 c.in-Some.ensures.some.1 c.in-None-first_line.ensures.none))
+returns-in-None-first_line-clause-refused c = inr (inl (1, refl, bad_first c.args.bytes.now c.in-Some.split.0.now c.in-Some.split.1.now c.in-Some.ensures.some.0 c.in-Some.ensures.some.1 c.in-None-first_line.ensures.none))
 
 pub outside-requires : goal.outside-requires
 outside-requires c =

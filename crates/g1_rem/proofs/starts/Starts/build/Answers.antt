@@ -16,13 +16,11 @@ returns-clause-ok c =
     let same : c.geometry-geometry.result ≡ c.args.heap.now.geometry = c.geometry-geometry.ensures.same in
     let k : c.card_words.result ≡ c.args.heap.now.geometry.k = c.card_words.ensures.value ∙ ap (λ g. g.k) same in
     let size : c.words.result ≡ c.args.heap.now.geometry.n * c.args.heap.now.geometry.w = c.words.ensures.value ∙ ap (λ g. g.n * g.w) same in
-    let m : IsMarkedTo (map address_below c.loop-region.firsts.items) (map address_below c.mark.new.firsts.items) c.args.heap.now.geometry.k
-        (c.args.heap.now.geometry.n * c.args.heap.now.geometry.w) None =
+    let m : IsMarkedTo (map address_below c.loop-region.firsts.items) (map address_below c.mark.new.firsts.items) c.args.heap.now.geometry.k (c.args.heap.now.geometry.n * c.args.heap.now.geometry.w) None =
     subst (λ x. IsMarkedTo (map address_below c.loop-region.firsts.items) (map address_below c.mark.new.firsts.items) x (c.args.heap.now.geometry.n * c.args.heap.now.geometry.w) None) k
     (subst (λ x. IsMarkedTo (map address_below c.loop-region.firsts.items) (map address_below c.mark.new.firsts.items) c.card_words.result x None) size c.in_ok-mark.ensures.marked) in
     let end : c.regions-region-end.result ≡ c.args.heap.now.geometry.n = c.regions-region-end.ensures.value ∙ ap (λ g. g.n) same in
-    told_all h c.geometry-geometry.ensures.valid c.loop-region.region (omega (arith, end, c.loop-region-test.false))
-        (map address_below c.loop-region.firsts.items) (map address_below c.mark.new.firsts.items) c.loop-region.invariant.0 m
+    told_all h c.geometry-geometry.ensures.valid c.loop-region.region (omega (arith, end, c.loop-region-test.false)) (map address_below c.loop-region.firsts.items) (map address_below c.mark.new.firsts.items) c.loop-region.invariant.0 m
 
 pub loop-region-smaller : goal.loop-region-smaller
 loop-region-smaller c = omega (arith, c.loop-region-test.true)
