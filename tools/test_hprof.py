@@ -8,7 +8,9 @@ import argparse
 import contextlib
 import hashlib
 import io
+import os
 import pathlib
+import shutil
 import struct
 import subprocess
 import sys
@@ -17,6 +19,7 @@ import unittest
 
 sys.dont_write_bytecode = True
 TOOLS = pathlib.Path(__file__).resolve().parent
+HOTSPOT = TOOLS.parent / "examples" / "hotspot"
 sys.path[:0] = [str(TOOLS), str(TOOLS / "lib")]
 
 import hprof  # noqa: E402
@@ -262,6 +265,23 @@ class Commands(unittest.TestCase):
             found, out, errors = self.call("hprof2image.py", *words)
             self.assertEqual((found, out, errors.count("\n")), (status, b"", 1), errors)
             self.assertIn(text, errors)
+
+    def stopped(self, script, java, text, heap=sys.executable):
+        """The script ends with one line and status 2, before it builds or runs anything."""
+        done = subprocess.run([sys.executable, str(HOTSPOT / script), java], capture_output=True, cwd=self.folder,
+                              env=dict(os.environ, G1HEAP=heap), timeout=60, check=False)
+        errors = done.stderr.decode()
+        self.assertEqual((done.returncode, done.stdout, errors.count("\n")), (2, b"", 1), errors)
+        self.assertIn(text, errors)
+
+    def test_a_missing_virtual_machine_is_one_line_and_a_status(self):
+        for script in ("judge.py", "across.py", "plants.py", "pause.py"):
+            self.stopped(script, "no-such-java", "there is no java 'no-such-java'")
+            self.stopped(script, shutil.which("true"), "no java: ")
+
+    def test_a_missing_judge_is_one_line_and_a_status(self):
+        for script in ("judge.py", "across.py", "plants.py"):
+            self.stopped(script, "no-such-java", "G1HEAP=no-such-judge: there is no such program", "no-such-judge")
 
     def test_a_dump_alone_is_enough(self):
         (self.folder / "dump").write_bytes(Maker().heap())

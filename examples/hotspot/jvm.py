@@ -49,6 +49,8 @@ def heap_program():
     """The built g1heap: that of G1HEAP, or where it is built, or on the path."""
     named = os.environ.get("G1HEAP")
     if named:
+        if not shutil.which(named):
+            raise Problem(f"G1HEAP={named}: there is no such program")
         return named
     built = TOP / "out" / "g1heap"
     found = str(built) if built.exists() else shutil.which("g1heap")
