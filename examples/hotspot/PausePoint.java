@@ -20,7 +20,7 @@ public class PausePoint {
         WhiteBox.vm.fullGC();
         Judge.work(steps);
         Judge.churn(20_000, 2_000);
-        if (how.equals("mixed")) letOldObjectsDie(steps / 4);
+        if (how.equals("mixed")) letOldObjectsDie();
         if (how.equals("humongous")) letLargeArraysDie();
         bean.dumpHeap(before, false);
         WhiteBox.vm.youngGC();
@@ -28,12 +28,13 @@ public class PausePoint {
     }
 
     /** Needs -XX:+ExplicitGCInvokesConcurrent: System.gc() is a whole concurrent cycle then. */
-    static void letOldObjectsDie(int steps) {
+    static void letOldObjectsDie() {
         for (int i = 0; i < Judge.root.index.length; i += 2) Judge.root.index[i].extra = null;
         Judge.root.cache.clear();
+        WhiteBox.vm.youngGC(); // what the marking's own pause makes old would count as live
         System.gc();
         WhiteBox.vm.youngGC(); // the pause that prepares the mixed ones
-        Judge.work(steps);
+        Judge.churn(20_000, 2_000); // nothing old dies between the marking and the pause
     }
 
     static void letLargeArraysDie() {

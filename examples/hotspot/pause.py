@@ -241,20 +241,21 @@ class OwnImage:
 
 
 def own_pause(program, image, chosen, room):
-    """Live words of each region, and each region's kind and top after our pause of the same set."""
-    before, after = room / "before.img", room / "after.img"
+    """Live bytes of each region, our order of the candidates, and each region's kind and top after our pause of the
+    same set."""
+    before = room / "before.img"
     with open(before, "wb") as file:
         image.write(file)
     said = []
-    for words in (["live"], ["pause", *map(str, chosen)]):
+    for words in (["live"], ["choose", "--budget", "0"], ["pause", *map(str, chosen)]):
         with open(before, "rb") as file:
             done = subprocess.run([program, *words], stdin=file, capture_output=True, check=False)
         if done.returncode:
             raise jvm.Problem(f"g1pause {words[0]}: {jvm.last_line(done.stderr.decode(errors='replace'))}")
         said.append(done.stdout)
-    after.write_bytes(said[1])
     live = [int(line.split()[-1]) for line in said[0].decode().splitlines()]
-    return live, [struct.unpack_from("<2I", said[1], 32 + 12 * region) for region in range(image.regions)]
+    order = [int(number) for number in re.findall(r"^region (\d+) ", said[1].decode(), re.M)]
+    return live, order, [struct.unpack_from("<2I", said[2], 32 + 12 * region) for region in range(image.regions)]
 
 
 def near(ours, theirs):
@@ -274,7 +275,7 @@ def compared(program, java, how, objects, room):
     with open(room / "pause_before.hprof", "rb") as file:
         own = OwnImage(OwnPlaces(Dump(file)), pause)
     chosen = [region for region in pause.set if own.layout.kinds[region] == ORDINARY]
-    live, after = own_pause(program, own.image, chosen, room)
+    live, order, after = own_pause(program, own.image, chosen, room)
     kinds = own.layout.kinds
     into = [top for kind, (now, top) in zip(kinds, after) if kind == FREE and now == ORDINARY]
     freed = [region for region, kind in enumerate(kinds) if kind in (FIRST, CONTINUATION) and after[region][0] == FREE]
@@ -287,15 +288,15 @@ def compared(program, java, how, objects, room):
             ("bytes copied", pause.copied, copied),
             ("regions filled", pause.filled, len(into)),
             ("humongous regions freed", len(pause.humongous_freed()), len(freed)),
-            *groups_of(pause, kinds, live)]
+            *groups_of(pause, order, live)]
     good = not own.too_long and near(cards, pause.cards) and near(copied, pause.copied)
     return [f"{how}: {text}: G1 {theirs}, ours {ours}" for text, theirs, ours in rows], good
 
 
-def groups_of(pause, kinds, live):
-    """G1's groups of candidates beside as many old regions in our order: those with the fewest live bytes first."""
-    old = sorted(live[region] for region in pause.of_kind("O") if kinds[region] == ORDINARY)
-    rows, at = [], 0
+def groups_of(pause, order, live):
+    """The groups of old regions that G1 took, in its order, beside as many regions of its set in ours."""
+    chosen = set(pause.of_kind("O"))
+    old, rows, at = [live[region] for region in order if region in chosen], [], 0
     for number, (regions, size) in enumerate(pause.groups, 1):
         mine, at = old[at:at + regions], at + regions
         if len(mine) == regions:

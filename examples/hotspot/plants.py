@@ -15,7 +15,8 @@ With --live the error is in the heap of a running JVM instead: after a full coll
 each JAVA under Serial and Parallel: a stale, a wrong and a null slot, and torn data.
 
 A report is right if its path leads to the planted slot or object. (A second copy may be reported where another slot
-references the first one.) The last line is 'N passed, M failed'.
+references the first one. If two slots reference one object after and two objects before, `joined` is reported at the
+slot with the longer path, which need not be the planted one.) The last line is 'N passed, M failed'.
 Statuses: 0 all passed; 1 an error was not reported, or with a wrong path; 2 usage, or a program is not there.
 """
 import argparse
@@ -40,7 +41,8 @@ END = 9  # bytes of the record that ends a dump
 
 
 class Planter:
-    """A dump in which one error is planted. `object` and `slot` say where, `others` what else may be reported."""
+    """A dump in which one error is planted. `object` and `slot` say where, `others` what else may be reported,
+    and `target` what a wrong slot references."""
 
     def __init__(self, path, seed):
         with open(path, "rb") as file:
@@ -51,7 +53,7 @@ class Planter:
                    for name, place in zip(group.names, group.places)}
         self.names = sorted(self.at)
         self.unused = max(self.names) + 4096
-        self.object = self.slot = None
+        self.object = self.slot = self.target = None
         self.others = set()
 
     def slot_places(self, name):
@@ -115,7 +117,8 @@ class Planter:
         places = self.choose_slot(lambda slots, full: True)
         old = self.read(places[self.slot])
         alike = [name for name in self.names if self.at[name][0] is self.at[old][0] and name != old]
-        self.write(places[self.slot], self.random.choice(alike) if alike else self.random.choice(self.names))
+        self.target = self.random.choice(alike or self.names)
+        self.write(places[self.slot], self.target)
 
     def plant_swapped(self):
         places = self.choose_slot(lambda slots, full: len(slots) < 8 and len({slots[i] for i in full}) > 1)
@@ -204,6 +207,8 @@ def judged_plant(heap, before, after, kind, seed, room):
         return f"{kind} {seed}: NOT REPORTED: {line}", False
     owner, slot, name = resolved(path, graph_of(bad))
     wanted = {(planter.object, planter.slot), *planter.others} if planter.slot is not None else {planter.object}
+    if planter.target and line.startswith("differ joined"):
+        wanted.add(planter.target)
     right = bool(wanted & {(owner, slot), name})
     return f"{kind} {seed}: {line}" + ("" if right else "  WRONG PATH"), right
 
