@@ -31,7 +31,8 @@ public class PausePoint {
     static void letOldObjectsDie() {
         for (int i = 0; i < Judge.root.index.length; i += 2) Judge.root.index[i].extra = null;
         Judge.root.cache.clear();
-        WhiteBox.vm.youngGC(); // what the marking's own pause makes old would count as live
+        // A marking takes what it finds in survivor regions as live, dead or not. So nothing is left in them.
+        for (int i = 0; i < 16; i++) WhiteBox.vm.youngGC();
         System.gc();
         WhiteBox.vm.youngGC(); // the pause that prepares the mixed ones
         Judge.churn(20_000, 2_000); // nothing old dies between the marking and the pause
