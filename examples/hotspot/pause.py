@@ -280,17 +280,18 @@ def compared(program, java, how, objects, room):
     into = [top for kind, (now, top) in zip(kinds, after) if kind == FREE and now == ORDINARY]
     freed = [region for region, kind in enumerate(kinds) if kind in (FIRST, CONTINUATION) and after[region][0] == FREE]
     cards, copied = len(own.cards_into(set(chosen))), 8 * sum(into)
-    rows = [("objects, dead ones between them, too long ones", f"{len(own.objects)}, {own.dead}, {own.too_long}", ""),
-            ("regions of the set, young and old", f"{len(pause.of_kind('E', 'S'))} + {len(pause.of_kind('O'))}", ""),
-            ("bytes in the set", 8 * sum(own.layout.tops[region] for region in chosen), ""),
-            ("live bytes in the set, by our marking", "", sum(live[region] for region in chosen)),
-            ("cards scanned", pause.cards, cards),
+    in_set = sum(own.layout.tops[region] for region in chosen)
+    facts = [f"{len(own.objects)} objects, {own.dead} gaps between them, {own.too_long} too long for their place",
+             f"{len(pause.of_kind('E', 'S'))} young and {len(pause.of_kind('O'))} old regions in the set, with "
+             f"{8 * in_set} bytes, of which {sum(live[region] for region in chosen)} are live"]
+    rows = [("cards scanned", pause.cards, cards),
             ("bytes copied", pause.copied, copied),
             ("regions filled", pause.filled, len(into)),
             ("humongous regions freed", len(pause.humongous_freed()), len(freed)),
             *groups_of(pause, order, live)]
     good = not own.too_long and near(cards, pause.cards) and near(copied, pause.copied)
-    return [f"{how}: {text}: G1 {theirs}, ours {ours}" for text, theirs, ours in rows], good
+    facts += [f"{text}: G1 {theirs}, ours {mine}" for text, theirs, mine in rows]
+    return [f"{how}: {fact}" for fact in facts], good
 
 
 def groups_of(pause, order, live):
