@@ -1,26 +1,24 @@
 -- The places in the remembered sets, which move on with the slots.
-use Rattle.std.proofs.Common.{◌≡◌, ◌≢◌, ◌≤◌, ◌<◌, ℕ, ◌+◌, ◌/◌, replicate, inl, inr, true, false, List, ◌∷◌, length, slice_index, get_or, arith, sym, ap, subst, ◌∙◌, get_or-set_same, get_or-set_other}
-use Rattle.std.specs.Prelude.{Option, Some, Contains}
+use Rattle.std.proofs.Common.{◌≡◌, ◌≢◌, ◌≤◌, ◌<◌, ℕ, ◌+◌, ◌/◌, inl, inr, true, false, List, [], ◌∷◌, ◌++◌, length, slice_index, get_or, arith, sym, ap, subst, ◌∙◌, get_or-set_same, get_or-set_other, ltb, ltb-true}
 use Rattle.std.proofs.Math.ListN.{set, length-set}
-use Rattle.std.specs.List.Sorted.{IsStrictlyIncreasing}
+use Rattle.std.specs.List.{AllWithin}
+use Rattle.std.specs.List.Sorted.{IsStrictlyIncreasing, IsNonDecreasingBy}
 use Rattle.std.proofs.lemmas.Bool.{cases_lt}
-use Rattle.std.proofs.lemmas.List.{get_or_default, length-replicate, get_or-replicate}
+use Rattle.std.proofs.lemmas.List.{get_or_default, get_or_push, get_or_append_left, length-append}
 use Rattle.std.proofs.lemmas.List.Kept.{AllPairs-from_increasing}
+use Rattle.std.proofs.lemmas.List.Sorted.{IsNonDecreasingBy-from_all_adjacent}
 use Rattle.std.proofs.lemmas.Nat.{le-div}
 use Rattle.std.proofs.Math.Nat.{div-mul-le_self}
 use Rattle.g1_words.specs.declared.object.Object.{Object}
-use Rattle.g1_words.specs.Heap.{card_of}
+use Rattle.g1_words.specs.Heap.{start, card_of}
 use Rattle.g1_words.specs.Lists.{has}
 use Rattle.g1_words.specs.Valid.{IsValid}
 use Rattle.g1_words.proofs.Members.{In-from_contains, Contains-from_in, has_from_in}
 use Rattle.g1_words.proofs.Indices.{not_has}
 use Rattle.g1_image.specs.Image.{Image, remembered_of}
-use Rattle.g1_rem.specs.Marks.{Chain, objects_from}
+use Rattle.g1_rem.specs.Marks.{objects_from}
 use Rattle.g1_rem.specs.Places.{IsBehind, AreBehind, AreReadyFor}
-use Rattle.g1_rem.specs.Cover.{IsFirstOf}
-use Rattle.g1_rem.proofs.Rising.{Rises-above, increasing-Rises}
-use Rattle.g1_rem.proofs.Order.{objects_chain}
-use Rattle.g1_rem.proofs.Marks.{all_left}
+use Rattle.g1_rem.proofs.Between.{from_chain}
 
 -- a place before which all cards are below one, and its own card not, tells whether that one is in the set
 pub has_here : (xs : List ℕ) (place x : ℕ) → place < length xs → x ≡ get_or xs place x → has xs x ≡ true
@@ -73,18 +71,9 @@ behind_set i places p r place lt b here = record {
   other : (q : ℕ) → q < i.heap.geometry.n → q ≢ r → IsBehind (remembered_of i q) (slice_index (set places r place) q) (card_of i.heap p)
   other q lt' ne = subst (λ z. IsBehind (remembered_of i q) z (card_of i.heap p)) (sym (get_or-set_other places r q place 0 ne)) (b.each q lt')
 
--- before the first slot
-pub ready_start : (i : Image) (places : List ℕ) (n : ℕ) → IsValid i.heap → places ≡ replicate n 0 → n ≡ i.heap.geometry.n → AreReadyFor i places (objects_from i.heap 0)
-ready_start i places n valid none e = record {
-  from = 0;
-  behind = record {
-    one_each = ap length none ∙ length-replicate n 0 ∙ e;
-    each = λ r lt.
-        let zero : slice_index places r ≡ 0 = ap (λ l. slice_index l r) none ∙ get_or-replicate n r 0 0 (omega (arith, lt, e)) in
-        record { within = omega (arith, zero); below = λ k lt'. absurd (omega (arith, zero, lt')) };
-  };
-  ahead = subst (Chain 0) (sym (all_left i.heap valid)) (objects_chain i.heap valid);
-}
+-- before the first slot of the regions from one on
+pub ready_from : (i : Image) (places : List ℕ) (r : ℕ) → IsValid i.heap → r ≤ i.heap.geometry.n → AreBehind i places (start i.heap r) → AreReadyFor i places (objects_from i.heap r)
+ready_from i places r valid le b = record { from = start i.heap r; behind = b; ahead = from_chain i.heap valid r le }
 
 -- an object's slots are passed
 pub ready_next : (i : Image) (places later : List ℕ) (o : Object) (os : List Object) (p : ℕ) → IsValid i.heap → (r : AreReadyFor i places (o ∷ os)) → p ≤ o.at + o.size → AreBehind i later p → AreReadyFor i later os
@@ -98,9 +87,49 @@ ready_next i places later o os p valid r le b = record {
 pub ready_at : (i : Image) (places : List ℕ) (o : Object) (os : List Object) → IsValid i.heap → AreReadyFor i places (o ∷ os) → AreBehind i places (o.at + 1)
 ready_at i places o os valid r = behind_later i places r.from (o.at + 1) valid (omega (arith, r.ahead.0)) r.behind
 
--- the first of a rising list is its least
-pub first_least : (xs : List ℕ) (found : Option ℕ) → IsStrictlyIncreasing xs → IsFirstOf xs found → (p q : ℕ) → found ≡ Some p → Contains xs q → p ≤ q
-first_least xs found rising first p q e c =
-    let f : IsFirstOf xs (Some p) = subst (IsFirstOf xs) e first in
-    let at : slice_index xs 0 ≡ p = ap (λ l. slice_index l 0) f.1 in
-    Rises-above p xs q (increasing-Rises xs p rising (λ lt. omega (arith, at))) (In-from_contains xs q c)
+-- in the first remembered sets, all cards before a place are below one
+pub record ArePlaced (i : Image) (card count : ℕ) (places : List ℕ) : Type 0 where
+  pub one_each : length places ≡ count
+  pub each : (r : ℕ) → r < count → IsBehind (remembered_of i r) (slice_index places r) card
+
+-- none yet
+pub placed_none : (i : Image) (card : ℕ) (places : List ℕ) → places ≡ [] → ArePlaced i card 0 places
+placed_none i card places none = record { one_each = ap length none; each = λ r lt. absurd (omega (arith, lt)) }
+
+-- one set more
+pub placed_more : (i : Image) (card count : ℕ) (places more : List ℕ) (place : ℕ) → ArePlaced i card count places → more ≡ places ++ place ∷ [] → IsBehind (remembered_of i count) place card → ArePlaced i card (count + 1) more
+placed_more i card count places more place p e here = record {
+  one_each = ap length e ∙ length-append places (place ∷ []) ∙ ap (λ x. x + 1) p.one_each;
+  each = λ r lt. elim (cases_lt r count) [
+    | inl less ↦ (
+        let old : slice_index more r ≡ slice_index places r = ap (λ l. slice_index l r) e ∙ get_or_append_left places (place ∷ []) 0 r (omega (arith, less, p.one_each)) in
+        subst (λ x. IsBehind (remembered_of i r) x card) (sym old) (p.each r less))
+    | inr more_than ↦ (
+        let same : count ≡ r = omega (arith, more_than, lt) in
+        let new : slice_index more r ≡ place = ap (λ l. slice_index l r) e ∙ get_or_push places place 0 r (omega (arith, same, p.one_each)) in
+        subst (λ x. IsBehind (remembered_of i r) x card) (sym new) (subst (λ q. IsBehind (remembered_of i q) place card) same here))
+  ];
+}
+
+-- all sets, before the first slot of the regions from one on
+pub placed_all : (i : Image) (r card count : ℕ) (places : List ℕ) → IsValid i.heap → r ≤ i.heap.geometry.n → card ≡ card_of i.heap (start i.heap r) → count ≡ i.heap.geometry.n → ArePlaced i card count places → AreReadyFor i places (objects_from i.heap r)
+placed_all i r card count places valid le e all p =
+    ready_from i places r valid le (record {
+      one_each = p.one_each ∙ all;
+      each = λ q lt. subst (IsBehind (remembered_of i q) (slice_index places q)) e (p.each q (omega (arith, lt, all)));
+    })
+
+-- a rising list's numbers do not fall
+pub rising_pairs : (xs : List ℕ) → IsStrictlyIncreasing xs → IsNonDecreasingBy (λ (x : ℕ). x) xs
+rising_pairs xs rising = IsNonDecreasingBy-from_all_adjacent (λ (x : ℕ). x) xs (λ k d lt.
+    let one = get_or_default xs k d 0 (omega (arith, lt)) in
+    let next = get_or_default xs (k + 1) d 0 lt in
+    let r = rising k (omega (arith, lt)) in
+    omega (arith, r, one, next))
+
+-- those below a card are before the place of the first that isn't
+pub behind_point : (xs : List ℕ) (card place : ℕ) → place ≤ length xs → AllWithin (λ (x : ℕ). ltb x card ≡ true) xs 0 place → IsBehind xs place card
+behind_point xs card place within below = record {
+  within = within;
+  below = λ k lt. ltb-true (slice_index xs k) card (below k 0 (omega arith) lt);
+}

@@ -1,5 +1,5 @@
 -- How far the walk over a region's objects has come, while their cards are written and while their slots are asked.
-use Rattle.std.proofs.Common.{◌≡◌, ◌≤◌, ◌<◌, ℕ, ◌+◌, ◌-◌, ◌%◌, ◌^◌, List, [], ◌∷◌, ◌++◌, drop, filter, flat_map, slice_index, arith, refl, sym, ap, subst, ◌∙◌}
+use Rattle.std.proofs.Common.{◌≡◌, ◌≤◌, ◌<◌, ℕ, ◌+◌, ◌-◌, ◌%◌, ◌^◌, min, List, [], ◌∷◌, ◌++◌, drop, filter, flat_map, slice_index, arith, refl, sym, ap, subst, ◌∙◌}
 use Rattle.std.specs.Prelude.{Option, Some, None}
 use Rattle.std.specs.List.{range_with_len}
 use Rattle.g1_words.specs.Heap.{Heap, word, start, objects_in, object_at, slots}
@@ -15,25 +15,25 @@ use Rattle.g1_rem.proofs.Places.{ready_at, ready_next}
 use Rattle.g1_rem.proofs.Filled.{Tiles-none, row_front, row_rest, row_step}
 
 -- the cards of a region's objects are written up to an address
-pub record Marking (h : Heap) (r at to : ℕ) (starts : List (Option ℕ)) : Type 0 where
+pub record Marking (h : Heap) (from until r at to : ℕ) (starts : List (Option ℕ)) : Type 0 where
   pub place : ℕ
   pub row : Tiles h.words at (drop place (objects_in h r)) to
-  pub told : Told h (drop place (objects_in h r) ++ objects_from h (r + 1)) starts
+  pub told : Told h from until (drop place (objects_in h r) ++ objects_from h (r + 1)) starts
 
 -- before the first object
-pub marking_start : (h : Heap) (r at to : ℕ) (starts : List (Option ℕ)) → IsValid h → r < h.geometry.n → at ≡ start h r → Tiles h.words (start h r) (objects_in h r) to → Told h (objects_from h r) starts → Marking h r at to starts
-marking_start h r at to starts valid lt e t told = record {
+pub marking_start : (h : Heap) (from until r at to : ℕ) (starts : List (Option ℕ)) → IsValid h → r < h.geometry.n → at ≡ start h r → Tiles h.words (start h r) (objects_in h r) to → Told h from until (objects_from h r) starts → Marking h from until r at to starts
+marking_start h from until r at to starts valid lt e t told = record {
   place = 0;
   row = subst (λ x. Tiles h.words x (objects_in h r) to) (sym e) t;
-  told = subst (λ l. Told h l starts) (left_start h valid r lt) told;
+  told = subst (λ l. Told h from until l starts) (left_start h valid r lt) told;
 }
 
 -- past the last one
-pub marking_end : (h : Heap) (r at to : ℕ) (starts : List (Option ℕ)) → Marking h r at to starts → to ≤ at → Told h (objects_from h (r + 1)) starts
-marking_end h r at to starts m le =
-    subst (λ l. Told h (l ++ objects_from h (r + 1)) starts) (Tiles-none h.words at (drop m.place (objects_in h r)) to m.row le) m.told
+pub marking_end : (h : Heap) (from until r at to : ℕ) (starts : List (Option ℕ)) → Marking h from until r at to starts → to ≤ at → Told h from until (objects_from h (r + 1)) starts
+marking_end h from until r at to starts m le =
+    subst (λ l. Told h from until (l ++ objects_from h (r + 1)) starts) (Tiles-none h.words at (drop m.place (objects_in h r)) to m.row le) m.told
 
-module _ (h : Heap) (r at to : ℕ) (old : List (Option ℕ)) (valid : IsValid h) (lt : r < h.geometry.n) (m : Marking h r at to old) (more : at < to) where
+module _ (h : Heap) (from until r at to : ℕ) (old : List (Option ℕ)) (valid : IsValid h) (lt : r < h.geometry.n) (m : Marking h from until r at to old) (more : at < to) where
   -- the object whose cards are next
   pub marking_front : NextOf h r m.place at
   marking_front = row_front h r valid lt m.place at to m.row more
@@ -47,14 +47,14 @@ module _ (h : Heap) (r at to : ℕ) (old : List (Option ℕ)) (valid : IsValid h
       omega (arith, step.0, same, e)
 
   -- its cards are written
-  pub marking_step : (mid new : List (Option ℕ)) (size : ℕ) → size ≡ (object_at h at).size → IsMarkedTo old mid h.geometry.k at None → IsMarkedTo mid new h.geometry.k (at + size) (Some at) → Marking h r (at + size) to new
+  pub marking_step : (mid new : List (Option ℕ)) (size : ℕ) → size ≡ (object_at h at).size → IsMarkedTo old mid from h.geometry.k (min at until) None → IsMarkedTo mid new from h.geometry.k (min (at + size) until) (Some at) → Marking h from until r (at + size) to new
   marking_step mid new size e a b =
       let n = row_front h r valid lt m.place at to m.row more in
       let same : n.object.size ≡ size = ap (λ o. o.size) n.whole ∙ sym e in
       record {
         place = m.place + 1;
         row = subst (λ x. Tiles h.words (at + x) (drop (m.place + 1) (objects_in h r)) to) same (row_rest h r m.place at to n m.row);
-        told = told_next h valid r m.place at n old m.told mid new a (subst (λ x. IsMarkedTo mid new h.geometry.k (at + x) (Some at)) e b);
+        told = told_next h valid from until r m.place at n old m.told mid new a (subst (λ x. IsMarkedTo mid new from h.geometry.k (min (at + x) until) (Some at)) e b);
       }
 
 -- the slots of a region's objects are asked up to an address

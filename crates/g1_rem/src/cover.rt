@@ -1,17 +1,22 @@
-ghost use Rattle.std.specs.Prelude.{◌≡◌, ◌≤◌, ◌<◌, ◌⊎◌, ◌+◌, ◌-◌, ℕ, List, ◌∷◌, None, Some, length, filter, slice_index, slice_index_or, false, Contains, IfOk, IfErr};
-ghost use Rattle.std.specs.List.{range_with_len};
+ghost use Rattle.std.specs.Prelude.{◌≡◌, ◌≤◌, ◌<◌, ◌⊎◌, ◌+◌, ◌-◌, ℕ, List, ◌∷◌, None, Some, length, filter, flat_map, slice_index, slice_index_or, false, Contains, IfOk, IfErr};
+ghost use Rattle.std.specs.List.{range_with_len, AllZip};
+ghost use Rattle.std.specs.List.Sorted.{IsStrictlyIncreasing};
 ghost use Rattle.g1_words.specs.Valid.{IsReference};
 ghost use Rattle.g1_image.specs.Cards.{uncovered};
 ghost use Rattle.g1_rem.specs.Marks.{objects_from};
-ghost use Rattle.g1_rem.specs.Cover.{is_bare, bare_in, AreDirty, IsFirstOf};
+ghost use Rattle.g1_rem.specs.Cover.{is_bare, bare_in, bare_between, AreDirty, IsFirstOf, IsFirstAmong, AreFirstAmong};
 ghost use Rattle.g1_rem.specs.Places.{IsBehind, AreBehind, AreReadyFor};
+ghost use Rattle.g1_rem.specs.Ranges.{IsCut, IsRange};
 
 use crate::entry_cards::{mark_each, unmarked};
 use crate::leads::led_into;
+use crate::ranges::{WORDS_A_THREAD, cut};
 use crate::rows::objects_end;
 use crate::tracked::Tracked;
 use g1_image::Image;
 use g1_words::{Fault, card_of, header};
+use g1_work::threads_for;
+use rayon::prelude::*;
 use std::alloc::{AllocError, Global};
 use std::thread::Threads;
 
@@ -123,18 +128,115 @@ fn first_in(image: &Image, dirty: &[bool], places: &mut [usize], region: u32) ->
     None
 }
 
-/// The lowest slot that isn't covered, with a place in each remembered set.
-fn first_of(image: &Image, dirty: &[bool], places: &mut [usize]) -> Option<u64>
-    requires dirty { AreDirty image.now dirty.now }
-    requires ready { AreReadyFor image.now places.old (objects_from image.now.heap 0) }
-    ensures { IsFirstOf (uncovered image.now) result }
+/// The place of a rising list's first card that isn't below one.
+fn first_place(set: &[u32], card: u32) -> usize
+    requires { IsStrictlyIncreasing set.now }
+    ensures { IsBehind set.now result card }
 {
-    for region in 0..image.heap().geometry().regions() as u32 {
+    set.partition_point(|other| *other < card)
+}
+
+/// A place in each remembered set, before which all cards are below a region's first.
+fn places_at(alloc: Global, image: &Image, region: u32) -> Result<Vec<usize>, AllocError>
+    requires { region ≤ image.now.heap.geometry.n }
+    ensures { IfOk result (λ v. AreReadyFor image.now v.items (objects_from image.now.heap region)) }
+{
+    let geometry = image.heap().geometry();
+    let card = card_of(&geometry, geometry.start(region)) as u32;
+    let mut places = Vec::with_capacity(alloc, image.remembered().len())?;
+    for set in image.remembered() {
+        places.push(first_place(set, card))?;
+    }
+    Ok(places)
+}
+
+/// The first slot that isn't covered, of the objects that start in some regions.
+fn first_of(image: &Image, dirty: &[bool], places: &mut [usize], from: u32, to: u32) -> Option<u64>
+    requires dirty { AreDirty image.now dirty.now }
+    requires order { from ≤ to }
+    requires regions { to ≤ image.now.heap.geometry.n }
+    requires ready { AreReadyFor image.now places.old (objects_from image.now.heap from) }
+    ensures { IsFirstOf (bare_between image.now from to) result }
+{
+    g1_words::laws::valid(image.heap());
+    for region in from..to {
         if let Some(p) = first_in(image, dirty, places, region) {
             return Some(p);
         }
     }
     None
+}
+
+/// The same, beginning with the places before the first of these regions.
+fn first_among(
+    alloc: Global,
+    image: &Image,
+    dirty: &[bool],
+    from: u32,
+    to: u32,
+) -> Result<Option<u64>, Fault>
+    requires dirty { AreDirty image.now dirty.now }
+    requires order { from ≤ to }
+    requires regions { to ≤ image.now.heap.geometry.n }
+    ensures { IsFirstAmong image.now from to result }
+{
+    let mut places = places_at(alloc, image, from)?;
+    Ok(first_of(image, dirty, &mut places, from, to))
+}
+
+/// For each range of regions the first slot that isn't covered, a thread a range.
+fn first_in_each(
+    rt: &(impl Threads + Sync),
+    alloc: Global,
+    image: &Image,
+    dirty: &[bool],
+    cut: &[u32],
+    ranges: usize,
+) -> Result<Vec<Option<u64>>, Fault>
+    requires dirty { AreDirty image.now dirty.now }
+    requires cut { IsCut image.now.heap.geometry.n ranges cut.now }
+    ensures ok { IfOk result (λ v. AreFirstAmong image.now cut.now ranges v.items) }
+    ensures memory { IfErr result (λ e. e ≡ Fault.Memory) }
+{
+    (0..ranges)
+        .into_par_iter()
+        .with_min_len(1)
+        .map(
+            |range: usize| -> Result<Option<u64>, Fault>
+                requires { AreDirty image.now dirty.now × IsRange image.now.heap.geometry.n cut.now range }
+                ensures { IsFirstAmong image.entry.now (slice_index cut.entry.now range) (slice_index cut.entry.now (range + 1)) result }
+            { first_among(alloc, image, dirty, cut[range], cut[range + 1]) },
+        )
+        .collect::<Result<Vec<Option<u64>>, Fault>>(rt, alloc)?
+}
+
+/// The first of the slots that were found in ranges that follow one another.
+fn first_found(found: &[Option<u64>]) -> Option<u64>
+    ensures { (slots : ℕ → List ℕ) (ranges : List ℕ) → AllZip (λ range. IsFirstOf (slots range)) ranges found.now → IsFirstOf (flat_map slots ranges) result }
+{
+    for slot in found {
+        if let Some(p) = slot {
+            return Some(*p);
+        }
+    }
+    None
+}
+
+/// The lowest slot that isn't covered, by this many threads.
+fn first_by_threads(
+    rt: &(impl Threads + Sync),
+    alloc: Global,
+    image: &Image,
+    dirty: &[bool],
+    threads: usize,
+) -> Result<Option<u64>, Fault>
+    requires some { 0 < threads }
+    requires dirty { AreDirty image.now dirty.now }
+    ensures { IsFirstAmong image.now 0 image.now.heap.geometry.n result }
+{
+    let cut = cut(alloc, image.heap(), threads)?;
+    let found = first_in_each(rt, alloc, image, dirty, &cut, threads)?;
+    Ok(first_found(&found))
 }
 
 /// The lowest slot that isn't covered, as `verify` finds it, without the image in its hands.
@@ -146,10 +248,29 @@ pub fn first_uncovered(alloc: Global, image: &Image) -> Result<Option<u64>, Faul
     ensures lowest { IfOk result (λ found. (p q : ℕ) → found ≡ Some p → Contains (uncovered image.now) q → p ≤ q) }
     ensures memory { IfErr result (λ e. e ≡ Fault.Memory) }
 {
-    let regions = image.heap().geometry().regions() as usize;
-    let mut places = vec![in alloc; 0usize; regions]?;
     let dirty = dirty_marks(alloc, image)?;
-    Ok(first_of(image, &dirty, &mut places))
+    let regions = image.heap().geometry().regions() as u32;
+    first_among(alloc, image, &dirty, 0, regions)
+}
+
+/// The same, by as many threads as the words feed.
+fn first_uncovered_by(
+    rt: &(impl Threads + Sync),
+    alloc: Global,
+    image: &Image,
+    workers: u64,
+) -> Result<Option<u64>, Fault>
+    ensures ok { IfOk result (IsFirstOf (uncovered image.now)) }
+    ensures lowest { IfOk result (λ found. (p q : ℕ) → found ≡ Some p → Contains (uncovered image.now) q → p ≤ q) }
+    ensures memory { IfErr result (λ e. e ≡ Fault.Memory) }
+{
+    match threads_for(workers, image.heap().words().len(), WORDS_A_THREAD) {
+        1 => first_uncovered(alloc, image),
+        threads => {
+            let dirty = dirty_marks(alloc, image)?;
+            first_by_threads(rt, alloc, image, &dirty, threads)
+        }
+    }
 }
 
 /// The image with its cover kept by the type, or the very image again with the fault.
@@ -170,7 +291,28 @@ pub fn verify(
     ensures fault { IfErr result (λ e. (e.1 ≡ Fault.Memory) ⊎ ((p : ℕ) × (rest : List ℕ) × (uncovered image ≡ p ∷ rest) × (e.1 ≡ Fault.Uncovered p))) }
     ensures lowest { IfErr result (λ e. (p q : ℕ) → e.1 ≡ Fault.Uncovered p → Contains (uncovered image) q → p ≤ q) }
 {
-    match first_uncovered(alloc, &image) {
+    verify_by(rt, alloc, image, 1)
+}
+
+/// As `verify`, with this many workers at most. One if it is 0.
+///
+/// Each has a range of the regions, with a place of its own in each remembered set. The fault is that
+/// of the first range that has one.
+///
+/// # Errors
+/// Those of `verify`.
+pub fn verify_by(
+    rt: &(impl Threads + Sync),
+    alloc: Global,
+    image: Image,
+    workers: u64,
+) -> Result<Tracked, (Image, Fault)>
+    ensures ok { IfOk result (λ t. t ≡ image) }
+    ensures same { IfErr result (λ e. e.0 ≡ image) }
+    ensures fault { IfErr result (λ e. (e.1 ≡ Fault.Memory) ⊎ ((p : ℕ) × (rest : List ℕ) × (uncovered image ≡ p ∷ rest) × (e.1 ≡ Fault.Uncovered p))) }
+    ensures lowest { IfErr result (λ e. (p q : ℕ) → e.1 ≡ Fault.Uncovered p → Contains (uncovered image) q → p ≤ q) }
+{
+    match first_uncovered_by(rt, alloc, &image, workers) {
         Err(fault) => Err((image, fault)),
         Ok(Some(p)) => Err((image, Fault::Uncovered(p))),
         Ok(None) => Ok(Tracked { image }),

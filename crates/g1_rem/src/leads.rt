@@ -50,8 +50,7 @@ pub fn leads_into(alloc: Global, heap: &Heap, starts: &Starts, region: u32, card
     requires card { card < card_count heap.now }
     ensures { result ≡ is_exact heap.now region card }
 {
-    // The heap's rules are known from its geometry's contract.
-    heap.geometry();
+    g1_words::laws::valid(heap);
     let slots = slots_on(alloc, heap, starts, card);
     one_leads(heap, slots.as_slice(), region)
 }

@@ -2,12 +2,14 @@
 //! regions is covered, and which cards lead into a region.
 //!
 //! 1. `Starts` has for each card the object over its first word, wherever that object began: on an
-//!    earlier card, or in an earlier region of a humongous object's run.
+//!    earlier card, or in an earlier region of a humongous object's run. `Starts::build_by` shares the
+//!    regions among this many workers at most, in ranges.
 //! 2. `slots_on` walks from there over the objects that reach the card, and gives the slots whose own
 //!    address lies on it.
 //! 3. `verify` asks every slot by rising address. One that leads into another region has its card in
 //!    that region's remembered set or in the dirty log; else the lowest such slot is the fault. What
-//!    passes is a `Tracked` image, whose type keeps this from then on.
+//!    passes is a `Tracked` image, whose type keeps this from then on. `verify_by` shares the regions
+//!    in the same ranges, and the first range with such a slot has the lowest.
 //! 4. `refine` looks at the dirty cards alone: it adds to each region's remembered set those that
 //!    hold a slot of another region that references an object in it. `refine_by` does so with this
 //!    many workers at most.
@@ -26,13 +28,14 @@ mod entry_cards;
 pub mod laws;
 mod leads;
 mod merging;
+mod ranges;
 mod refining;
 mod rows;
 mod slots;
 mod starts;
 mod tracked;
 
-pub use cover::{first_uncovered, verify};
+pub use cover::{first_uncovered, verify, verify_by};
 pub use entry_cards::cards_into;
 pub use leads::leads_into;
 pub use merging::merged;

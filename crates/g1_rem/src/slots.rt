@@ -2,6 +2,7 @@ ghost use Rattle.std.specs.Prelude.{◌≡◌, ◌≤◌, ◌<◌, ◌+◌, ◌-
 ghost use Rattle.std.specs.List.{range_with_len};
 ghost use Rattle.smallvec.specs.SmallVec.{HasRoomFor};
 ghost use Rattle.g1_words.specs.declared.object.Object.{Object};
+ghost use Rattle.g1_words.specs.Geometry.{most_card_words};
 ghost use Rattle.g1_words.specs.Heap.{slots};
 ghost use Rattle.g1_words.specs.Valid.{Tiles};
 ghost use Rattle.g1_words.specs.Walk.{Reaches};
@@ -9,7 +10,7 @@ ghost use Rattle.g1_rem.specs.Starts.{IsStartsOf, card_count};
 ghost use Rattle.g1_rem.specs.Slots.{slots_on, is_between};
 
 use crate::starts::Starts;
-use g1_words::{Heap, Kind, REFS_RANGE, region_of};
+use g1_words::{Heap, Kind, header, region_of, size_at};
 use smallvec::SmallVec;
 use std::alloc::Global;
 
@@ -35,18 +36,18 @@ fn slots_between(
 ) -> SmallVec<u64, 64>
     requires filled { Reaches words.now from to }
     requires in_words { to ≤ length words.now }
-    requires few { hi ≤ lo + 64 }
+    requires few { hi ≤ lo + most_card_words }
     ensures items { (os : List Object) → Tiles words.now from os to → result.items ≡ filter (is_between lo hi) (flat_map slots os) }
-    ensures capacity { result.capacity ≡ 64 }
+    ensures capacity { result.capacity ≡ most_card_words }
 {
     let mut out = SmallVec::new(alloc);
     let mut at = from;
     'objects: while at < to && at < hi {
-        let header = words[at as usize];
+        let object = header(words, at);
         let first = (at + 1).max(lo);
-        let last = (at + 1 + header % REFS_RANGE).min(hi);
+        let last = (at + 1 + object.refs).min(hi);
         push_range(&mut out, first, last);
-        at += header / REFS_RANGE;
+        at += object.size;
     }
     out
 }
@@ -57,10 +58,10 @@ pub fn slots_on(alloc: Global, heap: &Heap, starts: &Starts, card: u32) -> Small
     requires starts { IsStartsOf heap.now starts.now }
     requires card { card < card_count heap.now }
     ensures items { result.items ≡ slots_on heap.now card }
-    ensures inline { result.capacity ≡ 64 }
+    ensures inline { result.capacity ≡ most_card_words }
 {
     let geometry = heap.geometry();
-    let lo = u64::from(card) * geometry.card_words();
+    let lo = geometry.card_start(card);
     match starts.first(card) {
         None => SmallVec::new(alloc),
         Some(first) => {
@@ -69,9 +70,7 @@ pub fn slots_on(alloc: Global, heap: &Heap, starts: &Starts, card: u32) -> Small
             let region = heap.region(number as u32);
             let end = match region.kind {
                 Kind::Ordinary => geometry.start(number as u32) + u64::from(region.top),
-                Kind::Free | Kind::HumongousFirst | Kind::Continuation => {
-                    at + heap.words()[at as usize] / REFS_RANGE
-                }
+                Kind::Free | Kind::HumongousFirst | Kind::Continuation => at + size_at(heap, at),
             };
             slots_between(alloc, heap.words(), at, end, lo, lo + geometry.card_words())
         }

@@ -1,11 +1,19 @@
-ghost use Rattle.std.specs.Prelude.{◌≡◌, ◌≤◌, ◌<◌, ◌+◌, ◌*◌, ◌^◌, ℕ, List, length, map, Option, slice_index_or, OnOk, OnErr, IfOk, IfErr};
+ghost use Rattle.std.specs.Prelude.{◌≡◌, ◌≤◌, ◌<◌, ◌+◌, ◌*◌, ◌^◌, min, ℕ, List, length, map, flat_map, Option, slice_index, slice_index_or, OnOk, OnErr, IfOk, IfErr};
+ghost use Rattle.g1_words.specs.Geometry.{most_card_words, most_words};
+ghost use Rattle.g1_words.specs.Heap.{kind, start};
+ghost use Rattle.g1_words.specs.declared.region.Kind.TheVariants.{Continuation};
 ghost use Rattle.g1_rem.specs.Starts.{IsStartsOf, address_below};
 ghost use Rattle.g1_rem.specs.Marks.{IsMarkedTo, Told, objects_from};
+ghost use Rattle.g1_rem.specs.Ranges.{IsCut, IsRange, AreStartsIn, AreStartsInEach};
 
+use crate::ranges::{WORDS_A_THREAD, cut};
 use crate::rows::objects_end;
-use g1_words::{Fault, Heap, size_at};
+use g1_words::{Fault, Heap, card_of, size_at};
+use g1_work::threads_for;
+use rayon::prelude::*;
 use std::alloc::{AllocError, Global};
 use std::marker::Model;
+use std::thread::Threads;
 
 /// For each card of a heap the address of the object over the card's first word, if one is there,
 /// wherever that object began: on an earlier card, or in an earlier region.
@@ -24,27 +32,35 @@ impl Model for Starts {
     ghost view = { λ s. map address_below s.firsts.items };
 }
 
-/// Writes a value for each further card whose first word is below an address.
-fn mark(firsts: &mut Vec<u32>, k: u64, until: u64, value: u32) -> Result<(), AllocError>
-    requires card { (0 < k) × (k ≤ 64) }
-    requires address { until ≤ 2 ^ 24 }
-    requires room { length firsts.old.items * k ≤ 2 ^ 25 }
-    ensures marked { OnOk result (IsMarkedTo (map address_below firsts.old.items) (map address_below firsts.new.items) k until (address_below value)) }
-    ensures room { length firsts.new.items * k ≤ 2 ^ 25 }
+/// Writes a value for each further card whose first word is below an address. The first card is that
+/// of the address `from`.
+fn mark(firsts: &mut Vec<u32>, from: u64, k: u64, until: u64, value: u32) -> Result<(), AllocError>
+    requires card { (0 < k) × (k ≤ most_card_words) }
+    requires address { until ≤ most_words }
+    requires room { from + length firsts.old.items * k ≤ 2 * most_words }
+    ensures marked { OnOk result (IsMarkedTo (map address_below firsts.old.items) (map address_below firsts.new.items) from k until (address_below value)) }
+    ensures room { from + length firsts.new.items * k ≤ 2 * most_words }
 {
-    'cards: while firsts.len() as u64 * k < until {
+    'cards: while from + firsts.len() as u64 * k < until {
         firsts.push(value)?;
     }
     Ok(())
 }
 
-/// Writes the starts of the cards that a region's objects reach.
-fn mark_region(heap: &Heap, region: u32, firsts: &mut Vec<u32>) -> Result<(), AllocError>
+/// Writes the starts of the cards that a region's objects reach, up to an address.
+fn mark_region(
+    heap: &Heap,
+    region: u32,
+    from: u64,
+    until: u64,
+    firsts: &mut Vec<u32>,
+) -> Result<(), AllocError>
     requires region { region < heap.now.geometry.n }
-    requires told { Told heap.now (objects_from heap.now region) (map address_below firsts.old.items) }
-    requires room { length firsts.old.items * heap.now.geometry.k ≤ 2 ^ 25 }
-    ensures told { OnOk result (Told heap.now (objects_from heap.now (region + 1)) (map address_below firsts.new.items)) }
-    ensures room { length firsts.new.items * heap.now.geometry.k ≤ 2 ^ 25 }
+    requires until { until ≤ most_words }
+    requires told { Told heap.now from until (objects_from heap.now region) (map address_below firsts.old.items) }
+    requires room { from + length firsts.old.items * heap.now.geometry.k ≤ 2 * most_words }
+    ensures told { OnOk result (Told heap.now from until (objects_from heap.now (region + 1)) (map address_below firsts.new.items)) }
+    ensures room { from + length firsts.new.items * heap.now.geometry.k ≤ 2 * most_words }
 {
     let geometry = heap.geometry();
     let k = geometry.card_words();
@@ -52,11 +68,79 @@ fn mark_region(heap: &Heap, region: u32, firsts: &mut Vec<u32>) -> Result<(), Al
     let mut at = geometry.start(region);
     'objects: while at < end {
         let size = size_at(heap, at);
-        mark(firsts, k, at, 0)?;
-        mark(firsts, k, at + size, at as u32 + 1)?;
+        mark(firsts, from, k, at.min(until), 0)?;
+        mark(firsts, from, k, (at + size).min(until), at as u32 + 1)?;
         at += size;
     }
     Ok(())
+}
+
+/// The last region, up to one, that isn't a continuation: there the run begins that the region lies
+/// in.
+fn run_begin(heap: &Heap, region: u32) -> u32
+    requires { region ≤ heap.now.geometry.n }
+    ensures order { result ≤ region }
+    ensures kind { 0 < result → result < heap.now.geometry.n → kind heap.now result ≡ Continuation → ⊥ }
+{
+    let regions = heap.geometry().regions() as u32;
+    let mut first = region;
+    'regions: while 0 < first && first < regions && heap.region(first).kind.is_continuation() {
+        first -= 1;
+    }
+    first
+}
+
+/// The starts of the cards of some regions, also of those over which an object of an earlier region
+/// lies.
+fn starts_between(alloc: Global, heap: &Heap, from: u32, to: u32) -> Result<Vec<u32>, Fault>
+    requires order { from ≤ to }
+    requires regions { to ≤ heap.now.geometry.n }
+    ensures { AreStartsIn heap.now from to result }
+{
+    let geometry = heap.geometry();
+    let begin = geometry.start(from);
+    let end = geometry.start(to);
+    let mut firsts = Vec::with_capacity(alloc, card_of(&geometry, end - begin) as usize)?;
+    for region in run_begin(heap, from)..to {
+        mark_region(heap, region, begin, end, &mut firsts)?;
+    }
+    mark(&mut firsts, begin, geometry.card_words(), end, 0)?;
+    Ok(firsts)
+}
+
+/// The starts of each range's cards, a thread a range.
+fn starts_in_each(
+    rt: &(impl Threads + Sync),
+    alloc: Global,
+    heap: &Heap,
+    cut: &[u32],
+    ranges: usize,
+) -> Result<Vec<Vec<u32>>, Fault>
+    requires { IsCut heap.now.geometry.n ranges cut.now }
+    ensures ok { IfOk result (λ v. AreStartsInEach heap.now cut.now ranges v.items) }
+    ensures memory { IfErr result (λ e. e ≡ Fault.Memory) }
+{
+    (0..ranges)
+        .into_par_iter()
+        .with_min_len(1)
+        .map(
+            |range: usize| -> Result<Vec<u32>, Fault>
+                requires { IsRange heap.now.geometry.n cut.now range }
+                ensures { AreStartsIn heap.entry.now (slice_index cut.entry.now range) (slice_index cut.entry.now (range + 1)) result }
+            { starts_between(alloc, heap, cut[range], cut[range + 1]) },
+        )
+        .collect::<Result<Vec<Vec<u32>>, Fault>>(rt, alloc)?
+}
+
+/// Some lists, one after the other.
+fn joined(alloc: Global, lists: &[Vec<u32>], count: usize) -> Result<Vec<u32>, AllocError>
+    ensures { IfOk result (λ v. v.items ≡ flat_map (λ s. s.items) lists.now) }
+{
+    let mut all = Vec::with_capacity(alloc, count)?;
+    for list in lists {
+        all.extend_from_slice(list)?;
+    }
+    Ok(all)
 }
 
 impl Starts {
@@ -68,12 +152,47 @@ impl Starts {
         ensures ok { IfOk result (λ s. IsStartsOf heap.now s) }
         ensures memory { IfErr result (λ e. e ≡ Fault.Memory) }
     {
-        let geometry = heap.geometry();
-        let mut firsts = Vec::with_capacity(alloc, geometry.cards() as usize)?;
-        for region in 0..geometry.regions() as u32 {
-            mark_region(heap, region, &mut firsts)?;
+        let regions = heap.geometry().regions() as u32;
+        let firsts = starts_between(alloc, heap, 0, regions)?;
+        Ok(Starts { firsts })
+    }
+
+    /// As `build`, with this many workers at most. One if it is 0.
+    ///
+    /// Each has a range of the regions. A range that begins within a humongous run looks back for the
+    /// run's first region, whose object lies over its first cards.
+    ///
+    /// # Errors
+    /// `Fault::Memory` if a growth was refused.
+    pub fn build_by(
+        rt: &(impl Threads + Sync),
+        alloc: Global,
+        heap: &Heap,
+        workers: u64,
+    ) -> Result<Starts, Fault>
+        ensures ok { IfOk result (λ s. IsStartsOf heap.now s) }
+        ensures memory { IfErr result (λ e. e ≡ Fault.Memory) }
+    {
+        match threads_for(workers, heap.words().len(), WORDS_A_THREAD) {
+            1 => Starts::build(alloc, heap),
+            threads => Starts::build_by_threads(rt, alloc, heap, threads),
         }
-        mark(&mut firsts, geometry.card_words(), geometry.words(), 0)?;
+    }
+
+    /// The starts of a heap, by this many threads.
+    fn build_by_threads(
+        rt: &(impl Threads + Sync),
+        alloc: Global,
+        heap: &Heap,
+        threads: usize,
+    ) -> Result<Starts, Fault>
+        requires { 0 < threads }
+        ensures ok { IfOk result (λ s. IsStartsOf heap.now s) }
+        ensures memory { IfErr result (λ e. e ≡ Fault.Memory) }
+    {
+        let cut = cut(alloc, heap, threads)?;
+        let lists = starts_in_each(rt, alloc, heap, &cut, threads)?;
+        let firsts = joined(alloc, &lists, heap.geometry().cards() as usize)?;
         Ok(Starts { firsts })
     }
 

@@ -6,10 +6,18 @@ pub record Team : Type 0 where
   pub workers : ℕ
   pub chunk : ℕ
 
--- so many workers may share some work
-abbrev pub AreWorkers : ℕ → Type 0
-AreWorkers workers = (0 < workers) × (workers ≤ 64)
+-- the most workers that share some work, which is also how many shares a dealer has
+abbrev pub most_workers : ℕ
+most_workers = 64
 
--- a worker may draw so many items at once
+-- the most items that a worker draws at once
+abbrev pub most_chunk : ℕ
+most_chunk = 65536
+
+-- n workers may share some work
+abbrev pub AreWorkers : ℕ → Type 0
+AreWorkers n = (0 < n) × (n ≤ most_workers)
+
+-- a worker may draw n items at once
 abbrev pub IsChunk : ℕ → Type 0
-IsChunk chunk = (0 < chunk) × (chunk ≤ 65536)
+IsChunk n = (0 < n) × (n ≤ most_chunk)

@@ -2,6 +2,7 @@
 use Rattle.std.specs.Prelude.{IfOk, Ok, Err, Result, Contains, All, sum_by, max, reverse, IfErr, slice_index_or, ◌++◌, ◌≡◌, ℕ, ◌+◌, ◌<◌, ◌≤◌, ◌⊎◌, List, [], ◌∷◌, map, length}
 use Rattle.std.specs.List.{flat_map}
 use Rattle.g1_work.specs.Dealer.{DealerView, IsSeatOf}
+use Rattle.g1_work.specs.Team.{most_workers}
 use Rattle.g1_work.specs.Each.{RisesBelow, Ran, chunks_of, IsFaultOf}
 use Rattle.g1_work.specs.declared.worker.Worker.{Worker}
 use Rattle.g1_work.specs.declared.worker.Worked.{Worked}
@@ -64,7 +65,7 @@ module _ {S O : Type 0} where
 -- a worker for each state, in turned order, with fresh seats that hold all shares
 pub record IsHired {S : Type 0} (dealer : DealerView) (states : List S) (ws : List (Worker S)) : Type 0 where
   pub of_states : map (λ w. w.state) ws ≡ reverse states
-  pub shares : sum_by (λ w. w.seat.shares) ws ≡ 64
+  pub shares : sum_by (λ w. w.seat.shares) ws ≡ most_workers
   pub seats : All (λ w. IsSeatOf dealer w.seat × (w.seat.draws ≡ [])) ws
 
 -- each result is that of the worker at the same place

@@ -2,14 +2,16 @@ ghost use Rattle.std.specs.Prelude.{◌≡◌, ℕ, ◌+◌, ◌-◌, ◌^◌, �
 ghost use Rattle.g1_words.specs.declared.fault.Fault.TheVariants.{Memory};
 ghost use Rattle.g1_work.specs.Dealer.{DealerView, dealer_view_coded, SeatView, seat_view_coded, first_seat, IsSeatOf, IsEachBelow, IsOnceBelow};
 ghost use Rattle.g1_work.specs.Rule.{IsKnown};
+ghost use Rattle.g1_work.specs.Team.{most_workers};
 
 use crate::rule::{BothHands, Deal, Draw, Hand, Look, OneShare, See};
+use crate::team::MOST_WORKERS;
 use atomic_table::{Seat, Table};
 use g1_words::Fault;
 use std::alloc::Global;
 use std::marker::Model;
 
-const SHARES: u32 = 64;
+const SHARES: u32 = MOST_WORKERS as u32;
 
 /// A dealer of the numbers below its count of chunks. Threads share it by reference, and each
 /// draws with a seat of its own.
@@ -50,7 +52,7 @@ impl Model for DealSeat {
 
     ghost view = { λ s. record { dealer = s.seat.table_id; chunks = s.seat.me.0.chunks; shares = s.seat.me.0.shares; draws = s.seat.me.0.draws; floor = s.seat.me.0.floor; steps = s.seat.me.0.steps; had_none = s.seat.me.0.had_none } };
 
-    ghost invariant = { λ s. (s.seat.me.1 ≡ []) × (s.seat.me.0.shares ≡ s.shares) × (s.seat.me.0.had_none ≡ s.had_none) × (0 < s.shares) × (s.shares ≤ 64) × (s.seat.me.0.floor ≤ s.seat.me.0.chunks) × (s.had_none ≡ true → s.seat.me.0.floor ≡ s.seat.me.0.chunks) × IsKnown s.seat.me.0 };
+    ghost invariant = { λ s. (s.seat.me.1 ≡ []) × (s.seat.me.0.shares ≡ s.shares) × (s.seat.me.0.had_none ≡ s.had_none) × (0 < s.shares) × (s.shares ≤ most_workers) × (s.seat.me.0.floor ≤ s.seat.me.0.chunks) × (s.had_none ≡ true → s.seat.me.0.floor ≡ s.seat.me.0.chunks) × IsKnown s.seat.me.0 };
 }
 
 impl Dealer {
@@ -88,9 +90,9 @@ impl Dealer {
         ensures no_step { IsTrue seat.old.had_none → seat.new.steps ≡ seat.old.steps }
         ensures stays_none { IsTrue seat.old.had_none → IsNone result }
         ensures once { IsOnceBelow self.now.chunks seat.new.draws }
-        ensures cursor { seat.new.steps ≤ self.now.chunks + 64 }
-        ensures whole { seat.new.shares ≡ 64 → IsEachBelow (min seat.new.steps self.now.chunks) seat.new.draws }
-        ensures all { seat.new.shares ≡ 64 → seat.new.floor ≡ self.now.chunks → IsEachBelow self.now.chunks seat.new.draws }
+        ensures cursor { seat.new.steps ≤ self.now.chunks + most_workers }
+        ensures whole { seat.new.shares ≡ most_workers → IsEachBelow (min seat.new.steps self.now.chunks) seat.new.draws }
+        ensures all { seat.new.shares ≡ most_workers → seat.new.floor ≡ self.now.chunks → IsEachBelow self.now.chunks seat.new.draws }
     {
         if seat.had_none {
             return None;
@@ -110,8 +112,8 @@ impl Dealer {
         ensures known { seat.old.floor ≤ result }
         ensures below { result ≤ self.now.chunks }
         ensures floor { seat.new ≡ record seat.old { floor = result } }
-        ensures count { seat.old.shares ≡ 64 → result ≡ length seat.old.draws }
-        ensures whole { seat.old.shares ≡ 64 → IsEachBelow result seat.old.draws }
+        ensures count { seat.old.shares ≡ most_workers → result ≡ length seat.old.draws }
+        ensures whole { seat.old.shares ≡ most_workers → IsEachBelow result seat.old.draws }
     {
         let found = self.table.shared.load::<See>(&mut seat.seat, 0);
         found.min(self.chunks)
@@ -148,11 +150,11 @@ impl Dealer {
         ensures steps { seat.new.steps ≡ seat.old.steps + other.steps }
         ensures floor { seat.new.floor ≡ max seat.old.floor other.floor }
         ensures had_none { seat.new.had_none ≡ seat.old.had_none || other.had_none }
-        ensures most { seat.new.shares ≤ 64 }
+        ensures most { seat.new.shares ≤ most_workers }
         ensures once { IsOnceBelow self.now.chunks seat.new.draws }
-        ensures cursor { seat.new.steps ≤ self.now.chunks + 64 }
-        ensures whole { seat.new.shares ≡ 64 → IsEachBelow (min seat.new.steps self.now.chunks) seat.new.draws }
-        ensures all { seat.new.shares ≡ 64 → seat.new.floor ≡ self.now.chunks → IsEachBelow self.now.chunks seat.new.draws }
+        ensures cursor { seat.new.steps ≤ self.now.chunks + most_workers }
+        ensures whole { seat.new.shares ≡ most_workers → IsEachBelow (min seat.new.steps self.now.chunks) seat.new.draws }
+        ensures all { seat.new.shares ≡ most_workers → seat.new.floor ≡ self.now.chunks → IsEachBelow self.now.chunks seat.new.draws }
     {
         let DealSeat {
             seat: hand,
@@ -170,9 +172,9 @@ impl Dealer {
     /// Ends the dealing, and gives the cursor: how many steps all seats have made.
     pub fn close(self, seat: DealSeat) -> u64
         requires dealer { IsSeatOf self seat }
-        requires whole { seat.shares ≡ 64 }
+        requires whole { seat.shares ≡ most_workers }
         ensures steps { result ≡ seat.steps }
-        ensures cursor { result ≤ self.chunks + 64 }
+        ensures cursor { result ≤ self.chunks + most_workers }
         ensures known { seat.floor ≤ min result self.chunks }
         ensures draws { IsEachBelow (min result self.chunks) seat.draws }
         ensures count { length seat.draws ≡ min result self.chunks }
@@ -195,7 +197,7 @@ impl Dealer {
 pub fn shares(seat: &DealSeat) -> u32
     ensures shares { result ≡ seat.now.shares }
     ensures some { 0 < result }
-    ensures most { result ≤ 64 }
+    ensures most { result ≤ most_workers }
 {
     seat.shares
 }

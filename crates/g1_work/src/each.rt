@@ -1,6 +1,7 @@
 ghost use Rattle.std.specs.Prelude.{◌≡◌, ◌<◌, ◌≤◌, ◌^◌, [], IfOk, IfErr, vec_len, All, ℕ};
 ghost use Rattle.g1_work.specs.Dealer.{IsSeatOf};
 ghost use Rattle.g1_work.specs.Each.{IsEachRun, IsFaultOf};
+ghost use Rattle.g1_work.specs.Team.{AreWorkers, most_workers};
 ghost use Rattle.g1_work.specs.Worker.{IsFresh, IsDone, IsHired, AreBack};
 
 use crate::dealer::{DealSeat, Dealer};
@@ -48,8 +49,8 @@ fn hire<S: Drop>(
     mut seat: DealSeat,
     mut states: Vec<S>,
 ) -> Result<Vec<Worker<S>>, AllocError>
-    requires count { (0 < vec_len states) × (vec_len states ≤ 64) }
-    requires seat { IsSeatOf dealer.now seat × (seat.shares ≡ 64) × (seat.draws ≡ []) }
+    requires count { AreWorkers (vec_len states) }
+    requires seat { IsSeatOf dealer.now seat × (seat.shares ≡ most_workers) × (seat.draws ≡ []) }
     ensures { IfOk result (λ v. IsHired dealer.now states.items v.items) }
 {
     let mut workers = Vec::new(alloc);
@@ -151,7 +152,7 @@ pub fn each_chunk<R: Threads + Sync, T: Task + Sync, G: Gate + Sync>(
     gate: &G,
 ) -> Result<(Vec<T::State>, Vec<T::Out>), Fault>
     requires chunks { chunks < 2 ^ 32 }
-    requires workers { (0 < vec_len states) × (vec_len states ≤ 64) }
+    requires workers { AreWorkers (vec_len states) }
     requires ready { All (λ s. (chunk : ℕ) → chunk < chunks → T.ready task.now s chunk) states.items }
     ensures ok { IfOk result (λ r. IsEachRun (T.runs task.now) chunks states.items r.0.items r.1.items) }
     ensures err { IfErr result (IsFaultOf (T.may_fail task.now) chunks) }

@@ -1,6 +1,7 @@
 ghost use Rattle.std.specs.Prelude.{◌≡◌, ℕ, ◌+◌, ◌*◌, ◌/◌, ◌%◌, ◌^◌, ◌<◌, ◌≤◌, List, length};
 ghost use Rattle.std.specs.Thread.{IsSync};
 ghost use Rattle.g1_work.specs.Regions.{EverySlice, EveryChange, IsCut, IsFilled};
+ghost use Rattle.g1_work.specs.Team.{AreWorkers};
 
 use crate::fill::Fill;
 use crate::gate::{Gate, Part};
@@ -20,7 +21,7 @@ pub fn each_region_mut<R: Threads + Sync, F: Fill + Sync, G: Gate + Sync>(
     fill: &F,
     gate: &G,
 )
-    requires workers { (0 < workers) × (workers ≤ 64) }
+    requires workers { AreWorkers workers }
     requires width { 0 < width }
     requires whole { length words.old % width ≡ 0 }
     requires ready { EverySlice (F.ready fill.now) width words.old }

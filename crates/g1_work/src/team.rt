@@ -48,8 +48,8 @@ impl Copy for Team {}
 impl Team {
     /// A team of this many workers that draw this many items at once.
     pub fn new(workers: u64, chunk: u64) -> Team
-        requires workers { (0 < workers) × (workers ≤ 64) }
-        requires chunk { (0 < chunk) × (chunk ≤ 65536) }
+        requires workers { AreWorkers workers }
+        requires chunk { IsChunk chunk }
         ensures workers { result.workers ≡ workers }
         ensures chunk { result.chunk ≡ chunk }
     {
@@ -59,7 +59,7 @@ impl Team {
     /// How many workers share the work.
     pub fn workers(&self) -> u64
         ensures value { result ≡ self.now.workers }
-        ensures range { (0 < result) × (result ≤ 64) }
+        ensures range { AreWorkers result }
     {
         self.workers
     }
@@ -67,7 +67,7 @@ impl Team {
     /// How many items a worker draws at once.
     pub fn chunk(&self) -> u64
         ensures value { result ≡ self.now.chunk }
-        ensures range { (0 < result) × (result ≤ 65536) }
+        ensures range { IsChunk result }
     {
         self.chunk
     }

@@ -1,6 +1,6 @@
 use Rattle.std.proofs.Common.{◌≡◌, ap, ◌∙◌}
 use Rattle.std.specs.Prelude.{Some}
-use Rattle.g1_rem.proofs.cover.verify.Goals as goal
+use Rattle.g1_rem.proofs.cover.verify_by.Goals as goal
 
 pub returns-in-Ok-Some-clause-lowest : goal.returns-in-Ok-Some-clause-lowest
 returns-in-Ok-Some-clause-lowest g c = λ p q e k.
