@@ -37,7 +37,7 @@ map_map f g [] = refl
 map_map f g (x ∷ xs) = ap (λ l. f (g x) ∷ l) (map_map f g xs)
 
 module _ (place : ℕ → ℕ) (inside : ℕ → Bool) (apart : (a b : ℕ) → inside a ≡ true → inside b ≡ true → place b ≡ place a → b ≡ a) where
-  same_test : (a b : ℕ) → inside a ≡ true → inside b ≡ true → eqb (place a) (place b) ≡ eqb a b
+  pub same_test : (a b : ℕ) → inside a ≡ true → inside b ≡ true → eqb (place a) (place b) ≡ eqb a b
   same_test a b s t = at (eqb a b) refl
     where
       at : (c : Bool) → eqb a b ≡ c → eqb (place a) (place b) ≡ c

@@ -17,3 +17,4 @@ pub mod Ranks
 pub mod Finding
 pub mod Searching
 pub mod Leading
+pub mod Queues

@@ -71,7 +71,7 @@ high_there p m (i ∷ is) lt h = let r = high_there p m is lt h.1 in let l = h.0
     at true r l = omega arith
     at false r l = omega arith
 
-has_snoc : (xs : List ℕ) (p y : ℕ) → has (xs ++ p ∷ []) y ≡ (has xs y || eqb y p)
+pub has_snoc : (xs : List ℕ) (p y : ℕ) → has (xs ++ p ∷ []) y ≡ (has xs y || eqb y p)
 has_snoc [] p y = at (eqb y p)
   where
     at : (b : Bool) → (b || false) ≡ (false || b)

@@ -6,7 +6,7 @@ use Rattle.std.proofs.lemmas.List.Kept.{AllPairs-from_increasing}
 use Rattle.std.specs.List.Sorted.{IsStrictlyIncreasing}
 use Rattle.g1_words.specs.Lists.{has}
 use Rattle.g1_words.proofs.Members.{In, has_from_in, in_from_has}
-use Rattle.g1_frontier.specs.Window.{ArePositions, position}
+use Rattle.g1_frontier.specs.Window.{AreWindowPositions, position}
 use Rattle.g1_frontier.proofs.Places.{stands}
 use Rattle.g1_frontier.proofs.Scopes.{In-get}
 
@@ -41,7 +41,7 @@ Noted-step window n r positions rising lt e inside k = record {
   other = λ q h. get_or-set_other positions r q (n + 1) 0 (λ same. h n (omega arith) (sym e ∙ sym same)) ∙ k.other q (λ p below. h p (omega (arith, below)));
 }
 
-pub Noted-end : (window : List ℕ) (n : ℕ) (positions : List ℕ) → n ≡ length window → Noted window n positions → ArePositions window positions
+pub Noted-end : (window : List ℕ) (n : ℕ) (positions : List ℕ) → n ≡ length window → Noted window n positions → AreWindowPositions window positions
 Noted-end window n positions e k r = at (has window r) refl
   where
     at : (b : Bool) → has window r ≡ b → get_or positions r 0 ≡ cond (has window r) (position window r + 1) 0
@@ -57,14 +57,14 @@ Noted-end window n positions e k r = at (has window r) refl
 
 -- ---- what the table tells
 
-pub none_noted : (window positions : List ℕ) (r v : ℕ) → ArePositions window positions → v ≡ get_or positions r 0 → v ≡ 0 → has window r ≡ false
+pub none_noted : (window positions : List ℕ) (r v : ℕ) → AreWindowPositions window positions → v ≡ get_or positions r 0 → v ≡ 0 → has window r ≡ false
 none_noted window positions r v k is z = at (has window r) refl
   where
     at : (b : Bool) → has window r ≡ b → has window r ≡ false
     at false f = f
     at true t = let e : v ≡ position window r + 1 = is ∙ k r ∙ ap (λ b. cond b (position window r + 1) 0) t in absurd (omega (arith, e, z))
 
-pub some_noted : (window positions : List ℕ) (r v : ℕ) → ArePositions window positions → v ≡ get_or positions r 0 → v ≢ 0 → (has window r ≡ true) × (v ≡ position window r + 1)
+pub some_noted : (window positions : List ℕ) (r v : ℕ) → AreWindowPositions window positions → v ≡ get_or positions r 0 → v ≢ 0 → (has window r ≡ true) × (v ≡ position window r + 1)
 some_noted window positions r v k is some = at (has window r) refl
   where
     at : (b : Bool) → has window r ≡ b → (has window r ≡ true) × (v ≡ position window r + 1)

@@ -68,6 +68,11 @@ differ : (all_of : List ℕ) → Distinct all_of → Ordered (λ x y. x ≢ y) a
 differ [] d = tt
 differ (a ∷ all_of) d = ((λ y i e. d.0 (subst (In all_of) (sym e) i)), differ all_of d.1)
 
+-- different numbers below a bound are no more than it
+pub distinct_few : (all_of : List ℕ) (bound : ℕ) → Distinct all_of → ((a : ℕ) → In all_of a → a < bound) → length all_of ≤ bound
+distinct_few all_of bound d low =
+    length-le_from_distinct_below all_of bound (IsDistinct-from_AllPairs Decides-eqb all_of (pairs_from_ordered (λ x y. x ≢ y) all_of (differ all_of d))) (λ q e. low q (in_from_has all_of q e))
+
 either : {A : Type 0} (R : A → A → Type 0) (xs : List A) (x y : A) → Ordered R xs → In xs x → In xs y → (x ≡ y) ⊎ (R x y ⊎ R y x)
 either R [] x y o i j = absurd i
 either R (z ∷ zs) x y o (inl e) (inl f) = inl (sym e ∙ f)
@@ -122,9 +127,7 @@ module _ (h : Heap) (valid : IsValid h) where
         let t = total_is all_of in omega (arith, few, t)
 
     pub object_total : length all_of ≤ length h.words
-    object_total =
-        length-le_from_distinct_below all_of (length h.words) (IsDistinct-from_AllPairs Decides-eqb all_of (pairs_from_ordered (λ x y. x ≢ y) all_of (differ all_of distinct)))
-        (λ q e. (object_in_words h valid q (are q (in_from_has all_of q e))).0)
+    object_total = distinct_few all_of (length h.words) distinct (λ q i. (object_in_words h valid q (are q i)).0)
 
   -- the window's words are no more than the heap's
   pub window_few : (window : List ℕ) → AreRegions h window → length window * h.geometry.w ≤ 2 ^ 24

@@ -20,6 +20,11 @@ pub take_front : (xs ys : List ℕ) → take (length xs) (xs ++ ys) ≡ xs
 take_front [] ys = refl
 take_front (x ∷ xs) ys = ap (λ l. x ∷ l) (take_front xs ys)
 
+pub take_longer : (n : ℕ) (xs ys : List ℕ) → n ≤ length xs → take n (xs ++ ys) ≡ take n xs
+take_longer zero xs ys le = refl
+take_longer (suc n) [] ys le = absurd (omega (arith, le))
+take_longer (suc n) (x ∷ xs) ys le = ap (λ l. x ∷ l) (take_longer n xs ys (omega (arith, le)))
+
 pub take_drop : (n : ℕ) (ys : List ℕ) → take n ys ++ drop n ys ≡ ys
 take_drop zero ys = refl
 take_drop (suc n) [] = refl

@@ -4,4 +4,5 @@ pub mod Scope
 pub mod Offering
 pub mod Round
 pub mod Search
+pub mod Queue
 pub mod Laws

@@ -1,7 +1,7 @@
 -- What a worker's offers leave in its seat, and what it keeps.
 use Rattle.std.specs.Prelude.{◌≡◌, ℕ, ◌<◌, ◌≤◌, ◌*◌, Bool, true, List, [], ◌∷◌, ◌++◌, map, filter, length}
 use Rattle.g1_claim.specs.declared.rule.Offer.{Offer}
-use Rattle.g1_claim.specs.Claims.{TableView, offer, least_rank}
+use Rattle.g1_claim.specs.Claims.{all_shares, TableView, offer, least_rank}
 use Rattle.g1_frontier.specs.declared.offering.Holder.{Holder}
 use Rattle.g1_frontier.specs.declared.scope.Scope.{Scope}
 use Rattle.g1_frontier.specs.Scope.{IsScope}
@@ -35,7 +35,7 @@ pub record HasTried (place : ℕ → ℕ) (ps : List (ℕ × ℕ)) (before after
   pub kept : after.kept.items ≡ before.kept.items ++ map pair_of (filter answered_true made)
   pub table : after.seat.table ≡ before.seat.table
   pub shares : after.seat.hand.shares ≡ before.seat.hand.shares
-  pub lowers : before.seat.hand.shares ≡ 64 → Lowers place before.seat.hand.offers made
+  pub lowers : before.seat.hand.shares ≡ all_shares → Lowers place before.seat.hand.offers made
 
 -- the table has a place for each word of the window
 pub record HasPlaces (s : Scope) (t : TableView) : Type 0 where

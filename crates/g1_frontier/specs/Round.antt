@@ -2,7 +2,7 @@
 use Rattle.std.specs.Prelude.{◌≡◌, ℕ, ◌+◌, ◌<◌, ◌≤◌, Bool, eqb, List, [], ◌∷◌, ◌++◌, map, filter, flat_map, length, sum_by, IsPermutation}
 use Rattle.std.specs.List.{All, AllPairs}
 use Rattle.g1_claim.specs.declared.rule.Offer.{Offer}
-use Rattle.g1_claim.specs.Claims.{TableView, SeatView, IsSeatOf, IsSettled, least_rank}
+use Rattle.g1_claim.specs.Claims.{all_shares, TableView, SeatView, IsSeatOf, IsSettled, least_rank}
 use Rattle.g1_frontier.specs.declared.offering.Holder.{Holder}
 use Rattle.g1_frontier.specs.Offering.{Try, pair_of, answered_true, offer_of}
 
@@ -49,7 +49,7 @@ pub record IsGivenOut (t : TableView) (before : SeatView) (count : ℕ) (holders
   pub count_is : length holders ≡ count
   pub fresh : All (IsFreshHolder t) others
   pub seat : IsSeatOf t last.seat
-  pub shares : length others + last.seat.hand.shares ≡ 64
+  pub shares : length others + last.seat.hand.shares ≡ all_shares
   pub offers : last.seat.hand.offers ≡ before.hand.offers
   pub none_kept : last.kept.items ≡ []
 
@@ -62,7 +62,7 @@ pub record HasTaken (t : TableView) (holders : List Holder) (after : SeatView) (
   pub shares : after.hand.shares ≡ last.seat.hand.shares + sum_by (λ h. h.seat.hand.shares) others
   pub offers : after.hand.offers ≡ last.seat.hand.offers ++ flat_map (λ h. h.seat.hand.offers) others
   pub kept : lists ≡ last.kept.items ∷ map (λ h. h.kept.items) others
-  pub settled : after.hand.shares ≡ 64 → IsSettled after.hand.offers
+  pub settled : after.hand.shares ≡ all_shares → IsSettled after.hand.offers
 
 -- the pairs were offered, each once, by whatever workers; each of these kept those whose offer answered true, by rising rank
 pub record HasOffered (t : TableView) (place : ℕ → ℕ) (ps : List (ℕ × ℕ)) (before after : SeatView) (lists : List (List (ℕ × ℕ))) : Type 0 where
@@ -72,7 +72,7 @@ pub record HasOffered (t : TableView) (place : ℕ → ℕ) (ps : List (ℕ × �
   pub kept : flat_map (λ l. l) lists ≡ map pair_of (filter answered_true made)
   pub rise : All Rises lists
   pub seat : IsSeatOf t after
-  pub whole : after.hand.shares ≡ 64
+  pub whole : after.hand.shares ≡ all_shares
   pub settled : IsSettled after.hand.offers
 
 -- no rank is above a later one

@@ -3,7 +3,7 @@ use Rattle.std.specs.Prelude.{◌≡◌, ℕ, List, Bool, length}
 use Rattle.g1_words.specs.Valid.{IsValid}
 use Rattle.g1_words.specs.Survivors.{in_set}
 use Rattle.g1_rem.specs.Starts.{IsStartsOf}
-use Rattle.g1_frontier.specs.Window.{AreRegions, ArePositions, place}
+use Rattle.g1_frontier.specs.Window.{AreRegions, AreWindowPositions, place}
 use Rattle.g1_frontier.specs.Items.{aims, pairs, all_pairs}
 use Rattle.g1_frontier.specs.declared.item.Item.{Item}
 use Rattle.g1_frontier.specs.declared.scope.Scope.{Scope}
@@ -13,7 +13,7 @@ pub record IsScope (s : Scope) : Type 0 where
   pub valid : IsValid s.heap.now
   pub starts : IsStartsOf s.heap.now s.starts.now
   pub regions : AreRegions s.heap.now s.window.now
-  pub positions : ArePositions s.window.now s.positions.now
+  pub positions : AreWindowPositions s.window.now s.positions.now
   pub count : length s.positions.now ≡ s.heap.now.geometry.n
 
 -- whether an address lies in the window

@@ -6,7 +6,7 @@ use Rattle.g1_words.specs.Lists.{has}
 use Rattle.g1_words.specs.Live.{Reached}
 use Rattle.g1_words.specs.Survivors.{in_set, seeds, children, firsts}
 use Rattle.g1_claim.specs.declared.rule.Offer.{Offer}
-use Rattle.g1_claim.specs.Claims.{IsSeatOf}
+use Rattle.g1_claim.specs.Claims.{all_shares, IsSeatOf}
 use Rattle.g1_frontier.specs.Window.{place}
 use Rattle.g1_frontier.specs.Items.{slot_count}
 use Rattle.g1_frontier.specs.declared.survivors.Search.{Search}
@@ -18,7 +18,7 @@ places_of os = map (λ o. o.place) os
 -- between two rounds: the table has the window's words, and the seat all shares; the places that were offered are those of what was found, by ranks below the next one; what is found stands in order up to what was searched, and is reached
 pub record IsSearching (h : Heap) (window : List ℕ) (s : Search) : Type 0 where
   pub seat : IsSeatOf s.claims s.seat
-  pub whole : s.seat.hand.shares ≡ 64
+  pub whole : s.seat.hand.shares ≡ all_shares
   pub places : s.claims.places ≡ length window * h.geometry.w
   pub claimed : (a : ℕ) → in_set h window a ≡ true → has (places_of s.seat.hand.offers) (place h window a) ≡ has s.found.items a
   pub ranks : All (λ o. o.rank < s.next) s.seat.hand.offers

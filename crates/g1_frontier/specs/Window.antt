@@ -35,8 +35,8 @@ position [] r = 0
 position (x ∷ xs) r = cond (eqb x r) 0 (position xs r + 1)
 
 -- by region number, one more than where the region stands in the window, or 0
-abbrev pub ArePositions : List ℕ → List ℕ → Type 0
-ArePositions window positions = (r : ℕ) → slice_index_or positions r 0 ≡ cond (has window r) (position window r + 1) 0
+abbrev pub AreWindowPositions : List ℕ → List ℕ → Type 0
+AreWindowPositions window positions = (r : ℕ) → slice_index_or positions r 0 ≡ cond (has window r) (position window r + 1) 0
 
 -- where an address stands among the words of the window, region by region
 abbrev pub place : Heap → List ℕ → ℕ → ℕ

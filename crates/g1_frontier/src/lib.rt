@@ -27,6 +27,7 @@
 mod item;
 pub mod laws;
 mod offering;
+mod queue;
 mod round;
 mod scope;
 mod survivors;

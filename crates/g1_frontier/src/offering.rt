@@ -13,7 +13,7 @@ use crate::item::Item;
 use crate::scope::Scope;
 use g1_claim::{ClaimSeat, Claims};
 use g1_rem::slots_on;
-use g1_words::{Fault, REFS_RANGE};
+use g1_words::Fault;
 use g1_work::Task;
 use std::alloc::{AllocError, Global};
 
@@ -118,7 +118,7 @@ impl<'a> Offers<'a> {
     {
         let words = self.scope.heap.words();
         let first = at + 1;
-        let refs = words[at as usize] % REFS_RANGE;
+        let refs = self.scope.heap.object(at).refs;
         for slot in first..first + refs {
             self.offer_named(holder, words[slot as usize], base, slot - first)?;
         }
@@ -180,12 +180,13 @@ impl<'a> Task for Round<'a> {
     ghost use Rattle.std.specs.Prelude.{◌≡◌, ◌<◌, ◌≤◌, ◌*◌, ◌^◌, length};
     ghost use Rattle.std.specs.List.{All};
     ghost use Rattle.g1_words.specs.declared.fault.Fault.TheVariants.{Memory};
+    ghost use Rattle.g1_work.specs.Team.{most_chunk};
     ghost use Rattle.g1_claim.specs.Claims.{IsSeatOf};
     ghost use Rattle.g1_frontier.specs.Items.{IsItem, AreRanks, piece};
     ghost use Rattle.g1_frontier.specs.Scope.{place_in, all_pairs_in};
     ghost use Rattle.g1_frontier.specs.Offering.{HasTried, HasPlaces};
 
-    ghost ready = { λ s h k. HasPlaces s.offers.scope.now s.offers.claims.now × IsSeatOf s.offers.claims.now h.seat × All (IsItem s.offers.scope.now.heap.now) s.items.now × AreRanks (all_pairs_in s.offers.scope.now s.items.now) × (0 < s.chunk) × (k * s.chunk < length s.items.now) × (k < 2 ^ 32) × (s.chunk ≤ 65536) };
+    ghost ready = { λ s h k. HasPlaces s.offers.scope.now s.offers.claims.now × IsSeatOf s.offers.claims.now h.seat × All (IsItem s.offers.scope.now.heap.now) s.items.now × AreRanks (all_pairs_in s.offers.scope.now s.items.now) × (0 < s.chunk) × (k * s.chunk < length s.items.now) × (k < 2 ^ 32) × (s.chunk ≤ most_chunk) };
 
     ghost runs = { λ s h k t _. HasTried (place_in s.offers.scope.now) (all_pairs_in s.offers.scope.now (piece s.chunk k s.items.now)) h t };
 

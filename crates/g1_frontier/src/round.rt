@@ -1,8 +1,9 @@
 ghost use Rattle.std.specs.Prelude.{◌≡◌, ◌<◌, ◌≤◌, ◌^◌, ◌*◌, ◌++◌, ◌∷◌, [], ℕ, List, IfOk, IfErr, length, vec_len, map, flat_map, sum_by, OnOk, ◌+◌, IsPermutation, true};
 ghost use Rattle.std.specs.List.{All};
 ghost use Rattle.g1_words.specs.declared.fault.Fault.TheVariants.{Memory};
+ghost use Rattle.g1_work.specs.Team.{AreWorkers, IsChunk};
 ghost use Rattle.g1_rem.specs.Starts.{IsStartsOf};
-ghost use Rattle.g1_claim.specs.Claims.{IsSeatOf, IsSettled};
+ghost use Rattle.g1_claim.specs.Claims.{all_shares, IsSeatOf, IsSettled};
 ghost use Rattle.g1_frontier.specs.Window.{AreRegions, place};
 ghost use Rattle.g1_frontier.specs.Items.{IsItem, IsOutside, all_pairs, AreRanks};
 ghost use Rattle.g1_frontier.specs.Scope.{IsScope, inside, place_in, all_pairs_in};
@@ -12,7 +13,7 @@ ghost use Rattle.g1_frontier.specs.Round.{Rises, AreAbove, AddsOffers, winners, 
 use crate::item::Item;
 use crate::offering::{Holder, Offers, Round, keep_if};
 use crate::scope::{Scope, positions};
-use g1_claim::{ClaimSeat, Claims, shares};
+use g1_claim::{ClaimSeat, Claims};
 use g1_rem::Starts;
 use g1_words::{Fault, Heap};
 use g1_work::{Gate, Team, each_chunk};
@@ -28,8 +29,8 @@ fn give_out(
     mut seat: ClaimSeat,
     count: usize,
 ) -> Result<Vec<Holder>, AllocError>
-    requires count { (0 < count) × (count ≤ 64) }
-    requires seat { IsSeatOf claims.now seat × (seat.hand.shares ≡ 64) }
+    requires count { AreWorkers count }
+    requires seat { IsSeatOf claims.now seat × (seat.hand.shares ≡ all_shares) }
     ensures { IfOk result (λ v. IsGivenOut claims.now seat count v.items) }
 {
     let mut holders = Vec::with_capacity(alloc, count)?;
@@ -86,8 +87,8 @@ fn take_in(
     let mut lists = Vec::new(alloc);
     lists.push(kept)?;
     join_all(claims, &mut seat, &mut lists, holders)?;
-    // Tells what a seat of all shares knows, also where no other was joined.
-    shares(&seat);
+    // Needed if no other seat was joined.
+    g1_claim::laws::settled(&seat);
     Ok((seat, lists))
 }
 
@@ -101,7 +102,7 @@ fn offer_alone(
     items: &[Item],
 ) -> Result<(ClaimSeat, Vec<(u64, u64)>), AllocError>
     requires places { HasPlaces scope.now claims.now }
-    requires seat { IsSeatOf claims.now seat × (seat.hand.shares ≡ 64) }
+    requires seat { IsSeatOf claims.now seat × (seat.hand.shares ≡ all_shares) }
     requires items { All (IsItem scope.now.heap.now) items.now }
     requires ranks { AreRanks (all_pairs_in scope.now items.now) }
     requires rise { Rises (all_pairs_in scope.now items.now) }
@@ -115,8 +116,7 @@ fn offer_alone(
     };
     Offers { scope, claims }.offer_items(alloc, &mut holder, items)?;
     let Holder { seat, kept } = holder;
-    // Tells what a seat of all shares knows.
-    shares(&seat);
+    g1_claim::laws::settled(&seat);
     Ok((seat, kept))
 }
 
@@ -132,7 +132,7 @@ fn offer_all<R: Threads + Sync, G: Gate + Sync>(
     gate: &G,
 ) -> Result<(ClaimSeat, Vec<Vec<(u64, u64)>>), Fault>
     requires places { HasPlaces scope.now claims.now }
-    requires seat { IsSeatOf claims.now seat × (seat.hand.shares ≡ 64) }
+    requires seat { IsSeatOf claims.now seat × (seat.hand.shares ≡ all_shares) }
     requires items { All (IsItem scope.now.heap.now) items.now }
     requires ranks { AreRanks (all_pairs_in scope.now items.now) }
     requires rise { Rises (all_pairs_in scope.now items.now) }
@@ -154,8 +154,8 @@ fn offer_all<R: Threads + Sync, G: Gate + Sync>(
     Ok(take_in(alloc, claims, holders)?)
 }
 
-// Lists that rise by rank, merged.
-fn merged(alloc: Global, lists: Vec<Vec<(u64, u64)>>) -> Result<Vec<(u64, u64)>, AllocError>
+// Merges lists that rise by rank.
+fn merge(alloc: Global, lists: Vec<Vec<(u64, u64)>>) -> Result<Vec<(u64, u64)>, AllocError>
     requires rise { All (λ l. Rises l.items) lists.items }
     ensures same { IfOk result (λ v. IsPermutation (flat_map (λ l. l.items) lists.items) v.items) }
     ensures in_order { IfOk result (λ v. IsByRank v.items) }
@@ -174,9 +174,9 @@ fn still_there(
     pairs: &[(u64, u64)],
 ) -> Result<Vec<(u64, u64)>, AllocError>
     requires places { HasPlaces scope.now claims.now }
-    requires seat { IsSeatOf claims.now seat.old × (seat.old.hand.shares ≡ 64) }
+    requires seat { IsSeatOf claims.now seat.old × (seat.old.hand.shares ≡ all_shares) }
     requires inside { All (λ q. inside scope.now q.1 ≡ true) pairs.now }
-    ensures seat { IsSeatOf claims.now seat.new × (seat.new.hand.shares ≡ 64) × (seat.new.hand.offers ≡ seat.old.hand.offers) }
+    ensures seat { IsSeatOf claims.now seat.new × (seat.new.hand.shares ≡ all_shares) × (seat.new.hand.offers ≡ seat.old.hand.offers) }
     ensures won { IfOk result (λ v. v.items ≡ winners (place_in scope.now) seat.old.hand.offers pairs.now) }
 {
     let mut kept = Vec::new(alloc);
@@ -205,13 +205,13 @@ pub(crate) fn round_in<R: Threads + Sync, G: Gate + Sync>(
     requires items { All (IsItem scope.now.heap.now) items.now }
     requires few { length items.now < 2 ^ 32 }
     requires table { IsSeatOf claims.now seat }
-    requires whole { seat.hand.shares ≡ 64 }
+    requires whole { seat.hand.shares ≡ all_shares }
     requires places { length scope.now.window.now * scope.now.heap.now.geometry.w ≤ claims.now.places }
     requires rise { Rises (all_pairs_in scope.now items.now) }
     requires ranks { AreRanks (all_pairs_in scope.now items.now) }
     requires above { AreAbove seat.hand.offers (all_pairs_in scope.now items.now) }
     ensures table { IfOk result (λ r. IsSeatOf claims.now r.0) }
-    ensures whole { IfOk result (λ r. r.0.hand.shares ≡ 64) }
+    ensures whole { IfOk result (λ r. r.0.hand.shares ≡ all_shares) }
     ensures offers { IfOk result (λ r. AddsOffers (place_in scope.now) (all_pairs_in scope.now items.now) seat.hand.offers r.0.hand.offers) }
     ensures won { IfOk result (λ r. r.1.items ≡ winners (place_in scope.now) r.0.hand.offers (all_pairs_in scope.now items.now)) }
     ensures settled { IfOk result (λ r. IsSettled r.0.hand.offers) }
@@ -222,7 +222,7 @@ pub(crate) fn round_in<R: Threads + Sync, G: Gate + Sync>(
         return Ok(offer_alone(alloc, scope, claims, seat, items)?);
     }
     let (mut seat, lists) = offer_all(rt, alloc, scope, claims, seat, items, team, gate)?;
-    let kept = merged(alloc, lists)?;
+    let kept = merge(alloc, lists)?;
     let won = still_there(alloc, scope, claims, &mut seat, kept.as_slice())?;
     Ok((seat, won))
 }
@@ -258,16 +258,16 @@ pub fn claim_round<R: Threads + Sync, G: Gate + Sync>(
     requires outside { All (IsOutside heap.now window.now) items.now }
     requires few { length items.now < 2 ^ 32 }
     requires table { IsSeatOf claims seat }
-    requires whole { seat.hand.shares ≡ 64 }
+    requires whole { seat.hand.shares ≡ all_shares }
     requires places { length window.now * heap.now.geometry.w ≤ claims.places }
     requires rise { Rises (all_pairs heap.now window.now items.now) }
     requires ranks { AreRanks (all_pairs heap.now window.now items.now) }
     requires above { AreAbove seat.hand.offers (all_pairs heap.now window.now items.now) }
-    requires workers { (0 < workers) × (workers ≤ 64) }
-    requires chunk { (0 < chunk) × (chunk ≤ 65536) }
+    requires workers { AreWorkers workers }
+    requires chunk { IsChunk chunk }
     ensures claims { IfOk result (λ r. r.0 ≡ claims) }
     ensures table { IfOk result (λ r. IsSeatOf claims r.1) }
-    ensures whole { IfOk result (λ r. r.1.hand.shares ≡ 64) }
+    ensures whole { IfOk result (λ r. r.1.hand.shares ≡ all_shares) }
     ensures offers { IfOk result (λ r. AddsOffers (place heap.now window.now) (all_pairs heap.now window.now items.now) seat.hand.offers r.1.hand.offers) }
     ensures won { IfOk result (λ r. r.2.items ≡ winners (place heap.now window.now) r.1.hand.offers (all_pairs heap.now window.now items.now)) }
     ensures settled { IfOk result (λ r. IsSettled r.1.hand.offers) }

@@ -1,5 +1,6 @@
 ghost use Rattle.std.specs.Prelude.{◌≡◌, ◌≤◌, vec_len, IfOk};
-ghost use Rattle.g1_frontier.specs.Window.{AreRising, ArePositions};
+ghost use Rattle.g1_words.specs.Geometry.{most_regions};
+ghost use Rattle.g1_frontier.specs.Window.{AreRising, AreWindowPositions};
 
 use g1_rem::Starts;
 use g1_words::{Heap, region_of};
@@ -21,8 +22,8 @@ pub struct Scope<'a> {
 /// `AllocError`.
 pub(crate) fn positions(alloc: Global, regions: u64, window: &[u32]) -> Result<Vec<u32>, AllocError>
     requires regions { AreRising regions window.now }
-    requires few { regions ≤ 4096 }
-    ensures positions { IfOk result (λ v. ArePositions window.now v.items) }
+    requires few { regions ≤ most_regions }
+    ensures positions { IfOk result (λ v. AreWindowPositions window.now v.items) }
     ensures count { IfOk result (λ v. vec_len v ≡ regions) }
 {
     let mut positions = vec![in alloc; 0u32; regions as usize]?;
@@ -61,7 +62,7 @@ impl<'a> Scope<'a> {
         }
         let width = geometry.region_words();
         // This is asked for each reference, so it divides nothing.
-        let offset = address - region * width;
+        let offset = address - geometry.start(region as u32);
         Some(u64::from(position - 1) * width + offset)
     }
 }

@@ -3,6 +3,7 @@ ghost use Rattle.std.specs.List.{All};
 ghost use Rattle.g1_words.specs.declared.fault.Fault.TheVariants.{Memory};
 ghost use Rattle.g1_words.specs.Heap.{objects, object_at};
 ghost use Rattle.g1_words.specs.Survivors.{Survivors};
+ghost use Rattle.g1_work.specs.Team.{AreWorkers, IsChunk};
 ghost use Rattle.g1_rem.specs.Starts.{IsStartsOf};
 ghost use Rattle.g1_frontier.specs.Window.{AreRegions, AreCards, AreOutside, LeadIn};
 ghost use Rattle.g1_frontier.specs.Items.{first_items, object_items, slot_count};
@@ -10,11 +11,12 @@ ghost use Rattle.g1_frontier.specs.Scope.{IsScope};
 ghost use Rattle.g1_frontier.specs.Search.{IsSearching};
 
 use crate::item::Item;
+use crate::queue::Traversal;
 use crate::round::round_in;
 use crate::scope::{Scope, positions};
 use g1_claim::{ClaimSeat, Claims};
 use g1_rem::Starts;
-use g1_words::{Fault, Heap, REFS_RANGE};
+use g1_words::{Fault, Heap};
 use g1_work::{Gate, Team};
 use std::alloc::{AllocError, Global};
 use std::thread::Threads;
@@ -37,8 +39,8 @@ const ITEMS_A_WORKER: usize = 2048;
 
 const ROUNDS_OF_TWO: u64 = 16;
 
-// Those of the team that a round of so many items hires.
-fn hired(team: Team, items: usize, round: u64) -> Team {
+// Hires from the team for a round of this many items.
+fn hire(team: Team, items: usize, round: u64) -> Team {
     let fed = (items / ITEMS_A_WORKER) as u64;
     let fewest = if round < ROUNDS_OF_TWO { 2 } else { 1 };
     Team::new(team.workers().min(fed.max(fewest)), team.chunk())
@@ -73,9 +75,6 @@ fn object_items(
     ensures items { IfOk result (λ r. r.0.items ≡ object_items heap.now base addresses.now) }
     ensures next { IfOk result (λ r. r.1 ≡ base + sum_by (slot_count heap.now) addresses.now) }
 {
-    // Tells that the heap is valid.
-    heap.geometry();
-    let words = heap.words();
     let mut next = base;
     let mut items = Vec::with_capacity(alloc, addresses.len())?;
     for at in addresses {
@@ -83,7 +82,7 @@ fn object_items(
             at: *at,
             base: next,
         })?;
-        next += words[*at as usize] % REFS_RANGE;
+        next += heap.object(*at).refs;
     }
     Ok((items, next))
 }
@@ -118,7 +117,7 @@ pub(crate) fn first_round<R: Threads + Sync, G: Gate + Sync>(
     let (claims, seat) = Claims::new(alloc, scope.places())?;
     let first = first_items(alloc, roots, cards)?;
     let items = first.as_slice();
-    let hired = hired(team, items.len(), 0);
+    let hired = hire(team, items.len(), 0);
     let (seat, won) = round_in(rt, alloc, scope, &claims, seat, items, hired, gate)?;
     let mut found = Vec::new(alloc);
     push_addresses(&mut found, won.as_slice())?;
@@ -167,6 +166,25 @@ pub(crate) fn next_round<R: Threads + Sync, G: Gate + Sync>(
     })
 }
 
+// The search of one worker. It has no rounds.
+fn search_alone(alloc: Global, scope: &Scope, cards: &[u32]) -> Result<Vec<u64>, Fault>
+    requires scope { IsScope scope.now }
+    requires cards { AreCards scope.now.heap.now cards.now }
+    requires outside { AreOutside scope.now.heap.now scope.now.window.now cards.now }
+    requires lead_in { LeadIn scope.now.heap.now scope.now.window.now cards.now }
+    ensures ok { IfOk result (λ v. Survivors scope.now.heap.now scope.now.window.now v.items) }
+    ensures only { IfOk result (λ v. (l : List ℕ) → Survivors scope.now.heap.now scope.now.window.now l → l ≡ v.items) }
+    ensures memory { IfErr result (λ e. e ≡ Memory) }
+{
+    let (claims, seat) = Claims::new(alloc, scope.places())?;
+    let traversal = Traversal {
+        scope,
+        claims: &claims,
+    };
+    let found = traversal.search(alloc, seat, cards)?;
+    Ok(found)
+}
+
 /// The survivors of a window of regions: the addresses of the objects in it that are reached from
 /// the roots, or from slots outside the window, over references within it. They are in the order
 /// in which a breadth-first search finds them: what the roots name, by root number, what the slots
@@ -195,8 +213,8 @@ pub fn discover<R: Threads + Sync, G: Gate + Sync>(
     requires cards { AreCards heap.now cards.now }
     requires outside { AreOutside heap.now window.now cards.now }
     requires lead_in { LeadIn heap.now window.now cards.now }
-    requires workers { (0 < workers) × (workers ≤ 64) }
-    requires chunk { (0 < chunk) × (chunk ≤ 65536) }
+    requires workers { AreWorkers workers }
+    requires chunk { IsChunk chunk }
     ensures ok { IfOk result (λ v. Survivors heap.now window.now v.items) }
     ensures only { IfOk result (λ v. (l : List ℕ) → Survivors heap.now window.now l → l ≡ v.items) }
     ensures memory { IfErr result (λ e. e ≡ Memory) }
@@ -209,11 +227,14 @@ pub fn discover<R: Threads + Sync, G: Gate + Sync>(
         window,
         positions: positions.as_slice(),
     };
+    if workers == 1 {
+        return search_alone(alloc, &scope, cards);
+    }
     let team = Team::new(workers, chunk);
     let mut search = first_round(rt, alloc, &scope, cards, team, gate)?;
     let mut round: u64 = 1;
     while search.from < search.found.len() {
-        let hired = hired(team, search.found.len() - search.from, round);
+        let hired = hire(team, search.found.len() - search.from, round);
         search = next_round(rt, alloc, &scope, search, hired, gate)?;
         round = round.saturating_add(1);
     }

@@ -3,9 +3,11 @@
 //! 1. The window of the search is every region that isn't free, so that no slot is outside of it
 //!    and no card is needed. Its survivors are then all that the roots reach.
 //! 2. Each live object's bytes are added to those of the region in which it starts.
+//!
+//! `live_bytes` does both, `live_objects` the first alone.
 #![tactic(auto)]
 
 mod bytes;
 mod live;
 
-pub use live::live_bytes;
+pub use live::{live_bytes, live_objects};

@@ -3,6 +3,7 @@ ghost use Rattle.g1_words.specs.declared.fault.Fault.TheVariants.{Memory};
 ghost use Rattle.g1_words.specs.Live.{IsLiveBytes};
 ghost use Rattle.g1_words.specs.Survivors.{Survivors};
 ghost use Rattle.g1_words.specs.Valid.{IsValid};
+ghost use Rattle.g1_work.specs.Team.{AreWorkers, IsChunk};
 ghost use Rattle.g1_rem.specs.Starts.{IsStartsOf};
 ghost use Rattle.g1_mark.specs.Marked.{used};
 
@@ -60,8 +61,8 @@ pub fn live_bytes<R: Threads + Sync, G: Gate + Sync>(
     gate: &G,
 ) -> Result<Vec<u64>, Fault>
     requires starts { IsStartsOf heap.now starts.now }
-    requires workers { (0 < workers) × (workers ≤ 64) }
-    requires chunk { (0 < chunk) × (chunk ≤ 65536) }
+    requires workers { AreWorkers workers }
+    requires chunk { IsChunk chunk }
     ensures ok { IfOk result (λ v. IsLiveBytes heap.now v.items) }
     ensures only { IfOk result (λ v. (l : List ℕ) → IsLiveBytes heap.now l → l ≡ v.items) }
     ensures memory { IfErr result (λ e. e ≡ Memory) }

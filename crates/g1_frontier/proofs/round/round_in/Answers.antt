@@ -11,8 +11,8 @@ use Rattle.g1_frontier.proofs.Claimed.{lists_rise, all_in_window, adds, merged_f
 use Rattle.g1_frontier.specs.Scope.{place_in, all_pairs_in}
 use Rattle.g1_frontier.proofs.round.round_in.Goals as goal
 
-pub merged-requires : goal.merged-requires
-merged-requires g c = record { rise = lists_rise c.in_ok-seat.lists.items c.in_ok-seat.ensures.ok.rise }
+pub merge-requires : goal.merge-requires
+merge-requires g c = record { rise = lists_rise c.in_ok-seat.lists.items c.in_ok-seat.ensures.ok.rise }
 
 pub still_there-requires-clause-inside : goal.still_there-requires-clause-inside
 still_there-requires-clause-inside g c =

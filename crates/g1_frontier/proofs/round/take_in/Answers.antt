@@ -10,5 +10,5 @@ returns c = record {
   shares = c.in_ok-join_all.ensures.shares;
   offers = c.in_ok-join_all.ensures.offers;
   kept = c.in_ok-join_all.ensures.kept ∙ ap (λ (l : List (Vec (ℕ × ℕ) Global)). map (λ (v : Vec (ℕ × ℕ) Global). v.items) l ++ map (λ h. h.kept.items) c.pop.new.self.items) (c.in_ok-push.ensures.items ∙ ap (λ (l : List (Vec (ℕ × ℕ) Global)). l ++ c.in-Some.last.kept ∷ []) c.new-lists.ensures.items);
-  settled = λ all. c.shares.ensures.settled (c.shares.ensures.shares ∙ all);
+  settled = c.settled.ensures.whole;
 }

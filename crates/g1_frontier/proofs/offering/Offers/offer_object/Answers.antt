@@ -17,20 +17,10 @@ overflow_add-first c =
     let b = object_in_words c.args.self.now.scope.now.heap.now c.requires.places.scope.valid c.args.at c.requires.object in
     omega (arith, b.0, c.requires.places.scope.valid.word_count, c.requires.places.scope.valid.limits.words_most)
 
-pub offset_bounds-words-at : goal.offset_bounds-words-at
-offset_bounds-words-at c =
-    let b = object_in_words c.args.self.now.scope.now.heap.now c.requires.places.scope.valid c.args.at c.requires.object in
-    omega (arith, b.0, c.requires.places.scope.valid.word_count, c.requires.places.scope.valid.limits.words_most)
-
-pub bounds-words-at : goal.bounds-words-at
-bounds-words-at c =
-    let b = object_in_words c.args.self.now.scope.now.heap.now c.requires.places.scope.valid c.args.at c.requires.object in
-    omega (arith, b.0, ap length c.words-words.ensures)
-
 pub overflow_add-slot-end : goal.overflow_add-slot-end
 overflow_add-slot-end c =
     let b = object_in_words c.args.self.now.scope.now.heap.now c.requires.places.scope.valid c.args.at c.requires.object in
-    let refs : get_or c.words-words.result.now c.args.at 0 % 2 ^ 32 ≡ word c.args.self.now.scope.now.heap.now c.args.at % 2 ^ 32 = ap (λ l. get_or l c.args.at 0 % 2 ^ 32) c.words-words.ensures in
+    let refs : c.object-refs.result.refs ≡ word c.args.self.now.scope.now.heap.now c.args.at % 2 ^ 32 = ap (λ o. o.refs) c.object-refs.ensures.value in
     omega (arith, b.1, refs, c.requires.places.scope.valid.word_count, c.requires.places.scope.valid.limits.words_most)
 
 pub loop-slot-init : goal.loop-slot-init
@@ -43,7 +33,7 @@ loop-slot-init c =
 pub bounds-words-slot : goal.bounds-words-slot
 bounds-words-slot c =
     let b = object_in_words c.args.self.now.scope.now.heap.now c.requires.places.scope.valid c.args.at c.requires.object in
-    let refs : get_or c.words-words.result.now c.args.at 0 % 2 ^ 32 ≡ word c.args.self.now.scope.now.heap.now c.args.at % 2 ^ 32 = ap (λ l. get_or l c.args.at 0 % 2 ^ 32) c.words-words.ensures in
+    let refs : c.object-refs.result.refs ≡ word c.args.self.now.scope.now.heap.now c.args.at % 2 ^ 32 = ap (λ o. o.refs) c.object-refs.ensures.value in
     omega (arith, b.1, refs, c.loop-slot-test.true, ap length c.words-words.ensures)
 
 pub offer_named-requires-clause-ranks : goal.offer_named-requires-clause-ranks
@@ -51,7 +41,7 @@ offer_named-requires-clause-ranks c =
     let s = c.args.self.now.scope.now in
     let p : ℕ = c.loop-slot.slot in
     let first : ℕ = c.args.at + 1 in
-    let refs : get_or c.words-words.result.now c.args.at 0 % 2 ^ 32 ≡ word s.heap.now c.args.at % 2 ^ 32 = ap (λ l. get_or l c.args.at 0 % 2 ^ 32) c.words-words.ensures in
+    let refs : c.object-refs.result.refs ≡ word s.heap.now c.args.at % 2 ^ 32 = ap (λ o. o.refs) c.object-refs.ensures.value in
     let there : In (slots (object_at s.heap.now c.args.at)) p = In-range first (word s.heap.now c.args.at % 2 ^ 32) p c.loop-slot.auto.slot (omega (arith, refs, c.loop-slot-test.true)) in
     subst (λ l. AreRanks (aims_in s (c.args.base + (p - first)) (get_or l p 0))) (sym c.words-words.ensures)
     (all_part (λ q. q.0 < 2 ^ 32) (λ p. aims_in s (c.args.base + (p - first)) (word s.heap.now p)) (slots (object_at s.heap.now c.args.at)) p c.requires.ranks there)
@@ -71,7 +61,7 @@ pub returns : goal.returns
 returns c =
     let s = c.args.self.now.scope.now in
     let first : ℕ = c.args.at + 1 in
-    let refs : get_or c.words-words.result.now c.args.at 0 % 2 ^ 32 ≡ word s.heap.now c.args.at % 2 ^ 32 = ap (λ l. get_or l c.args.at 0 % 2 ^ 32) c.words-words.ensures in
+    let refs : c.object-refs.result.refs ≡ word s.heap.now c.args.at % 2 ^ 32 = ap (λ o. o.refs) c.object-refs.ensures.value in
     let all : c.loop-slot.slot - first ≡ word s.heap.now c.args.at % 2 ^ 32 = let e = c.loop-slot.auto.slot-end (omega arith) in omega (arith, e, refs, c.loop-slot-test.false) in
     subst (λ n. HasTried (place_in s) (flat_map (λ p. aims_in s (c.args.base + (p - first)) (word s.heap.now p)) (range_with_len first n)) c.args.holder.now c.loop-slot.holder) all c.loop-slot.invariant
 

@@ -25,6 +25,7 @@ returns-clause-found c =
     let v : ℕ = get_or s.positions.now c.region_of-region.result 0 in
     let f = some_noted s.window.now s.positions.now (a / w) v c.requires.scope.positions (ap (λ r. get_or s.positions.now r 0) region) c.if-position-eq0.false in
     let stands : c.from.result ≡ position s.window.now (a / w) = omega (arith, c.from.ensures, f.1) in
-    let offset : a - c.region_of-region.result * c.region_words-width.result ≡ a % w = (λ i. a - region i * width i) ∙ (offset_is w a).1 in
-    let there : c.from.result * c.region_words-width.result + (a - c.region_of-region.result * c.region_words-width.result) ≡ place_in s a = λ i. stands i * width i + offset i in
+    let start : c.start.result ≡ a / w * w = c.start.ensures.value ∙ (λ i. region i * (same i).w) in
+    let offset : a - c.start.result ≡ a % w = (λ i. a - start i) ∙ (offset_is w a).1 in
+    let there : c.from.result * c.region_words-width.result + (a - c.start.result) ≡ place_in s a = λ i. stands i * width i + offset i in
     (f.0, there, subst (λ x. x < length s.window.now * w) (sym there) (below s c.requires.scope a f.0))

@@ -4,7 +4,7 @@ use Rattle.std.specs.Ordering.{partial_lt}
 use Rattle.itertools.specs.KMerge.{joined_lists}
 use Rattle.std.specs.Vec.Iter.{into_iter_items}
 use Rattle.g1_frontier.proofs.Merges.{pair_cmp, pairs_ordered, risen_from_sorted, drained, sources, all_given, all_sorted}
-use Rattle.g1_frontier.proofs.round.merged.Goals as goal
+use Rattle.g1_frontier.proofs.round.merge.Goals as goal
 
 pub returns-clause-same : goal.returns-clause-same
 returns-clause-same c =

@@ -1,0 +1,33 @@
+use Rattle.std.proofs.Common.{arith, ℕ, List, [], ◌≡◌, ◌+◌, ◌-◌, ◌∙◌, ap, subst, get_or, flat_map}
+use Rattle.std.specs.List.{range_with_len}
+use Rattle.std.proofs.lemmas.List.{flat_map_more}
+use Rattle.g1_words.specs.Heap.{word}
+use Rattle.g1_frontier.specs.Queue.{names_in, HasNoted}
+use Rattle.g1_frontier.proofs.Names.{object_in_words, range_more}
+use Rattle.g1_frontier.proofs.Queues.{noted_none, noted_append}
+use Rattle.g1_frontier.proofs.queue.Traversal.note_object.Goals as goal
+
+pub overflow_add-first : goal.overflow_add-first
+overflow_add-first c =
+    let b = object_in_words c.args.self.now.scope.now.heap.now c.requires.places.scope.valid c.args.at c.requires.object in
+    omega (arith, b.0, c.requires.places.scope.valid.word_count, c.requires.places.scope.valid.limits.words_most)
+
+pub loop-slot-init : goal.loop-slot-init
+loop-slot-init c =
+    let s = c.args.self.now.scope.now in
+    let t = c.args.self.now.claims.now in
+    let q = c.args.queue.now in
+    let none : 0 ≡ (c.args.at + 1) - (c.args.at + 1) = omega arith in
+    subst (λ n. HasNoted s t (flat_map (λ p. names_in s (word s.heap.now p)) (range_with_len (c.args.at + 1) n)) q q) none (noted_none s c.requires.places.scope t q c.requires.queue)
+
+pub loop-slot-preserved : goal.loop-slot-preserved
+loop-slot-preserved c =
+    let s = c.args.self.now.scope.now in
+    let t = c.args.self.now.claims.now in
+    let first : ℕ = c.args.at + 1 in
+    let p : ℕ = c.loop-slot.slot in
+    let f : ℕ → List ℕ = λ p. names_in s (word s.heap.now p) in
+    let one : HasNoted s t (f p) c.loop-slot.queue c.note.new.queue = subst (λ l. HasNoted s t (names_in s (get_or l p 0)) c.loop-slot.queue c.note.new.queue) c.words-words.ensures c.in_ok-note.ensures in
+    subst (λ l. HasNoted s t l c.args.queue.now c.note.new.queue)
+    (flat_map_more f [] (range_with_len first (p - first)) p ∙ ap (flat_map f) (range_more first p c.loop-slot.auto.slot))
+    (noted_append s c.requires.places.scope t (flat_map f (range_with_len first (p - first))) (f p) c.args.queue.now c.loop-slot.queue c.note.new.queue c.loop-slot.invariant one)

@@ -1,0 +1,9 @@
+use Rattle.std.proofs.Common.{◌-◌, ◌^◌}
+use Rattle.g1_frontier.specs.Queue.{IsUnderWay}
+use Rattle.g1_frontier.proofs.queue.Traversal.search.Given as goal
+
+abbrev pub invariant-loop-from : goal.invariant-loop-from
+invariant-loop-from l = IsUnderWay l.self.scope.now l.self.claims.now l.from l.queue
+
+abbrev pub decreases-loop-from : goal.decreases-loop-from
+decreases-loop-from l = 2 ^ 24 - l.from
