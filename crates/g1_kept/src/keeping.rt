@@ -1,9 +1,237 @@
-ghost use Rattle.std.specs.Prelude.{◌≡◌, ◌<◌, IfErr};
+ghost use Rattle.std.specs.Prelude.{◌≡◌, ◌≢◌, ◌<◌, ◌≤◌, ◌+◌, ◌↔◌, ℕ, List, length, slice_index, Contains, IfSome, IfNone, IfOk, IfErr, OnOk, IsTrue, IsFalse};
+ghost use Rattle.g1_words.specs.declared.fault.Fault.TheVariants.{Memory};
+ghost use Rattle.g1_words.specs.declared.region.Kind.TheVariants.{Free};
+ghost use Rattle.g1_words.specs.Lists.{has};
+ghost use Rattle.g1_words.specs.Heap.{kind, object_at, objects};
+ghost use Rattle.g1_same.specs.Walk.{AreAlike};
+ghost use Rattle.g1_kept.specs.Keeps.{Keeps, KeepsTable};
+ghost use Rattle.g1_kept.specs.Lost.{IsEarliest, IsLoss, Match};
+ghost use Rattle.g1_kept.specs.Walk.{IsWalk, HasGrown, PairsRoots, IsCompared, ComparesRegion, ComparesOutside, ComparesPairs};
 
-use crate::lost::{Lost, Stop};
-use crate::pairs::{Heaps, Pair, Pairs, is_freed};
-use g1_words::{Fault, Heap, Kind, Region, objects_in};
+use crate::linking::{link_roots, link_slots};
+use crate::lost::Lost;
+use crate::pairs::{Pairs, start};
+use crate::region_set::RegionSet;
+use crate::tables::compare_tables;
+use g1_words::{Fault, Heap, data, objects_in};
 use std::alloc::{AllocError, Global};
+
+// The first place at which two lists of one length differ.
+fn first_other(old: &[u64], new: &[u64]) -> Option<usize>
+    requires { length new.now ≡ length old.now }
+    ensures some { IfSome result (λ k. k < length old.now) }
+    ensures other { IfSome result (λ k. slice_index new.now k ≢ slice_index old.now k) }
+    ensures none { IfNone result ((i : ℕ) → i < length old.now → slice_index old.now i ≡ slice_index new.now i) }
+{
+    for place in 0..old.len() {
+        if old[place] != new[place] {
+            return Some(place);
+        }
+    }
+    None
+}
+
+// What is lost of an object in the one after that matches it, apart from its slots.
+fn compare_contents(
+    before: &Heap,
+    after: &Heap,
+    set: &RegionSet<'_>,
+    a: u64,
+    b: u64,
+) -> Option<Lost>
+    requires a { Contains (objects before.now) (object_at before.now a) }
+    requires b { Contains (objects after.now) (object_at after.now b) }
+    requires matched { Match set.now before.now after.now a b }
+    ensures none { IfNone result (AreAlike before.now after.now a b) }
+    ensures some { IfSome result (λ l. IsLoss set.now before.now after.now l) }
+{
+    let old = before.object(a);
+    let new = after.object(b);
+    if old.size != new.size || old.refs != new.refs {
+        return Some(Lost::Header {
+            before: a,
+            after: b,
+        });
+    }
+    let here = data(before.words(), &old);
+    let there = data(after.words(), &new);
+    match first_other(here, there) {
+        Some(word) => Some(Lost::Data {
+            before: a,
+            after: b,
+            word: word as u64,
+        }),
+        None => None,
+    }
+}
+
+// Compares an object with the one after that matches it.
+fn compare_pair(
+    before: &Heap,
+    after: &Heap,
+    set: &RegionSet<'_>,
+    pairs: &mut Pairs,
+    a: u64,
+    b: u64,
+) -> Result<Option<Lost>, AllocError>
+    requires walk { IsWalk set.now before.now after.now pairs.old }
+    requires sizes { length after.now.words ≡ length before.now.words }
+    requires a { Contains (objects before.now) (object_at before.now a) }
+    requires b { Contains (objects after.now) (object_at after.now b) }
+    requires matched { Match set.now before.now after.now a b }
+    ensures walk { OnOk result (IsWalk set.now before.now after.now pairs.new) }
+    ensures grown { OnOk result (HasGrown pairs.old pairs.new) }
+    ensures compared { IfOk result (λ o. IfNone o (IsCompared set.now before.now after.now pairs.new a b)) }
+    ensures lost { IfOk result (λ o. IfSome o (λ l. IsLoss set.now before.now after.now l)) }
+{
+    if let Some(lost) = compare_contents(before, after, set, a, b) {
+        return Ok(Some(lost));
+    }
+    link_slots(before, after, set, pairs, a, b)
+}
+
+// Compares the objects of a region outside the set, which is as it was, each with itself.
+fn compare_region(
+    alloc: Global,
+    before: &Heap,
+    after: &Heap,
+    set: &RegionSet<'_>,
+    pairs: &mut Pairs,
+    region: u32,
+) -> Result<Option<Lost>, AllocError>
+    requires walk { IsWalk set.now before.now after.now pairs.old }
+    requires table { KeepsTable set.now before.now after.now }
+    requires region { region < before.now.geometry.n }
+    requires outside { IsFalse (has set.now region) }
+    requires used { kind before.now region ≢ Free }
+    requires in_use { kind after.now region ≢ Free }
+    ensures walk { OnOk result (IsWalk set.now before.now after.now pairs.new) }
+    ensures grown { OnOk result (HasGrown pairs.old pairs.new) }
+    ensures compared { IfOk result (λ o. IfNone o (ComparesRegion set.now before.now after.now pairs.new region)) }
+    ensures lost { IfOk result (λ o. IfSome o (λ l. IsLoss set.now before.now after.now l)) }
+{
+    g1_words::laws::valid(before);
+    g1_words::laws::valid(after);
+    let starts = match objects_in(alloc, before, region) {
+        Ok(starts) => starts,
+        Err(_) => return Err(AllocError),
+    };
+    for place in 0..starts.len() {
+        let at = starts[place];
+        if let Some(lost) = compare_pair(before, after, set, pairs, at, at)? {
+            return Ok(Some(lost));
+        }
+    }
+    Ok(None)
+}
+
+// Whether a region outside the set was in use and still is.
+fn is_compared(before: &Heap, after: &Heap, set: &RegionSet<'_>, region: u32) -> bool
+    requires before { region < before.now.geometry.n }
+    requires after { region < after.now.geometry.n }
+    ensures { IsTrue result ↔ (IsFalse (has set.now region) × (kind before.now region ≢ Free) × (kind after.now region ≢ Free)) }
+{
+    !set.has(u64::from(region))
+        && before.region(region).kind.is_used()
+        && after.region(region).kind.is_used()
+}
+
+// Compares the objects outside the set that are still there, each with itself.
+fn compare_outside(
+    alloc: Global,
+    before: &Heap,
+    after: &Heap,
+    set: &RegionSet<'_>,
+    pairs: &mut Pairs,
+) -> Result<Option<Lost>, AllocError>
+    requires walk { IsWalk set.now before.now after.now pairs.old }
+    requires table { KeepsTable set.now before.now after.now }
+    ensures walk { OnOk result (IsWalk set.now before.now after.now pairs.new) }
+    ensures grown { OnOk result (HasGrown pairs.old pairs.new) }
+    ensures compared { IfOk result (λ o. IfNone o (ComparesOutside set.now before.now after.now pairs.new before.now.geometry.n)) }
+    ensures lost { IfOk result (λ o. IfSome o (λ l. IsLoss set.now before.now after.now l)) }
+{
+    for region in 0..before.geometry().regions() as u32 {
+        if is_compared(before, after, set, region) {
+            if let Some(lost) = compare_region(alloc, before, after, set, pairs, region)? {
+                return Ok(Some(lost));
+            }
+        }
+    }
+    Ok(None)
+}
+
+// Compares all pairs, those that this finds, too.
+fn compare_pairs(
+    before: &Heap,
+    after: &Heap,
+    set: &RegionSet<'_>,
+    pairs: &mut Pairs,
+) -> Result<Option<Lost>, AllocError>
+    requires walk { IsWalk set.now before.now after.now pairs.old }
+    requires table { KeepsTable set.now before.now after.now }
+    ensures walk { OnOk result (IsWalk set.now before.now after.now pairs.new) }
+    ensures grown { OnOk result (HasGrown pairs.old pairs.new) }
+    ensures compared { IfOk result (λ o. IfNone o (ComparesPairs set.now before.now after.now pairs.new (length pairs.new.before.items))) }
+    ensures lost { IfOk result (λ o. IfSome o (λ l. IsLoss set.now before.now after.now l)) }
+{
+    g1_words::laws::valid(before);
+    g1_words::laws::valid(after);
+    let mut place = 0;
+    while place < pairs.before.len() {
+        let a = pairs.before[place];
+        let b = pairs.after[place];
+        if let Some(lost) = compare_pair(before, after, set, pairs, a, b)? {
+            return Ok(Some(lost));
+        }
+        place += 1;
+    }
+    Ok(None)
+}
+
+// What is lost of what roots and objects hold.
+fn compare_words(
+    alloc: Global,
+    before: &Heap,
+    after: &Heap,
+    set: &RegionSet<'_>,
+) -> Result<Option<Lost>, AllocError>
+    requires table { KeepsTable set.now before.now after.now }
+    requires roots { length after.now.roots ≡ length before.now.roots }
+    ensures none { IfOk result (λ o. IfNone o (Keeps set.now before.now after.now)) }
+    ensures some { IfOk result (λ o. IfSome o (λ l. IsLoss set.now before.now after.now l)) }
+{
+    let mut pairs = start(alloc, before, after, set)?;
+    if let Some(lost) = link_roots(before, after, set, &mut pairs)? {
+        return Ok(Some(lost));
+    }
+    if let Some(lost) = compare_outside(alloc, before, after, set, &mut pairs)? {
+        return Ok(Some(lost));
+    }
+    compare_pairs(before, after, set, &mut pairs)
+}
+
+// The first thing that is lost.
+fn find_loss(
+    alloc: Global,
+    before: &Heap,
+    after: &Heap,
+    set: &RegionSet<'_>,
+) -> Result<Option<Lost>, AllocError>
+    ensures none { IfOk result (λ o. IfNone o (Keeps set.now before.now after.now)) }
+    ensures some { IfOk result (λ o. IfSome o (λ l. IsLoss set.now before.now after.now l)) }
+    ensures earliest { IfOk result (λ o. IfSome o (λ l. IsEarliest set.now before.now after.now l)) }
+{
+    g1_words::laws::valid(before);
+    g1_words::laws::valid(after);
+    if let Some(lost) = compare_tables(before, after, set) {
+        return Ok(Some(lost));
+    }
+    if before.roots().len() != after.roots().len() {
+        return Ok(Some(Lost::Roots));
+    }
+    compare_words(alloc, before, after, set)
+}
 
 /// Whether a heap keeps what a pause of these regions keeps of another one: all objects outside them
 /// in their places, and a copy of each object of theirs that a root or a kept slot leads to.
@@ -17,130 +245,17 @@ pub fn kept(
     after: &Heap,
     set: &[u32],
 ) -> Result<Result<(), Lost>, Fault>
-    ensures memory { IfErr result (λ e. e ≡ Fault.Memory) }
+    ensures keeps { IfOk result (λ r. IfOk r (λ _. Keeps set.now before.now after.now)) }
+    ensures lost { IfOk result (λ r. IfErr r (λ l. IsLoss set.now before.now after.now l)) }
+    ensures earliest { IfOk result (λ r. IfErr r (λ l. IsEarliest set.now before.now after.now l)) }
+    ensures never { IfOk result (λ r. IfErr r (λ _. Keeps set.now before.now after.now → ⊥)) }
+    ensures memory { IfErr result (λ e. e ≡ Memory) }
 {
-    let chosen = marked(alloc, before, set)?;
-    let heaps = Heaps {
-        before,
-        after,
-        chosen: chosen.as_slice(),
-    };
-    match compare(alloc, heaps) {
-        Ok(()) => Ok(Ok(())),
-        Err(Stop::Lost(lost)) => Ok(Err(lost)),
-        Err(Stop::Memory) => Err(Fault::Memory),
+    g1_words::laws::valid(before);
+    g1_words::laws::valid(after);
+    let regions = RegionSet::new(alloc, before.regions().len(), set)?;
+    match find_loss(alloc, before, after, &regions)? {
+        Some(lost) => Ok(Err(lost)),
+        None => Ok(Ok(())),
     }
-}
-
-// For each region whether it is in the set.
-fn marked(alloc: Global, heap: &Heap, set: &[u32]) -> Result<Vec<bool>, AllocError> {
-    let mut chosen = vec![in alloc; false; heap.regions().len()]?;
-    for region in set {
-        if let Some(mark) = chosen.get_mut(*region as usize) {
-            *mark = true;
-        }
-    }
-    Ok(chosen)
-}
-
-fn compare(alloc: Global, heaps: Heaps<'_>) -> Result<(), Stop> {
-    compare_regions(heaps)?;
-    let mut pairs = Pairs::new(alloc, heaps.before.words().len())?;
-    compare_objects(alloc, heaps, &mut pairs)
-}
-
-// Each pair is compared in its turn, and comparing it may find more.
-fn compare_objects(alloc: Global, heaps: Heaps<'_>, pairs: &mut Pairs) -> Result<(), Stop> {
-    compare_roots(heaps, pairs)?;
-    compare_kept(alloc, heaps, pairs)?;
-    for number in 0..heaps.before.words().len() {
-        match pairs.pair(number) {
-            Some(pair) => pairs.compare(heaps, pair)?,
-            None => break,
-        }
-    }
-    Ok(())
-}
-
-fn compare_regions(heaps: Heaps<'_>) -> Result<(), Lost> {
-    let geometry = heaps.before.geometry();
-    if geometry != heaps.after.geometry() {
-        return Err(Lost::Sizes);
-    }
-    for region in 0..geometry.regions() as u32 {
-        if let Some((old, new)) = heaps.told(region) {
-            compare_told(region, old, new, heaps.is_in_set(u64::from(region)))?;
-        }
-    }
-    Ok(())
-}
-
-// What the heaps tell of a region, which is of the set or not.
-fn compare_told(number: u32, old: Region, new: Region, chosen: bool) -> Result<(), Lost> {
-    if chosen {
-        return match new.kind {
-            Kind::Free => Ok(()),
-            _ => Err(Lost::Set(number)),
-        };
-    }
-    if old.kind == Kind::Free || is_freed(old, new) {
-        return Ok(());
-    }
-    compare_in_use(number, old, new)
-}
-
-// A region outside the set that was in use, and was not freed.
-fn compare_in_use(number: u32, old: Region, new: Region) -> Result<(), Lost> {
-    if old.kind != new.kind || old.top != new.top {
-        return Err(Lost::Region(number));
-    }
-    match (old.pinned, new.pinned) {
-        (true, false) => Err(Lost::Unpinned(number)),
-        (false, true) => Err(Lost::Pinned(number)),
-        _ => Ok(()),
-    }
-}
-
-fn compare_roots(heaps: Heaps<'_>, pairs: &mut Pairs) -> Result<(), Stop> {
-    let (old, new) = (heaps.before.roots(), heaps.after.roots());
-    if old.len() != new.len() {
-        return Err(Lost::Roots.into());
-    }
-    match pairs.first_lost(heaps, old, new)? {
-        Some(number) => Err(Lost::Root(number).into()),
-        None => Ok(()),
-    }
-}
-
-// The objects outside the set that are still there, each with itself.
-fn compare_kept(alloc: Global, heaps: Heaps<'_>, pairs: &mut Pairs) -> Result<(), Stop> {
-    let regions = heaps.before.geometry().regions();
-    for region in 0..regions as u32 {
-        if !heaps.is_in_set(u64::from(region)) && !heaps.is_freed(region) {
-            compare_region(alloc, heaps, pairs, region)?;
-        }
-    }
-    Ok(())
-}
-
-fn compare_region(
-    alloc: Global,
-    heaps: Heaps<'_>,
-    pairs: &mut Pairs,
-    region: u32,
-) -> Result<(), Stop>
-    requires { region < heaps.before.now.geometry.n }
-{
-    // Only memory can fail there.
-    let Ok(starts) = objects_in(alloc, heaps.before, region) else {
-        return Err(Stop::Memory);
-    };
-    for start in starts.iter() {
-        let pair = Pair {
-            before: *start,
-            after: *start,
-        };
-        pairs.compare(heaps, pair)?;
-    }
-    Ok(())
 }

@@ -13,8 +13,12 @@
 #![tactic(auto)]
 
 mod keeping;
+pub mod laws;
+mod linking;
 mod lost;
 mod pairs;
+mod region_set;
+mod tables;
 
 pub use keeping::kept;
 pub use lost::Lost;

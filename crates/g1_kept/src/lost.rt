@@ -1,6 +1,3 @@
-ghost use Rattle.std.specs.Prelude.{◌≡◌};
-
-use std::alloc::{AllocError, AllocFailed};
 use thiserror::Error;
 
 /// Where a heap doesn't keep what a pause keeps. An object is identified by its address before and,
@@ -35,29 +32,4 @@ pub enum Lost {
     Slot { before: u64, after: u64, slot: u64 },
     #[error("root {0}: another object after, or none")]
     Root(u64),
-}
-
-/// Why the comparison ends.
-#[derive(Clone, Copy)]
-pub(crate) enum Stop {
-    Lost(Lost),
-    Memory,
-}
-
-impl From<Lost> for Stop {
-    fn from(lost: Lost) -> Stop {
-        Stop::Lost(lost)
-    }
-}
-
-impl From<AllocError> for Stop {
-    fn from(_error: AllocError) -> Stop {
-        Stop::Memory
-    }
-}
-
-impl<T: Drop> From<AllocFailed<T>> for Stop {
-    fn from(_error: AllocFailed<T>) -> Stop {
-        Stop::Memory
-    }
 }

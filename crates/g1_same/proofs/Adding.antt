@@ -6,7 +6,7 @@ use Rattle.g1_words.specs.Heap.{Heap, word, object_at, objects}
 use Rattle.g1_words.specs.Valid.{IsValid}
 use Rattle.g1_same.specs.declared.walk.Walk.{Walk}
 use Rattle.g1_same.specs.Walk.{IsIndex, AreAlike, IsPaired, IsLinked, IsWay, IsWalk, IsEarlier, IsBelow, HasGrown}
-use Rattle.g1_same.proofs.Heaps.{object_in}
+use Rattle.g1_words.proofs.Sound.{object_in}
 use Rattle.g1_same.proofs.Tables.{index_more, index_few}
 
 pub way_more : (g h : Heap) (os ns qs ms : List ℕ) → length os ≤ length qs

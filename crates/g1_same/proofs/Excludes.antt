@@ -15,7 +15,8 @@ use Rattle.g1_same.specs.declared.difference.Difference.{Difference}
 use Rattle.g1_same.specs.declared.difference.Difference.TheVariants.{Roots, At}
 use Rattle.g1_same.specs.Path.{Leads, LeadsTo, Together}
 use Rattle.g1_same.specs.Same.{IsClash, IsDifference}
-use Rattle.g1_same.proofs.Heaps.{object_in, live_object, slot_live, root_live}
+use Rattle.g1_words.proofs.Sound.{object_in}
+use Rattle.g1_same.proofs.Heaps.{live_object, slot_live, root_live}
 
 -- slots lead from one word to one word
 pub leads_one : (h : Heap) (ss : List ℕ) (x y z : ℕ) → Leads h ss x y → Leads h ss x z → y ≡ z

@@ -1,5 +1,5 @@
 -- What one heap has: its objects lie within its words, and its references name objects.
-use Rattle.std.proofs.Common.{◌≡◌, ℕ, suc, ◌+◌, ◌<◌, ◌≤◌, ◌-◌, inl, length, Contains, refl, sym, ap, subst, ◌∙◌, arith, slice_index}
+use Rattle.std.proofs.Common.{◌≡◌, ℕ, suc, ◌+◌, ◌<◌, ◌-◌, inl, length, Contains, refl, sym, ap, subst, ◌∙◌, arith, slice_index}
 use Rattle.std.proofs.lemmas.List.{get_or_default}
 use Rattle.g1_words.specs.Heap.{Heap, word, object_at, objects, slots}
 use Rattle.g1_words.specs.Valid.{IsValid, IsReference}
@@ -8,12 +8,8 @@ use Rattle.g1_words.specs.Live.{Live, seed, child}
 use Rattle.g1_words.proofs.Members.{In, In-from_contains, Contains-from_in, In-flat_map, flat_map_cases}
 use Rattle.g1_words.proofs.Computed.{contains_has, In-range, range_below, range_above}
 use Rattle.g1_words.proofs.Sound.{sound, reference_named, named_is}
-use Rattle.g1_words.proofs.Bounds.{object_within}
 use Rattle.g1_words.proofs.Indices.{get_or-In}
 use Rattle.g1_same.specs.Walk.{Names}
-
-pub object_in : (h : Heap) (a : ℕ) → IsValid h → Contains (objects h) (object_at h a) → ((object_at h a).refs < (object_at h a).size) × (a + (object_at h a).size ≤ length h.words)
-object_in h a valid c = ((sound h valid).slots_fit (object_at h a) c, omega (arith, object_within h valid (object_at h a) (contains_has h (object_at h a) valid.shaped c), valid.word_count))
 
 named_at : (h : Heap) (x : ℕ) → IsValid h → IsReference h x → Names h x
 named_at h x valid r a e = reference_named h x a valid r (subst (λ z. In (named z) a) (sym e) (inl refl))

@@ -1,9 +1,11 @@
 -- One more root, slot or pair is linked.
-use Rattle.std.proofs.Common.{◌≡◌, ℕ, suc, ◌+◌, ◌<◌, ◌≤◌, inl, inr, List, length, refl, sym, subst, ◌∙◌, arith, slice_index, Option, Some, None, IfSome, IfNone}
+use Rattle.std.proofs.Common.{◌≡◌, ℕ, suc, ◌+◌, ◌%◌, ◌^◌, ◌<◌, ◌≤◌, inl, inr, List, length, get_or, refl, sym, ap, subst, ◌∙◌, arith, slice_index, Contains, Option, Some, None, IfSome, IfNone}
 use Rattle.std.proofs.lemmas.Bool.{cases_lt}
-use Rattle.g1_words.specs.Heap.{Heap, word, object_at}
+use Rattle.std.proofs.lemmas.List.{get_or_read}
+use Rattle.g1_words.specs.declared.object.Object.{Object}
+use Rattle.g1_words.specs.Heap.{Heap, word, object_at, objects}
 use Rattle.g1_same.specs.declared.walk.Walk.{Walk}
-use Rattle.g1_same.specs.Walk.{IsLinked, IsWay, IsBelow, HasGrown, LinksRoots, LinksSlots, LinksPairs}
+use Rattle.g1_same.specs.Walk.{IsWalk, IsLinked, IsWay, IsBelow, HasGrown, LinksRoots, LinksSlots, LinksPairs}
 use Rattle.g1_same.proofs.Adding.{linked_more}
 
 pub none_then : {X : Type 0} (P : Type 0) (o : Option X) → ((x : X) → o ≡ Some x → ⊥) → IfNone o P → P
@@ -70,3 +72,37 @@ pub pairs_kept : (g h : Heap) (w v : Walk) (m : ℕ) → HasGrown w v → m ≤ 
 pairs_kept g h w v m grown p linked i lt =
     let r : i < length w.before.items = omega (arith, lt, p) in
     subst (λ z. LinksSlots g h v i (object_at g z).refs) (sym (grown.olds i r)) (slots_kept g h w v i (object_at g (slice_index w.before.items i)).refs grown r (linked i lt))
+
+-- a list has the slots of the object at an address
+pub record HasSlots (h : Heap) (a : ℕ) (list : List ℕ) : Type 0 where
+  pub count : length list ≡ (object_at h a).refs
+  pub each : (n : ℕ) → n < length list → slice_index list n ≡ word h (a + 1 + n)
+
+pub has_slots : (h : Heap) (a : ℕ) (o : Object) (words list : List ℕ) → o ≡ object_at h a → words ≡ h.words → length list ≡ o.refs
+    → ((i : ℕ) → i < o.refs → slice_index list i ≡ slice_index words (o.at + 1 + i)) → HasSlots h a list
+has_slots h a o words list is same count each = record {
+  count = count ∙ ap (λ q. q.refs) is;
+  each = λ n lt. each n (omega (arith, lt, count)) ∙ ap (λ q. slice_index words (q.at + 1 + n)) is ∙ ap (λ l. slice_index l (a + 1 + n)) same;
+}
+
+-- the pair at place i is of these two objects, with as many slots
+pub record IsPair (g h : Heap) (w : Walk) (i a b : ℕ) : Type 0 where
+  pub place : i < length w.before.items
+  pub before : slice_index w.before.items i ≡ a
+  pub after : slice_index w.after.items i ≡ b
+  pub before_in : Contains (objects g) (object_at g a)
+  pub after_in : Contains (objects h) (object_at h b)
+  pub refs : (object_at g a).refs ≡ (object_at h b).refs
+
+pub pair_read : (g h : Heap) (w : Walk) (i a b : ℕ) → IsWalk g h w → i < length w.before.items → a ≡ get_or w.before.items i a → b ≡ get_or w.after.items i b → IsPair g h w i a b
+pair_read g h w i a b walk lt read_a read_b =
+    let a_is : a ≡ slice_index w.before.items i = get_or_read w.before.items i a lt read_a 0 in
+    let b_is : b ≡ slice_index w.after.items i = get_or_read w.after.items i b (omega (arith, lt, walk.pairs)) read_b 0 in
+    record {
+      place = lt;
+      before = sym a_is;
+      after = sym b_is;
+      before_in = subst (λ z. Contains (objects g) (object_at g z)) (sym a_is) (walk.names_before i lt);
+      after_in = subst (λ z. Contains (objects h) (object_at h z)) (sym b_is) (walk.names_after i lt);
+      refs = ap (λ q. q % 2 ^ 32) (ap (word g) a_is ∙ (walk.alike i lt).header ∙ ap (word h) (sym b_is));
+    }

@@ -8,7 +8,7 @@ use Rattle.g1_same.specs.declared.difference.How.TheVariants.{NullBefore, NullAf
 use Rattle.g1_same.specs.Path.{Before}
 use Rattle.g1_same.specs.Same.{IsClash}
 use Rattle.g1_same.specs.Walk.{IsSeen, IsPaired, IsLeast, IsLower, IsNew, IsWalk, Names}
-use Rattle.g1_same.proofs.Heaps.{object_in}
+use Rattle.g1_words.proofs.Sound.{object_in}
 use Rattle.g1_same.proofs.Tables.{index_none, index_some}
 
 pub named : (h : Heap) (x : ℕ) → x ≢ 0 → Names h x → Contains (objects h) (object_at h (x - 1))

@@ -7,10 +7,10 @@ ghost use Rattle.g1_same.specs.Same.{IsClash, IsDifference, IsFirstDifference, I
 ghost use Rattle.g1_same.specs.Walk.{IsWalk, IsWay, IsBelow, IsLinked, HasGrown, AreAlike, IsStop, LinksRoots, LinksSlots, LinksPairs, LinksTo};
 
 use crate::difference::Difference;
-use crate::meeting::{link, object};
+use crate::meeting::link;
 use crate::renaming::Renaming;
 use crate::walk::{Stop, Walk, start};
-use g1_words::{Fault, Heap};
+use g1_words::{Fault, Heap, slots};
 use std::alloc::{AllocError, Global};
 
 // Links the roots, by number.
@@ -24,7 +24,8 @@ fn link_roots(before: &Heap, after: &Heap, walk: &mut Walk) -> Result<Option<Sto
     ensures stop { IfOk result (λ o. IfSome o (λ s. IsStop before.now after.now walk.new s)) }
     ensures until { IfOk result (λ o. IfSome o (λ s. LinksTo before.now after.now walk.new s.from s.number)) }
 {
-    let _sizes = (before.geometry(), after.geometry());
+    g1_words::laws::valid(before);
+    g1_words::laws::valid(after);
     let roots = before.roots();
     let others = after.roots();
     for number in 0..roots.len() {
@@ -59,17 +60,16 @@ fn link_slots(
     ensures stop { IfOk result (λ o. IfSome o (λ s. IsStop before.now after.now walk.new s)) }
     ensures until { IfOk result (λ o. IfSome o (λ s. (s.from ≡ suc place) × LinksSlots before.now after.now walk.new place s.number)) }
 {
-    let _sizes = (before.geometry(), after.geometry());
-    let a = walk.before[place];
-    let b = walk.after[place];
-    let here = before.words();
-    let there = after.words();
-    let old = object(before, a);
-    let _new = object(after, b);
+    g1_words::laws::valid(before);
+    g1_words::laws::valid(after);
+    let old = before.object(walk.before[place]);
+    let new = after.object(walk.after[place]);
+    let here = slots(before.words(), &old);
+    let there = slots(after.words(), &new);
     let from = place as u32 + 1;
-    for number in 0..old.refs {
-        let x = here[(a + 1 + number) as usize];
-        let y = there[(b + 1 + number) as usize];
+    for number in 0..here.len() {
+        let x = here[number];
+        let y = there[number];
         let number = number as u32;
         if let Some(how) = link(before, after, walk, from, number, x, y)? {
             return Ok(Some(Stop { from, number, how }));
@@ -89,7 +89,8 @@ fn link_pairs(before: &Heap, after: &Heap, walk: &mut Walk) -> Result<Option<Sto
     ensures stop { IfOk result (λ o. IfSome o (λ s. IsStop before.now after.now walk.new s)) }
     ensures until { IfOk result (λ o. IfSome o (λ s. LinksTo before.now after.now walk.new s.from s.number)) }
 {
-    let _sizes = (before.geometry(), after.geometry());
+    g1_words::laws::valid(before);
+    g1_words::laws::valid(after);
     let mut place = 0;
     while place < walk.before.len() {
         if let Some(stop) = link_slots(before, after, walk, place)? {
@@ -101,7 +102,7 @@ fn link_pairs(before: &Heap, after: &Heap, walk: &mut Walk) -> Result<Option<Sto
 }
 
 // The difference at which a walk ends.
-fn told(
+fn report_difference(
     alloc: Global,
     before: &Heap,
     after: &Heap,
@@ -114,7 +115,8 @@ fn told(
     requires roots { length before.now.roots ≡ length after.now.roots }
     ensures { IfOk result (λ d. IsFirstDifference before.now after.now d) }
 {
-    let _sizes = (before.geometry(), after.geometry());
+    g1_words::laws::valid(before);
+    g1_words::laws::valid(after);
     let mut slots = Vec::new(alloc);
     let mut from = stop.from;
     let mut number = stop.number;
@@ -158,10 +160,10 @@ pub fn compare(
     }
     let mut walk = start(alloc, before, after)?;
     if let Some(stop) = link_roots(before, after, &mut walk)? {
-        return Ok(Err(told(alloc, before, after, &walk, stop)?));
+        return Ok(Err(report_difference(alloc, before, after, &walk, stop)?));
     }
     if let Some(stop) = link_pairs(before, after, &mut walk)? {
-        return Ok(Err(told(alloc, before, after, &walk, stop)?));
+        return Ok(Err(report_difference(alloc, before, after, &walk, stop)?));
     }
     Ok(Ok(Renaming {
         before: walk.before,

@@ -1,4 +1,4 @@
-ghost use Rattle.std.specs.Prelude.{◌≡◌, ◌≢◌, ◌<◌, ◌≤◌, ◌+◌, ◌^◌, suc, ℕ, List, length, slice_index, Contains, IfSome, IfNone, IfOk, OnOk};
+ghost use Rattle.std.specs.Prelude.{◌≡◌, ◌≢◌, ◌<◌, ◌≤◌, ◌+◌, suc, ℕ, List, length, slice_index, Contains, IfSome, IfNone, IfOk, OnOk};
 ghost use Rattle.g1_words.specs.Heap.{object_at, objects};
 ghost use Rattle.g1_words.specs.Valid.{IsValid};
 ghost use Rattle.g1_same.specs.Same.{IsClash};
@@ -6,7 +6,7 @@ ghost use Rattle.g1_same.specs.Walk.{IsWalk, IsWay, IsBelow, IsLinked, HasGrown,
 
 use crate::difference::How;
 use crate::walk::Walk;
-use g1_words::{Heap, Object, REFS_RANGE};
+use g1_words::Heap;
 use std::alloc::AllocError;
 
 /// What two words are to the walk.
@@ -36,24 +36,6 @@ fn first_other(here: &[u64], there: &[u64], a: u64, b: u64, count: u64) -> Optio
     None
 }
 
-/// The object at an address at which one starts.
-pub fn object(heap: &Heap, a: u64) -> Object
-    requires { Contains (objects heap.now) (object_at heap.now a) }
-    ensures size { result.size ≡ (object_at heap.now a).size }
-    ensures refs { result.refs ≡ (object_at heap.now a).refs }
-    ensures fits { result.refs < result.size }
-    ensures within { a + result.size ≤ length heap.now.words }
-    ensures few { length heap.now.words ≤ 2 ^ 24 }
-{
-    let _sizes = heap.geometry();
-    let header = heap.words()[a as usize];
-    Object {
-        at: a,
-        size: header / REFS_RANGE,
-        refs: header % REFS_RANGE,
-    }
-}
-
 // How two objects differ, apart from what their slots name.
 fn objects_differ(before: &Heap, after: &Heap, a: u64, b: u64) -> Option<How>
     requires a { Contains (objects before.now) (object_at before.now a) }
@@ -62,8 +44,8 @@ fn objects_differ(before: &Heap, after: &Heap, a: u64, b: u64) -> Option<How>
     ensures lower { IfSome result (λ how. IsLower before.now after.now how a b) }
     ensures none { IfNone result (AreAlike before.now after.now a b) }
 {
-    let old = object(before, a);
-    let new = object(after, b);
+    let old = before.object(a);
+    let new = after.object(b);
     if old.size != new.size {
         return Some(How::Size {
             before: old.size,
@@ -92,7 +74,8 @@ fn meet(before: &Heap, after: &Heap, walk: &Walk, x: u64, y: u64) -> Met
     requires y { Names after.now y }
     ensures { IsMet before.now after.now walk.now x y result }
 {
-    let _sizes = (before.geometry(), after.geometry());
+    g1_words::laws::valid(before);
+    g1_words::laws::valid(after);
     if x == 0 {
         if y == 0 {
             return Met::Known;
@@ -151,7 +134,8 @@ pub fn link(
     ensures below { OnOk result (IsBelow walk.new from (number + 1)) }
     ensures clash { IfOk result (λ o. IfSome o (λ how. IsSeen before.now after.now walk.new how x y × IsBelow walk.new from number × IsLeast before.now after.now walk.new how x y)) }
 {
-    let _sizes = (before.geometry(), after.geometry());
+    g1_words::laws::valid(before);
+    g1_words::laws::valid(after);
     match meet(before, after, walk, x, y) {
         Met::Known => Ok(None),
         Met::Clash(how) => Ok(Some(how)),

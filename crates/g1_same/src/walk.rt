@@ -1,4 +1,5 @@
-ghost use Rattle.std.specs.Prelude.{◌≡◌, ◌<◌, ◌≤◌, ◌++◌, ◌+◌, ◌^◌, ◌∷◌, [], suc, length, replicate, slice_set, slice_index, Contains, IfOk, OnOk};
+ghost use Rattle.std.specs.Prelude.{◌≡◌, ◌<◌, ◌≤◌, ◌++◌, ◌+◌, ◌∷◌, [], suc, length, replicate, slice_set, slice_index, Contains, IfOk, OnOk};
+ghost use Rattle.g1_words.specs.Geometry.{most_words};
 ghost use Rattle.g1_words.specs.Heap.{object_at, objects};
 ghost use Rattle.g1_words.specs.Valid.{IsValid};
 ghost use Rattle.g1_same.specs.Walk.{IsWalk, IsWay, IsBelow, IsLinked, HasGrown, AreAlike};
@@ -45,7 +46,8 @@ pub fn start(alloc: Global, before: &Heap, after: &Heap) -> Result<Walk, AllocEr
     ensures before { IsValid before.now }
     ensures after { IsValid after.now }
 {
-    let _sizes = (before.geometry(), after.geometry());
+    g1_words::laws::valid(before);
+    g1_words::laws::valid(after);
     Ok(Walk {
         before: Vec::new(alloc),
         after: Vec::new(alloc),
@@ -61,7 +63,7 @@ impl Walk {
     pub fn add(&mut self, from: u32, number: u32, a: u64, b: u64) -> Result<(), AllocError>
         requires a { a < length self.old.new_of.items }
         requires b { b < length self.old.old_of.items }
-        requires few { length self.old.before.items ≤ 2 ^ 24 }
+        requires few { length self.old.before.items ≤ most_words }
         ensures before { OnOk result (self.new.before.items ≡ self.old.before.items ++ a ∷ []) }
         ensures after { OnOk result (self.new.after.items ≡ self.old.after.items ++ b ∷ []) }
         ensures from { OnOk result (self.new.from.items ≡ self.old.from.items ++ from ∷ []) }

@@ -9,7 +9,8 @@ use Rattle.g1_same.specs.declared.difference.How.{How}
 use Rattle.g1_same.specs.declared.difference.How.TheVariants.{Data}
 use Rattle.g1_same.specs.Same.{IsClash, ClashAt}
 use Rattle.g1judge.specs.Judged.{HasDataWord}
-use Rattle.g1_same.proofs.Heaps.{object_in, root_names, slot_names}
+use Rattle.g1_words.proofs.Sound.{object_in}
+use Rattle.g1_same.proofs.Heaps.{root_names, slot_names}
 
 next_is : (i : ℕ) → suc i ≡ i + 1
 next_is i = omega arith

@@ -13,7 +13,8 @@ use Rattle.g1_words.proofs.Firsts.{Distinct, Distinct-firsts}
 use Rattle.g1_words.proofs.Members.{In, Contains-from_in, in_from_has}
 use Rattle.g1_words.proofs.Ordered.{Ordered, pairs_from_ordered}
 use Rattle.g1_same.specs.Same.{IsRenaming}
-use Rattle.g1_same.proofs.Heaps.{object_in, live_object}
+use Rattle.g1_words.proofs.Sound.{object_in}
+use Rattle.g1_same.proofs.Heaps.{live_object}
 use Rattle.g1judge.specs.Judged.{words_of}
 
 differ : (l : List ℕ) → Distinct l → Ordered (λ x y. x ≢ y) l

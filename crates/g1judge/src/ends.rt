@@ -26,7 +26,7 @@ fn reached(heap: &Heap, root: u64, slots: &[u64]) -> u64
     requires { (y : ℕ) × LeadsTo heap.now (root ∷ slots.now) y }
     ensures { LeadsTo heap.now (root ∷ slots.now) result }
 {
-    let _sizes = heap.geometry();
+    g1_words::laws::valid(heap);
     let mut reference = heap.roots()[root as usize];
     for slot in slots {
         reference = heap.words()[(reference + *slot) as usize];
@@ -39,7 +39,7 @@ fn value(heap: &Heap, reference: u64, number: u64) -> u64
     requires { HasDataWord heap.now reference number }
     ensures { result ≡ data_word heap.now reference number }
 {
-    let _sizes = heap.geometry();
+    g1_words::laws::valid(heap);
     let object = header(heap.words(), reference - 1);
     heap.words()[(reference + object.refs + number) as usize]
 }
@@ -49,7 +49,8 @@ fn values(before: &Heap, after: &Heap, how: &How, old: u64, new: u64) -> (u64, u
     requires { (p : List ℕ) × LeadsTo before.now p old × LeadsTo after.now p new × IsClash before.now after.now p how.now old new }
     ensures { AreValues before.now after.now how.now old new result.0 result.1 }
 {
-    let _sizes = (before.geometry(), after.geometry());
+    g1_words::laws::valid(before);
+    g1_words::laws::valid(after);
     match how {
         How::Data { word } => (value(before, old, *word), value(after, new, *word)),
         _ => (0, 0),

@@ -8,10 +8,10 @@ use Rattle.g1_same.proofs.Excludes.{no_difference}
 use Rattle.g1_same.proofs.comparing.compare.Goals as goal
 
 pub returns-in-Some-clause-never : goal.returns-in-Some-clause-never
-returns-in-Some-clause-never c = λ s. no_difference c.args.before.now c.args.after.now c.in_ok-walk.ensures.before s c.in_ok-told.field-0 c.in_ok-told.ensures.is
+returns-in-Some-clause-never c = λ s. no_difference c.args.before.now c.args.after.now c.in_ok-walk.ensures.before s c.in_ok-report_difference.field-0 c.in_ok-report_difference.ensures.is
 
 pub returns-in-Some-2-clause-never : goal.returns-in-Some-2-clause-never
-returns-in-Some-2-clause-never c = λ s. no_difference c.args.before.now c.args.after.now c.in_ok-walk.ensures.before s c.in_ok-told-2.field-0 c.in_ok-told-2.ensures.is
+returns-in-Some-2-clause-never c = λ s. no_difference c.args.before.now c.args.after.now c.in_ok-walk.ensures.before s c.in_ok-report_difference-2.field-0 c.in_ok-report_difference-2.ensures.is
 
 pub returns-clause-same : goal.returns-clause-same
 returns-clause-same c =

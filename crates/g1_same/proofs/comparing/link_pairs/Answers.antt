@@ -9,7 +9,7 @@ use Rattle.g1_same.proofs.comparing.link_pairs.Goals as goal
 
 pub loop-place-smaller : goal.loop-place-smaller
 loop-place-smaller c =
-    let few = few_pairs c.args.before.now c.args.after.now c.loop-place.walk c.geometry.ensures.valid c.loop-place.invariant.walk in
+    let few = few_pairs c.args.before.now c.args.after.now c.loop-place.walk c.valid.ensures c.loop-place.invariant.walk in
     let lt : c.loop-place.place < length c.loop-place.walk.before.items = omega (arith, c.loop-place-test.true, c.len.ensures, c.loop-place.walk.before.ok) in
     let n : ℕ = length c.args.before.now.words in
     let e : n - (c.loop-place.place + 1) < n - c.loop-place.place = omega (arith, few, lt) in

@@ -9,12 +9,12 @@ use Rattle.g1_same.proofs.comparing.link_roots.Goals as goal
 pub link-requires-clause-x : goal.link-requires-clause-x
 link-requires-clause-x c =
     let lt : c.loop-number.number < length c.args.before.now.roots = let k = ap length c.roots-roots.ensures in omega (arith, k) in
-    subst (λ l. Names c.args.before.now (slice_index l c.loop-number.number)) (sym c.roots-roots.ensures) (root_names c.args.before.now c.loop-number.number c.geometry.ensures.valid lt)
+    subst (λ l. Names c.args.before.now (slice_index l c.loop-number.number)) (sym c.roots-roots.ensures) (root_names c.args.before.now c.loop-number.number c.valid.ensures lt)
 
 pub link-requires-clause-y : goal.link-requires-clause-y
 link-requires-clause-y c =
     let lt : c.loop-number.number < length c.args.after.now.roots = let k = ap length c.roots-roots.ensures in omega (arith, k, c.requires.roots) in
-    subst (λ l. Names c.args.after.now (slice_index l c.loop-number.number)) (sym c.roots-others.ensures) (root_names c.args.after.now c.loop-number.number c.geometry-2.ensures.valid lt)
+    subst (λ l. Names c.args.after.now (slice_index l c.loop-number.number)) (sym c.roots-others.ensures) (root_names c.args.after.now c.loop-number.number c.valid-2.ensures lt)
 
 pub loop-number-preserved : goal.loop-number-preserved
 loop-number-preserved c =

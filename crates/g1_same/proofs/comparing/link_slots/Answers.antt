@@ -1,4 +1,4 @@
-use Rattle.std.proofs.Common.{arith, ap, subst, sym, suc, ℕ, ◌≡◌, ◌<◌, ◌+◌, ◌%◌, ◌^◌, ◌∙◌, Contains, length, slice_index}
+use Rattle.std.proofs.Common.{arith, ap, subst, sym, suc, ℕ, ◌≡◌, ◌<◌, ◌+◌, ◌∙◌, Contains, slice_index}
 use Rattle.std.proofs.lemmas.List.{get_or_read}
 use Rattle.g1_words.specs.Heap.{Heap, word, object_at, objects}
 use Rattle.g1_same.specs.declared.walk.Walk.{Walk}
@@ -6,115 +6,87 @@ use Rattle.g1_same.specs.declared.difference.How.{How}
 use Rattle.g1_same.specs.Walk.{IsLeast, Names, IsLinked, IsSeen, IsBelow, HasGrown}
 use Rattle.g1_same.proofs.Heaps.{slot_names}
 use Rattle.g1_same.proofs.Adding.{grown_more, pairs_fit}
-use Rattle.g1_same.proofs.Steps.{none_then, some_then, slots_more, slots_kept, slot_way}
+use Rattle.g1_same.proofs.Steps.{none_then, some_then, slots_more, slots_kept, slot_way, has_slots, pair_read}
 use Rattle.g1_same.proofs.comparing.link_slots.Goals as goal
 
 pub object-old-requires : goal.object-old-requires
 object-old-requires c =
-    let g : Heap = c.args.before.now in
-    let h : Heap = c.args.after.now in
-    let u : Walk = c.args.walk.now in
-    let place : ℕ = c.args.place in
-    let a : ℕ = c.index-a.result.now in
-    let a_is : a ≡ slice_index u.before.items place = get_or_read u.before.items place a c.requires.place c.index-a.ensures 0 in
-    let a_in : Contains (objects g) (object_at g a) = subst (λ z. Contains (objects g) (object_at g z)) (sym a_is) (c.requires.walk.names_before place c.requires.place) in
-    a_in
+    let a_is = get_or_read c.args.walk.now.before.items c.args.place c.index.result.now c.requires.place c.index.ensures 0 in
+    subst (λ z. Contains (objects c.args.before.now) (object_at c.args.before.now z)) (sym a_is) (c.requires.walk.names_before c.args.place c.requires.place)
 
 pub object-new-requires : goal.object-new-requires
 object-new-requires c =
-    let g : Heap = c.args.before.now in
-    let h : Heap = c.args.after.now in
-    let u : Walk = c.args.walk.now in
-    let place : ℕ = c.args.place in
-    let a : ℕ = c.index-a.result.now in
-    let a_is : a ≡ slice_index u.before.items place = get_or_read u.before.items place a c.requires.place c.index-a.ensures 0 in
-    let b : ℕ = c.index-b.result.now in
-    let b_is : b ≡ slice_index u.after.items place = get_or_read u.after.items place b (omega (arith, c.requires.place, c.requires.walk.pairs)) c.index-b.ensures 0 in
-    let b_in : Contains (objects h) (object_at h b) = subst (λ z. Contains (objects h) (object_at h z)) (sym b_is) (c.requires.walk.names_after place c.requires.place) in
-    b_in
+    let pair = pair_read c.args.before.now c.args.after.now c.args.walk.now c.args.place
+    c.index.result.now c.index-2.result.now c.requires.walk c.requires.place c.index.ensures c.index-2.ensures in
+    pair.after_in
 
-pub bounds-there-b : goal.bounds-there-b
-bounds-there-b c =
-    let g : Heap = c.args.before.now in
-    let h : Heap = c.args.after.now in
-    let u : Walk = c.args.walk.now in
-    let place : ℕ = c.args.place in
-    let a : ℕ = c.index-a.result.now in
-    let a_is : a ≡ slice_index u.before.items place = get_or_read u.before.items place a c.requires.place c.index-a.ensures 0 in
-    let b : ℕ = c.index-b.result.now in
-    let b_is : b ≡ slice_index u.after.items place = get_or_read u.after.items place b (omega (arith, c.requires.place, c.requires.walk.pairs)) c.index-b.ensures 0 in
-    let alike = c.requires.walk.alike place c.requires.place in
-    let head : word g a ≡ word h b = ap (word g) a_is ∙ alike.header ∙ ap (word h) (sym b_is) in
-    let refs : (object_at g a).refs ≡ (object_at h b).refs = ap (λ q. q % 2 ^ 32) head in
-    let w : Walk = c.loop-number.walk in
-    let n : ℕ = c.loop-number.number in
-    let grown : HasGrown u w = c.loop-number.invariant.grown in
-    let n_old : n < (object_at g a).refs = omega (arith, c.loop-number-test.true, c.object-old.ensures.refs) in
-    let n_new : n < (object_at h b).refs = omega (arith, n_old, refs) in
-    omega (arith, n_new, c.object-new.ensures.refs, c.object-new.ensures.fits, c.object-new.ensures.within, ap length c.words-there.ensures)
+pub overflow_cast-from : goal.overflow_cast-from
+overflow_cast-from c =
+    let few = pairs_fit c.args.before.now c.args.after.now c.args.walk.now c.valid.ensures c.requires.walk in
+    omega (arith, few, c.requires.place)
+
+pub overflow_add-from : goal.overflow_add-from
+overflow_add-from c =
+    let few = pairs_fit c.args.before.now c.args.after.now c.args.walk.now c.valid.ensures c.requires.walk in
+    omega (arith, few, c.requires.place)
+
+pub bounds-there-number : goal.bounds-there-number
+bounds-there-number c =
+    let pair = pair_read c.args.before.now c.args.after.now c.args.walk.now c.args.place
+    c.index.result.now c.index-2.result.now c.requires.walk c.requires.place c.index.ensures c.index-2.ensures in
+    let here = has_slots c.args.before.now c.index.result.now c.object-old.result c.words.result.now
+    c.slots-here.result.now c.object-old.ensures.value c.words.ensures c.slots-here.ensures.count c.slots-here.ensures.each in
+    let there = has_slots c.args.after.now c.index-2.result.now c.object-new.result c.words-2.result.now
+    c.slots-there.result.now c.object-new.ensures.value c.words-2.ensures c.slots-there.ensures.count c.slots-there.ensures.each in
+    omega (arith, c.loop-number-test.true, pair.refs, here.count, there.count)
 
 pub link-requires-clause-x : goal.link-requires-clause-x
 link-requires-clause-x c =
     let g : Heap = c.args.before.now in
     let h : Heap = c.args.after.now in
-    let u : Walk = c.args.walk.now in
-    let place : ℕ = c.args.place in
-    let a : ℕ = c.index-a.result.now in
-    let a_is : a ≡ slice_index u.before.items place = get_or_read u.before.items place a c.requires.place c.index-a.ensures 0 in
-    let b : ℕ = c.index-b.result.now in
-    let b_is : b ≡ slice_index u.after.items place = get_or_read u.after.items place b (omega (arith, c.requires.place, c.requires.walk.pairs)) c.index-b.ensures 0 in
-    let alike = c.requires.walk.alike place c.requires.place in
-    let head : word g a ≡ word h b = ap (word g) a_is ∙ alike.header ∙ ap (word h) (sym b_is) in
-    let refs : (object_at g a).refs ≡ (object_at h b).refs = ap (λ q. q % 2 ^ 32) head in
-    let w : Walk = c.loop-number.walk in
+    let pair = pair_read c.args.before.now c.args.after.now c.args.walk.now c.args.place
+    c.index.result.now c.index-2.result.now c.requires.walk c.requires.place c.index.ensures c.index-2.ensures in
+    let here = has_slots c.args.before.now c.index.result.now c.object-old.result c.words.result.now
+    c.slots-here.result.now c.object-old.ensures.value c.words.ensures c.slots-here.ensures.count c.slots-here.ensures.each in
     let n : ℕ = c.loop-number.number in
-    let grown : HasGrown u w = c.loop-number.invariant.grown in
-    let n_old : n < (object_at g a).refs = omega (arith, c.loop-number-test.true, c.object-old.ensures.refs) in
-    let n_new : n < (object_at h b).refs = omega (arith, n_old, refs) in
-    let a_in : Contains (objects g) (object_at g a) = subst (λ z. Contains (objects g) (object_at g z)) (sym a_is) (c.requires.walk.names_before place c.requires.place) in
-    subst (λ l. Names g (slice_index l (a + 1 + n))) (sym c.words-here.ensures) (slot_names g a n c.geometry.ensures.valid a_in n_old)
+    let lt : n < (object_at g c.index.result.now).refs = omega (arith, c.loop-number-test.true, here.count) in
+    subst (Names g) (sym (here.each n c.loop-number-test.true)) (slot_names g c.index.result.now n c.valid.ensures pair.before_in lt)
 
 pub link-requires-clause-y : goal.link-requires-clause-y
 link-requires-clause-y c =
     let g : Heap = c.args.before.now in
     let h : Heap = c.args.after.now in
-    let u : Walk = c.args.walk.now in
-    let place : ℕ = c.args.place in
-    let a : ℕ = c.index-a.result.now in
-    let a_is : a ≡ slice_index u.before.items place = get_or_read u.before.items place a c.requires.place c.index-a.ensures 0 in
-    let b : ℕ = c.index-b.result.now in
-    let b_is : b ≡ slice_index u.after.items place = get_or_read u.after.items place b (omega (arith, c.requires.place, c.requires.walk.pairs)) c.index-b.ensures 0 in
-    let alike = c.requires.walk.alike place c.requires.place in
-    let head : word g a ≡ word h b = ap (word g) a_is ∙ alike.header ∙ ap (word h) (sym b_is) in
-    let refs : (object_at g a).refs ≡ (object_at h b).refs = ap (λ q. q % 2 ^ 32) head in
-    let w : Walk = c.loop-number.walk in
+    let pair = pair_read c.args.before.now c.args.after.now c.args.walk.now c.args.place
+    c.index.result.now c.index-2.result.now c.requires.walk c.requires.place c.index.ensures c.index-2.ensures in
+    let here = has_slots c.args.before.now c.index.result.now c.object-old.result c.words.result.now
+    c.slots-here.result.now c.object-old.ensures.value c.words.ensures c.slots-here.ensures.count c.slots-here.ensures.each in
+    let there = has_slots c.args.after.now c.index-2.result.now c.object-new.result c.words-2.result.now
+    c.slots-there.result.now c.object-new.ensures.value c.words-2.ensures c.slots-there.ensures.count c.slots-there.ensures.each in
     let n : ℕ = c.loop-number.number in
-    let grown : HasGrown u w = c.loop-number.invariant.grown in
-    let n_old : n < (object_at g a).refs = omega (arith, c.loop-number-test.true, c.object-old.ensures.refs) in
-    let n_new : n < (object_at h b).refs = omega (arith, n_old, refs) in
-    let b_in : Contains (objects h) (object_at h b) = subst (λ z. Contains (objects h) (object_at h z)) (sym b_is) (c.requires.walk.names_after place c.requires.place) in
-    subst (λ l. Names h (slice_index l (b + 1 + n))) (sym c.words-there.ensures) (slot_names h b n c.geometry-2.ensures.valid b_in n_new)
+    let lt : n < (object_at h c.index-2.result.now).refs = omega (arith, c.loop-number-test.true, here.count, pair.refs) in
+    subst (Names h) (sym (there.each n (omega (arith, lt, there.count)))) (slot_names h c.index-2.result.now n c.valid-2.ensures pair.after_in lt)
 
 pub link-requires-clause-way : goal.link-requires-clause-way
 link-requires-clause-way c =
     let g : Heap = c.args.before.now in
     let h : Heap = c.args.after.now in
-    let u : Walk = c.args.walk.now in
-    let place : ℕ = c.args.place in
-    let a : ℕ = c.index-a.result.now in
-    let a_is : a ≡ slice_index u.before.items place = get_or_read u.before.items place a c.requires.place c.index-a.ensures 0 in
-    let b : ℕ = c.index-b.result.now in
-    let b_is : b ≡ slice_index u.after.items place = get_or_read u.after.items place b (omega (arith, c.requires.place, c.requires.walk.pairs)) c.index-b.ensures 0 in
-    let alike = c.requires.walk.alike place c.requires.place in
-    let head : word g a ≡ word h b = ap (word g) a_is ∙ alike.header ∙ ap (word h) (sym b_is) in
-    let refs : (object_at g a).refs ≡ (object_at h b).refs = ap (λ q. q % 2 ^ 32) head in
+    let pair = pair_read c.args.before.now c.args.after.now c.args.walk.now c.args.place
+    c.index.result.now c.index-2.result.now c.requires.walk c.requires.place c.index.ensures c.index-2.ensures in
+    let here = has_slots c.args.before.now c.index.result.now c.object-old.result c.words.result.now
+    c.slots-here.result.now c.object-old.ensures.value c.words.ensures c.slots-here.ensures.count c.slots-here.ensures.each in
+    let there = has_slots c.args.after.now c.index-2.result.now c.object-new.result c.words-2.result.now
+    c.slots-there.result.now c.object-new.ensures.value c.words-2.ensures c.slots-there.ensures.count c.slots-there.ensures.each in
     let w : Walk = c.loop-number.walk in
     let n : ℕ = c.loop-number.number in
-    let grown : HasGrown u w = c.loop-number.invariant.grown in
-    let n_old : n < (object_at g a).refs = omega (arith, c.loop-number-test.true, c.object-old.ensures.refs) in
-    let n_new : n < (object_at h b).refs = omega (arith, n_old, refs) in
-    slot_way g h w.before.items w.after.items place n a b _ _ (omega (arith, c.requires.place, grown.more)) (grown.olds place c.requires.place ∙ sym a_is) (grown.news place c.requires.place ∙ sym b_is) n_old n_new
-    (ap (λ l. slice_index l (a + 1 + n)) (sym c.words-here.ensures)) (ap (λ l. slice_index l (b + 1 + n)) (sym c.words-there.ensures))
+    let a : ℕ = c.index.result.now in
+    let b : ℕ = c.index-2.result.now in
+    let grown : HasGrown c.args.walk.now w = c.loop-number.invariant.grown in
+    let n_old : n < (object_at g a).refs = omega (arith, c.loop-number-test.true, here.count) in
+    let n_new : n < (object_at h b).refs = omega (arith, n_old, pair.refs) in
+    let x_is = here.each n c.loop-number-test.true in
+    let y_is = there.each n (omega (arith, n_new, there.count)) in
+    slot_way g h w.before.items w.after.items c.args.place n a b _ _ (omega (arith, pair.place, grown.more)) (grown.olds c.args.place pair.place ∙ pair.before)
+    (grown.news c.args.place pair.place ∙ pair.after) n_old n_new (sym x_is) (sym y_is)
 
 pub returns-in-Some-clause-grown : goal.returns-in-Some-clause-grown
 returns-in-Some-clause-grown c = grown_more c.args.walk.now c.loop-number.walk c.link.new.walk c.loop-number.invariant.grown c.in_ok-how.ensures.grown
@@ -123,29 +95,30 @@ pub returns-in-Some-clause-stop : goal.returns-in-Some-clause-stop
 returns-in-Some-clause-stop c =
     let g : Heap = c.args.before.now in
     let h : Heap = c.args.after.now in
-    let u : Walk = c.args.walk.now in
-    let place : ℕ = c.args.place in
-    let a : ℕ = c.index-a.result.now in
-    let a_is : a ≡ slice_index u.before.items place = get_or_read u.before.items place a c.requires.place c.index-a.ensures 0 in
-    let b : ℕ = c.index-b.result.now in
-    let b_is : b ≡ slice_index u.after.items place = get_or_read u.after.items place b (omega (arith, c.requires.place, c.requires.walk.pairs)) c.index-b.ensures 0 in
-    let alike = c.requires.walk.alike place c.requires.place in
-    let head : word g a ≡ word h b = ap (word g) a_is ∙ alike.header ∙ ap (word h) (sym b_is) in
-    let refs : (object_at g a).refs ≡ (object_at h b).refs = ap (λ q. q % 2 ^ 32) head in
+    let pair = pair_read c.args.before.now c.args.after.now c.args.walk.now c.args.place
+    c.index.result.now c.index-2.result.now c.requires.walk c.requires.place c.index.ensures c.index-2.ensures in
+    let here = has_slots c.args.before.now c.index.result.now c.object-old.result c.words.result.now
+    c.slots-here.result.now c.object-old.ensures.value c.words.ensures c.slots-here.ensures.count c.slots-here.ensures.each in
+    let there = has_slots c.args.after.now c.index-2.result.now c.object-new.result c.words-2.result.now
+    c.slots-there.result.now c.object-new.ensures.value c.words-2.ensures c.slots-there.ensures.count c.slots-there.ensures.each in
     let w : Walk = c.loop-number.walk in
     let n : ℕ = c.loop-number.number in
-    let grown : HasGrown u w = c.loop-number.invariant.grown in
-    let n_old : n < (object_at g a).refs = omega (arith, c.loop-number-test.true, c.object-old.ensures.refs) in
-    let n_new : n < (object_at h b).refs = omega (arith, n_old, refs) in
+    let a : ℕ = c.index.result.now in
+    let b : ℕ = c.index-2.result.now in
+    let grown : HasGrown c.args.walk.now w = c.loop-number.invariant.grown in
+    let n_old : n < (object_at g a).refs = omega (arith, c.loop-number-test.true, here.count) in
+    let n_new : n < (object_at h b).refs = omega (arith, n_old, pair.refs) in
+    let x_is = here.each n c.loop-number-test.true in
+    let y_is = there.each n (omega (arith, n_new, there.count)) in
     let v : Walk = c.link.new.walk in
-    let more : HasGrown u v = grown_more u w v grown c.in_ok-how.ensures.grown in
-    let x : ℕ = slice_index c.words-here.result.now (a + 1 + n) in
-    let y : ℕ = slice_index c.words-there.result.now (b + 1 + n) in
-    let k = some_then (λ (how : How). IsSeen g h v how x y × IsBelow v (place + 1) n × IsLeast g h v how x y) c.in_ok-how.field-0 c.in-Some.how c.in-Some.is c.in_ok-how.ensures.clash in (
+    let more : HasGrown c.args.walk.now v = grown_more c.args.walk.now w v grown c.in_ok-how.ensures.grown in
+    let x : ℕ = slice_index c.slots-here.result.now n in
+    let y : ℕ = slice_index c.slots-there.result.now n in
+    let k = some_then (λ (how : How). IsSeen g h v how x y × IsBelow v (c.args.place + 1) n × IsLeast g h v how x y) c.in_ok-how.field-0 c.in-Some.how c.in-Some.is c.in_ok-how.ensures.clash in (
       x,
       y,
-      slot_way g h v.before.items v.after.items place n a b x y (omega (arith, c.requires.place, more.more)) (more.olds place c.requires.place ∙ sym a_is) (more.news place c.requires.place ∙ sym b_is) n_old n_new
-          (ap (λ l. slice_index l (a + 1 + n)) (sym c.words-here.ensures)) (ap (λ l. slice_index l (b + 1 + n)) (sym c.words-there.ensures)),
+      slot_way g h v.before.items v.after.items c.args.place n a b x y (omega (arith, pair.place, more.more)) (more.olds c.args.place pair.place ∙ pair.before)
+          (more.news c.args.place pair.place ∙ pair.after) n_old n_new (sym x_is) (sym y_is),
       k.0,
       k.1,
       k.2,
@@ -155,31 +128,33 @@ pub loop-number-preserved : goal.loop-number-preserved
 loop-number-preserved c =
     let g : Heap = c.args.before.now in
     let h : Heap = c.args.after.now in
-    let u : Walk = c.args.walk.now in
-    let place : ℕ = c.args.place in
-    let a : ℕ = c.index-a.result.now in
-    let a_is : a ≡ slice_index u.before.items place = get_or_read u.before.items place a c.requires.place c.index-a.ensures 0 in
-    let b : ℕ = c.index-b.result.now in
-    let b_is : b ≡ slice_index u.after.items place = get_or_read u.after.items place b (omega (arith, c.requires.place, c.requires.walk.pairs)) c.index-b.ensures 0 in
-    let alike = c.requires.walk.alike place c.requires.place in
-    let head : word g a ≡ word h b = ap (word g) a_is ∙ alike.header ∙ ap (word h) (sym b_is) in
-    let refs : (object_at g a).refs ≡ (object_at h b).refs = ap (λ q. q % 2 ^ 32) head in
+    let pair = pair_read c.args.before.now c.args.after.now c.args.walk.now c.args.place
+    c.index.result.now c.index-2.result.now c.requires.walk c.requires.place c.index.ensures c.index-2.ensures in
+    let here = has_slots c.args.before.now c.index.result.now c.object-old.result c.words.result.now
+    c.slots-here.result.now c.object-old.ensures.value c.words.ensures c.slots-here.ensures.count c.slots-here.ensures.each in
+    let there = has_slots c.args.after.now c.index-2.result.now c.object-new.result c.words-2.result.now
+    c.slots-there.result.now c.object-new.ensures.value c.words-2.ensures c.slots-there.ensures.count c.slots-there.ensures.each in
     let w : Walk = c.loop-number.walk in
     let n : ℕ = c.loop-number.number in
-    let grown : HasGrown u w = c.loop-number.invariant.grown in
-    let n_old : n < (object_at g a).refs = omega (arith, c.loop-number-test.true, c.object-old.ensures.refs) in
-    let n_new : n < (object_at h b).refs = omega (arith, n_old, refs) in
+    let a : ℕ = c.index.result.now in
+    let b : ℕ = c.index-2.result.now in
+    let grown : HasGrown c.args.walk.now w = c.loop-number.invariant.grown in
+    let n_old : n < (object_at g a).refs = omega (arith, c.loop-number-test.true, here.count) in
+    let n_new : n < (object_at h b).refs = omega (arith, n_old, pair.refs) in
+    let x_is = here.each n c.loop-number-test.true in
+    let y_is = there.each n (omega (arith, n_new, there.count)) in
     let v : Walk = c.link.new.walk in
-    let x : ℕ = slice_index c.words-here.result.now (a + 1 + n) in
-    let y : ℕ = slice_index c.words-there.result.now (b + 1 + n) in
-    let l = none_then (IsLinked v (place + 1) n x y) c.in_ok-how.field-0 c.in_default.not-Some c.in_ok-how.ensures.linked in
-    let one : place + 1 ≡ suc place = omega arith in
-    let l' : IsLinked v (suc place) n (word g (a + 1 + n)) (word h (b + 1 + n)) =
-    subst (λ q. IsLinked v (suc place) n (slice_index q (a + 1 + n)) (word h (b + 1 + n))) c.words-here.ensures (subst (λ q. IsLinked v (suc place) n x (slice_index q (b + 1 + n))) c.words-there.ensures (subst (λ z. IsLinked v z n x y) one l)) in
+    let x : ℕ = slice_index c.slots-here.result.now n in
+    let y : ℕ = slice_index c.slots-there.result.now n in
+    let l = none_then (IsLinked v (c.args.place + 1) n x y) c.in_ok-how.field-0 c.in_default.not-Some c.in_ok-how.ensures.linked in
+    let one : c.args.place + 1 ≡ suc c.args.place = omega arith in
+    let l' : IsLinked v (suc c.args.place) n (word g (a + 1 + n)) (word h (b + 1 + n)) =
+    subst (λ z. IsLinked v (suc c.args.place) n z (word h (b + 1 + n))) x_is (subst (λ z. IsLinked v (suc c.args.place) n x z) y_is (subst (λ z. IsLinked v z n x y) one l)) in
     record {
       walk = c.in_ok-how.ensures.walk;
-      grown = grown_more u w v grown c.in_ok-how.ensures.grown;
-      linked = slots_more g h w v place n a b c.in_ok-how.ensures.grown (omega (arith, c.requires.place, grown.more)) (grown.olds place c.requires.place ∙ sym a_is) (grown.news place c.requires.place ∙ sym b_is) c.loop-number.invariant.linked l';
+      grown = grown_more c.args.walk.now w v grown c.in_ok-how.ensures.grown;
+      linked = slots_more g h w v c.args.place n a b c.in_ok-how.ensures.grown (omega (arith, pair.place, grown.more)) (grown.olds c.args.place pair.place ∙ pair.before)
+          (grown.news c.args.place pair.place ∙ pair.after) c.loop-number.invariant.linked l';
       below = c.in_ok-how.ensures.below;
     }
 
@@ -190,24 +165,9 @@ returns-in-Some-clause-until c =
 
 pub returns-clause-linked : goal.returns-clause-linked
 returns-clause-linked c =
-    let g : Heap = c.args.before.now in
-    let h : Heap = c.args.after.now in
-    let u : Walk = c.args.walk.now in
-    let place : ℕ = c.args.place in
-    let a : ℕ = c.index-a.result.now in
-    let a_is : a ≡ slice_index u.before.items place = get_or_read u.before.items place a c.requires.place c.index-a.ensures 0 in
-    let refs : (object_at g (slice_index u.before.items place)).refs ≡ (object_at g a).refs = ap (λ z. (object_at g z).refs) (sym a_is) in
-    λ n p. c.loop-number.invariant.linked n (omega (arith, p, refs, c.loop-number-test.false, c.object-old.ensures.refs))
-
-pub overflow_cast-from : goal.overflow_cast-from
-overflow_cast-from c =
-    let k = pairs_fit c.args.before.now c.args.after.now c.args.walk.now c.geometry.ensures.valid c.requires.walk in
-    omega (arith, k, c.requires.place)
-
-pub overflow_add-from : goal.overflow_add-from
-overflow_add-from c =
-    let k = pairs_fit c.args.before.now c.args.after.now c.args.walk.now c.geometry.ensures.valid c.requires.walk in
-    omega (arith, k, c.requires.place)
-
-pub loop-number-smaller : goal.loop-number-smaller
-loop-number-smaller c = omega (arith, c.loop-number-test.true)
+    let pair = pair_read c.args.before.now c.args.after.now c.args.walk.now c.args.place
+    c.index.result.now c.index-2.result.now c.requires.walk c.requires.place c.index.ensures c.index-2.ensures in
+    let here = has_slots c.args.before.now c.index.result.now c.object-old.result c.words.result.now
+    c.slots-here.result.now c.object-old.ensures.value c.words.ensures c.slots-here.ensures.count c.slots-here.ensures.each in
+    let refs = ap (λ z. (object_at c.args.before.now z).refs) pair.before in
+    λ n p. c.loop-number.invariant.linked n (omega (arith, p, refs, c.loop-number-test.false, here.count))

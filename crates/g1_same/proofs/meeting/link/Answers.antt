@@ -1,21 +1,21 @@
 use Rattle.std.proofs.Common.{arith, subst, sym, suc, ℕ, ◌<◌, length}
 use Rattle.g1_same.specs.Walk.{IsLinked, IsWay}
-use Rattle.g1_same.proofs.Heaps.{object_in}
+use Rattle.g1_words.proofs.Sound.{object_in}
 use Rattle.g1_same.proofs.Adding.{IsAdded, added_walk, added_linked, added_below, linked_by, pairs_fit}
 use Rattle.g1_same.proofs.meeting.link.Goals as goal
 
 pub add-requires-clause-a : goal.add-requires-clause-a
 add-requires-clause-a c =
-    let o = object_in c.args.before.now c.in-New.a c.geometry.ensures.valid (c.requires.x c.in-New.a c.in-New.ensures.0) in
+    let o = object_in c.args.before.now c.in-New.a c.valid.ensures (c.requires.x c.in-New.a c.in-New.ensures.0) in
     omega (arith, o.0, o.1, c.requires.walk.table_before)
 
 pub add-requires-clause-b : goal.add-requires-clause-b
 add-requires-clause-b c =
-    let o = object_in c.args.after.now c.in-New.b c.geometry-2.ensures.valid (c.requires.y c.in-New.b c.in-New.ensures.1) in
+    let o = object_in c.args.after.now c.in-New.b c.valid-2.ensures (c.requires.y c.in-New.b c.in-New.ensures.1) in
     omega (arith, o.0, o.1, c.requires.walk.table_after)
 
 pub add-requires-clause-few : goal.add-requires-clause-few
-add-requires-clause-few c = pairs_fit c.args.before.now c.args.after.now c.args.walk.now c.geometry.ensures.valid c.requires.walk
+add-requires-clause-few c = pairs_fit c.args.before.now c.args.after.now c.args.walk.now c.valid.ensures c.requires.walk
 
 pub returns-in_ok-add-in-New-clause-walk : goal.returns-in_ok-add-in-New-clause-walk
 returns-in_ok-add-in-New-clause-walk c =
@@ -28,8 +28,8 @@ returns-in_ok-add-in-New-clause-walk c =
     let b : ℕ = c.in-New.b in
     let x_in = c.requires.x a met.0 in
     let y_in = c.requires.y b met.1 in
-    let x_lt : a < length w.new_of.items = let o = object_in g a c.geometry.ensures.valid x_in in omega (arith, o.0, o.1, c.requires.walk.table_before) in
-    let y_lt : b < length w.old_of.items = let o = object_in h b c.geometry-2.ensures.valid y_in in omega (arith, o.0, o.1, c.requires.walk.table_after) in
+    let x_lt : a < length w.new_of.items = let o = object_in g a c.valid.ensures x_in in omega (arith, o.0, o.1, c.requires.walk.table_before) in
+    let y_lt : b < length w.old_of.items = let o = object_in h b c.valid-2.ensures y_in in omega (arith, o.0, o.1, c.requires.walk.table_after) in
     let e : IsAdded w v c.args.from c.args.number a b = record {
       before = c.in_ok-add-in-New.ensures.before;
       after = c.in_ok-add-in-New.ensures.after;

@@ -10,13 +10,13 @@ some n h = omega arith
 pub index-i-requires : goal.index-i-requires
 index-i-requires c =
     let g = c.args.before.now in
-    let k = named_below g c.args.x c.geometry.ensures.valid c.if-x-eq0.false c.requires.x in
+    let k = named_below g c.args.x c.valid.ensures c.if-x-eq0.false c.requires.x in
     omega (arith, k, c.requires.walk.table_before, c.args.walk.now.new_of.ok)
 
 pub index-j-requires : goal.index-j-requires
 index-j-requires c =
     let h = c.args.after.now in
-    let k = named_below h c.args.y c.geometry-2.ensures.valid c.if-y-eq0-2.false c.requires.y in
+    let k = named_below h c.args.y c.valid-2.ensures c.if-y-eq0-2.false c.requires.y in
     omega (arith, k, c.requires.walk.table_after, c.args.walk.now.old_of.ok)
 
 pub index-requires : goal.index-requires
@@ -24,8 +24,8 @@ index-requires c =
     let g = c.args.before.now in
     let h = c.args.after.now in
     let w = c.args.walk.now in
-    let left = c.geometry.ensures.valid in
-    let right = c.geometry-2.ensures.valid in
+    let left = c.valid.ensures in
+    let right = c.valid-2.ensures in
     let x_lt : c.args.x - 1 < length w.new_of.items = let k = named_below g c.args.x left c.if-x-eq0.false c.requires.x in omega (arith, k, c.requires.walk.table_before) in
     let y_lt : c.args.y - 1 < length w.old_of.items = let k = named_below h c.args.y right c.if-y-eq0-2.false c.requires.y in omega (arith, k, c.requires.walk.table_after) in
     let is_i : c.index-i.result.now ≡ slice_index w.new_of.items (c.args.x - 1) = get_or_read w.new_of.items (c.args.x - 1) c.index-i.result.now x_lt c.index-i.ensures 0 in
@@ -40,8 +40,8 @@ returns-then-i-ne0 c =
     let g = c.args.before.now in
     let h = c.args.after.now in
     let w = c.args.walk.now in
-    let left = c.geometry.ensures.valid in
-    let right = c.geometry-2.ensures.valid in
+    let left = c.valid.ensures in
+    let right = c.valid-2.ensures in
     let x_lt : c.args.x - 1 < length w.new_of.items = let k = named_below g c.args.x left c.if-x-eq0.false c.requires.x in omega (arith, k, c.requires.walk.table_before) in
     let y_lt : c.args.y - 1 < length w.old_of.items = let k = named_below h c.args.y right c.if-y-eq0-2.false c.requires.y in omega (arith, k, c.requires.walk.table_after) in
     let is_i : c.index-i.result.now ≡ slice_index w.new_of.items (c.args.x - 1) = get_or_read w.new_of.items (c.args.x - 1) c.index-i.result.now x_lt c.index-i.ensures 0 in
@@ -57,8 +57,8 @@ index-requires-then-i-j c =
     let g = c.args.before.now in
     let h = c.args.after.now in
     let w = c.args.walk.now in
-    let left = c.geometry.ensures.valid in
-    let right = c.geometry-2.ensures.valid in
+    let left = c.valid.ensures in
+    let right = c.valid-2.ensures in
     let x_lt : c.args.x - 1 < length w.new_of.items = let k = named_below g c.args.x left c.if-x-eq0.false c.requires.x in omega (arith, k, c.requires.walk.table_before) in
     let y_lt : c.args.y - 1 < length w.old_of.items = let k = named_below h c.args.y right c.if-y-eq0-2.false c.requires.y in omega (arith, k, c.requires.walk.table_after) in
     let is_i : c.index-i.result.now ≡ slice_index w.new_of.items (c.args.x - 1) = get_or_read w.new_of.items (c.args.x - 1) c.index-i.result.now x_lt c.index-i.ensures 0 in
@@ -73,8 +73,8 @@ returns-then-i-j c =
     let g = c.args.before.now in
     let h = c.args.after.now in
     let w = c.args.walk.now in
-    let left = c.geometry.ensures.valid in
-    let right = c.geometry-2.ensures.valid in
+    let left = c.valid.ensures in
+    let right = c.valid-2.ensures in
     let x_lt : c.args.x - 1 < length w.new_of.items = let k = named_below g c.args.x left c.if-x-eq0.false c.requires.x in omega (arith, k, c.requires.walk.table_before) in
     let y_lt : c.args.y - 1 < length w.old_of.items = let k = named_below h c.args.y right c.if-y-eq0-2.false c.requires.y in omega (arith, k, c.requires.walk.table_after) in
     let is_i : c.index-i.result.now ≡ slice_index w.new_of.items (c.args.x - 1) = get_or_read w.new_of.items (c.args.x - 1) c.index-i.result.now x_lt c.index-i.ensures 0 in
@@ -90,8 +90,8 @@ returns-then-i-ne0-2 c =
     let g = c.args.before.now in
     let h = c.args.after.now in
     let w = c.args.walk.now in
-    let left = c.geometry.ensures.valid in
-    let right = c.geometry-2.ensures.valid in
+    let left = c.valid.ensures in
+    let right = c.valid-2.ensures in
     let x_lt : c.args.x - 1 < length w.new_of.items = let k = named_below g c.args.x left c.if-x-eq0.false c.requires.x in omega (arith, k, c.requires.walk.table_before) in
     let y_lt : c.args.y - 1 < length w.old_of.items = let k = named_below h c.args.y right c.if-y-eq0-2.false c.requires.y in omega (arith, k, c.requires.walk.table_after) in
     let is_i : c.index-i.result.now ≡ slice_index w.new_of.items (c.args.x - 1) = get_or_read w.new_of.items (c.args.x - 1) c.index-i.result.now x_lt c.index-i.ensures 0 in
@@ -106,8 +106,8 @@ returns-in-Some c =
     let g = c.args.before.now in
     let h = c.args.after.now in
     let w = c.args.walk.now in
-    let left = c.geometry.ensures.valid in
-    let right = c.geometry-2.ensures.valid in
+    let left = c.valid.ensures in
+    let right = c.valid-2.ensures in
     let x_lt : c.args.x - 1 < length w.new_of.items = let k = named_below g c.args.x left c.if-x-eq0.false c.requires.x in omega (arith, k, c.requires.walk.table_before) in
     let y_lt : c.args.y - 1 < length w.old_of.items = let k = named_below h c.args.y right c.if-y-eq0-2.false c.requires.y in omega (arith, k, c.requires.walk.table_after) in
     let is_i : c.index-i.result.now ≡ slice_index w.new_of.items (c.args.x - 1) = get_or_read w.new_of.items (c.args.x - 1) c.index-i.result.now x_lt c.index-i.ensures 0 in

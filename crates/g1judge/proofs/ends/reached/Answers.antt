@@ -7,12 +7,12 @@ loop-slot-init c =
     let h = c.args.heap.now in
     let slots = c.args.slots.now in
     subst (λ roots. IsOn h c.args.root slots 0 (slice_index roots c.args.root)) (sym c.roots.ensures)
-    (on_start h c.geometry-sizes.ensures.valid c.args.root slots c.requires.0 c.requires.1)
+    (on_start h c.valid.ensures c.args.root slots c.requires.0 c.requires.1)
 
 pub bounds-words-reference : goal.bounds-words-reference
 bounds-words-reference c =
     let h = c.args.heap.now in
-    let within = on_within h c.geometry-sizes.ensures.valid c.args.root c.args.slots.now c.requires.0 c.requires.1 c.loop-slot.slot-index c.loop-slot.reference c.loop-slot.invariant c.loop-slot-test.true in
+    let within = on_within h c.valid.ensures c.args.root c.args.slots.now c.requires.0 c.requires.1 c.loop-slot.slot-index c.loop-slot.reference c.loop-slot.invariant c.loop-slot-test.true in
     let count : length c.words.result.now ≡ length h.words = ap length c.words.ensures in
     omega (arith, within, count)
 
@@ -23,4 +23,4 @@ loop-slot-preserved c =
     let i = c.loop-slot.slot-index in
     let x = c.loop-slot.reference in
     subst (λ words. IsOn h c.args.root slots (i + 1) (slice_index words (x + get_or slots i 0))) (sym c.words.ensures)
-    (on_step h c.geometry-sizes.ensures.valid c.args.root slots c.requires.0 c.requires.1 i x c.loop-slot.invariant c.loop-slot-test.true)
+    (on_step h c.valid.ensures c.args.root slots c.requires.0 c.requires.1 i x c.loop-slot.invariant c.loop-slot-test.true)

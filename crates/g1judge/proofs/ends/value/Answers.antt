@@ -1,14 +1,14 @@
 use Rattle.std.proofs.Common.{◌≡◌, ◌-◌, ◌%◌, ◌^◌, length, ap, ◌∙◌, arith, slice_index}
 use Rattle.g1_words.specs.declared.object.Object.{Object}
 use Rattle.g1_words.specs.Heap.{word, object_at}
-use Rattle.g1_same.proofs.Heaps.{object_in}
+use Rattle.g1_words.proofs.Sound.{object_in}
 use Rattle.g1judge.proofs.ends.value.Goals as goal
 
 pub bounds-words-reference : goal.bounds-words-reference
 bounds-words-reference c =
     let h = c.args.heap.now in
     let r = c.requires in
-    let o = object_in h r.address c.geometry-sizes.ensures.valid r.object in
+    let o = object_in h r.address c.valid.ensures r.object in
     let at : c.args.reference - 1 ≡ r.address = omega (arith, r.is) in
     let refs : c.header-object.result.refs ≡ (object_at h r.address).refs =
     ap (λ (q : Object). q.refs) c.header-object.ensures.value ∙ ap (λ ws. slice_index ws (c.args.reference - 1) % 2 ^ 32) c.words.ensures ∙ ap (λ n. word h n % 2 ^ 32) at in

@@ -8,11 +8,11 @@ value-requires c =
     let g = c.args.before.now in
     let h = c.args.after.now in
     let r = c.requires in
-    value_before g h r.0 c.args.old c.args.new c.in-Data.word c.geometry.ensures.valid r.1 (subst (λ how. IsClash g h r.0 how c.args.old c.args.new) c.in-Data.is r.3)
+    value_before g h r.0 c.args.old c.args.new c.in-Data.word c.valid.ensures r.1 (subst (λ how. IsClash g h r.0 how c.args.old c.args.new) c.in-Data.is r.3)
 
 pub value-requires-in-Data : goal.value-requires-in-Data
 value-requires-in-Data c =
     let g = c.args.before.now in
     let h = c.args.after.now in
     let r = c.requires in
-    value_after g h r.0 c.args.old c.args.new c.in-Data.word c.geometry-2.ensures.valid r.2 (subst (λ how. IsClash g h r.0 how c.args.old c.args.new) c.in-Data.is r.3)
+    value_after g h r.0 c.args.old c.args.new c.in-Data.word c.valid-2.ensures r.2 (subst (λ how. IsClash g h r.0 how c.args.old c.args.new) c.in-Data.is r.3)

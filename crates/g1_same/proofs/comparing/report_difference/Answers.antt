@@ -3,7 +3,7 @@ use Rattle.std.proofs.lemmas.List.{get_or_read, reverse-append}
 use Rattle.g1_same.specs.declared.walk.Walk.{Walk}
 use Rattle.g1_same.specs.Walk.{IsRoute, root, slot}
 use Rattle.g1_same.proofs.First.{first}
-use Rattle.g1_same.proofs.comparing.told.Goals as goal
+use Rattle.g1_same.proofs.comparing.report_difference.Goals as goal
 
 pub loop-from-preserved : goal.loop-from-preserved
 loop-from-preserved c =
@@ -32,4 +32,4 @@ returns c =
     let none : 0 ≡ c.loop-from.from = omega (arith, c.loop-from-test.false) in
     let u = c.loop-from.invariant.route (n ∷ []) (subst (λ z. IsRoute w z n (n ∷ [])) none (root n)) in
     let v : IsRoute w c.args.stop.from c.args.stop.number (n ∷ c.reverse.new.self.items) = subst (λ l. IsRoute w c.args.stop.from c.args.stop.number (n ∷ l)) (sym c.reverse.ensures.items) u in
-    first c.args.before.now c.args.after.now c.geometry.ensures.valid c.geometry-2.ensures.valid w c.requires.walk c.args.stop n c.reverse.new.self c.requires.roots c.requires.until c.requires.stop v
+    first c.args.before.now c.args.after.now c.valid.ensures c.valid-2.ensures w c.requires.walk c.args.stop n c.reverse.new.self c.requires.roots c.requires.until c.requires.stop v

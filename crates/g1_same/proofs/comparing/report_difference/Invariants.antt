@@ -1,6 +1,6 @@
 use Rattle.std.proofs.Common.{◌≤◌, ◌++◌, List, ℕ, length, reverse}
 use Rattle.g1_same.specs.Walk.{IsRoute}
-use Rattle.g1_same.proofs.comparing.told.Given as goal
+use Rattle.g1_same.proofs.comparing.report_difference.Given as goal
 
 abbrev pub invariant-loop-from : goal.invariant-loop-from
 invariant-loop-from l = record {

@@ -1,0 +1,127 @@
+-- The first loss, and that there is one of the heaps' tables at most.
+use Rattle.std.proofs.Common.{◌≡◌, ◌≢◌, ℕ, ◌<◌, ◌⊎◌, inl, inr, List, length, IsTrue, IsFalse, refl, sym, subst, ◌∙◌, arith}
+use Rattle.std.proofs.lemmas.Bool.{cases_lt, false≢true}
+use native.Mathlib.Decide.{ℕ_discrete}
+use Rattle.g1_words.specs.Lists.{has}
+use Rattle.g1_words.specs.Heap.{Heap, kind, top, pinned}
+use Rattle.g1_words.specs.Valid.{IsValid}
+use Rattle.g1_kept.specs.declared.lost.Lost.{Lost}
+use Rattle.g1_kept.specs.declared.lost.Lost.TheVariants as lost
+use Rattle.g1_kept.specs.Keeps.{IsAsItWas, KeepsRegion, KeepsTable}
+use Rattle.g1_kept.specs.Lost.{IsUsedOutside, IsLoss, KeepsBefore, IsEarliest}
+use Rattle.g1_kept.specs.Laws.{IsOfTables, OneOfTables}
+use Rattle.g1_kept.proofs.Regions.{same_top}
+
+-- what is lost of a region
+data AtRegion (set : List ℕ) (g h : Heap) (l : Lost) (r : ℕ) : Type 0 where
+  for_set : l ≡ lost.Set r → IsTrue (has set r) → AtRegion set g h l r
+  for_table : l ≡ lost.Region r → IsFalse (has set r) → (kind h r ≢ kind g r) ⊎ (top h r ≢ top g r) → AtRegion set g h l r
+  for_unpinned : l ≡ lost.Unpinned r → IsFalse (has set r) → kind h r ≡ kind g r → top h r ≡ top g r → IsTrue (pinned g r) → AtRegion set g h l r
+  for_pinned : l ≡ lost.Pinned r → IsFalse (has set r) → kind h r ≡ kind g r → top h r ≡ top g r → IsFalse (pinned g r) → AtRegion set g h l r
+
+module _ (set : List ℕ) (g h : Heap) (left : IsValid g) (right : IsValid h) where
+  both : (r : ℕ) → kind h r ≡ kind g r → top h r ≡ top g r → (kind h r ≢ kind g r) ⊎ (top h r ≢ top g r) → ⊥
+  both r k t (inl d) = d k
+  both r k t (inr d) = d t
+
+  -- one region has one loss
+  same_region : (l m : Lost) (r : ℕ) → AtRegion set g h l r → AtRegion set g h m r → l ≡ m
+  same_region l m r (for_set e t) (for_set f u) = e ∙ sym f
+  same_region l m r (for_set e t) (for_table f u d) = absurd (false≢true (sym u ∙ t))
+  same_region l m r (for_set e t) (for_unpinned f u a b p) = absurd (false≢true (sym u ∙ t))
+  same_region l m r (for_set e t) (for_pinned f u a b p) = absurd (false≢true (sym u ∙ t))
+  same_region l m r (for_table e t d) (for_set f u) = absurd (false≢true (sym t ∙ u))
+  same_region l m r (for_table e t d) (for_table f u d') = e ∙ sym f
+  same_region l m r (for_table e t d) (for_unpinned f u a b p) = absurd (both r a b d)
+  same_region l m r (for_table e t d) (for_pinned f u a b p) = absurd (both r a b d)
+  same_region l m r (for_unpinned e t a b p) (for_set f u) = absurd (false≢true (sym t ∙ u))
+  same_region l m r (for_unpinned e t a b p) (for_table f u d) = absurd (both r a b d)
+  same_region l m r (for_unpinned e t a b p) (for_unpinned f u a' b' p') = e ∙ sym f
+  same_region l m r (for_unpinned e t a b p) (for_pinned f u a' b' p') = absurd (false≢true (sym p' ∙ p))
+  same_region l m r (for_pinned e t a b p) (for_set f u) = absurd (false≢true (sym t ∙ u))
+  same_region l m r (for_pinned e t a b p) (for_table f u d) = absurd (both r a b d)
+  same_region l m r (for_pinned e t a b p) (for_unpinned f u a' b' p') = absurd (false≢true (sym p ∙ p'))
+  same_region l m r (for_pinned e t a b p) (for_pinned f u a' b' p') = e ∙ sym f
+
+  as_it_was : (r : ℕ) → IsUsedOutside set g r → kind h r ≡ kind g r → KeepsRegion set g h r → IsAsItWas g h r
+  as_it_was r out same k = elim (k.other out.outside) [
+    | inl e ↦ absurd (out.used e)
+    | inr s ↦ elim s [ inl f ↦ absurd (out.used (sym same ∙ f.1)) | inr was ↦ was ]
+  ]
+
+  -- a region of which something is lost is not as it has to be
+  not_set : (r : ℕ) → IsLoss set g h (lost.Set r) → KeepsRegion set g h r → ⊥
+  not_set r c k = c.2 (k.of_set c.1)
+
+  not_region : (r : ℕ) → h.geometry ≡ g.geometry → IsLoss set g h (lost.Region r) → KeepsRegion set g h r → ⊥
+  not_region r same_sizes c k = elim (k.other c.0.outside) [
+    | inl e ↦ c.0.used e
+    | inr s ↦ elim s [
+      | inl f ↦ c.1 f
+      | inr was ↦ elim c.2 [ inl d ↦ d was.same_kind | inr d ↦ d (same_top g h r left right same_sizes c.0.in_heap c.0.used was) ]
+    ]
+  ]
+
+  not_unpinned : (r : ℕ) → IsLoss set g h (lost.Unpinned r) → KeepsRegion set g h r → ⊥
+  not_unpinned r c k = let was = as_it_was r c.0 c.1 k in false≢true (sym c.4 ∙ was.same_pin ∙ c.3)
+
+  not_pinned : (r : ℕ) → IsLoss set g h (lost.Pinned r) → KeepsRegion set g h r → ⊥
+  not_pinned r c k = let was = as_it_was r c.0 c.1 k in false≢true (sym c.3 ∙ sym was.same_pin ∙ c.4)
+
+  -- what is lost when the tables and the number of roots are as they have to be is the first of its kind
+  pub later : (l : Lost) → KeepsTable set g h → length h.roots ≡ length g.roots → IsLoss set g h l → IsEarliest set g h l
+  later lost.Sizes t n c = tt
+  later lost.Roots t n c = t
+  later (lost.Set r) t n c = absurd (not_set r c (t.regions r c.0))
+  later (lost.Region r) t n c = absurd (not_region r t.geometry c (t.regions r c.0.in_heap))
+  later (lost.Unpinned r) t n c = absurd (not_unpinned r c (t.regions r c.0.in_heap))
+  later (lost.Pinned r) t n c = absurd (not_pinned r c (t.regions r c.0.in_heap))
+  later (lost.Copy a b) t n c = (t, n)
+  later (lost.Header a b) t n c = (t, n)
+  later (lost.Data a b k) t n c = (t, n)
+  later (lost.Slot a b k) t n c = (t, n)
+  later (lost.Root k) t n c = (t, n)
+
+  -- where the first loss is
+  data Stage (l : Lost) : Type 0 where
+    sizes : l ≡ lost.Sizes → h.geometry ≢ g.geometry → Stage l
+    region : (r : ℕ) → r < g.geometry.n → AtRegion set g h l r → KeepsBefore set g h r → (KeepsRegion set g h r → ⊥) → Stage l
+    roots : l ≡ lost.Roots → KeepsTable set g h → length h.roots ≢ length g.roots → Stage l
+    words : (IsOfTables l → ⊥) → KeepsTable set g h → length h.roots ≡ length g.roots → Stage l
+
+  stage : (l : Lost) → IsLoss set g h l → IsEarliest set g h l → Stage l
+  stage lost.Sizes c e = sizes refl c
+  stage lost.Roots c e = roots refl e c
+  stage (lost.Set r) c e = region r c.0 (for_set refl c.1) e (not_set r c)
+  stage (lost.Region r) c e = region r c.0.in_heap (for_table refl c.0.outside c.2) e (not_region r e.0 c)
+  stage (lost.Unpinned r) c e = region r c.0.in_heap (for_unpinned refl c.0.outside c.1 c.2 c.3) e (not_unpinned r c)
+  stage (lost.Pinned r) c e = region r c.0.in_heap (for_pinned refl c.0.outside c.1 c.2 c.3) e (not_pinned r c)
+  stage (lost.Copy a b) c e = words (λ x. x) e.0 e.1
+  stage (lost.Header a b) c e = words (λ x. x) e.0 e.1
+  stage (lost.Data a b k) c e = words (λ x. x) e.0 e.1
+  stage (lost.Slot a b k) c e = words (λ x. x) e.0 e.1
+  stage (lost.Root k) c e = words (λ x. x) e.0 e.1
+
+  one : (l m : Lost) → IsOfTables l → Stage l → Stage m → l ≡ m
+  one l m of (words not t n) s = absurd (not of)
+  one l m of (sizes e d) (sizes f d') = e ∙ sym f
+  one l m of (sizes e d) (region r lt at b not) = absurd (d b.0)
+  one l m of (sizes e d) (roots f t n) = absurd (d t.geometry)
+  one l m of (sizes e d) (words not t n) = absurd (d t.geometry)
+  one l m of (region r lt at b not) (sizes f d) = absurd (d b.0)
+  one l m of (region r lt at b not) (roots f t n) = absurd (not (t.regions r lt))
+  one l m of (region r lt at b not) (words not' t n) = absurd (not (t.regions r lt))
+  one l m of (region r lt at b not) (region q lt' at' b' not') = elim (cases_lt r q) [
+    | inl below ↦ absurd (not (b'.1 r below))
+    | inr le ↦ elim (ℕ_discrete r q) [
+      | yes e ↦ same_region l m q (subst (AtRegion set g h l) e at) at'
+      | no d ↦ absurd (not' (b.1 q (omega (arith, le, d))))
+    ]
+  ]
+  one l m of (roots e t n) (sizes f d) = absurd (d t.geometry)
+  one l m of (roots e t n) (region r lt at b not) = absurd (not (t.regions r lt))
+  one l m of (roots e t n) (roots f t' n') = e ∙ sym f
+  one l m of (roots e t n) (words not t' n') = absurd (n n')
+
+pub one_of_tables : OneOfTables
+one_of_tables set g h l m left right of lost first lost' first' = one set g h left right l m of (stage set g h left right l lost first) (stage set g h left right m lost' first')

@@ -1,0 +1,12 @@
+mod Growing
+mod Adding
+mod Steps
+mod Words
+mod Regions
+mod Remaining
+mod Renamed
+mod Excludes
+mod Graph
+mod Pause
+mod Runs
+mod First

@@ -1,0 +1,53 @@
+-- What two words are to a walk, by its tables.
+use Rattle.std.proofs.Common.{◌≡◌, ◌≢◌, ℕ, suc, ◌-◌, ◌<◌, inr, List, length, IsTrue, sym, ap, subst, ◌∙◌, arith, slice_index}
+use native.Mathlib.Decide.{ℕ_discrete}
+use Rattle.g1_words.specs.Heap.{Heap}
+use Rattle.g1_words.specs.Survivors.{in_set}
+use Rattle.g1_words.specs.Valid.{IsValid}
+use Rattle.g1_words.proofs.Sound.{object_in}
+use Rattle.g1_same.specs.Walk.{Names}
+use Rattle.g1_same.proofs.Tables.{index_some}
+use Rattle.g1_kept.specs.declared.pairs.Pairs.{Pairs}
+use Rattle.g1_kept.specs.Lost.{Match, Disagree, split, joined}
+use Rattle.g1_kept.specs.Walk.{IsWalk, IsPaired}
+
+pub some : (n : ℕ) → n ≢ 0 → n ≡ suc (n - 1)
+some n h = omega arith
+
+pub named_below : (h : Heap) (x : ℕ) → IsValid h → x ≢ 0 → Names h x → x - 1 < length h.words
+named_below h x valid some names = let o = object_in h (x - 1) valid (names (x - 1) (omega arith)) in omega (arith, o.0, o.1)
+
+module _ (set : List ℕ) (g h : Heap) (w : Pairs) (walk : IsWalk set g h w) (a b i j : ℕ)
+    (a_lt : a < length w.new_of.items) (b_lt : b < length w.old_of.items) (is_i : i ≡ slice_index w.new_of.items a) (is_j : j ≡ slice_index w.old_of.items b) where
+  in_before : i ≢ 0 → (i - 1 < length w.before.items) × (slice_index w.before.items (i - 1) ≡ a)
+  in_before some = subst (λ m. (m - 1 < length w.before.items) × (slice_index w.before.items (m - 1) ≡ a)) (sym is_i) (index_some w.new_of.items w.before.items walk.index_before a a_lt (λ z. some (is_i ∙ z)))
+
+  in_after : j ≢ 0 → (j - 1 < length w.after.items) × (slice_index w.after.items (j - 1) ≡ b)
+  in_after some = subst (λ m. (m - 1 < length w.after.items) × (slice_index w.after.items (m - 1) ≡ b)) (sym is_j) (index_some w.old_of.items w.after.items walk.index_after b b_lt (λ z. some (is_j ∙ z)))
+
+  pub known_here : i ≡ j → i ≢ 0 → IsPaired set g w (suc a) (suc b)
+  known_here same some =
+      let p = in_before some in
+      let q = in_after (λ z. some (same ∙ z)) in
+      inr (i - 1, p.0, ap suc (sym p.1), ap suc (sym q.1 ∙ ap (λ m. slice_index w.after.items (m - 1)) (sym same)))
+
+  -- the object before was found with another one after
+  split_here : IsTrue (in_set g set a) → i ≢ j → i ≢ 0 → Disagree set g h (suc a) (suc b)
+  split_here of_set other some =
+      let p = in_before some in
+      split (slice_index w.after.items (i - 1)) of_set
+      (subst (λ z. Match set g h z (slice_index w.after.items (i - 1))) p.1 (walk.matched (i - 1) p.0))
+      (λ e. let k = (walk.index_after b (i - 1) b_lt).1 (omega (arith, p.0, walk.pairs), e) in other (omega (arith, k, is_j, some)))
+
+  -- the object after was found with another one before
+  joined_here : IsTrue (in_set g set a) → i ≢ j → i ≡ 0 → Disagree set g h (suc a) (suc b)
+  joined_here of_set other none =
+      let some : j ≢ 0 = λ z. other (none ∙ sym z) in
+      let q = in_after some in
+      let p : j - 1 < length w.before.items = omega (arith, q.0, walk.pairs) in
+      joined (slice_index w.before.items (j - 1)) of_set (walk.of_set (j - 1) p)
+      (subst (λ z. Match set g h (slice_index w.before.items (j - 1)) z) q.1 (walk.matched (j - 1) p))
+      (λ e. let k = (walk.index_before a (j - 1) a_lt).1 (p, e) in omega (arith, k, is_i, none))
+
+  pub differ_here : IsTrue (in_set g set a) → i ≢ j → Disagree set g h (suc a) (suc b)
+  differ_here of_set other = elim (ℕ_discrete i 0) [ yes e ↦ joined_here of_set other e | no d ↦ split_here of_set other d ]

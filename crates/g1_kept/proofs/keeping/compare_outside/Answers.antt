@@ -1,0 +1,46 @@
+use Rattle.std.proofs.Common.{arith, subst, sym, ℕ, ◌≡◌, ◌≢◌, ◌+◌, ◌∙◌, inl, inr, true, IsFalse}
+use Rattle.std.proofs.lemmas.Bool.{cases_lt, false≢true}
+use Rattle.g1_words.specs.declared.region.Kind.TheVariants.{Free}
+use Rattle.g1_words.specs.Lists.{has}
+use Rattle.g1_words.specs.Heap.{Heap, kind}
+use Rattle.g1_kept.specs.declared.pairs.Pairs.{Pairs}
+use Rattle.g1_kept.specs.Walk.{IsWalk, HasGrown, ComparesRegion, ComparesOutside}
+use Rattle.g1_kept.proofs.Growing.{none_then, grown_more, outside_more}
+use Rattle.g1_kept.proofs.keeping.compare_outside.Goals as goal
+use Rattle.g1_kept.proofs.keeping.compare_outside.Goals.{then-is_compared+in_ok-lost+in_default, else-is_compared}
+
+pub loop-region-preserved : goal.loop-region-preserved
+loop-region-preserved c =
+    let g : Heap = c.args.before.now in
+    let h : Heap = c.args.after.now in
+    let w : Pairs = c.loop-region.pairs in
+    let k : ℕ = c.loop-region.region in
+    let now : Pairs = c.if-is_compared.pairs in
+    elim c.if-is_compared.branch [
+      | then-is_compared+in_ok-lost+in_default w' ↦
+          let v : Pairs = w'.compare_region.new.pairs in
+          let grown : HasGrown w v = w'.in_ok-lost.ensures.grown in
+          let one : ComparesRegion c.args.set.now g h v k = none_then (ComparesRegion c.args.set.now g h v k) w'.in_ok-lost.field-0 w'.in_default.not-Some w'.in_ok-lost.ensures.compared in
+          record {
+            walk = subst (IsWalk c.args.set.now g h) (sym w'.pairs-is) w'.in_ok-lost.ensures.walk;
+            grown = subst (HasGrown c.args.pairs.now) (sym w'.pairs-is) (grown_more c.args.pairs.now w v c.loop-region.invariant.grown grown);
+            compared = subst (λ u. ComparesOutside c.args.set.now g h u (k + 1)) (sym w'.pairs-is) (outside_more c.args.set.now g h w v grown k c.loop-region.invariant.compared one);
+          }
+      | else-is_compared w' ↦
+          record {
+            walk = subst (IsWalk c.args.set.now g h) (sym w'.pairs-is) c.loop-region.invariant.walk;
+            grown = subst (HasGrown c.args.pairs.now) (sym w'.pairs-is) c.loop-region.invariant.grown;
+            compared = subst (λ u. ComparesOutside c.args.set.now g h u (k + 1)) (sym w'.pairs-is)
+                (λ r lt out used in_use. elim (cases_lt r k) [
+                  | inl p ↦ c.loop-region.invariant.compared r p out used in_use
+                  | inr p ↦
+                      let e : r ≡ k = omega (arith, lt, p) in
+                      let yes : c.is_compared.result ≡ true = c.is_compared.ensures.1 (
+                        subst (λ z. IsFalse (has c.args.set.now z)) e out,
+                        subst (λ z. kind g z ≢ Free) e used,
+                        subst (λ z. kind h z ≢ Free) e in_use,
+                      ) in
+                      absurd (false≢true (sym w'.if-is_compared.false ∙ yes))
+                ]);
+          }
+    ]

@@ -1,0 +1,9 @@
+use Rattle.g1_kept.specs.Walk.{IsWalk, HasGrown, ComparesOutside}
+use Rattle.g1_kept.proofs.keeping.compare_outside.Given as goal
+
+abbrev pub invariant-loop-region : goal.invariant-loop-region
+invariant-loop-region l = record {
+  walk : IsWalk l.set l.before l.after l.pairs;
+  grown : HasGrown l.initial.pairs l.pairs;
+  compared : ComparesOutside l.set l.before l.after l.pairs l.region;
+}

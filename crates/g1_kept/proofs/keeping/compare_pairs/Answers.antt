@@ -1,0 +1,71 @@
+use Rattle.std.proofs.Common.{arith, sym, ℕ, ◌≡◌, ◌<◌, ◌+◌, ◌-◌, length, slice_index}
+use Rattle.std.proofs.lemmas.List.{get_or_read}
+use Rattle.g1_words.specs.Heap.{Heap}
+use Rattle.g1_kept.specs.declared.pairs.Pairs.{Pairs}
+use Rattle.g1_kept.specs.Walk.{IsCompared, HasGrown}
+use Rattle.g1_kept.proofs.Adding.{few_pairs}
+use Rattle.g1_kept.proofs.Growing.{none_then, grown_more, pairs_more}
+use Rattle.g1_kept.proofs.Steps.{as_many_words, pair_read}
+use Rattle.g1_kept.proofs.keeping.compare_pairs.Goals as goal
+
+pub compare_pair-requires-clause-sizes : goal.compare_pair-requires-clause-sizes
+compare_pair-requires-clause-sizes c = as_many_words c.args.set.now c.args.before.now c.args.after.now c.valid.ensures c.valid-2.ensures c.requires.table
+
+pub compare_pair-requires-clause-a : goal.compare_pair-requires-clause-a
+compare_pair-requires-clause-a c =
+    let w : Pairs = c.loop-place.pairs in
+    let i : ℕ = c.loop-place.place in
+    let lt : i < length w.before.items = omega (arith, c.loop-place-test.true, c.len.ensures, w.before.ok) in
+    let a_is = get_or_read w.before.items i c.index-a.result.now lt c.index-a.ensures 0 in
+    let b_is = get_or_read w.after.items i c.index-b.result.now (omega (arith, lt, c.loop-place.invariant.walk.pairs)) c.index-b.ensures 0 in
+    (pair_read c.args.set.now c.args.before.now c.args.after.now w i c.index-a.result.now c.index-b.result.now c.loop-place.invariant.walk lt a_is b_is).before_in
+
+pub compare_pair-requires-clause-b : goal.compare_pair-requires-clause-b
+compare_pair-requires-clause-b c =
+    let w : Pairs = c.loop-place.pairs in
+    let i : ℕ = c.loop-place.place in
+    let lt : i < length w.before.items = omega (arith, c.loop-place-test.true, c.len.ensures, w.before.ok) in
+    let a_is = get_or_read w.before.items i c.index-a.result.now lt c.index-a.ensures 0 in
+    let b_is = get_or_read w.after.items i c.index-b.result.now (omega (arith, lt, c.loop-place.invariant.walk.pairs)) c.index-b.ensures 0 in
+    (pair_read c.args.set.now c.args.before.now c.args.after.now w i c.index-a.result.now c.index-b.result.now c.loop-place.invariant.walk lt a_is b_is).after_in
+
+pub compare_pair-requires-clause-matched : goal.compare_pair-requires-clause-matched
+compare_pair-requires-clause-matched c =
+    let w : Pairs = c.loop-place.pairs in
+    let i : ℕ = c.loop-place.place in
+    let lt : i < length w.before.items = omega (arith, c.loop-place-test.true, c.len.ensures, w.before.ok) in
+    let a_is = get_or_read w.before.items i c.index-a.result.now lt c.index-a.ensures 0 in
+    let b_is = get_or_read w.after.items i c.index-b.result.now (omega (arith, lt, c.loop-place.invariant.walk.pairs)) c.index-b.ensures 0 in
+    (pair_read c.args.set.now c.args.before.now c.args.after.now w i c.index-a.result.now c.index-b.result.now c.loop-place.invariant.walk lt a_is b_is).matched
+
+pub loop-place-preserved : goal.loop-place-preserved
+loop-place-preserved c =
+    let g : Heap = c.args.before.now in
+    let h : Heap = c.args.after.now in
+    let w : Pairs = c.loop-place.pairs in
+    let v : Pairs = c.compare_pair.new.pairs in
+    let i : ℕ = c.loop-place.place in
+    let a : ℕ = c.index-a.result.now in
+    let b : ℕ = c.index-b.result.now in
+    let lt : i < length w.before.items = omega (arith, c.loop-place-test.true, c.len.ensures, w.before.ok) in
+    let a_is : a ≡ slice_index w.before.items i = get_or_read w.before.items i a lt c.index-a.ensures 0 in
+    let b_is : b ≡ slice_index w.after.items i = get_or_read w.after.items i b (omega (arith, lt, c.loop-place.invariant.walk.pairs)) c.index-b.ensures 0 in
+    let grown : HasGrown w v = c.in_ok-lost.ensures.grown in
+    let one : IsCompared c.args.set.now g h v a b = none_then (IsCompared c.args.set.now g h v a b) c.in_ok-lost.field-0 c.in_default.not-Some c.in_ok-lost.ensures.compared in
+    record {
+      walk = c.in_ok-lost.ensures.walk;
+      grown = grown_more c.args.pairs.now w v c.loop-place.invariant.grown grown;
+      compared = pairs_more c.args.set.now g h w v grown i a b lt (sym a_is) (sym b_is) c.loop-place.invariant.compared one;
+      within = omega (arith, lt, grown.more);
+    }
+
+pub returns-in-Some-clause-grown : goal.returns-in-Some-clause-grown
+returns-in-Some-clause-grown c = grown_more c.args.pairs.now c.loop-place.pairs c.compare_pair.new.pairs c.loop-place.invariant.grown c.in_ok-lost.ensures.grown
+
+pub loop-place-smaller : goal.loop-place-smaller
+loop-place-smaller c =
+    let few = few_pairs c.args.set.now c.args.before.now c.args.after.now c.loop-place.pairs c.valid.ensures c.loop-place.invariant.walk in
+    let lt : c.loop-place.place < length c.loop-place.pairs.before.items = omega (arith, c.loop-place-test.true, c.len.ensures, c.loop-place.pairs.before.ok) in
+    let n : ℕ = length c.args.before.now.words in
+    let e : n - (c.loop-place.place + 1) < n - c.loop-place.place = omega (arith, few, lt) in
+    e

@@ -1,0 +1,77 @@
+use Rattle.std.proofs.Common.{arith, subst, sym, ℕ, List, ◌≡◌, ◌<◌, length, slice_index, Contains}
+use Rattle.std.proofs.lemmas.List.{get_or_read}
+use Rattle.g1_words.specs.Heap.{Heap, object_at, objects}
+use Rattle.g1_kept.specs.declared.pairs.Pairs.{Pairs}
+use Rattle.g1_kept.specs.Lost.{Match, outside}
+use Rattle.g1_kept.specs.Walk.{IsCompared}
+use Rattle.g1_kept.proofs.Growing.{none_then, grown_more, first_more}
+use Rattle.g1_kept.proofs.Regions.{start_in, start_outside, start_stands, region_compared}
+use Rattle.g1_kept.proofs.Steps.{as_many_words}
+use Rattle.g1_kept.proofs.keeping.compare_region.Goals as goal
+
+pub compare_pair-requires-clause-sizes : goal.compare_pair-requires-clause-sizes
+compare_pair-requires-clause-sizes c = as_many_words c.args.set.now c.args.before.now c.args.after.now c.valid.ensures c.valid-2.ensures c.requires.table
+
+pub compare_pair-requires-clause-a : goal.compare_pair-requires-clause-a
+compare_pair-requires-clause-a c =
+    let g : Heap = c.args.before.now in
+    let h : Heap = c.args.after.now in
+    let starts : List ℕ = c.in-Ok.starts.items in
+    let i : ℕ = c.loop-place.place in
+    let lt : i < length starts = omega (arith, c.loop-place-test.true, c.len-place-end.ensures, c.in-Ok.starts.ok) in
+    let at : c.index-at.result.now ≡ slice_index starts i = get_or_read starts i c.index-at.result.now lt c.index-at.ensures 0 in
+    subst (λ z. Contains (objects g) (object_at g z)) (sym at)
+    (start_in c.args.set.now g h c.valid.ensures c.valid-2.ensures c.requires.table c.args.region c.requires.region c.requires.outside c.requires.used c.requires.in_use starts c.in-Ok.ensures.ok i lt)
+
+pub compare_pair-requires-clause-b : goal.compare_pair-requires-clause-b
+compare_pair-requires-clause-b c =
+    let g : Heap = c.args.before.now in
+    let h : Heap = c.args.after.now in
+    let starts : List ℕ = c.in-Ok.starts.items in
+    let i : ℕ = c.loop-place.place in
+    let lt : i < length starts = omega (arith, c.loop-place-test.true, c.len-place-end.ensures, c.in-Ok.starts.ok) in
+    let at : c.index-at.result.now ≡ slice_index starts i = get_or_read starts i c.index-at.result.now lt c.index-at.ensures 0 in
+    subst (λ z. Contains (objects h) (object_at h z)) (sym at)
+    (start_stands c.args.set.now g h c.valid.ensures c.valid-2.ensures c.requires.table c.args.region c.requires.region c.requires.outside c.requires.used c.requires.in_use starts c.in-Ok.ensures.ok c.loop-place.pairs i lt c.loop-place.invariant.compared)
+
+pub compare_pair-requires-clause-matched : goal.compare_pair-requires-clause-matched
+compare_pair-requires-clause-matched c =
+    let g : Heap = c.args.before.now in
+    let h : Heap = c.args.after.now in
+    let starts : List ℕ = c.in-Ok.starts.items in
+    let i : ℕ = c.loop-place.place in
+    let lt : i < length starts = omega (arith, c.loop-place-test.true, c.len-place-end.ensures, c.in-Ok.starts.ok) in
+    let at : c.index-at.result.now ≡ slice_index starts i = get_or_read starts i c.index-at.result.now lt c.index-at.ensures 0 in
+    subst (λ z. Match c.args.set.now g h z z) (sym at)
+    (outside (start_outside c.args.set.now g h c.valid.ensures c.valid-2.ensures c.requires.table c.args.region c.requires.region c.requires.outside c.requires.used c.requires.in_use starts c.in-Ok.ensures.ok i lt))
+
+pub loop-place-preserved : goal.loop-place-preserved
+loop-place-preserved c =
+    let g : Heap = c.args.before.now in
+    let h : Heap = c.args.after.now in
+    let starts : List ℕ = c.in-Ok.starts.items in
+    let i : ℕ = c.loop-place.place in
+    let v : Pairs = c.compare_pair.new.pairs in
+    let a : ℕ = c.index-at.result.now in
+    let lt : i < length starts = omega (arith, c.loop-place-test.true, c.len-place-end.ensures, c.in-Ok.starts.ok) in
+    let at : a ≡ slice_index starts i = get_or_read starts i a lt c.index-at.ensures 0 in
+    let one : IsCompared c.args.set.now g h v a a = none_then (IsCompared c.args.set.now g h v a a) c.in_ok-lost.field-0 c.in_default.not-Some c.in_ok-lost.ensures.compared in
+    record {
+      walk = c.in_ok-lost.ensures.walk;
+      grown = grown_more c.args.pairs.now c.loop-place.pairs v c.loop-place.invariant.grown c.in_ok-lost.ensures.grown;
+      compared = first_more c.args.set.now g h c.loop-place.pairs v c.in_ok-lost.ensures.grown starts i c.loop-place.invariant.compared (subst (λ z. IsCompared c.args.set.now g h v z z) at one);
+    }
+
+pub returns-in-Some-clause-grown : goal.returns-in-Some-clause-grown
+returns-in-Some-clause-grown c = grown_more c.args.pairs.now c.loop-place.pairs c.compare_pair.new.pairs c.loop-place.invariant.grown c.in_ok-lost.ensures.grown
+
+pub returns-clause-compared : goal.returns-clause-compared
+returns-clause-compared c =
+    let g : Heap = c.args.before.now in
+    let h : Heap = c.args.after.now in
+    let starts : List ℕ = c.in-Ok.starts.items in
+    region_compared c.args.set.now g h c.valid.ensures c.valid-2.ensures c.requires.table c.args.region c.requires.region c.requires.outside c.requires.used c.requires.in_use starts c.in-Ok.ensures.ok c.loop-place.pairs
+    (λ i p. c.loop-place.invariant.compared i (omega (arith, p, c.loop-place-test.false, c.len-place-end.ensures, c.in-Ok.starts.ok)))
+
+pub loop-place-smaller : goal.loop-place-smaller
+loop-place-smaller c = omega (arith, c.loop-place-test.true)

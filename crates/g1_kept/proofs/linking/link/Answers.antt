@@ -1,0 +1,56 @@
+use Rattle.std.proofs.Common.{arith, subst, sym, suc, ℕ, ◌<◌, length}
+use Rattle.g1_kept.specs.Walk.{IsPaired}
+use Rattle.g1_words.proofs.Sound.{object_in}
+use Rattle.g1_kept.proofs.Adding.{IsAdded, added_walk, added_paired, pairs_fit}
+use Rattle.g1_kept.proofs.linking.link.Goals as goal
+
+pub add-requires-clause-a : goal.add-requires-clause-a
+add-requires-clause-a c =
+    let o = object_in c.args.before.now c.in-New.a c.valid.ensures (c.requires.x c.in-New.a c.in-New.ensures.0) in
+    omega (arith, o.0, o.1, c.requires.walk.table_before)
+
+pub add-requires-clause-b : goal.add-requires-clause-b
+add-requires-clause-b c =
+    let o = object_in c.args.after.now c.in-New.b c.valid-2.ensures (c.requires.y c.in-New.b c.in-New.ensures.1) in
+    omega (arith, o.0, o.1, c.requires.walk.table_after)
+
+pub add-requires-clause-few : goal.add-requires-clause-few
+add-requires-clause-few c = pairs_fit c.args.set.now c.args.before.now c.args.after.now c.args.pairs.now c.valid.ensures c.requires.walk
+
+pub returns-in_ok-add-in-New-clause-walk : goal.returns-in_ok-add-in-New-clause-walk
+returns-in_ok-add-in-New-clause-walk c =
+    let g = c.args.before.now in
+    let h = c.args.after.now in
+    let w = c.args.pairs.now in
+    let v = c.add.new.self in
+    let met = c.in-New.ensures in
+    let a : ℕ = c.in-New.a in
+    let b : ℕ = c.in-New.b in
+    let x_in = c.requires.x a met.0 in
+    let y_in = c.requires.y b met.1 in
+    let x_lt : a < length w.new_of.items = let o = object_in g a c.valid.ensures x_in in omega (arith, o.0, o.1, c.requires.walk.table_before) in
+    let y_lt : b < length w.old_of.items = let o = object_in h b c.valid-2.ensures y_in in omega (arith, o.0, o.1, c.requires.walk.table_after) in
+    let e : IsAdded w v a b = record {
+      before = c.in_ok-add-in-New.ensures.before;
+      after = c.in_ok-add-in-New.ensures.after;
+      new_of = c.in_ok-add-in-New.ensures.new_of;
+      old_of = c.in_ok-add-in-New.ensures.old_of;
+    } in
+    added_walk c.args.set.now g h w v a b c.requires.walk e x_in y_in met.2 met.3 (c.requires.found a b met.0 met.1 met.2) x_lt y_lt met.4 met.5
+
+pub returns-in_ok-add-in-New-clause-paired : goal.returns-in_ok-add-in-New-clause-paired
+returns-in_ok-add-in-New-clause-paired c =
+    let g = c.args.before.now in
+    let h = c.args.after.now in
+    let w = c.args.pairs.now in
+    let v = c.add.new.self in
+    let met = c.in-New.ensures in
+    let a : ℕ = c.in-New.a in
+    let b : ℕ = c.in-New.b in
+    let e : IsAdded w v a b = record {
+      before = c.in_ok-add-in-New.ensures.before;
+      after = c.in_ok-add-in-New.ensures.after;
+      new_of = c.in_ok-add-in-New.ensures.new_of;
+      old_of = c.in_ok-add-in-New.ensures.old_of;
+    } in
+    subst (λ z. IsPaired c.args.set.now g v z c.args.y) (sym met.0) (subst (λ z. IsPaired c.args.set.now g v (suc a) z) (sym met.1) (added_paired c.args.set.now g h w v a b c.requires.walk e))

@@ -1,0 +1,43 @@
+use Rattle.std.proofs.Common.{arith, ap, subst, sym, ℕ, ◌<◌, ◌∙◌, length, slice_index}
+use Rattle.g1_words.specs.Heap.{Heap}
+use Rattle.g1_same.specs.Walk.{Names}
+use Rattle.g1_same.proofs.Heaps.{root_names}
+use Rattle.g1_kept.specs.declared.pairs.Pairs.{Pairs}
+use Rattle.g1_kept.specs.Lost.{root}
+use Rattle.g1_kept.specs.Walk.{IsPaired}
+use Rattle.g1_kept.proofs.Growing.{none_then, roots_more}
+use Rattle.g1_kept.proofs.linking.link_roots.Goals as goal
+
+pub link-requires-clause-x : goal.link-requires-clause-x
+link-requires-clause-x c =
+    let lt : c.loop-number.number < length c.args.before.now.roots = let k = ap length c.roots-old.ensures in omega (arith, k, c.loop-number-test.true) in
+    subst (λ l. Names c.args.before.now (slice_index l c.loop-number.number)) (sym c.roots-old.ensures) (root_names c.args.before.now c.loop-number.number c.valid.ensures lt)
+
+pub link-requires-clause-y : goal.link-requires-clause-y
+link-requires-clause-y c =
+    let lt : c.loop-number.number < length c.args.after.now.roots = let k = ap length c.roots-old.ensures in omega (arith, k, c.requires.roots, c.loop-number-test.true) in
+    subst (λ l. Names c.args.after.now (slice_index l c.loop-number.number)) (sym c.roots-new.ensures) (root_names c.args.after.now c.loop-number.number c.valid-2.ensures lt)
+
+pub link-requires-clause-found : goal.link-requires-clause-found
+link-requires-clause-found c = λ a b ex ey of_set.
+    let n : ℕ = c.loop-number.number in
+    let lt : n < length c.args.before.now.roots = let k = ap length c.roots-old.ensures in omega (arith, k, c.loop-number-test.true) in
+    root n lt (omega (arith, lt, c.requires.roots)) (ap (λ l. slice_index l n) (sym c.roots-old.ensures) ∙ ex) (ap (λ l. slice_index l n) (sym c.roots-new.ensures) ∙ ey) of_set
+
+pub loop-number-preserved : goal.loop-number-preserved
+loop-number-preserved c =
+    let g : Heap = c.args.before.now in
+    let h : Heap = c.args.after.now in
+    let v : Pairs = c.link.new.pairs in
+    let n : ℕ = c.loop-number.number in
+    let l : IsPaired c.args.set.now g v (slice_index c.roots-old.result.now n) (slice_index c.roots-new.result.now n) =
+    none_then (IsPaired c.args.set.now g v (slice_index c.roots-old.result.now n) (slice_index c.roots-new.result.now n)) c.in_ok-lost.field-0 c.in_default.not-Some c.in_ok-lost.ensures.paired in
+    let l' : IsPaired c.args.set.now g v (slice_index g.roots n) (slice_index h.roots n) =
+    subst (λ q. IsPaired c.args.set.now g v (slice_index q n) (slice_index h.roots n)) c.roots-old.ensures (subst (λ q. IsPaired c.args.set.now g v (slice_index c.roots-old.result.now n) (slice_index q n)) c.roots-new.ensures l) in
+    record {
+      walk = c.in_ok-lost.ensures.walk;
+      paired = roots_more c.args.set.now g h c.loop-number.pairs v c.in_ok-lost.ensures.grown n c.loop-number.invariant.paired l';
+    }
+
+pub loop-number-smaller : goal.loop-number-smaller
+loop-number-smaller c = omega (arith, c.loop-number-test.true)

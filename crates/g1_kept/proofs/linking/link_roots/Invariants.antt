@@ -1,0 +1,8 @@
+use Rattle.g1_kept.specs.Walk.{IsWalk, PairsRoots}
+use Rattle.g1_kept.proofs.linking.link_roots.Given as goal
+
+abbrev pub invariant-loop-number : goal.invariant-loop-number
+invariant-loop-number l = record {
+  walk : IsWalk l.set l.before l.after l.pairs;
+  paired : PairsRoots l.set l.before l.after l.pairs l.number;
+}

@@ -1,0 +1,69 @@
+use Rattle.std.proofs.Common.{arith, ap, subst, sym, ℕ, ◌≡◌, ◌<◌, ◌+◌, ◌∙◌, ◌%◌, ◌^◌, slice_index}
+use Rattle.g1_words.specs.Heap.{Heap, word, object_at}
+use Rattle.g1_same.specs.Walk.{Names}
+use Rattle.g1_same.proofs.Heaps.{slot_names}
+use Rattle.g1_same.proofs.Steps.{has_slots}
+use Rattle.g1_kept.specs.declared.pairs.Pairs.{Pairs}
+use Rattle.g1_kept.specs.Lost.{slot}
+use Rattle.g1_kept.specs.Walk.{IsPaired}
+use Rattle.g1_kept.proofs.Growing.{none_then, grown_more, slots_more}
+use Rattle.g1_kept.proofs.linking.link_slots.Goals as goal
+
+pub link-requires-clause-x : goal.link-requires-clause-x
+link-requires-clause-x c =
+    let g : Heap = c.args.before.now in
+    let here = has_slots g c.args.a c.object-old.result c.words.result.now c.slots-here.result.now c.object-old.ensures.value c.words.ensures c.slots-here.ensures.count c.slots-here.ensures.each in
+    let n : ℕ = c.loop-number.number in
+    let lt : n < (object_at g c.args.a).refs = omega (arith, c.loop-number-test.true, here.count) in
+    subst (Names g) (sym (here.each n c.loop-number-test.true)) (slot_names g c.args.a n c.valid.ensures c.requires.a lt)
+
+pub link-requires-clause-y : goal.link-requires-clause-y
+link-requires-clause-y c =
+    let g : Heap = c.args.before.now in
+    let h : Heap = c.args.after.now in
+    let here = has_slots g c.args.a c.object-old.result c.words.result.now c.slots-here.result.now c.object-old.ensures.value c.words.ensures c.slots-here.ensures.count c.slots-here.ensures.each in
+    let there = has_slots h c.args.b c.object-new.result c.words-2.result.now c.slots-there.result.now c.object-new.ensures.value c.words-2.ensures c.slots-there.ensures.count c.slots-there.ensures.each in
+    let refs : (object_at g c.args.a).refs ≡ (object_at h c.args.b).refs = ap (λ q. q % 2 ^ 32) c.requires.alike.header in
+    let n : ℕ = c.loop-number.number in
+    let lt : n < (object_at h c.args.b).refs = omega (arith, c.loop-number-test.true, here.count, refs) in
+    subst (Names h) (sym (there.each n (omega (arith, lt, there.count)))) (slot_names h c.args.b n c.valid-2.ensures c.requires.b lt)
+
+pub link-requires-clause-found : goal.link-requires-clause-found
+link-requires-clause-found c = λ x y ex ey of_set.
+    let g : Heap = c.args.before.now in
+    let h : Heap = c.args.after.now in
+    let here = has_slots g c.args.a c.object-old.result c.words.result.now c.slots-here.result.now c.object-old.ensures.value c.words.ensures c.slots-here.ensures.count c.slots-here.ensures.each in
+    let there = has_slots h c.args.b c.object-new.result c.words-2.result.now c.slots-there.result.now c.object-new.ensures.value c.words-2.ensures c.slots-there.ensures.count c.slots-there.ensures.each in
+    let refs : (object_at g c.args.a).refs ≡ (object_at h c.args.b).refs = ap (λ q. q % 2 ^ 32) c.requires.alike.header in
+    let n : ℕ = c.loop-number.number in
+    let lt : n < (object_at g c.args.a).refs = omega (arith, c.loop-number-test.true, here.count) in
+    let lt' : n < (object_at h c.args.b).refs = omega (arith, lt, refs) in
+    slot n c.requires.matched lt lt' (sym (here.each n c.loop-number-test.true) ∙ ex) (sym (there.each n (omega (arith, lt', there.count))) ∙ ey) of_set
+
+pub returns-in-Some-clause-grown : goal.returns-in-Some-clause-grown
+returns-in-Some-clause-grown c = grown_more c.args.pairs.now c.loop-number.pairs c.link.new.pairs c.loop-number.invariant.grown c.in_ok-lost.ensures.grown
+
+pub loop-number-preserved : goal.loop-number-preserved
+loop-number-preserved c =
+    let g : Heap = c.args.before.now in
+    let h : Heap = c.args.after.now in
+    let here = has_slots g c.args.a c.object-old.result c.words.result.now c.slots-here.result.now c.object-old.ensures.value c.words.ensures c.slots-here.ensures.count c.slots-here.ensures.each in
+    let there = has_slots h c.args.b c.object-new.result c.words-2.result.now c.slots-there.result.now c.object-new.ensures.value c.words-2.ensures c.slots-there.ensures.count c.slots-there.ensures.each in
+    let refs : (object_at g c.args.a).refs ≡ (object_at h c.args.b).refs = ap (λ q. q % 2 ^ 32) c.requires.alike.header in
+    let n : ℕ = c.loop-number.number in
+    let v : Pairs = c.link.new.pairs in
+    let x : ℕ = slice_index c.slots-here.result.now n in
+    let y : ℕ = slice_index c.slots-there.result.now n in
+    let l = none_then (IsPaired c.args.set.now g v x y) c.in_ok-lost.field-0 c.in_default.not-Some c.in_ok-lost.ensures.paired in
+    let x_is = here.each n c.loop-number-test.true in
+    let y_is = there.each n (omega (arith, c.loop-number-test.true, here.count, refs, there.count)) in
+    let l' : IsPaired c.args.set.now g v (word g (c.args.a + 1 + n)) (word h (c.args.b + 1 + n)) =
+    subst (λ z. IsPaired c.args.set.now g v z (word h (c.args.b + 1 + n))) x_is (subst (λ z. IsPaired c.args.set.now g v x z) y_is l) in
+    record {
+      walk = c.in_ok-lost.ensures.walk;
+      grown = grown_more c.args.pairs.now c.loop-number.pairs v c.loop-number.invariant.grown c.in_ok-lost.ensures.grown;
+      paired = slots_more c.args.set.now g h c.loop-number.pairs v c.in_ok-lost.ensures.grown c.args.a c.args.b n c.loop-number.invariant.paired l';
+    }
+
+pub loop-number-smaller : goal.loop-number-smaller
+loop-number-smaller c = omega (arith, c.loop-number-test.true)

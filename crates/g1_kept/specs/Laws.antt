@@ -1,0 +1,47 @@
+-- The laws that public functions of this crate prove.
+use Rattle.std.specs.Prelude.{◌≡◌, ◌<◌, ◌+◌, ◌*◌, ◌↔◌, List, ℕ}
+use Rattle.g1_words.specs.declared.region.Kind.TheVariants.{Free, HumongousFirst}
+use Rattle.g1_words.specs.Heap.{Heap, kind, start, object_at}
+use Rattle.g1_words.specs.Survivors.{AllOrdinary}
+use Rattle.g1_words.specs.Valid.{IsValid}
+use Rattle.g1_words.specs.Layout.{HasRoom}
+use Rattle.g1_words.specs.Graph.{SameGraph}
+use Rattle.g1_image.specs.Image.{Image}
+use Rattle.g1_after.specs.Paused.{IsPaused}
+use Rattle.g1_kept.specs.declared.lost.Lost.{Lost}
+use Rattle.g1_kept.specs.declared.lost.Lost.TheVariants as lost
+use Rattle.g1_kept.specs.Keeps.{Keeps}
+use Rattle.g1_kept.specs.Lost.{IsLoss, IsEarliest}
+
+-- the image after a pause of a set keeps what a pause of the set keeps
+abbrev pub PauseKeeps : Type 0
+PauseKeeps = (i : Image) (set l : List ℕ) (j : Image) → IsValid i.heap → HasRoom i.heap set l → IsPaused i set l j → Keeps set i.heap j.heap
+
+-- a heap that keeps this shows the same graph
+abbrev pub KeepsGraph : Type 0
+KeepsGraph = (set : List ℕ) (g h : Heap) → IsValid g → IsValid h → Keeps set g h → SameGraph g h
+
+-- and nothing of it is lost
+abbrev pub NothingLost : Type 0
+NothingLost = (set : List ℕ) (g h : Heap) (l : Lost) → IsValid g → IsValid h → Keeps set g h → IsLoss set g h l → ⊥
+
+-- of a humongous object's run all regions are free or none
+abbrev pub FreesRuns : Type 0
+FreesRuns = (set : List ℕ) (g h : Heap) (r i : ℕ) → IsValid g → IsValid h → Keeps set g h → AllOrdinary g set
+    → r < g.geometry.n → kind g r ≡ HumongousFirst → i * g.geometry.w < (object_at g (start g r)).size
+    → (kind h (r + i) ≡ Free) ↔ (kind h r ≡ Free)
+
+-- what is reported of the heaps' tables, and not of what roots and objects hold
+abbrev pub IsOfTables : Lost → Type 0
+IsOfTables lost.Sizes = Unit {0}
+IsOfTables (lost.Set r) = Unit {0}
+IsOfTables (lost.Region r) = Unit {0}
+IsOfTables (lost.Unpinned r) = Unit {0}
+IsOfTables (lost.Pinned r) = Unit {0}
+IsOfTables lost.Roots = Unit {0}
+IsOfTables _ = ⊥
+
+-- two heaps have one first loss where it is one of their tables
+abbrev pub OneOfTables : Type 0
+OneOfTables = (set : List ℕ) (g h : Heap) (l m : Lost) → IsValid g → IsValid h → IsOfTables l
+    → IsLoss set g h l → IsEarliest set g h l → IsLoss set g h m → IsEarliest set g h m → l ≡ m

@@ -1,0 +1,5 @@
+pub mod Keeps
+pub mod Lost
+pub mod Walk
+pub mod RegionSet
+pub mod Laws

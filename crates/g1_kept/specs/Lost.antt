@@ -1,0 +1,72 @@
+-- Where a heap does not keep what a pause of a set of regions keeps: what each report says of both heaps.
+use Rattle.std.specs.Prelude.{◌≡◌, ◌≢◌, ◌<◌, ◌⊎◌, ◌+◌, ℕ, suc, List, length, slice_index, IsTrue, IsFalse}
+use Rattle.g1_words.specs.declared.region.Kind.TheVariants.{Free}
+use Rattle.g1_words.specs.Lists.{has}
+use Rattle.g1_words.specs.Heap.{Heap, kind, top, pinned, word, object_at}
+use Rattle.g1_words.specs.Survivors.{in_set}
+use Rattle.g1_kept.specs.declared.lost.Lost.{Lost}
+use Rattle.g1_kept.specs.declared.lost.Lost.TheVariants as lost
+use Rattle.g1_kept.specs.Keeps.{MayHoldCopy, IsFreed, KeepsRegion, KeepsTable, IsOutside}
+
+-- The object before and the one after have to be the same: an object outside the set and itself; and what one root, or one slot
+-- of two such objects, references, in the set before and anywhere after.
+pub data Match (set : List ℕ) (g h : Heap) : ℕ → ℕ → Type 0 where
+  outside : {a : ℕ} → IsOutside set g h a → Match set g h a a
+  root : {a b : ℕ} (n : ℕ) → n < length g.roots → n < length h.roots
+      → slice_index g.roots n ≡ suc a → slice_index h.roots n ≡ suc b → IsTrue (in_set g set a) → Match set g h a b
+  slot : {a b c d : ℕ} (n : ℕ) → Match set g h a b → n < (object_at g a).refs → n < (object_at h b).refs
+      → word g (a + 1 + n) ≡ suc c → word h (b + 1 + n) ≡ suc d → IsTrue (in_set g set c) → Match set g h c d
+
+-- the reference word is null, or leads out of the set
+abbrev pub LeadsOut : List ℕ → Heap → ℕ → Type 0
+LeadsOut set g x = (a : ℕ) → x ≡ suc a → IsFalse (in_set g set a)
+
+-- Two reference words disagree: a word that is to stay is another one; what led into the set is null; or what led into the set
+-- references another object after than what matches, or the match of another object.
+pub data Disagree (set : List ℕ) (g h : Heap) : ℕ → ℕ → Type 0 where
+  changed : {x y : ℕ} → LeadsOut set g x → y ≢ x → Disagree set g h x y
+  null : {a : ℕ} → IsTrue (in_set g set a) → Disagree set g h (suc a) 0
+  split : {a b : ℕ} (other : ℕ) → IsTrue (in_set g set a) → Match set g h a other → other ≢ b → Disagree set g h (suc a) (suc b)
+  joined : {a b : ℕ} (other : ℕ) → IsTrue (in_set g set a) → IsTrue (in_set g set other) → Match set g h other b → other ≢ a → Disagree set g h (suc a) (suc b)
+
+-- a region outside the set that was in use
+pub record IsUsedOutside (set : List ℕ) (g : Heap) (r : ℕ) : Type 0 where
+  pub in_heap : r < g.geometry.n
+  pub outside : IsFalse (has set r)
+  pub used : kind g r ≢ Free
+
+-- what is reported lost holds in both heaps
+abbrev pub IsLoss : List ℕ → Heap → Heap → Lost → Type 0
+IsLoss set g h lost.Sizes = h.geometry ≢ g.geometry
+IsLoss set g h lost.Roots = length h.roots ≢ length g.roots
+IsLoss set g h (lost.Set r) = (r < g.geometry.n) × IsTrue (has set r) × (kind h r ≢ Free)
+IsLoss set g h (lost.Region r) =
+    IsUsedOutside set g r × (IsFreed g h r → ⊥) × ((kind h r ≢ kind g r) ⊎ (top h r ≢ top g r))
+IsLoss set g h (lost.Unpinned r) =
+    IsUsedOutside set g r × (kind h r ≡ kind g r) × (top h r ≡ top g r) × IsTrue (pinned g r) × IsFalse (pinned h r)
+IsLoss set g h (lost.Pinned r) =
+    IsUsedOutside set g r × (kind h r ≡ kind g r) × (top h r ≡ top g r) × IsFalse (pinned g r) × IsTrue (pinned h r)
+IsLoss set g h (lost.Copy a b) = Match set g h a b × IsTrue (in_set g set a) × (MayHoldCopy g b → ⊥)
+IsLoss set g h (lost.Header a b) = Match set g h a b × (word h b ≢ word g a)
+IsLoss set g h (lost.Data a b k) =
+    Match set g h a b × (word h b ≡ word g a) × ((object_at g a).refs + 1 + k < (object_at g a).size)
+    × (word h (b + 1 + (object_at g a).refs + k) ≢ word g (a + 1 + (object_at g a).refs + k))
+IsLoss set g h (lost.Slot a b n) =
+    Match set g h a b × (word h b ≡ word g a) × (n < (object_at g a).refs) × Disagree set g h (word g (a + 1 + n)) (word h (b + 1 + n))
+IsLoss set g h (lost.Root n) =
+    (n < length g.roots) × (n < length h.roots) × Disagree set g h (slice_index g.roots n) (slice_index h.roots n)
+
+-- the heaps have the same sizes, and each region before this one is as it has to be
+abbrev pub KeepsBefore : List ℕ → Heap → Heap → ℕ → Type 0
+KeepsBefore set g h r = (h.geometry ≡ g.geometry) × ((q : ℕ) → q < r → KeepsRegion set g h q)
+
+-- Nothing that comes before it is lost. First come the sizes, then the regions by number, then the number of roots, and then what
+-- roots and objects hold. (Which of the last is the first is not said here.)
+abbrev pub IsEarliest : List ℕ → Heap → Heap → Lost → Type 0
+IsEarliest set g h lost.Sizes = Unit {0}
+IsEarliest set g h (lost.Set r) = KeepsBefore set g h r
+IsEarliest set g h (lost.Region r) = KeepsBefore set g h r
+IsEarliest set g h (lost.Unpinned r) = KeepsBefore set g h r
+IsEarliest set g h (lost.Pinned r) = KeepsBefore set g h r
+IsEarliest set g h lost.Roots = KeepsTable set g h
+IsEarliest set g h _ = KeepsTable set g h × (length h.roots ≡ length g.roots)

@@ -1,0 +1,77 @@
+-- What the walk over both heaps has found.
+use Rattle.std.specs.Prelude.{◌≡◌, ◌≢◌, ◌<◌, ◌≤◌, ◌⊎◌, ◌+◌, ℕ, suc, List, length, slice_index, Contains, IsTrue, IsFalse}
+use Rattle.g1_words.specs.Lists.{has}
+use Rattle.g1_words.specs.declared.region.Kind.TheVariants.{Free}
+use Rattle.g1_words.specs.Heap.{Heap, kind, word, object_at, objects, objects_in}
+use Rattle.g1_words.specs.Survivors.{in_set}
+use Rattle.g1_same.specs.Walk.{IsIndex, AreAlike}
+use Rattle.g1_kept.specs.declared.pairs.Pairs.{Pairs}
+use Rattle.g1_kept.specs.declared.linking.Met.{Met}
+use Rattle.g1_kept.specs.declared.linking.Met.TheVariants.{Agree, Differ, Occupied, New}
+use Rattle.g1_kept.specs.Keeps.{MayHoldCopy}
+use Rattle.g1_kept.specs.Lost.{Match, LeadsOut, Disagree}
+
+-- The pairs are objects of the set and of the heap after that match, found by the tables, each where a copy may be.
+pub record IsWalk (set : List ℕ) (g h : Heap) (w : Pairs) : Type 0 where
+  pub table_before : length w.new_of.items ≡ length g.words
+  pub table_after : length w.old_of.items ≡ length h.words
+  pub index_before : IsIndex w.new_of.items w.before.items
+  pub index_after : IsIndex w.old_of.items w.after.items
+  pub pairs : length w.after.items ≡ length w.before.items
+  pub names_before : (i : ℕ) → i < length w.before.items → Contains (objects g) (object_at g (slice_index w.before.items i))
+  pub names_after : (i : ℕ) → i < length w.before.items → Contains (objects h) (object_at h (slice_index w.after.items i))
+  pub of_set : (i : ℕ) → i < length w.before.items → IsTrue (in_set g set (slice_index w.before.items i))
+  pub room : (i : ℕ) → i < length w.before.items → MayHoldCopy g (slice_index w.after.items i)
+  pub matched : (i : ℕ) → i < length w.before.items → Match set g h (slice_index w.before.items i) (slice_index w.after.items i)
+
+-- the walk has all pairs that it had, each in its place
+pub record HasGrown (w v : Pairs) : Type 0 where
+  pub more : length w.before.items ≤ length v.before.items
+  pub olds : (i : ℕ) → i < length w.before.items → slice_index v.before.items i ≡ slice_index w.before.items i
+  pub news : (i : ℕ) → i < length w.before.items → slice_index v.after.items i ≡ slice_index w.after.items i
+
+-- the words are equal and lead out of the set, or reference a pair that was found
+abbrev pub IsPaired : List ℕ → Heap → Pairs → ℕ → ℕ → Type 0
+IsPaired set g w x y =
+    (LeadsOut set g x × (y ≡ x))
+    ⊎ ((i : ℕ) × (i < length w.before.items) × (x ≡ suc (slice_index w.before.items i)) × (y ≡ suc (slice_index w.after.items i)))
+
+-- what two words are to the walk
+abbrev pub IsMet : List ℕ → Heap → Heap → Pairs → ℕ → ℕ → Met → Type 0
+IsMet set g h w x y Agree = IsPaired set g w x y
+IsMet set g h w x y Differ = Disagree set g h x y
+IsMet set g h w x y (Occupied a b) = (x ≡ suc a) × (y ≡ suc b) × IsTrue (in_set g set a) × (MayHoldCopy g b → ⊥)
+IsMet set g h w x y (New a b) =
+    (x ≡ suc a) × (y ≡ suc b) × IsTrue (in_set g set a) × MayHoldCopy g b × (slice_index w.new_of.items a ≡ 0) × (slice_index w.old_of.items b ≡ 0)
+
+-- the first roots are paired
+abbrev pub PairsRoots : List ℕ → Heap → Heap → Pairs → ℕ → Type 0
+PairsRoots set g h w k = (n : ℕ) → n < k → IsPaired set g w (slice_index g.roots n) (slice_index h.roots n)
+
+-- the first slots of two objects are paired
+abbrev pub PairsSlots : List ℕ → Heap → Heap → Pairs → ℕ → ℕ → ℕ → Type 0
+PairsSlots set g h w a b k = (n : ℕ) → n < k → IsPaired set g w (word g (a + 1 + n)) (word h (b + 1 + n))
+
+-- two objects were compared: they have one header and the same data words, and their slots are paired
+pub record IsCompared (set : List ℕ) (g h : Heap) (w : Pairs) (a b : ℕ) : Type 0 where
+  pub stands : Contains (objects h) (object_at h b)
+  pub alike : AreAlike g h a b
+  pub slots : PairsSlots set g h w a b (object_at g a).refs
+
+-- the first objects of a list were compared with themselves
+abbrev pub ComparesFirst : List ℕ → Heap → Heap → Pairs → List ℕ → ℕ → Type 0
+ComparesFirst set g h w starts k = (i : ℕ) → i < k → IsCompared set g h w (slice_index starts i) (slice_index starts i)
+
+-- the objects of a region were compared with themselves
+abbrev pub ComparesRegion : List ℕ → Heap → Heap → Pairs → ℕ → Type 0
+ComparesRegion set g h w r = (a : ℕ) → Contains (objects_in g r) (object_at g a) → IsCompared set g h w a a
+
+-- the objects outside the set that are still in use were compared, in the first regions
+abbrev pub ComparesOutside : List ℕ → Heap → Heap → Pairs → ℕ → Type 0
+ComparesOutside set g h w k =
+    (r : ℕ) → r < k → IsFalse (has set r) → kind g r ≢ Free → kind h r ≢ Free → ComparesRegion set g h w r
+
+-- the first pairs were compared
+abbrev pub ComparesPairs : List ℕ → Heap → Heap → Pairs → ℕ → Type 0
+ComparesPairs set g h w k =
+    (i : ℕ) → i < k → IsCompared set g h w (slice_index w.before.items i) (slice_index w.after.items i)

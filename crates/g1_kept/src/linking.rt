@@ -1,0 +1,185 @@
+ghost use Rattle.std.specs.Prelude.{◌≡◌, ◌≢◌, ◌<◌, ◌+◌, ◌-◌, ◌↔◌, ℕ, suc, length, slice_index, Contains, IfSome, IfNone, IfOk, OnOk, IsTrue, IsFalse};
+ghost use Rattle.g1_words.specs.Heap.{word, object_at, objects};
+ghost use Rattle.g1_words.specs.Survivors.{in_set};
+ghost use Rattle.g1_same.specs.Walk.{AreAlike, Names};
+ghost use Rattle.g1_kept.specs.Keeps.{MayHoldCopy};
+ghost use Rattle.g1_kept.specs.Lost.{Match, LeadsOut, Disagree, IsLoss};
+ghost use Rattle.g1_kept.specs.Walk.{IsWalk, HasGrown, IsPaired, IsMet, PairsRoots, PairsSlots};
+
+use crate::lost::Lost;
+use crate::pairs::Pairs;
+use crate::region_set::RegionSet;
+use g1_words::{Heap, region_of, slots};
+use std::alloc::AllocError;
+
+/// What two words are to the walk.
+#[derive(Drop)]
+pub enum Met {
+    /// They agree.
+    Agree,
+    Differ,
+    /// They reference an object of the set and one where no copy may be.
+    Occupied { a: u64, b: u64 },
+    /// They reference an object of the set and its copy, and both are new.
+    New { a: u64, b: u64 },
+}
+
+// Whether a word references an object of the set.
+fn leads_in(before: &Heap, set: &RegionSet<'_>, x: u64) -> bool
+    ensures yes { IsTrue result → (x ≢ 0) × IsTrue (in_set before.now set.now (x - 1)) }
+    ensures no { IsFalse result → LeadsOut set.now before.now x }
+{
+    x > 0 && set.has(region_of(&before.geometry(), x - 1))
+}
+
+// Whether a copy may be at an address: its region was free.
+fn may_hold_copy(before: &Heap, b: u64) -> bool
+    requires { b < length before.now.words }
+    ensures { IsTrue result ↔ MayHoldCopy before.now b }
+{
+    let region = region_of(&before.geometry(), b);
+    before.region(region as u32).kind.is_free()
+}
+
+// What two words are to the walk.
+fn meet(before: &Heap, after: &Heap, set: &RegionSet<'_>, pairs: &Pairs, x: u64, y: u64) -> Met
+    requires walk { IsWalk set.now before.now after.now pairs.now }
+    requires sizes { length after.now.words ≡ length before.now.words }
+    requires x { Names before.now x }
+    requires y { Names after.now y }
+    ensures { IsMet set.now before.now after.now pairs.now x y result }
+{
+    g1_words::laws::valid(before);
+    g1_words::laws::valid(after);
+    if !leads_in(before, set, x) {
+        if x == y {
+            return Met::Agree;
+        }
+        return Met::Differ;
+    }
+    if y == 0 {
+        return Met::Differ;
+    }
+    let a = x - 1;
+    let b = y - 1;
+    let i = pairs.new_of[a as usize];
+    let j = pairs.old_of[b as usize];
+    if i != j {
+        return Met::Differ;
+    }
+    if i != 0 {
+        return Met::Agree;
+    }
+    if may_hold_copy(before, b) {
+        Met::New { a, b }
+    } else {
+        Met::Occupied { a, b }
+    }
+}
+
+// Links two words, or returns what is lost: this if they disagree.
+fn link(
+    before: &Heap,
+    after: &Heap,
+    set: &RegionSet<'_>,
+    pairs: &mut Pairs,
+    x: u64,
+    y: u64,
+    other: Lost,
+) -> Result<Option<Lost>, AllocError>
+    requires walk { IsWalk set.now before.now after.now pairs.old }
+    requires sizes { length after.now.words ≡ length before.now.words }
+    requires x { Names before.now x }
+    requires y { Names after.now y }
+    requires found { (a b : ℕ) → x ≡ suc a → y ≡ suc b → IsTrue (in_set before.now set.now a) → Match set.now before.now after.now a b }
+    requires other { Disagree set.now before.now after.now x y → IsLoss set.now before.now after.now other }
+    ensures walk { OnOk result (IsWalk set.now before.now after.now pairs.new) }
+    ensures grown { OnOk result (HasGrown pairs.old pairs.new) }
+    ensures paired { IfOk result (λ o. IfNone o (IsPaired set.now before.now pairs.new x y)) }
+    ensures lost { IfOk result (λ o. IfSome o (λ l. IsLoss set.now before.now after.now l)) }
+{
+    g1_words::laws::valid(before);
+    g1_words::laws::valid(after);
+    match meet(before, after, set, pairs, x, y) {
+        Met::Agree => Ok(None),
+        Met::Differ => Ok(Some(other)),
+        Met::Occupied { a, b } => Ok(Some(Lost::Copy {
+            before: a,
+            after: b,
+        })),
+        Met::New { a, b } => {
+            pairs.add(a, b)?;
+            Ok(None)
+        }
+    }
+}
+
+/// Links the roots, by number.
+pub(crate) fn link_roots(
+    before: &Heap,
+    after: &Heap,
+    set: &RegionSet<'_>,
+    pairs: &mut Pairs,
+) -> Result<Option<Lost>, AllocError>
+    requires walk { IsWalk set.now before.now after.now pairs.old }
+    requires sizes { length after.now.words ≡ length before.now.words }
+    requires roots { length after.now.roots ≡ length before.now.roots }
+    ensures walk { OnOk result (IsWalk set.now before.now after.now pairs.new) }
+    ensures paired { IfOk result (λ o. IfNone o (PairsRoots set.now before.now after.now pairs.new (length before.now.roots))) }
+    ensures lost { IfOk result (λ o. IfSome o (λ l. IsLoss set.now before.now after.now l)) }
+{
+    g1_words::laws::valid(before);
+    g1_words::laws::valid(after);
+    let old = before.roots();
+    let new = after.roots();
+    for number in 0..old.len() {
+        let x = old[number];
+        let y = new[number];
+        let other = Lost::Root(number as u64);
+        if let Some(lost) = link(before, after, set, pairs, x, y, other)? {
+            return Ok(Some(lost));
+        }
+    }
+    Ok(None)
+}
+
+/// Links the slots of two objects that match, by number.
+pub(crate) fn link_slots(
+    before: &Heap,
+    after: &Heap,
+    set: &RegionSet<'_>,
+    pairs: &mut Pairs,
+    a: u64,
+    b: u64,
+) -> Result<Option<Lost>, AllocError>
+    requires walk { IsWalk set.now before.now after.now pairs.old }
+    requires sizes { length after.now.words ≡ length before.now.words }
+    requires a { Contains (objects before.now) (object_at before.now a) }
+    requires b { Contains (objects after.now) (object_at after.now b) }
+    requires matched { Match set.now before.now after.now a b }
+    requires alike { AreAlike before.now after.now a b }
+    ensures walk { OnOk result (IsWalk set.now before.now after.now pairs.new) }
+    ensures grown { OnOk result (HasGrown pairs.old pairs.new) }
+    ensures paired { IfOk result (λ o. IfNone o (PairsSlots set.now before.now after.now pairs.new a b (object_at before.now a).refs)) }
+    ensures lost { IfOk result (λ o. IfSome o (λ l. IsLoss set.now before.now after.now l)) }
+{
+    g1_words::laws::valid(before);
+    g1_words::laws::valid(after);
+    let old = before.object(a);
+    let new = after.object(b);
+    let here = slots(before.words(), &old);
+    let there = slots(after.words(), &new);
+    for number in 0..here.len() {
+        let x = here[number];
+        let y = there[number];
+        let other = Lost::Slot {
+            before: a,
+            after: b,
+            slot: number as u64,
+        };
+        if let Some(lost) = link(before, after, set, pairs, x, y, other)? {
+            return Ok(Some(lost));
+        }
+    }
+    Ok(None)
+}
