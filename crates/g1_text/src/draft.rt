@@ -1,3 +1,5 @@
+ghost use Rattle.std.specs.Prelude.{◌<◌, ◌^◌, IfOk};
+
 use crate::expected::{Expected, Refusal};
 use g1_words::{Geometry, Kind, Region};
 use std::alloc::{AllocError, Global};
@@ -99,8 +101,7 @@ impl Draft {
     pub(crate) fn next_address(&self) -> u64 {
         match self.regions.split_last() {
             Some((last, below)) => {
-                let start = (below.len() as u64).saturating_mul(self.geometry.region_words());
-                start.saturating_add(u64::from(last.top))
+                start_of(self.geometry, below.len()).saturating_add(u64::from(last.top))
             }
             None => 0,
         }
@@ -166,26 +167,31 @@ impl Draft {
     }
 
     /// Takes room for an object of this many words behind the last one.
-    pub(crate) fn take_room(&mut self, size: u64) -> Result<(), Expected> {
-        let place = self.regions.len() as u64;
-        let behind = self.geometry.regions().saturating_sub(place);
-        let width = self.geometry.region_words();
-        let Some(region) = self.regions.last_mut() else {
+    pub(crate) fn take_room(&mut self, size: u64) -> Result<(), Expected>
+        ensures { IfOk result (λ _. size < 2 ^ 32) }
+    {
+        let geometry = self.geometry;
+        let Some((region, below)) = self.regions.split_last_mut() else {
             return Err(Expected::NoObject);
         };
         match region.kind {
             Kind::Ordinary => {
-                region.top = grown(region.top, size, width)?;
+                region.top = grow(geometry, region.top, size)?;
                 Ok(())
             }
             Kind::HumongousFirst if region.top == 0 => {
-                self.beyond = overhang(size, width, behind)?;
-                region.top = size.min(width) as u32;
+                self.beyond = overhang(geometry, start_of(geometry, below.len()), size)?;
+                region.top = size.min(geometry.region_words()) as u32;
                 Ok(())
             }
-            _ => Err(Expected::NoObject),
+            Kind::HumongousFirst | Kind::Free | Kind::Continuation => Err(Expected::NoObject),
         }
     }
+}
+
+// The address of the first word of a region.
+fn start_of(geometry: Geometry, region: usize) -> u64 {
+    geometry.start(u32::try_from(region).unwrap_or(u32::MAX))
 }
 
 fn empty_remembered(alloc: Global, count: usize) -> Result<Vec<Vec<u32>>, AllocError> {
@@ -196,24 +202,28 @@ fn empty_remembered(alloc: Global, count: usize) -> Result<Vec<Vec<u32>>, AllocE
     Ok(remembered)
 }
 
-// The top of an ordinary region of this width behind an object more.
-fn grown(top: u32, size: u64, width: u64) -> Result<u32, Expected> {
-    let most = (3 * (width / 4)).min(width.saturating_sub(u64::from(top)));
+// The top of an ordinary region behind an object more.
+fn grow(geometry: Geometry, top: u32, size: u64) -> Result<u32, Expected>
+    ensures { IfOk result (λ _. size < 2 ^ 32) }
+{
+    let left = geometry.region_words().saturating_sub(u64::from(top));
+    let most = geometry.most_ordinary().min(left);
     match u32::try_from(size) {
         Ok(words) if size <= most => top.checked_add(words).ok_or(Expected::AtMost(most)),
         _ => Err(Expected::AtMost(most)),
     }
 }
 
-// The words of a humongous object beyond its first region, where so many regions stand behind that.
-fn overhang(size: u64, width: u64, behind: u64) -> Result<u64, Expected> {
-    let least = (3 * (width / 4)).saturating_add(1);
-    let most = width.saturating_mul(behind.saturating_add(1));
-    if size < least {
-        Err(Expected::AtLeast(least))
+// The words of a humongous object beyond its first region, which starts at this address.
+fn overhang(geometry: Geometry, start: u64, size: u64) -> Result<u64, Expected>
+    ensures { IfOk result (λ _. size < 2 ^ 32) }
+{
+    let most = geometry.words().saturating_sub(start);
+    if !geometry.is_humongous(size) {
+        Err(Expected::AtLeast(geometry.most_ordinary().saturating_add(1)))
     } else if size > most {
         Err(Expected::AtMost(most))
     } else {
-        Ok(size.saturating_sub(width))
+        Ok(size.saturating_sub(geometry.region_words()))
     }
 }

@@ -2,7 +2,7 @@
 //!
 //! 1. `image_lines` prints an image line by line: its heading, its roots, its dirty cards, and for
 //!    each region its numbers, its remembered cards and its objects. `region_lines` and
-//!    `object_line` print a part.
+//!    `object_line` print a part, and `push_heading` adds the heading to a text.
 //! 2. `make` reads lines and gives the image's bytes. Each line's numbers are compared with what
 //!    follows from the lines above it, so whatever follows may be left out: addresses, tops, counts,
 //!    free and continuation regions, and, by the word `covered`, remembered sets.
@@ -13,6 +13,7 @@
 mod covering;
 mod draft;
 mod expected;
+pub mod laws;
 mod making;
 mod packing;
 mod printing;
@@ -22,4 +23,4 @@ mod words;
 
 pub use expected::{Expected, Wrong};
 pub use making::make;
-pub use printing::{image_lines, object_line, region_lines};
+pub use printing::{image_lines, object_line, push_heading, push_region_line, region_lines};

@@ -4,7 +4,7 @@ ghost use Rattle.g1_text.specs.Made.{IsImageText};
 use crate::covering::cover;
 use crate::draft::Draft;
 use crate::expected::{Expected, Wrong};
-use crate::packing::packed;
+use crate::packing::pack;
 use crate::reading::read;
 use crate::settling::settle;
 use g1_image::decode;
@@ -22,26 +22,26 @@ pub fn make(alloc: Global, text: &[u8]) -> Result<Vec<u8>, Wrong>
     ensures image { IfOk result (λ v. IsImageText v.items) }
 {
     let mut draft = read(alloc, text)?;
-    made(alloc, &mut draft)
+    finish(alloc, &mut draft)
 }
 
-// The bytes of what was read.
-fn made(alloc: Global, draft: &mut Draft) -> Result<Vec<u8>, Wrong>
+// Settles what was read, and packs it into bytes that are an image's.
+fn finish(alloc: Global, draft: &mut Draft) -> Result<Vec<u8>, Wrong>
     ensures image { IfOk result (λ v. IsImageText v.items) }
 {
     if draft.covered {
         cover(draft)?;
     }
     settle(draft)?;
-    let bytes = packed(alloc, draft)?;
+    let bytes = pack(alloc, draft)?;
     match decode(alloc, bytes.as_slice()) {
         Ok(_) => Ok(bytes),
-        Err(fault) => Err(traced(draft, fault)),
+        Err(fault) => Err(trace(draft, fault)),
     }
 }
 
-// The line that a fault of the bytes comes from.
-fn traced(draft: &Draft, fault: Fault) -> Wrong {
+// Traces a fault of the bytes to the line that it comes from.
+fn trace(draft: &Draft, fault: Fault) -> Wrong {
     let lines = &draft.lines;
     match fault {
         Fault::Reference(Place::Root(root)) => at(&lines.roots, root, Expected::Root, fault),

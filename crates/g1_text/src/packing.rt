@@ -1,9 +1,9 @@
 use crate::draft::Draft;
-use g1_words::{Kind, Region};
+use g1_words::Region;
 use std::alloc::{AllocError, Global};
 
-/// The bytes of what was read, good or not.
-pub(crate) fn packed(alloc: Global, draft: &Draft) -> Result<Vec<u8>, AllocError> {
+/// Packs what was read into bytes, good or not.
+pub(crate) fn pack(alloc: Global, draft: &Draft) -> Result<Vec<u8>, AllocError> {
     let mut out = Vec::from_slice(alloc, b"G1IMAGE2")?;
     push_heading(&mut out, draft)?;
     push_table(&mut out, &draft.regions)?;
@@ -33,14 +33,8 @@ fn push_heading(out: &mut Vec<u8>, draft: &Draft) -> Result<(), AllocError> {
 
 fn push_table(out: &mut Vec<u8>, regions: &[Region]) -> Result<(), AllocError> {
     for region in regions {
-        let kind = match region.kind {
-            Kind::Free => 0,
-            Kind::Ordinary => 1,
-            Kind::HumongousFirst => 2,
-            Kind::Continuation => 3,
-        };
         let flags = if region.pinned { 1 } else { 0 };
-        push_numbers(out, &[kind, region.top, flags])?;
+        push_numbers(out, &[region.kind.number(), region.top, flags])?;
     }
     Ok(())
 }

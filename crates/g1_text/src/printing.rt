@@ -1,7 +1,9 @@
-ghost use Rattle.std.specs.Prelude.{◌≡◌, ◌<◌, ◌≤◌, IfErr};
+ghost use Rattle.std.specs.Prelude.{◌≡◌, ◌<◌, ◌≤◌, ◌+◌, ◌++◌, ◌∷◌, List, length, map, flat_map, decimal, codes, string_bytes, Contains, OnOk, IfOk, IfErr};
+ghost use Rattle.g1_words.specs.Heap.{objects_in, objects, regions};
+ghost use Rattle.g1_text.specs.Lines.{line_text, further, text_of, reference_word, heading, root_lines, root_line, cards_words, log_lines, region_line, remembered_lines, object_line, region_lines, image_text};
 
 use g1_image::Image;
-use g1_words::{Fault, Heap, Object, REFS_RANGE, Region, objects_in};
+use g1_words::{Fault, Heap, Object, Region, data, laws, objects_in, slots};
 use std::alloc::{AllocError, Global};
 
 /// The lines of an image, in their full form: each number and each set is there.
@@ -10,6 +12,7 @@ use std::alloc::{AllocError, Global};
 ///
 /// `Fault::Memory` alone.
 pub fn image_lines(alloc: Global, image: &Image) -> Result<String, Fault>
+    ensures text { IfOk result (λ s. string_bytes s ≡ image_text image.now) }
     ensures memory { IfErr result (λ e. e ≡ Fault.Memory) }
 {
     let mut text = String::new(alloc);
@@ -27,6 +30,7 @@ pub fn image_lines(alloc: Global, image: &Image) -> Result<String, Fault>
 /// `Fault::Memory` alone.
 pub fn region_lines(alloc: Global, image: &Image, region: u32) -> Result<String, Fault>
     requires { region < image.now.heap.geometry.n }
+    ensures text { IfOk result (λ s. string_bytes s ≡ text_of (region_lines image.now region)) }
     ensures memory { IfErr result (λ e. e ≡ Fault.Memory) }
 {
     let mut text = String::new(alloc);
@@ -34,20 +38,33 @@ pub fn region_lines(alloc: Global, image: &Image, region: u32) -> Result<String,
     Ok(text)
 }
 
-/// The line of one object.
+/// The line of one object of the heap.
 ///
 /// # Errors
 ///
 /// `Fault::Memory` alone.
 pub fn object_line(alloc: Global, heap: &Heap, object: &Object) -> Result<String, Fault>
+    ensures text { Contains (objects heap.now) object.now → IfOk result (λ s. string_bytes s ≡ line_text (object_line heap.now.words object.now)) }
     ensures memory { IfErr result (λ e. e ≡ Fault.Memory) }
 {
+    laws::valid(heap);
     let mut text = String::new(alloc);
-    push_object(&mut text, heap.words(), object.at)?;
+    let length = heap.words().len() as u64;
+    let Object { at, size, refs } = *object;
+    if refs < size && size <= length && at <= length - size {
+        push_object(&mut text, heap.words(), object)?;
+    }
     Ok(text)
 }
 
-fn push_heading(text: &mut String, image: &Image) -> Result<(), AllocError> {
+/// Adds the first line of an image's lines, which is that of its table too.
+///
+/// # Errors
+///
+/// `AllocError`.
+pub fn push_heading(text: &mut String, image: &Image) -> Result<(), AllocError>
+    ensures { OnOk result (string_bytes text.new ≡ string_bytes text.old ++ line_text (heading image.now)) }
+{
     let heap = image.heap();
     let geometry = heap.geometry();
     let (w, k, n) = (
@@ -66,32 +83,47 @@ fn push_heading(text: &mut String, image: &Image) -> Result<(), AllocError> {
     }
 }
 
-fn push_roots(text: &mut String, roots: &[u64]) -> Result<(), AllocError> {
+fn push_roots(text: &mut String, roots: &[u64]) -> Result<(), AllocError>
+    ensures { OnOk result (string_bytes text.new ≡ string_bytes text.old ++ text_of (root_lines roots.now)) }
+{
     for (number, root) in roots.iter().enumerate() {
-        write!(text, "root {number}")?;
-        push_reference(text, *root)?;
-        text.push('\n')?;
+        push_root(text, number, *root)?;
     }
     Ok(())
 }
 
-fn push_log(text: &mut String, cards: &[u32]) -> Result<(), AllocError> {
-    if !cards.is_empty() {
-        text.push_str("dirty")?;
-        push_cards(text, cards)?;
+fn push_root(text: &mut String, number: usize, root: u64) -> Result<(), AllocError>
+    ensures { OnOk result (string_bytes text.new ≡ string_bytes text.old ++ line_text (root_line number root)) }
+{
+    match root.checked_sub(1) {
+        Some(address) => writeln!(text, "root {number} {address}"),
+        None => writeln!(text, "root {number} -"),
     }
-    Ok(())
 }
 
-fn push_cards(text: &mut String, cards: &[u32]) -> Result<(), AllocError> {
+fn push_log(text: &mut String, cards: &[u32]) -> Result<(), AllocError>
+    ensures { OnOk result (string_bytes text.new ≡ string_bytes text.old ++ text_of (log_lines cards.now)) }
+{
+    if cards.is_empty() {
+        return Ok(());
+    }
+    text.push_str("dirty")?;
+    push_cards(text, cards)
+}
+
+// The cards at the end of a line.
+fn push_cards(text: &mut String, cards: &[u32]) -> Result<(), AllocError>
+    ensures { OnOk result (string_bytes text.new ≡ string_bytes text.old ++ further (cards_words cards.now)) }
+{
     text.push_str(" cards")?;
     for card in cards {
         write!(text, " {card}")?;
     }
-    text.push('\n')
+    text.push_str("\n")
 }
 
 fn push_regions(alloc: Global, text: &mut String, image: &Image) -> Result<(), Fault>
+    ensures text { OnOk result (string_bytes text.new ≡ string_bytes text.old ++ text_of (flat_map (region_lines image.now) (regions image.now.heap))) }
     ensures memory { IfErr result (λ e. e ≡ Fault.Memory) }
 {
     let regions = image.heap().geometry().regions();
@@ -103,69 +135,90 @@ fn push_regions(alloc: Global, text: &mut String, image: &Image) -> Result<(), F
 
 fn push_region(alloc: Global, text: &mut String, image: &Image, region: u32) -> Result<(), Fault>
     requires { region < image.now.heap.geometry.n }
+    ensures text { OnOk result (string_bytes text.new ≡ string_bytes text.old ++ text_of (region_lines image.now region)) }
     ensures memory { IfErr result (λ e. e ≡ Fault.Memory) }
 {
     let heap = image.heap();
     let starts = objects_in(alloc, heap, region)?;
-    let cards = image.remembered()[region as usize].as_slice();
-    push_told(text, region, heap.region(region), starts.len(), cards)?;
-    push_objects(text, heap.words(), starts.as_slice())?;
+    push_region_line(text, image, region, starts.len())?;
+    push_remembered(text, region, image.remembered()[region as usize].as_slice())?;
+    push_objects(text, heap, region, starts.as_slice())?;
     Ok(())
 }
 
-// A region's numbers and its remembered cards.
-fn push_told(
+/// Adds the line with the numbers of a region in which this many objects start.
+pub fn push_region_line(
     text: &mut String,
-    number: u32,
-    region: Region,
+    image: &Image,
+    region: u32,
     objects: usize,
-    remembered: &[u32],
-) -> Result<(), AllocError> {
-    let Region { kind, top, pinned } = region;
+) -> Result<(), AllocError>
+    requires region { region < image.now.heap.geometry.n }
+    requires objects { objects ≡ length (objects_in image.now.heap region) }
+    ensures { OnOk result (string_bytes text.new ≡ string_bytes text.old ++ line_text (region_line image.now region)) }
+{
+    let Region { kind, top, pinned } = image.heap().region(region);
+    let cards = image.remembered()[region as usize].len();
     let pinned = if pinned { " pinned" } else { "" };
-    let cards = remembered.len();
     writeln!(
         text,
-        "region {number} {kind} top {top} objects {objects} cards {cards}{pinned}"
-    )?;
-    if remembered.is_empty() {
-        return Ok(());
-    }
-    write!(text, "remembered {number}")?;
-    push_cards(text, remembered)
+        "region {region} {kind} top {top} objects {objects} cards {cards}{pinned}"
+    )
 }
 
-fn push_objects(text: &mut String, words: &[u64], starts: &[u64]) -> Result<(), AllocError> {
+fn push_remembered(text: &mut String, region: u32, cards: &[u32]) -> Result<(), AllocError>
+    ensures { OnOk result (string_bytes text.new ≡ string_bytes text.old ++ text_of (remembered_lines region cards.now)) }
+{
+    if cards.is_empty() {
+        return Ok(());
+    }
+    write!(text, "remembered {region}")?;
+    push_cards(text, cards)
+}
+
+// The lines of the objects that start in a region.
+fn push_objects(
+    text: &mut String,
+    heap: &Heap,
+    region: u32,
+    starts: &[u64],
+) -> Result<(), AllocError>
+    requires region { region < heap.now.geometry.n }
+    requires starts { starts.now ≡ map (λ o. o.at) (objects_in heap.now region) }
+    ensures { OnOk result (string_bytes text.new ≡ string_bytes text.old ++ text_of (map (object_line heap.now.words) (objects_in heap.now region))) }
+{
+    laws::valid(heap);
     for start in starts {
-        push_object(text, words, *start)?;
+        push_object(text, heap.words(), &heap.object(*start))?;
     }
     Ok(())
 }
 
 // An object's address, its header, its slots as addresses, and its data words.
-fn push_object(text: &mut String, words: &[u64], at: u64) -> Result<(), AllocError> {
-    let (_, from) = words.split_at(words.len().min(at as usize));
-    let Some((header, behind)) = from.split_first() else {
-        return Ok(());
-    };
-    let (size, refs) = (*header / REFS_RANGE, *header % REFS_RANGE);
+fn push_object(text: &mut String, words: &[u64], object: &Object) -> Result<(), AllocError>
+    requires refs { object.now.refs < object.now.size }
+    requires within { object.now.at + object.now.size ≤ length words.now }
+    ensures { OnOk result (string_bytes text.new ≡ string_bytes text.old ++ line_text (object_line words.now object.now)) }
+{
+    let Object { at, size, refs } = *object;
     write!(text, "object {at} {size}/{refs}")?;
-    let length = (size as usize).saturating_sub(1);
-    let (content, _) = behind.split_at(behind.len().min(length));
-    let (slots, data) = content.split_at(content.len().min(refs as usize));
-    push_references(text, slots)?;
-    push_data(text, data)?;
-    text.push('\n')
+    push_references(text, slots(words, object))?;
+    push_data(text, data(words, object))?;
+    text.push_str("\n")
 }
 
-fn push_references(text: &mut String, references: &[u64]) -> Result<(), AllocError> {
+fn push_references(text: &mut String, references: &[u64]) -> Result<(), AllocError>
+    ensures { OnOk result (string_bytes text.new ≡ string_bytes text.old ++ flat_map (λ x. 32 ∷ reference_word x) references.now) }
+{
     for reference in references {
         push_reference(text, *reference)?;
     }
     Ok(())
 }
 
-fn push_data(text: &mut String, words: &[u64]) -> Result<(), AllocError> {
+fn push_data(text: &mut String, words: &[u64]) -> Result<(), AllocError>
+    ensures { OnOk result (string_bytes text.new ≡ string_bytes text.old ++ flat_map (λ x. 32 ∷ decimal x) words.now) }
+{
     for word in words {
         write!(text, " {word}")?;
     }
@@ -173,7 +226,9 @@ fn push_data(text: &mut String, words: &[u64]) -> Result<(), AllocError> {
 }
 
 // A reference word as the address that it names, or as a dash.
-fn push_reference(text: &mut String, reference: u64) -> Result<(), AllocError> {
+fn push_reference(text: &mut String, reference: u64) -> Result<(), AllocError>
+    ensures { OnOk result (string_bytes text.new ≡ string_bytes text.old ++ (32 ∷ reference_word reference)) }
+{
     match reference.checked_sub(1) {
         Some(address) => write!(text, " {address}"),
         None => text.push_str(" -"),

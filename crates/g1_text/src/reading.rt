@@ -1,12 +1,11 @@
+ghost use Rattle.std.specs.Prelude.{◌<◌, IfOk};
+
 use crate::draft::{Draft, Heading, Placed, Told};
 use crate::expected::{Expected, Refusal, Wrong};
 use crate::words::{Words, size_and_slots};
-use g1_words::{Geometry, Kind, Region};
+use g1_words::{Geometry, Kind, MOST_ROOTS, header_word};
 use std::alloc::Global;
 use std::str;
-
-// The most roots that an image can have.
-const MOST_ROOTS: u64 = 65_536;
 
 /// Reads lines one after the other.
 pub(crate) fn read(alloc: Global, text: &[u8]) -> Result<Draft, Wrong> {
@@ -61,16 +60,16 @@ fn read_words(
     words: Words<'_>,
 ) -> Result<(), Refusal> {
     match draft {
-        Some(draft) => draft.add(first, words, number),
+        Some(draft) => draft.add(alloc, first, words, number),
         None => {
-            *draft = Some(begun(alloc, first, words, number)?);
+            *draft = Some(begin(alloc, first, words, number)?);
             Ok(())
         }
     }
 }
 
 // heap W K N [roots R] [dirty D] [current none|C]
-fn begun(alloc: Global, first: &str, words: Words<'_>, line: u64) -> Result<Draft, Refusal> {
+fn begin(alloc: Global, first: &str, words: Words<'_>, line: u64) -> Result<Draft, Refusal> {
     let mut words = words;
     if first != "heap" {
         return Err(Expected::Heading.into());
@@ -102,8 +101,8 @@ fn heading(words: Words<'_>, line: u64) -> Result<(Heading, Option<u32>), Expect
     let mut words = words;
     let heading = Heading {
         line,
-        roots: words.named("roots")?,
-        dirty: words.named("dirty")?,
+        roots: words.take_named("roots")?,
+        dirty: words.take_named("dirty")?,
     };
     let current = current(&mut words)?;
     words.end()?;
@@ -127,12 +126,18 @@ pub(crate) fn follows(told: Option<u64>, what: &'static str, number: u64) -> Res
 
 impl Draft {
     // Reads the words behind the first word of a line.
-    fn add(&mut self, first: &str, words: Words<'_>, line: u64) -> Result<(), Refusal> {
+    fn add(
+        &mut self,
+        alloc: Global,
+        first: &str,
+        words: Words<'_>,
+        line: u64,
+    ) -> Result<(), Refusal> {
         match first {
             "root" => self.add_root(words, line),
             "dirty" => self.add_dirty(words, line),
             "covered" => self.cover(words),
-            "region" => self.add_region(words, line),
+            "region" => self.add_region(alloc, words, line),
             "remembered" => self.add_remembered(words, line),
             "object" => self.add_object(words, line),
             _ => Err(Expected::Line.into()),
@@ -142,8 +147,9 @@ impl Draft {
     // root [NUMBER] REFERENCE
     fn add_root(&mut self, words: Words<'_>, line: u64) -> Result<(), Refusal> {
         let next = self.roots.len() as u64;
-        if next >= MOST_ROOTS {
-            return Err(Expected::Roots(MOST_ROOTS).into());
+        let most = u64::from(MOST_ROOTS);
+        if next >= most {
+            return Err(Expected::Roots(most).into());
         }
         self.roots.push(root(words, next)?)?;
         self.lines.roots.push(line)?;
@@ -180,12 +186,12 @@ impl Draft {
     }
 
     // region [NUMBER] KIND [top WORDS] [objects COUNT] [cards COUNT] [pinned]
-    fn add_region(&mut self, words: Words<'_>, line: u64) -> Result<(), Refusal> {
+    fn add_region(&mut self, alloc: Global, words: Words<'_>, line: u64) -> Result<(), Refusal> {
         let mut words = words;
         let told = words.take_number();
-        let kind = kind(words.next().unwrap_or(""))?;
+        let kind = kind(alloc, words.next().unwrap_or(""))?;
         let region = self.begin_region(told, kind)?;
-        let told = told_of(region, &mut words, line)?;
+        let told = read_counts(region, &mut words, line)?;
         if is_pinned(kind, words)? {
             self.pin(region);
         }
@@ -201,13 +207,13 @@ impl Draft {
 
     // Adds a region of a kind, and those below it that no line names. Tells its number.
     fn begin_region(&mut self, told: Option<u64>, kind: Kind) -> Result<usize, Refusal> {
-        if kind != Kind::Continuation {
+        if !kind.is_continuation() {
             self.close_run()?;
         }
         let next = self.regions.len() as u64;
         let number = told.unwrap_or(next);
         check_number(number, next, self.geometry.regions())?;
-        if kind == Kind::Continuation {
+        if kind.is_continuation() {
             self.continue_run_to(number)?;
         } else {
             self.fill_up_to(number)?;
@@ -225,7 +231,7 @@ impl Draft {
         follows(told, "object", at)?;
         self.take_room(size)?;
         let place = self.words.len();
-        self.words.push(size << 32 | slots)?;
+        self.words.push(header_word(size, slots))?;
         let data = size.saturating_sub(slots).saturating_sub(1);
         self.add_content(words, slots, data)?;
         self.objects.push(Placed {
@@ -286,19 +292,21 @@ fn add_cards(words: Words<'_>, cards: &mut Vec<u32>) -> Result<(), Refusal> {
 }
 
 // [top WORDS] [objects COUNT] [cards COUNT]
-fn told_of(region: usize, words: &mut Words<'_>, line: u64) -> Result<Told, Expected> {
+fn read_counts(region: usize, words: &mut Words<'_>, line: u64) -> Result<Told, Expected> {
     Ok(Told {
         line,
         region,
-        top: words.named("top")?,
-        objects: words.named("objects")?,
-        cards: words.named("cards")?,
+        top: words.take_named("top")?,
+        objects: words.take_named("objects")?,
+        cards: words.take_named("cards")?,
         found: 0,
     })
 }
 
 // SIZE/SLOTS
-fn size(words: &mut Words<'_>) -> Result<(u64, u64), Expected> {
+fn size(words: &mut Words<'_>) -> Result<(u64, u64), Expected>
+    ensures { IfOk result (λ p. p.1 < p.0) }
+{
     match size_and_slots(words.next().unwrap_or("")) {
         Some((size, slots)) if slots < size => Ok((size, slots)),
         _ => Err(Expected::Size),
@@ -308,7 +316,7 @@ fn size(words: &mut Words<'_>) -> Result<(u64, u64), Expected> {
 // [pinned]
 fn is_pinned(kind: Kind, words: Words<'_>) -> Result<bool, Expected> {
     let mut words = words;
-    let pinned = kind == Kind::Ordinary && words.take("pinned");
+    let pinned = kind.is_ordinary() && words.take("pinned");
     words.end()?;
     Ok(pinned)
 }
@@ -324,12 +332,15 @@ fn check_number(number: u64, next: u64, regions: u64) -> Result<(), Expected> {
     }
 }
 
-fn kind(word: &str) -> Result<Kind, Expected> {
-    match word {
-        "free" => Ok(Kind::Free),
-        "ordinary" => Ok(Kind::Ordinary),
-        "humongous" => Ok(Kind::HumongousFirst),
-        "continuation" => Ok(Kind::Continuation),
-        _ => Err(Expected::Kind),
+// The kind that this word is the text of.
+fn kind(alloc: Global, word: &str) -> Result<Kind, Refusal> {
+    for number in 0..u32::MAX {
+        let Some(kind) = Kind::of_number(number) else {
+            break;
+        };
+        if format!(in alloc; "{kind}")?.as_str() == word {
+            return Ok(kind);
+        }
     }
+    Err(Expected::Kind.into())
 }

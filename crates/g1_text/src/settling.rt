@@ -1,7 +1,7 @@
 use crate::draft::{Draft, Told};
 use crate::expected::{Expected, Wrong};
 use crate::reading::follows;
-use g1_words::{Kind, Region};
+use g1_words::Region;
 
 /// Finds that the lines agree with what was read: counts, tops, objects, and the current region.
 pub(crate) fn settle(draft: &Draft) -> Result<(), Wrong> {
@@ -27,7 +27,7 @@ fn settle_heading(draft: &Draft) -> Result<(), Expected> {
     ))?;
     match draft.current {
         Some(current) => match draft.regions.get(current as usize) {
-            Some(region) if region.kind == Kind::Ordinary => Ok(()),
+            Some(region) if region.kind.is_ordinary() => Ok(()),
             _ => Err(Expected::Current),
         },
         None => Ok(()),
@@ -38,8 +38,7 @@ fn settle_region(draft: &Draft, told: &Told) -> Result<(), Expected> {
     let Some(Region { kind, top, .. }) = draft.regions.get(told.region) else {
         return Err(Expected::NoRegion);
     };
-    let starts = matches!(kind, Kind::Ordinary | Kind::HumongousFirst);
-    if starts && told.found == 0 {
+    if kind.may_hold_cards() && told.found == 0 {
         return Err(Expected::Object);
     }
     let cards = match draft.remembered.get(told.region) {

@@ -90,7 +90,7 @@ impl<'a> Words<'a> {
     }
 
     /// Reads a word and the number behind it, if this word is the next.
-    pub(crate) fn named(&mut self, word: &'static str) -> Result<Option<u64>, Expected> {
+    pub(crate) fn take_named(&mut self, word: &'static str) -> Result<Option<u64>, Expected> {
         if self.take(word) {
             Ok(Some(self.number(word)?))
         } else {
