@@ -7,7 +7,7 @@ use Rattle.g1_words.specs.Survivors.{seeds, children}
 use Rattle.g1_words.specs.Layout.{forward, kept}
 use Rattle.g1_image.specs.Image.{Image}
 use Rattle.g1_words.specs.Copy.{is_taken, renamed_words, IsCopy}
-use Rattle.g1_after.specs.Moved.{remembered_after, IsMoved, Moved}
+use Rattle.g1_after.specs.Moved.{remembered_moved, IsMoved, Moved}
 use Rattle.g1_words.proofs.Members.{Contains-from_in, any_member, and_true}
 use Rattle.g1_words.proofs.Unique.{breadth_first_unique}
 use Rattle.g1_words.specs.declared.object.Object.{Object}
@@ -43,7 +43,7 @@ module _ (i : Image) (set l : List ℕ) (j k : Image) (a : IsMoved i set l j) (b
   }
 
   same_remembered : j.remembered ≡ k.remembered
-  same_remembered = a.remembered ∙ ap (λ h. map (remembered_after i set l h) (regions i.heap)) same_heap ∙ sym b.remembered
+  same_remembered = a.remembered ∙ ap (λ h. map (remembered_moved i set l h) (regions i.heap)) same_heap ∙ sym b.remembered
 
   pub same_image : j ≡ k
   same_image = λ t. record {

@@ -1,13 +1,13 @@
 -- On cards and of regions that a pause leaves as they are, what is exact stays.
 use Rattle.std.proofs.Common.{◌≡◌, ℕ, suc, ◌+◌, ◌/◌, ◌<◌, ◌≤◌, inl, inr, Bool, true, false, not, ◌&&◌, List, ◌++◌, length, sym, ◌∙◌, ap, arith, eqb}
 use Rattle.std.proofs.lemmas.Bool.{cases_Bool, false≢true}
-use Rattle.g1_after.proofs.CoveredAfter.{any_from_in, moved_region}
+use Rattle.g1_after.proofs.CoveredMoved.{any_from_in, moved_region}
 use Rattle.g1_after.proofs.ObjectsOf.{kept_outside}
-use Rattle.g1_after.proofs.RefsMoved.{refs_after}
+use Rattle.g1_after.proofs.RefsMoved.{refs_moved}
 use Rattle.g1_after.proofs.RefsOf.{exact_parts, ref_of, region_of_slot, same_test, slot_of}
-use Rattle.g1_after.proofs.RulesAfter.{before_kept, ref_after}
-use Rattle.g1_after.proofs.ValidAfter.{kept_refs, sound_before}
-use Rattle.g1_after.specs.After.{ExactStays}
+use Rattle.g1_after.proofs.RulesMoved.{before_kept, ref_moved}
+use Rattle.g1_after.proofs.ValidMoved.{kept_refs, sound_before}
+use Rattle.g1_after.specs.Survived.{ExactStays}
 use Rattle.g1_after.specs.Moved.{IsMoved, card_in}
 use Rattle.g1_image.specs.Cards.{is_exact, leads_into}
 use Rattle.g1_image.specs.Image.{Image, region_of_card}
@@ -43,7 +43,7 @@ module _ (i : Image) (set l : List ℕ) (j : Image) (valid : IsBuilt i.heap) (or
   -- a reference after whose slot and target lie outside to-space was there before
   was_there : (e : Ref) → In (refs j.heap) e → has (to_space i.heap l) (region_of i.heap e.slot) ≡ false → has (to_space i.heap l) (region_of i.heap e.target) ≡ false → In (refs i.heap) e
   was_there e here from to =
-      let r = ref_after i set l j valid ordinary survivors room moved e here in
+      let r = ref_moved i set l j valid ordinary survivors room moved e here in
       let named = before_kept i set l j valid ordinary survivors room moved e r in
       let owner_fits = kept_refs i set l j valid ordinary survivors room moved r.owner r.is_kept in
       let target_fits = kept_refs i set l j valid ordinary survivors room moved (object_at i.heap r.before) named in
@@ -78,7 +78,7 @@ module _ (i : Image) (set l : List ℕ) (j : Image) (valid : IsBuilt i.heap) (or
       let within = s.within in
       let out = stands_outside s.owner s.m s.is_one (omega arith) (ap (λ y. has set (region_of i.heap y)) (sym s.at) ∙ from) in
       let stays : forward i.heap l s.owner.at ≡ s.owner.at = outside_stays i.heap set l sound ordinary survivors room s.owner.at out in
-      In-from_contains (refs j.heap) e ((refs_after i set l j valid ordinary survivors room moved e).1 (record {
+      In-from_contains (refs j.heap) e ((refs_moved i set l j valid ordinary survivors room moved e).1 (record {
         owner = s.owner;
         is_kept = Contains-from_in (kept i.heap set l) s.owner (kept_outside i set l j sound ordinary survivors room moved s.owner s.is_one out);
         m = s.m;

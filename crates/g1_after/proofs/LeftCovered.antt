@@ -4,7 +4,7 @@ use Rattle.std.proofs.lemmas.Bool.{cases_Bool, cases_lt}
 use Rattle.std.proofs.lemmas.List.{get_or_default, get_or_past}
 use Rattle.std.proofs.lemmas.List.FromFn.{get_or-map-range_with_len, length-map-range_with_len}
 use Rattle.std.proofs.lemmas.List.Kept.{IsStrictlyIncreasing-filter}
-use Rattle.g1_after.proofs.CardsAfter.{length-filter-le}
+use Rattle.g1_after.proofs.CardsMoved.{length-filter-le}
 use Rattle.g1_after.proofs.LeftRefs.{ref_away, ref_cases}
 use Rattle.g1_after.proofs.LeftRules.{built_left, same_shape}
 use Rattle.g1_after.proofs.ObjectsLeft.{IsLeft, heap_is_left, with_parts}

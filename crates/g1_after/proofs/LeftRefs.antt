@@ -3,7 +3,7 @@ use Rattle.std.proofs.Common.{◌≡◌, ℕ, ◌+◌, ◌-◌, ◌<◌, ◌↔�
 use Rattle.std.specs.Prelude.{IsFalse}
 use Rattle.std.specs.List.{list_any}
 use Rattle.std.proofs.lemmas.Bool.{cases_Bool, false≢true}
-use Rattle.g1_after.proofs.CoveredAfter.{and_both, any_from_in, or_left, or_right}
+use Rattle.g1_after.proofs.CoveredMoved.{and_both, any_from_in, or_left, or_right}
 use Rattle.g1_after.proofs.ObjectsLeft.{IsLeft, heap_is_left, left_cases, object_left, with_parts}
 use Rattle.g1_after.proofs.UnnamedRegions.{unnamed_humongous, unnamed_region, unnamed_there, word_with_header}
 use Rattle.g1_after.specs.Freed.{NothingIntoUnnamed, RefsLeft, heap_left}

@@ -4,7 +4,7 @@ use Rattle.std.specs.List.{list_any}
 use Rattle.std.proofs.lemmas.Bool.{and_from, and_parts, cases_lt, false_from_ne_true, false≢true, le-leb, leb-true, lt-ltb, ltb-true, ne_eqb, not-true, or_cases}
 use Rattle.std.proofs.lemmas.Nat.{div-mul-add}
 use Rattle.std.proofs.Math.Nat.{add-mul, mul-le-mul_right}
-use Rattle.g1_after.proofs.CoveredAfter.{any_from_in, covered_each, exact_by}
+use Rattle.g1_after.proofs.CoveredMoved.{any_from_in, covered_each, exact_by}
 use Rattle.g1_after.proofs.RefsOf.{exact_parts, region_of_slot, same_test, slot_of}
 use Rattle.g1_after.specs.Freed.{NamedByCards}
 use Rattle.g1_after.specs.Unnamed.{has_word, is_named, lies_in}

@@ -4,7 +4,7 @@ use Rattle.std.specs.Prelude.{IsFalse}
 use Rattle.std.proofs.lemmas.Bool.{cases_Bool, cases_lt}
 use Rattle.std.proofs.lemmas.List.{get_or_past}
 use Rattle.std.proofs.lemmas.List.FromFn.{get_or-map-range_with_len, length-map-range_with_len}
-use Rattle.g1_after.proofs.ObjectsAfter.{region_at}
+use Rattle.g1_after.proofs.ObjectsMoved.{region_at}
 use Rattle.g1_after.specs.Freed.{ObjectsLeft, heap_left}
 use Rattle.g1_after.specs.Unnamed.{unnamed_regions}
 use Rattle.g1_words.proofs.Computed.{In-range}

@@ -22,7 +22,7 @@ use Rattle.g1_words.specs.References.{Ref, named, refs, root_targets}
 use Rattle.g1_words.specs.Survivors.{in_set}
 use Rattle.g1_words.specs.Valid.{IsValid}
 use Rattle.g1_words.specs.declared.object.Object.{Object}
-use Rattle.g1_after.proofs.CardsAfter.{tracked_after}
+use Rattle.g1_after.proofs.CardsMoved.{tracked_moved}
 use Rattle.g1_after.proofs.Determined.{moved_unique}
 use Rattle.g1_after.proofs.Existence.{made_is_moved}
 use Rattle.g1_after.proofs.GraphsCompose.{graphs_compose}
@@ -30,16 +30,16 @@ use Rattle.g1_after.proofs.LeftCovered.{tracked_left}
 use Rattle.g1_after.proofs.LeftGraph.{graph_left}
 use Rattle.g1_after.proofs.LeftRefs.{nothing_into_unnamed, refs_left}
 use Rattle.g1_after.proofs.ObjectsLeft.{heap_is_left, objects_left}
-use Rattle.g1_after.proofs.ObjectsOf.{kept_is_after, objects_after, survivor_region}
-use Rattle.g1_after.proofs.RefsMoved.{refs_after, slot_word}
-use Rattle.g1_after.proofs.RulesAfter.{valid_after}
+use Rattle.g1_after.proofs.ObjectsOf.{kept_is_moved, objects_moved, survivor_region}
+use Rattle.g1_after.proofs.RefsMoved.{refs_moved, slot_word}
+use Rattle.g1_after.proofs.RulesMoved.{valid_moved}
 use Rattle.g1_after.proofs.SameGraphs.{no_root_into_set, no_slot_into_set, same_graph}
 use Rattle.g1_after.proofs.ToSpace.{goal_kind}
 use Rattle.g1_after.proofs.UnnamedRegions.{not_is, region_unnamed, unnamed_not_free, unnamed_not_ordinary, word_with_header}
-use Rattle.g1_after.proofs.ValidAfter.{set_shape}
+use Rattle.g1_after.proofs.ValidMoved.{set_shape}
 use Rattle.g1_after.specs.Freed.{heap_left}
 use Rattle.g1_after.specs.Laws.{CopiesPaused, GraphStays, NothingIntoFreed, ObjectsPaused, OneImageAfter, PauseExists, TrackedPaused}
-use Rattle.g1_after.specs.Made.{image_after}
+use Rattle.g1_after.specs.Made.{image_moved}
 use Rattle.g1_after.specs.Moved.{IsMoved}
 use Rattle.g1_after.specs.Paused.{remaining}
 use Rattle.g1_after.specs.Unnamed.{image_without, unnamed_regions}
@@ -53,7 +53,7 @@ one_image_after i set j k a b =
 -- there is an image after
 pub pause_exists : PauseExists
 pause_exists i set l valid a =
-    record { between = image_after i set l; moved = made_is_moved i set l (built i.heap valid) a.ordinary a.survivors a.room; freed = refl }
+    record { between = image_moved i set l; moved = made_is_moved i set l (built i.heap valid) a.ordinary a.survivors a.room; freed = refl }
 
 -- a test that can't pass fails
 never_true : (b : Bool) → (b ≡ true → ⊥) → b ≡ false
@@ -69,7 +69,7 @@ module _ (i : Image) (set l : List ℕ) (b : Image) (valid : IsValid i.heap) (a 
 
   -- the image between keeps the rules
   built_between : IsBuilt b.heap
-  built_between = valid_after i set l b (built i.heap valid) a.ordinary a.survivors a.room m
+  built_between = valid_moved i set l b (built i.heap valid) a.ordinary a.survivors a.room m
 
   -- it is valid
   pub valid_between : IsValid b.heap
@@ -127,7 +127,7 @@ module _ (i : Image) (set l : List ℕ) (b : Image) (valid : IsValid i.heap) (a 
       let f : ℕ → ℕ = forward i.heap l in
       let s : IsSound i.heap = sound i.heap valid in
       let there : Contains (objects b.heap) (moved_object f k) =
-      Contains-from_in (objects b.heap) (moved_object f k) (kept_is_after i set l b s a.ordinary a.survivors a.room m k c) in
+      Contains-from_in (objects b.heap) (moved_object f k) (kept_is_moved i set l b s a.ordinary a.survivors a.room m k c) in
       let size : length (words_at (heap_left b.heap) (f k.at) k.size) ≡ k.size = length-map-range_with_len (word (heap_left b.heap)) (f k.at) k.size in
       let size' : length (words_at b.heap (f k.at) k.size) ≡ k.size = length-map-range_with_len (word b.heap) (f k.at) k.size in
       ext_get_or 0 (words_at (heap_left b.heap) (f k.at) k.size) (words_at b.heap (f k.at) k.size) (size ∙ sym size')
@@ -148,7 +148,7 @@ module _ (i : Image) (set l : List ℕ) (b : Image) (valid : IsValid i.heap) (a 
   ref_not_into_set e c =
       let f : ℕ → ℕ = forward i.heap l in
       let v : IsBuilt i.heap = built i.heap valid in
-      let r = (refs_after i set l b v a.ordinary a.survivors a.room m e).0 c in
+      let r = (refs_moved i set l b v a.ordinary a.survivors a.room m e).0 c in
       let w = slot_word i set l b v a.ordinary a.survivors a.room m r.owner r.m r.target (In-from_contains (kept i.heap set l) r.owner r.is_kept) r.above r.within r.names in
       let above = r.above in let within = r.within in
       no_slot_into_set i set l b (sound i.heap valid) a.ordinary a.survivors a.room m r.owner e.target r.is_kept
@@ -171,7 +171,7 @@ objects_paused i set l j valid a p o =
     let b : Image = p.between in
     let f : ℕ → ℕ = forward i.heap l in
     let left = objects_left b.heap (valid_between i set l b valid a p.moved) o in
-    let moved = objects_after i set l b (sound i.heap valid) a.ordinary a.survivors a.room p.moved o in
+    let moved = objects_moved i set l b (sound i.heap valid) a.ordinary a.survivors a.room p.moved o in
     subst (λ (x : Image). Contains (objects x.heap) o ↔ ((k : Object) × Contains (remaining i.heap set l (unnamed_regions b.heap)) k × (o ≡ moved_object f k))) (sym p.freed) (
       (λ c.
           let u = left.0 c in
@@ -187,7 +187,7 @@ objects_paused i set l j valid a p o =
 -- the image after is tracked
 pub tracked_paused : TrackedPaused
 tracked_paused i set l j t a p =
-    subst IsTracked (sym p.freed) (tracked_left p.between (tracked_after i set l p.between t a.ordinary a.survivors a.room p.moved) p.moved.log)
+    subst IsTracked (sym p.freed) (tracked_left p.between (tracked_moved i set l p.between t a.ordinary a.survivors a.room p.moved) p.moved.log)
 
 -- whoever reads from the roots finds the same graph
 pub graph_stays : GraphStays

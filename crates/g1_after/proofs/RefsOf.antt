@@ -1,7 +1,7 @@
 -- A reference is a slot of an object that names another, and each such slot is a reference.
 use Rattle.std.proofs.Common.{◌≡◌, ℕ, suc, ◌+◌, ◌-◌, ◌<◌, ◌≤◌, inl, Bool, true, false, ◌&&◌, not, flat_map, refl, sym, ◌∙◌, ap, subst, arith, eqb, eqb-true}
 use Rattle.std.proofs.lemmas.Bool.{and_parts, not-true}
-use Rattle.g1_after.proofs.RulesAfter.{named_suc}
+use Rattle.g1_after.proofs.RulesMoved.{named_suc}
 use Rattle.g1_image.specs.Cards.{leads_into}
 use Rattle.g1_image.specs.Image.{region_of_card}
 use Rattle.g1_words.proofs.Bounds.{card_in_region, cards_in_region}

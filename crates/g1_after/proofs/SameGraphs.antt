@@ -21,7 +21,7 @@ use Rattle.g1_words.proofs.Members.{In, In-from_contains, Contains-from_in, In-a
 use Rattle.g1_words.proofs.OneToOne.{target_in_refs, kept_object, forward_one_to_one, survivor_to_free, outside_stays}
 use Rattle.g1_after.proofs.Determined.{word_from_copy}
 use Rattle.g1_after.proofs.ToSpace.{object_copied}
-use Rattle.g1_after.proofs.ObjectsOf.{kept_is_object, kept_is_after}
+use Rattle.g1_after.proofs.ObjectsOf.{kept_is_object, kept_is_moved}
 use Rattle.g1_words.specs.declared.object.Object.{Object}
 
 module _ (h : Heap) (set l : List ℕ) (sound : IsSound h) (ordinary : AllOrdinary h set) (survivors : Survivors h set l) where
@@ -179,7 +179,7 @@ module _ (i : Image) (set l : List ℕ) (j : Image) (sound : IsSound i.heap) (or
       let e : object_at j.heap (forward i.heap l a) ≡ moved_object (forward i.heap l) (object_at i.heap a) =
       object_copied i set l j sound ordinary survivors room moved (object_at i.heap a) k (kept_is_object i.heap set l sound ordinary survivors room (object_at i.heap a) k) refl in
       let there : Contains (objects j.heap) (moved_object (forward i.heap l) (object_at i.heap a)) =
-      Contains-from_in (objects j.heap) (moved_object (forward i.heap l) (object_at i.heap a)) (kept_is_after i set l j sound ordinary survivors room moved (object_at i.heap a) k) in
+      Contains-from_in (objects j.heap) (moved_object (forward i.heap l) (object_at i.heap a)) (kept_is_moved i set l j sound ordinary survivors room moved (object_at i.heap a) k) in
       subst (λ (o : Object). Contains (objects j.heap) o) (sym e) there
 
   -- the graph read from the roots is the same

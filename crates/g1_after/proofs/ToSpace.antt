@@ -4,7 +4,7 @@ use Rattle.std.proofs.Common.{flat_map}
 use Rattle.std.proofs.lemmas.Bool.{cases_lt, false≢true}
 use Rattle.std.proofs.Math.Nat.{mul-le-mul_right, div-mul-le_self}
 use Rattle.g1_after.proofs.Determined.{word_from_copy}
-use Rattle.g1_after.proofs.ObjectsAfter.{region_after}
+use Rattle.g1_after.proofs.ObjectsMoved.{region_moved}
 use Rattle.g1_words.specs.Copy.{renamed_words}
 use Rattle.g1_image.specs.Image.{Image}
 use Rattle.g1_after.specs.Moved.{IsMoved}
@@ -253,7 +253,7 @@ module _ (i : Image) (set l : List ℕ) (j : Image) (sound : IsSound i.heap) (or
     goal_not_in_set = not_has set goal_region (λ k. let clash : Free ≡ Ordinary = sym goal_is_free.0 ∙ ordinary goal_region (Contains-from_in set goal_region k) in cc)
 
     goal_is : region j.heap goal_region ≡ region_with Ordinary (end_in i.heap l goal_region)
-    goal_is = region_after i set l j sound ordinary survivors room moved goal_region goal_is_free.1 ∙ rw (goal_not_in_set, goal_in_to_space) refl
+    goal_is = region_moved i set l j sound ordinary survivors room moved goal_region goal_is_free.1 ∙ rw (goal_not_in_set, goal_in_to_space) refl
 
     pub goal_kind : kind j.heap goal_region ≡ Ordinary
     goal_kind = ap (λ (q : Region). q.kind) goal_is

@@ -4,7 +4,7 @@ use Rattle.std.specs.List.{list_any}
 use Rattle.std.proofs.lemmas.Bool.{cases_lt}
 use Rattle.std.proofs.lemmas.Nat.{div-mul-add}
 use Rattle.std.proofs.Math.Nat.{add-mul}
-use Rattle.g1_after.proofs.CoveredAfter.{and_both, any_from_in}
+use Rattle.g1_after.proofs.CoveredMoved.{and_both, any_from_in}
 use Rattle.g1_after.specs.Unnamed.{has_word, humongous, is_named, lies_in, unnamed, unnamed_regions}
 use Rattle.g1_words.proofs.Computed.{In-range}
 use Rattle.g1_words.proofs.Indices.{range_bounds}

@@ -2,6 +2,6 @@ pub mod Moved
 pub mod Unnamed
 pub mod Paused
 pub mod Made
-pub mod After
+pub mod Survived
 pub mod Freed
 pub mod Laws

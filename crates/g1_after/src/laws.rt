@@ -1,19 +1,19 @@
-ghost use Rattle.g1_after.specs.After.{ToSpaceObjects, ObjectsAfter, ValidAfter, CoveredAfter, ImageExists, OneMoved, RefsAfter, ExactByRefs, ExactStays, TrackedAfter, GraphMoved, NothingIntoSet};
+ghost use Rattle.g1_after.specs.Survived.{ToSpaceObjects, ObjectsMoved, ValidMoved, CoveredMoved, ImageExists, OneMoved, RefsMoved, ExactByRefs, ExactStays, TrackedMoved, GraphMoved, NothingIntoSet};
 ghost use Rattle.g1_after.specs.Freed.{ObjectsLeft, RefsLeft, NothingIntoUnnamed, ValidLeft, GraphLeft, TrackedLeft, NamedByCards};
 ghost use Rattle.g1_after.specs.Laws.{OneImageAfter, PauseExists, ObjectsPaused, CopiesPaused, TrackedPaused, GraphStays, NothingIntoFreed};
 
 /// What holds of the image after the survivors moved.
 pub fn survivors_moved()
     ensures to_space { ToSpaceObjects }
-    ensures objects { ObjectsAfter }
-    ensures valid { ValidAfter }
-    ensures covered { CoveredAfter }
+    ensures objects { ObjectsMoved }
+    ensures valid { ValidMoved }
+    ensures covered { CoveredMoved }
     ensures exists { ImageExists }
     ensures one { OneMoved }
-    ensures refs { RefsAfter }
+    ensures refs { RefsMoved }
     ensures exact { ExactByRefs }
     ensures stays { ExactStays }
-    ensures tracked { TrackedAfter }
+    ensures tracked { TrackedMoved }
     ensures graph { GraphMoved }
     ensures nothing { NothingIntoSet }
 {}

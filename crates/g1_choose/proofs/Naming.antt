@@ -1,5 +1,6 @@
 -- Lists of regions that may be taken, and the marks of those that were met.
-use Rattle.std.proofs.Common.{◌≡◌, ◌≢◌, ℕ, zero, suc, ◌+◌, ◌<◌, ◌≤◌, ◌⊎◌, inl, inr, Bool, true, false, List, [], ◌∷◌, ◌++◌, take, length, get_or, Contains, IsTrue, IsFalse, refl, sym, ◌∙◌, ap, subst, arith, get_or-set_same, get_or-set_other}
+use Rattle.std.proofs.Common.{◌≡◌, ◌≢◌, ℕ, zero, suc, ◌+◌, ◌<◌, ◌≤◌, ◌⊎◌, inl, inr, Bool, true, false, List, [], ◌∷◌, ◌++◌, take, length, get_or, Contains, IsTrue, IsFalse, refl, sym, ◌∙◌}
+use Rattle.std.proofs.Common.{ap, subst, arith, get_or-set_same, get_or-set_other}
 use Rattle.std.specs.Prelude.{◌↔◌, slice_index, slice_index_or, slice_set}
 use Rattle.std.proofs.lemmas.Bool.{cases_order, cases_lt}
 use Rattle.std.proofs.lemmas.List.{take_more, get_or_default, get_or_past}
@@ -51,7 +52,8 @@ true_or_false true = inl refl
 true_or_false false = inr refl
 
 -- the region at a place is good, and those before it are
-pub good_more : (h : Heap) (list : List ℕ) (i : ℕ) → ((j : ℕ) → j < i → IsBadAt h list j → ⊥) → slice_index list i < h.geometry.n → kind h (slice_index list i) ≡ Ordinary → IsFalse (pinned h (slice_index list i))
+pub good_more : (h : Heap) (list : List ℕ) (i : ℕ) → ((j : ℕ) → j < i → IsBadAt h list j → ⊥) → slice_index list i < h.geometry.n →
+    kind h (slice_index list i) ≡ Ordinary → IsFalse (pinned h (slice_index list i))
     → (Contains (take i list) (slice_index list i) → ⊥) → (j : ℕ) → j < i + 1 → IsBadAt h list j → ⊥
 good_more h list i before lt ordinary unpinned new j below bad =
     elim (same_or_not j i) [

@@ -1,5 +1,6 @@
 -- A heap's candidates have one order, and a budget buys one set.
-use Rattle.std.proofs.Common.{◌≡◌, ◌≢◌, ℕ, zero, suc, ◌<◌, ◌≤◌, ◌⊎◌, inl, inr, List, [], ◌∷◌, map, filter, take, length, sum, Contains, IsTrue, refl, sym, ◌∙◌, ap, subst, arith, le_antisymm, ltb, lt-ltb, ltb-true}
+use Rattle.std.proofs.Common.{◌≡◌, ◌≢◌, ℕ, zero, suc, ◌<◌, ◌≤◌, ◌⊎◌, inl, inr, List, [], ◌∷◌, map, filter, take, length, sum, Contains, IsTrue, refl, sym, ◌∙◌, ap, subst, arith, le_antisymm}
+use Rattle.std.proofs.Common.{ltb, lt-ltb, ltb-true}
 use Rattle.std.proofs.lemmas.Bool.{cases_lt, cases_order}
 use Rattle.std.proofs.lemmas.List.Sums.{sum-map}
 use Rattle.std.proofs.lemmas.List.Sorted.{Contains-permutation, IsPermutation-sym, sum_by-IsPermutation}

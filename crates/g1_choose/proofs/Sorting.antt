@@ -72,7 +72,8 @@ apart_regions ys apart i j d lt len e =
     (get_or-map region ys i d d.region (omega arith) ∙ e ∙ sym (get_or-map region ys j d d.region len))
 
 module _ (c : Cost) (h : Heap) (remembered : List (List ℕ)) (lives : List ℕ) where
-  by_region : (xs : List Candidate) → All (TellsRegion c h remembered lives) xs → Ordered (λ x y. IsTrue (goes_first x y)) xs → Ordered (λ x y. IsTrue (comes_before c h remembered lives x.region y.region)) xs
+  by_region : (xs : List Candidate) → All (TellsRegion c h remembered lives) xs → Ordered (λ x y. IsTrue (goes_first x y)) xs →
+      Ordered (λ x y. IsTrue (comes_before c h remembered lives x.region y.region)) xs
   by_region [] t o = tt
   by_region (x ∷ xs) t o = (
     (λ y i.

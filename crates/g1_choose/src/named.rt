@@ -3,7 +3,7 @@ ghost use Rattle.g1_words.specs.Heap.{regions};
 ghost use Rattle.g1_words.specs.Lists.{has};
 ghost use Rattle.g1_choose.specs.Named.{AreTakeable, IsBadAt, IsFirstBad};
 
-use g1_words::{Fault, Heap, Kind, Region};
+use g1_words::{Fault, Heap, Kind, Marks, Region};
 use std::alloc::Global;
 
 /// Whether a pause may take a region.
@@ -18,13 +18,13 @@ fn check(alloc: Global, heap: &Heap, list: &[u32]) -> Result<(), Fault>
     ensures ok { OnOk result ((i : ℕ) → i < length list.now → IsBadAt heap.now list.now i → ⊥) }
     ensures err { IfErr result (λ e. (e ≡ Fault.Memory) ⊎ ((i : ℕ) × IsFirstBad heap.now list.now i × (e ≡ Fault.Set (slice_index list.now i)))) }
 {
-    let mut named = vec![in alloc; false; heap.geometry().regions() as usize]?;
+    let mut named = Marks::none(alloc, heap.geometry().regions() as usize)?;
     for region in list {
         let place = *region as usize;
-        if place >= named.len() || named[place] || !may_be_taken(heap.region(*region)) {
+        if place >= named.len() || named.is_set(place) || !may_be_taken(heap.region(*region)) {
             return Err(Fault::Set(*region));
         }
-        named[place] = true;
+        named.set(place);
     }
     Ok(())
 }

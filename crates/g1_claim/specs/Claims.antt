@@ -19,6 +19,10 @@ pub record SeatView : Type 0 where
 abbrev pub IsSeatOf : TableView → SeatView → Type 0
 IsSeatOf t s = s.table ≡ t.id
 
+-- the shares that all seats of a table have together
+abbrev pub all_shares : ℕ
+all_shares = 64
+
 -- the word of a place where nobody has offered: 2^64 - 1
 abbrev pub empty : ℕ
 empty = 18446744073709551615

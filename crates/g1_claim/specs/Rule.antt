@@ -6,7 +6,7 @@ use Rattle.atomic_table.specs.Table.{State, Me, Step}
 use Rattle.g1_claim.specs.declared.rule.Offer.{Offer}
 use Rattle.g1_claim.specs.declared.rule.Sight.{Sight}
 use Rattle.g1_claim.specs.declared.rule.Hand.{Hand}
-use Rattle.g1_claim.specs.Claims.{empty, offer, sight, least_rank, least_value, times_offered, times_won, IsWonOnce, IsSettled}
+use Rattle.g1_claim.specs.Claims.{all_shares, empty, offer, sight, least_rank, least_value, times_offered, times_won, IsWonOnce, IsSettled}
 
 -- a hand with these parts
 abbrev pub hand : ℕ → List Offer → List Sight → List Sight → Hand
@@ -14,7 +14,7 @@ hand n os ss ks = record { shares = n; offers = os; sights = ss; known = ks }
 
 -- the hand of a new table's seat
 abbrev pub first_hand : Hand
-first_hand = hand 64 [] [] []
+first_hand = hand all_shares [] [] []
 
 -- f of each hand, added up
 abbrev pub hands_total : (Hand → ℕ) → List Hand → ℕ
@@ -51,9 +51,9 @@ AreBacked (s ∷ ss) vs = ((s.value ≡ empty) ⊎ (wins_of s.place s.value vs �
 abbrev pub IsIdle : Hand → Type 0
 IsIdle v = (v.offers ≡ []) × (v.sights ≡ [])
 
--- between any two steps, over the hands of all seats that ever were, dropped ones too: together they have 64 shares; each word is the least rank offered at its place, or empty; at no place two offers of one rank answered true; no word is above what a hand knows of it; what a hand saw is empty or an offer that answered true
+-- between any two steps, over the hands of all seats that ever were, dropped ones too: together they have all shares; each word is the least rank offered at its place, or empty; at no place two offers of one rank answered true; no word is above what a hand knows of it; what a hand saw is empty or an offer that answered true
 pub record Claiming (words : List ℕ) (views : List Hand) : Type 0 where
-  pub shares : hands_total (λ v. v.shares) views ≡ 64
+  pub shares : hands_total (λ v. v.shares) views ≡ all_shares
   pub idle : (k : ℕ) (v : Hand) → get_elem? views k ≡ some v → v.shares ≡ 0 → IsIdle v
   pub words_least : (p : ℕ) → p < length words → IsWord p (slice_index words p) views
   pub outside : (p : ℕ) → length words ≤ p → offers_at p views ≡ 0
@@ -114,7 +114,7 @@ Beaten v p r = (n : ℕ) × (n ≤ r) × Won v p n
 
 -- what each step tells of its hand: at no place two of its offers of one rank answered true, and with all shares it has an offer of the least rank of each place that answered true
 abbrev pub IsKnown : Hand → Type 0
-IsKnown v = (v.shares ≤ 64) × IsWonOnce v.offers × (v.shares ≡ 64 → IsSettled v.offers)
+IsKnown v = (v.shares ≤ all_shares) × IsWonOnce v.offers × (v.shares ≡ all_shares → IsSettled v.offers)
 
 -- an offer that found the word `found`
 abbrev pub lowered : Step (Unit {0}) → Sat → ℕ → Sat → Type 0

@@ -1,6 +1,7 @@
 ghost use Rattle.std.specs.Prelude.{◌≡◌, ℕ, ◌+◌, ◌-◌, ◌<◌, ◌≤◌, ◌^◌, IfOk, IfErr, IsTrue, IsFalse, ltb, [], vec_len, slice_index, ◌↔◌, ◌⊎◌};
 ghost use Rattle.g1_words.specs.declared.fault.Fault.TheVariants.{Memory};
-ghost use Rattle.g1_claim.specs.Claims.{IsSeatOf, least_rank, least_value, IsWordOf, IsSettled, IsWonOnce};
+ghost use Rattle.g1_words.specs.Geometry.{most_words};
+ghost use Rattle.g1_claim.specs.Claims.{all_shares, IsSeatOf, least_rank, least_value, IsWordOf, IsSettled, IsWonOnce};
 ghost use Rattle.g1_claim.specs.Rule.{first_hand, after_offer, after_sight, left_hand, right_hand, both_hands, Found, Won, Beaten};
 
 use crate::rule::{BothHands, Hand, LeastWins, Look, Lower, OneShare, See};
@@ -27,13 +28,14 @@ pub struct Claims {
 
 impl Model for Claims {
     ghost use Rattle.std.specs.Prelude.{◌≡◌, ◌+◌, ◌^◌, ◌≤◌, vec_len};
+    ghost use Rattle.g1_words.specs.Geometry.{most_words};
     ghost use Rattle.g1_claim.specs.Claims.{TableView};
 
     ghost Value = { TableView };
 
     ghost view = { λ c. record { id = c.table.shared.table_id; places = vec_len c.words } };
 
-    ghost invariant = { λ c. (c.table.shared.key ≡ c.table.shared.table_id.words) × (c.table.shared.table_id.words ≡ vec_len c.words + 1) × (c.table.shared.table_id.slots ≡ 0) × (vec_len c.words ≤ 2 ^ 24) };
+    ghost invariant = { λ c. (c.table.shared.key ≡ c.table.shared.table_id.words) × (c.table.shared.table_id.words ≡ vec_len c.words + 1) × (c.table.shared.table_id.slots ≡ 0) × (vec_len c.words ≤ most_words) };
 }
 
 /// The right of one thread to offer at the places of a table, for some of its 64 shares.
@@ -64,7 +66,7 @@ impl Claims {
     /// # Errors
     /// `Memory`.
     pub fn new(alloc: Global, places: u64) -> Result<(Claims, ClaimSeat), Fault>
-        requires { places ≤ 2 ^ 24 }
+        requires { places ≤ most_words }
         ensures places { IfOk result (λ r. r.0.places ≡ places) }
         ensures seat { IfOk result (λ r. IsSeatOf r.0 r.1) }
         ensures hand { IfOk result (λ r. r.1.hand ≡ first_hand) }
@@ -94,9 +96,9 @@ impl Claims {
         ensures lowered { (n : ℕ) × Found seat.old.hand place n × (result ≡ ltb rank n) }
         ensures below_known { IsTrue result → rank < least_value place seat.old.hand.known }
         ensures beaten { IsFalse result → Beaten seat.old.hand place rank }
-        ensures least { seat.old.hand.shares ≡ 64 → (IsTrue result ↔ (rank < least_rank place seat.old.hand.offers)) }
+        ensures least { seat.old.hand.shares ≡ all_shares → (IsTrue result ↔ (rank < least_rank place seat.old.hand.offers)) }
         ensures once { IsWonOnce seat.new.hand.offers }
-        ensures settled { seat.new.hand.shares ≡ 64 → IsSettled seat.new.hand.offers }
+        ensures settled { seat.new.hand.shares ≡ all_shares → IsSettled seat.new.hand.offers }
     {
         let found = self
             .table
@@ -116,9 +118,9 @@ impl Claims {
         ensures found { Found seat.old.hand place result }
         ensures won { (result ≡ EMPTY) ⊎ Won seat.old.hand place result }
         ensures known { result ≤ least_value place seat.old.hand.known }
-        ensures least { seat.old.hand.shares ≡ 64 → IsWordOf place result seat.old.hand.offers }
+        ensures least { seat.old.hand.shares ≡ all_shares → IsWordOf place result seat.old.hand.offers }
         ensures once { IsWonOnce seat.new.hand.offers }
-        ensures settled { seat.new.hand.shares ≡ 64 → IsSettled seat.new.hand.offers }
+        ensures settled { seat.new.hand.shares ≡ all_shares → IsSettled seat.new.hand.offers }
     {
         self.table
             .shared
@@ -150,9 +152,9 @@ impl Claims {
         requires other { IsSeatOf self.now other }
         ensures table { IsSeatOf self.now seat.new }
         ensures both { seat.new.hand ≡ both_hands seat.old.hand other.hand }
-        ensures most { seat.new.hand.shares ≤ 64 }
+        ensures most { seat.new.hand.shares ≤ all_shares }
         ensures once { IsWonOnce seat.new.hand.offers }
-        ensures settled { seat.new.hand.shares ≡ 64 → IsSettled seat.new.hand.offers }
+        ensures settled { seat.new.hand.shares ≡ all_shares → IsSettled seat.new.hand.offers }
     {
         let ClaimSeat { seat: hand, shares } = other;
         self.table
@@ -166,7 +168,7 @@ impl Claims {
     /// `EMPTY`.
     pub fn close(self, seat: ClaimSeat) -> Vec<u64>
         requires table { IsSeatOf self seat }
-        requires whole { seat.hand.shares ≡ 64 }
+        requires whole { seat.hand.shares ≡ all_shares }
         ensures places { vec_len result ≡ self.places }
         ensures words { (p : ℕ) → p < self.places → IsWordOf p (slice_index result.items p) seat.hand.offers }
         ensures once { IsWonOnce seat.hand.offers }
@@ -186,9 +188,9 @@ impl Claims {
 pub fn shares(seat: &ClaimSeat) -> u32
     ensures shares { result ≡ seat.now.hand.shares }
     ensures some { 0 < result }
-    ensures most { result ≤ 64 }
+    ensures most { result ≤ all_shares }
     ensures once { IsWonOnce seat.now.hand.offers }
-    ensures settled { result ≡ 64 → IsSettled seat.now.hand.offers }
+    ensures settled { result ≡ all_shares → IsSettled seat.now.hand.offers }
 {
     seat.shares
 }

@@ -1,5 +1,17 @@
-//! What any interleaving of the steps of all seats comes to.
+//! What a seat keeps, and what any interleaving of the steps of all seats comes to.
+ghost use Rattle.std.specs.Prelude.{◌≡◌};
+ghost use Rattle.g1_claim.specs.Claims.{all_shares, IsSettled, IsWonOnce};
 ghost use Rattle.g1_claim.specs.Interleaving.{LeastSoFar, WonSoFar};
+
+use crate::claims::{ClaimSeat, shares};
+
+/// A seat keeps what it knows of its offers: its type says so.
+pub fn settled(seat: &ClaimSeat)
+    ensures once { IsWonOnce seat.now.hand.offers }
+    ensures whole { seat.now.hand.shares ≡ all_shares → IsSettled seat.now.hand.offers }
+{
+    shares(seat);
+}
 
 /// Whatever the order of the steps, a word is the least rank that any seat has offered at its place
 /// so far, and exactly one offer of that rank answered true; or nobody has offered there and it is

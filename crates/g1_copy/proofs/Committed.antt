@@ -5,7 +5,7 @@ use Rattle.std.proofs.Math.Nat.{mul-div_left}
 use Rattle.std.proofs.lemmas.List.FromFn.{length-map-range_with_len}
 use Rattle.g1_after.proofs.Existence.{made_is_moved}
 use Rattle.g1_image.specs.Image.{Image}
-use Rattle.g1_after.specs.Made.{heap_after, image_after, image_paused, moved_word}
+use Rattle.g1_after.specs.Made.{heap_moved, image_moved, image_paused, moved_word}
 use Rattle.g1_after.specs.Paused.{IsPaused}
 use Rattle.g1_after.specs.Unnamed.{unnamed_regions}
 use Rattle.g1_work.proofs.Slices.{length-slice_of, next_slice}
@@ -33,7 +33,7 @@ flat_map_same f g a (suc n) e = λ q. e a (omega arith) (omega arith) q ++ flat_
 module _ (p : Prepared) (i : Image) (set l : List ℕ) (valid : IsValid i.heap) (made : IsMadeFor p i set l) where
   -- the regions that are cleared
   abbrev clears : List ℕ
-  clears = set ++ unnamed_regions (heap_after i.heap set l)
+  clears = set ++ unnamed_regions (heap_moved i.heap set l)
 
   w_positive : 0 < i.heap.geometry.w
   w_positive = let k = valid.limits.w_least in omega arith
@@ -94,7 +94,7 @@ module _ (p : Prepared) (i : Image) (set l : List ℕ) (valid : IsValid i.heap) 
 
   pub is_paused : IsPaused i set l (committed p i)
   is_paused = record {
-    between = image_after i set l;
+    between = image_moved i set l;
     moved = made_is_moved i set l (built i.heap valid) made.room.ordinary made.room.survivors made.room.room;
     freed = is_after;
   }

@@ -9,12 +9,12 @@ use Rattle.std.proofs.lemmas.List.FromFn.{get_or-map-range_with_len, length-map-
 use Rattle.g1_after.proofs.CopyWords.{copied_word}
 use Rattle.g1_after.proofs.Existence.{made_is_moved}
 use Rattle.g1_after.proofs.ObjectsOf.{kept_outside, region_cases}
-use Rattle.g1_after.proofs.RulesAfter.{named_suc, zero_after}
+use Rattle.g1_after.proofs.RulesMoved.{named_suc, zero_moved}
 use Rattle.g1_after.proofs.SameGraphs.{named_survives}
-use Rattle.g1_after.proofs.ValidAfter.{other_shape, outside_word, set_shape, slot_names}
+use Rattle.g1_after.proofs.ValidMoved.{other_shape, outside_word, set_shape, slot_names}
 use Rattle.g1_words.specs.Copy.{is_taken, renamed, renamed_words}
 use Rattle.g1_image.specs.Image.{Image}
-use Rattle.g1_after.specs.Made.{image_after, moved_word}
+use Rattle.g1_after.specs.Made.{image_moved, moved_word}
 use Rattle.g1_after.specs.Moved.{IsMoved}
 use Rattle.g1_words.proofs.Computed.{In-range}
 use Rattle.g1_words.proofs.Indices.{get_or-In, is_free_region, range_bounds}
@@ -97,7 +97,7 @@ is_patch h set l p v k =
 
 module _ (i : Image) (set l : List ℕ) (valid : IsBuilt i.heap) (ordinary : AllOrdinary i.heap set) (survivors : Survivors i.heap set l) (room : need i.heap l ≤ length (free_regions i.heap)) where
   abbrev j : Image
-  j = image_after i set l
+  j = image_moved i set l
 
   abbrev gathered : List ℕ
   gathered = to_space_words i.heap l
@@ -105,7 +105,7 @@ module _ (i : Image) (set l : List ℕ) (valid : IsBuilt i.heap) (ordinary : All
   abbrev patches : List (ℕ × ℕ)
   patches = all_patches i.heap set l
 
-  moved : IsMoved i set l (image_after i set l)
+  moved : IsMoved i set l (image_moved i set l)
   moved = made_is_moved i set l valid ordinary survivors room
 
   s : IsSound i.heap
@@ -121,7 +121,7 @@ module _ (i : Image) (set l : List ℕ) (valid : IsBuilt i.heap) (ordinary : All
       let zt : top j.heap r ≡ 0 = (set_shape i set l j valid ordinary survivors room moved r lt t).1 in
       let zeros : slice_of i.heap.geometry.w r j.heap.words ≡ replicate i.heap.geometry.w 0 =
       ext_get_or 0 (slice_of i.heap.geometry.w r j.heap.words) (replicate i.heap.geometry.w 0) (size ∙ sym (length-replicate i.heap.geometry.w 0))
-      (λ m lt'. let below : m < i.heap.geometry.w = omega arith in get_or-slice_of i.heap.geometry.w r m j.heap.words below ∙ zero_after i set l j valid ordinary survivors room moved r m lt (omega arith) below ∙ sym (get_or-replicate i.heap.geometry.w m 0 0 below)) in
+      (λ m lt'. let below : m < i.heap.geometry.w = omega arith in get_or-slice_of i.heap.geometry.w r m j.heap.words below ∙ zero_moved i set l j valid ordinary survivors room moved r m lt (omega arith) below ∙ sym (get_or-replicate i.heap.geometry.w m 0 0 below)) in
       zeros ∙ (λ q. by_fate i.heap.geometry.w gathered patches r (cond (sym t q) Freed (filled_or_kept (position (λ d. eqb d r) (to_space i.heap l)))) (slice_of i.heap.geometry.w r i.heap.words))
 
   -- a word of a region that was free is no word of an object outside the set
@@ -226,7 +226,7 @@ module _ (i : Image) (set l : List ℕ) (valid : IsBuilt i.heap) (ordinary : All
   other_word r m lt below a b =
       let t = (other_shape i set l j valid ordinary survivors room moved r lt a b).1 in
       elim (cases_lt m (top i.heap r)) [
-        | inr ge ↦ inl (valid.zero_above r m lt ge below ∙ sym (zero_after i set l j valid ordinary survivors room moved r m lt (omega arith) below))
+        | inr ge ↦ inl (valid.zero_above r m lt ge below ∙ sym (zero_moved i set l j valid ordinary survivors room moved r m lt (omega arith) below))
         | inl less ↦
             let c = covers i.heap valid r m lt less in
             let q : ℕ = c.0 in

@@ -13,7 +13,7 @@ use Rattle.g1_words.specs.Survivors.{AllOrdinary, Survivors, in_set}
 use Rattle.g1_words.proofs.Shapes.{IsBuilt}
 use Rattle.g1_words.proofs.Standing.{w_pos}
 use Rattle.g1_image.specs.Image.{Image}
-use Rattle.g1_after.specs.Made.{image_after, image_paused}
+use Rattle.g1_after.specs.Made.{image_moved, image_paused}
 use Rattle.g1_after.specs.Unnamed.{unnamed_regions}
 use Rattle.g1_after.proofs.Existence.{made_is_moved}
 use Rattle.g1_work.proofs.Slices.{get_or-slice_of, length-slice_of, next_slice, slices_from}
@@ -26,11 +26,11 @@ use Rattle.g1_copy.proofs.InPlace.{each_slice}
 
 module _ (i : Image) (set l : List ℕ) (valid : IsBuilt i.heap) (ordinary : AllOrdinary i.heap set) (survivors : Survivors i.heap set l) (room : need i.heap l ≤ length (free_regions i.heap)) where
   abbrev j : Image
-  j = image_after i set l
+  j = image_moved i set l
 
   -- the regions that are cleared beside the set
   abbrev freed : List ℕ
-  freed = unnamed_regions (image_after i set l).heap
+  freed = unnamed_regions (image_moved i set l).heap
 
   abbrev w : ℕ
   w = i.heap.geometry.w

@@ -14,7 +14,7 @@ pub mod RememberedJoined
 pub mod RememberedPaused
 pub mod UnnamedMarks
 pub mod UnnamedFirsts
-pub mod UnnamedRuns
+pub mod UnnamedRegions
 pub mod RememberedLeft
 pub mod InPlaceFreed
 pub mod HeadersAhead

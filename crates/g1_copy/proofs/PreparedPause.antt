@@ -10,8 +10,8 @@ use Rattle.g1_image.proofs.Covers.{cards_rise}
 use Rattle.g1_image.specs.Cards.{Covered, IsTracked, refined}
 use Rattle.g1_words.specs.Copy.{renamed}
 use Rattle.g1_image.specs.Image.{Image, IsImage}
-use Rattle.g1_after.specs.Made.{heap_after, image_paused}
-use Rattle.g1_after.specs.Moved.{remembered_after}
+use Rattle.g1_after.specs.Made.{heap_moved, image_paused}
+use Rattle.g1_after.specs.Moved.{remembered_moved}
 use Rattle.g1_after.specs.Unnamed.{unnamed, unnamed_regions}
 use Rattle.g1_layout.specs.Plan.{Plan}
 use Rattle.g1_layout.specs.declared.plan.Run.{Run}
@@ -32,7 +32,7 @@ use Rattle.g1_words.specs.declared.region.Region.{Region}
 use Rattle.g1_copy.specs.Fates.{AreFates, AreReplaced, fate_at, region_by_fate}
 use Rattle.g1_copy.specs.Prepared.{IsMadeFor, Prepared}
 use Rattle.g1_copy.specs.Remembered.{AreLeft}
-use Rattle.g1_copy.specs.Unnamed.{run_regions}
+use Rattle.g1_copy.specs.Unnamed.{humongous_regions}
 use Rattle.g1_copy.specs.declared.fates.Fate.{Fate}
 use Rattle.g1_copy.specs.declared.fates.Fate.TheVariants.{Freed}
 use Rattle.g1_copy.proofs.FatesMade.{freed_beside}
@@ -40,7 +40,7 @@ use Rattle.g1_copy.proofs.InPlace.{not_true}
 use Rattle.g1_copy.proofs.PreparedRegions.{regions_by_fates}
 use Rattle.g1_copy.proofs.RememberedLeft.{sets_left, sets_stay}
 use Rattle.g1_copy.proofs.RememberedPaused.{outer_rise}
-use Rattle.g1_copy.proofs.UnnamedRuns.{firsts_below, freed_below, runs_are}
+use Rattle.g1_copy.proofs.UnnamedRegions.{firsts_below, freed_below, freed_are}
 
 -- the cards that lead into a set rise, are the heap's, and lie outside it
 module _ (h : Heap) (remembered : List (List ℕ)) (set cards : List ℕ) (is : cards ≡ cards_into h remembered set) where
@@ -89,24 +89,24 @@ module _ (i : Image) (set : List ℕ) (p : Plan) (pause : IsPauseOf i.heap set p
   module _ (tracked : IsTracked i) where
     -- the regions that are freed beside the set
     abbrev freed : List ℕ
-    freed = unnamed_regions (heap_after i.heap set p.survivors)
+    freed = unnamed_regions (heap_moved i.heap set p.survivors)
 
     -- the first regions, told of the set itself
-    own_firsts : (firsts : List ℕ) → firsts ≡ map (λ o. region_of i.heap o.at) (unnamed (heap_after i.heap p.set p.survivors)) → firsts ≡ map (λ o. region_of i.heap o.at) (unnamed (heap_after i.heap set p.survivors))
-    own_firsts firsts e = e ∙ ap (λ s. map (λ o. region_of i.heap o.at) (unnamed (heap_after i.heap s p.survivors))) pause.same
+    own_firsts : (firsts : List ℕ) → firsts ≡ map (λ o. region_of i.heap o.at) (unnamed (heap_moved i.heap p.set p.survivors)) → firsts ≡ map (λ o. region_of i.heap o.at) (unnamed (heap_moved i.heap set p.survivors))
+    own_firsts firsts e = e ∙ ap (λ s. map (λ o. region_of i.heap o.at) (unnamed (heap_moved i.heap s p.survivors))) pause.same
 
-    module _ (h : Heap) (he : h ≡ i.heap) (firsts : List ℕ) (found : firsts ≡ map (λ o. region_of i.heap o.at) (unnamed (heap_after i.heap p.set p.survivors))) where
+    module _ (h : Heap) (he : h ≡ i.heap) (firsts : List ℕ) (found : firsts ≡ map (λ o. region_of i.heap o.at) (unnamed (heap_moved i.heap p.set p.survivors))) where
       -- they are the heap's
       pub firsts_there : All (λ r. r < h.geometry.n) firsts
       firsts_there = subst (λ y. All (λ r. r < y.geometry.n) firsts) (sym he) (firsts_below i set p.survivors tracked has_room firsts (own_firsts firsts found))
 
       -- their runs are what is freed
-      pub runs_freed : (runs : List ℕ) → runs ≡ flat_map (run_regions h) firsts → runs ≡ freed
-      runs_freed runs e = e ∙ ap (λ y. flat_map (run_regions y) firsts) he ∙ runs_are i set p.survivors tracked has_room firsts (own_firsts firsts found)
+      pub regions_freed : (runs : List ℕ) → runs ≡ flat_map (humongous_regions h) firsts → runs ≡ freed
+      regions_freed runs e = e ∙ ap (λ y. flat_map (humongous_regions y) firsts) he ∙ freed_are i set p.survivors tracked has_room firsts (own_firsts firsts found)
 
     -- what is freed has a place in the table of fates
     pub runs_there : (runs : List ℕ) (count : ℕ) → runs ≡ freed → count ≡ i.heap.geometry.n → All (λ r. r < count) runs
-    runs_there runs count e same = subst (λ n. All (λ r. r < n) runs) (sym same) (subst (All (λ r. r < i.heap.geometry.n)) (sym e) (freed_below (heap_after i.heap set p.survivors)))
+    runs_there runs count e same = subst (λ n. All (λ r. r < n) runs) (sym same) (subst (All (λ r. r < i.heap.geometry.n)) (sym e) (freed_below (heap_moved i.heap set p.survivors)))
 
     -- the table afterwards
     pub fates_after : (h : Heap) (runs : List ℕ) (one two : List Fate) → h ≡ i.heap → runs ≡ freed → AreFates h set (to_space h p.survivors) one → AreReplaced (length runs) (λ t. get_or runs t 0) (λ t. Freed) one two
@@ -125,11 +125,11 @@ module _ (i : Image) (set : List ℕ) (p : Plan) (pause : IsPauseOf i.heap set p
 
     -- the remembered sets afterwards
     pub remembered_left : (h : Heap) (fates : List Fate) (runs : List ℕ) (old new : List (List ℕ)) → h ≡ i.heap → runs ≡ freed → AreFates i.heap (set ++ freed) (to_space i.heap p.survivors) fates
-        → old ≡ map (remembered_after i p.set p.survivors (heap_after i.heap p.set p.survivors)) (regions i.heap)
+        → old ≡ map (remembered_moved i p.set p.survivors (heap_moved i.heap p.set p.survivors)) (regions i.heap)
         → (0 < length runs → AreLeft h fates old new) → (length runs ≡ 0 → new ≡ old) → new ≡ (image_paused i set p.survivors).remembered
     remembered_left h fates runs old new he e are before some none =
-        let was : old ≡ map (remembered_after i set p.survivors (heap_after i.heap set p.survivors)) (regions i.heap) =
-        before ∙ ap (λ s. map (remembered_after i s p.survivors (heap_after i.heap s p.survivors)) (regions i.heap)) pause.same in
+        let was : old ≡ map (remembered_moved i set p.survivors (heap_moved i.heap set p.survivors)) (regions i.heap) =
+        before ∙ ap (λ s. map (remembered_moved i s p.survivors (heap_moved i.heap s p.survivors)) (regions i.heap)) pause.same in
         elim (cases_lt 0 (length runs)) [
           | inl lt ↦ sets_left i set p.survivors tracked has_room fates are old new was (subst (λ y. AreLeft y fates old new) he (some lt))
           | inr ge ↦
@@ -141,7 +141,7 @@ module _ (i : Image) (set : List ℕ) (p : Plan) (pause : IsPauseOf i.heap set p
     pub made_for : (x : Prepared) (h : Heap) → h ≡ i.heap → AreFates i.heap (set ++ freed) (to_space i.heap p.survivors) x.fates → x.gathered ≡ to_space_words h p.survivors → x.patches ≡ all_patches i.heap set p.survivors
         → AreFirsts h.geometry.w h.geometry.n x.patches x.firsts → x.regions ≡ (image_paused i set p.survivors).heap.regions
         → x.roots ≡ map (renamed (forward h p.survivors)) h.roots → x.remembered ≡ (image_paused i set p.survivors).remembered
-        → x.humongous ≡ map (λ o. region_of i.heap o.at) (unnamed (heap_after i.heap p.set p.survivors)) → IsMadeFor x i set p.survivors
+        → x.humongous ≡ map (λ o. region_of i.heap o.at) (unnamed (heap_moved i.heap p.set p.survivors)) → IsMadeFor x i set p.survivors
     made_for x h he fates gathered patches firsts table roots remembered humongous = record {
       room = has_room;
       fates = fates;

@@ -5,12 +5,12 @@ use Rattle.std.proofs.lemmas.Bool.{cases_Bool}
 use Rattle.std.proofs.lemmas.List.{length-take-le, get_or-take, take_all, take_more}
 use Rattle.std.proofs.lemmas.List.FromFn.{get_or-map-range_with_len, length-map-range_with_len}
 use Rattle.g1_after.proofs.Existence.{made_is_moved}
-use Rattle.g1_after.proofs.ObjectsAfter.{region_after}
-use Rattle.g1_after.proofs.RulesAfter.{valid_after}
-use Rattle.g1_after.proofs.ValidAfter.{kept_refs, moved_below, root_kept}
+use Rattle.g1_after.proofs.ObjectsMoved.{region_moved}
+use Rattle.g1_after.proofs.RulesMoved.{valid_moved}
+use Rattle.g1_after.proofs.ValidMoved.{kept_refs, moved_below, root_kept}
 use Rattle.g1_words.specs.Copy.{renamed}
 use Rattle.g1_image.specs.Image.{Image}
-use Rattle.g1_after.specs.Made.{heap_after, image_after}
+use Rattle.g1_after.specs.Made.{heap_moved, image_moved}
 use Rattle.g1_after.specs.Moved.{new_region}
 use Rattle.g1_layout.specs.Plan.{Plan, run_at, runs}
 use Rattle.g1_layout.specs.declared.plan.Run.{Run}
@@ -93,15 +93,15 @@ module _ (h : Heap) (chosen : List ℕ) (p : Plan) (valid : IsValid h) (pause : 
   end_fits t lt =
       let l : List ℕ = p.survivors in
       let r : ℕ = get_or (free_regions h) t 0 in
-      let j : Image = image_after image chosen l in
+      let j : Image = image_moved image chosen l in
       let whole : IsBuilt h = built h valid in
       let moved = made_is_moved image chosen l whole ordinary pause.survivors room in
-      let good : IsValid j.heap = valid_of j.heap (valid_after image chosen l j whole ordinary pause.survivors room moved) in
+      let good : IsValid j.heap = valid_of j.heap (valid_moved image chosen l j whole ordinary pause.survivors room moved) in
       let free = free_there t lt in
       let count : length j.heap.regions ≡ h.geometry.n = good.region_count in
       let top = tops_fit j.heap good r free_region (omega (arith, count, free.1)) in
       let is : region j.heap r ≡ region_with Ordinary (end_in h l r) =
-      region_after image chosen l j (sound h valid) ordinary pause.survivors room moved r free.1 ∙ new_at r (free_off r free.0) (to_space_has t lt) in
+      region_moved image chosen l j (sound h valid) ordinary pause.survivors room moved r free.1 ∙ new_at r (free_off r free.0) (to_space_has t lt) in
       subst (λ (x : Region). x.top ≤ h.geometry.w) is top
 
   -- what is asked of the runs
@@ -150,21 +150,21 @@ module _ (h : Heap) (chosen : List ℕ) (p : Plan) (valid : IsValid h) (pause : 
 
     -- with regions freed beside the set
     region_beside : (fates : List Fate) (u : Run) (freed : List ℕ) (r : ℕ) → AreFates h (chosen ++ freed) (to_space h p.survivors) fates → r < h.geometry.n
-        → region_by_fate us u (fate_at fates r) (region h r) ≡ cond (has freed r) free_region (region (heap_after h chosen p.survivors) r)
+        → region_by_fate us u (fate_at fates r) (region h r) ≡ cond (has freed r) free_region (region (heap_moved h chosen p.survivors) r)
     region_beside fates u freed r are lt =
         let to : List ℕ = to_space h p.survivors in
-        let after : region (heap_after h chosen p.survivors) r ≡ new_region h chosen p.survivors r =
+        let after : region (heap_moved h chosen p.survivors) r ≡ new_region h chosen p.survivors r =
         get_or-map-range_with_len (new_region h chosen p.survivors) 0 h.geometry.n r r free_region lt (omega arith) in
         elim (cases_Bool (has freed r)) [
-          | inl t ↦ ap (λ y. region_by_fate us u y (region h r)) (are.each r lt ∙ fate_freed chosen freed to r t) ∙ (λ q. cond (sym t q) free_region (region (heap_after h chosen p.survivors) r))
+          | inl t ↦ ap (λ y. region_by_fate us u y (region h r)) (are.each r lt ∙ fate_freed chosen freed to r t) ∙ (λ q. cond (sym t q) free_region (region (heap_moved h chosen p.survivors) r))
           | inr e ↦ region_made (fate_at fates r) u r (are.each r lt ∙ fate_beside chosen freed to r e) ∙ (λ q. cond (sym e q) free_region (sym after q))
         ]
 
     -- the regions by their fates are those after the pause
     pub regions_by_fates : (fates : List Fate) (u : Run) (freed : List ℕ) → AreFates h (chosen ++ freed) (to_space h p.survivors) fates
-        → map (λ r. region_by_fate us u (fate_at fates r) (region h r)) (regions h) ≡ map (λ r. cond (has freed r) free_region (region (heap_after h chosen p.survivors) r)) (regions h)
+        → map (λ r. region_by_fate us u (fate_at fates r) (region h r)) (regions h) ≡ map (λ r. cond (has freed r) free_region (region (heap_moved h chosen p.survivors) r)) (regions h)
     regions_by_fates fates u freed are =
-        map_same_in (λ r. region_by_fate us u (fate_at fates r) (region h r)) (λ r. cond (has freed r) free_region (region (heap_after h chosen p.survivors) r)) (regions h)
+        map_same_in (λ r. region_by_fate us u (fate_at fates r) (region h r)) (λ r. cond (has freed r) free_region (region (heap_moved h chosen p.survivors) r)) (regions h)
         (λ r k. region_beside fates u freed r are (let b = range_bounds 0 h.geometry.n r k in omega arith))
 
   -- roots
@@ -179,7 +179,7 @@ module _ (h : Heap) (chosen : List ℕ) (p : Plan) (valid : IsValid h) (pause : 
   root_small zero m = omega arith
   root_small (suc a) m =
       let l : List ℕ = p.survivors in
-      let j : Image = image_after image chosen l in
+      let j : Image = image_moved image chosen l in
       let whole : IsBuilt h = built h valid in
       let moved = made_is_moved image chosen l whole ordinary pause.survivors room in
       let target : In (root_targets h) a = In-flat_map named h.roots (suc a) a m (inl refl) in
@@ -192,7 +192,7 @@ module _ (h : Heap) (chosen : List ℕ) (p : Plan) (valid : IsValid h) (pause : 
       kept_filled : (a : ℕ) → In (kept h chosen p.survivors) (object_at h a) → 0 < (object_at h a).size
       kept_filled a k =
           let l : List ℕ = p.survivors in
-          let j : Image = image_after image chosen l in
+          let j : Image = image_moved image chosen l in
           let whole : IsBuilt h = built h valid in
           let refs = kept_refs image chosen l j whole ordinary pause.survivors room (made_is_moved image chosen l whole ordinary pause.survivors room) (object_at h a) k in
           omega arith

@@ -20,8 +20,8 @@ use Rattle.g1_words.proofs.Shapes.{IsBuilt}
 use Rattle.g1_words.proofs.Standing.{card_positive, width_positive}
 use Rattle.g1_image.specs.Image.{Image, region_of_card}
 use Rattle.g1_image.specs.Cards.{cards_where, is_exact, is_refined, refined}
-use Rattle.g1_after.specs.Moved.{card_in, remembered_after}
-use Rattle.g1_after.specs.Made.{heap_after}
+use Rattle.g1_after.specs.Moved.{card_in, remembered_moved}
+use Rattle.g1_after.specs.Made.{heap_moved}
 use Rattle.g1_image.proofs.Covers.{cards_rise}
 use Rattle.g1_rem.specs.Merging.{IsMerged}
 use Rattle.g1_rem.proofs.Rising.{Rises-range, Rises-filter, Rises-one, increasing-Rises}
@@ -100,7 +100,7 @@ module _ (i : Image) (set l : List ℕ) (valid : IsBuilt i.heap) (ordinary : All
   C r c = is_linked i.heap (copied_slots i.heap l) r c
 
   abbrev after : Heap
-  after = heap_after i.heap set l
+  after = heap_moved i.heap set l
 
   once : Distinct (to_space i.heap l)
   once = Distinct-take (need i.heap l) (free_regions i.heap) (free_distinct i.heap (width_positive i.heap.geometry.w i.heap.geometry.k i.heap.geometry.n valid.limits))
@@ -136,8 +136,8 @@ module _ (i : Image) (set l : List ℕ) (valid : IsBuilt i.heap) (ordinary : All
       ∙ (λ t. cards_where i.heap (λ c. (is_refined i r c && not (card_in i.heap set c)) || sym (copied_cards i set l valid ordinary survivors room r c) t))
 
   -- what is joined is the set after the pause
-  pub remembered_after_is : (r : ℕ) (zs : List ℕ) → r < i.heap.geometry.n → IsJoined i.heap fates (fate_at fates r) (refined i r) (cards_where i.heap (P r)) (cards_where i.heap (C r)) zs → zs ≡ remembered_after i set l after r
-  remembered_after_is r zs lt m =
+  pub remembered_moved_is : (r : ℕ) (zs : List ℕ) → r < i.heap.geometry.n → IsJoined i.heap fates (fate_at fates r) (refined i r) (cards_where i.heap (P r)) (cards_where i.heap (C r)) zs → zs ≡ remembered_moved i set l after r
+  remembered_moved_is r zs lt m =
       let by : (x : Fate) → fate_of set (to_space i.heap l) r ≡ x → IsJoined i.heap fates x (refined i r) (cards_where i.heap (P r)) (cards_where i.heap (C r)) zs =
       λ x e. subst (λ y. IsJoined i.heap fates y (refined i r) (cards_where i.heap (P r)) (cards_where i.heap (C r)) zs) (are.each r lt ∙ e) m in
       elim (the_fate r) [
@@ -177,15 +177,15 @@ module _ (i : Image) (set l : List ℕ) (valid : IsBuilt i.heap) (ordinary : All
         (subst (λ xs. IsJoined i.heap fates (fate_at fates r) (refined i r) xs (cards_at inner r) zs) (outer_at r lt)
         (subst (λ xs. IsJoined i.heap fates (fate_at fates r) xs (cards_at outer r) (cards_at inner r) zs) (remembered_at r lt) m))
 
-    pub remembered_after_are : (news : List (List ℕ)) → AreJoined i.heap fates remembered outer inner news → news ≡ map (remembered_after i set l after) (regions i.heap)
-    remembered_after_are news m =
-        let count = length-map-range_with_len (remembered_after i set l after) 0 i.heap.geometry.n in
-        ext_get_or [] news (map (remembered_after i set l after) (regions i.heap)) (m.one_each ∙ sym count)
+    pub remembered_moved_are : (news : List (List ℕ)) → AreJoined i.heap fates remembered outer inner news → news ≡ map (remembered_moved i set l after) (regions i.heap)
+    remembered_moved_are news m =
+        let count = length-map-range_with_len (remembered_moved i set l after) 0 i.heap.geometry.n in
+        ext_get_or [] news (map (remembered_moved i set l after) (regions i.heap)) (m.one_each ∙ sym count)
         (λ r lt'.
         let lt : r < i.heap.geometry.n = omega (arith, lt', m.one_each) in
         let one = m.each r lt in
-        remembered_after_is r (cards_at news r) lt (joined_over r (cards_at news r) lt one)
-        ∙ sym (get_or-map-range_with_len (remembered_after i set l after) 0 i.heap.geometry.n r r [] lt (omega arith)))
+        remembered_moved_is r (cards_at news r) lt (joined_over r (cards_at news r) lt one)
+        ∙ sym (get_or-map-range_with_len (remembered_moved i set l after) 0 i.heap.geometry.n r r [] lt (omega arith)))
 
 -- a list that was read from its vector
 pub read_at : (xs : List (Vec ℕ)) (r : ℕ) (v : Vec ℕ) → r < length xs → v ≡ get_or xs r v → v.items ≡ cards_at (map (λ s. s.items) xs) r

@@ -15,11 +15,11 @@ use Rattle.g1_words.proofs.Shapes.{IsBuilt, built}
 use Rattle.g1_words.proofs.Standing.{w_pos}
 use Rattle.g1_image.specs.Cards.{IsTracked, cards_where, exact, is_exact, is_refined}
 use Rattle.g1_image.specs.Image.{Image, IsUsedCard, region_of_card, remembered_of}
-use Rattle.g1_after.specs.Made.{heap_after, image_after, image_paused}
-use Rattle.g1_after.specs.Moved.{card_in, remembered_after}
+use Rattle.g1_after.specs.Made.{heap_moved, image_moved, image_paused}
+use Rattle.g1_after.specs.Moved.{card_in, remembered_moved}
 use Rattle.g1_after.specs.Unnamed.{unnamed_regions}
 use Rattle.g1_after.proofs.Existence.{made_is_moved}
-use Rattle.g1_after.proofs.ValidAfter.{set_shape}
+use Rattle.g1_after.proofs.ValidMoved.{set_shape}
 use Rattle.g1_rem.proofs.EntryCards.{filter_same_in}
 use Rattle.g1_copy.specs.Fates.{AreFates, fate_at, fate_of}
 use Rattle.g1_copy.specs.Remembered.{AreLeft, cards_at, is_kept_fate, left, stays}
@@ -69,10 +69,10 @@ LeftTo-end h fates k old new le all = record { one_each = all.one_each; each = �
 
 module _ (i : Image) (set l : List ℕ) (tracked : IsTracked i) (a : HasRoom i.heap set l) where
   abbrev after : Heap
-  after = heap_after i.heap set l
+  after = heap_moved i.heap set l
 
   abbrev freed : List ℕ
-  freed = unnamed_regions (heap_after i.heap set l)
+  freed = unnamed_regions (heap_moved i.heap set l)
 
   valid : IsBuilt i.heap
   valid = built i.heap tracked.image.heap
@@ -81,12 +81,12 @@ module _ (i : Image) (set l : List ℕ) (tracked : IsTracked i) (a : HasRoom i.h
   once = Distinct-take (need i.heap l) (free_regions i.heap) (free_distinct i.heap (w_pos i.heap valid))
 
   -- a card of these sets lies in no region of the set
-  off_set : (r c : ℕ) → r < i.heap.geometry.n → In (remembered_of (image_after i set l) r) c → has set (region_of_card i.heap c) ≡ false
+  off_set : (r c : ℕ) → r < i.heap.geometry.n → In (remembered_of (image_moved i set l) r) c → has set (region_of_card i.heap c) ≡ false
   off_set r c lt k =
       let used = cards_used i set l tracked a r c lt k in
       elim (cases_Bool (has set (region_of_card i.heap c))) [
         | inr e ↦ e
-        | inl t ↦ absurd (used.used (set_shape i set l (image_after i set l) valid a.ordinary a.survivors a.room (made_is_moved i set l valid a.ordinary a.survivors a.room) (region_of_card i.heap c) (there c used) t).0)
+        | inl t ↦ absurd (used.used (set_shape i set l (image_moved i set l) valid a.ordinary a.survivors a.room (made_is_moved i set l valid a.ordinary a.survivors a.room) (region_of_card i.heap c) (there c used) t).0)
       ]
     where
       there : (c : ℕ) → IsUsedCard after c → region_of_card i.heap c < i.heap.geometry.n
@@ -94,7 +94,7 @@ module _ (i : Image) (set l : List ℕ) (tracked : IsTracked i) (a : HasRoom i.h
 
   module _ (fates : List Fate) (are : AreFates i.heap (set ++ freed) (to_space i.heap l) fates) where
     -- such a card stays unless it lies in a region that is freed beside the set
-    card_stays : (r c : ℕ) → r < i.heap.geometry.n → In (remembered_of (image_after i set l) r) c → stays i.heap fates c ≡ not (card_in after freed c)
+    card_stays : (r c : ℕ) → r < i.heap.geometry.n → In (remembered_of (image_moved i set l) r) c → stays i.heap fates c ≡ not (card_in after freed c)
     card_stays r c lt k =
         let q : ℕ = region_of_card i.heap c in
         let lies : region_of_card i.heap c < i.heap.geometry.n = (div-lt_iff_lt-mul (w_pos i.heap valid)).1 (cards_used i set l tracked a r c lt k).in_heap in
@@ -112,7 +112,7 @@ module _ (i : Image) (set l : List ℕ) (tracked : IsTracked i) (a : HasRoom i.h
 
     -- what is left of a region's set
     one_left : (r : ℕ) → r < i.heap.geometry.n
-        → left i.heap fates (fate_at fates r) (remembered_of (image_after i set l) r) ≡ cond (has freed r) [] (filter (λ c. not (card_in after freed c)) (remembered_of (image_after i set l) r))
+        → left i.heap fates (fate_at fates r) (remembered_of (image_moved i set l) r) ≡ cond (has freed r) [] (filter (λ c. not (card_in after freed c)) (remembered_of (image_moved i set l) r))
     one_left r lt = elim (cases_Bool (has freed r)) [
       | inl t ↦ ap (λ x. left i.heap fates x cards) (are.each r lt ∙ fate_freed set freed (to_space i.heap l) r t) ∙ (λ q. cond (sym t q) [] (filter (λ c. not (card_in after freed c)) cards))
       | inr e ↦ ap (λ x. left i.heap fates x cards) (are.each r lt ∙ fate_beside set freed (to_space i.heap l) r e) ∙ by_set (elim (has_fate set (to_space i.heap l) once r) [
@@ -122,7 +122,7 @@ module _ (i : Image) (set l : List ℕ) (tracked : IsTracked i) (a : HasRoom i.h
       ]) ∙ (λ q. cond (sym e q) [] (filter (λ c. not (card_in after freed c)) cards))
     ] where
       cards : List ℕ
-      cards = remembered_of (image_after i set l) r
+      cards = remembered_of (image_moved i set l) r
 
       by_set : ((fate_of set (to_space i.heap l) r ≡ Freed) × (has set r ≡ true)) ⊎ (is_kept_fate (fate_of set (to_space i.heap l) r) ≡ true) → left i.heap fates (fate_of set (to_space i.heap l) r) cards ≡ filter (λ c. not (card_in after freed c)) cards
       by_set (inl (f, t)) =
@@ -132,25 +132,25 @@ module _ (i : Image) (set l : List ℕ) (tracked : IsTracked i) (a : HasRoom i.h
       by_set (inr k) = ap (λ b. cond b (filter (stays i.heap fates) cards) []) k ∙ filter_same_in (stays i.heap fates) (λ c. not (card_in after freed c)) cards (λ c m. card_stays r c lt m)
 
     -- what is left are the sets after the pause
-    pub sets_left : (old new : List (List ℕ)) → old ≡ map (remembered_after i set l after) (regions i.heap) → AreLeft i.heap fates old new → new ≡ (image_paused i set l).remembered
+    pub sets_left : (old new : List (List ℕ)) → old ≡ map (remembered_moved i set l after) (regions i.heap) → AreLeft i.heap fates old new → new ≡ (image_paused i set l).remembered
     sets_left old new e all =
-        let so_many : length old ≡ i.heap.geometry.n = ap length e ∙ length-map-range_with_len (remembered_after i set l after) 0 i.heap.geometry.n in
+        let so_many : length old ≡ i.heap.geometry.n = ap length e ∙ length-map-range_with_len (remembered_moved i set l after) 0 i.heap.geometry.n in
         let size : length (image_paused i set l).remembered ≡ i.heap.geometry.n =
-        length-map-range_with_len (λ r. cond (has freed r) [] (filter (λ c. not (card_in after freed c)) (remembered_of (image_after i set l) r))) 0 i.heap.geometry.n in
+        length-map-range_with_len (λ r. cond (has freed r) [] (filter (λ c. not (card_in after freed c)) (remembered_of (image_moved i set l) r))) 0 i.heap.geometry.n in
         ext_get_or [] new (image_paused i set l).remembered (all.one_each ∙ so_many ∙ sym size)
         (λ r less.
         let lt : r < i.heap.geometry.n = omega (arith, less, all.one_each, so_many) in
         all.each r (omega (arith, lt, so_many)) ∙ ap (λ xs. left i.heap fates (fate_at fates r) (cards_at xs r)) e ∙ one_left r lt
-        ∙ sym (get_or-map-range_with_len (λ r. cond (has freed r) [] (filter (λ c. not (card_in after freed c)) (remembered_of (image_after i set l) r))) 0 i.heap.geometry.n r r [] lt (omega arith)))
+        ∙ sym (get_or-map-range_with_len (λ r. cond (has freed r) [] (filter (λ c. not (card_in after freed c)) (remembered_of (image_moved i set l) r))) 0 i.heap.geometry.n r r [] lt (omega arith)))
 
   -- where nothing is freed beside the set they stay as they are
-  pub sets_stay : length freed ≡ 0 → map (remembered_after i set l after) (regions i.heap) ≡ (image_paused i set l).remembered
+  pub sets_stay : length freed ≡ 0 → map (remembered_moved i set l after) (regions i.heap) ≡ (image_paused i set l).remembered
   sets_stay e =
       let none : freed ≡ [] = empty freed e in
-      map_same_in (remembered_after i set l after) (λ r. cond (has freed r) [] (filter (λ c. not (card_in after freed c)) (remembered_of (image_after i set l) r))) (regions i.heap)
+      map_same_in (remembered_moved i set l after) (λ r. cond (has freed r) [] (filter (λ c. not (card_in after freed c)) (remembered_of (image_moved i set l) r))) (regions i.heap)
       (λ r k.
-      sym (set_is i set l tracked a r (let b = range_bounds 0 i.heap.geometry.n r k in omega arith)) ∙ sym (all_pass (remembered_of (image_after i set l) r))
-      ∙ (λ q. cond (has (sym none q) r) [] (filter (λ c. not (card_in after (sym none q) c)) (remembered_of (image_after i set l) r))))
+      sym (set_is i set l tracked a r (let b = range_bounds 0 i.heap.geometry.n r k in omega arith)) ∙ sym (all_pass (remembered_of (image_moved i set l) r))
+      ∙ (λ q. cond (has (sym none q) r) [] (filter (λ c. not (card_in after (sym none q) c)) (remembered_of (image_moved i set l) r))))
     where
       empty : (xs : List ℕ) → length xs ≡ 0 → xs ≡ []
       empty [] e = refl

@@ -21,14 +21,14 @@ use Rattle.g1_image.specs.Image.{Image, region_of_card}
 use Rattle.g1_image.specs.Cards.{leads_into, is_exact}
 use Rattle.g1_words.specs.Copy.{renamed}
 use Rattle.g1_after.specs.Moved.{IsMoved, card_in}
-use Rattle.g1_after.specs.Made.{image_after}
-use Rattle.g1_after.specs.After.{IsMovedRef}
+use Rattle.g1_after.specs.Made.{image_moved}
+use Rattle.g1_after.specs.Survived.{IsMovedRef}
 use Rattle.g1_after.proofs.ObjectsOf.{kept_outside, used_not_to_space}
 use Rattle.g1_after.proofs.ToSpace.{goal_in_to_space, goal_is_free, survivor_kept}
-use Rattle.g1_after.proofs.ValidAfter.{kept_refs, outside_word, slot_kept, slot_names, survivor_word}
-use Rattle.g1_after.proofs.RulesAfter.{named_suc}
-use Rattle.g1_after.proofs.RefsMoved.{refs_after}
-use Rattle.g1_after.proofs.CoveredAfter.{any_from_in, and_both, or_left, or_right}
+use Rattle.g1_after.proofs.ValidMoved.{kept_refs, outside_word, slot_kept, slot_names, survivor_word}
+use Rattle.g1_after.proofs.RulesMoved.{named_suc}
+use Rattle.g1_after.proofs.RefsMoved.{refs_moved}
+use Rattle.g1_after.proofs.CoveredMoved.{any_from_in, and_both, or_left, or_right}
 use Rattle.g1_after.proofs.Existence.{made_is_moved}
 use Rattle.g1_copy.specs.Links.{link, is_linked, moved_slots, copied_slots}
 use Rattle.g1_copy.specs.Patches.{patch, all_patches}
@@ -89,7 +89,7 @@ module _ (i : Image) (set l : List ℕ) (valid : IsBuilt i.heap) (ordinary : All
   f = forward i.heap l
 
   abbrev j : Image
-  j = image_after i set l
+  j = image_moved i set l
 
   s : IsSound i.heap
   s = built_is_sound i.heap valid
@@ -295,14 +295,14 @@ module _ (i : Image) (set l : List ℕ) (valid : IsBuilt i.heap) (ordinary : All
   pub linked_is_exact : (xs : List (ℕ × ℕ)) (r c : ℕ) → ((x : ℕ × ℕ) → In xs x → IsMovedRef i.heap set l (link x)) → is_linked i.heap xs r c ≡ true → is_exact j.heap r c ≡ true
   linked_is_exact xs r c all t =
       let m = any_member (λ (x : ℕ × ℕ). lands r c (link x)) xs t in
-      let there : In (refs j.heap) (link m.0) = In-from_contains (refs j.heap) (link m.0) ((refs_after i set l j valid ordinary survivors room moved (link m.0)).1 (all m.0 m.1)) in
+      let there : In (refs j.heap) (link m.0) = In-from_contains (refs j.heap) (link m.0) ((refs_moved i set l j valid ordinary survivors room moved (link m.0)).1 (all m.0 m.1)) in
       any_from_in (lands r c) (refs j.heap) (link m.0) there m.2
 
   -- the reference for which a card is exact
   exact_ref : (r c : ℕ) → is_exact j.heap r c ≡ true → (e : Ref) × IsMovedRef i.heap set l e × (lands r c e ≡ true)
   exact_ref r c t =
       let m = any_member (lands r c) (refs j.heap) t in
-      (m.0, (refs_after i set l j valid ordinary survivors room moved m.0).0 (Contains-from_in (refs j.heap) m.0 m.1), m.2)
+      (m.0, (refs_moved i set l j valid ordinary survivors room moved m.0).0 (Contains-from_in (refs j.heap) m.0 m.1), m.2)
 
   -- into a region of to-space the patches lead and the copied slots
   pub to_space_cards : (r c : ℕ) → has (to_space i.heap l) r ≡ true → is_exact j.heap r c ≡ (is_linked i.heap (all_patches i.heap set l) r c || is_linked i.heap (copied_slots i.heap l) r c)

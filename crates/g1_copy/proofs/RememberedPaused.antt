@@ -20,8 +20,8 @@ use Rattle.g1_words.proofs.Shapes.{built}
 use Rattle.g1_words.proofs.Sound.{sound}
 use Rattle.g1_image.specs.Image.{Image, IsImage}
 use Rattle.g1_image.specs.Cards.{refined}
-use Rattle.g1_after.specs.Moved.{remembered_after}
-use Rattle.g1_after.specs.Made.{heap_after}
+use Rattle.g1_after.specs.Moved.{remembered_moved}
+use Rattle.g1_after.specs.Made.{heap_moved}
 use Rattle.g1_layout.specs.Placed.{CanPlace}
 use Rattle.g1_layout.specs.Plan.{Plan}
 use Rattle.g1_copy.specs.Links.{cards_by_region, copied_slots}
@@ -32,7 +32,7 @@ use Rattle.g1_copy.specs.Remembered.{AreSources, AreJoined}
 use Rattle.g1_copy.specs.declared.fates.Fate.{Fate}
 use Rattle.g1_copy.proofs.CopiedSlots.{forward_below}
 use Rattle.g1_copy.proofs.RememberedLinks.{owner_of}
-use Rattle.g1_copy.proofs.RememberedJoined.{are_sources, remembered_after_are}
+use Rattle.g1_copy.proofs.RememberedJoined.{are_sources, remembered_moved_are}
 
 -- the slots lie in the heap, and name addresses of it
 abbrev pub AreThere : Heap → List (ℕ × ℕ) → Type 0
@@ -98,12 +98,12 @@ module _ (i : Image) (set : List ℕ) (p : Plan) (image : IsImage i) (pause : Is
     paused_sources = subst (λ x. AreSources x fates remembered outer inner) (sym heap)
         (are_sources i set l (built i.heap image.heap) can.ordinary pause.survivors pause.made.room fates are remembered outer inner the_remembered outer_are inner_are)
 
-    paused_news : (news : List (List ℕ)) → AreJoined h fates remembered outer inner news → news ≡ map (remembered_after i set l (heap_after i.heap set l)) (regions i.heap)
-    paused_news news m = remembered_after_are i set l (built i.heap image.heap) can.ordinary pause.survivors pause.made.room fates are remembered outer inner the_remembered outer_are inner_are news
+    paused_news : (news : List (List ℕ)) → AreJoined h fates remembered outer inner news → news ≡ map (remembered_moved i set l (heap_moved i.heap set l)) (regions i.heap)
+    paused_news news m = remembered_moved_are i set l (built i.heap image.heap) can.ordinary pause.survivors pause.made.room fates are remembered outer inner the_remembered outer_are inner_are news
         (subst (λ x. AreJoined x fates remembered outer inner news) heap m)
 
     -- the sets after the pause
     pub paused_remembered : (answer : Result (Vec (Vec ℕ)) Fault) → IfOk answer (λ v. AreJoined h fates remembered outer inner (map (λ s. s.items) v.items))
-        → IfOk answer (λ v. map (λ s. s.items) v.items ≡ map (remembered_after i set l (heap_after i.heap set l)) (regions i.heap))
+        → IfOk answer (λ v. map (λ s. s.items) v.items ≡ map (remembered_moved i set l (heap_moved i.heap set l)) (regions i.heap))
     paused_remembered (Ok v) m = paused_news (map (λ s. s.items) v.items) m
     paused_remembered (Err e) m = tt

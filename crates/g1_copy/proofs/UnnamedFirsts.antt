@@ -27,19 +27,19 @@ use Rattle.g1_words.proofs.Sound.{IsSound}
 use Rattle.g1_words.proofs.Standing.{built_is_sound, home, home_region, run_object, w_pos, word_used}
 use Rattle.g1_image.specs.Cards.{IsTracked, cards_where, is_exact, is_refined}
 use Rattle.g1_image.specs.Image.{Image, IsUsedCard, region_of_card, remembered_of}
-use Rattle.g1_after.specs.After.{ExactStays}
+use Rattle.g1_after.specs.Survived.{ExactStays}
 use Rattle.g1_after.specs.Freed.{NamedByCards}
-use Rattle.g1_after.specs.Made.{heap_after, image_after}
-use Rattle.g1_after.specs.Moved.{IsMoved, card_in, remembered_after}
+use Rattle.g1_after.specs.Made.{heap_moved, image_moved}
+use Rattle.g1_after.specs.Moved.{IsMoved, card_in, remembered_moved}
 use Rattle.g1_after.specs.Unnamed.{is_named, lies_in, unnamed}
-use Rattle.g1_after.proofs.CardsAfter.{tracked_after}
-use Rattle.g1_after.proofs.CoveredAfter.{any_from_in}
+use Rattle.g1_after.proofs.CardsMoved.{tracked_moved}
+use Rattle.g1_after.proofs.CoveredMoved.{any_from_in}
 use Rattle.g1_after.proofs.Existence.{made_is_moved}
-use Rattle.g1_after.proofs.ObjectsAfter.{region_after}
+use Rattle.g1_after.proofs.ObjectsMoved.{region_moved}
 use Rattle.g1_after.proofs.ObjectsOf.{used_not_to_space}
 use Rattle.g1_after.proofs.SameGraphs.{roots_renamed}
 use Rattle.g1_after.proofs.UnnamedRegions.{lies_word, same_test}
-use Rattle.g1_after.proofs.ValidAfter.{object_stays, other_shape, root_kept, set_shape}
+use Rattle.g1_after.proofs.ValidMoved.{object_stays, other_shape, root_kept, set_shape}
 use Rattle.g1_rem.proofs.Entering.{card_inside}
 use Rattle.g1_rem.specs.Starts.{card_count}
 use Rattle.g1_copy.specs.Fates.{AreFates, fate_of}
@@ -92,7 +92,7 @@ module _ (i : Image) (set l : List ℕ) (tracked : IsTracked i) (a : HasRoom i.h
   h = i.heap
 
   abbrev pub j : Image
-  j = image_after i set l
+  j = image_moved i set l
 
   valid : IsBuilt i.heap
   valid = built i.heap tracked.image.heap
@@ -100,24 +100,24 @@ module _ (i : Image) (set l : List ℕ) (tracked : IsTracked i) (a : HasRoom i.h
   s : IsSound i.heap
   s = built_is_sound i.heap valid
 
-  moved : IsMoved i set l (image_after i set l)
+  moved : IsMoved i set l (image_moved i set l)
   moved = made_is_moved i set l valid a.ordinary a.survivors a.room
 
   -- the image after the moves is tracked
-  pub after_tracked : IsTracked (image_after i set l)
-  after_tracked = tracked_after i set l (image_after i set l) tracked a.ordinary a.survivors a.room moved
+  pub moved_tracked : IsTracked (image_moved i set l)
+  moved_tracked = tracked_moved i set l (image_moved i set l) tracked a.ordinary a.survivors a.room moved
 
   -- a region of to-space was free
   to_space_free : (r : ℕ) → has (to_space i.heap l) r ≡ true → kind i.heap r ≡ Free
   to_space_free r t = (is_free_region i.heap r (taken_in (need i.heap l) (free_regions i.heap) r (in_from_has (to_space i.heap l) r t))).0
 
   -- the set of a region after the survivors moved
-  pub set_is : (r : ℕ) → r < i.heap.geometry.n → remembered_of j r ≡ remembered_after i set l (heap_after i.heap set l) r
-  set_is r lt = get_or-map-range_with_len (remembered_after i set l (heap_after i.heap set l)) 0 i.heap.geometry.n r r [] lt (omega arith)
+  pub set_is : (r : ℕ) → r < i.heap.geometry.n → remembered_of j r ≡ remembered_moved i set l (heap_moved i.heap set l) r
+  set_is r lt = get_or-map-range_with_len (remembered_moved i set l (heap_moved i.heap set l)) 0 i.heap.geometry.n r r [] lt (omega arith)
 
   -- a region's cards lie in used regions of the heap after
   pub cards_used : (r c : ℕ) → r < i.heap.geometry.n → In (remembered_of j r) c → IsUsedCard j.heap c
-  cards_used r c lt k = (member_of_all (λ c. IsUsedCard j.heap c × (region_of_card j.heap c ≢ r)) (remembered_of j r) c (after_tracked.image.remembered r lt).elsewhere k).0
+  cards_used r c lt k = (member_of_all (λ c. IsUsedCard j.heap c × (region_of_card j.heap c ≢ r)) (remembered_of j r) c (moved_tracked.image.remembered r lt).elsewhere k).0
 
   -- a refined card lies in a used region
   refined_used : (r c : ℕ) → r < i.heap.geometry.n → is_refined i r c ≡ true → kind i.heap (region_of_card i.heap c) ≢ Free
@@ -295,7 +295,7 @@ module _ (i : Image) (set l : List ℕ) (tracked : IsTracked i) (a : HasRoom i.h
       -- whether something names the object
       named_tells : NamedByCards → is_named j.heap (object_at j.heap (r * i.heap.geometry.w)) ≡ (is_rooted i.heap r || list_any (is_naming i.heap fates r) (remembered_of j r))
       named_tells law =
-          law j r after_tracked refl lt first_stays
+          law j r moved_tracked refl lt first_stays
           ∙ (λ q. roots_tell q || any_same by_card (is_naming i.heap fates r) (remembered_of j r) cards_tell q)
 
   -- ---- all regions
@@ -305,7 +305,7 @@ module _ (i : Image) (set l : List ℕ) (tracked : IsTracked i) (a : HasRoom i.h
   kind_tells r lt e = elim (cases_Bool (has set r)) [
     | inl t ↦ ap is_first (set_shape i set l j valid a.ordinary a.survivors a.room moved r lt t).0
     | inr out ↦ elim (cases_Bool (has (to_space i.heap l) r)) [
-      | inl t ↦ ap (λ (x : Region). is_first x.kind) (region_after i set l j s a.ordinary a.survivors a.room moved r lt)
+      | inl t ↦ ap (λ (x : Region). is_first x.kind) (region_moved i set l j s a.ordinary a.survivors a.room moved r lt)
           ∙ (λ q. is_first (cond (out q) free_region (cond (t q) (region_with Ordinary (end_in i.heap l r)) (region i.heap r))).kind)
       | inr off ↦ ap is_first (other_shape i set l j valid a.ordinary a.survivors a.room moved r lt out off).0 ∙ e
     ]
@@ -322,7 +322,7 @@ module _ (i : Image) (set l : List ℕ) (tracked : IsTracked i) (a : HasRoom i.h
         (λ o k. ap (λ x. is_first (kind j.heap x)) (s_after.in_region r o (Contains-from_in (objects_in j.heap r) o k)) ∙ kind_tells r lt e))
       where
         s_after : IsSound j.heap
-        s_after = built_is_sound j.heap (built j.heap after_tracked.image.heap)
+        s_after = built_is_sound j.heap (built j.heap moved_tracked.image.heap)
     one_region r true lt e =
         let two : kind i.heap r ≡ HumongousFirst = first_by_test (kind i.heap r) e in
         let stands : objects_in j.heap r ≡ object_at j.heap (r * i.heap.geometry.w) ∷ [] = ap (λ k. objects_by k j.heap r) (first_stays r lt two) in
@@ -338,8 +338,8 @@ module _ (i : Image) (set l : List ℕ) (tracked : IsTracked i) (a : HasRoom i.h
         alone false = refl
 
     -- the first regions of the objects that nothing names
-    pub firsts_are : (remembered : List (List ℕ)) → remembered ≡ map (remembered_after i set l (heap_after i.heap set l)) (regions i.heap)
-        → filter (is_unnamed i.heap fates remembered) (regions i.heap) ≡ map (λ (o : Object). region_of i.heap o.at) (unnamed (heap_after i.heap set l))
+    pub firsts_are : (remembered : List (List ℕ)) → remembered ≡ map (remembered_moved i set l (heap_moved i.heap set l)) (regions i.heap)
+        → filter (is_unnamed i.heap fates remembered) (regions i.heap) ≡ map (λ (o : Object). region_of i.heap o.at) (unnamed (heap_moved i.heap set l))
     firsts_are remembered e =
         ap (λ x. filter (is_unnamed i.heap fates x) (regions i.heap)) e
         ∙ sym (by_number (λ (o : Object). region_of i.heap o.at) (λ o. not (is_named j.heap o)) (λ o. is_first (kind j.heap (region_of j.heap o.at))) (objects_in j.heap)
@@ -347,8 +347,8 @@ module _ (i : Image) (set l : List ℕ) (tracked : IsTracked i) (a : HasRoom i.h
         (λ r k. one_region r (is_first (kind i.heap r)) (let b = range_bounds 0 i.heap.geometry.n r k in omega arith) refl))
 
   -- each of the remembered cards is one of the heap's
-  pub cards_there : (remembered : List (List ℕ)) → remembered ≡ map (remembered_after i set l (heap_after i.heap set l)) (regions i.heap)
+  pub cards_there : (remembered : List (List ℕ)) → remembered ≡ map (remembered_moved i set l (heap_moved i.heap set l)) (regions i.heap)
       → (r : ℕ) → r < i.heap.geometry.n → All (λ c. c < card_count i.heap) (cards_at remembered r)
   cards_there remembered e r lt k d less =
       let m : In (cards_at remembered r) (get_or (cards_at remembered r) k d) = get_or-In (cards_at remembered r) k d less in
-      card_inside j.heap (get_or (cards_at remembered r) k d) after_tracked.image.heap (cards_used r (get_or (cards_at remembered r) k d) lt (subst (λ xs. In (cards_at xs r) (get_or (cards_at remembered r) k d)) e m))
+      card_inside j.heap (get_or (cards_at remembered r) k d) moved_tracked.image.heap (cards_used r (get_or (cards_at remembered r) k d) lt (subst (λ xs. In (cards_at xs r) (get_or (cards_at remembered r) k d)) e m))

@@ -7,7 +7,7 @@ use Rattle.g1_words.specs.Layout.{HasRoom, need, to_space}
 use Rattle.g1_layout.specs.Plan.{Plan}
 use Rattle.g1_image.specs.Image.{Image, IsImage}
 use Rattle.g1_image.specs.Cards.{Covered, is_exact, refined}
-use Rattle.g1_after.specs.Made.{heap_after, image_paused}
+use Rattle.g1_after.specs.Made.{heap_moved, image_paused}
 use Rattle.g1_after.specs.Unnamed.{unnamed_regions}
 use Rattle.g1_after.specs.Moved.{card_in}
 use Rattle.g1_words.specs.Lists.{has}
@@ -38,18 +38,18 @@ RefinedFindPatches = (i : Image) (set l : List ℕ) → IsImage i → Covered i 
 -- the words of to-space gathered, the patches and the cleared regions make the words of the heap after
 abbrev pub WrittenInPlace : Type 0
 WrittenInPlace = (i : Image) (set l : List ℕ) → IsValid i.heap → HasRoom i.heap set l
-    → words_after i.heap.geometry.w (set ++ unnamed_regions (heap_after i.heap set l)) (to_space i.heap l) (to_space_words i.heap l) (all_patches i.heap set l) i.heap.words
+    → words_after i.heap.geometry.w (set ++ unnamed_regions (heap_moved i.heap set l)) (to_space i.heap l) (to_space_words i.heap l) (all_patches i.heap set l) i.heap.words
     ≡ (image_paused i set l).heap.words
 
 -- the cards that are exact for a region of to-space after the pause are those of the patches and the copied slots that lead into it
 abbrev pub CardsOfToSpace : Type 0
 CardsOfToSpace = (h : Heap) (set l : List ℕ) → IsValid h → HasRoom h set l → (r c : ℕ) → IsTrue (has (to_space h l) r)
-    → is_exact (heap_after h set l) r c ≡ (is_linked h (all_patches h set l) r c || is_linked h (copied_slots h l) r c)
+    → is_exact (heap_moved h set l) r c ≡ (is_linked h (all_patches h set l) r c || is_linked h (copied_slots h l) r c)
 
 -- the to-space cards that are exact for a region after the pause are those of the copied slots that lead into it
 abbrev pub CardsInToSpace : Type 0
 CardsInToSpace = (h : Heap) (set l : List ℕ) → IsValid h → HasRoom h set l → (r c : ℕ)
-    → (card_in h (to_space h l) c && is_exact (heap_after h set l) r c) ≡ is_linked h (copied_slots h l) r c
+    → (card_in h (to_space h l) c && is_exact (heap_moved h set l) r c) ≡ is_linked h (copied_slots h l) r c
 
 -- of a plan of any objects of a set: each survivor's words stand at its place
 abbrev pub GatheredAtPlaces : Type 0

@@ -6,7 +6,7 @@ use Rattle.g1_words.specs.Heap.{region_of}
 use Rattle.g1_words.specs.Layout.{HasRoom, forward, to_space}
 use Rattle.g1_image.specs.Image.{Image}
 use Rattle.g1_words.specs.Copy.{renamed}
-use Rattle.g1_after.specs.Made.{heap_after, image_paused}
+use Rattle.g1_after.specs.Made.{heap_moved, image_paused}
 use Rattle.g1_after.specs.Unnamed.{unnamed, unnamed_regions}
 use Rattle.g1_work.specs.Regions.{slice_of}
 use Rattle.g1_copy.specs.declared.fates.Fate.{Fate}
@@ -41,11 +41,11 @@ committed p i = record {
 -- it was made for the pause of i that evacuates the survivors l of the set
 pub record IsMadeFor (p : Prepared) (i : Image) (set l : List ℕ) : Type 0 where
   pub room : HasRoom i.heap set l
-  pub fates : AreFates i.heap (set ++ unnamed_regions (heap_after i.heap set l)) (to_space i.heap l) p.fates
+  pub fates : AreFates i.heap (set ++ unnamed_regions (heap_moved i.heap set l)) (to_space i.heap l) p.fates
   pub gathered : p.gathered ≡ to_space_words i.heap l
   pub patches : p.patches ≡ all_patches i.heap set l
   pub firsts : AreFirsts i.heap.geometry.w i.heap.geometry.n p.patches p.firsts
   pub table : p.regions ≡ (image_paused i set l).heap.regions
   pub roots : p.roots ≡ map (renamed (forward i.heap l)) i.heap.roots
   pub remembered : p.remembered ≡ (image_paused i set l).remembered
-  pub humongous : p.humongous ≡ map (λ o. region_of i.heap o.at) (unnamed (heap_after i.heap set l))
+  pub humongous : p.humongous ≡ map (λ o. region_of i.heap o.at) (unnamed (heap_moved i.heap set l))

@@ -21,7 +21,7 @@ is_filled_fate _ = false
 abbrev pub is_rooted : Heap → ℕ → Bool
 is_rooted h r = list_any (λ a. region_of h a == r) (root_targets h)
 
--- a slot on this card of region r's remembered set, outside the run that begins in r, names the object there: on one of to-space always
+-- a slot on this card of region r's remembered set, outside the regions of the object that begins in r, names that object: on one of to-space always
 abbrev pub is_naming : Heap → List Fate → ℕ → ℕ → Bool
 is_naming h fates r c =
     is_filled_fate (fate_at fates (region_of_card h c)) || (not (lies_in h (region_of_card h c) (object_at h (start h r))) && is_exact h r c)
@@ -30,6 +30,6 @@ is_naming h fates r c =
 abbrev pub is_unnamed : Heap → List Fate → List (List ℕ) → ℕ → Bool
 is_unnamed h fates remembered r = is_first (kind h r) && not (is_rooted h r || list_any (is_naming h fates r) (cards_at remembered r))
 
--- the regions of the run of a humongous object, from its first
-abbrev pub run_regions : Heap → ℕ → List ℕ
-run_regions h r = range_with_len r (div_ceil (object_at h (start h r)).size h.geometry.w)
+-- the regions of a humongous object, from its first
+abbrev pub humongous_regions : Heap → ℕ → List ℕ
+humongous_regions h r = range_with_len r (div_ceil (object_at h (start h r)).size h.geometry.w)

@@ -6,7 +6,7 @@ ghost use Rattle.g1_copy.specs.Filled.{filled_slots};
 
 use crate::cards_by_region::{add_slot, no_cards};
 use g1_layout::{Plan, Run};
-use g1_words::{Heap, REFS_RANGE};
+use g1_words::{Heap, header};
 use std::alloc::{AllocError, Global};
 
 /// Adds the cards of an object's slots to the lists of the regions that these lead into. The object's
@@ -26,7 +26,7 @@ fn add_object(
     requires one_each { length lists.old ≡ heap.now.geometry.n }
     ensures { OnOk result ((before : List (ℕ × ℕ)) → All (λ x. x.0 ≤ place) before → map (λ s. s.items) lists.old ≡ cards_by_region heap.now before → map (λ s. s.items) lists.new ≡ cards_by_region heap.now (before ++ filled_slots words.now at place)) }
 {
-    let refs = words[at] % REFS_RANGE;
+    let refs = header(words, at as u64).refs;
     for k in 0..refs {
         let word = words[at + k as usize + 1];
         if word != 0 {
@@ -50,7 +50,7 @@ fn add_run(
     requires before { map (λ s. s.items) lists.old ≡ cards_by_region heap.now (flat_map (moved_slots heap.now plan.now.survivors) (take run.now.from plan.now.survivors)) }
     ensures { OnOk result (map (λ s. s.items) lists.new ≡ cards_by_region heap.now (flat_map (moved_slots heap.now plan.now.survivors) (take run.now.to plan.now.survivors))) }
 {
-    let start = u64::from(run.region) * heap.geometry().region_words();
+    let start = heap.geometry().start(run.region);
     for i in run.from..run.to {
         let place = plan.places()[i];
         add_object(heap, words, (place - start) as usize, place, lists)?;

@@ -11,7 +11,7 @@ use std::alloc::{AllocError, Global};
 /// What a pause does with a region.
 #[derive(Clone, Copy)]
 pub(crate) enum Fate {
-    /// It is of the set, or of the run of a humongous object that nothing references; free
+    /// It is of the set, or of a humongous object that nothing references; free
     /// afterwards.
     Freed,
     /// Survivors are placed in it: those of the run with this index.

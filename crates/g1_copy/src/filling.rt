@@ -1,5 +1,6 @@
 ghost use Rattle.std.specs.Prelude.{◌≡◌, ◌≤◌, ◌<◌, ◌+◌, ◌^◌, ◌%◌, ℕ, List, length, All};
 ghost use Rattle.g1_work.specs.Regions.{EverySlice};
+ghost use Rattle.g1_work.specs.Team.{most_workers};
 ghost use Rattle.g1_copy.specs.Fates.{fate_at};
 ghost use Rattle.g1_copy.specs.Prepared.{written};
 ghost use Rattle.g1_copy.specs.Slices.{IsWritable, by_fate, patched};
@@ -59,7 +60,7 @@ pub(crate) fn write<R: Threads + Sync, G: Gate + Sync>(
     prepared: &Prepared,
     gate: &G,
 )
-    requires workers { (0 < workers) × (workers ≤ 64) }
+    requires workers { (0 < workers) × (workers ≤ most_workers) }
     requires width { 0 < region_words }
     requires whole { length words.old % region_words ≡ 0 }
     requires ready { EverySlice (IsWritable region_words prepared.now.fates prepared.now.gathered prepared.now.patches prepared.now.firsts) region_words words.old }

@@ -9,7 +9,7 @@ ghost use Rattle.g1_copy.specs.Gathered.{placed_words, to_space_words};
 
 use crate::headers::Headers;
 use g1_layout::{Plan, Run};
-use g1_words::{Fault, Heap, Object, REFS_RANGE};
+use g1_words::{Fault, Heap, Object};
 use g1_work::{MOST_WORKERS, threads_for};
 use rayon::prelude::*;
 use std::alloc::{AllocError, Global};
@@ -19,21 +19,8 @@ use std::thread::Threads;
 /// start.
 const WORDS_A_THREAD: usize = 65_536;
 
-/// The object whose header is at an address.
-pub(crate) fn object(heap: &Heap, a: u64) -> Object
-    requires { a < length heap.now.words }
-    ensures { result ≡ object_at heap.now a }
-{
-    let header = heap.words()[a as usize];
-    Object {
-        at: a,
-        size: header / REFS_RANGE,
-        refs: header % REFS_RANGE,
-    }
-}
-
 /// A reference word after what it references moved: null stays null.
-pub(crate) fn renamed(plan: &Plan, reference: u64) -> u64
+pub(crate) fn rename_reference(plan: &Plan, reference: u64) -> u64
     requires { renamed (moved_to plan.now.survivors plan.now.places) reference < 2 ^ 64 }
     ensures { result ≡ renamed (moved_to plan.now.survivors plan.now.places) reference }
 {
@@ -52,7 +39,7 @@ fn rename(plan: &Plan, refs: u64, words: &mut [u64])
     ensures rest { (k : ℕ) → (k ≡ 0) ⊎ (refs < k) → slice_index words.new k ≡ slice_index words.old k }
 {
     for k in 0..refs as usize {
-        words[k + 1] = renamed(plan, words[k + 1]);
+        words[k + 1] = rename_reference(plan, words[k + 1]);
     }
 }
 
@@ -77,7 +64,7 @@ fn fill(heap: &Heap, plan: &Plan, run: Run, words: &mut [u64])
     requires empty { words.old ≡ replicate heap.now.geometry.w 0 }
     ensures { words.new ≡ placed_words heap.now plan.now.survivors run.region }
 {
-    let start = u64::from(run.region) * heap.geometry().region_words();
+    let start = heap.geometry().start(run.region);
     let mut ahead = Headers::new(run.from);
     for i in run.from..run.to {
         let object = ahead.object(heap, plan, i);

@@ -1,7 +1,7 @@
 ghost use Rattle.std.specs.Prelude.{◌≡◌, ◌≤◌, ◌<◌, ℕ, length, slice_index, All};
 
 use g1_layout::Plan;
-use g1_words::{Heap, Object, REFS_RANGE};
+use g1_words::{Heap, Object, header};
 
 /// So many headers are read at once: the processor then waits for them together, and not for one after
 /// another.
@@ -51,8 +51,7 @@ impl Headers {
         ensures object { result ≡ object_at heap.now (slice_index plan.now.survivors i) }
         ensures ahead { AreAhead heap.now plan.now.survivors (i + 1) self.new }
     {
-        // Known of every heap whose geometry was asked: it is valid.
-        heap.geometry();
+        g1_words::laws::valid(heap);
         let survivors = plan.survivors();
         if i == self.to {
             let to = survivors.len().min(i + AHEAD);
@@ -60,11 +59,11 @@ impl Headers {
             self.from = i;
             self.to = to;
         }
-        let header = self.headers[i - self.from];
+        let Object { size, refs, .. } = header(&self.headers, (i - self.from) as u64);
         Object {
             at: survivors[i],
-            size: header / REFS_RANGE,
-            refs: header % REFS_RANGE,
+            size,
+            refs,
         }
     }
 }

@@ -23,8 +23,8 @@ pub fn gathered()
     ensures elsewhere { GatheredElsewhere }
 {}
 
-/// Which slots the exact cards of the heap after a pause come from.
-pub fn cards_after()
+/// Which slots the exact cards of the heap come from after the survivors moved.
+pub fn cards_moved()
     ensures of_to_space { CardsOfToSpace }
     ensures in_to_space { CardsInToSpace }
 {}

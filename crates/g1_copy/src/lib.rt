@@ -7,7 +7,7 @@
 //! 3. `new_rem` makes the remembered sets of the image after the pause.
 //! 4. `prepare` joins these, and `prepare_on` does so for a caller that has listed the cards. It
 //!    finds the humongous objects that nothing references once the survivors have moved: no root
-//!    does, and no slot on a card of their remembered sets outside their own run. Their regions are
+//!    does, and no slot on a card of their remembered sets outside their own regions. Their regions are
 //!    freed with the set's, and the cards in these regions leave all remembered sets. It takes all
 //!    memory; nothing of the image was changed until then.
 //! 5. `commit` writes what was prepared over the heap's own words, each region by its fate: one that is

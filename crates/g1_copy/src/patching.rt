@@ -82,8 +82,7 @@ pub fn patches(
     ensures ok { IfOk result (λ v. v.items ≡ patches_on heap.now plan.now.survivors cards.now) }
     ensures memory { IfErr result (λ e. e ≡ Fault.Memory) }
 {
-    // The heap's rules are known from its geometry's contract.
-    heap.geometry();
+    g1_words::laws::valid(heap);
     let mut patches = Vec::new(alloc);
     for card in cards {
         push_card(alloc, heap, starts, plan, *card, &mut patches)?;
@@ -109,10 +108,10 @@ pub(crate) fn firsts(
     ensures { IfOk result (λ v. AreFirsts heap.now.geometry.w heap.now.geometry.n patches.now v.items) }
 {
     let geometry = heap.geometry();
-    let count = geometry.regions() + 1;
+    let count = geometry.regions() as u32 + 1;
     let mut firsts = Vec::with_capacity(alloc, count as usize)?;
     for region in 0..count {
-        firsts.push(before(patches, region * geometry.region_words()))?;
+        firsts.push(before(patches, geometry.start(region)))?;
     }
     Ok(firsts)
 }

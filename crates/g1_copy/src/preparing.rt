@@ -12,11 +12,11 @@ ghost use Rattle.g1_copy.specs.Prepared.{IsMadeFor};
 ghost use Rattle.g1_copy.specs.declared.fates.Fate.TheVariants.{Filled};
 
 use crate::fates::{Fate, fates, free};
-use crate::gathering::{gather_by, renamed};
+use crate::gathering::{gather_by, rename_reference};
 use crate::laws;
 use crate::patching::{firsts, patches};
 use crate::remembering::remembered_by_fate;
-use crate::unnamed::{leave_all, runs, unnamed};
+use crate::unnamed::{humongous_regions, leave_all, unnamed};
 use g1_layout::{Plan, Run};
 use g1_rem::{Starts, Tracked, cards_into, image};
 use g1_words::{Fault, Heap, Kind, Region};
@@ -71,6 +71,34 @@ impl Prepared {
     {
         &self.humongous
     }
+
+    /// The slots outside the set that reference a survivor, by address, each with its new word.
+    pub fn patches(&self) -> &[(u64, u64)]
+        ensures { result.now ≡ self.now.patches }
+    {
+        &self.patches
+    }
+
+    /// The regions after the pause, by number.
+    pub fn regions(&self) -> &[Region]
+        ensures { result.now ≡ self.now.regions }
+    {
+        &self.regions
+    }
+
+    /// The reference words of the roots after the pause, by root number.
+    pub fn roots(&self) -> &[u64]
+        ensures { result.now ≡ self.now.roots }
+    {
+        &self.roots
+    }
+
+    /// The remembered set of each region after the pause.
+    pub fn remembered(&self) -> &[Vec<u32>]
+        ensures { map (λ s. s.items) result.now ≡ self.now.remembered }
+    {
+        &self.remembered
+    }
 }
 
 /// A region after the pause, of what it is before.
@@ -119,11 +147,10 @@ fn new_roots(alloc: Global, heap: &Heap, set: &[u32], plan: &Plan) -> Result<Vec
     requires { IsPauseOf heap.now set.now plan.now }
     ensures { IfOk result (λ v. v.items ≡ map (renamed (forward heap.now plan.now.survivors)) heap.now.roots) }
 {
-    // Known of every heap whose geometry was asked: it is valid.
-    let _geometry = heap.geometry();
+    g1_words::laws::valid(heap);
     let mut roots = Vec::with_capacity(alloc, heap.roots().len())?;
     for root in heap.roots() {
-        roots.push(renamed(plan, *root))?;
+        roots.push(rename_reference(plan, *root))?;
     }
     Ok(roots)
 }
@@ -198,7 +225,7 @@ pub fn prepare_on(
         rt, alloc, tracked, remembered, &fates, plan, &patches, &gathered, workers,
     )?;
     let humongous = unnamed(alloc, tracked, starts, plan, &fates, &sets)?;
-    let freed = runs(alloc, heap, &humongous)?;
+    let freed = humongous_regions(alloc, heap, &humongous)?;
     free(&mut fates, &freed);
     leave_all(heap, &fates, &freed, &mut sets);
     Ok(Prepared {

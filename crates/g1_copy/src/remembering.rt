@@ -4,8 +4,8 @@ ghost use Rattle.g1_words.specs.Heap.{regions};
 ghost use Rattle.g1_image.specs.Cards.{refined};
 ghost use Rattle.g1_image.specs.Image.{region_of_card};
 ghost use Rattle.g1_words.specs.Layout.{to_space};
-ghost use Rattle.g1_after.specs.Moved.{remembered_after};
-ghost use Rattle.g1_after.specs.Made.{heap_after};
+ghost use Rattle.g1_after.specs.Moved.{remembered_moved};
+ghost use Rattle.g1_after.specs.Made.{heap_moved};
 ghost use Rattle.g1_copy.specs.Plans.{IsPauseOf};
 ghost use Rattle.g1_copy.specs.Gathered.{to_space_words};
 ghost use Rattle.g1_copy.specs.Patches.{all_patches};
@@ -17,7 +17,7 @@ use crate::copied_cards::copied_cards;
 use crate::fates::{Fate, fates};
 use g1_layout::Plan;
 use g1_rem::{CARDS_A_THREAD, Tracked, cards_in, image, merged};
-use g1_words::{Fault, Heap, region_of};
+use g1_words::{Fault, Heap};
 use g1_work::{MOST_WORKERS, threads_for};
 use rayon::prelude::*;
 use std::alloc::{AllocError, Global};
@@ -36,7 +36,7 @@ fn kept_cards(
     let geometry = heap.geometry();
     let mut kept = Vec::new(alloc);
     for card in cards {
-        let region = region_of(&geometry, geometry.card_start(*card));
+        let region = geometry.region_of_card(*card);
         if !matches!(fates[region as usize], Fate::Freed) {
             kept.push(*card)?;
         }
@@ -46,7 +46,7 @@ fn kept_cards(
 
 /// A region's remembered set after the pause, of its refined set, the cards of outer slots and those
 /// of copied slots.
-fn joined(
+fn join(
     alloc: Global,
     heap: &Heap,
     fates: &[Fate],
@@ -73,7 +73,7 @@ fn joined(
 }
 
 /// The remembered set of the region of this number.
-fn joined_at(
+fn join_at(
     alloc: Global,
     heap: &Heap,
     fates: &[Fate],
@@ -87,7 +87,7 @@ fn joined_at(
     ensures { IsJoinedAt heap.now fates.now (map (λ s. s.items) remembered.now) (map (λ s. s.items) outer.now) (map (λ s. s.items) inner.now) region result }
 {
     let at = region as usize;
-    joined(
+    join(
         alloc,
         heap,
         fates,
@@ -99,7 +99,7 @@ fn joined_at(
 }
 
 /// The remembered sets after the pause, by this thread alone.
-fn joined_alone(
+fn join_alone(
     alloc: Global,
     heap: &Heap,
     fates: &[Fate],
@@ -114,13 +114,13 @@ fn joined_alone(
     let count = heap.geometry().regions() as u32;
     let mut sets = Vec::with_capacity(alloc, count as usize)?;
     for region in 0..count {
-        sets.push(joined_at(alloc, heap, fates, remembered, outer, inner, region)?)?;
+        sets.push(join_at(alloc, heap, fates, remembered, outer, inner, region)?)?;
     }
     Ok(sets)
 }
 
 /// The remembered sets after the pause, by this many threads.
-fn joined_by_threads(
+fn join_by_threads(
     rt: &(impl Threads + Sync),
     alloc: Global,
     heap: &Heap,
@@ -143,14 +143,14 @@ fn joined_by_threads(
             |region: u32| -> Result<Vec<u32>, Fault>
                 requires { (region < heap.now.geometry.n) × AreSources heap.now fates.now (map (λ s. s.items) remembered.now) (map (λ s. s.items) outer.now) (map (λ s. s.items) inner.now) }
                 ensures { IsJoinedAt heap.entry.now fates.entry.now (map (λ s. s.items) remembered.entry.now) (map (λ s. s.items) outer.entry.now) (map (λ s. s.items) inner.entry.now) region result }
-            { joined_at(alloc, heap, fates, remembered, outer, inner, region) },
+            { join_at(alloc, heap, fates, remembered, outer, inner, region) },
         )
         .collect::<Result<Vec<Vec<u32>>, Fault>>(rt, alloc)?
 }
 
 /// The remembered sets after the pause, of the refined sets, the cards of outer slots and those of
 /// copied slots, one list of each a region.
-fn joined_remembered(
+fn join_all(
     rt: &(impl Threads + Sync),
     alloc: Global,
     heap: &Heap,
@@ -167,8 +167,8 @@ fn joined_remembered(
     let joining = cards_in(outer).saturating_add(cards_in(inner));
     let cards = cards_in(remembered).saturating_add(joining);
     match threads_for(workers, cards, CARDS_A_THREAD) {
-        1 => joined_alone(alloc, heap, fates, remembered, outer, inner),
-        threads => joined_by_threads(rt, alloc, heap, fates, remembered, outer, inner, threads),
+        1 => join_alone(alloc, heap, fates, remembered, outer, inner),
+        threads => join_by_threads(rt, alloc, heap, fates, remembered, outer, inner, threads),
     }
 }
 
@@ -189,13 +189,13 @@ pub(crate) fn remembered_by_fate(
     requires fates { AreFates tracked.now.heap plan.now.set (to_space tracked.now.heap plan.now.survivors) fates.now }
     requires patches { patches.now ≡ all_patches tracked.now.heap plan.now.set plan.now.survivors }
     requires gathered { gathered.now ≡ to_space_words tracked.now.heap plan.now.survivors }
-    ensures ok { IfOk result (λ v. map (λ s. s.items) v.items ≡ map (remembered_after tracked.now plan.now.set plan.now.survivors (heap_after tracked.now.heap plan.now.set plan.now.survivors)) (regions tracked.now.heap)) }
+    ensures ok { IfOk result (λ v. map (λ s. s.items) v.items ≡ map (remembered_moved tracked.now plan.now.set plan.now.survivors (heap_moved tracked.now.heap plan.now.set plan.now.survivors)) (regions tracked.now.heap)) }
     ensures memory { IfErr result (λ e. e ≡ Fault.Memory) }
 {
     let heap = image(tracked).heap();
     let outer = cards_by_region(alloc, heap, patches)?;
     let inner = copied_cards(alloc, heap, plan, gathered)?;
-    joined_remembered(rt, alloc, heap, fates, remembered, &outer, &inner, workers)
+    join_all(rt, alloc, heap, fates, remembered, &outer, &inner, workers)
 }
 
 /// The remembered sets after the pause, one a region: of a region of the set none; of one of
@@ -222,7 +222,7 @@ pub fn new_rem(
     requires plan { IsPauseOf tracked.now.heap set.now plan.now }
     requires patches { patches.now ≡ all_patches tracked.now.heap set.now plan.now.survivors }
     requires gathered { gathered.now ≡ to_space_words tracked.now.heap plan.now.survivors }
-    ensures ok { IfOk result (λ v. map (λ s. s.items) v.items ≡ map (remembered_after tracked.now set.now plan.now.survivors (heap_after tracked.now.heap set.now plan.now.survivors)) (regions tracked.now.heap)) }
+    ensures ok { IfOk result (λ v. map (λ s. s.items) v.items ≡ map (remembered_moved tracked.now set.now plan.now.survivors (heap_moved tracked.now.heap set.now plan.now.survivors)) (regions tracked.now.heap)) }
     ensures memory { IfErr result (λ e. e ≡ Fault.Memory) }
 {
     let fates = fates(alloc, image(tracked).heap(), set, plan)?;

@@ -3,32 +3,31 @@ ghost use Rattle.std.specs.List.{list_any, range_with_len};
 ghost use Rattle.g1_words.specs.Heap.{kind, object_at, region_of, regions, start};
 ghost use Rattle.g1_words.specs.Layout.{to_space};
 ghost use Rattle.g1_words.specs.declared.region.Kind.TheVariants.{HumongousFirst};
-ghost use Rattle.g1_after.specs.Made.{heap_after};
-ghost use Rattle.g1_after.specs.Moved.{remembered_after};
+ghost use Rattle.g1_after.specs.Made.{heap_moved};
+ghost use Rattle.g1_after.specs.Moved.{remembered_moved};
 ghost use Rattle.g1_after.specs.Unnamed.{lies_in, unnamed};
 ghost use Rattle.g1_rem.specs.EntryCards.{AreMarked};
 ghost use Rattle.g1_rem.specs.Starts.{IsStartsOf, card_count};
 ghost use Rattle.g1_copy.specs.Fates.{AreFates};
 ghost use Rattle.g1_copy.specs.Plans.{IsPauseOf};
 ghost use Rattle.g1_copy.specs.Remembered.{AreLeft, cards_at, left, stays};
-ghost use Rattle.g1_copy.specs.Unnamed.{is_naming, is_rooted, is_unnamed, run_regions};
+ghost use Rattle.g1_copy.specs.Unnamed.{is_naming, is_rooted, is_unnamed, humongous_regions};
 
 use crate::fates::Fate;
-use crate::gathering::object;
 use g1_layout::Plan;
 use g1_rem::{Starts, Tracked, image, leads_into};
-use g1_words::{Heap, Kind, Object, region_of, size_at};
+use g1_words::{Heap, Kind, Marks, Object, header, region_of, size_at};
 use std::alloc::{AllocError, Global};
 
 /// Sets the marks of the regions in which a root references an object.
-fn mark_rooted(heap: &Heap, rooted: &mut [bool])
+fn mark_rooted(heap: &Heap, rooted: &mut Marks)
     requires { length rooted.old ≡ heap.now.geometry.n }
     ensures { AreMarked (is_rooted heap.now) rooted.old rooted.new }
 {
     let geometry = heap.geometry();
     for root in heap.roots() {
         if *root > 0 {
-            rooted[region_of(&geometry, *root - 1) as usize] = true;
+            rooted.set(region_of(&geometry, *root - 1) as usize);
         }
     }
 }
@@ -39,12 +38,12 @@ fn lies_in(heap: &Heap, region: u64, object: &Object) -> bool
     requires object { object.now.at + object.now.size < 2 ^ 64 }
     ensures { result ≡ lies_in heap.now region object.now }
 {
-    let region_words = heap.geometry().region_words();
-    let start = region * region_words;
-    object.at < start + region_words && start < object.at + object.size
+    let geometry = heap.geometry();
+    let start = geometry.start(region as u32);
+    object.at < start + geometry.region_words() && start < object.at + object.size
 }
 
-/// Whether a slot on a card of the remembered set, outside the object's own run, references the
+/// Whether a slot on a card of the remembered set, outside the object's own regions, references the
 /// humongous object that begins in a region.
 fn names(
     alloc: Global,
@@ -62,8 +61,7 @@ fn names(
     requires card { card < card_count heap.now }
     ensures { result ≡ is_naming heap.now fates.now region card }
 {
-    let geometry = heap.geometry();
-    let home = region_of(&geometry, geometry.card_start(card));
+    let home = heap.geometry().region_of_card(card);
     match fates[home as usize] {
         // A card of to-space was put into the set for a slot on it that names the object.
         Fate::Filled(_) => true,
@@ -88,7 +86,7 @@ fn one_names(
     requires cards { All (λ c. c < card_count heap.now) cards.now }
     ensures { result ≡ list_any (is_naming heap.now fates.now region) cards.now }
 {
-    let object = object(heap, u64::from(region) * heap.geometry().region_words());
+    let object = header(heap.words(), heap.geometry().start(region));
     for card in cards {
         if names(alloc, heap, starts, fates, region, &object, *card) {
             return true;
@@ -103,7 +101,7 @@ fn is_unnamed(
     heap: &Heap,
     starts: &Starts,
     fates: &[Fate],
-    rooted: &[bool],
+    rooted: &Marks,
     remembered: &[Vec<u32>],
     region: u32,
 ) -> bool
@@ -118,7 +116,7 @@ fn is_unnamed(
     let at = region as usize;
     match heap.region(region).kind {
         Kind::HumongousFirst => {
-            !rooted[at] && !one_names(alloc, heap, starts, fates, region, &remembered[at])
+            !rooted.is_set(at) && !one_names(alloc, heap, starts, fates, region, &remembered[at])
         }
         Kind::Free | Kind::Ordinary | Kind::Continuation => false,
     }
@@ -130,7 +128,7 @@ fn unnamed_firsts(
     heap: &Heap,
     starts: &Starts,
     fates: &[Fate],
-    rooted: &[bool],
+    rooted: &Marks,
     remembered: &[Vec<u32>],
 ) -> Result<Vec<u32>, AllocError>
     requires starts { IsStartsOf heap.now starts.now }
@@ -163,49 +161,51 @@ pub(crate) fn unnamed(
     requires starts { IsStartsOf tracked.now.heap starts.now }
     requires plan { IsPauseOf tracked.now.heap plan.now.set plan.now }
     requires fates { AreFates tracked.now.heap plan.now.set (to_space tracked.now.heap plan.now.survivors) fates.now }
-    requires remembered { map (λ s. s.items) remembered.now ≡ map (remembered_after tracked.now plan.now.set plan.now.survivors (heap_after tracked.now.heap plan.now.set plan.now.survivors)) (regions tracked.now.heap) }
-    ensures { IfOk result (λ v. v.items ≡ map (λ o. region_of tracked.now.heap o.at) (unnamed (heap_after tracked.now.heap plan.now.set plan.now.survivors))) }
+    requires remembered { map (λ s. s.items) remembered.now ≡ map (remembered_moved tracked.now plan.now.set plan.now.survivors (heap_moved tracked.now.heap plan.now.set plan.now.survivors)) (regions tracked.now.heap) }
+    ensures { IfOk result (λ v. v.items ≡ map (λ o. region_of tracked.now.heap o.at) (unnamed (heap_moved tracked.now.heap plan.now.set plan.now.survivors))) }
 {
     g1_after::laws::survivors_moved();
     g1_after::laws::named_by_cards();
     let heap = image(tracked).heap();
-    let mut rooted = vec![in alloc; false; heap.geometry().regions() as usize]?;
+    let mut rooted = Marks::none(alloc, heap.geometry().regions() as usize)?;
     mark_rooted(heap, &mut rooted);
     unnamed_firsts(alloc, heap, starts, fates, &rooted, remembered)
 }
 
 /// Adds this many regions, from one on.
-fn push_run(runs: &mut Vec<u32>, first: u64, count: u64) -> Result<(), AllocError>
+fn push_regions(regions: &mut Vec<u32>, first: u64, count: u64) -> Result<(), AllocError>
     requires { first + count ≤ 2 ^ 32 }
-    ensures { OnOk result (runs.new.items ≡ runs.old.items ++ range_with_len first count) }
+    ensures { OnOk result (regions.new.items ≡ regions.old.items ++ range_with_len first count) }
 {
     for region in first..first + count {
-        runs.push(region as u32)?;
+        regions.push(region as u32)?;
     }
     Ok(())
 }
 
-/// The regions of the runs of humongous objects that begin in these regions, run by run.
-pub(crate) fn runs(alloc: Global, heap: &Heap, firsts: &[u32]) -> Result<Vec<u32>, AllocError>
+/// The regions of the humongous objects that begin in these regions, object by object.
+pub(crate) fn humongous_regions(
+    alloc: Global,
+    heap: &Heap,
+    firsts: &[u32],
+) -> Result<Vec<u32>, AllocError>
     requires { All (λ r. r < heap.now.geometry.n) firsts.now }
-    ensures { IfOk result (λ v. v.items ≡ flat_map (run_regions heap.now) firsts.now) }
+    ensures { IfOk result (λ v. v.items ≡ flat_map (humongous_regions heap.now) firsts.now) }
 {
-    let region_words = heap.geometry().region_words();
-    let mut runs = Vec::new(alloc);
+    let geometry = heap.geometry();
+    let mut regions = Vec::new(alloc);
     for region in firsts {
-        let first = u64::from(*region);
-        let size = size_at(heap, first * region_words);
-        push_run(&mut runs, first, size.div_ceil(region_words))?;
+        let size = size_at(heap, geometry.start(*region));
+        push_regions(&mut regions, u64::from(*region), geometry.regions_for(size))?;
     }
-    Ok(runs)
+    Ok(regions)
 }
 
 /// Whether a card lies in no freed region.
 fn stays(heap: &Heap, fates: &[Fate], card: u32) -> bool
     ensures { result ≡ stays heap.now fates.now card }
 {
-    let geometry = heap.geometry();
-    let region = region_of(&geometry, geometry.card_start(card));
+    let region = heap.geometry().region_of_card(card);
     !matches!(fates.get(region as usize), Some(Fate::Freed))
 }
 

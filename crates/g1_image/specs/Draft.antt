@@ -1,6 +1,6 @@
 -- A heap whose objects and references haven't been looked at.
 use Rattle.std.specs.Prelude.{◌≡◌, ◌≤◌, ◌<◌, ℕ, ◌*◌, ◌^◌, List, length, All, IfSome, ◌≢◌}
-use Rattle.g1_words.specs.Geometry.{IsWithinLimits}
+use Rattle.g1_words.specs.Geometry.{IsWithinLimits, most_roots}
 use Rattle.g1_words.specs.Heap.{Heap, region, start}
 use Rattle.g1_words.specs.Valid.{IsShaped, IsFirst, Tiles}
 use Rattle.g1_words.specs.declared.object.Object.{Object}
@@ -12,7 +12,7 @@ pub record IsDraft (h : Heap) : Type 0 where
   pub word_count : length h.words ≡ h.geometry.n * h.geometry.w
   pub word_fits : All (λ x. x < 2 ^ 64) h.words
   pub region_count : length h.regions ≡ h.geometry.n
-  pub root_count : length h.roots ≤ 65536
+  pub root_count : length h.roots ≤ most_roots
   pub current_in : IfSome h.current (λ r. r < h.geometry.n)
 
 -- objects of at most so many words fill the words from one address up to another

@@ -1,6 +1,6 @@
 -- The fault of bytes that are no image's text: that of the first stage of reading that finds one.
 use Rattle.std.specs.Prelude.{◌≡◌, ◌≢◌, ◌≤◌, ◌<◌, ℕ, ◌*◌, ◌^◌, ◌⊎◌, List, [], ◌++◌, length, slice_index, slice_index_or, All}
-use Rattle.g1_words.specs.Geometry.{IsWithinLimits}
+use Rattle.g1_words.specs.Geometry.{IsWithinLimits, most_roots}
 use Rattle.g1_words.specs.Valid.{IsShaped, AllShaped, IsReference, HasObject, IsSlotOf}
 use Rattle.g1_image.specs.Text.{File, Entry, Version, magic, heading_text, heading_of, file_text, table_words}
 use Rattle.g1_words.specs.Heap.{Heap}
@@ -26,7 +26,7 @@ pub record HeadingFits (h : Heading) : Type 0 where
 -- the sizes, the roots and the current region are within the limits
 pub record IsGoodHeading (h : Heading) : Type 0 where
   pub sizes : IsWithinLimits h.w h.k h.n
-  pub roots : h.roots ≤ 65536
+  pub roots : h.roots ≤ most_roots
   pub current : h.current ≤ h.n
 
 -- flags that the version can tell: in version 1 they are 0, in version 2 they have 32 bits

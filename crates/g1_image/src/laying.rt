@@ -1,4 +1,5 @@
 ghost use Rattle.std.specs.Prelude.{◌≡◌, ◌≤◌, ◌*◌, ◌^◌, ◌++◌, length, replicate, OnOk, IfOk};
+ghost use Rattle.g1_words.specs.Geometry.{most_words};
 ghost use Rattle.g1_image.specs.Text.{words_of, table_words};
 ghost use Rattle.g1_image.specs.Image.{all_words};
 
@@ -35,7 +36,7 @@ pub(crate) fn lay_words(
     bytes: &[u8],
 ) -> Result<Vec<u64>, AllocError>
     requires whole { length bytes.now ≡ 8 * table_words table.now }
-    requires sizes { length table.now * w ≤ 2 ^ 24 }
+    requires sizes { length table.now * w ≤ most_words }
     ensures { IfOk result (λ v. v.items ≡ all_words w table.now (words_of (table_words table.now) bytes.now)) }
 {
     let mut out = Vec::with_capacity(alloc, table.len() * w as usize)?;

@@ -1,6 +1,7 @@
 //! The words of an image, straight from a source to their places.
 ghost use Rattle.std.specs.Prelude.{◌≡◌, ◌≤◌, ◌<◌, ◌*◌, ◌^◌, ◌++◌, ◌+◌, ℕ, List, [], length, replicate, OnOk, IfOk, IfErr};
 ghost use Rattle.std.specs.Io.KnownBytes.{Keeps};
+ghost use Rattle.g1_words.specs.Geometry.{most_regions, most_words};
 ghost use Rattle.g1_image.specs.Text.{words_of, table_words};
 ghost use Rattle.g1_image.specs.Image.{all_words};
 ghost use Rattle.g1_image.specs.Reading.{IsBytes};
@@ -127,7 +128,7 @@ fn push_region<S: Source>(
     left: u64,
 ) -> Result<(), Fault>
     requires known { KnowsEnd ahead.old (S.left source.old) }
-    requires sizes { laid.old.zeros + w ≤ 2 ^ 25 }
+    requires sizes { laid.old.zeros + w ≤ 2 * most_words }
     requires small { left ≤ 2 ^ 44 }
     requires there { top ≤ left }
     ensures known { KnowsEnd ahead.new (S.left source.new) }
@@ -157,8 +158,8 @@ pub(crate) fn lay_pieces<S: Source>(
     source: &mut S,
     ahead: &mut Ahead,
 ) -> Result<Vec<u64>, Fault>
-    requires count { length table.now ≤ 4096 }
-    requires sizes { length table.now * w ≤ 2 ^ 24 }
+    requires count { length table.now ≤ most_regions }
+    requires sizes { length table.now * w ≤ most_words }
     requires known { KnowsEnd ahead.old (S.left source.old) }
     ensures known { KnowsEnd ahead.new (S.left source.new) }
     ensures ok { IfOk result (λ v. (bs : List ℕ) × Takes (S.failed source.old) (S.failed source.new) (to_take ahead.old (S.left source.old)) (to_take ahead.new (S.left source.new)) bs × (length bs ≡ 8 * table_words table.now) × (v.items ≡ all_words w table.now (words_of (table_words table.now) bs))) }

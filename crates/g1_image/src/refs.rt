@@ -7,7 +7,7 @@ ghost use Rattle.g1_image.specs.Marks.{InRow, Marked, StartsAre};
 ghost use Rattle.g1_image.specs.Faults.{IsFirstBreach, IsGoodSlot};
 
 use crate::draft::Draft;
-use g1_words::{Fault, Kind, Marks, Place, header};
+use g1_words::{Fault, Kind, Marks, Place, header, slots};
 use std::alloc::{AllocError, Global};
 
 /// Marks the objects that fill the words between two addresses.
@@ -105,10 +105,8 @@ pub(crate) fn check_slots(draft: &Draft, marks: &Marks) -> Result<(), Fault>
     while at < words.len() {
         if marks.is_set(at) {
             let o = header(words, at as u64);
-            let first = at + 1;
-            let slots = &words[first..first + o.refs as usize];
-            if let Some(i) = first_stray(draft, marks, slots) {
-                return Err(Fault::Reference(Place::Slot((first + i) as u64)));
+            if let Some(i) = first_stray(draft, marks, slots(words, &o)) {
+                return Err(Fault::Reference(Place::Slot((at + 1 + i) as u64)));
             }
             at += o.size as usize;
         } else {

@@ -1,4 +1,5 @@
 ghost use Rattle.std.specs.Prelude.{◌≡◌, ◌≤◌, ◌<◌, ◌+◌, ◌*◌, ◌^◌, ℕ, List, length, slice_index, IsTrue, ◌↔◌, OnOk, IfErr};
+ghost use Rattle.g1_words.specs.Geometry.{most_words};
 ghost use Rattle.g1_words.specs.Heap.{region};
 ghost use Rattle.g1_words.specs.Valid.{IsShaped, IsShapedBy, IsWholeRun};
 ghost use Rattle.g1_words.specs.declared.region.Kind.TheVariants.{Ordinary, HumongousFirst, Continuation};
@@ -6,15 +7,14 @@ ghost use Rattle.g1_image.specs.Draft.{IsTiled, Latest, ShapedBelow};
 ghost use Rattle.g1_image.specs.Faults.{IsFirstBreach};
 
 use crate::draft::Draft;
-use g1_words::{Fault, Kind, header};
+use g1_words::{Fault, Geometry, Kind, header};
 
 /// Returns whether objects that aren't humongous fill the words between two addresses.
-fn is_tiled(words: &[u64], from: u64, to: u64, region_words: u64) -> bool
+fn is_tiled(words: &[u64], from: u64, to: u64, geometry: &Geometry) -> bool
     requires order { from ≤ to }
     requires in_words { to ≤ length words.now }
-    requires sizes { to ≤ 2 ^ 24 }
-    requires width { region_words ≤ 65536 }
-    ensures { IsTrue result ↔ IsTiled words.now from to region_words }
+    requires sizes { to ≤ most_words }
+    ensures { IsTrue result ↔ IsTiled words.now from to geometry.now.w }
 {
     let mut at = from;
     while at < to {
@@ -22,7 +22,7 @@ fn is_tiled(words: &[u64], from: u64, to: u64, region_words: u64) -> bool
         if o.refs >= o.size {
             return false;
         }
-        if 4 * o.size > 3 * region_words {
+        if geometry.is_humongous(o.size) {
             return false;
         }
         if at + o.size > to {
@@ -39,14 +39,14 @@ fn is_run(draft: &Draft, r: u32, size: u64) -> bool
     requires size { size < 2 ^ 32 }
     ensures { IsTrue result ↔ IsWholeRun draft.now r size }
 {
-    let region_words = draft.geometry().region_words();
-    let regions = draft.geometry().regions();
-    let mut i: u64 = 1;
-    while i * region_words < size {
-        if u64::from(r) + i >= regions {
+    let geometry = draft.geometry();
+    let regions = geometry.regions() as u32;
+    let mut i: u32 = 1;
+    while geometry.start(i) < size {
+        if r + i >= regions {
             return false;
         }
-        if !draft.region(r + i as u32).kind.is_continuation() {
+        if !draft.region(r + i).kind.is_continuation() {
             return false;
         }
         i += 1;
@@ -60,16 +60,15 @@ fn ordinary_shaped(draft: &Draft, r: u32) -> bool
     ensures { IsTrue result ↔ IsShapedBy Ordinary draft.now r }
 {
     let geometry = draft.geometry();
-    let region_words = geometry.region_words();
     let top = u64::from(draft.region(r).top);
     if top == 0 {
         return false;
     }
-    if top > region_words {
+    if top > geometry.region_words() {
         return false;
     }
     let start = geometry.start(r);
-    is_tiled(draft.words(), start, start + top, region_words)
+    is_tiled(draft.words(), start, start + top, &geometry)
 }
 
 fn humongous_shaped(draft: &Draft, r: u32) -> bool
@@ -84,7 +83,7 @@ fn humongous_shaped(draft: &Draft, r: u32) -> bool
     if o.refs >= o.size {
         return false;
     }
-    if 4 * o.size <= 3 * region_words {
+    if !geometry.is_humongous(o.size) {
         return false;
     }
     let least = if o.size < region_words {
@@ -108,9 +107,10 @@ fn continuation_shaped(draft: &Draft, r: u32, first: u32, size: u64) -> bool
     if size == 0 {
         return false;
     }
-    let region_words = draft.geometry().region_words();
+    let geometry = draft.geometry();
+    let region_words = geometry.region_words();
     let top = u64::from(draft.region(r).top);
-    let before = u64::from(r - first) * region_words;
+    let before = geometry.start(r - first);
     if before >= size {
         return false;
     }

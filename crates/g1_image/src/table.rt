@@ -1,4 +1,5 @@
 ghost use Rattle.std.specs.Prelude.{◌≡◌, ◌≤◌, ◌<◌, ◌*◌, ◌^◌, ◌⊎◌, ℕ, length, map, OnOk, IfOk, IfErr};
+ghost use Rattle.g1_words.specs.Geometry.{most_regions};
 ghost use Rattle.g1_image.specs.Text.{table_words};
 ghost use Rattle.g1_image.specs.Image.{region_of_entry};
 ghost use Rattle.g1_image.specs.Faults.{IsFirstBreach, IsKnownKind, HasKnownFlags};
@@ -9,9 +10,9 @@ use std::alloc::Global;
 
 /// How many words the table announces.
 pub(crate) fn table_words(table: &[Entry]) -> u64
-    requires { length table.now ≤ 4096 }
+    requires { length table.now ≤ most_regions }
     ensures value { result ≡ table_words table.now }
-    ensures bound { result ≤ 4096 * 2 ^ 32 }
+    ensures bound { result ≤ most_regions * 2 ^ 32 }
 {
     let mut sum: u64 = 0;
     for e in table {
@@ -22,7 +23,7 @@ pub(crate) fn table_words(table: &[Entry]) -> u64
 
 /// The regions of the table, or the first whose kind has no meaning.
 pub(crate) fn regions(alloc: Global, table: &[Entry]) -> Result<Vec<Region>, Fault>
-    requires { length table.now ≤ 4096 }
+    requires { length table.now ≤ most_regions }
     ensures ok { IfOk result (λ v. (v.items ≡ map region_of_entry table.now) × ((r : ℕ) → r < length table.now → IsKnownKind table.now r)) }
     ensures err { IfErr result (λ e. (e ≡ Fault.Memory) ⊎ ((r : ℕ) × (e ≡ Fault.Kind r) × IsFirstBreach (IsKnownKind table.now) (length table.now) r)) }
 {
@@ -43,7 +44,7 @@ pub(crate) fn regions(alloc: Global, table: &[Entry]) -> Result<Vec<Region>, Fau
 
 /// Refuses the first region whose flags have no meaning: an ordinary region alone may be pinned.
 pub(crate) fn check_flags(table: &[Entry]) -> Result<(), Fault>
-    requires { length table.now ≤ 4096 }
+    requires { length table.now ≤ most_regions }
     ensures ok { OnOk result ((r : ℕ) → r < length table.now → HasKnownFlags table.now r) }
     ensures err { IfErr result (λ e. (r : ℕ) × (e ≡ Fault.Flags r) × IsFirstBreach (HasKnownFlags table.now) (length table.now) r) }
 {

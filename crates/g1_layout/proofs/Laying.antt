@@ -1,8 +1,10 @@
 -- Survivors are laid into the row one after another.
-use Rattle.std.proofs.Common.{◌≡◌, ℕ, zero, suc, ◌+◌, ◌*◌, ◌/◌, ◌%◌, ◌<◌, ◌≤◌, inl, Bool, true, false, cond, List, [], ◌∷◌, ◌++◌, length, get_or, drop, map, All, refl, sym, ◌∙◌, ap, subst, arith, leb, append_assoc}
+use Rattle.std.proofs.Common.{◌≡◌, ℕ, zero, suc, ◌+◌, ◌*◌, ◌/◌, ◌%◌, ◌<◌, ◌≤◌, inl, Bool, true, false, cond, List, [], ◌∷◌, ◌++◌, length, get_or, drop, map, All, refl, sym, ◌∙◌, ap, subst}
+use Rattle.std.proofs.Common.{arith, leb, append_assoc}
 use Rattle.std.proofs.Math.Nat.{div-mul-le_self}
 use Rattle.std.proofs.lemmas.List.{get_or-take}
 use Rattle.std.proofs.Math.Seq.{drop-cons}
+use Rattle.g1_words.specs.Geometry.{most_region_words}
 use Rattle.g1_words.proofs.NextFit.{Fitting, spot_below, region_below}
 use Rattle.g1_words.specs.Heap.{Heap, object_at}
 use Rattle.g1_words.specs.Layout.{free_regions, laid, laid_end, need, next_fit, places, row_address, sizes_of, to_space}
@@ -46,7 +48,7 @@ pub record Laying (h : Heap) (l : List ℕ) (i end : ℕ) : Type 0 where
 pub Laying-start : (h : Heap) (l : List ℕ) → Laying h l 0 0
 Laying-start h l = record { rest = refl; near = omega arith }
 
-pub Laying-step : (h : Heap) (l : List ℕ) (i end s : ℕ) → CanLay h l → h.geometry.w ≤ 65536 → Laying h l i end → i < length l → s ≡ (object_at h (get_or l i 0)).size
+pub Laying-step : (h : Heap) (l : List ℕ) (i end s : ℕ) → CanLay h l → h.geometry.w ≤ most_region_words → Laying h l i end → i < length l → s ≡ (object_at h (get_or l i 0)).size
     → Laying h l (i + 1) (next_fit h.geometry.w end s + s)
 Laying-step h l i end s can most k lt e = record {
   rest = ap (laid_end h.geometry.w end) (sym (left_from-cons h l i s lt e)) ∙ k.rest;
@@ -81,7 +83,8 @@ pub record Placing (h : Heap) (l : List ℕ) (i end : ℕ) (ps : List ℕ) : Typ
 pub Placing-start : (h : Heap) (l : List ℕ) → Placing h l 0 0 []
 Placing-start h l = record { laying = Laying-start h l; whole = refl }
 
-pub Placing-step : (h : Heap) (l : List ℕ) (i end s r : ℕ) (ps : List ℕ) → 0 < h.geometry.w → h.geometry.w ≤ 65536 → CanLay h l → Placing h l i end ps → i < length l → s ≡ (object_at h (get_or l i 0)).size
+pub Placing-step : (h : Heap) (l : List ℕ) (i end s r : ℕ) (ps : List ℕ) → 0 < h.geometry.w → h.geometry.w ≤ most_region_words → CanLay h l →
+    Placing h l i end ps → i < length l → s ≡ (object_at h (get_or l i 0)).size
     → r ≡ get_or (to_space h l) (next_fit h.geometry.w end s / h.geometry.w) 0
     → Placing h l (i + 1) (next_fit h.geometry.w end s + s) (ps ++ (r * h.geometry.w + next_fit h.geometry.w end s % h.geometry.w) ∷ [])
 Placing-step h l i end s r ps pos most can k lt e f =

@@ -1,11 +1,13 @@
 -- The survivors that stand in one region are a stretch of the list.
-use Rattle.std.proofs.Common.{◌≡◌, ℕ, zero, suc, ◌+◌, ◌-◌, ◌*◌, ◌/◌, ◌%◌, ◌<◌, ◌≤◌, ◌^◌, ◌⊎◌, inl, inr, Bool, true, false, cond, List, [], ◌∷◌, All, length, get_or, map, filter, fold, max, zip, count_by, refl, sym, ◌∙◌, ap, subst, arith, eqb, eqb-true, eq-eqb, ltb, mod-lt, div-add-mod'}
+use Rattle.std.proofs.Common.{◌≡◌, ℕ, zero, suc, ◌+◌, ◌-◌, ◌*◌, ◌/◌, ◌%◌, ◌<◌, ◌≤◌, ◌^◌, ◌⊎◌, inl, inr, Bool, true, false, cond, List, [], ◌∷◌, All, length, get_or, map, filter, fold, max}
+use Rattle.std.proofs.Common.{zip, count_by, refl, sym, ◌∙◌, ap, subst, arith, eqb, eqb-true, eq-eqb, ltb, mod-lt, div-add-mod'}
 use Rattle.std.proofs.lemmas.Bool.{cases_lt, lt-ltb, le-ltb, ltb-true}
 use Rattle.std.proofs.lemmas.List.{get_or-map, length-map, get_or_default}
 use Rattle.std.proofs.lemmas.List.Sums.{count_by-le-length, sum_by-cons}
 use Rattle.std.proofs.lemmas.Nat.{le-div}
 use Rattle.std.proofs.lemmas.Slice.Zip.{get_or-zip, length-zip}
 use Rattle.std.proofs.Math.Nat.{div-mul-le_self, mul-le-mul_right}
+use Rattle.g1_words.specs.Geometry.{most_words}
 use Rattle.g1_words.proofs.Computed.{range_below}
 use Rattle.g1_words.proofs.Indices.{get_or-In}
 use Rattle.g1_words.proofs.Members.{In, In-filter, In-map, Contains-from_in, filter_member, map_cases}
@@ -172,7 +174,7 @@ module _ (h : Heap) (l : List ℕ) (pos : 0 < h.geometry.w) (can : CanLay h l) (
       omega arith
 
   -- places are addresses of the heap
-  pub places_low : h.geometry.n * h.geometry.w ≤ 2 ^ 24 → All (λ p. p < 2 ^ 24) (places h l)
+  pub places_low : h.geometry.n * h.geometry.w ≤ most_words → All (λ p. p < most_words) (places h l)
   places_low most k d lt =
       let count = count_places in
       let is = get_or_default (places h l) k d 0 lt in
@@ -273,8 +275,10 @@ module _ (h : Heap) (l : List ℕ) (pos : 0 < h.geometry.w) (can : CanLay h l) (
           let s = stretch_lies k (omega arith) (omega arith) in
           let ends : end ≡ get_or (places h l) k 0 + size k - region * h.geometry.w = last.1 k (omega arith) (omega arith) in
           let z : (get_or (places h l) k 0) / h.geometry.w ≡ region = place_region k s.0 ∙ ap (λ q. get_or (free_regions h) q 0) s.1 in
-          inr (subst (In ends_of) (sym ends) (In-map (λ (x : ℕ × ℕ). x.0 + x.1 - start h region) (filter (λ x. eqb (region_of h x.0) region) (zip (places h l) (sizes_of h l))) (get_or (places h l) k 0, size k)
-          (In-filter (λ (x : ℕ × ℕ). eqb (region_of h x.0) region) (zip (places h l) (sizes_of h l)) (get_or (places h l) k 0, size k) (pair_in k s.0) (eq-eqb (get_or (places h l) k 0 / h.geometry.w) region z))))
+          inr (subst (In ends_of) (sym ends) (In-map (λ (x : ℕ × ℕ). x.0 + x.1 - start h region)
+          (filter (λ x. eqb (region_of h x.0) region) (zip (places h l) (sizes_of h l))) (get_or (places h l) k 0, size k)
+          (In-filter (λ (x : ℕ × ℕ). eqb (region_of h x.0) region) (zip (places h l) (sizes_of h l)) (get_or (places h l) k 0, size k) (pair_in k s.0)
+          (eq-eqb (get_or (places h l) k 0 / h.geometry.w) region z))))
     ]))
 
 -- a run up to the survivor at an index
@@ -332,6 +336,7 @@ Running-end h l ps r from to end pos can room is k none last stop t there e f =
       λ j n ge.
           let s = stands j ge (omega arith) in
           let before : to - 1 ≡ j = omega arith in
-          last (omega arith) ∙ ap (λ x. get_or ps x 0 + (object_at h (get_or l x 0)).size - r * h.geometry.w) before ∙ (λ i. get_or (is i) j 0 + sym (size_is h l pos can room j s.0) i - e i * h.geometry.w),
+          last (omega arith) ∙ ap (λ x. get_or ps x 0 + (object_at h (get_or l x 0)).size - r * h.geometry.w) before
+          ∙ (λ i. get_or (is i) j 0 + sym (size_is h l pos can room j s.0) i - e i * h.geometry.w),
     ) in
     λ i. record { region = e i; from = f i; to = g i; end = ends i }

@@ -1,5 +1,6 @@
 -- The laws of places and runs.
-use Rattle.std.proofs.Common.{◌≡◌, ◌≢◌, ℕ, zero, suc, ◌+◌, ◌-◌, ◌*◌, ◌/◌, ◌%◌, ◌<◌, ◌≤◌, ◌⊎◌, inl, inr, Bool, true, false, cond, List, [], ◌∷◌, ◌++◌, length, get_or, map, filter, flat_map, take, drop, zip, AllPairs, Contains, refl, sym, ◌∙◌, ap, subst, arith, eqb, eq-eqb, ne_eqb, ltb, mod-lt, div-add-mod'}
+use Rattle.std.proofs.Common.{◌≡◌, ◌≢◌, ℕ, zero, suc, ◌+◌, ◌-◌, ◌*◌, ◌/◌, ◌%◌, ◌<◌, ◌≤◌, ◌⊎◌, inl, inr, Bool, true, false, cond, List, [], ◌∷◌, ◌++◌, length, get_or, map, filter, flat_map}
+use Rattle.std.proofs.Common.{take, drop, zip, AllPairs, Contains, refl, sym, ◌∙◌, ap, subst, arith, eqb, eq-eqb, ne_eqb, ltb, mod-lt, div-add-mod'}
 use Rattle.std.specs.List.{range_with_len, slice_range}
 use Rattle.std.specs.List.Sorted.{IsStrictlyIncreasing}
 use Rattle.std.proofs.lemmas.Bool.{cases_lt}
@@ -24,7 +25,8 @@ use Rattle.g1_words.specs.Layout.{forward, free_regions, laid, moved_to, need, p
 use Rattle.g1_words.specs.Survivors.{AllOrdinary, Survivors, children, seeds}
 use Rattle.g1_words.specs.Valid.{IsValid}
 use Rattle.g1_layout.proofs.Conditions.{can_lay}
-use Rattle.g1_layout.proofs.Running.{after_lies, count_places, count_row, count_sizes, fits, in_stretch, laid_before-more, needed, only_region, place_is, place_region, rises, row_apart, size_is, stretch_lies, none_before}
+use Rattle.g1_layout.proofs.Running.{after_lies, count_places, count_row, count_sizes, fits, in_stretch, laid_before-more, needed, only_region, place_is, place_region, rises, row_apart}
+use Rattle.g1_layout.proofs.Running.{size_is, stretch_lies, none_before}
 use Rattle.g1_layout.specs.Laws.{RunRegions, stretch}
 use Rattle.g1_layout.specs.Placed.{CanPlace}
 use Rattle.g1_layout.specs.Plan.{laid_before, run_at, runs}
@@ -150,7 +152,8 @@ module _ (h : Heap) (set l : List ℕ) (valid : IsValid h) (can : CanPlace h set
       let f = fits h l positive lay room k c.1 in
       let offset : forward h l a % h.geometry.w ≡ row_of k % h.geometry.w = ap (λ x. x % h.geometry.w) to ∙ offset_at k c.1 in
       let size : get_or (sizes_of h l) k 0 ≡ (object_at h a).size = size_is h l positive lay room k c.1 ∙ ap (λ x. (object_at h x).size) is in (
-        subst (Contains (to_space h l)) (sym region) (Contains-from_in (to_space h l) (get_or (free_regions h) (row_of k / h.geometry.w) 0) (In-take (need h l) (free_regions h) (row_of k / h.geometry.w) 0 below (omega arith))),
+        subst (Contains (to_space h l)) (sym region) (Contains-from_in (to_space h l) (get_or (free_regions h) (row_of k / h.geometry.w) 0)
+            (In-take (need h l) (free_regions h) (row_of k / h.geometry.w) 0 below (omega arith))),
         omega (arith, f.1, offset, size),
       )
 

@@ -1,6 +1,7 @@
 -- What is asked of a set and its survivors before they are placed.
-use Rattle.std.specs.Prelude.{◌≢◌, ◌≤◌, ◌<◌, ℕ, ◌^◌, List, length, All, AllPairs, Contains}
+use Rattle.std.specs.Prelude.{◌≢◌, ◌≤◌, ◌<◌, ℕ, List, length, All, AllPairs, Contains}
 use Rattle.std.specs.List.Sorted.{IsStrictlyIncreasing}
+use Rattle.g1_words.specs.Geometry.{most_words}
 use Rattle.g1_words.specs.Heap.{Heap, object_at, objects, region_of}
 use Rattle.g1_words.specs.Survivors.{AllOrdinary}
 
@@ -17,4 +18,4 @@ pub record CanLay (h : Heap) (l : List ℕ) : Type 0 where
   pub in_words : All (λ a. a < length h.words) l
   pub filled : All (λ a. 0 < (object_at h a).size) l
   pub small : All (λ a. (object_at h a).size ≤ h.geometry.w) l
-  pub few : length l ≤ 2 ^ 24
+  pub few : length l ≤ most_words

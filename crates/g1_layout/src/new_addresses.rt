@@ -1,5 +1,6 @@
 ghost use Rattle.std.specs.Prelude.{◌≡◌, ◌≤◌, ◌<◌, ◌+◌, ◌*◌, ◌/◌, ◌%◌, ◌++◌, ◌^◌, ◌≢◌, ℕ, List, None, replicate, length, All, AllPairs, slice_index, slice_index_or, IfOk};
 ghost use Rattle.std.specs.List.Sorted.{IsStrictlyIncreasing};
+ghost use Rattle.g1_words.specs.Geometry.{most_words};
 ghost use Rattle.g1_words.specs.Layout.{moved_to};
 ghost use Rattle.g1_layout.specs.Words.{ArePositions, IsTable, HasIndex, index_of, told, goes_to};
 
@@ -58,7 +59,7 @@ fn index_of(geometry: &Geometry, positions: &[Option<u32>], a: u64) -> Option<us
 }
 
 /// The new address, by a word, of what is at an address.
-fn told(word: u32, a: u64) -> u64
+fn new_address(word: u32, a: u64) -> u64
     ensures { result ≡ told word a }
 {
     if word == 0 { a } else { u64::from(word - 1) }
@@ -76,7 +77,7 @@ fn write_places(
     requires in_set { All (HasIndex geometry.now.w positions.now) survivors.now }
     requires distinct { AllPairs (λ a b. a ≢ b) survivors.now }
     requires one_each { length places.now ≡ length survivors.now }
-    requires low { All (λ p. p < 2 ^ 24) places.now }
+    requires low { All (λ p. p < most_words) places.now }
     requires before { (a : ℕ) → goes_to geometry.now.w positions.now words.old a ≡ a }
     ensures table { IsTable geometry.now.w positions.now words.new }
     ensures goes { (a : ℕ) → goes_to geometry.now.w positions.now words.new a ≡ moved_to survivors.now places.now a }
@@ -89,8 +90,9 @@ fn write_places(
 }
 
 impl Table {
-    ghost use Rattle.std.specs.Prelude.{◌≡◌, ◌≢◌, ◌<◌, ◌/◌, ◌^◌, length, All, AllPairs, Contains, IfOk};
+    ghost use Rattle.std.specs.Prelude.{◌≡◌, ◌≢◌, ◌<◌, ◌/◌, length, All, AllPairs, Contains, IfOk};
     ghost use Rattle.std.specs.List.Sorted.{IsStrictlyIncreasing};
+    ghost use Rattle.g1_words.specs.Geometry.{most_words};
     ghost use Rattle.g1_words.specs.Layout.{moved_to};
     ghost use Rattle.g1_layout.specs.Words.{IsTable, goes_to};
     ghost use Rattle.g1_layout.specs.Forwards.{Forwards};
@@ -108,7 +110,7 @@ impl Table {
         requires in_set { All (λ a. Contains set.now (a / geometry.now.w)) survivors.now }
         requires distinct { AllPairs (λ a b. a ≢ b) survivors.now }
         requires one_each { length places.now ≡ length survivors.now }
-        requires low { All (λ p. p < 2 ^ 24) places.now }
+        requires low { All (λ p. p < most_words) places.now }
         ensures { IfOk result (λ t. Forwards t survivors.now places.now) }
     {
         let positions = positions(alloc, geometry.regions(), set)?;
@@ -128,7 +130,7 @@ impl Table {
         ensures { result ≡ goes_to self.now.geometry.w self.now.positions.items self.now.words.items a }
     {
         match index_of(&self.geometry, &self.positions, a) {
-            Some(index) => told(self.words[index], a),
+            Some(index) => new_address(self.words[index], a),
             None => a,
         }
     }

@@ -5,7 +5,7 @@ use Rattle.g1_words.specs.Survivors.{Survivors}
 use Rattle.g1_words.specs.Layout.{sizes_of, to_space}
 use Rattle.g1_words.specs.Valid.{IsValid}
 use Rattle.g1_image.specs.Image.{Image}
-use Rattle.g1_after.specs.Made.{image_after}
+use Rattle.g1_after.specs.Made.{image_moved}
 use Rattle.g1_after.specs.Moved.{IsMoved}
 use Rattle.g1_choose.specs.declared.parameters.Cost.{Cost}
 use Rattle.g1_copy.specs.Prepared.{IsMadeFor, Prepared}
@@ -25,7 +25,7 @@ reported cost choice i set l p x valid chosen made same to objects words humongo
   to = to;
   objects = objects;
   words = words;
-  between = image_after i set l;
-  moved = subst (λ y. IsMoved i y l (image_after i set l)) (sym same) (made_is_moved i set l (built i.heap valid) made.room.ordinary made.room.survivors made.room.room);
+  between = image_moved i set l;
+  moved = subst (λ y. IsMoved i y l (image_moved i set l)) (sym same) (made_is_moved i set l (built i.heap valid) made.room.ordinary made.room.survivors made.room.room);
   humongous = humongous ∙ made.humongous;
 }

@@ -10,14 +10,14 @@ use crate::evacuating::evacuate;
 use crate::laws;
 use crate::settings::Settings;
 use g1_image::{Image, decode, encode};
-use g1_rem::{Tracked, image, verify};
+use g1_rem::{Tracked, image, verify_by};
 use g1_words::Fault;
 use g1_work::Gate;
 use std::alloc::Global;
 use std::thread::Threads;
 
 /// The image after the pause of an image that was read.
-pub(crate) fn paused<R: Threads + Sync, G: Gate + Sync>(
+pub(crate) fn run_pause<R: Threads + Sync, G: Gate + Sync>(
     rt: &R,
     alloc: Global,
     before: Image,
@@ -28,7 +28,7 @@ pub(crate) fn paused<R: Threads + Sync, G: Gate + Sync>(
     ensures fault { IfErr result (λ e. (e ≡ Fault.Memory) ⊎ ((bytes : List ℕ) → IsTextOf bytes before → IsAnswer settings.now.cost settings.now.choice bytes (Err e))) }
     ensures no_device { IfErr result (λ e. (d : DeviceOf) → e ≢ Fault.Device d) }
 {
-    let tracked = match verify(rt, alloc, before) {
+    let tracked = match verify_by(rt, alloc, before, settings.workers()) {
         Ok(tracked) => tracked,
         Err((_, fault)) => return Err(fault),
     };
@@ -62,7 +62,7 @@ pub fn pause_bytes<R: Threads + Sync, G: Gate + Sync>(
     laws::one_answer();
     laws::what_follows();
     let before = decode(alloc, bytes)?;
-    match paused(rt, alloc, before, settings, gate) {
+    match run_pause(rt, alloc, before, settings, gate) {
         Ok(after) => encode(alloc, image(&after)),
         Err(fault) => Err(fault),
     }

@@ -22,7 +22,7 @@ use std::thread::Threads;
 
 /// All that the pause writes, prepared, and its report. The image stays as it is, so that a refusal
 /// leaves nothing to undo.
-fn planned<R: Threads + Sync, G: Gate + Sync>(
+fn plan_pause<R: Threads + Sync, G: Gate + Sync>(
     rt: &R,
     alloc: Global,
     tracked: &Tracked,
@@ -37,7 +37,7 @@ fn planned<R: Threads + Sync, G: Gate + Sync>(
     let image = image(tracked);
     let heap = image.heap();
     let (workers, chunk) = (settings.workers(), settings.chunk());
-    let starts = Starts::build(alloc, heap)?;
+    let starts = Starts::build_by(rt, alloc, heap, workers)?;
     let remembered = refine_by(rt, alloc, tracked, &starts, workers)?;
     let set = collection_set(rt, alloc, image, &starts, &remembered, settings, gate)?;
     let cards = cards_into(alloc, heap, &remembered, &set)?;
@@ -87,7 +87,7 @@ pub fn evacuate<R: Threads + Sync, G: Gate + Sync>(
 {
     laws::one_answer();
     laws::what_follows();
-    match planned(rt, alloc, &tracked, settings, gate) {
+    match plan_pause(rt, alloc, &tracked, settings, gate) {
         Err(fault) => Err((tracked, fault)),
         Ok((prepared, report)) => {
             let workers = settings.workers();

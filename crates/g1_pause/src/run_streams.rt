@@ -3,7 +3,7 @@ ghost use Rattle.std.specs.Prelude.{◌≡◌, IfSome, OnOk};
 ghost use Rattle.std.specs.Io.KnownBytes.{IsAtEnd};
 ghost use Rattle.g1_pause.specs.Streams.{RunGives, WritesNoFault, input_mark, output_mark};
 
-use crate::bytes::paused;
+use crate::bytes::run_pause;
 use crate::settings::Settings;
 use g1_image::{Sink, Source, read, write};
 use g1_rem::image;
@@ -36,7 +36,7 @@ pub fn pause_run<R: Threads + Sync, I: Source, O: Sink, G: Gate + Sync>(
     ensures output { O.failed writer.new ≡ output_mark (O.failed writer.old) result }
 {
     let before = read(alloc, reader)?;
-    match paused(rt, alloc, before, settings, gate) {
+    match run_pause(rt, alloc, before, settings, gate) {
         Ok(after) => write(alloc, image(&after), writer),
         Err(fault) => Err(fault),
     }

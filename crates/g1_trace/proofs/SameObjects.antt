@@ -5,7 +5,7 @@ use Rattle.g1_words.specs.declared.region.Kind.{Kind}
 use Rattle.g1_words.specs.declared.region.Kind.TheVariants.{Free, Ordinary, HumongousFirst, Continuation}
 use Rattle.g1_words.specs.Heap.{Heap, region, start, end, objects_by, kind, top, objects_in, object_at, tiles, word}
 use Rattle.g1_words.proofs.Members.{In}
-use Rattle.g1_after.proofs.ObjectsAfter.{tiles_same}
+use Rattle.g1_after.proofs.ObjectsMoved.{tiles_same}
 
 pub object_same : (h j : Heap) (a : ℕ) → word j a ≡ word h a → object_at j a ≡ object_at h a
 object_same h j a w = λ t. record { at = a; size = w t / 2 ^ 32; refs = w t % 2 ^ 32 }

@@ -1,6 +1,7 @@
 -- What the commands need of a heap: the objects that are seen have words of their own, and a new one's place is unused.
 use Rattle.std.specs.Prelude.{◌≡◌, ℕ, ◌+◌, ◌*◌, ◌^◌, ◌<◌, ◌≤◌, length, Some, Contains}
 use Rattle.g1_words.specs.declared.object.Object.{Object}
+use Rattle.g1_words.specs.Geometry.{most_words}
 use Rattle.g1_words.specs.Heap.{Heap, word, end, object_at, objects}
 use Rattle.g1_trace.specs.Mutator.{heap_view, region_for}
 use Rattle.g1_trace.specs.Views.{Seen}
@@ -25,5 +26,5 @@ pub record IsUnused (h : Heap) (a size : ℕ) : Type 0 where
 -- every place that the rule of allocation finds is unused
 pub record IsReady (h : Heap) : Type 0 where
   pub laid : IsLaid h
-  pub small : h.geometry.n * h.geometry.w ≤ 2 ^ 24
+  pub small : h.geometry.n * h.geometry.w ≤ most_words
   pub places : (size r : ℕ) → 0 < size → size ≤ h.geometry.n * h.geometry.w → region_for h size ≡ Some r → IsUnused h (end h r) size

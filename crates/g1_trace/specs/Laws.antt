@@ -1,7 +1,7 @@
 -- The laws that public functions of this crate prove.
 use Rattle.std.specs.Prelude.{◌≡◌, ◌⊎◌, ℕ, List, ◌^◌, ◌<◌, ◌≤◌, ⊤}
 use Rattle.std.specs.List.{AllByRecursion}
-use Rattle.g1_words.specs.Geometry.{Geometry, IsWithinLimits}
+use Rattle.g1_words.specs.Geometry.{Geometry, IsWithinLimits, most_roots}
 use Rattle.g1_image.specs.Image.{Image}
 use Rattle.g1_image.specs.Cards.{IsTracked}
 use Rattle.g1_choose.specs.declared.parameters.Cost.{Cost}
@@ -43,11 +43,11 @@ StartShows = (g : Geometry) (roots : ℕ) → Shows (empty_store roots) (empty_i
 
 -- the image that a trace starts from is tracked
 abbrev pub StartTracked : Type 0
-StartTracked = (g : Geometry) (roots : ℕ) → IsWithinLimits g.w g.k g.n → roots ≤ 65536 → IsTracked (empty_image g roots)
+StartTracked = (g : Geometry) (roots : ℕ) → IsWithinLimits g.w g.k g.n → roots ≤ most_roots → IsTracked (empty_image g roots)
 
 -- WHOLE TRACES: the replies of a run on images are replies of the plain store
 abbrev pub WholeTraces : Type 0
-WholeTraces = (cost : Cost) (g : Geometry) (roots : ℕ) (commands : List Command) (replies : List Reply) → IsWithinLimits g.w g.k g.n → roots ≤ 65536 → AllByRecursion WritesWord commands
+WholeTraces = (cost : Cost) (g : Geometry) (roots : ℕ) (commands : List Command) (replies : List Reply) → IsWithinLimits g.w g.k g.n → roots ≤ most_roots → AllByRecursion WritesWord commands
     → Replies (IsStep cost) (empty_image g roots) commands replies → Replies IsPlainStep (empty_store roots) commands replies
 
 -- the replies of a run are told by the trace and the cost
@@ -56,7 +56,7 @@ OneRun = (cost : Cost) (g : Geometry) (roots : ℕ) (commands : List Command) (r
 
 -- every list of commands has a run on a heap within the limits
 abbrev pub RunExists : Type 0
-RunExists = (cost : Cost) (g : Geometry) (roots : ℕ) (commands : List Command) → IsWithinLimits g.w g.k g.n → roots ≤ 65536 → AllByRecursion WritesWord commands → (replies : List Reply) × IsRun cost g roots commands replies
+RunExists = (cost : Cost) (g : Geometry) (roots : ℕ) (commands : List Command) → IsWithinLimits g.w g.k g.n → roots ≤ most_roots → AllByRecursion WritesWord commands → (replies : List Reply) × IsRun cost g roots commands replies
 
 -- a text is that of one trace
 abbrev pub OneTrace : Type 0

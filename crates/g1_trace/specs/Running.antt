@@ -1,6 +1,6 @@
 -- The limits of a trace's first line, and a run that is still going on.
 use Rattle.std.specs.Prelude.{ℕ, List, ◌++◌, ◌≤◌}
-use Rattle.g1_words.specs.Geometry.{Geometry, IsWithinLimits}
+use Rattle.g1_words.specs.Geometry.{Geometry, IsWithinLimits, most_roots}
 use Rattle.g1_trace.specs.declared.trace.Trace.{Trace}
 use Rattle.g1_trace.specs.declared.command.Command.{Command}
 use Rattle.g1_trace.specs.declared.command.Reply.{Reply}
@@ -10,7 +10,7 @@ use Rattle.g1_trace.specs.TraceText.{sizes}
 -- a heap of these sizes, with so many roots, is within the limits
 pub record IsHeapSize (g : Geometry) (count : ℕ) : Type 0 where
   pub sizes : IsWithinLimits g.w g.k g.n
-  pub roots : count ≤ 65536
+  pub roots : count ≤ most_roots
 
 -- the numbers of a trace's first line are within the limits
 abbrev pub AreLimits : Trace → Type 0

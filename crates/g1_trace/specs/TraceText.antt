@@ -1,5 +1,5 @@
 -- The text of a trace: each trace has one, and bytes that are no trace's text have a first bad line.
-use Rattle.std.specs.Prelude.{◌≡◌, ◌⊎◌, ℕ, zero, suc, List, [], ◌∷◌, ◌++◌, ◌+◌, ◌^◌, ◌<◌, length, flat_map, decimal, Contains, All, ⊤}
+use Rattle.std.specs.Prelude.{◌≡◌, ◌⊎◌, ℕ, zero, suc, List, [], ◌∷◌, ◌++◌, ◌+◌, ◌^◌, ◌<◌, length, flat_map, decimal, codes, Contains, All, ⊤}
 use Rattle.g1_words.specs.Geometry.{Geometry}
 use Rattle.g1_trace.specs.declared.command.Command.{Command}
 use Rattle.g1_trace.specs.declared.command.Command.TheVariants.{New, Get, Put, Set, Say, Same, Copy, Drop, Pause}
@@ -12,15 +12,15 @@ spaced (x ∷ xs) = 32 ∷ (decimal x ++ spaced xs)
 
 -- a command's word: `new`, `get`, `put`, `set`, `say`, `same`, `copy`, `drop`, `pause`
 abbrev pub name_of : Command → List ℕ
-name_of (New r refs words) = 110 ∷ 101 ∷ 119 ∷ []
-name_of (Get r q m) = 103 ∷ 101 ∷ 116 ∷ []
-name_of (Put r m q) = 112 ∷ 117 ∷ 116 ∷ []
-name_of (Set r m x) = 115 ∷ 101 ∷ 116 ∷ []
-name_of (Say r m) = 115 ∷ 97 ∷ 121 ∷ []
-name_of (Same r q) = 115 ∷ 97 ∷ 109 ∷ 101 ∷ []
-name_of (Copy r q) = 99 ∷ 111 ∷ 112 ∷ 121 ∷ []
-name_of (Drop r) = 100 ∷ 114 ∷ 111 ∷ 112 ∷ []
-name_of (Pause b) = 112 ∷ 97 ∷ 117 ∷ 115 ∷ 101 ∷ []
+name_of (New r refs words) = codes "new"
+name_of (Get r q m) = codes "get"
+name_of (Put r m q) = codes "put"
+name_of (Set r m x) = codes "set"
+name_of (Say r m) = codes "say"
+name_of (Same r q) = codes "same"
+name_of (Copy r q) = codes "copy"
+name_of (Drop r) = codes "drop"
+name_of (Pause b) = codes "pause"
 
 -- its numbers, in the order of the line
 abbrev pub numbers_of : Command → List ℕ
@@ -44,7 +44,7 @@ command_line c = name_of c ++ spaced (numbers_of c)
 
 -- a first line, without its end: `heap` and four numbers
 abbrev pub heap_line : ℕ → ℕ → ℕ → ℕ → List ℕ
-heap_line w k n roots = (104 ∷ 101 ∷ 97 ∷ 112 ∷ []) ++ spaced (w ∷ k ∷ n ∷ roots ∷ [])
+heap_line w k n roots = codes "heap" ++ spaced (w ∷ k ∷ n ∷ roots ∷ [])
 
 -- the lines, each ended
 abbrev pub ended : List (List ℕ) → List ℕ

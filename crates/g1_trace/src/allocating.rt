@@ -1,4 +1,5 @@
 ghost use Rattle.std.specs.Prelude.{◌≡◌, ◌+◌, ◌*◌, ◌/◌, ◌-◌, ◌<◌, ◌≤◌, ◌^◌, length, find, min, Some, ◌==◌, if◌then◌else◌};
+ghost use Rattle.g1_words.specs.Geometry.{most_region_words, most_regions, most_words};
 ghost use Rattle.g1_words.specs.Heap.{end, region_with, regions, top};
 ghost use Rattle.g1_words.specs.declared.region.Kind.TheVariants.{HumongousFirst, Continuation};
 ghost use Rattle.g1_image.specs.Cards.{IsTracked};
@@ -14,12 +15,7 @@ fn is_free(heap: &Heap, r: u32) -> bool
     requires { r < heap.now.geometry.n }
     ensures { result ≡ is_free_region heap.now r }
 {
-    match heap.region(r).kind {
-        Kind::Free => true,
-        Kind::Ordinary => false,
-        Kind::HumongousFirst => false,
-        Kind::Continuation => false,
-    }
+    heap.region(r).kind.is_free()
 }
 
 /// The lowest free region.
@@ -87,8 +83,8 @@ pub(crate) fn place_for(heap: &Heap, refs: u64, words: u64) -> Option<u32>
 
 /// Region number i of a humongous object's run.
 fn run_region(region_words: u64, size: u64, i: u64) -> Region
-    requires width { (16 ≤ region_words) × (region_words ≤ 65536) }
-    requires size { size ≤ 2 ^ 24 }
+    requires width { (16 ≤ region_words) × (region_words ≤ most_region_words) }
+    requires size { size ≤ most_words }
     requires within { i * region_words < size }
     ensures { result ≡ region_with (if i == 0 then HumongousFirst else Continuation) (min region_words (size - i * region_words)) }
 {
@@ -115,10 +111,10 @@ fn run_region(region_words: u64, size: u64, i: u64) -> Region
 
 /// Takes the regions of a humongous object's run.
 fn take_run(regions: &mut Vec<Region>, region_words: u64, first: u32, size: u64)
-    requires width { (16 ≤ region_words) × (region_words ≤ 65536) }
-    requires size { (0 < size) × (size ≤ 2 ^ 24) }
+    requires width { (16 ≤ region_words) × (region_words ≤ most_region_words) }
+    requires size { (0 < size) × (size ≤ most_words) }
     requires there { first + (size + (region_words - 1)) / region_words ≤ length regions.old.items }
-    requires few { length regions.old.items ≤ 4096 }
+    requires few { length regions.old.items ≤ most_regions }
     ensures { regions.new.items ≡ run_taken region_words regions.old.items first size ((size + (region_words - 1)) / region_words) }
 {
     let count = (size + (region_words - 1)) / region_words;
@@ -130,9 +126,9 @@ fn take_run(regions: &mut Vec<Region>, region_words: u64, first: u32, size: u64)
 /// The image with a new ordinary object at the top of a region, which becomes current.
 fn place_ordinary(tracked: Tracked, r: u32, root: u64, size: u64, refs: u64) -> Tracked
     requires region { r < length tracked.heap.regions }
-    requires fits { top tracked.heap r + size ≤ 65536 }
-    requires width { (16 ≤ tracked.heap.geometry.w) × (tracked.heap.geometry.w ≤ 65536) }
-    requires few { length tracked.heap.regions ≤ 4096 }
+    requires fits { top tracked.heap r + size ≤ most_region_words }
+    requires width { (16 ≤ tracked.heap.geometry.w) × (tracked.heap.geometry.w ≤ most_region_words) }
+    requires few { length tracked.heap.regions ≤ most_regions }
     requires refs { refs < size }
     requires header { end tracked.heap r < length tracked.heap.words }
     requires root { root < length tracked.heap.roots }
@@ -182,9 +178,9 @@ fn place_humongous(tracked: Tracked, r: u32, root: u64, size: u64, refs: u64) ->
     requires region { r < length tracked.heap.regions }
     requires free { top tracked.heap r ≡ 0 }
     requires run { r + run_length tracked.heap size ≤ length tracked.heap.regions }
-    requires width { (16 ≤ tracked.heap.geometry.w) × (tracked.heap.geometry.w ≤ 65536) }
-    requires few { length tracked.heap.regions ≤ 4096 }
-    requires refs { (refs < size) × (size ≤ 2 ^ 24) }
+    requires width { (16 ≤ tracked.heap.geometry.w) × (tracked.heap.geometry.w ≤ most_region_words) }
+    requires few { length tracked.heap.regions ≤ most_regions }
+    requires refs { (refs < size) × (size ≤ most_words) }
     requires header { end tracked.heap r < length tracked.heap.words }
     requires root { root < length tracked.heap.roots }
     requires kept { IsTracked (with_heap tracked (humongous_heap tracked.heap r size refs root)) }

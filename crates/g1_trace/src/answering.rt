@@ -1,4 +1,5 @@
 ghost use Rattle.std.specs.Prelude.{◌≡◌, ◌+◌, ◌<◌, ◌≤◌, ◌^◌, length, slice_index, IfSome, IfNone};
+ghost use Rattle.g1_words.specs.Geometry.{most_words};
 ghost use Rattle.g1_words.specs.Heap.{object_at};
 ghost use Rattle.g1_trace.specs.Commands.{answer_of};
 ghost use Rattle.g1_trace.specs.Mutator.{heap_view};
@@ -34,7 +35,7 @@ fn object_of(heap: &Heap, root: u64) -> Option<Object>
     ensures object { IfSome result (λ o. o ≡ object_at heap.now o.at) }
     ensures refs { IfSome result (λ o. o.refs < o.size) }
     ensures within { IfSome result (λ o. o.at + o.size ≤ length heap.now.words) }
-    ensures small { length heap.now.words ≤ 2 ^ 24 }
+    ensures small { length heap.now.words ≤ most_words }
     ensures null { IfNone result (slice_index heap.now.roots root ≡ 0) }
 {
     let _geometry = heap.geometry();

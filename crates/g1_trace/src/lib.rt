@@ -34,7 +34,7 @@ mod writing;
 
 pub use command::{Command, Reply};
 pub use mutator::Mutator;
-pub use parsing::parse_trace;
+pub use parsing::{first_line, later_line, parse_trace};
 pub use running::run_trace;
-pub use telling::run_text;
+pub use telling::{push_reply, run_text};
 pub use trace::Trace;

@@ -1,4 +1,5 @@
 ghost use Rattle.std.specs.Prelude.{◌≡◌, ◌≤◌, ◌<◌, ◌⊎◌, ℕ, List, [], map, replicate, slice_set, IfOk, IfErr};
+ghost use Rattle.g1_words.specs.Geometry.{most_roots};
 ghost use Rattle.g1_image.specs.Cards.{IsTracked};
 ghost use Rattle.g1_image.specs.Image.{Image as ImageOf};
 ghost use Rattle.g1_choose.specs.Cost.{IsCost};
@@ -42,7 +43,7 @@ impl Model for Mutator {
 
 /// A heap of free regions, with this many roots, all null.
 fn free_heap(alloc: Global, geometry: Geometry, roots: u64) -> Result<Heap, Fault>
-    requires { roots ≤ 65536 }
+    requires { roots ≤ most_roots }
     ensures ok { IfOk result (λ h. h ≡ (empty_image geometry roots).heap) }
     ensures memory { IfErr result (λ e. e ≡ Fault.Memory) }
 {
@@ -179,8 +180,8 @@ impl Mutator {
     ///
     /// `Fault::Geometry` if there are more than 65,536 roots; `Fault::Memory`.
     pub fn new(alloc: Global, geometry: Geometry, roots: u64) -> Result<Mutator, Fault>
-        ensures ok { IfOk result (λ m. (m ≡ empty_image geometry roots) × (roots ≤ 65536)) }
-        ensures err { IfErr result (λ e. (e ≡ Fault.Memory) ⊎ ((e ≡ Fault.Geometry) × (65536 < roots))) }
+        ensures ok { IfOk result (λ m. (m ≡ empty_image geometry roots) × (roots ≤ most_roots)) }
+        ensures err { IfErr result (λ e. (e ≡ Fault.Memory) ⊎ ((e ≡ Fault.Geometry) × (most_roots < roots))) }
     {
         if roots > 65_536 {
             return Err(Fault::Geometry);
@@ -194,6 +195,13 @@ impl Mutator {
         Ok(Mutator {
             tracked: Tracked { image },
         })
+    }
+
+    /// The heap with its remembered sets and its log.
+    pub fn image(&self) -> &Image
+        ensures { result.now ≡ self.now }
+    {
+        image(&self.tracked)
     }
 
     /// Does one command. A few words are read and written; a new object besides looks for a free

@@ -129,8 +129,8 @@ fn is_word(name: &[u8], word: &[u8]) -> bool
     name == word
 }
 
-/// The numbers of a first line.
-pub(crate) fn first_line(line: &[u8]) -> Option<(u64, u64, u64, u64)>
+/// The numbers of a trace's first line, without its end: words a region, words a card, regions and roots.
+pub fn first_line(line: &[u8]) -> Option<(u64, u64, u64, u64)>
     ensures some { IfSome result (λ r. line.now ≡ heap_line r.0 r.1 r.2 r.3) }
     ensures fits { IfSome result (λ r. AllFit (r.0 ∷ r.1 ∷ r.2 ∷ r.3 ∷ [])) }
     ensures none { IfNone result (IsHeapLine line.now → ⊥) }
@@ -213,8 +213,8 @@ fn with_three(name: &[u8], root: u64, second: u64, third: u64) -> Option<Command
     None
 }
 
-/// The command of a later line: how many numbers it has and its name say which.
-pub(crate) fn later_line(line: &[u8]) -> Option<Command>
+/// The command of a trace's later line, without its end: how many numbers it has and its name say which.
+pub fn later_line(line: &[u8]) -> Option<Command>
     ensures some { IfSome result (λ c. line.now ≡ command_line c) }
     ensures fits { IfSome result (λ c. AllFit (numbers_of c)) }
     ensures none { IfNone result (IsCommandLine line.now → ⊥) }

@@ -20,7 +20,7 @@ use std::alloc::{AllocError, Global};
 use std::thread::Threads;
 
 /// Adds a reply's line to a text.
-pub(crate) fn push_reply(text: &mut Vec<u8>, reply: Reply) -> Result<(), AllocError>
+pub fn push_reply(text: &mut Vec<u8>, reply: Reply) -> Result<(), AllocError>
     ensures { OnOk result (text.new.items ≡ text.old.items ++ reply_line reply) }
 {
     match reply {

@@ -1,4 +1,5 @@
 ghost use Rattle.std.specs.Prelude.{◌≡◌, ◌≢◌, ◌<◌, ◌-◌, ◌/◌, ◌↔◌, IsTrue, length, slice_set, ◌^◌, IfOk, IfErr, OnOk, OnErr};
+ghost use Rattle.g1_words.specs.Geometry.{most_words};
 ghost use Rattle.g1_image.specs.Cards.{IsTracked};
 ghost use Rattle.g1_trace.specs.Mutator.{log_with, logged, with_roots, with_words};
 
@@ -94,7 +95,7 @@ fn crosses(geometry: &Geometry, at: u64, value: u64) -> bool
 ///
 /// `Fault::Memory` if the log can't grow, with the log as it was.
 fn log_slot(log: &mut IndexSet<u32>, geometry: &Geometry, at: u64, value: u64) -> Result<(), Fault>
-    requires { at < 2 ^ 24 }
+    requires { at < most_words }
     ensures ok { OnOk result (log.new.keys ≡ log_with geometry.now log.old.keys at value) }
     ensures same { OnErr result (log.new.keys ≡ log.old.keys) }
     ensures memory { IfErr result (λ e. e ≡ Fault.Memory) }
@@ -113,7 +114,7 @@ fn log_slot(log: &mut IndexSet<u32>, geometry: &Geometry, at: u64, value: u64) -
 /// `Fault::Memory` if the log can't grow, with the image as it was.
 pub(crate) fn set_slot(tracked: Tracked, at: u64, value: u64) -> Result<Tracked, (Tracked, Fault)>
     requires at { at < length tracked.heap.words }
-    requires small { at < 2 ^ 24 }
+    requires small { at < most_words }
     requires kept { IsTracked (with_words tracked (slice_set tracked.heap.words at value) (logged tracked at value)) }
     ensures ok { IfOk result (λ t. t ≡ with_words tracked (slice_set tracked.heap.words at value) (logged tracked at value)) }
     ensures same { IfErr result (λ e. e.0 ≡ tracked) }

@@ -1,5 +1,5 @@
 -- What the kind of a region tells, and the number that stands for it in an image file.
-use Rattle.std.specs.Prelude.{ℕ, nat_lt, if◌then◌else◌}
+use Rattle.std.specs.Prelude.{ℕ, List, nat_lt, codes, if◌then◌else◌}
 use Rattle.g1_words.specs.declared.region.Kind.{Kind}
 use Rattle.g1_words.specs.declared.region.Kind.TheVariants.{Free, Ordinary, HumongousFirst, Continuation}
 
@@ -8,6 +8,13 @@ abbrev pub MayHoldCards : Kind → Type 0
 MayHoldCards Ordinary = Unit {0}
 MayHoldCards HumongousFirst = Unit {0}
 MayHoldCards _ = ⊥
+
+-- the word that stands for a kind in a line
+abbrev pub kind_word : Kind → List ℕ
+kind_word Free = codes "free"
+kind_word Ordinary = codes "ordinary"
+kind_word HumongousFirst = codes "humongous"
+kind_word Continuation = codes "continuation"
 
 -- the number that stands for a kind in a file
 abbrev pub kind_number : Kind → ℕ

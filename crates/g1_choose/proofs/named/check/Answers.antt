@@ -1,11 +1,11 @@
-use Rattle.std.proofs.Common.{ℕ, ◌<◌, inl, inr, refl, sym, ap, arith, ◌∙◌, true, false, IsTrue}
+use Rattle.std.proofs.Common.{ℕ, ◌+◌, ◌<◌, length, take, subst, inl, inr, refl, sym, ap, arith, ◌∙◌, true, false, IsTrue}
 use Rattle.std.specs.Prelude.{slice_index, slice_index_or}
-use Rattle.std.proofs.lemmas.List.{length-set, get_or_default}
+use Rattle.std.proofs.lemmas.List.{length-set}
 use Rattle.g1_choose.specs.Named.{IsBadAt}
 use Rattle.g1_words.specs.Heap.{pinned}
-use Rattle.g1_choose.proofs.Naming.{true_or_false, marked_more, good_more}
+use Rattle.g1_choose.proofs.Naming.{AreMarked, true_or_false, marked_more, good_more}
 use Rattle.g1_choose.proofs.named.check.Goals as goal
-use Rattle.g1_choose.proofs.named.check.Goals.{then-place-len-via-then-place-len, then-place-len-via-else-place-len+then-index, then-place-len-via-else-place-len+else-index+then-not-may_be_taken}
+use Rattle.g1_choose.proofs.named.check.Goals.{then-place-len-via-then-place-len, then-place-len-via-else-place-len+then-is_set, then-place-len-via-else-place-len+else-is_set+then-not-may_be_taken}
 
 pub returns-then-place-len-clause-err : goal.returns-then-place-len-clause-err
 returns-then-place-len-clause-err c =
@@ -16,12 +16,11 @@ returns-then-place-len-clause-err c =
     let bad : IsBadAt h list i =
     elim c.then-place-len.branch [
       | then-place-len-via-then-place-len w ↦ inl (omega (arith, w.if-place-len.true, c.len.ensures, count))
-      | then-place-len-via-else-place-len+then-index w ↦
+      | then-place-len-via-else-place-len+then-is_set w ↦
           let r : ℕ = slice_index list i in
-          let marked : IsTrue (slice_index_or c.loop-region.named.items r false) =
-          get_or_default c.loop-region.named.items r false w.index.result.now (omega (arith, w.if-place-len.false, c.len.ensures)) ∙ sym w.index.ensures ∙ w.if-index.true in
+          let marked : IsTrue (slice_index_or c.loop-region.named r false) = sym w.is_set.ensures ∙ w.if-is_set.true in
           inr (inr (inr ((c.loop-region.invariant.marks r (omega (arith, w.if-place-len.false, c.len.ensures, count))).0 marked)))
-      | then-place-len-via-else-place-len+else-index+then-not-may_be_taken w ↦
+      | then-place-len-via-else-place-len+else-is_set+then-not-may_be_taken w ↦
           let refused = w.if-not-may_be_taken.true in
           elim (true_or_false (pinned h (slice_index list i))) [
             | inl pin ↦ inr (inr (inl pin))
@@ -40,10 +39,11 @@ loop-region-preserved c =
     let taken = c.may_be_taken.ensures.0 c.if-not-may_be_taken.false in
     let in_heap : slice_index list i < h.geometry.n = omega (arith, c.if-place-len.false, c.len.ensures, invariant.count) in
     record {
-      count = length-set c.loop-region.named.items (slice_index list i) true ∙ invariant.count;
-      marks = marked_more h.geometry.n i c.loop-region.named.items list invariant.count c.loop-region-test.true in_heap invariant.marks;
+      count = ap length c.set.ensures ∙ length-set c.loop-region.named (slice_index list i) true ∙ invariant.count;
+      marks = subst (λ l. AreMarked h.geometry.n l (take (i + 1) list)) (sym c.set.ensures)
+          (marked_more h.geometry.n i c.loop-region.named list invariant.count c.loop-region-test.true in_heap invariant.marks);
       good = good_more h list i invariant.good in_heap (sym (ap (λ q. q.kind) c.region.ensures) ∙ taken.0) (sym (ap (λ q. q.pinned) c.region.ensures) ∙ taken.1)
-          (λ again. let marked = (invariant.marks r in_heap).1 again in let unmarked = get_or_default c.loop-region.named.items r false c.index.result.now (omega (arith, c.if-place-len.false, c.len.ensures)) ∙ sym c.index.ensures ∙ c.if-index.false in cc);
+          (λ again. let marked = (invariant.marks r in_heap).1 again in let unmarked = sym c.is_set.ensures ∙ c.if-is_set.false in cc);
     }
 
 pub loop-region-smaller : goal.loop-region-smaller

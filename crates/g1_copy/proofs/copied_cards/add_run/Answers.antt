@@ -1,20 +1,10 @@
-use Rattle.std.proofs.Common.{◌≡◌, ◌≤◌, ◌-◌, ◌*◌, ◌∙◌, length, slice_index, arith, ap, sym}
+use Rattle.std.proofs.Common.{◌≡◌, ◌-◌, ◌*◌, ◌∙◌, length, slice_index, arith, ap, sym}
 use Rattle.std.proofs.lemmas.List.{length-map}
 use Rattle.std.proofs.lemmas.List.FromFn.{length-map-range_with_len}
-use Rattle.std.proofs.Math.Nat.{mul-le-mul_right}
 use Rattle.g1_words.specs.Geometry.{Geometry}
 use Rattle.g1_copy.specs.Links.{cards_by_region}
-use Rattle.g1_copy.proofs.CopiedWords.{first_copied, in_places, index_small, not_below, run_order, run_region, slots_below, slots_inside, slots_lower, slots_more, slots_named, slots_within}
+use Rattle.g1_copy.proofs.CopiedWords.{first_copied, in_places, index_small, not_below, run_order, slots_below, slots_inside, slots_lower, slots_more, slots_named, slots_within}
 use Rattle.g1_copy.proofs.copied_cards.add_run.Goals as goal
-
-pub overflow_mul-start : goal.overflow_mul-start
-overflow_mul-start c =
-    let h = c.args.heap.now in
-    let width : c.region_words.result ≡ c.args.heap.now.geometry.w = c.region_words.ensures.value ∙ ap (λ (g : Geometry). g.w) c.geometry.ensures.same in
-    let start : c.from.result * c.region_words.result ≡ c.args.run.now.region * c.args.heap.now.geometry.w = λ j. c.from.ensures j * width j in
-    let below = run_region h c.args.plan.now c.requires.plan c.geometry.ensures.valid c.args.run.now c.requires.run in
-    let rows : c.args.run.now.region * c.args.heap.now.geometry.w ≤ c.args.heap.now.geometry.n * c.args.heap.now.geometry.w = mul-le-mul_right c.args.heap.now.geometry.w (omega (arith, below)) in
-    omega (arith, start, rows, c.geometry.ensures.valid.limits.words_most)
 
 pub offset_bounds-places-i : goal.offset_bounds-places-i
 offset_bounds-places-i c =
@@ -28,43 +18,38 @@ bounds-places-i c =
 
 pub overflow_sub-place : goal.overflow_sub-place
 overflow_sub-place c =
-    let width : c.region_words.result ≡ c.args.heap.now.geometry.w = c.region_words.ensures.value ∙ ap (λ (g : Geometry). g.w) c.geometry.ensures.same in
-    let start : c.from.result * c.region_words.result ≡ c.args.run.now.region * c.args.heap.now.geometry.w = λ j. c.from.ensures j * width j in
+    let start : c.start-start.result ≡ c.args.run.now.region * c.args.heap.now.geometry.w = c.start-start.ensures.value ∙ ap (λ (g : Geometry). c.args.run.now.region * g.w) c.geometry.ensures.same in
     let le = not_below c.args.heap.now c.args.plan.now c.requires.plan c.geometry.ensures.valid c.args.run.now c.requires.run c.loop-i.i c.loop-i.auto.i c.loop-i-test.true
     (slice_index c.places.result.now c.loop-i.i) (ap (λ xs. slice_index xs c.loop-i.i) c.places.ensures) in
     omega (arith, start, le)
 
 pub add_object-requires-clause-slots : goal.add_object-requires-clause-slots
 add_object-requires-clause-slots c =
-    let width : c.region_words.result ≡ c.args.heap.now.geometry.w = c.region_words.ensures.value ∙ ap (λ (g : Geometry). g.w) c.geometry.ensures.same in
-    let start : c.from.result * c.region_words.result ≡ c.args.run.now.region * c.args.heap.now.geometry.w = λ j. c.from.ensures j * width j in
+    let start : c.start-start.result ≡ c.args.run.now.region * c.args.heap.now.geometry.w = c.start-start.ensures.value ∙ ap (λ (g : Geometry). c.args.run.now.region * g.w) c.geometry.ensures.same in
     slots_within c.args.heap.now c.args.plan.now c.requires.plan c.geometry.ensures.valid c.args.run.now c.requires.run c.loop-i.i c.loop-i.auto.i c.loop-i-test.true
     (slice_index c.places.result.now c.loop-i.i) (ap (λ xs. slice_index xs c.loop-i.i) c.places.ensures)
-    c.args.words.now (slice_index c.places.result.now c.loop-i.i - c.from.result * c.region_words.result) c.requires.words (ap (λ z. slice_index c.places.result.now c.loop-i.i - z) start)
+    c.args.words.now (slice_index c.places.result.now c.loop-i.i - c.start-start.result) c.requires.words (ap (λ z. slice_index c.places.result.now c.loop-i.i - z) start)
 
 pub add_object-requires-clause-small : goal.add_object-requires-clause-small
 add_object-requires-clause-small c =
-    let width : c.region_words.result ≡ c.args.heap.now.geometry.w = c.region_words.ensures.value ∙ ap (λ (g : Geometry). g.w) c.geometry.ensures.same in
-    let start : c.from.result * c.region_words.result ≡ c.args.run.now.region * c.args.heap.now.geometry.w = λ j. c.from.ensures j * width j in
+    let start : c.start-start.result ≡ c.args.run.now.region * c.args.heap.now.geometry.w = c.start-start.ensures.value ∙ ap (λ (g : Geometry). c.args.run.now.region * g.w) c.geometry.ensures.same in
     slots_below c.args.heap.now c.args.plan.now c.requires.plan c.geometry.ensures.valid c.args.run.now c.requires.run c.loop-i.i c.loop-i.auto.i c.loop-i-test.true
     (slice_index c.places.result.now c.loop-i.i) (ap (λ xs. slice_index xs c.loop-i.i) c.places.ensures)
-    c.args.words.now (slice_index c.places.result.now c.loop-i.i - c.from.result * c.region_words.result) c.requires.words (ap (λ z. slice_index c.places.result.now c.loop-i.i - z) start)
+    c.args.words.now (slice_index c.places.result.now c.loop-i.i - c.start-start.result) c.requires.words (ap (λ z. slice_index c.places.result.now c.loop-i.i - z) start)
 
 pub add_object-requires-clause-inside : goal.add_object-requires-clause-inside
 add_object-requires-clause-inside c =
-    let width : c.region_words.result ≡ c.args.heap.now.geometry.w = c.region_words.ensures.value ∙ ap (λ (g : Geometry). g.w) c.geometry.ensures.same in
-    let start : c.from.result * c.region_words.result ≡ c.args.run.now.region * c.args.heap.now.geometry.w = λ j. c.from.ensures j * width j in
+    let start : c.start-start.result ≡ c.args.run.now.region * c.args.heap.now.geometry.w = c.start-start.ensures.value ∙ ap (λ (g : Geometry). c.args.run.now.region * g.w) c.geometry.ensures.same in
     slots_inside c.args.heap.now c.args.plan.now c.requires.plan c.geometry.ensures.valid c.args.run.now c.requires.run c.loop-i.i c.loop-i.auto.i c.loop-i-test.true
     (slice_index c.places.result.now c.loop-i.i) (ap (λ xs. slice_index xs c.loop-i.i) c.places.ensures)
-    c.args.words.now (slice_index c.places.result.now c.loop-i.i - c.from.result * c.region_words.result) c.requires.words (ap (λ z. slice_index c.places.result.now c.loop-i.i - z) start)
+    c.args.words.now (slice_index c.places.result.now c.loop-i.i - c.start-start.result) c.requires.words (ap (λ z. slice_index c.places.result.now c.loop-i.i - z) start)
 
 pub add_object-requires-clause-named : goal.add_object-requires-clause-named
 add_object-requires-clause-named c =
-    let width : c.region_words.result ≡ c.args.heap.now.geometry.w = c.region_words.ensures.value ∙ ap (λ (g : Geometry). g.w) c.geometry.ensures.same in
-    let start : c.from.result * c.region_words.result ≡ c.args.run.now.region * c.args.heap.now.geometry.w = λ j. c.from.ensures j * width j in
+    let start : c.start-start.result ≡ c.args.run.now.region * c.args.heap.now.geometry.w = c.start-start.ensures.value ∙ ap (λ (g : Geometry). c.args.run.now.region * g.w) c.geometry.ensures.same in
     slots_named c.args.heap.now c.args.plan.now c.requires.plan c.geometry.ensures.valid c.args.run.now c.requires.run c.loop-i.i c.loop-i.auto.i c.loop-i-test.true
     (slice_index c.places.result.now c.loop-i.i) (ap (λ xs. slice_index xs c.loop-i.i) c.places.ensures)
-    c.args.words.now (slice_index c.places.result.now c.loop-i.i - c.from.result * c.region_words.result) c.requires.words (ap (λ z. slice_index c.places.result.now c.loop-i.i - z) start)
+    c.args.words.now (slice_index c.places.result.now c.loop-i.i - c.start-start.result) c.requires.words (ap (λ z. slice_index c.places.result.now c.loop-i.i - z) start)
 
 pub add_object-requires-clause-one_each : goal.add_object-requires-clause-one_each
 add_object-requires-clause-one_each c = sym (length-map c.loop-i.lists (λ s. s.items)) ∙ ap length c.loop-i.invariant ∙ length-map-range_with_len _ 0 c.args.heap.now.geometry.n
@@ -73,17 +58,16 @@ pub loop-i-preserved : goal.loop-i-preserved
 loop-i-preserved c =
     let h = c.args.heap.now in
     let l = c.args.plan.now.survivors in
-    let width : c.region_words.result ≡ c.args.heap.now.geometry.w = c.region_words.ensures.value ∙ ap (λ (g : Geometry). g.w) c.geometry.ensures.same in
-    let start : c.from.result * c.region_words.result ≡ c.args.run.now.region * c.args.heap.now.geometry.w = λ j. c.from.ensures j * width j in
+    let start : c.start-start.result ≡ c.args.run.now.region * c.args.heap.now.geometry.w = c.start-start.ensures.value ∙ ap (λ (g : Geometry). c.args.run.now.region * g.w) c.geometry.ensures.same in
     c.in_ok-add_object.ensures (first_copied h l c.loop-i.i)
     (slots_lower c.args.heap.now c.args.plan.now c.requires.plan c.geometry.ensures.valid c.args.run.now c.requires.run c.loop-i.i c.loop-i.auto.i c.loop-i-test.true
     (slice_index c.places.result.now c.loop-i.i) (ap (λ xs. slice_index xs c.loop-i.i) c.places.ensures)
-    c.args.words.now (slice_index c.places.result.now c.loop-i.i - c.from.result * c.region_words.result) c.requires.words (ap (λ z. slice_index c.places.result.now c.loop-i.i - z) start)
+    c.args.words.now (slice_index c.places.result.now c.loop-i.i - c.start-start.result) c.requires.words (ap (λ z. slice_index c.places.result.now c.loop-i.i - z) start)
     ) c.loop-i.invariant
     ∙ ap (cards_by_region h)
     (slots_more c.args.heap.now c.args.plan.now c.requires.plan c.geometry.ensures.valid c.args.run.now c.requires.run c.loop-i.i c.loop-i.auto.i c.loop-i-test.true
     (slice_index c.places.result.now c.loop-i.i) (ap (λ xs. slice_index xs c.loop-i.i) c.places.ensures)
-    c.args.words.now (slice_index c.places.result.now c.loop-i.i - c.from.result * c.region_words.result) c.requires.words (ap (λ z. slice_index c.places.result.now c.loop-i.i - z) start)
+    c.args.words.now (slice_index c.places.result.now c.loop-i.i - c.start-start.result) c.requires.words (ap (λ z. slice_index c.places.result.now c.loop-i.i - z) start)
     )
 
 pub returns : goal.returns

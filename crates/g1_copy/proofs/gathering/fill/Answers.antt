@@ -1,4 +1,4 @@
-use Rattle.std.proofs.Common.{◌≡◌, ◌+◌, ◌-◌, ◌*◌, Contains, get_or, length, arith, ap, sym, subst, ◌∙◌}
+use Rattle.std.proofs.Common.{◌≡◌, ◌+◌, ◌-◌, Contains, get_or, length, arith, ap, sym, subst, ◌∙◌}
 use Rattle.g1_words.specs.Heap.{object_at, start}
 use Rattle.g1_words.specs.Layout.{forward}
 use Rattle.g1_words.specs.Copy.{renamed_words}
@@ -21,14 +21,14 @@ pub overflow_sub-from : goal.overflow_sub-from
 overflow_sub-from c =
     let h = c.args.heap.now in
     let s = in_run h c.args.plan.now c.geometry.ensures.valid c.requires.plan c.args.run c.requires.run c.loop-i.i (omega arith) (omega arith) in
-    let base : c.from.result * c.region_words.result ≡ start h c.args.run.region = cc in
+    let base : c.start-start.result ≡ start h c.args.run.region = cc in
     omega (arith, s.low, base, ap (λ xs. get_or xs c.loop-i.i 0) c.places.ensures)
 
 pub overflow_add-from : goal.overflow_add-from
 overflow_add-from c =
     let h = c.args.heap.now in
     let s = in_run h c.args.plan.now c.geometry.ensures.valid c.requires.plan c.args.run c.requires.run c.loop-i.i (omega arith) (omega arith) in
-    let base : c.from.result * c.region_words.result ≡ start h c.args.run.region = cc in
+    let base : c.start-start.result ≡ start h c.args.run.region = cc in
     let read = ap (λ xs. get_or xs c.loop-i.i 0) c.places.ensures in
     omega (arith, s.low, s.high, base, read, ap (λ o. o.size) c.object-object.ensures.object, c.geometry.ensures.valid.limits.w_most)
 
@@ -36,7 +36,7 @@ pub offset_bounds-words-from : goal.offset_bounds-words-from
 offset_bounds-words-from c =
     let h = c.args.heap.now in
     let s = in_run h c.args.plan.now c.geometry.ensures.valid c.requires.plan c.args.run c.requires.run c.loop-i.i (omega arith) (omega arith) in
-    let base : c.from.result * c.region_words.result ≡ start h c.args.run.region = cc in
+    let base : c.start-start.result ≡ start h c.args.run.region = cc in
     let read = ap (λ xs. get_or xs c.loop-i.i 0) c.places.ensures in
     omega (arith, s.low, s.high, base, read, c.geometry.ensures.valid.limits.w_most)
 
@@ -44,7 +44,7 @@ pub slice_bounds-copy-end : goal.slice_bounds-copy-end
 slice_bounds-copy-end c =
     let h = c.args.heap.now in
     let s = in_run h c.args.plan.now c.geometry.ensures.valid c.requires.plan c.args.run c.requires.run c.loop-i.i (omega arith) (omega arith) in
-    let base : c.from.result * c.region_words.result ≡ start h c.args.run.region = cc in
+    let base : c.start-start.result ≡ start h c.args.run.region = cc in
     let read = ap (λ xs. get_or xs c.loop-i.i 0) c.places.ensures in
     omega (arith, s.low, s.high, base, read, ap (λ o. o.size) c.object-object.ensures.object, c.loop-i.invariant.filling.count)
 
@@ -61,8 +61,8 @@ loop-i-preserved c =
     let p = c.args.plan.now in
     let i = c.loop-i.i in
     let object = c.object-object.result in
-    let from = get_or c.places.result.now i 0 - c.from.result * c.region_words.result in
-    let base : c.from.result * c.region_words.result ≡ start h c.args.run.region = cc in
+    let from = get_or c.places.result.now i 0 - c.start-start.result in
+    let base : c.start-start.result ≡ start h c.args.run.region = cc in
     let is : object ≡ object_at h (get_or p.survivors i 0) = c.object-object.ensures.object in
     let at : from ≡ get_or p.places i 0 - start h c.args.run.region = λ k. get_or (c.places.ensures k) i 0 - base k in
     let size : from + object.size - from ≡ (object_at h (get_or p.survivors i 0)).size = omega (arith, ap (λ o. o.size) is) in

@@ -19,7 +19,7 @@ pub returns-clause-ok : goal.returns-clause-ok
 returns-clause-ok g c =
     c.loop-card.invariant
     ∙ ap (flat_map (λ c'. patches_at c.args.heap.now c.args.plan.now.survivors (slots_on c.args.heap.now c'))) (take_whole c.args.cards.now c.loop-card.card-index c.loop-card-test.false)
-    ∙ patches_by_cards c.args.heap.now c.args.plan.now.survivors c.args.cards.now c.geometry.ensures.valid c.requires.rising
+    ∙ patches_by_cards c.args.heap.now c.args.plan.now.survivors c.args.cards.now c.valid.ensures c.requires.rising
 
 pub loop-card-smaller : goal.loop-card-smaller
 loop-card-smaller g c = omega (arith, c.loop-card-test.true)

@@ -8,9 +8,9 @@ use Rattle.g1_copy.proofs.preparing.new_roots.Goals as goal
 pub loop-root-init : goal.loop-root-init
 loop-root-init c = c.in_ok-roots.ensures.items
 
-pub renamed-requires : goal.renamed-requires
-renamed-requires c =
-    root_fits c.args.heap.now c.args.set.now c.args.plan.now c.geometry-geometry.ensures.valid c.requires c.roots-root-items.result.now c.loop-root.root-index 0 c.roots-root-items.ensures c.loop-root-test.true
+pub rename_reference-requires : goal.rename_reference-requires
+rename_reference-requires c =
+    root_fits c.args.heap.now c.args.set.now c.args.plan.now c.valid.ensures c.requires c.roots-root-items.result.now c.loop-root.root-index 0 c.roots-root-items.ensures c.loop-root-test.true
 
 pub loop-root-preserved : goal.loop-root-preserved
 loop-root-preserved c =
@@ -18,7 +18,7 @@ loop-root-preserved c =
     let xs = c.roots-root-items.result.now in
     let i = c.loop-root.root-index in
     c.in_ok-push.ensures.items
-    ∙ (λ q. c.loop-root.invariant q ++ c.renamed.ensures q ∷ [])
+    ∙ (λ q. c.loop-root.invariant q ++ c.rename_reference.ensures q ∷ [])
     ∙ sym (map-append f (take i xs) (get_or xs i 0 ∷ []))
     ∙ ap (map f) (sym (take_more xs i 0 c.loop-root-test.true))
 
@@ -26,7 +26,7 @@ pub returns : goal.returns
 returns c =
     let xs = c.roots-root-items.result.now in
     let f = renamed (moved_to c.args.plan.now.survivors c.args.plan.now.places) in
-    roots_made c.args.heap.now c.args.set.now c.args.plan.now c.geometry-geometry.ensures.valid c.requires xs c.loop-root.roots.items c.roots-root-items.ensures
+    roots_made c.args.heap.now c.args.set.now c.args.plan.now c.valid.ensures c.requires xs c.loop-root.roots.items c.roots-root-items.ensures
     (c.loop-root.invariant ∙ ap (map f) (take_all c.loop-root.root-index xs (omega (arith, c.loop-root-test.false))))
 
 pub loop-root-smaller : goal.loop-root-smaller

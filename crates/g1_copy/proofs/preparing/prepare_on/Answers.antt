@@ -5,8 +5,8 @@ use Rattle.g1_words.specs.Heap.{Heap}
 use Rattle.g1_words.specs.Layout.{to_space}
 use Rattle.g1_image.specs.Cards.{IsTracked}
 use Rattle.g1_image.specs.Image.{Image, IsImage}
-use Rattle.g1_after.specs.Made.{heap_after}
-use Rattle.g1_after.specs.Moved.{remembered_after}
+use Rattle.g1_after.specs.Made.{heap_moved}
+use Rattle.g1_after.specs.Moved.{remembered_moved}
 use Rattle.g1_after.specs.Unnamed.{unnamed_regions}
 use Rattle.g1_rem.proofs.Entering.{lent_back}
 use Rattle.g1_rem.specs.EntryCards.{cards_into}
@@ -15,7 +15,7 @@ use Rattle.g1_copy.specs.Fates.{AreFates}
 use Rattle.g1_copy.specs.Gathered.{to_space_words}
 use Rattle.g1_copy.specs.Plans.{IsPauseOf}
 use Rattle.g1_copy.specs.Patches.{AreFirsts}
-use Rattle.g1_copy.proofs.PreparedPause.{all_found, fates_after, firsts_there, found_rise, into_outside, into_rise, into_there, made_for, own_patches, remembered_left, runs_freed, runs_there, table_after}
+use Rattle.g1_copy.proofs.PreparedPause.{all_found, fates_after, firsts_there, found_rise, into_outside, into_rise, into_there, made_for, own_patches, remembered_left, regions_freed, runs_there, table_after}
 use Rattle.g1_copy.proofs.preparing.prepare_on.Given.{Over}
 use Rattle.g1_copy.proofs.preparing.prepare_on.Goals as goal
 use Rattle.g1_copy.proofs.preparing.prepare_on.Goals.{After-heap-heap, After-free, In_ok-freed}
@@ -88,17 +88,17 @@ unnamed-requires-clause-remembered g c = ap (λ l. map (λ s. s.items) l) c.dere
 
 -- the regions that are freed beside the set
 abbrev freed : Image → List ℕ → List ℕ → List ℕ
-freed i set l = unnamed_regions (heap_after i.heap set l)
+freed i set l = unnamed_regions (heap_moved i.heap set l)
 
-pub runs-requires : goal.runs-requires
-runs-requires g c =
-    let b = (goal.at.runs-requires g c).After-heap-heap in
+pub humongous_regions-requires : goal.humongous_regions-requires
+humongous_regions-requires g c =
+    let b = (goal.at.humongous_regions-requires g c).After-heap-heap in
     firsts_there c.args.tracked.now c.args.set.now c.args.plan.now c.requires.plan (the_tracked g b) c.heap-heap.result.now (the_heap g b) c.deref-6.result.now (c.deref-6.ensures.value ∙ c.in_ok-humongous.ensures)
 
 -- they are the runs that were found
 the_runs : (g : Over) (c : In_ok-freed g) → IsTracked c.args.tracked.now → c.heap-heap.result.now ≡ c.args.tracked.now.heap → c.in_ok-freed.freed.items ≡ freed c.args.tracked.now c.args.set.now c.args.plan.now.survivors
 the_runs g c tracked he =
-    runs_freed c.args.tracked.now c.args.set.now c.args.plan.now c.requires.plan tracked c.heap-heap.result.now he c.deref-6.result.now (c.deref-6.ensures.value ∙ c.in_ok-humongous.ensures) c.in_ok-freed.freed.items c.in_ok-freed.ensures
+    regions_freed c.args.tracked.now c.args.set.now c.args.plan.now c.requires.plan tracked c.heap-heap.result.now he c.deref-6.result.now (c.deref-6.ensures.value ∙ c.in_ok-humongous.ensures) c.in_ok-freed.freed.items c.in_ok-freed.ensures
 
 pub free-requires : goal.free-requires
 free-requires g c =
@@ -128,7 +128,7 @@ leave_all-requires g c =
     let runs = the_runs g (goal.at.leave_all-requires g c).In_ok-freed (the_tracked g e) (the_heap g e) in
     let sets : length c.deref_mut-2.result.now ≡ c.args.tracked.now.heap.geometry.n =
     ap length c.deref_mut-2.ensures.value ∙ sym (length-map c.in_ok-sets.sets.items (λ s. s.items)) ∙ ap length c.in_ok-sets.ensures.ok
-    ∙ length-map-range_with_len (remembered_after i p.set p.survivors (heap_after i.heap p.set p.survivors)) 0 i.heap.geometry.n in
+    ∙ length-map-range_with_len (remembered_moved i p.set p.survivors (heap_moved i.heap p.set p.survivors)) 0 i.heap.geometry.n in
     sets ∙ sym (the_fates g b (the_tracked g e) (the_heap g e) runs).one_each ∙ ap length (sym (c.deref-8.ensures.value ∙ fates_back g b))
 
 -- ---- what is made

@@ -22,9 +22,9 @@ cards_by_region-requires-clause-there g c =
     subst (λ h. AreThere h c.args.patches.now) (sym (the_heap g c))
     (subst (AreThere c.args.tracked.now.heap) (sym c.requires.patches) (outer_there c.args.tracked.now c.args.plan.now.set c.args.plan.now (the_image g c) c.requires.plan))
 
-pub joined_remembered-requires-after_bounds : goal.joined_remembered-requires-after_bounds
-joined_remembered-requires-after_bounds g c κs within =
-    let b = (goal.at.joined_remembered-requires-after_bounds g c).After-heap-heap in
+pub join_all-requires-after_bounds : goal.join_all-requires-after_bounds
+join_all-requires-after_bounds g c κs within =
+    let b = (goal.at.join_all-requires-after_bounds g c).After-heap-heap in
     let h = c.heap-heap.result.now in
     let outer = cards_lent h c.args.patches.now c.deref.result.now c.in_ok-outer.outer.items c.deref.ensures.value c.in_ok-outer.ensures in
     let inner = cards_lent h (copied_slots h c.args.plan.now.survivors) c.deref-2.result.now c.in_ok-inner.inner.items c.deref-2.ensures.value c.in_ok-inner.ensures in
@@ -41,4 +41,4 @@ returns-clause-ok g c =
     paused_remembered c.args.tracked.now c.args.plan.now.set c.args.plan.now (the_image g b) c.requires.plan h (the_heap g b)
     c.args.patches.now c.requires.patches c.args.fates.now c.requires.fates
     (map (λ s. s.items) c.args.remembered.now) (map (λ s. s.items) c.deref.result.now) (map (λ s. s.items) c.deref-2.result.now) c.requires.remembered outer inner
-    c.joined_remembered.result c.joined_remembered.ensures.ok
+    c.join_all.result c.join_all.ensures.ok

@@ -1,4 +1,4 @@
-use Rattle.std.proofs.Common.{arith, ◌≡◌, ◌*◌, ◌-◌, min, sym, ◌∙◌, eq-eqb, eqb-true}
+use Rattle.std.proofs.Common.{arith, ◌≡◌, ◌*◌, ◌-◌, min, ap, sym, ◌∙◌, eq-eqb, eqb-true}
 use Rattle.g1_words.specs.Heap.{region}
 use Rattle.g1_image.proofs.Tests.{never}
 use Rattle.g1_image.proofs.Runs.{continues, continued_by}
@@ -8,8 +8,7 @@ use Rattle.g1_image.proofs.shape.continuation_shaped.Goals.{then-left-region_wor
 pub returns-then-before-size : goal.returns-then-before-size
 returns-then-before-size c = never (λ s.
     let h = c.args.draft.now in
-    let w : c.region_words-region_words.result ≡ h.geometry.w = cc in
-    let e : c.from.result * c.region_words-region_words.result ≡ (c.args.r - c.args.first) * h.geometry.w = λ t. c.from.ensures t * w t in
+    let e : c.start-before.result ≡ (c.args.r - c.args.first) * h.geometry.w = c.start-before.ensures.value ∙ ap (λ g. (c.args.r - c.args.first) * g.w) c.geometry-geometry.ensures.same in
     let k = continues h c.args.r c.args.first c.args.size c.requires.latest c.requires.shaped (omega arith) s in
     omega (arith, e, k.0, c.if-before-size.true))
 
@@ -17,7 +16,7 @@ pub returns : goal.returns
 returns c =
     let h = c.args.draft.now in
     let w : c.region_words-region_words.result ≡ h.geometry.w = cc in
-    let e : c.from.result * c.region_words-region_words.result ≡ (c.args.r - c.args.first) * h.geometry.w = λ t. c.from.ensures t * w t in
+    let e : c.start-before.result ≡ (c.args.r - c.args.first) * h.geometry.w = c.start-before.ensures.value ∙ ap (λ g. (c.args.r - c.args.first) * g.w) c.geometry-geometry.ensures.same in
     let top : c.from-top.result ≡ (region h c.args.r).top = cc in
     let least : c.if-left-region_words.least ≡ min h.geometry.w (c.args.size - (c.args.r - c.args.first) * h.geometry.w) =
     elim c.if-left-region_words.branch [ then-left-region_words b ↦ omega (arith, b.least-is, b.if-left-region_words.true, e, w) | else-left-region_words b ↦ omega (arith, b.least-is, b.if-left-region_words.false, e, w) ] in (

@@ -4,7 +4,7 @@ use Rattle.g1_words.specs.Valid.{IsWholeRun}
 use Rattle.g1_image.proofs.Rows.{start_in}
 use Rattle.g1_image.proofs.Tiled.{header_is}
 use Rattle.g1_image.proofs.shape.humongous_shaped.Goals as goal
-use Rattle.g1_image.proofs.shape.humongous_shaped.Goals.{then-o-region_words-2, else-o-region_words-2}
+use Rattle.g1_image.proofs.shape.humongous_shaped.Goals.{then-o-region_words, else-o-region_words}
 
 pub header-o-requires : goal.header-o-requires
 header-o-requires c =
@@ -18,18 +18,19 @@ returns c =
     let r = c.args.r in
     let q = c.header-o.result in
     let w : c.region_words-region_words.result ≡ h.geometry.w = cc in
+    let wide : c.geometry-geometry.result.w ≡ h.geometry.w = ap (λ g. g.w) c.geometry-geometry.ensures.same in
     let place : c.start.result ≡ start h r = cc in
     let word : slice_index h.words (start h r) ≡ q.size * 2 ^ 32 + q.refs = sym (λ t. slice_index (c.words.ensures.same t) (place t)) ∙ c.header-o.ensures.word in
     let at : q.at ≡ start h r = c.header-o.ensures.at ∙ place in
     let top : c.from-top.result ≡ (region h r).top = cc in
-    let least : c.if-o-region_words-2.least ≡ min h.geometry.w q.size = elim c.if-o-region_words-2.branch [
-      | then-o-region_words-2 b ↦ omega (arith, b.least-is, b.if-o-region_words-2.true, w)
-      | else-o-region_words-2 b ↦ omega (arith, b.least-is, b.if-o-region_words-2.false, w)
+    let least : c.if-o-region_words.least ≡ min h.geometry.w q.size = elim c.if-o-region_words.branch [
+      | then-o-region_words b ↦ omega (arith, b.least-is, b.if-o-region_words.true, w)
+      | else-o-region_words b ↦ omega (arith, b.least-is, b.if-o-region_words.false, w)
     ] in (
       (λ t. (
         q,
         record { kind = c.requires.kind; at = at; object = record { header = (λ u. slice_index h.words (at u)) ∙ word; refs_fit = c.if-o.false; size_fits = c.header-o.ensures.size } },
-        omega (arith, w, c.if-o-region_words.false),
+        omega (arith, wide, c.is_humongous.ensures.0 c.if-not-is_humongous.false),
         omega (arith, top, least, c.if-top-least.false),
         c.is_run.ensures.0 t,
       )),

@@ -9,7 +9,8 @@ loop-i-preserved c =
     let r = get_or c.args.set.now c.loop-i.i 0 in
     let same : length (set c.loop-i.positions.items r (Some c.loop-i.i)) ≡ length c.loop-i.positions.items = simp length-set in
     record {
-      positioned = Positioned-step c.args.set.now c.loop-i.i r c.loop-i.positions.items c.requires.rising c.loop-i-test.true refl (omega (arith, here, c.loop-i.invariant.count)) c.loop-i.invariant.positioned;
+      positioned = Positioned-step c.args.set.now c.loop-i.i r c.loop-i.positions.items c.requires.rising c.loop-i-test.true refl
+          (omega (arith, here, c.loop-i.invariant.count)) c.loop-i.invariant.positioned;
       count = same ∙ c.loop-i.invariant.count;
     }
 

@@ -1,4 +1,5 @@
 use Rattle.std.proofs.Common.{◌/◌, ◌<◌, ◌≤◌, ◌^◌, All, Contains, length, subst, sym, ap, ◌∙◌, arith}
+use Rattle.g1_words.specs.Geometry.{most_words}
 use Rattle.g1_words.specs.Layout.{free_regions, need}
 use Rattle.g1_layout.proofs.Conditions.{can_lay, set_in_heap}
 use Rattle.g1_layout.proofs.Running.{count_places, places_low}
@@ -35,4 +36,5 @@ new-requires-clause-low c =
     let l = c.args.survivors.now in
     let valid = c.geometry-geometry.ensures.valid in
     let room : need h l ≤ length (free_regions h) = omega (arith, c.if-need-free.false, c.need-need.ensures, c.free_count-free.ensures) in
-    subst (All (λ p. p < 2 ^ 24)) (sym (c.deref-4.ensures.value ∙ c.in_ok-places.ensures)) (places_low h l (omega (arith, valid.limits.w_least)) (can_lay h c.args.set.now l valid c.requires) room valid.limits.words_most)
+    subst (All (λ p. p < most_words)) (sym (c.deref-4.ensures.value ∙ c.in_ok-places.ensures))
+    (places_low h l (omega (arith, valid.limits.w_least)) (can_lay h c.args.set.now l valid c.requires) room valid.limits.words_most)

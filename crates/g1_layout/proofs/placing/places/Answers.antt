@@ -18,7 +18,8 @@ bounds-to_space-number c =
     let at : c.next_fit-at.result ≡ next_fit h.geometry.w c.loop-a.end size = c.next_fit-at.ensures ∙ ap (λ g. next_fit g.w c.loop-a.end size) same in
     let region : c.region_of-number.result ≡ next_fit h.geometry.w c.loop-a.end size / h.geometry.w = c.region_of-number.ensures ∙ (λ t. at t / (same t).w) in
     let count : length c.args.to_space.now ≡ need h l = ap length c.requires.regions ∙ length-take-le (need h l) (free_regions h) c.requires.room in
-    let below = Laying-in_need h l c.loop-a.a-index c.loop-a.end size (omega (arith, c.geometry-geometry.ensures.valid.limits.w_least)) c.requires.fits c.loop-a.invariant.laying c.loop-a-test.true c.size_at-size.ensures in
+    let below = Laying-in_need h l c.loop-a.a-index c.loop-a.end size (omega (arith, c.geometry-geometry.ensures.valid.limits.w_least))
+    c.requires.fits c.loop-a.invariant.laying c.loop-a-test.true c.size_at-size.ensures in
     omega (arith, region, count, below)
 
 pub overflow_add-start : goal.overflow_add-start
@@ -26,7 +27,8 @@ overflow_add-start c =
     let w = c.region_words-region_words.result in
     let r = get_or c.args.to_space.now c.region_of-number.result 0 in
     let left = offset c.next_fit-at.result c.geometry-geometry.result.w c.region_of-number.result w c.region_of-number.ensures c.region_words-region_words.ensures.value in
-    let most : r * c.geometry-geometry.result.w ≤ (2 ^ 32 - 1) * c.geometry-geometry.result.w = mul-le-mul_right c.geometry-geometry.result.w (omega (arith, c.type_inv.to_space c.region_of-number.result)) in
+    let most : r * c.geometry-geometry.result.w ≤ (2 ^ 32 - 1) * c.geometry-geometry.result.w =
+    mul-le-mul_right c.geometry-geometry.result.w (omega (arith, c.type_inv.to_space c.region_of-number.result)) in
     omega (arith, left, most, c.start.ensures.value, c.start.ensures.limits.w_most, c.start.ensures.limits.w_least)
 
 pub loop-a-preserved : goal.loop-a-preserved
@@ -43,9 +45,11 @@ loop-a-preserved c =
     let region : r ≡ get_or (to_space h l) (next_fit h.geometry.w c.loop-a.end size / h.geometry.w) 0 = (λ t. get_or (c.requires.regions t) (number t) 0) in
     let start : c.start.result ≡ r * h.geometry.w = c.start.ensures.value ∙ ap (λ g. r * g.w) same in
     let left : c.next_fit-at.result - c.region_of-number.result * c.region_words-region_words.result ≡ next_fit h.geometry.w c.loop-a.end size % h.geometry.w =
-    offset c.next_fit-at.result c.geometry-geometry.result.w c.region_of-number.result c.region_words-region_words.result c.region_of-number.ensures c.region_words-region_words.ensures.value ∙ (λ t. at t % (same t).w) in
+    offset c.next_fit-at.result c.geometry-geometry.result.w c.region_of-number.result c.region_words-region_words.result c.region_of-number.ensures
+    c.region_words-region_words.ensures.value ∙ (λ t. at t % (same t).w) in
     let items : c.push.new.self.items ≡ ps ++ (r * h.geometry.w + next_fit h.geometry.w c.loop-a.end size % h.geometry.w) ∷ [] = c.in_ok-push.ensures.items ∙ (λ t. ps ++ (start t + left t) ∷ []) in
-    let step = Placing-step h l i c.loop-a.end size r ps (omega (arith, c.geometry-geometry.ensures.valid.limits.w_least)) c.geometry-geometry.ensures.valid.limits.w_most c.requires.fits c.loop-a.invariant c.loop-a-test.true c.size_at-size.ensures region in
+    let step = Placing-step h l i c.loop-a.end size r ps (omega (arith, c.geometry-geometry.ensures.valid.limits.w_least))
+    c.geometry-geometry.ensures.valid.limits.w_most c.requires.fits c.loop-a.invariant c.loop-a-test.true c.size_at-size.ensures region in
     subst (λ e. Placing h l (i + 1) e c.push.new.self.items) (ap (λ x. x + size) (sym at))
     (subst (λ xs. Placing h l (i + 1) (next_fit h.geometry.w c.loop-a.end size + size) xs) (sym items) step)
 

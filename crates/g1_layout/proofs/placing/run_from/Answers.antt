@@ -30,7 +30,8 @@ returns-then-from-to c =
     let h = c.args.heap.now in
     let start = c.start-start.ensures.value ∙ ap (λ g. c.args.region * g.w) c.geometry-geometry.ensures.same in
     let before : ℕ = get_or c.args.places.now (c.loop-to.to - 1) 0 in
-    Running-end h c.args.survivors.now c.args.places.now c.args.region c.args.from c.loop-to.to (before + c.size_at.result - c.start-start.result) (omega (arith, c.geometry-geometry.ensures.valid.limits.w_least))
+    Running-end h c.args.survivors.now c.args.places.now c.args.region c.args.from c.loop-to.to (before + c.size_at.result - c.start-start.result)
+    (omega (arith, c.geometry-geometry.ensures.valid.limits.w_least))
     c.requires.fits c.requires.room c.requires.placed c.loop-to.invariant
     (λ e. absurd (omega (arith, e, c.if-from-to.true)))
     (λ lt. λ t. before + c.size_at.ensures t - start t)
@@ -38,7 +39,8 @@ returns-then-from-to c =
 
 pub returns-else-from-to : goal.returns-else-from-to
 returns-else-from-to c =
-    Running-end c.args.heap.now c.args.survivors.now c.args.places.now c.args.region c.args.from c.loop-to.to 0 (omega (arith, c.geometry-geometry.ensures.valid.limits.w_least)) c.requires.fits c.requires.room c.requires.placed
+    Running-end c.args.heap.now c.args.survivors.now c.args.places.now c.args.region c.args.from c.loop-to.to 0
+    (omega (arith, c.geometry-geometry.ensures.valid.limits.w_least)) c.requires.fits c.requires.room c.requires.placed
     c.loop-to.invariant
     (λ e. refl)
     (λ lt. absurd (omega (arith, lt, c.if-from-to.false)))

@@ -9,7 +9,7 @@ pub read-requires-clause-there : goal.read-requires-clause-there
 read-requires-clause-there c =
     let h = c.args.heap.now in
     let p = c.args.plan.now in
-    let lay = can_lay h p.set p.survivors c.geometry.ensures.valid c.requires.plan.placeable in
+    let lay = can_lay h p.set p.survivors c.valid.ensures c.requires.plan.placeable in
     let words : All (λ a. a < length c.words.result.now) p.survivors = subst (λ xs. All (λ a. a < length xs) p.survivors) (sym c.words.ensures) lay.in_words in
     part_below _ _ _ _ (subst (All (λ a. a < length c.words.result.now)) (sym c.survivors-survivors.ensures) words)
 

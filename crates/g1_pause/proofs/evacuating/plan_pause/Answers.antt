@@ -14,7 +14,7 @@ use Rattle.g1_layout.specs.Plan.{Plan}
 use Rattle.g1_pause.specs.Answer.{IsEvacuated, IsSetFor}
 use Rattle.g1_pause.proofs.Planning.{cards_there, set_there, set_leads, set_places, set_refused, set_planned}
 use Rattle.g1_pause.proofs.Reported.{reported}
-use Rattle.g1_pause.proofs.evacuating.planned.Goals as goal
+use Rattle.g1_pause.proofs.evacuating.plan_pause.Goals as goal
 
 pub cards_into-requires-clause-remembered : goal.cards_into-requires-clause-remembered
 cards_into-requires-clause-remembered g c =

@@ -7,13 +7,13 @@ use Rattle.std.proofs.lemmas.List.{get_or_past, get_or_default}
 use Rattle.std.proofs.lemmas.List.FromFn.{get_or-map-range_with_len, length-map-range_with_len, length-range_with_len}
 use Rattle.std.proofs.Math.Nat.{div-le_self, div-mul-le_self, mul-le-mul_right}
 use Rattle.g1_image.proofs.Covers.{cards_rise}
-use Rattle.g1_after.proofs.CoveredAfter.{covered_after}
+use Rattle.g1_after.proofs.CoveredMoved.{covered_moved}
 use Rattle.g1_after.proofs.ObjectsOf.{used_not_to_space}
-use Rattle.g1_after.proofs.RulesAfter.{valid_after}
-use Rattle.g1_after.proofs.ValidAfter.{other_shape, sound_before}
+use Rattle.g1_after.proofs.RulesMoved.{valid_moved}
+use Rattle.g1_after.proofs.ValidMoved.{other_shape, sound_before}
 use Rattle.g1_image.specs.Cards.{IsTracked, cards_where, exact, is_exact, is_refined, leads_into}
 use Rattle.g1_image.specs.Image.{Image, IsImage, IsLog, IsRememberedSet, IsUsedCard, MayHoldCards, region_of_card, remembered_of}
-use Rattle.g1_after.specs.Moved.{IsMoved, card_in, remembered_after}
+use Rattle.g1_after.specs.Moved.{IsMoved, card_in, remembered_moved}
 use Rattle.g1_words.proofs.Bounds.{card_in_region, cards_in_region}
 use Rattle.g1_words.proofs.Indices.{range_bounds}
 use Rattle.g1_words.proofs.Members.{Contains-from_in, In, In-from_contains, and_true, any_member, filter_member, flat_map_cases, in_from_has, map_cases, or_true}
@@ -102,7 +102,7 @@ exact_card h valid r c t =
 
 module _ (i : Image) (set l : List ℕ) (j : Image) (valid : IsBuilt i.heap) (ordinary : AllOrdinary i.heap set) (survivors : Survivors i.heap set l) (room : need i.heap l ≤ length (free_regions i.heap)) (moved : IsMoved i set l j) (image : IsImage i) where
   v : IsBuilt j.heap
-  v = valid_after i set l j valid ordinary survivors room moved
+  v = valid_moved i set l j valid ordinary survivors room moved
 
   s : IsSound i.heap
   s = sound_before i set l j valid ordinary survivors room moved
@@ -110,8 +110,8 @@ module _ (i : Image) (set l : List ℕ) (j : Image) (valid : IsBuilt i.heap) (or
   abbrev test : ℕ → ℕ → Bool
   test r c = (is_refined i r c && not (card_in i.heap set c)) || (card_in i.heap (to_space i.heap l) c && is_exact j.heap r c)
 
-  rem_is : (r : ℕ) → r < i.heap.geometry.n → remembered_of j r ≡ remembered_after i set l j.heap r
-  rem_is r lt = ap (λ xs. get_or xs r []) moved.remembered ∙ get_or-map-range_with_len (remembered_after i set l j.heap) 0 i.heap.geometry.n r r [] lt (omega arith)
+  rem_is : (r : ℕ) → r < i.heap.geometry.n → remembered_of j r ≡ remembered_moved i set l j.heap r
+  rem_is r lt = ap (λ xs. get_or xs r []) moved.remembered ∙ get_or-map-range_with_len (remembered_moved i set l j.heap) 0 i.heap.geometry.n r r [] lt (omega arith)
 
   remembered_set : (r : ℕ) → r < i.heap.geometry.n → has set r ≡ true → remembered_of j r ≡ []
   remembered_set r lt t = rem_is r lt ∙ (λ q. cond (t q) [] (cond (has (to_space i.heap l) r) (exact j.heap r) (cards_where i.heap (test r))))
@@ -179,8 +179,8 @@ module _ (i : Image) (set l : List ℕ) (j : Image) (valid : IsBuilt i.heap) (or
     ]
   ]
 
-  rising_after : (r : ℕ) → r < i.heap.geometry.n → IsStrictlyIncreasing (remembered_of j r)
-  rising_after r lt = elim (cases_Bool (has set r)) [
+  rising_moved : (r : ℕ) → r < i.heap.geometry.n → IsStrictlyIncreasing (remembered_of j r)
+  rising_moved r lt = elim (cases_Bool (has set r)) [
     | inl t ↦ subst IsStrictlyIncreasing (sym (remembered_set r lt t)) (λ k less. absurd (omega (arith, less)))
     | inr a ↦ elim (cases_Bool (has (to_space i.heap l) r)) [
       | inl t ↦ subst IsStrictlyIncreasing (sym (rem_goal r lt a t)) (cards_rise j.heap (is_exact j.heap r))
@@ -196,8 +196,8 @@ module _ (i : Image) (set l : List ℕ) (j : Image) (valid : IsBuilt i.heap) (or
       let most = b.limits.words_most in
       omega arith
 
-  few_after : (r : ℕ) → r < i.heap.geometry.n → length (remembered_of j r) < 2 ^ 32
-  few_after r lt = elim (cases_Bool (has set r)) [
+  few_moved : (r : ℕ) → r < i.heap.geometry.n → length (remembered_of j r) < 2 ^ 32
+  few_moved r lt = elim (cases_Bool (has set r)) [
     | inl t ↦ subst (λ xs. length xs < 2 ^ 32) (sym (remembered_set r lt t)) (lit< tt)
     | inr a ↦ elim (cases_Bool (has (to_space i.heap l) r)) [
       | inl t ↦ subst (λ xs. length xs < 2 ^ 32) (sym (rem_goal r lt a t)) (few j.heap v (is_exact j.heap r))
@@ -211,26 +211,26 @@ module _ (i : Image) (set l : List ℕ) (j : Image) (valid : IsBuilt i.heap) (or
   there : (r k d : ℕ) → k < length (remembered_of j r) → In (remembered_of j r) (get_or (remembered_of j r) k d)
   there r k d lt = In-from_contains (remembered_of j r) (get_or (remembered_of j r) k d) (k, lt, get_or_default (remembered_of j r) k (get_or (remembered_of j r) k d) d lt)
 
-  set_after : (r : ℕ) → r < j.heap.geometry.n → IsRememberedSet j.heap r (remembered_of j r)
-  set_after r lt = record {
-    rising = rising_after r (below_n r lt);
+  set_moved : (r : ℕ) → r < j.heap.geometry.n → IsRememberedSet j.heap r (remembered_of j r)
+  set_moved r lt = record {
+    rising = rising_moved r (below_n r lt);
     elsewhere = λ k d less. let right = right_in r (get_or (remembered_of j r) k d) (below_n r lt) (there r k d less) in
         (record { in_heap = card_starts j.heap.geometry.w j.heap.geometry.k j.heap.geometry.n (get_or (remembered_of j r) k d) (card_positive j.heap.geometry.w j.heap.geometry.k j.heap.geometry.n v.limits) right.0.0; used = right.0.1 }, right.1);
-    count = few_after r (below_n r lt);
+    count = few_moved r (below_n r lt);
     owner = λ some. let right = right_in r (get_or (remembered_of j r) 0 0) (below_n r lt) (there r 0 0 some) in may_hold (kind j.heap r) right.2;
   }
 
-  pub image_after_is : IsImage j
-  image_after_is = record {
+  pub image_moved_is : IsImage j
+  image_moved_is = record {
     heap = valid_of j.heap v;
-    one_each = ap length moved.remembered ∙ length-map-range_with_len (remembered_after i set l j.heap) 0 i.heap.geometry.n ∙ sym (ap (λ (g : Geometry). g.n) moved.geometry);
-    remembered = set_after;
+    one_each = ap length moved.remembered ∙ length-map-range_with_len (remembered_moved i set l j.heap) 0 i.heap.geometry.n ∙ sym (ap (λ (g : Geometry). g.n) moved.geometry);
+    remembered = set_moved;
     log = subst (IsLog j.heap) (sym moved.log) (record { used = λ k d less. absurd (omega (arith, less)); distinct = pairs_from_ordered (λ c d. c ≢ d) [] tt; count = lit< tt });
   }
 
 -- the image after is an image and covered
-pub tracked_after : (i : Image) (set l : List ℕ) (j : Image) → IsTracked i → AllOrdinary i.heap set → Survivors i.heap set l → need i.heap l ≤ length (free_regions i.heap) → IsMoved i set l j → IsTracked j
-tracked_after i set l j t o v r m = record {
-  image = image_after_is i set l j (built i.heap t.image.heap) o v r m t.image;
-  covered = covered_after i set l j (built i.heap t.image.heap) o v r m t.covered;
+pub tracked_moved : (i : Image) (set l : List ℕ) (j : Image) → IsTracked i → AllOrdinary i.heap set → Survivors i.heap set l → need i.heap l ≤ length (free_regions i.heap) → IsMoved i set l j → IsTracked j
+tracked_moved i set l j t o v r m = record {
+  image = image_moved_is i set l j (built i.heap t.image.heap) o v r m t.image;
+  covered = covered_moved i set l j (built i.heap t.image.heap) o v r m t.covered;
 }

@@ -4,10 +4,10 @@ use Rattle.std.specs.List.Sorted.{IsStrictlyIncreasing}
 use Rattle.g1_image.specs.Image.{region_of_card}
 use Rattle.g1_copy.specs.Remembered.{cards_at}
 use Rattle.g1_copy.proofs.RememberedJoined.{read_at}
-use Rattle.g1_copy.proofs.remembering.joined_at.Goals as goal
+use Rattle.g1_copy.proofs.remembering.join_at.Goals as goal
 
-pub joined-requires : goal.joined-requires
-joined-requires c =
+pub join-requires : goal.join-requires
+join-requires c =
     let h = c.args.heap.now in
     let r = c.args.region in
     let lt = c.requires.region in

@@ -2,7 +2,7 @@ use Rattle.std.proofs.Common.{subst, sym, ◌∙◌}
 use Rattle.std.specs.List.Sorted.{IsStrictlyIncreasing}
 use Rattle.std.proofs.lemmas.List.Kept.{IsStrictlyIncreasing-filter}
 use Rattle.g1_copy.specs.Remembered.{stays}
-use Rattle.g1_copy.proofs.remembering.joined.Goals as goal
+use Rattle.g1_copy.proofs.remembering.join.Goals as goal
 
 pub merged-requires-in-Kept-clause-left : goal.merged-requires-in-Kept-clause-left
 merged-requires-in-Kept-clause-left c =

@@ -4,9 +4,9 @@ use Rattle.rayon.specs.Numbers.{nat_range}
 use Rattle.rayon.proofs.ToStd.{nat_range-All}
 use Rattle.g1_copy.specs.Remembered.{IsJoinedAt}
 use Rattle.g1_copy.proofs.RememberedJoined.{gathered_remembered, gathered_fault}
-use Rattle.g1_copy.proofs.remembering.joined_by_threads.Given.{Over}
-use Rattle.g1_copy.proofs.remembering.joined_by_threads.Goals as goal
-use Rattle.g1_copy.proofs.remembering.joined_by_threads.Goals.{After-regions-count}
+use Rattle.g1_copy.proofs.remembering.join_by_threads.Given.{Over}
+use Rattle.g1_copy.proofs.remembering.join_by_threads.Goals as goal
+use Rattle.g1_copy.proofs.remembering.join_by_threads.Goals.{After-regions-count}
 
 -- the numbers are those of the heap's regions
 count : (g : Over) (c : After-regions-count g) → c.regions-count.result ≡ c.args.heap.now.geometry.n

@@ -18,13 +18,13 @@ use Rattle.g1_words.proofs.Shapes.{IsBuilt, built}
 use Rattle.g1_words.proofs.Standing.{home_region, w_pos, word_used}
 use Rattle.g1_image.specs.Cards.{IsTracked}
 use Rattle.g1_image.specs.Image.{Image}
-use Rattle.g1_after.specs.Made.{heap_after}
+use Rattle.g1_after.specs.Made.{heap_moved}
 use Rattle.g1_after.specs.Unnamed.{is_named, lies_in, unnamed, unnamed_regions}
-use Rattle.g1_after.proofs.CoveredAfter.{and_both, any_from_in}
+use Rattle.g1_after.proofs.CoveredMoved.{and_both, any_from_in}
 use Rattle.g1_after.proofs.UnnamedRegions.{humongous_home, lies_word, unnamed_humongous}
 use Rattle.g1_rem.proofs.Rising.{Rises, Rises-append, Rises-filter, Rises-one, Rises-range, Rises-weaken}
-use Rattle.g1_copy.specs.Unnamed.{run_regions}
-use Rattle.g1_copy.proofs.UnnamedFirsts.{after_tracked, first_by_test, kind_tells, object_same}
+use Rattle.g1_copy.specs.Unnamed.{humongous_regions}
+use Rattle.g1_copy.proofs.UnnamedFirsts.{moved_tracked, first_by_test, kind_tells, object_same}
 
 -- lists put together of a mapped list
 flat_map-map : {A : Type 0} (f : ℕ → List ℕ) (g : A → ℕ) (xs : List A) → flat_map f (map g xs) ≡ flat_map (λ x. f (g x)) xs
@@ -55,8 +55,8 @@ module _ (h : Heap) (valid : IsValid h) where
       (t.3.at ∙ ap (λ x. x * h.geometry.w) (sym r), ap (λ x. (object_at h (x * h.geometry.w)).size) r ∙ sym t.3.size)
 
   -- the regions of its run
-  run_is : (o : Object) → In (unnamed h) o → run_regions h (region_of h o.at) ≡ range_with_len (region_of h o.at) (count o)
-  run_is o k = ap (λ x. range_with_len (region_of h o.at) (div_ceil x h.geometry.w)) (stands_at o k).1
+  regions_are : (o : Object) → In (unnamed h) o → humongous_regions h (region_of h o.at) ≡ range_with_len (region_of h o.at) (count o)
+  regions_are o k = ap (λ x. range_with_len (region_of h o.at) (div_ceil x h.geometry.w)) (stands_at o k).1
 
   -- they are those that it lies in
   run_lies : (o : Object) (x : ℕ) → In (unnamed h) o → In (range_with_len (region_of h o.at) (count o)) x → lies_in h x o ≡ true
@@ -97,17 +97,17 @@ module _ (h : Heap) (valid : IsValid h) where
       In-range (region_of h o.at) (count o) x above below
 
   -- the runs rise
-  runs_rise : (os : List Object) → Ordered IsBefore os → ((o : Object) → In os o → In (unnamed h) o) → (lo : ℕ) → ((o : Object) → In os o → lo ≤ region_of h o.at) → Rises lo (flat_map (λ o. run_regions h (region_of h o.at)) os)
-  runs_rise [] order these lo above = tt
-  runs_rise (o ∷ os) order these lo above =
+  regions_rise : (os : List Object) → Ordered IsBefore os → ((o : Object) → In os o → In (unnamed h) o) → (lo : ℕ) → ((o : Object) → In os o → lo ≤ region_of h o.at) → Rises lo (flat_map (λ o. humongous_regions h (region_of h o.at)) os)
+  regions_rise [] order these lo above = tt
+  regions_rise (o ∷ os) order these lo above =
       let r : ℕ = region_of h o.at in
       let k = these o (inl refl) in
       let le = above o (inl refl) in
-      let here : Rises lo (run_regions h (region_of h o.at)) = subst (Rises lo) (sym (run_is o k)) (Rises-weaken lo r (range_with_len r (count o)) le (Rises-range r (count o))) in
-      Rises-append lo (region_of h o.at + count o) (run_regions h (region_of h o.at)) (flat_map (λ o. run_regions h (region_of h o.at)) os) here
-      (runs_rise os order.1 (λ p m. these p (inr m)) (region_of h o.at + count o) (λ p m. later p (these p (inr m)) k (order.0 p m)))
+      let here : Rises lo (humongous_regions h (region_of h o.at)) = subst (Rises lo) (sym (regions_are o k)) (Rises-weaken lo r (range_with_len r (count o)) le (Rises-range r (count o))) in
+      Rises-append lo (region_of h o.at + count o) (humongous_regions h (region_of h o.at)) (flat_map (λ o. humongous_regions h (region_of h o.at)) os) here
+      (regions_rise os order.1 (λ p m. these p (inr m)) (region_of h o.at + count o) (λ p m. later p (these p (inr m)) k (order.0 p m)))
       (omega (arith, le))
-      (λ x m. range_below r (count o) x (subst (λ xs. In xs x) (run_is o k) m))
+      (λ x m. range_below r (count o) x (subst (λ xs. In xs x) (regions_are o k) m))
     where
       later : (p : Object) → In (unnamed h) p → In (unnamed h) o → o.at + o.size ≤ p.at → region_of h o.at + count o ≤ region_of h p.at
       later p m k before = elim (cases_lt (region_of h p.at) (region_of h o.at + count o)) [
@@ -124,23 +124,23 @@ module _ (h : Heap) (valid : IsValid h) where
       ]
 
   -- the runs are the regions of the objects that nothing names
-  runs_are_regions : flat_map (run_regions h) (map (λ o. region_of h o.at) (unnamed h)) ≡ unnamed_regions h
-  runs_are_regions =
+  all_regions : flat_map (humongous_regions h) (map (λ o. region_of h o.at) (unnamed h)) ≡ unnamed_regions h
+  all_regions =
       let order : Ordered IsBefore (unnamed h) =
       Ordered-filter IsBefore (λ o. not (is_named h o)) (filter (λ o. is_first (kind h (region_of h o.at))) (objects h))
       (Ordered-filter IsBefore (λ o. is_first (kind h (region_of h o.at))) (objects h) (Ordered-from_pairs IsBefore (objects h) (objects_apart h valid))) in
-      flat_map-map (run_regions h) (λ o. region_of h o.at) (unnamed h)
-      ∙ Rises-one 0 0 (flat_map (λ o. run_regions h (region_of h o.at)) (unnamed h)) (unnamed_regions h)
-      (runs_rise (unnamed h) order (λ o k. k) 0 (λ o k. omega arith))
+      flat_map-map (humongous_regions h) (λ o. region_of h o.at) (unnamed h)
+      ∙ Rises-one 0 0 (flat_map (λ o. humongous_regions h (region_of h o.at)) (unnamed h)) (unnamed_regions h)
+      (regions_rise (unnamed h) order (λ o k. k) 0 (λ o k. omega arith))
       (Rises-filter (λ r. list_any (lies_in h r) (unnamed h)) 0 (regions h) (Rises-range 0 h.geometry.n))
       (λ x k.
-      let m = flat_map_cases (λ o. run_regions h (region_of h o.at)) (unnamed h) x k in
-      let t = run_lies m.0 x m.1 (subst (λ xs. In xs x) (run_is m.0 m.1) m.2) in
+      let m = flat_map_cases (λ o. humongous_regions h (region_of h o.at)) (unnamed h) x k in
+      let t = run_lies m.0 x m.1 (subst (λ xs. In xs x) (regions_are m.0 m.1) m.2) in
       In-filter (λ r. list_any (lies_in h r) (unnamed h)) (regions h) x (In-range 0 h.geometry.n x (omega arith) (let lt = inside m.0 x m.1 t in omega (arith, lt))) (any_from_in (lies_in h x) (unnamed h) m.0 m.1 t))
       (λ x k.
       let m = filter_member (λ r. list_any (lies_in h r) (unnamed h)) (regions h) x k in
       let a = any_member (lies_in h x) (unnamed h) m.1 in
-      In-flat_map (λ o. run_regions h (region_of h o.at)) (unnamed h) a.0 x a.1 (subst (λ xs. In xs x) (sym (run_is a.0 a.1)) (lies_run a.0 x a.1 a.2)))
+      In-flat_map (λ o. humongous_regions h (region_of h o.at)) (unnamed h) a.0 x a.1 (subst (λ xs. In xs x) (sym (regions_are a.0 a.1)) (lies_run a.0 x a.1 a.2)))
     where
       inside : (o : Object) (x : ℕ) → In (unnamed h) o → lies_in h x o ≡ true → x < h.geometry.n
       inside o x k t =
@@ -156,20 +156,20 @@ unnamed_first h o k =
 
 -- ---- from the heap before
 
-module _ (i : Image) (set l : List ℕ) (tracked : IsTracked i) (a : HasRoom i.heap set l) (firsts : List ℕ) (are : firsts ≡ map (λ (o : Object). region_of i.heap o.at) (unnamed (heap_after i.heap set l))) where
+module _ (i : Image) (set l : List ℕ) (tracked : IsTracked i) (a : HasRoom i.heap set l) (firsts : List ℕ) (are : firsts ≡ map (λ (o : Object). region_of i.heap o.at) (unnamed (heap_moved i.heap set l))) where
   abbrev j : Heap
-  j = heap_after i.heap set l
+  j = heap_moved i.heap set l
 
   -- the heap after the moves is valid
-  after_valid : IsValid (heap_after i.heap set l)
-  after_valid = (after_tracked i set l tracked a).image.heap
+  moved_valid : IsValid (heap_moved i.heap set l)
+  moved_valid = (moved_tracked i set l tracked a).image.heap
 
   -- a first region is one of the heap's, and a humongous object begins there
   first_is : (r : ℕ) → In firsts r → (r < i.heap.geometry.n) × (is_first (kind i.heap r) ≡ true)
   first_is r k =
       let m = map_cases (λ (o : Object). region_of i.heap o.at) (unnamed j) r (subst (λ xs. In xs r) are k) in
-      let t = humongous_home j (built j after_valid) m.0 (unnamed_humongous j (built j after_valid) m.0 m.1).0 in
-      let at : t.0 ≡ r = sym (home_region j (built j after_valid) t.0 m.0 t.2) ∙ m.2 in
+      let t = humongous_home j (built j moved_valid) m.0 (unnamed_humongous j (built j moved_valid) m.0 m.1).0 in
+      let at : t.0 ≡ r = sym (home_region j (built j moved_valid) t.0 m.0 t.2) ∙ m.2 in
       let lt : r < i.heap.geometry.n = subst (λ x. x < i.heap.geometry.n) at t.2.0 in (
         lt,
         elim (cases_Bool (is_first (kind i.heap r))) [
@@ -183,13 +183,13 @@ module _ (i : Image) (set l : List ℕ) (tracked : IsTracked i) (a : HasRoom i.h
   firsts_below k d lt = (first_is (get_or firsts k d) (get_or-In firsts k d lt)).0
 
   -- the runs that begin there are the regions to be freed
-  pub runs_are : flat_map (run_regions i.heap) firsts ≡ unnamed_regions (heap_after i.heap set l)
-  runs_are =
-      flat_map_same_in (run_regions i.heap) (run_regions j) firsts
+  pub freed_are : flat_map (humongous_regions i.heap) firsts ≡ unnamed_regions (heap_moved i.heap set l)
+  freed_are =
+      flat_map_same_in (humongous_regions i.heap) (humongous_regions j) firsts
       (λ r k.
       let f = first_is r k in
       ap (λ (o : Object). range_with_len r (div_ceil o.size i.heap.geometry.w)) (sym (object_same i set l tracked a r f.0 (first_by_test (kind i.heap r) f.1))))
-      ∙ ap (flat_map (run_regions j)) are ∙ runs_are_regions j after_valid
+      ∙ ap (flat_map (humongous_regions j)) are ∙ all_regions j moved_valid
 
 -- the regions to be freed are the heap's
 pub freed_below : (h : Heap) → All (λ r. r < h.geometry.n) (unnamed_regions h)

@@ -3,12 +3,12 @@ use Rattle.std.proofs.Common.{◌≡◌, ℕ, suc, ◌+◌, ◌*◌, ◌/◌, �
 use Rattle.std.specs.List.{range_with_len, list_any}
 use Rattle.std.proofs.lemmas.Bool.{cases_Bool, false≢true}
 use Rattle.std.proofs.lemmas.List.FromFn.{get_or-map-range_with_len}
-use Rattle.g1_after.proofs.RulesAfter.{RefAfter, before_kept, ref_after}
+use Rattle.g1_after.proofs.RulesMoved.{RefMoved, before_kept, ref_moved}
 use Rattle.g1_after.proofs.ToSpace.{goal_in_to_space, goal_is_free, goal_not_in_set}
-use Rattle.g1_after.proofs.ValidAfter.{kept_refs, moved_below, outside_word, sound_before, survivor_word}
+use Rattle.g1_after.proofs.ValidMoved.{kept_refs, moved_below, outside_word, sound_before, survivor_word}
 use Rattle.g1_image.specs.Cards.{Covered, cards_where, exact, is_covered, is_exact, is_refined, leads_into}
 use Rattle.g1_image.specs.Image.{Image, remembered_of}
-use Rattle.g1_after.specs.Moved.{IsMoved, card_in, remembered_after}
+use Rattle.g1_after.specs.Moved.{IsMoved, card_in, remembered_moved}
 use Rattle.g1_words.proofs.Bounds.{card_below, card_in_region, cards_in_region}
 use Rattle.g1_words.proofs.Computed.{In-range}
 use Rattle.g1_words.proofs.Members.{In, In-filter, In-flat_map, In-map, has_from_in, or_true}
@@ -80,8 +80,8 @@ module _ (i : Image) (set l : List ℕ) (j : Image) (valid : IsBuilt i.heap) (or
       ]
 
   module _ (covered : Covered i) (e : Ref) (here : In (refs j.heap) e) (differ : eqb (e.slot / i.heap.geometry.w) (e.target / i.heap.geometry.w) ≡ false) where
-    r : RefAfter i set l e
-    r = ref_after i set l j valid ordinary survivors room moved e here
+    r : RefMoved i set l e
+    r = ref_moved i set l j valid ordinary survivors room moved e here
 
     abbrev from : ℕ
     from = e.slot / i.heap.geometry.w
@@ -109,8 +109,8 @@ module _ (i : Image) (set l : List ℕ) (j : Image) (valid : IsBuilt i.heap) (or
         subst (λ y. (y / i.heap.geometry.w < i.heap.geometry.n) × (has set (y / i.heap.geometry.w) ≡ false) × (((in_set i.heap set r.before ≡ false) × In (objects i.heap) (object_at i.heap r.before) × (forward i.heap l r.before ≡ r.before)) ⊎ (has (to_space i.heap l) (y / i.heap.geometry.w) ≡ true))) z
         (moved_region (object_at i.heap r.before) 0 target_kept (omega arith))
 
-    exact_after : is_exact j.heap to card ≡ true
-    exact_after = exact_by j.heap to card e here (ap (λ y. e.target / y) (ap (λ (g : Geometry). g.w) moved.geometry)) (ap (λ y. eqb (e.slot / y) to) (ap (λ (g : Geometry). g.w) moved.geometry) ∙ differ) (ap (λ y. e.slot / y) (ap (λ (g : Geometry). g.k) moved.geometry))
+    exact_moved : is_exact j.heap to card ≡ true
+    exact_moved = exact_by j.heap to card e here (ap (λ y. e.target / y) (ap (λ (g : Geometry). g.w) moved.geometry)) (ap (λ y. eqb (e.slot / y) to) (ap (λ (g : Geometry). g.w) moved.geometry) ∙ differ) (ap (λ y. e.slot / y) (ap (λ (g : Geometry). g.k) moved.geometry))
 
     abbrev divides : (m : ℕ) × (i.heap.geometry.w ≡ m * i.heap.geometry.k)
     divides = cards_in_region i.heap.geometry.w i.heap.geometry.k i.heap.geometry.n valid.limits
@@ -130,7 +130,7 @@ module _ (i : Image) (set l : List ℕ) (j : Image) (valid : IsBuilt i.heap) (or
     has_exact : has (exact j.heap to) card ≡ true
     has_exact =
         let same : i.heap.geometry.n * i.heap.geometry.w / i.heap.geometry.k ≡ j.heap.geometry.n * j.heap.geometry.w / j.heap.geometry.k = λ t. sym (ap (λ (g : Geometry). g.n) moved.geometry) t * sym (ap (λ (g : Geometry). g.w) moved.geometry) t / sym (ap (λ (g : Geometry). g.k) moved.geometry) t in
-        ap (λ y. has (filter (is_exact j.heap to) (range_with_len 0 y)) card) (sym same) ∙ has_where (is_exact j.heap to) exact_after
+        ap (λ y. has (filter (is_exact j.heap to) (range_with_len 0 y)) card) (sym same) ∙ has_where (is_exact j.heap to) exact_moved
 
     refined_before : has (to_space i.heap l) to ≡ false → has (to_space i.heap l) from ≡ false → is_refined i to card ≡ true
     refined_before no_to no_from = elim from_region.2 [
@@ -155,7 +155,7 @@ module _ (i : Image) (set l : List ℕ) (j : Image) (valid : IsBuilt i.heap) (or
       ]
     ]
 
-    in_new_rem : has (remembered_after i set l j.heap to) card ≡ true
+    in_new_rem : has (remembered_moved i set l j.heap to) card ≡ true
     in_new_rem = elim (cases_Bool (has (to_space i.heap l) to)) [
       | inl t ↦ (λ q. has (cond (to_region.1 q) [] (cond (t q) (exact j.heap to) (cards_where i.heap (λ c. (is_refined i to c && not (card_in i.heap set c)) || (card_in i.heap (to_space i.heap l) c && is_exact j.heap to c))))) card) ∙ has_exact
       | inr f ↦
@@ -163,17 +163,17 @@ module _ (i : Image) (set l : List ℕ) (j : Image) (valid : IsBuilt i.heap) (or
           ∙ has_where (λ c. (is_refined i to c && not (card_in i.heap set c)) || (card_in i.heap (to_space i.heap l) c && is_exact j.heap to c))
           (elim (cases_Bool (has (to_space i.heap l) from)) [
             | inl t ↦ or_right (is_refined i to card && not (card_in i.heap set card)) (card_in i.heap (to_space i.heap l) card && is_exact j.heap to card)
-                (and_both (card_in i.heap (to_space i.heap l) card) (is_exact j.heap to card) (ap (has (to_space i.heap l)) card_from ∙ t) exact_after)
+                (and_both (card_in i.heap (to_space i.heap l) card) (is_exact j.heap to card) (ap (has (to_space i.heap l)) card_from ∙ t) exact_moved)
             | inr g ↦ or_left (is_refined i to card && not (card_in i.heap set card)) (card_in i.heap (to_space i.heap l) card && is_exact j.heap to card)
                 (and_both (is_refined i to card) (not (card_in i.heap set card)) (refined_before f g) (ap not (ap (has set) card_from ∙ from_region.1)))
           ])
     ]
 
-    rem_after : remembered_of j to ≡ remembered_after i set l j.heap to
-    rem_after = ap (λ xs. get_or xs to []) moved.remembered ∙ get_or-map-range_with_len (remembered_after i set l j.heap) 0 i.heap.geometry.n to to [] to_region.0 (omega arith)
+    rem_moved : remembered_of j to ≡ remembered_moved i set l j.heap to
+    rem_moved = ap (λ xs. get_or xs to []) moved.remembered ∙ get_or-map-range_with_len (remembered_moved i set l j.heap) 0 i.heap.geometry.n to to [] to_region.0 (omega arith)
 
-    in_rem_after : has (remembered_of j to) card ≡ true
-    in_rem_after = ap (λ xs. has xs card) rem_after ∙ in_new_rem
+    in_rem_moved : has (remembered_of j to) card ≡ true
+    in_rem_moved = ap (λ xs. has xs card) rem_moved ∙ in_new_rem
 
   -- each reference of the image after is covered
   each_covered : Covered i → (e : Ref) → In (refs j.heap) e → is_covered j e ≡ true
@@ -185,8 +185,8 @@ module _ (i : Image) (set l : List ℕ) (j : Image) (valid : IsBuilt i.heap) (or
       ∙ or_left (eqb (e.slot / i.heap.geometry.w) (e.target / i.heap.geometry.w) || has (remembered_of j (e.target / i.heap.geometry.w)) (e.slot / i.heap.geometry.k)) (has j.log (e.slot / i.heap.geometry.k))
       (elim (cases_Bool (eqb (e.slot / i.heap.geometry.w) (e.target / i.heap.geometry.w))) [
         | inl a ↦ or_left (eqb (e.slot / i.heap.geometry.w) (e.target / i.heap.geometry.w)) (has (remembered_of j (e.target / i.heap.geometry.w)) (e.slot / i.heap.geometry.k)) a
-        | inr a ↦ or_right (eqb (e.slot / i.heap.geometry.w) (e.target / i.heap.geometry.w)) (has (remembered_of j (e.target / i.heap.geometry.w)) (e.slot / i.heap.geometry.k)) (in_rem_after c e here a)
+        | inr a ↦ or_right (eqb (e.slot / i.heap.geometry.w) (e.target / i.heap.geometry.w)) (has (remembered_of j (e.target / i.heap.geometry.w)) (e.slot / i.heap.geometry.k)) (in_rem_moved c e here a)
       ])
 
-  pub covered_after : Covered i → Covered j
-  covered_after c = ap (map (λ (e : Ref). e.slot)) (none_left (is_covered j) (refs j.heap) (each_covered c))
+  pub covered_moved : Covered i → Covered j
+  covered_moved c = ap (map (λ (e : Ref). e.slot)) (none_left (is_covered j) (refs j.heap) (each_covered c))

@@ -3,7 +3,7 @@ use Rattle.g1_words.specs.Heap.{Heap}
 use Rattle.g1_words.proofs.Shapes.{built}
 use Rattle.g1_image.specs.Image.{Image}
 use Rattle.g1_copy.proofs.RememberedLinks.{to_space_cards, copied_cards}
-use Rattle.g1_copy.proofs.laws.cards_after.Goals as goal
+use Rattle.g1_copy.proofs.laws.cards_moved.Goals as goal
 
 -- the heap, without sets and log
 abbrev alone : Heap → Image

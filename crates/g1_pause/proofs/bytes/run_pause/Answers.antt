@@ -1,6 +1,6 @@
 use Rattle.g1_pause.proofs.Answered.{uncovered_told, refused_told, after_told}
 use Rattle.g1_pause.proofs.NoDevice.{refusal_names_none, bare_names_none}
-use Rattle.g1_pause.proofs.bytes.paused.Goals as goal
+use Rattle.g1_pause.proofs.bytes.run_pause.Goals as goal
 
 pub returns-in-Err-clause-fault : goal.returns-in-Err-clause-fault
 returns-in-Err-clause-fault g c = uncovered_told c.args.settings.now.cost c.args.settings.now.choice c.args.before c.in-Err.fault c.in-Err.ensures.fault

@@ -4,8 +4,8 @@ use Rattle.std.proofs.lemmas.Bool.{cases_Bool, cases_lt, false≢true}
 use Rattle.std.proofs.lemmas.Nat.{div-mul-add}
 use Rattle.std.proofs.Math.Nat.{mul-le-mul_right}
 use Rattle.std.proofs.Common.{div-add-mod', mod-lt, eq-eqb}
-use Rattle.g1_after.proofs.ObjectsAfter.{header_stays, objects_stay, region_after}
-use Rattle.g1_after.proofs.ObjectsOf.{kept_is_after, kept_is_object, kept_outside, region_cases, survivor_region, used_not_to_space}
+use Rattle.g1_after.proofs.ObjectsMoved.{header_stays, objects_stay, region_moved}
+use Rattle.g1_after.proofs.ObjectsOf.{kept_is_moved, kept_is_object, kept_outside, region_cases, survivor_region, used_not_to_space}
 use Rattle.g1_after.proofs.SameGraphs.{live_found, named_survives}
 use Rattle.g1_after.proofs.ToSpace.{goal_is_free, goal_kind, goal_top, object_copied, survivor_kept, survivor_object, to_space_objects, to_space_tiled}
 use Rattle.g1_image.specs.Image.{Image}
@@ -68,12 +68,12 @@ module _ (i : Image) (set l : List ℕ) (j : Image) (valid : IsBuilt i.heap) (or
   -- the kind and top of a region, by cases
   pub set_shape : (r : ℕ) → r < i.heap.geometry.n → has set r ≡ true → (kind j.heap r ≡ Free) × (top j.heap r ≡ 0)
   set_shape r lt t =
-      let q : region j.heap r ≡ free_region = region_after i set l j sound_before ordinary survivors room moved r lt ∙ rw t refl in
+      let q : region j.heap r ≡ free_region = region_moved i set l j sound_before ordinary survivors room moved r lt ∙ rw t refl in
       (ap (λ (q : Region). q.kind) q, ap (λ (q : Region). q.top) q)
 
   pub other_shape : (r : ℕ) → r < i.heap.geometry.n → has set r ≡ false → has (to_space i.heap l) r ≡ false → (kind j.heap r ≡ kind i.heap r) × (top j.heap r ≡ top i.heap r)
   other_shape r lt a b =
-      let q : region j.heap r ≡ region i.heap r = region_after i set l j sound_before ordinary survivors room moved r lt ∙ rw (a, b) refl in
+      let q : region j.heap r ≡ region i.heap r = region_moved i set l j sound_before ordinary survivors room moved r lt ∙ rw (a, b) refl in
       (ap (λ (q : Region). q.kind) q, ap (λ (q : Region). q.top) q)
 
   -- a region that is neither free nor ordinary stays as it is
@@ -160,8 +160,8 @@ module _ (i : Image) (set l : List ℕ) (j : Image) (valid : IsBuilt i.heap) (or
       let g = goal_top i set l j sound_before ordinary survivors room moved t here in
       (g.0, subst (λ y. top j.heap (get_or (free_regions i.heap) t 0) ≤ y) (sym (ap (λ (g : Geometry). g.w) moved.geometry)) g.1, to_space_tiled i set l j sound_before ordinary survivors room moved t here (placed_plain t here))
 
-  pub shaped_after : (r : ℕ) → r < i.heap.geometry.n → IsBuiltBy j.heap r (kind j.heap r)
-  shaped_after r lt = elim (region_cases i.heap set l sound_before ordinary survivors room r) [
+  pub shaped_moved : (r : ℕ) → r < i.heap.geometry.n → IsBuiltBy j.heap r (kind j.heap r)
+  shaped_moved r lt = elim (region_cases i.heap set l sound_before ordinary survivors room r) [
     | inl t ↦ let s = set_shape r lt t in subst (IsBuiltBy j.heap r) (sym s.0) s.1
     | inr (inl b) ↦ subst (λ x. IsBuiltBy j.heap x (kind j.heap x)) b.2
         (subst (IsBuiltBy j.heap (get_or (free_regions i.heap) b.0 0)) (sym (goal_kind i set l j sound_before ordinary survivors room moved b.0 b.1)) (goal_shape b.0 b.1))
@@ -240,7 +240,7 @@ module _ (i : Image) (set l : List ℕ) (j : Image) (valid : IsBuilt i.heap) (or
       (subst (λ x. In (named x) b) (sym e) (inl refl))
 
   -- the object stands in the image after
-  pub object_after : (b : ℕ) → In (kept i.heap set l) (object_at i.heap b) → Contains (objects j.heap) (object_at j.heap (forward i.heap l b))
-  object_after b k =
+  pub object_moved : (b : ℕ) → In (kept i.heap set l) (object_at i.heap b) → Contains (objects j.heap) (object_at j.heap (forward i.heap l b))
+  object_moved b k =
       let e : object_at j.heap (forward i.heap l b) ≡ moved_object (forward i.heap l) (object_at i.heap b) = object_copied i set l j sound_before ordinary survivors room moved (object_at i.heap b) k (kept_is_object i.heap set l sound_before ordinary survivors room (object_at i.heap b) k) refl in
-      Contains-from_in (objects j.heap) (object_at j.heap (forward i.heap l b)) (subst (λ (x : Object). In (objects j.heap) x) (sym e) (kept_is_after i set l j sound_before ordinary survivors room moved (object_at i.heap b) k))
+      Contains-from_in (objects j.heap) (object_at j.heap (forward i.heap l b)) (subst (λ (x : Object). In (objects j.heap) x) (sym e) (kept_is_moved i set l j sound_before ordinary survivors room moved (object_at i.heap b) k))

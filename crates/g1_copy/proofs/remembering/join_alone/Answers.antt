@@ -1,7 +1,7 @@
 use Rattle.std.proofs.Common.{◌≡◌, ◌+◌, ◌∙◌, ap, arith, refl, map, sym, subst}
 use Rattle.g1_copy.proofs.RememberedJoined.{JoinedTo, JoinedTo-more, JoinedTo-all}
-use Rattle.g1_copy.proofs.remembering.joined_alone.Goals as goal
-use Rattle.g1_copy.proofs.remembering.joined_alone.Goals.{After-regions-count}
+use Rattle.g1_copy.proofs.remembering.join_alone.Goals as goal
+use Rattle.g1_copy.proofs.remembering.join_alone.Goals.{After-regions-count}
 
 -- the numbers are those of the heap's regions
 count : (c : After-regions-count) → c.regions-count.result ≡ c.args.heap.now.geometry.n
@@ -20,7 +20,7 @@ loop-region-preserved c =
     let inner = map (λ s. s.items) c.args.inner.now in
     let r = c.loop-region.region in
     subst (λ xs. JoinedTo h fates remembered outer inner (r + 1) (map (λ s. s.items) xs)) (sym c.in_ok-push.ensures.items)
-    (JoinedTo-more h fates remembered outer inner r c.loop-region.sets.items c.in_ok-joined_at.field-0 c.loop-region.invariant c.in_ok-joined_at.ensures)
+    (JoinedTo-more h fates remembered outer inner r c.loop-region.sets.items c.in_ok-join_at.field-0 c.loop-region.invariant c.in_ok-join_at.ensures)
 
 pub returns-clause-ok : goal.returns-clause-ok
 returns-clause-ok c =
