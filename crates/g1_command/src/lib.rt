@@ -16,5 +16,5 @@ mod values;
 
 pub use arguments::words;
 pub use refusal::{Refusal, refuse, status};
-pub use streams::{BROKEN_PIPE, deliver, deliver_text, read_all};
-pub use values::{Argument, Misuse, explain, number, region, region_in, regions, whole};
+pub use streams::{BROKEN_PIPE, LineReader, deliver, deliver_text, read_all};
+pub use values::{Argument, Misuse, explain, number, number_in, region, region_in, regions, whole};

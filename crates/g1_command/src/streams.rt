@@ -2,7 +2,7 @@
 use g1_words::{Device, Fault};
 use std::alloc::Global;
 use std::io;
-use std::io::{ErrorKind, Read, Write};
+use std::io::{BufRead, BufReader, ErrorKind, Read, Write};
 
 // A reader that keeps in mind whether a read failed: a reader too may say that memory is wanting, and
 // then it is the input that failed, and no growth of the bytes.
@@ -42,13 +42,51 @@ pub fn read_all<R: Read>(alloc: Global, reader: &mut R) -> Result<Vec<u8>, Fault
     }
 }
 
+/// The lines of a reader, one after the other.
+#[derive(Drop)]
+pub struct LineReader<'r, R> {
+    inner: BufReader<Watched<'r, R>>,
+}
+
+impl<'r, R: Read> LineReader<'r, R> {
+    /// Begins at the reader's next byte.
+    ///
+    /// # Errors
+    ///
+    /// `Fault::Memory`.
+    pub fn new(alloc: Global, reader: &'r mut R) -> Result<LineReader<'r, R>, Fault> {
+        let watched = Watched {
+            inner: reader,
+            failed: false,
+        };
+        match BufReader::new(alloc, watched) {
+            Ok(inner) => Ok(LineReader { inner }),
+            Err(_) => Err(Fault::Memory),
+        }
+    }
+
+    /// Puts the next line behind what is there, with the byte 10 that ends it; without it, if the input
+    /// ends first. Returns whether there was a byte. A read that a signal interrupted is made again.
+    ///
+    /// # Errors
+    ///
+    /// `Fault::Device(Device::Input)` if a read failed, and `Fault::Memory`.
+    pub fn read_into(&mut self, line: &mut Vec<u8>) -> Result<bool, Fault> {
+        match self.inner.read_until(b'\n', line) {
+            Ok(count) => Ok(count > 0),
+            Err(_) if self.inner.get_ref().failed => Err(Fault::Device(Device::Input)),
+            Err(_) => Err(Fault::Memory),
+        }
+    }
+}
+
 /// Writes an answer at once. A write that a signal interrupted is made again.
 ///
 /// # Errors
 ///
 /// `Fault::Device(Device::Output)` if a write failed: a beginning of the answer may be written then.
 pub fn deliver<W: Write>(answer: &[u8], writer: &mut W) -> Result<(), Fault> {
-    match written(answer, writer) {
+    match write_whole(answer, writer) {
         Ok(()) => Ok(()),
         Err(_) => Err(Fault::Device(Device::Output)),
     }
@@ -64,14 +102,14 @@ pub const BROKEN_PIPE: u8 = 141;
 ///
 /// `Fault::Device(Device::Output)` if a write failed in another way.
 pub fn deliver_text<W: Write>(status: u8, text: &[u8], writer: &mut W) -> Result<u8, Fault> {
-    match written(text, writer) {
+    match write_whole(text, writer) {
         Ok(()) => Ok(status),
         Err(error) if error.kind() == ErrorKind::BrokenPipe => Ok(BROKEN_PIPE),
         Err(_) => Err(Fault::Device(Device::Output)),
     }
 }
 
-fn written<W: Write>(answer: &[u8], writer: &mut W) -> io::Result<()> {
+fn write_whole<W: Write>(answer: &[u8], writer: &mut W) -> io::Result<()> {
     writer.write_all(answer)?;
     writer.flush()
 }

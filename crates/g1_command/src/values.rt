@@ -107,10 +107,15 @@ pub fn number(
 ) -> Result<Option<u64>, Misuse> {
     match values.get_str(argument.id) {
         None => Ok(None),
-        Some(text) => match whole(text) {
-            Some(value) => Ok(Some(value)),
-            None => Err(argument.refuse(alloc, text)),
-        },
+        Some(text) => Ok(Some(number_in(alloc, argument, text)?)),
+    }
+}
+
+/// The number that a part of an argument's value is.
+pub fn number_in(alloc: Global, argument: &Argument, text: &str) -> Result<u64, Misuse> {
+    match whole(text) {
+        Some(number) => Ok(number),
+        None => Err(argument.refuse(alloc, text)),
     }
 }
 

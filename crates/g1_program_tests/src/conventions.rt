@@ -242,6 +242,49 @@ fn a_file_is_whole_or_as_it_was(rt: HostRuntime) -> Result<(), Fail> {
     Ok(())
 }
 
+const COVERED: &str =
+    "heap 16 4 4\ncovered\nroot 0\nregion ordinary\nobject 2/1 16\nregion ordinary\nobject 3/0 1 2";
+
+const UNCOVERED: &str =
+    "heap 16 4 4\nroot 0\nregion ordinary\nobject 2/1 16\nregion ordinary\nobject 3/0 1 2";
+
+#[test]
+fn a_slot_without_cover_is_of_the_file_after(rt: HostRuntime) -> Result<(), Fail> {
+    let alloc = rt.alloc();
+    let make = Run::piped("make -o uncovered.img", UNCOVERED.as_bytes());
+    expect(&rt, alloc, make, (0, b"", ""))?;
+    let covered = g1_text::make(alloc, COVERED.as_bytes())?;
+    let uncovered = g1_text::make(alloc, UNCOVERED.as_bytes())?;
+    for (line, input, status, answer, error) in [
+        (
+            "same uncovered.img - --covered",
+            covered.as_slice(),
+            0,
+            "same objects 2 words 5\ncovered\n",
+            "",
+        ),
+        (
+            "same uncovered.img - --covered",
+            uncovered.as_slice(),
+            4,
+            "",
+            "g1heap: -: fault 9: uncovered slot 1\n",
+        ),
+        (
+            "same - uncovered.img --covered",
+            covered.as_slice(),
+            4,
+            "",
+            "g1heap: uncovered.img: fault 9: uncovered slot 1\n",
+        ),
+    ] {
+        let expected = (status, answer.as_bytes(), error);
+        expect(&rt, alloc, Run::piped(line, input), expected)?;
+    }
+    fs::remove_file(&rt, "uncovered.img")?;
+    Ok(())
+}
+
 #[test]
 fn what_is_no_file_is_written_or_refused(rt: HostRuntime) -> Result<(), Fail> {
     let alloc = rt.alloc();

@@ -3,7 +3,7 @@ use g1_command::refuse;
 use g1_image::{Image, decode};
 use g1_testing::{Stream, Trouble};
 use g1_text::make;
-use g1heap_cli::{Same, Terminals, compared, program};
+use g1heap_cli::{Same, Terminals, compare_images, program};
 use std::alloc::{AllocError, Global};
 use std::io::{Read, Write};
 use std::process::Abort;
@@ -56,7 +56,7 @@ fn run<R: Read, W: Write>(
 }
 
 // The status, and what was written to standard output and to standard error.
-fn outcome<R: Read>(
+pub(crate) fn outcome<R: Read>(
     rt: &(impl Threads + Sync + Files),
     alloc: Global,
     line: &str,
@@ -199,7 +199,7 @@ fn expect_verdict<T: Abort>(
     new: &Image,
     told: &str,
 ) -> Result<(), Fail> {
-    let (status, text) = compared(alloc, same, old, new)?;
+    let (status, text) = compare_images(alloc, same, old, new)?;
     let wanted = u8::from(!told.starts_with("same"));
     let found = (status, text.as_bytes(), b"".as_slice());
     expect_told(rt, "same", b"", found, (wanted, told.as_bytes(), b""));
@@ -280,6 +280,27 @@ fn tells_the_first_difference(rt: HostRuntime) -> Result<(), Fail> {
             (LARGE, LARGE, "same objects 1 words 65537\n"),
         ],
     )
+}
+
+// 256 null roots, and one more.
+fn with_late_root(alloc: Global, root: &str) -> Result<String, AllocError> {
+    let mut lines = String::from_str(alloc, "heap 16 4 4\n")?;
+    for _ in 0..256 {
+        lines.push_str("root -\n")?;
+    }
+    lines.push_str(root)?;
+    lines.push_str("\nregion 1 ordinary\nobject 3/0 1 2")?;
+    Ok(lines)
+}
+
+#[test]
+fn a_late_root_is_told_by_its_own_words(rt: HostRuntime) -> Result<(), Fail> {
+    let alloc = rt.alloc();
+    let before = with_late_root(alloc, "root 16")?;
+    let after = with_late_root(alloc, "root -")?;
+    let told = "differ null at root 256: object 16 before, null after\n";
+    let row = (before.as_str(), after.as_str(), told);
+    expect_verdicts(&rt, alloc, &[], &[row])
 }
 
 #[test]
@@ -382,7 +403,7 @@ fn a_wrong_set_is_of_the_file_before(rt: HostRuntime) -> Result<(), Fail> {
     let alloc = rt.alloc();
     let (old, new) = (image_of(alloc, PAIR)?, image_of(alloc, PAIR_MOVED)?);
     let mut errors = Vec::new(alloc);
-    let status = match compared(alloc, &asked(alloc, &[2])?, &old, &new) {
+    let status = match compare_images(alloc, &asked(alloc, &[2])?, &old, &new) {
         Ok(_) => 0,
         Err(refusal) => refuse("g1heap", &refusal, &mut errors),
     };
@@ -513,7 +534,7 @@ fn a_wrong_value_is_told_with_its_range(rt: HostRuntime) -> Result<(), AllocErro
 }
 
 const MAKE_HELP: &str = "\
-Writes the image that lines tell
+Writes the image that lines describe
 
 Usage: g1heap make [OPTIONS] [LINES]
 
@@ -566,7 +587,7 @@ fn help_ends_with_statuses_and_an_example(rt: HostRuntime) -> Result<(), AllocEr
         &[
             (
                 "--help",
-                "\n  7  a file that can't be opened or written\n  141  the reader of the answer went away\n\nExample: g1heap print < IMAGE\n",
+                "\n  8  an explanation contradicts the pause: an error of this program\n  141  the reader of the answer went away\n\nExample: g1heap print < IMAGE\n",
             ),
             (
                 "same --help",
@@ -604,7 +625,20 @@ fn faults_name_their_file(rt: HostRuntime) -> Result<(), AllocError> {
                 3,
                 "g1heap: /dev/null: fault 3: short\n",
             ),
-            ("same - /dev/null", b"H", 3, "g1heap: -: fault 1: magic\n"),
+            (
+                "same - /dev/null",
+                b"H",
+                3,
+                "g1heap: -: fault 1: magic\n\
+                g1heap: it is no image; if it has lines, 'g1heap make' makes an image of them\n",
+            ),
+            (
+                "print -",
+                b"heap 16 4 4\n",
+                3,
+                "g1heap: -: fault 1: magic\n\
+                g1heap: it is no image; if it has lines, 'g1heap make' makes an image of them\n",
+            ),
         ],
     )
 }

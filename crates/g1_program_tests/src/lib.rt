@@ -10,7 +10,9 @@
 //! - `pins`: pinned regions and the current one.
 //! - `heap`: what g1heap answers.
 //! - `lines`: what g1heap makes of lines.
+//! - `explain`: what g1heap explains.
 //! - `limits`: numbers of the command line at the ends of their ranges, and a total beyond 64 bits.
+//! - `sizes`: images at their limits, and with more of one thing than 16 bits count.
 //! - `conventions`: where g1heap writes, what it says to a person at a terminal, and where options may be.
 //!
 //! Most tests are tables, whose rows are the words of a line, the bytes of an input, and what is told of
@@ -22,6 +24,8 @@ mod command;
 #[cfg(test)]
 mod conventions;
 #[cfg(test)]
+mod explain;
+#[cfg(test)]
 mod heap;
 #[cfg(test)]
 mod images;
@@ -29,10 +33,13 @@ mod images;
 mod limits;
 #[cfg(test)]
 mod lines;
+mod live;
 #[cfg(test)]
 mod pause;
 #[cfg(test)]
 mod pins;
+#[cfg(test)]
+mod sizes;
 #[cfg(test)]
 mod told;
 #[cfg(test)]

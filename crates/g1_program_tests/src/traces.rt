@@ -49,6 +49,7 @@ static BAD_TRACES: &[(&str, Text, u8, &str)] = &[
         "15: line 4",
     ),
     ("run", Plain("heap 16 4 4 3\nsame 0 0\n\r"), 2, "15: line 3"),
+    ("run", Plain("heap 16 4 4 3\nsame 0 0\r\n"), 2, "15: line 2"),
     ("run", Plain("heap 24 4 4 3\ndrop\n"), 2, "15: line 2"),
     ("run", Plain("heap 24 4 4 3\n"), 3, "2: geometry"),
     (

@@ -147,6 +147,7 @@ fn object(sketch: &mut Sketch, words: &mut SplitAsciiWhitespace<'_>) -> Result<b
     let Some((size, slots)) = words.next().and_then(size_and_slots) else {
         return Ok(false);
     };
+    // Written by hand, so that the tests don't lay images by the writers that they test.
     sketch.words(&[u64::from(size) << 32 | u64::from(slots)])?;
     let mut rest = false;
     for place in 1..size {

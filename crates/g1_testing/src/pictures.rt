@@ -287,7 +287,7 @@ pub fn three_regions_after() -> &'static str {
      object 2/0 1"
 }
 
-/// What `SHARED_AFTER` becomes when region 2 is collected: the objects are back in region 1, in the
+/// What `shared_after` becomes when region 2 is collected: the objects are back in region 1, in the
 /// order in which they were found.
 pub fn shared_back() -> &'static str {
     "heap 16 4 4

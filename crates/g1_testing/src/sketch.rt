@@ -117,6 +117,7 @@ impl Sketch {
     /// Adds an object to the last region: the addresses that its slots name, and its data words.
     pub fn object(&mut self, slots: &[u64], data: &[u64]) -> Result<(), AllocError> {
         let size = 1 + slots.len() as u64 + data.len() as u64;
+        // Written by hand, so that the tests don't lay images by the writers that they test.
         self.words(&[size << 32 | slots.len() as u64])?;
         for address in slots {
             self.words(&[address.saturating_add(1)])?;

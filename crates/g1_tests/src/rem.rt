@@ -231,7 +231,7 @@ fn refusal(
 }
 
 /// The refined sets of what is tracked.
-fn refined_sets(
+pub(crate) fn refined_sets(
     rt: &(impl Threads + Sync),
     alloc: Global,
     tracked: &Tracked,

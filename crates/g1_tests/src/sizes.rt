@@ -4,11 +4,12 @@ ghost use Rattle.g1_frontier.specs.Window.{AreRegions};
 ghost use Rattle.g1_rem.specs.Starts.{IsStartsOf};
 
 use crate::expecting::expect_equal;
+use crate::rem::refined_sets;
 use g1_choose::{Cost, given};
 use g1_claim::{Claims, EMPTY, shares};
 use g1_frontier::claim_round;
 use g1_image::decode;
-use g1_rem::Starts;
+use g1_rem::{Starts, verify};
 use g1_same::compare;
 use g1_testing::Sketch;
 use g1_trace::{Mutator, parse_trace, run_text};
@@ -110,6 +111,57 @@ fn largest(alloc: Global) -> Result<Sketch, AllocError> {
     sketch.ordinary(alloc)?;
     sketch.object(&[], &[9])?;
     Ok(sketch)
+}
+
+/// How many cards the 65 regions of `all_dirty` have.
+const DIRTY: u32 = 65 * 16_384;
+
+fn log_all(sketch: &mut Sketch) -> Result<(), AllocError> {
+    for card in (0..DIRTY).rev() {
+        sketch.dirty(card)?;
+    }
+    Ok(())
+}
+
+/// The one object of region 64 references that of region 0.
+fn all_dirty(alloc: Global) -> Result<Sketch, AllocError> {
+    let mut sketch = Sketch::new(alloc, 65_536, 4, 65);
+    log_all(&mut sketch)?;
+    for _ in 0..64 {
+        sketch.ordinary(alloc)?;
+        sketch.object(&[], &[5])?;
+    }
+    sketch.ordinary(alloc)?;
+    sketch.object(&[0], &[])?;
+    Ok(sketch)
+}
+
+/// The refined sets of the image that the bytes are.
+fn refined_of<R: Threads + Sync>(
+    rt: &R,
+    alloc: Global,
+    bytes: &[u8],
+) -> Result<Vec<Vec<u32>>, Fault> {
+    match verify(rt, alloc, decode(alloc, bytes)?) {
+        Ok(tracked) => refined_sets(rt, alloc, &tracked),
+        Err((_, fault)) => Err(fault),
+    }
+}
+
+#[test]
+fn a_million_dirty_cards_are_refined(rt: HostRuntime) -> Result<(), Fail> {
+    let alloc = rt.alloc();
+    let bytes = all_dirty(alloc)?.text(alloc)?;
+    let sets = refined_of(&rt, alloc, &bytes)?;
+    match sets.split_first() {
+        Some((first, others)) => {
+            expect_equal(&rt, first.as_slice(), [64 * 16_384].as_slice());
+            expect_equal(&rt, others.len(), 64);
+            assert!(rt; others.iter().all(|set| set.is_empty()));
+        }
+        None => panic!(rt; "no sets"),
+    }
+    Ok(())
 }
 
 #[test]

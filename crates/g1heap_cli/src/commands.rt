@@ -1,11 +1,13 @@
 //! What the program does with a request.
 use crate::comparing::{difference_line, same_line};
+use crate::explaining::{explain_object, explain_pause};
 use crate::files::{read_bytes, read_image};
 use crate::options::{NAME, Part, Request, Same, parse};
 use crate::output::{Output, write_file};
 use crate::refusal::{no_object, no_region, of_file, wrong_line};
 use crate::summary::summary;
 use crate::terminals::{Terminals, allow, announce};
+use crate::tracing::answer_trace;
 use g1_choose::given;
 use g1_command::{Refusal, deliver, deliver_text, refuse};
 use g1_image::Image;
@@ -69,13 +71,22 @@ fn answer<T: Threads + Sync + Files, R: Read, W: Write>(
             part,
             output,
         } => {
-            let text = printed(rt, alloc, image.as_str(), *part, reader)?;
-            hand_over_text(rt, alloc, text.as_bytes(), output, writer)
+            let text = print_part(rt, alloc, image.as_str(), *part, reader)?;
+            hand_over_text(rt, alloc, 0, text.as_bytes(), output, writer)
         }
         Request::Make { lines, output } => {
-            let bytes = made_of(rt, alloc, lines.as_str(), reader)?;
+            let bytes = make_from(rt, alloc, lines.as_str(), reader)?;
             hand_over(rt, alloc, bytes.as_slice(), output, writer)
         }
+        Request::Explain(explain) => {
+            let (status, text) = explain_pause(rt, alloc, explain, reader)?;
+            hand_over_text(rt, alloc, status, text.as_bytes(), &explain.output, writer)
+        }
+        Request::Why { image, address } => {
+            let text = explain_object(rt, alloc, image.as_str(), *address, reader)?;
+            Ok(deliver_text(0, text.as_bytes(), writer)?)
+        }
+        Request::Trace(trace) => answer_trace(rt, alloc, trace, reader, writer),
     }
 }
 
@@ -83,13 +94,17 @@ fn answer<T: Threads + Sync + Files, R: Read, W: Write>(
 fn hand_over_text<T: Files, W: Write>(
     rt: &T,
     alloc: Global,
+    status: u8,
     text: &[u8],
     output: &Output,
     writer: &mut W,
 ) -> Result<u8, Refusal> {
     match output {
-        Output::File(_) => hand_over(rt, alloc, text, output, writer),
-        _ => Ok(deliver_text(0, text, writer)?),
+        Output::File(_) => {
+            hand_over(rt, alloc, text, output, writer)?;
+            Ok(status)
+        }
+        _ => Ok(deliver_text(status, text, writer)?),
     }
 }
 
@@ -149,7 +164,7 @@ fn same_images<T: Threads + Sync>(
     before: &Image,
     after: Image,
 ) -> Result<(u8, String), Refusal> {
-    let (status, text) = compared(alloc, same, before, &after)?;
+    let (status, text) = compare_images(alloc, same, before, &after)?;
     if status == 0 && same.covered {
         with_cover(alloc, same, text, uncovered(rt, alloc, after))
     } else {
@@ -158,7 +173,7 @@ fn same_images<T: Threads + Sync>(
 }
 
 /// The status and the line for two images.
-pub fn compared(
+pub fn compare_images(
     alloc: Global,
     same: &Same,
     before: &Image,
@@ -251,7 +266,7 @@ fn uncovered<T: Threads + Sync>(rt: &T, alloc: Global, image: Image) -> Option<F
     Some(fault)
 }
 
-fn printed<T: Threads + Sync + Files, R: Read>(
+fn print_part<T: Threads + Sync + Files, R: Read>(
     rt: &T,
     alloc: Global,
     name: &str,
@@ -281,17 +296,17 @@ fn lines(alloc: Global, image: &Image, name: &str, part: Part) -> Result<String,
     Ok(text?)
 }
 
-fn made_of<T: Files, R: Read>(
+fn make_from<T: Files, R: Read>(
     rt: &T,
     alloc: Global,
     name: &str,
     reader: &mut R,
 ) -> Result<Vec<u8>, Refusal> {
     let lines = read_bytes(rt, alloc, name, reader)?;
-    made(alloc, name, lines.as_slice())
+    make_image(alloc, name, lines.as_slice())
 }
 
-fn made(alloc: Global, name: &str, lines: &[u8]) -> Result<Vec<u8>, Refusal> {
+fn make_image(alloc: Global, name: &str, lines: &[u8]) -> Result<Vec<u8>, Refusal> {
     match make(alloc, lines) {
         Ok(bytes) => Ok(bytes),
         Err(Wrong::Line { number, expected }) => Err(wrong_line(alloc, name, number, &expected)),

@@ -1,6 +1,6 @@
 //! What two heaps show, in one line.
 use g1_same::{Difference, How, Renaming};
-use g1_words::{Heap, REFS_RANGE};
+use g1_words::{Heap, Object, header};
 use std::alloc::{AllocError, Global};
 
 /// The line that says how much is reached if two heaps show the same graph.
@@ -8,7 +8,8 @@ pub fn same_line(alloc: Global, before: &Heap, renaming: &Renaming) -> Result<St
     let objects = renaming.before.len();
     let mut words = 0u64;
     for address in renaming.before.iter() {
-        words = words.saturating_add(word_at(before.words(), *address) / REFS_RANGE);
+        let size = object_in(before, *address).map_or(0, |object| object.size);
+        words = words.saturating_add(size);
     }
     format!(in alloc; "same objects {objects} words {words}\n")
 }
@@ -41,8 +42,8 @@ fn push_difference(
             let kind = kind_word(how);
             write!(text, "differ {kind} at root {root}")?;
             push_path(text, slots.as_slice())?;
-            let old = reached(before, *root, slots.as_slice());
-            let new = reached(after, *root, slots.as_slice());
+            let old = word_at_path(before, *root, slots.as_slice());
+            let new = word_at_path(after, *root, slots.as_slice());
             push_word(text, ": ", old)?;
             push_word(text, " before, ", new)?;
             text.push_str(" after")?;
@@ -125,7 +126,7 @@ fn push_numbers(text: &mut String, what: &str, old: u64, new: u64) -> Result<(),
 
 // The word that a path leads to. The slot of this number of an object stands as many words behind the
 // address that is 1 more than the object's, which is the reference word itself.
-fn reached(heap: &Heap, root: u64, slots: &[u64]) -> u64 {
+fn word_at_path(heap: &Heap, root: u64, slots: &[u64]) -> u64 {
     let mut word = word_at(heap.roots(), root);
     for slot in slots {
         word = word_at(heap.words(), word.saturating_add(*slot));
@@ -135,9 +136,23 @@ fn reached(heap: &Heap, root: u64, slots: &[u64]) -> u64 {
 
 // The data word of this number of the object that a reference word names.
 fn data_word(heap: &Heap, reference: u64, number: u64) -> u64 {
-    let header = word_at(heap.words(), reference.saturating_sub(1));
-    let first = reference.saturating_add(header % REFS_RANGE);
-    word_at(heap.words(), first.saturating_add(number))
+    match object_in(heap, reference.saturating_sub(1)) {
+        Some(object) => {
+            let first = reference.saturating_add(object.refs);
+            word_at(heap.words(), first.saturating_add(number))
+        }
+        None => 0,
+    }
+}
+
+// The word at an address, read as the header of the object that starts there.
+fn object_in(heap: &Heap, address: u64) -> Option<Object> {
+    let words = heap.words();
+    if address < words.len() as u64 {
+        Some(header(words, address))
+    } else {
+        None
+    }
 }
 
 fn word_at(words: &[u64], place: u64) -> u64 {

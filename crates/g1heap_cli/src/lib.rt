@@ -1,4 +1,4 @@
-//! Two heaps compared, heaps printed and heaps made: what the program g1heap does.
+//! Two heaps compared, heaps printed, made and explained: what the program g1heap does.
 //!
 //! The words after the program's name are read into a request, then its files, and the
 //! answer is built in memory and written at once. A refusal is reported on standard error, and then
@@ -8,14 +8,17 @@
 
 mod commands;
 mod comparing;
+mod explaining;
 mod files;
+mod location;
 mod options;
 mod output;
 mod refusal;
 mod regions;
 mod summary;
 mod terminals;
+mod tracing;
 
-pub use commands::{compared, program};
+pub use commands::{compare_images, program};
 pub use options::{NAME, Same};
 pub use terminals::Terminals;

@@ -1,9 +1,10 @@
 //! The command line.
 use crate::files::STANDARD_STREAM;
 use crate::output::Output;
-use crate::regions::{regions_in, tied};
+use crate::regions::{regions_in, tie};
 use clap::{Arg, ArgAction, ArgMatches, Command, Error};
-use g1_command::{Argument, Misuse, Refusal, explain, number, region};
+use g1_choose::Cost;
+use g1_command::{Argument, Misuse, Refusal, explain, number, number_in, region};
 use std::alloc::{AllocError, Global};
 
 /// The program's name.
@@ -27,6 +28,48 @@ pub enum Request {
         lines: String,
         output: Output,
     },
+    /// The lines of a pause.
+    Explain(Explain),
+    /// What keeps the object at an address.
+    Why {
+        image: String,
+        address: u64,
+    },
+    /// The replies to a trace.
+    Trace(Trace),
+}
+
+/// A trace to answer.
+#[derive(Debug, Drop)]
+pub struct Trace {
+    pub name: String,
+    pub cost: Cost,
+    /// Whether each line is answered at once.
+    pub live: bool,
+    /// Whether a reply has the number of its command.
+    pub numbered: bool,
+    /// Whether each pause is explained.
+    pub explain: bool,
+    pub image: Option<ImageAfter>,
+}
+
+/// The image after a command, and the file that it goes to.
+#[derive(Debug, Drop)]
+pub struct ImageAfter {
+    pub command: u64,
+    pub file: String,
+}
+
+/// A pause to explain. At most one of budget and regions is here.
+#[derive(Debug, Drop)]
+pub struct Explain {
+    pub image: String,
+    pub cost: Cost,
+    pub budget: Option<u64>,
+    pub set: Vec<u32>,
+    /// Whether only the new addresses are wanted.
+    pub map: bool,
+    pub output: Output,
 }
 
 /// Two images to compare. At most one is standard input.
@@ -66,10 +109,50 @@ static REGION: Argument = Argument {
     range: REGION_RANGE,
 };
 
+const ADDRESS_RANGE: &str = "an address, below 18446744073709551616";
+
 static OBJECT: Argument = Argument {
     id: "object",
     shown: "--object <A>",
-    range: "an address, below 18446744073709551616",
+    range: ADDRESS_RANGE,
+};
+
+static ADDRESS: Argument = Argument {
+    id: "address",
+    shown: "<A>",
+    range: ADDRESS_RANGE,
+};
+
+static BUDGET: Argument = Argument {
+    id: "budget",
+    shown: "--budget <N>",
+    range: "below 18446744073709551616",
+};
+
+const COST_RANGE: &str = "below 4294967296";
+
+static FIXED: Argument = Argument {
+    id: "fixed",
+    shown: "--fixed <N>",
+    range: COST_RANGE,
+};
+
+static DIRTY: Argument = Argument {
+    id: "dirty",
+    shown: "--dirty <N>",
+    range: COST_RANGE,
+};
+
+static CARD: Argument = Argument {
+    id: "card",
+    shown: "--card <N>",
+    range: COST_RANGE,
+};
+
+static BYTE: Argument = Argument {
+    id: "byte",
+    shown: "--byte <N>",
+    range: COST_RANGE,
 };
 
 // What stands at the end of each command's help.
@@ -80,7 +163,7 @@ Statuses:
   2  wrong words
   3  a file is no image
   4  a slot of AFTER is not covered
-  5  a region of the set is not there, not ordinary, pinned, or named twice
+  5  a region of the set is not there, not ordinary, pinned, or given twice
   6  no memory, or a read or a write that failed
   7  a file that can't be opened
   141  the reader of the answer went away
@@ -108,6 +191,44 @@ Statuses:
 
 Example: g1heap make -o IMAGE < LINES";
 
+const AFTER_EXPLAIN: &str = "\
+Statuses:
+  0  done
+  2  wrong words, or a number out of its range
+  3  the file is no image
+  4  a slot of the image is not covered
+  5  a region that cannot be collected, or no room for the survivors
+  6  no memory, or a read or a write that failed
+  7  a file that can't be opened or written
+  8  the pause answers another thing than its steps: an error of this program
+  141  the reader of the answer went away
+
+Example: g1heap explain --budget 1000 < IMAGE";
+
+const AFTER_WHY: &str = "\
+Statuses:
+  0  done
+  2  wrong words, or no object starts there
+  3  the file is no image
+  4  a slot of the image is not covered, and no root leads to the object
+  6  no memory, or a read or a write that failed
+  7  a file that can't be opened
+  8  what was found contradicts itself: an error of this program
+  141  the reader of the answer went away
+
+Example: g1heap why IMAGE 16";
+
+const AFTER_TRACE: &str = "\
+Statuses:
+  0  done
+  2  wrong words, or a command that the trace doesn't have
+  3  a line is not as it has to be, or a size is out of its range
+  6  no memory, or a read or a write that failed
+  7  a file that can't be opened or written
+  141  the reader of the answer went away
+
+Example: g1heap trace --live < TRACE";
+
 const AFTER_ALL: &str = "\
 Statuses:
   0  done
@@ -115,9 +236,10 @@ Statuses:
   2  wrong words, or a region or an object that the image doesn't have
   3  a file is no image, or a line is not as it has to be
   4  a slot is not covered
-  5  a region of the set is not there, not ordinary, pinned, or named twice
+  5  a region of the set is not there, not ordinary, pinned, or given twice, or no room
   6  no memory, or a read or a write that failed
   7  a file that can't be opened or written
+  8  an explanation contradicts the pause: an error of this program
   141  the reader of the answer went away
 
 Example: g1heap print < IMAGE";
@@ -131,7 +253,7 @@ struct Usage {
 
 static SAME_USAGE: Usage = Usage {
     name: "same",
-    about: "Tells whether two images show the same graph from their roots, or where not",
+    about: "Reports whether two images show the same graph from their roots, or where they differ",
     after_help: AFTER_SAME,
 };
 
@@ -143,8 +265,26 @@ static PRINT_USAGE: Usage = Usage {
 
 static MAKE_USAGE: Usage = Usage {
     name: "make",
-    about: "Writes the image that lines tell",
+    about: "Writes the image that lines describe",
     after_help: AFTER_MAKE,
+};
+
+static EXPLAIN_USAGE: Usage = Usage {
+    name: "explain",
+    about: "Reports what a pause of an image does, one fact a line",
+    after_help: AFTER_EXPLAIN,
+};
+
+static WHY_USAGE: Usage = Usage {
+    name: "why",
+    about: "Reports what keeps an object: the shortest path from a root, or a card",
+    after_help: AFTER_WHY,
+};
+
+static TRACE_USAGE: Usage = Usage {
+    name: "trace",
+    about: "Answers a trace, each line at once if asked to",
+    after_help: AFTER_TRACE,
 };
 
 // How an argument is given.
@@ -158,15 +298,24 @@ enum Form {
     Flag,
     /// By its name and a value.
     Value,
+    /// By its name and a value, or not at all, which means this value.
+    ValueOrDefault(&'static str),
     /// By its name and a value, if the option `region` isn't.
     ValueWithoutRegion,
+    /// By its name and a value, if the option `set` isn't.
+    ValueWithoutSet,
     /// By its name alone, where no part is asked for.
     FlagWithoutPart,
     /// By its name, or by its first letter, and a value.
     Output,
     /// By its name and one value or more.
     Values,
+    /// By its name and two values.
+    Pair,
 }
+
+// What help calls the two values of a pair.
+static PAIR: [&str; 2] = ["N", "FILE"];
 
 // An argument of a command: its name, what help calls its value, and what help says of it.
 struct Row {
@@ -241,6 +390,118 @@ static MAKE_ROWS: [Row; 2] = [
     OUTPUT_ROW,
 ];
 
+static EXPLAIN_ROWS: [Row; 9] = [
+    Row {
+        id: "image",
+        value: "IMAGE",
+        help: "An image, or - for standard input",
+        form: Form::FileOrNone,
+    },
+    Row {
+        id: "budget",
+        value: "N",
+        help: "What the pause may cost in all",
+        form: Form::ValueWithoutSet,
+    },
+    Row {
+        id: "set",
+        value: "REGION",
+        help: "The regions to collect, as in 1,2,5-9",
+        form: Form::Values,
+    },
+    FIXED_ROW,
+    DIRTY_ROW,
+    CARD_ROW,
+    BYTE_ROW,
+    Row {
+        id: "map",
+        value: "",
+        help: "Only a line OLD NEW SIZE for each survivor",
+        form: Form::Flag,
+    },
+    OUTPUT_ROW,
+];
+
+static TRACE_ROWS: [Row; 9] = [
+    Row {
+        id: "trace",
+        value: "TRACE",
+        help: "A trace, or - for standard input",
+        form: Form::FileOrNone,
+    },
+    Row {
+        id: "live",
+        value: "",
+        help: "Writes each reply as soon as its line is there",
+        form: Form::Flag,
+    },
+    Row {
+        id: "numbered",
+        value: "",
+        help: "Puts the number of its command before each reply",
+        form: Form::Flag,
+    },
+    Row {
+        id: "explain",
+        value: "",
+        help: "Puts the lines of each pause before its reply",
+        form: Form::Flag,
+    },
+    Row {
+        id: "image",
+        value: "",
+        help: "Also writes the image after command N to this file",
+        form: Form::Pair,
+    },
+    FIXED_ROW,
+    DIRTY_ROW,
+    CARD_ROW,
+    BYTE_ROW,
+];
+
+static WHY_ROWS: [Row; 2] = [
+    Row {
+        id: "image",
+        value: "IMAGE",
+        help: "An image, or - for standard input",
+        form: Form::File,
+    },
+    Row {
+        id: "address",
+        value: "A",
+        help: "The address of an object",
+        form: Form::File,
+    },
+];
+
+const FIXED_ROW: Row = Row {
+    id: "fixed",
+    value: "N",
+    help: "What a pause costs in any case",
+    form: Form::ValueOrDefault("0"),
+};
+
+const DIRTY_ROW: Row = Row {
+    id: "dirty",
+    value: "N",
+    help: "What a dirty card costs",
+    form: Form::ValueOrDefault("1"),
+};
+
+const CARD_ROW: Row = Row {
+    id: "card",
+    value: "N",
+    help: "What a remembered card costs",
+    form: Form::ValueOrDefault("1"),
+};
+
+const BYTE_ROW: Row = Row {
+    id: "byte",
+    value: "N",
+    help: "What a live byte costs",
+    form: Form::ValueOrDefault("1"),
+};
+
 const OUTPUT_ROW: Row = Row {
     id: "output",
     value: "FILE",
@@ -266,8 +527,11 @@ fn with_values<'a>(argument: Arg<'a>, id: &'a str, form: Form) -> Result<Arg<'a>
     match form {
         Form::File => Ok(argument.required(true)),
         Form::FileOrNone => Ok(argument.default_value(STANDARD_STREAM)),
+        Form::ValueOrDefault(value) => Ok(argument.long(id).default_value(value)),
         Form::ValueWithoutRegion => argument.long(id).conflicts_with("region"),
+        Form::ValueWithoutSet => argument.long(id).conflicts_with("set"),
         Form::Values => Ok(argument.long(id).num_args(1..).action(ArgAction::Append)),
+        Form::Pair => Ok(argument.long(id).num_args(2..=2).value_names(&PAIR)),
         Form::Output => Ok(argument.long(id).short('o')),
         _ => Ok(argument.long(id)),
     }
@@ -292,10 +556,13 @@ fn with_argument<'a>(
     command.arg(argument)
 }
 
-fn command_named<'a>(alloc: Global, name: &str) -> Result<Command<'a>, AllocError> {
+fn build_command<'a>(alloc: Global, name: &str) -> Result<Command<'a>, AllocError> {
     match name {
         "same" => command_of(alloc, &SAME_USAGE, &SAME_ROWS),
         "print" => command_of(alloc, &PRINT_USAGE, &PRINT_ROWS),
+        "explain" => command_of(alloc, &EXPLAIN_USAGE, &EXPLAIN_ROWS),
+        "why" => command_of(alloc, &WHY_USAGE, &WHY_ROWS),
+        "trace" => command_of(alloc, &TRACE_USAGE, &TRACE_ROWS),
         _ => command_of(alloc, &MAKE_USAGE, &MAKE_ROWS),
     }
 }
@@ -304,16 +571,20 @@ fn program<'a>(alloc: Global) -> Result<Command<'a>, AllocError> {
     Command::new(alloc, NAME)
         .no_binary_name(true)
         .version("1.0.0")
-        .about("Compares, prints and makes heap images")
+        .about("Compares, prints and makes heap images, explains pauses and answers traces")
         .after_help(AFTER_ALL)
         .subcommand_required(true)
         .bin_name(NAME)
 }
 
+const COMMANDS: [&str; 6] = ["same", "print", "make", "explain", "why", "trace"];
+
 fn command<'a>(alloc: Global) -> Result<Command<'a>, AllocError> {
-    let command = with_command(alloc, program(alloc)?, "same")?;
-    let command = with_command(alloc, command, "print")?;
-    with_command(alloc, command, "make")
+    let mut command = program(alloc)?;
+    for name in COMMANDS {
+        command = with_command(alloc, command, name)?;
+    }
+    Ok(command)
 }
 
 fn with_command<'a>(
@@ -321,7 +592,7 @@ fn with_command<'a>(
     command: Command<'a>,
     name: &str,
 ) -> Result<Command<'a>, AllocError> {
-    let added = command_named(alloc, name)?;
+    let added = build_command(alloc, name)?;
     command.subcommand(added)
 }
 
@@ -347,7 +618,7 @@ fn name_of(alloc: Global, values: &ArgMatches<'_>, id: &str) -> Result<String, A
 }
 
 fn output_of(alloc: Global, values: &ArgMatches<'_>) -> Result<Output, AllocError> {
-    Output::named(alloc, values.get_str("output"))
+    Output::of_name(alloc, values.get_str("output"))
 }
 
 fn same_of(alloc: Global, values: &ArgMatches<'_>) -> Result<Request, Misuse> {
@@ -363,6 +634,59 @@ fn same_of(alloc: Global, values: &ArgMatches<'_>) -> Result<Request, Misuse> {
     }))
 }
 
+// The number of an option that has one, be it by default.
+fn value(alloc: Global, values: &ArgMatches<'_>, argument: &Argument) -> Result<u64, Misuse> {
+    Ok(number(alloc, values, argument)?.unwrap_or(0))
+}
+
+fn cost_of(alloc: Global, values: &ArgMatches<'_>) -> Result<Cost, Misuse> {
+    Ok(Cost {
+        fixed: value(alloc, values, &FIXED)?,
+        dirty: value(alloc, values, &DIRTY)?,
+        card: value(alloc, values, &CARD)?,
+        byte: value(alloc, values, &BYTE)?,
+    })
+}
+
+fn explain_of(alloc: Global, values: &ArgMatches<'_>) -> Result<Explain, Misuse> {
+    Ok(Explain {
+        image: name_of(alloc, values, "image")?,
+        cost: cost_of(alloc, values)?,
+        budget: number(alloc, values, &BUDGET)?,
+        set: regions_in(alloc, &SET, values.get_strs(SET.id).unwrap_or(&[]))?,
+        map: values.get_flag("map"),
+        output: output_of(alloc, values)?,
+    })
+}
+
+static AFTER_COMMAND: Argument = Argument {
+    id: "image",
+    shown: "--image <N> <FILE>",
+    range: "below 18446744073709551616",
+};
+
+// The number of the command, and the file.
+fn image_of(alloc: Global, values: &ArgMatches<'_>) -> Result<Option<ImageAfter>, Misuse> {
+    match values.get_strs(AFTER_COMMAND.id) {
+        Some([number, file]) => Ok(Some(ImageAfter {
+            command: number_in(alloc, &AFTER_COMMAND, number)?,
+            file: String::from_str(alloc, file)?,
+        })),
+        _ => Ok(None),
+    }
+}
+
+fn trace_of(alloc: Global, values: &ArgMatches<'_>) -> Result<Trace, Misuse> {
+    Ok(Trace {
+        name: name_of(alloc, values, "trace")?,
+        cost: cost_of(alloc, values)?,
+        live: values.get_flag("live"),
+        numbered: values.get_flag("numbered"),
+        explain: values.get_flag("explain"),
+        image: image_of(alloc, values)?,
+    })
+}
+
 // What the values of a command ask for.
 fn request_of(alloc: Global, name: &str, values: &ArgMatches<'_>) -> Result<Request, Misuse> {
     match name {
@@ -372,6 +696,12 @@ fn request_of(alloc: Global, name: &str, values: &ArgMatches<'_>) -> Result<Requ
             part: part_of(alloc, values)?,
             output: output_of(alloc, values)?,
         }),
+        "explain" => Ok(Request::Explain(explain_of(alloc, values)?)),
+        "why" => Ok(Request::Why {
+            image: name_of(alloc, values, "image")?,
+            address: value(alloc, values, &ADDRESS)?,
+        }),
+        "trace" => Ok(Request::Trace(trace_of(alloc, values)?)),
         _ => Ok(Request::Make {
             lines: name_of(alloc, values, "lines")?,
             output: output_of(alloc, values)?,
@@ -379,15 +709,15 @@ fn request_of(alloc: Global, name: &str, values: &ArgMatches<'_>) -> Result<Requ
     }
 }
 
-fn matched<'a>(alloc: Global, words: &'a [String]) -> Result<ArgMatches<'a>, Error> {
+fn match_words<'a>(alloc: Global, words: &'a [String]) -> Result<ArgMatches<'a>, Error> {
     command(alloc)?.try_get_matches_from(words)
 }
 
 /// Reads the words after the program's name.
 pub fn parse(alloc: Global, words: &[String]) -> Result<Request, Refusal> {
-    let words = tied(alloc, words)?;
-    match &matched(alloc, words.as_slice()) {
-        Ok(matches) => asked(alloc, matches),
+    let words = tie(alloc, words)?;
+    match &match_words(alloc, words.as_slice()) {
+        Ok(matches) => read_request(alloc, matches),
         Err(error) => help(alloc, error),
     }
 }
@@ -396,19 +726,19 @@ fn help(alloc: Global, error: &Error) -> Result<Request, Refusal> {
     Ok(Request::Help(explain(alloc, error)?))
 }
 
-fn asked(alloc: Global, matches: &ArgMatches<'_>) -> Result<Request, Refusal> {
+fn read_request(alloc: Global, matches: &ArgMatches<'_>) -> Result<Request, Refusal> {
     let Some((name, values)) = matches.subcommand() else {
         let text = String::from_str(alloc, "error: a command is required\n")?;
         return Err(Refusal::usage(text));
     };
     match request_of(alloc, name, values) {
         Ok(request) => Ok(request),
-        Err(misuse) => Err(refused(alloc, name, misuse)),
+        Err(misuse) => Err(refusal(alloc, name, misuse)),
     }
 }
 
-fn refused(alloc: Global, name: &str, misuse: Misuse) -> Refusal {
-    match command_named(alloc, name) {
+fn refusal(alloc: Global, name: &str, misuse: Misuse) -> Refusal {
+    match build_command(alloc, name) {
         Ok(command) => misuse.refusal(alloc, NAME, command),
         Err(error) => error.into(),
     }

@@ -1,6 +1,6 @@
 //! Where an answer goes.
 use crate::files::STANDARD_STREAM;
-use crate::refusal::{of_file, unwritten};
+use crate::refusal::{of_file, unwritable};
 use g1_command::Refusal;
 use g1_words::{Device, Fault};
 use std::alloc::{AllocError, Global};
@@ -22,7 +22,7 @@ pub enum Output {
 
 impl Output {
     /// The output that a name stands for, if one is given.
-    pub fn named(alloc: Global, name: Option<&str>) -> Result<Output, AllocError> {
+    pub fn of_name(alloc: Global, name: Option<&str>) -> Result<Output, AllocError> {
         match name {
             None => Ok(Output::Default),
             Some(STANDARD_STREAM) => Ok(Output::Standard),
@@ -47,8 +47,8 @@ pub fn write_file<T: Files>(
 }
 
 fn write_device<T: Files>(rt: &T, alloc: Global, name: &str, answer: &[u8]) -> Result<(), Refusal> {
-    let mut file = opened(alloc, name, OpenOptions::new().write(true).open(rt, name))?;
-    written(alloc, name, file.write_all(answer))
+    let mut file = check_done(alloc, name, OpenOptions::new().write(true).open(rt, name))?;
+    check_written(alloc, name, file.write_all(answer))
 }
 
 fn replace<T: Files>(rt: &T, alloc: Global, name: &str, answer: &[u8]) -> Result<(), Refusal> {
@@ -67,9 +67,9 @@ fn write_beside<T: Files>(
     beside: &str,
     answer: &[u8],
 ) -> Result<(), Refusal> {
-    let mut file = opened(alloc, name, File::create(rt, beside))?;
-    written(alloc, name, file.write_all(answer))?;
-    opened(alloc, name, fs::rename(rt, beside, name))
+    let mut file = check_done(alloc, name, File::create(rt, beside))?;
+    check_written(alloc, name, file.write_all(answer))?;
+    check_done(alloc, name, fs::rename(rt, beside, name))
 }
 
 // How many names are tried.
@@ -82,28 +82,28 @@ fn free_name<T: Files>(rt: &T, alloc: Global, name: &str) -> Result<String, Refu
         match File::create_new(rt, beside.as_str()) {
             Ok(_) => return Ok(beside),
             Err(error) if error.kind() == ErrorKind::AlreadyExists => (),
-            Err(error) => return Err(failed(alloc, name, &error)),
+            Err(error) => return Err(failure(alloc, name, &error)),
         }
     }
-    Err(unwritten(alloc, name))
+    Err(unwritable(alloc, name))
 }
 
-fn failed(alloc: Global, name: &str, error: &io::Error) -> Refusal {
+fn failure(alloc: Global, name: &str, error: &io::Error) -> Refusal {
     if error.kind() == ErrorKind::OutOfMemory {
         return Fault::Memory.into();
     }
-    unwritten(alloc, name)
+    unwritable(alloc, name)
 }
 
 // What was opened or renamed for the file of this name.
-fn opened<V: Drop>(alloc: Global, name: &str, done: io::Result<V>) -> Result<V, Refusal> {
+fn check_done<V: Drop>(alloc: Global, name: &str, done: io::Result<V>) -> Result<V, Refusal> {
     match done {
         Ok(value) => Ok(value),
-        Err(error) => Err(failed(alloc, name, &error)),
+        Err(error) => Err(failure(alloc, name, &error)),
     }
 }
 
-fn written(alloc: Global, name: &str, done: io::Result<()>) -> Result<(), Refusal> {
+fn check_written(alloc: Global, name: &str, done: io::Result<()>) -> Result<(), Refusal> {
     match done {
         Ok(()) => Ok(()),
         Err(_) => Err(of_file(alloc, name, Fault::Device(Device::Output))),

@@ -1,4 +1,5 @@
 //! The refusals that name a file.
+use crate::location::Location;
 use g1_command::{Refusal, status};
 use g1_text::Expected;
 use g1_words::Fault;
@@ -9,45 +10,93 @@ pub fn of_file(alloc: Global, name: &str, fault: Fault) -> Refusal {
     if fault == Fault::Memory {
         return Refusal::Fault(fault);
     }
-    let number = fault.number();
-    told(
+    let (number, hint) = (fault.number(), hint_for(fault));
+    refusal(
         status(&fault),
-        format!(in alloc; "g1heap: {name}: fault {number}: {fault}\n"),
+        format!(in alloc; "g1heap: {name}: fault {number}: {fault}\n{hint}"),
     )
 }
 
+// What to do about a file that is no image at all.
+fn hint_for(fault: Fault) -> &'static str {
+    match fault {
+        Fault::Magic =>
+            "g1heap: it is no image; if it has lines, 'g1heap make' makes an image of them\n",
+        _ => "",
+    }
+}
+
 /// A file that can't be opened.
-pub fn closed(alloc: Global, name: &str) -> Refusal {
-    told(7, format!(in alloc; "g1heap: {name}: can't be opened\n"))
+pub fn unopenable(alloc: Global, name: &str) -> Refusal {
+    refusal(7, format!(in alloc; "g1heap: {name}: can't be opened\n"))
 }
 
 /// A file that can't be made, or can't get its name.
-pub fn unwritten(alloc: Global, name: &str) -> Refusal {
-    told(7, format!(in alloc; "g1heap: {name}: can't be written\n"))
+pub fn unwritable(alloc: Global, name: &str) -> Refusal {
+    refusal(7, format!(in alloc; "g1heap: {name}: can't be written\n"))
 }
 
 /// A line of a file that is not what is expected there.
 pub fn wrong_line(alloc: Global, name: &str, number: u64, expected: &Expected) -> Refusal {
-    told(
+    refusal(
         3,
         format!(in alloc; "g1heap: {name}: line {number}: expected {expected}\n"),
     )
 }
 
+/// A line of a trace that is not what is expected there.
+pub fn wrong_trace_line(
+    alloc: Global,
+    name: &str,
+    number: u64,
+    expected: g1_session::Expected,
+) -> Refusal {
+    refusal(
+        3,
+        format!(in alloc; "g1heap: {name}: line {number}: expected {expected}\n"),
+    )
+}
+
+/// A command that a trace doesn't have.
+pub fn no_command(alloc: Global, name: &str, command: u64, commands: u64) -> Refusal {
+    refusal(
+        2,
+        format!(in alloc; "g1heap: {name}: no command {command}: the trace has {commands}\n"),
+    )
+}
+
 /// A region that the image doesn't have.
 pub fn no_region(alloc: Global, name: &str, region: u32) -> Refusal {
-    told(2, format!(in alloc; "g1heap: {name}: no region {region}\n"))
+    refusal(2, format!(in alloc; "g1heap: {name}: no region {region}\n"))
 }
 
 /// An address at which no object starts.
 pub fn no_object(alloc: Global, name: &str, address: u64) -> Refusal {
-    told(
+    refusal(
         2,
         format!(in alloc; "g1heap: {name}: no object starts at {address}\n"),
     )
 }
 
-fn told(status: u8, text: Result<String, AllocError>) -> Refusal {
+/// An address at which no object starts, and what is there.
+pub fn no_object_but(alloc: Global, name: &str, address: u64, location: &Location) -> Refusal {
+    refusal(
+        2,
+        format!(in alloc; "g1heap: {name}: no object starts at {address}: {location}\n"),
+    )
+}
+
+/// An explanation that contradicts the pause.
+pub fn contradiction(alloc: Global, name: &str) -> Refusal {
+    refusal(
+        8,
+        format!(in alloc;
+            "g1heap: {name}: internal contradiction: the pause answers another thing than its steps\n"
+        ),
+    )
+}
+
+fn refusal(status: u8, text: Result<String, AllocError>) -> Refusal {
     match text {
         Ok(text) => Refusal::Told { status, text },
         Err(error) => error.into(),

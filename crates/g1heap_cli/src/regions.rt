@@ -4,15 +4,15 @@ use std::alloc::{AllocError, Global};
 
 const OPTION: &str = "--set";
 
-/// The words, with each value of `--set` tied to it: clap would take files that follow for regions. A word
+/// Ties each value of `--set` among the words to it: clap would take files that follow for regions. A word
 /// behind `--set` or behind such a value is one if it is made of digits, commas and dashes, and a digit is
 /// first.
-pub fn tied(alloc: Global, words: &[String]) -> Result<Vec<String>, AllocError> {
+pub fn tie(alloc: Global, words: &[String]) -> Result<Vec<String>, AllocError> {
     let mut tied = Vec::new(alloc);
     let mut follows = Follows::Word;
     for (place, word) in words.iter().enumerate() {
         let next = words.get(place.saturating_add(1));
-        let (word, then) = tied_word(alloc, follows, word.as_str(), next)?;
+        let (word, then) = tie_word(alloc, follows, word.as_str(), next)?;
         follows = then;
         if let Some(word) = word {
             tied.push(word)?;
@@ -32,7 +32,7 @@ enum Follows {
 }
 
 // What becomes of a word, and what the next one may be.
-fn tied_word(
+fn tie_word(
     alloc: Global,
     follows: Follows,
     word: &str,

@@ -18,7 +18,7 @@ pub fn announce<E: Write>(terminals: Terminals, request: &Request, errors: &mut 
     if !terminals.input {
         return;
     }
-    if let Some(text) = awaited(request) {
+    if let Some(text) = waiting_text(request) {
         // The answer is the same whether this is seen or not.
         let _ = errors.write_all(text.as_bytes());
     }
@@ -28,14 +28,19 @@ const IMAGE: &str = "g1heap: waiting for an image on standard input\n";
 
 const LINES: &str = "g1heap: waiting for lines on standard input, which Ctrl-D ends\n";
 
+const TRACE: &str = "g1heap: waiting for a trace on standard input, which Ctrl-D ends\n";
+
 // What is said of the request if standard input is read for it.
-fn awaited(request: &Request) -> Option<&'static str> {
+fn waiting_text(request: &Request) -> Option<&'static str> {
     match request {
         Request::Help(_) => None,
         Request::Same(same) if is_standard(&same.before) || is_standard(&same.after) => Some(IMAGE),
         Request::Same(_) => None,
         Request::Print { image, .. } => is_standard(image).then_some(IMAGE),
         Request::Make { lines, .. } => is_standard(lines).then_some(LINES),
+        Request::Explain(explain) => is_standard(&explain.image).then_some(IMAGE),
+        Request::Why { image, .. } => is_standard(image).then_some(IMAGE),
+        Request::Trace(trace) => is_standard(&trace.name).then_some(TRACE),
     }
 }
 

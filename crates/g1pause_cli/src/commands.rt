@@ -6,7 +6,7 @@ use g1_choose::Cost;
 use g1_command::{Refusal, deliver, read_all, refuse};
 use g1_image::{FromReader, Image, ToWriter, read, write};
 use g1_pause::{Choice, Settings, pause_run};
-use g1_rem::{Tracked, verify};
+use g1_rem::{Tracked, verify_by};
 use g1_trace::run_text;
 use g1_words::Fault;
 use g1_work::Open;
@@ -68,17 +68,17 @@ fn answer_question<T: Threads + Sync, R: Read, W: Write>(
     reader: &mut R,
     writer: &mut W,
 ) -> Result<(), Fault> {
-    let lines = answered(rt, alloc, question, reader)?;
+    let lines = compute_answer(rt, alloc, question, reader)?;
     deliver(&lines, writer)
 }
 
-fn answered<T: Threads + Sync, R: Read>(
+fn compute_answer<T: Threads + Sync, R: Read>(
     rt: &T,
     alloc: Global,
     question: Question,
     reader: &mut R,
 ) -> Result<Vec<u8>, Fault> {
-    let settings = asked(question)?;
+    let settings = question_settings(question)?;
     match question {
         Question::Show(_) => show(rt, alloc, &settings, reader),
         Question::Live(_) => live(rt, alloc, &settings, reader),
@@ -88,33 +88,33 @@ fn answered<T: Threads + Sync, R: Read>(
 }
 
 // The settings of a question.
-fn asked(question: Question) -> Result<Settings, Fault> {
+fn question_settings(question: Question) -> Result<Settings, Fault> {
     match question {
-        Question::Show(sharing) | Question::Live(sharing) => shared(sharing),
+        Question::Show(sharing) | Question::Live(sharing) => sharing_settings(sharing),
         Question::Choose { sharing, cost, .. } | Question::Run { sharing, cost } => {
-            costed(sharing, cost)
+            cost_settings(sharing, cost)
         }
     }
 }
 
 // The settings of a command that has no costs and no choice.
-fn shared(sharing: Sharing) -> Result<Settings, Fault> {
+fn sharing_settings(sharing: Sharing) -> Result<Settings, Fault> {
     let free = Cost {
         fixed: 0,
         dirty: 0,
         card: 0,
         byte: 0,
     };
-    costed(sharing, free)
+    cost_settings(sharing, free)
 }
 
 // The settings of a command that has no choice of its own.
-fn costed(sharing: Sharing, cost: Cost) -> Result<Settings, Fault> {
+fn cost_settings(sharing: Sharing, cost: Cost) -> Result<Settings, Fault> {
     Settings::new(sharing.workers, sharing.chunk, cost, Choice::Budget(0))
 }
 
 // The settings of a pause. A budget beside regions is looked for last, as its number is the highest.
-fn chosen(pause: Pause) -> Result<Settings, Fault> {
+fn pause_settings(pause: Pause) -> Result<Settings, Fault> {
     let Pause {
         sharing: Sharing { workers, chunk },
         cost,
@@ -150,11 +150,11 @@ fn repack<R: Read, W: Write>(
     reader: &mut R,
     writer: &mut W,
 ) -> Result<(), Fault> {
-    shared(sharing)?;
-    repacked(alloc, reader, writer)
+    sharing_settings(sharing)?;
+    rewrite(alloc, reader, writer)
 }
 
-fn repacked<R: Read, W: Write>(alloc: Global, reader: &mut R, writer: &mut W) -> Result<(), Fault> {
+fn rewrite<R: Read, W: Write>(alloc: Global, reader: &mut R, writer: &mut W) -> Result<(), Fault> {
     let image = read_image(alloc, reader)?;
     let mut sink = ToWriter::new(writer);
     write(alloc, &image, &mut sink)?;
@@ -167,7 +167,7 @@ fn check<T: Threads + Sync, R: Read, W: Write>(
     reader: &mut R,
     writer: &mut W,
 ) -> Result<(), Fault> {
-    read_tracked(rt, alloc, reader)?;
+    read_tracked(rt, alloc, 1, reader)?;
     deliver(b"covered\n", writer)
 }
 
@@ -188,7 +188,7 @@ fn choose<T: Threads + Sync, R: Read>(
     budget: u64,
     reader: &mut R,
 ) -> Result<Vec<u8>, Fault> {
-    let tracked = read_tracked(rt, alloc, reader)?;
+    let tracked = read_tracked(rt, alloc, settings.workers(), reader)?;
     candidates(rt, alloc, settings, budget, &tracked)
 }
 
@@ -199,11 +199,11 @@ fn collect<T: Threads + Sync, R: Read, W: Write>(
     reader: &mut R,
     writer: &mut W,
 ) -> Result<(), Fault> {
-    let settings = chosen(pause)?;
-    paused(rt, alloc, &settings, reader, writer)
+    let settings = pause_settings(pause)?;
+    run_pause(rt, alloc, &settings, reader, writer)
 }
 
-fn paused<T: Threads + Sync, R: Read, W: Write>(
+fn run_pause<T: Threads + Sync, R: Read, W: Write>(
     rt: &T,
     alloc: Global,
     settings: &Settings,
@@ -243,9 +243,10 @@ fn read_image<R: Read>(alloc: Global, reader: &mut R) -> Result<Image, Fault> {
 fn read_tracked<T: Threads + Sync, R: Read>(
     rt: &T,
     alloc: Global,
+    workers: u64,
     reader: &mut R,
 ) -> Result<Tracked, Fault> {
-    match verify(rt, alloc, read_image(alloc, reader)?) {
+    match verify_by(rt, alloc, read_image(alloc, reader)?, workers) {
         Ok(tracked) => Ok(tracked),
         Err((_, fault)) => Err(fault),
     }

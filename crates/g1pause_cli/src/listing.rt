@@ -19,8 +19,8 @@ pub fn live_lines<T: Threads + Sync>(
     settings: &Settings,
     heap: &Heap,
 ) -> Result<Vec<u8>, Fault> {
-    let starts = Starts::build(alloc, heap)?;
     let (workers, chunk) = (settings.workers(), settings.chunk());
+    let starts = Starts::build_by(rt, alloc, heap, workers)?;
     let live = live_bytes(rt, alloc, heap, &starts, workers, chunk, &Open)?;
     live_text(alloc, &live)
 }
@@ -42,8 +42,8 @@ pub fn candidates<T: Threads + Sync>(
     tracked: &Tracked,
 ) -> Result<Vec<u8>, Fault> {
     let heap = image(tracked).heap();
-    let starts = Starts::build(alloc, heap)?;
     let (workers, chunk) = (settings.workers(), settings.chunk());
+    let starts = Starts::build_by(rt, alloc, heap, workers)?;
     let remembered = refine_by(rt, alloc, tracked, &starts, workers)?;
     let live = live_bytes(rt, alloc, heap, &starts, workers, chunk, &Open)?;
     let dirty = image(tracked).log().len() as u64;
@@ -72,14 +72,14 @@ fn candidate_lines(
     requires remembered { length remembered.now ≡ heap.now.geometry.n }
     requires live_bytes { MayBeLive heap.now live.now }
 {
-    let (taken, total) = bought(alloc, heap, dirty, remembered, live, parameters, budget)?;
+    let (taken, total) = buy(alloc, heap, dirty, remembered, live, parameters, budget)?;
     let order = order(alloc, heap, remembered, live, parameters)?;
     // What is chosen is the beginning of the order.
     choice_lines(alloc, &order, taken, total)
 }
 
-// How many regions the budget buys, and what a pause costs that collects them.
-fn bought(
+// Buys regions for the budget: how many, and what a pause costs that collects them.
+fn buy(
     alloc: Global,
     heap: &Heap,
     dirty: u64,

@@ -254,7 +254,11 @@ fn with<'a>(
 const HOW_MANY: &str = "How many workers share the work, 1 to 64";
 
 // A command with the options on workers. `items` says what a chunk counts, and its range.
-fn shared<'a>(alloc: Global, guide: &Guide, items: &'a str) -> Result<Command<'a>, AllocError> {
+fn sharing_command<'a>(
+    alloc: Global,
+    guide: &Guide,
+    items: &'a str,
+) -> Result<Command<'a>, AllocError> {
     let options = [("workers", "1", HOW_MANY), ("chunk", "64", items)];
     with_options(alloc, guide, &options)
 }
@@ -268,12 +272,16 @@ fn repack<'a>(alloc: Global) -> Arg<'a> {
 
 fn show<'a>(alloc: Global) -> Result<Command<'a>, AllocError> {
     let items = "How many regions a worker draws at once, 1 to 65536";
-    with(shared(alloc, &SHOW, items), repack(alloc))
+    with(sharing_command(alloc, &SHOW, items), repack(alloc))
 }
 
 const ROOTS: &str = "How many roots or objects a worker draws at once, 1 to 65536";
 
-fn costed<'a>(alloc: Global, guide: &Guide, items: &'a str) -> Result<Command<'a>, AllocError> {
+fn costing_command<'a>(
+    alloc: Global,
+    guide: &Guide,
+    items: &'a str,
+) -> Result<Command<'a>, AllocError> {
     let options = [
         ("workers", "1", HOW_MANY),
         ("chunk", "64", items),
@@ -290,12 +298,15 @@ fn budget<'a>(alloc: Global) -> Arg<'a> {
 }
 
 fn choose<'a>(alloc: Global) -> Result<Command<'a>, AllocError> {
-    with(costed(alloc, &CHOOSE, ROOTS), budget(alloc).required(true))
+    with(
+        costing_command(alloc, &CHOOSE, ROOTS),
+        budget(alloc).required(true),
+    )
 }
 
 const CARDS: &str = "How many roots, cards or objects a worker draws at once, 1 to 65536";
 
-fn named_regions<'a>(alloc: Global) -> Arg<'a> {
+fn regions_argument<'a>(alloc: Global) -> Arg<'a> {
     Arg::new(alloc, "regions")
         .value_name("REGION")
         .num_args(0..)
@@ -304,8 +315,8 @@ fn named_regions<'a>(alloc: Global) -> Arg<'a> {
 }
 
 fn pause_command<'a>(alloc: Global) -> Result<Command<'a>, AllocError> {
-    let command = with(costed(alloc, &PAUSE, CARDS), budget(alloc));
-    with(command, named_regions(alloc))
+    let command = with(costing_command(alloc, &PAUSE, CARDS), budget(alloc));
+    with(command, regions_argument(alloc))
 }
 
 const COMMANDS: [&str; 6] = ["show", "check", "live", "choose", "pause", "run"];
@@ -331,18 +342,18 @@ fn with_command<'a>(
     command: Command<'a>,
     name: &str,
 ) -> Result<Command<'a>, AllocError> {
-    let added = command_named(alloc, name)?;
+    let added = build_command(alloc, name)?;
     command.subcommand(added)
 }
 
-fn command_named<'a>(alloc: Global, name: &str) -> Result<Command<'a>, AllocError> {
+fn build_command<'a>(alloc: Global, name: &str) -> Result<Command<'a>, AllocError> {
     match name {
         "show" => show(alloc),
         "check" => Ok(bare(alloc, &CHECK)),
-        "live" => shared(alloc, &LIVE, ROOTS),
+        "live" => sharing_command(alloc, &LIVE, ROOTS),
         "choose" => choose(alloc),
         "pause" => pause_command(alloc),
-        _ => costed(alloc, &RUN, CARDS),
+        _ => costing_command(alloc, &RUN, CARDS),
     }
 }
 
@@ -407,13 +418,13 @@ fn question_of(alloc: Global, name: &str, values: &ArgMatches<'_>) -> Result<Que
     }
 }
 
-fn matched<'a>(alloc: Global, words: &'a [String]) -> Result<ArgMatches<'a>, Error> {
+fn match_words<'a>(alloc: Global, words: &'a [String]) -> Result<ArgMatches<'a>, Error> {
     command(alloc)?.try_get_matches_from(words)
 }
 
 /// Reads the words after the program's name.
 pub fn parse(alloc: Global, words: &[String]) -> Result<Request, Refusal> {
-    match matched(alloc, words) {
+    match match_words(alloc, words) {
         Ok(matches) => request_in(alloc, &matches),
         Err(error) => match explain(alloc, &error) {
             Ok(text) => Ok(Request::Help(text)),
@@ -450,6 +461,6 @@ fn request_in(alloc: Global, matches: &ArgMatches<'_>) -> Result<Request, Refusa
     };
     match request_of(alloc, name, values) {
         Ok(request) => Ok(request),
-        Err(misuse) => Err(misuse.refusal(alloc, NAME, command_named(alloc, name)?)),
+        Err(misuse) => Err(misuse.refusal(alloc, NAME, build_command(alloc, name)?)),
     }
 }

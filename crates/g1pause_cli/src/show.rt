@@ -24,11 +24,11 @@ pub fn table<T: Threads + Sync>(
     let workers = vec![in alloc; (); settings.workers() as usize]?;
     let chunks = regions.div_ceil(rows.chunk);
     let (_, outs) = each_chunk(rt, alloc, workers, chunks, &rows, &Open)?;
-    joined(alloc, image, &outs)
+    join(alloc, image, &outs)
 }
 
 // The heading, and the regions' lines behind it.
-fn joined(alloc: Global, image: &Image, outs: &[String]) -> Result<Vec<u8>, Fault> {
+fn join(alloc: Global, image: &Image, outs: &[String]) -> Result<Vec<u8>, Fault> {
     let mut text = heading(alloc, image)?;
     for out in outs {
         text.push_str(out.as_str())?;

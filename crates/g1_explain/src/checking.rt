@@ -1,0 +1,102 @@
+//! Whether the pause answers what its steps gave.
+use crate::cards::word_at;
+use crate::changes::is_kept;
+use crate::failure::Failure;
+use crate::finders::size_in;
+use crate::places::sum_of;
+use crate::steps::Steps;
+use g1_image::Image;
+use g1_pause::{Report, Settings, evacuate};
+use g1_rem::{Tracked, image};
+use g1_words::{Fault, Heap};
+use g1_work::Open;
+use std::alloc::Global;
+use std::thread::Threads;
+
+/// Makes the pause, and compares its report and the image after with what the steps gave.
+///
+/// # Errors
+///
+/// `Failure::Contradiction` if they differ; `Fault::Memory`.
+pub(crate) fn check_answer<R: Threads + Sync>(
+    rt: &R,
+    alloc: Global,
+    tracked: Tracked,
+    settings: &Settings,
+    steps: &Steps,
+) -> Result<(), Failure> {
+    match evacuate(rt, alloc, tracked, settings, &Open) {
+        Ok((after, report)) => {
+            if agrees(steps, &report) && is_written(steps, image(&after)) {
+                Ok(())
+            } else {
+                Err(Failure::Contradiction)
+            }
+        }
+        Err((_, Fault::Memory)) => Err(Failure::Fault(Fault::Memory)),
+        Err(_) => Err(Failure::Contradiction),
+    }
+}
+
+/// Makes the pause that a step refused, and compares its fault with that of the step. Running out of memory
+/// is of no step.
+///
+/// # Errors
+///
+/// `Failure::Contradiction` if they differ; `Fault::Memory`.
+pub(crate) fn check_refusal<R: Threads + Sync>(
+    rt: &R,
+    alloc: Global,
+    tracked: Tracked,
+    settings: &Settings,
+    refused: Fault,
+) -> Result<(), Failure> {
+    if refused == Fault::Memory {
+        return Err(Failure::Fault(refused));
+    }
+    match evacuate(rt, alloc, tracked, settings, &Open) {
+        Err((_, fault)) if fault == refused => Ok(()),
+        Err((_, Fault::Memory)) => Err(Failure::Fault(Fault::Memory)),
+        _ => Err(Failure::Contradiction),
+    }
+}
+
+// Whether the pause reports what the steps gave.
+fn agrees(steps: &Steps, report: &Report) -> bool {
+    report.set == steps.set
+        && report.to.as_slice() == steps.plan.to_space()
+        && report.objects == steps.sizes.len() as u64
+        && report.words == sum_of(&steps.sizes)
+        && report.humongous.as_slice() == steps.prepared.humongous()
+}
+
+// Whether the image after is the one that the steps gave.
+fn is_written(steps: &Steps, after: &Image) -> bool {
+    let heap = after.heap();
+    heap.regions() == steps.prepared.regions()
+        && heap.roots() == steps.prepared.roots()
+        && after.remembered() == steps.prepared.remembered()
+        && after.log().is_empty()
+        && heap.current().is_none()
+        && are_placed(heap, steps)
+        && are_patched(heap, steps)
+}
+
+// Whether an object of each survivor's size is at its place.
+fn are_placed(heap: &Heap, steps: &Steps) -> bool {
+    steps
+        .plan
+        .places()
+        .iter()
+        .zip(steps.sizes.iter())
+        .all(|(place, size)| size_in(heap, *place) == *size)
+}
+
+// Whether each slot that is patched, and is of an object that isn't freed, has its new word.
+fn are_patched(heap: &Heap, steps: &Steps) -> bool {
+    let prepared = &steps.prepared;
+    prepared.patches().iter().all(|patch| {
+        let (slot, word) = *patch;
+        !is_kept(heap, prepared, slot) || word_at(heap, slot) == word
+    })
+}

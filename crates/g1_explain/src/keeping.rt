@@ -1,0 +1,340 @@
+//! What keeps an object.
+ghost use Rattle.std.specs.Prelude.{◌≡◌, ◌<◌, map};
+ghost use Rattle.g1_words.specs.Heap.{regions};
+ghost use Rattle.g1_image.specs.Cards.{refined};
+ghost use Rattle.g1_rem.specs.Starts.{IsStartsOf};
+
+use crate::cards::{mark_regions, word_at};
+use crate::failure::Failure;
+use crate::finders::{Finder, finders, size_in, slots_at};
+use crate::humongous::card_keeper;
+use crate::places::{push_found, push_object};
+use g1_frontier::discover;
+use g1_image::Image;
+use g1_mark::live_objects;
+use g1_rem::{Starts, Tracked, image, refine_by, verify};
+use g1_words::{Fault, Heap, region_of};
+use g1_work::{Open, Team};
+use std::alloc::{AllocError, Global};
+use std::thread::Threads;
+
+// One thread searches.
+const WORKERS: u64 = 1;
+
+const CHUNK: u64 = 64;
+
+/// What keeps the object at an address, as lines: the shortest path from a root; or the card by which its
+/// region's collection would keep it; or that it is garbage.
+///
+/// # Errors
+///
+/// `Fault::Uncovered` with the lowest slot that lacks cover, if no root leads to the object; `Fault::Memory`;
+/// `Failure::Contradiction` if the references don't lead to what the search found.
+pub fn why<R: Threads + Sync>(
+    rt: &R,
+    alloc: Global,
+    image: Image,
+    at: u64,
+) -> Result<String, Failure> {
+    match explain_live(rt, alloc, image.heap(), at)? {
+        Some(text) => Ok(text),
+        None => explain_dead(rt, alloc, image, at),
+    }
+}
+
+// The path from a root to the object, if there is one.
+fn explain_live<R: Threads + Sync>(
+    rt: &R,
+    alloc: Global,
+    heap: &Heap,
+    at: u64,
+) -> Result<Option<String>, Failure> {
+    let starts = Starts::build(alloc, heap)?;
+    let team = Team::new(WORKERS, CHUNK);
+    let live = live_objects(rt, alloc, heap, &starts, team, &Open)?;
+    match path_to(alloc, heap, &starts, &[], &live, at)? {
+        Some(path) => Ok(Some(live_lines(alloc, heap, &live, at, &path)?)),
+        None => Ok(None),
+    }
+}
+
+fn live_lines(
+    alloc: Global,
+    heap: &Heap,
+    live: &[u64],
+    at: u64,
+    path: &[Finder],
+) -> Result<String, AllocError> {
+    let mut text = path_line(alloc, "live", at, path)?;
+    push_path(&mut text, heap, live, path)?;
+    Ok(text)
+}
+
+// Among those that a search found for these cards: the finders that lead to the object at an address, the
+// first one first.
+fn path_to(
+    alloc: Global,
+    heap: &Heap,
+    starts: &Starts,
+    cards: &[u32],
+    found: &[u64],
+    at: u64,
+) -> Result<Option<Vec<Finder>>, Failure>
+    requires { IsStartsOf heap.now starts.now }
+{
+    let Some(index) = found.iter().position(|address| *address == at) else {
+        return Ok(None);
+    };
+    let until = found.get(..index.saturating_add(1)).unwrap_or(found);
+    let finders = finders(alloc, heap, starts, cards, until)?;
+    if finders.len() < until.len() {
+        return Err(Failure::Contradiction);
+    }
+    Ok(Some(path_back(alloc, &finders, index)?))
+}
+
+// The finders from the one of an object back to the first one, in the order of the path.
+fn path_back(alloc: Global, finders: &[Finder], index: usize) -> Result<Vec<Finder>, AllocError> {
+    let mut path = Vec::new(alloc);
+    let mut next = finders.get(index);
+    for _ in 0..finders.len() {
+        let Some(finder) = next else {
+            break;
+        };
+        path.push(*finder)?;
+        next = match finder {
+            Finder::Object { index, .. } => finders.get(*index),
+            Finder::Root { .. } | Finder::Card { .. } => None,
+        };
+    }
+    path.reverse();
+    Ok(path)
+}
+
+// The first line of a path to the object at an address.
+fn path_line(alloc: Global, word: &str, at: u64, path: &[Finder]) -> Result<String, AllocError> {
+    let mut text = format!(in alloc; "{word} {at}")?;
+    for finder in path {
+        match finder {
+            Finder::Root { number } => write!(text, " root {number}")?,
+            Finder::Card { card, slot } => write!(text, " card {card} slot {slot}")?,
+            Finder::Object { slot, .. } => write!(text, " slot {slot}")?,
+        }
+    }
+    text.push('\n')?;
+    Ok(text)
+}
+
+// Adds a line for each object on a path.
+fn push_path(
+    text: &mut String,
+    heap: &Heap,
+    found: &[u64],
+    path: &[Finder],
+) -> Result<(), AllocError> {
+    for finder in path {
+        push_object(text, heap, "object", target_of(heap, found, *finder))?;
+        push_found(text, found, *finder)?;
+    }
+    Ok(())
+}
+
+// The address of the object that a finder leads to.
+fn target_of(heap: &Heap, found: &[u64], finder: Finder) -> u64 {
+    let word = match finder {
+        Finder::Root { number } => heap.roots().get(number).copied(),
+        Finder::Card { slot, .. } => Some(word_at(heap, slot)),
+        Finder::Object { index, slot } => {
+            let at = found.get(index).copied().unwrap_or(0);
+            slots_at(heap, at).get(slot).copied()
+        }
+    };
+    word.unwrap_or(0).saturating_sub(1)
+}
+
+// An object that no root leads to.
+fn explain_dead<R: Threads + Sync>(
+    rt: &R,
+    alloc: Global,
+    image: Image,
+    at: u64,
+) -> Result<String, Failure> {
+    match verify(rt, alloc, image) {
+        Ok(tracked) => explain_tracked(rt, alloc, &tracked, at),
+        Err((_, fault)) => Err(Failure::Fault(fault)),
+    }
+}
+
+fn explain_tracked<R: Threads + Sync>(
+    rt: &R,
+    alloc: Global,
+    tracked: &Tracked,
+    at: u64,
+) -> Result<String, Failure> {
+    let image = image(tracked);
+    let heap = image.heap();
+    let starts = Starts::build(alloc, heap)?;
+    let refined = refine_by(rt, alloc, tracked, &starts, WORKERS)?;
+    let number = region_of(&heap.geometry(), at);
+    if number >= heap.geometry().regions() {
+        return Err(Failure::Contradiction);
+    }
+    let region = number as u32;
+    if heap.region(region).kind.is_humongous_first() {
+        return explain_humongous(alloc, image, &starts, region, &refined, at);
+    }
+    let found = survivors_in(rt, alloc, tracked, &starts, &refined, region)?;
+    explain_ordinary(alloc, image, &starts, region, &refined, &found, at)
+}
+
+// The objects that would survive if a region alone were collected.
+fn survivors_in<R: Threads + Sync>(
+    rt: &R,
+    alloc: Global,
+    tracked: &Tracked,
+    starts: &Starts,
+    remembered: &[Vec<u32>],
+    region: u32,
+) -> Result<Vec<u64>, Fault>
+    requires starts { IsStartsOf tracked.now.heap starts.now }
+    requires remembered { map (λ s. s.items) remembered.now ≡ map (refined tracked.now) (regions tracked.now.heap) }
+    requires region { region < tracked.now.heap.geometry.n }
+{
+    let image = image(tracked);
+    let heap = image.heap();
+    let cards = remembered[region as usize].as_slice();
+    let window = [region];
+    discover(
+        rt, alloc, heap, starts, &window, cards, WORKERS, CHUNK, &Open,
+    )
+}
+
+// The cards that a region's refined set has.
+fn cards_of(refined: &[Vec<u32>], region: u32) -> &[u32] {
+    match refined.get(region as usize) {
+        Some(cards) => cards.as_slice(),
+        None => &[],
+    }
+}
+
+// A humongous object: a slot of another object keeps it, or it is garbage.
+fn explain_humongous(
+    alloc: Global,
+    image: &Image,
+    starts: &Starts,
+    region: u32,
+    refined: &[Vec<u32>],
+    at: u64,
+) -> Result<String, Failure>
+    requires { IsStartsOf image.now.heap starts.now }
+{
+    let heap = image.heap();
+    let cards = cards_of(refined, region);
+    let none = mark_regions(alloc, heap, &[])?;
+    match card_keeper(alloc, heap, starts, &none, u64::from(region), cards) {
+        Some(finder) => Ok(kept_lines(alloc, image, starts, region, &[at], &[finder], at)?),
+        None => Ok(garbage_line(alloc, image, region, at)?),
+    }
+}
+
+// An object of an ordinary region, of whose objects these would survive.
+fn explain_ordinary(
+    alloc: Global,
+    image: &Image,
+    starts: &Starts,
+    region: u32,
+    refined: &[Vec<u32>],
+    found: &[u64],
+    at: u64,
+) -> Result<String, Failure>
+    requires { IsStartsOf image.now.heap starts.now }
+{
+    let cards = cards_of(refined, region);
+    match path_to(alloc, image.heap(), starts, cards, found, at)? {
+        Some(path) => Ok(kept_lines(alloc, image, starts, region, found, &path, at)?),
+        None => Ok(garbage_line(alloc, image, region, at)?),
+    }
+}
+
+fn garbage_line(alloc: Global, image: &Image, region: u32, at: u64) -> Result<String, AllocError> {
+    let mut text = format!(in alloc; "garbage {at}\n")?;
+    push_pin(&mut text, image, region)?;
+    Ok(text)
+}
+
+// Adds that no pause takes a region, if it is pinned.
+fn push_pin(text: &mut String, image: &Image, region: u32) -> Result<(), AllocError> {
+    match image.heap().regions().get(region as usize) {
+        Some(entry) if entry.pinned => writeln!(text, "pinned {region}"),
+        _ => Ok(()),
+    }
+}
+
+fn kept_lines(
+    alloc: Global,
+    image: &Image,
+    starts: &Starts,
+    region: u32,
+    found: &[u64],
+    path: &[Finder],
+    at: u64,
+) -> Result<String, AllocError>
+    requires { IsStartsOf image.now.heap starts.now }
+{
+    let mut text = path_line(alloc, "kept", at, path)?;
+    if let Some(Finder::Card { card, slot }) = path.first() {
+        push_card(&mut text, image, region, *card)?;
+        push_holder(&mut text, image.heap(), starts, *card, *slot)?;
+    }
+    push_path(&mut text, image.heap(), found, path)?;
+    push_pin(&mut text, image, region)?;
+    Ok(text)
+}
+
+// Why a card is looked at if a region is collected.
+fn push_card(text: &mut String, image: &Image, region: u32, card: u32) -> Result<(), AllocError> {
+    let is_remembered = image
+        .remembered()
+        .get(region as usize)
+        .is_some_and(|set| set.as_slice().binary_search(&card).is_ok());
+    if is_remembered {
+        writeln!(text, "card {card} remembered {region}")
+    } else {
+        writeln!(text, "card {card} dirty")
+    }
+}
+
+fn push_holder(
+    text: &mut String,
+    heap: &Heap,
+    starts: &Starts,
+    card: u32,
+    slot: u64,
+) -> Result<(), AllocError>
+    requires { IsStartsOf heap.now starts.now }
+{
+    if let Some(at) = holder_of(heap, starts, card, slot) {
+        push_object(text, heap, "holder", at)?;
+        writeln!(text, " slot {slot}")?;
+    }
+    Ok(())
+}
+
+// The object that holds a slot on a card: from the one over the card's first word, an object at a time.
+fn holder_of(heap: &Heap, starts: &Starts, card: u32, slot: u64) -> Option<u64>
+    requires { IsStartsOf heap.now starts.now }
+{
+    let geometry = heap.geometry();
+    if u64::from(card) >= geometry.cards() {
+        return None;
+    }
+    let mut at = u64::from(starts.first(card)?);
+    for _ in 0..geometry.card_words() {
+        let next = at.saturating_add(size_in(heap, at));
+        if slot < next {
+            break;
+        }
+        at = next;
+    }
+    Some(at)
+}

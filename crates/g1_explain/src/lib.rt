@@ -1,0 +1,30 @@
+//! A pause as lines, one fact a line, and what keeps an object.
+//!
+//! 1. `explain` makes the calls of a pause one after another, as `evacuate` of `g1_pause` does, and adds
+//!    the lines of each to a text: the dirty cards, the choice, the cards that lead in, the survivors and
+//!    what finds each, their places, and what `prepare_on` has prepared. If a call refuses the pause, the
+//!    text ends there with the refusal.
+//! 2. What finds a survivor is the first reference to it. The survivors are in the order of their first
+//!    references, so one pass over the references, in the order of the search, meets each in its turn:
+//!    a reference that is the first one to a survivor leads to the next one of the list.
+//! 3. At the end `explain` lets `evacuate` make the pause of the same image, and compares its answer with
+//!    what was reported. If they differ, it returns no lines.
+//! 4. `why` asks the same search for all that the roots reach, and goes back from an object to a root. If no
+//!    root leads there, it asks for the survivors of the object's region alone.
+#![tactic(auto)]
+
+mod cards;
+mod changes;
+mod checking;
+mod choosing;
+mod explaining;
+mod failure;
+mod finders;
+mod humongous;
+mod keeping;
+mod places;
+mod steps;
+
+pub use explaining::{Explanation, Form, explain};
+pub use failure::Failure;
+pub use keeping::why;

@@ -1,0 +1,132 @@
+//! The survivors, and where they go.
+ghost use Rattle.g1_rem.specs.Starts.{IsStartsOf};
+
+use crate::failure::Failure;
+use crate::finders::{Finder, finders, object_in, push_finder, size_in};
+use g1_layout::Plan;
+use g1_rem::Starts;
+use g1_words::{Heap, Object, region_of};
+use std::alloc::{AllocError, Global};
+
+/// Adds a line for each survivor: its numbers, and what finds it.
+///
+/// # Errors
+///
+/// `Failure::Contradiction` if these cards lead to other survivors.
+pub(crate) fn push_survivors(
+    alloc: Global,
+    text: &mut String,
+    heap: &Heap,
+    starts: &Starts,
+    cards: &[u32],
+    survivors: &[u64],
+) -> Result<(), Failure>
+    requires { IsStartsOf heap.now starts.now }
+{
+    let finders = finders(alloc, heap, starts, cards, survivors)?;
+    if finders.len() < survivors.len() {
+        return Err(Failure::Contradiction);
+    }
+    for (at, finder) in survivors.iter().zip(finders.iter()) {
+        push_object(text, heap, "survivor", *at)?;
+        push_found(text, survivors, *finder)?;
+    }
+    Ok(())
+}
+
+/// Adds a word and the numbers of the object at an address.
+pub(crate) fn push_object(
+    text: &mut String,
+    heap: &Heap,
+    word: &str,
+    at: u64,
+) -> Result<(), AllocError> {
+    let (size, refs) = match object_in(heap, at) {
+        Some(Object { size, refs, .. }) => (size, refs),
+        None => (0, 0),
+    };
+    write!(text, "{word} {at} {size}/{refs}")
+}
+
+/// Ends a line with what finds its object.
+pub(crate) fn push_found(
+    text: &mut String,
+    found: &[u64],
+    finder: Finder,
+) -> Result<(), AllocError> {
+    text.push_str(" by ")?;
+    push_finder(text, found, finder)?;
+    text.push('\n')
+}
+
+/// The words of each of the objects at some addresses.
+pub(crate) fn sizes_of(
+    alloc: Global,
+    heap: &Heap,
+    addresses: &[u64],
+) -> Result<Vec<u64>, AllocError> {
+    let mut sizes = Vec::with_capacity(alloc, addresses.len())?;
+    for at in addresses {
+        sizes.push(size_in(heap, *at))?;
+    }
+    Ok(sizes)
+}
+
+/// The sum of some sizes.
+pub(crate) fn sum_of(sizes: &[u64]) -> u64 {
+    let mut sum = 0u64;
+    for size in sizes {
+        sum = sum.saturating_add(*size);
+    }
+    sum
+}
+
+/// Adds a line for each survivor's place, and for each region that is left with a gap.
+pub(crate) fn push_places(
+    text: &mut String,
+    heap: &Heap,
+    plan: &Plan,
+    sizes: &[u64],
+) -> Result<(), AllocError> {
+    let places = plan.places();
+    let moves = plan.survivors().iter().zip(places.iter());
+    for (index, ((at, place), size)) in moves.zip(sizes.iter()).enumerate() {
+        writeln!(text, "place {at} at {place}")?;
+        if let Some(next) = places.get(index.saturating_add(1)) {
+            push_gap(text, heap, place.saturating_add(*size), *place, *next)?;
+        }
+    }
+    Ok(())
+}
+
+// The gap behind the last survivor in a region, which ends at an address.
+fn push_gap(
+    text: &mut String,
+    heap: &Heap,
+    end: u64,
+    place: u64,
+    next: u64,
+) -> Result<(), AllocError> {
+    let geometry = heap.geometry();
+    let region = region_of(&geometry, place);
+    if region == region_of(&geometry, next) {
+        return Ok(());
+    }
+    let start = region.saturating_mul(geometry.region_words());
+    let gap = start
+        .saturating_add(geometry.region_words())
+        .saturating_sub(end);
+    if gap > 0 {
+        writeln!(text, "gap {region} at {end} words {gap}")?;
+    }
+    Ok(())
+}
+
+/// Adds a line for each survivor: its address before, its address after, and its words.
+pub(crate) fn push_map(text: &mut String, plan: &Plan, sizes: &[u64]) -> Result<(), AllocError> {
+    let pairs = plan.survivors().iter().zip(plan.places().iter());
+    for ((at, place), size) in pairs.zip(sizes.iter()) {
+        writeln!(text, "{at} {place} {size}")?;
+    }
+    Ok(())
+}

@@ -1,0 +1,134 @@
+//! The steps of a pause, one after another, each with its lines.
+ghost use Rattle.g1_image.specs.Cards.{IsTracked};
+ghost use Rattle.g1_rem.specs.Starts.{IsStartsOf};
+
+use crate::cards::{mark_regions, push_cards, push_dirty};
+use crate::changes::{
+    free_count, patch_count, push_heading_changes, push_patches, push_regions, push_remembered,
+};
+use crate::choosing::choose_set;
+use crate::failure::Failure;
+use crate::humongous::{keepers, push_humongous};
+use crate::places::{push_places, push_survivors, sizes_of, sum_of};
+use g1_copy::{Prepared, prepare_on};
+use g1_frontier::discover;
+use g1_image::Image;
+use g1_layout::{Plan, place};
+use g1_pause::Settings;
+use g1_rem::{Starts, Tracked, cards_into, image, refine_by};
+use g1_words::Heap;
+use g1_work::Open;
+use std::alloc::{AllocError, Global};
+use std::thread::Threads;
+
+/// What the steps of a pause gave.
+#[derive(Drop)]
+pub(crate) struct Steps {
+    pub(crate) set: Vec<u32>,
+    pub(crate) plan: Plan,
+    pub(crate) prepared: Prepared,
+    /// The words of each survivor.
+    pub(crate) sizes: Vec<u64>,
+}
+
+/// Makes the calls of a pause, and adds the lines of each to the text. The image stays as it is.
+///
+/// # Errors
+///
+/// The fault for which the pause is refused: the lines are then those of the calls before it.
+pub(crate) fn take_steps<R: Threads + Sync>(
+    rt: &R,
+    alloc: Global,
+    text: &mut String,
+    tracked: &Tracked,
+    settings: &Settings,
+) -> Result<Steps, Failure>
+    ensures tracked { IsTracked tracked.now }
+{
+    let image = image(tracked);
+    let heap = image.heap();
+    let (workers, chunk) = (settings.workers(), settings.chunk());
+    let starts = Starts::build(alloc, heap)?;
+    let remembered = refine_by(rt, alloc, tracked, &starts, workers)?;
+    push_dirty(alloc, text, image, &remembered)?;
+    let set = choose_set(rt, alloc, text, image, &starts, &remembered, settings)?;
+    let cards = cards_into(alloc, heap, &remembered, &set)?;
+    push_cards(alloc, text, heap, &starts, &set, &cards)?;
+    g1_copy::laws::cards_lead_in();
+    g1_frontier::laws::refined_lead_in();
+    let survivors = discover(
+        rt, alloc, heap, &starts, &set, &cards, workers, chunk, &Open,
+    )?;
+    push_survivors(alloc, text, heap, &starts, &cards, &survivors)?;
+    g1_layout::laws::placeable();
+    let plan = place(alloc, heap, &set, &survivors)?;
+    let prepared = prepare_on(
+        rt,
+        alloc,
+        tracked,
+        &starts,
+        &remembered,
+        &set,
+        &plan,
+        &cards,
+        workers,
+    )?;
+    let sizes = sizes_of(alloc, heap, &survivors)?;
+    let steps = Steps {
+        set,
+        plan,
+        prepared,
+        sizes,
+    };
+    push_writes(alloc, text, image, &starts, &remembered, &steps)?;
+    push_totals(text, heap, &steps, cards.len())?;
+    Ok(steps)
+}
+
+// The lines of what the pause writes.
+fn push_writes(
+    alloc: Global,
+    text: &mut String,
+    image: &Image,
+    starts: &Starts,
+    refined: &[Vec<u32>],
+    steps: &Steps,
+) -> Result<(), Failure>
+    requires { IsStartsOf image.now.heap starts.now }
+{
+    let heap = image.heap();
+    let (plan, prepared) = (&steps.plan, &steps.prepared);
+    push_room(text, plan.need(), free_count(heap.regions()) as u64)?;
+    push_places(text, heap, plan, &steps.sizes)?;
+    push_patches(text, heap, prepared)?;
+    let set = mark_regions(alloc, heap, &steps.set)?;
+    let survivors = plan.survivors();
+    let keepers = keepers(alloc, heap, starts, refined, &set, survivors)?;
+    push_humongous(text, heap, survivors, &keepers, prepared.humongous())?;
+    push_remembered(alloc, text, refined, prepared.remembered())?;
+    push_regions(text, heap.regions(), prepared.regions())?;
+    push_heading_changes(text, image)?;
+    Ok(())
+}
+
+/// Adds the line of the regions that the survivors need.
+pub(crate) fn push_room(text: &mut String, need: u64, free: u64) -> Result<(), AllocError> {
+    writeln!(text, "room need {need} free {free}")
+}
+
+fn push_totals(
+    text: &mut String,
+    heap: &Heap,
+    steps: &Steps,
+    cards: usize,
+) -> Result<(), AllocError> {
+    let (regions, objects) = (steps.set.len(), steps.sizes.len());
+    let humongous = steps.prepared.humongous().len();
+    let bytes = sum_of(&steps.sizes).saturating_mul(8);
+    let slots = patch_count(heap, &steps.prepared);
+    let before = free_count(heap.regions());
+    let after = free_count(steps.prepared.regions());
+    write!(text, "pause regions {regions} humongous {humongous}")?;
+    write!(text, " objects {objects} bytes {bytes}")?;
+    writeln!(text, " cards {cards} slots {slots} free {before} {after}")
+}

@@ -1,0 +1,145 @@
+use crate::expected::Expected;
+use g1_image::Image;
+use g1_pause::Settings;
+use g1_trace::{Command, Mutator, Reply, first_line, later_line};
+use g1_words::{Fault, Geometry};
+use g1_work::Open;
+use std::alloc::Global;
+use std::thread::Threads;
+
+/// A heap that lines work on, from the line with its sizes on.
+#[derive(Drop)]
+pub enum Session {
+    /// The line with the sizes has not come yet.
+    Begun,
+    /// So many commands are done.
+    Open { mutator: Mutator, commands: u64 },
+}
+
+/// What a line is.
+#[derive(Debug, Clone, Copy, PartialEq, Eq)]
+pub enum Answer {
+    /// An empty line, a comment, or the line with the sizes: nothing is replied.
+    Nothing,
+    /// A command, and its reply.
+    Reply(Reply),
+}
+
+/// Why a line was not done.
+#[derive(Debug, Clone, Copy, PartialEq, Eq)]
+pub enum Wrong {
+    /// It is not of its form.
+    Line(Expected),
+    /// A size is out of its range, or memory is out.
+    Fault(Fault),
+}
+
+// Whether nothing is to be done for a line.
+fn is_comment(line: &[u8]) -> bool {
+    match line.first() {
+        None => true,
+        Some(byte) => *byte == b'#',
+    }
+}
+
+impl Session {
+    /// A session without a line.
+    pub fn new() -> Session {
+        Session::Begun
+    }
+
+    /// How many commands are done.
+    pub fn commands(&self) -> u64 {
+        match self {
+            Session::Begun => 0,
+            Session::Open { commands, .. } => *commands,
+        }
+    }
+
+    /// The image of the heap, once it has sizes.
+    pub fn image(&self) -> Option<&Image> {
+        match self {
+            Session::Begun => None,
+            Session::Open { mutator, .. } => Some(mutator.image()),
+        }
+    }
+
+    /// The budget of the pause that a line asks for, if it does.
+    pub fn budget(&self, line: &[u8]) -> Option<u64> {
+        match (self, later_line(line)) {
+            (Session::Open { .. }, Some(Command::Pause { budget })) => Some(budget),
+            _ => None,
+        }
+    }
+
+    /// Does one line, without its end. If it is wrong, the session is as before.
+    pub fn take<R: Threads + Sync>(
+        self,
+        rt: &R,
+        alloc: Global,
+        line: &[u8],
+        settings: &Settings,
+    ) -> (Session, Result<Answer, Wrong>) {
+        if is_comment(line) {
+            return (self, Ok(Answer::Nothing));
+        }
+        match self {
+            Session::Begun => begin(alloc, line),
+            Session::Open { mutator, commands } => match later_line(line) {
+                Some(command) => step(rt, alloc, mutator, commands, &command, settings),
+                None => {
+                    let wrong = Wrong::Line(Expected::of_line(line));
+                    (Session::Open { mutator, commands }, Err(wrong))
+                }
+            },
+        }
+    }
+}
+
+fn begin(alloc: Global, line: &[u8]) -> (Session, Result<Answer, Wrong>) {
+    let Some((w, k, n, roots)) = first_line(line) else {
+        return (Session::Begun, Err(Wrong::Line(Expected::Heap)));
+    };
+    match make_heap(alloc, (w, k, n), roots) {
+        Ok(mutator) => {
+            let session = Session::Open {
+                mutator,
+                commands: 0,
+            };
+            (session, Ok(Answer::Nothing))
+        }
+        Err(fault) => (Session::Begun, Err(Wrong::Fault(fault))),
+    }
+}
+
+fn make_heap(alloc: Global, sizes: (u64, u64, u64), roots: u64) -> Result<Mutator, Fault> {
+    let (w, k, n) = sizes;
+    let geometry = Geometry::new(w, k, n)?;
+    Mutator::new(alloc, geometry, roots)
+}
+
+fn step<R: Threads + Sync>(
+    rt: &R,
+    alloc: Global,
+    mutator: Mutator,
+    commands: u64,
+    command: &Command,
+    settings: &Settings,
+) -> (Session, Result<Answer, Wrong>) {
+    let (workers, chunk) = (settings.workers(), settings.chunk());
+    let cost = settings.cost();
+    let (mutator, outcome) = mutator.step(rt, alloc, command, &cost, workers, chunk, &Open);
+    match outcome {
+        Ok(reply) => {
+            let commands = commands.saturating_add(1);
+            (
+                Session::Open { mutator, commands },
+                Ok(Answer::Reply(reply)),
+            )
+        }
+        Err(fault) => (
+            Session::Open { mutator, commands },
+            Err(Wrong::Fault(fault)),
+        ),
+    }
+}

@@ -1,0 +1,93 @@
+//! A pause as lines, and what keeps an object.
+use crate::files::read_image;
+use crate::location::locate;
+use crate::options::Explain;
+use crate::refusal::{contradiction, no_object_but, of_file};
+use g1_command::{Refusal, status};
+use g1_explain::{Explanation, Failure, Form, explain, why};
+use g1_image::Image;
+use g1_pause::{Choice, Settings};
+use g1_words::{Fault, object_at};
+use std::alloc::Global;
+use std::io::Read;
+use std::rt::Files;
+use std::thread::Threads;
+
+// One thread makes the pause.
+const WORKERS: u64 = 1;
+
+const CHUNK: u64 = 64;
+
+/// The lines of a pause, and the status: that of the fault for which the pause is refused, if it is.
+pub fn explain_pause<T: Threads + Sync + Files, R: Read>(
+    rt: &T,
+    alloc: Global,
+    request: &Explain,
+    reader: &mut R,
+) -> Result<(u8, String), Refusal> {
+    let settings = settings_of(alloc, request)?;
+    let name = request.image.as_str();
+    let image = read_image(rt, alloc, name, reader)?;
+    let form = if request.map { Form::Map } else { Form::Steps };
+    match explain(rt, alloc, image, &settings, form) {
+        Ok(explanation) => answer(alloc, name, explanation, form),
+        Err(failure) => Err(of_failure(alloc, name, failure)),
+    }
+}
+
+// Numbers out of their ranges are found before the image is read.
+fn settings_of(alloc: Global, request: &Explain) -> Result<Settings, Fault> {
+    let choice = match request.budget {
+        Some(budget) => Choice::Budget(budget),
+        None => Choice::Given(request.set.as_slice().to_vec(alloc)?),
+    };
+    Settings::new(WORKERS, CHUNK, request.cost, choice)
+}
+
+fn answer(
+    alloc: Global,
+    name: &str,
+    explanation: Explanation,
+    form: Form,
+) -> Result<(u8, String), Refusal> {
+    let Explanation { text, refused } = explanation;
+    match refused {
+        None => Ok((0, text)),
+        Some(fault) if form == Form::Map => Err(of_file(alloc, name, fault)),
+        Some(fault) => Ok((status(&fault), text)),
+    }
+}
+
+/// The refusal of a pause that can't be explained.
+pub fn of_failure(alloc: Global, name: &str, failure: Failure) -> Refusal {
+    match failure {
+        Failure::Fault(fault) => of_file(alloc, name, fault),
+        Failure::Contradiction => contradiction(alloc, name),
+    }
+}
+
+/// What keeps the object at an address.
+pub fn explain_object<T: Threads + Sync + Files, R: Read>(
+    rt: &T,
+    alloc: Global,
+    name: &str,
+    address: u64,
+    reader: &mut R,
+) -> Result<String, Refusal> {
+    let image = read_image(rt, alloc, name, reader)?;
+    check_object(alloc, name, &image, address)?;
+    match why(rt, alloc, image, address) {
+        Ok(text) => Ok(text),
+        Err(failure) => Err(of_failure(alloc, name, failure)),
+    }
+}
+
+// Refuses an address at which no object starts.
+fn check_object(alloc: Global, name: &str, image: &Image, address: u64) -> Result<(), Refusal> {
+    let heap = image.heap();
+    if object_at(heap, address).is_some() {
+        return Ok(());
+    }
+    let location = locate(alloc, heap, address)?;
+    Err(no_object_but(alloc, name, address, &location))
+}

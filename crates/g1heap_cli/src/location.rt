@@ -1,0 +1,79 @@
+//! What is at an address where no object starts.
+ghost use Rattle.std.specs.Prelude.{◌<◌};
+
+use g1_words::{Fault, Heap, Kind, Region, objects_in, region_of};
+use std::alloc::Global;
+use std::fmt;
+
+/// What is at an address where no object starts.
+#[derive(Debug, Clone, Copy, PartialEq, Eq)]
+pub enum Location {
+    /// The object at another address.
+    Inside(u64),
+    /// A free region.
+    Free(u64),
+    /// A region whose used words end before.
+    AboveTop(u64),
+    /// No word of the heap.
+    Beyond,
+}
+
+impl fmt::Display for Location {
+    fn fmt<W: fmt::Write>(&self, f: &mut fmt::Formatter<W>) -> fmt::Result {
+        match self {
+            Location::Inside(at) => write!(f, "the object at {at} holds that word"),
+            Location::Free(region) => write!(f, "region {region} is free"),
+            Location::AboveTop(region) => write!(f, "it is above the top of region {region}"),
+            Location::Beyond => write!(f, "the heap ends before it"),
+        }
+    }
+}
+
+/// What is at an address where no object starts.
+///
+/// # Errors
+///
+/// `Fault::Memory` alone.
+pub fn locate(alloc: Global, heap: &Heap, address: u64) -> Result<Location, Fault> {
+    let geometry = heap.geometry();
+    let number = region_of(&geometry, address);
+    if number >= geometry.regions() {
+        return Ok(Location::Beyond);
+    }
+    let Region { kind, top, .. } = heap.region(number as u32);
+    if kind.is_free() {
+        return Ok(Location::Free(number));
+    }
+    let start = geometry.start(number as u32);
+    if address >= start + u64::from(top) {
+        return Ok(Location::AboveTop(number));
+    }
+    match kind {
+        Kind::Free => Ok(Location::Free(number)),
+        Kind::HumongousFirst => Ok(Location::Inside(start)),
+        Kind::Continuation => Ok(Location::Inside(first_of_run(heap, number as u32))),
+        Kind::Ordinary => Ok(Location::Inside(holder(alloc, heap, number as u32, address)?)),
+    }
+}
+
+// The start of the humongous object that continues in a region.
+fn first_of_run(heap: &Heap, region: u32) -> u64 {
+    let geometry = heap.geometry();
+    for number in (0..region).rev() {
+        let found = heap.regions().get(number as usize);
+        if found.is_some_and(|region| region.kind.is_humongous_first()) {
+            return geometry.start(number);
+        }
+    }
+    0
+}
+
+// The last object of an ordinary region that starts at an address or before it.
+fn holder(alloc: Global, heap: &Heap, region: u32, address: u64) -> Result<u64, Fault>
+    requires { region < heap.now.geometry.n }
+{
+    let starts = objects_in(alloc, heap, region)?;
+    let before = starts.as_slice().partition_point(|start| *start <= address);
+    let last = before.saturating_sub(1);
+    Ok(starts.get(last).copied().unwrap_or(0))
+}
