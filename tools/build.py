@@ -64,23 +64,21 @@ def put(program, name, word):
 
 
 def build_unproved(jobs):
-    """Builds both programs without any proof."""
+    """Builds both programs without any proof. Each is put into out/ as soon as it is built."""
     start, sums = time.monotonic(), stamp.sources()
 
     def build(name):
         program = OUT / f"{name}.unproved"
         unproved.build_unproved(CRATES / name, program)
-        say(f"{name} {took(start)}")
-        return program
+        put(program, name, "UNPROVED")
+        program.unlink()
+        say(f"out/{name} is built, in {took(start)}")
 
     say("building g1pause and g1heap without a proof, which takes a few minutes")
     with ThreadPoolExecutor(min(jobs, len(stamp.PROGRAMS))) as pool:
-        built = dict(zip(stamp.PROGRAMS, pool.map(build, stamp.PROGRAMS)))
-    for name, program in built.items():
-        put(program, name, "UNPROVED")
-        program.unlink()
+        list(pool.map(build, stamp.PROGRAMS))
     stamp.write(OUT, "UNPROVED", stamp.kit(), sums, stamp.PROGRAMS)
-    say(f"out/g1pause and out/g1heap are built, in {took(start)}. {NOT_PROVED}")
+    say(f"both are built. {NOT_PROVED}")
 
 
 def ask_rt(name):

@@ -5,8 +5,8 @@ Without pages: README.md and those of docs/, examples/, examples/*/ and bench/, 
 the built programs, and takes those of out/, which tools/build.py builds, or those that --program and --heap name.
 
 What is a command: a block of code (indented by four spaces, or fenced) whose first word is one of those in
-tools/lib/pages.py. Each of its lines is run, but for lines that go on: after a backslash at their end, or up to the
-last line of a <<END. What such a line is to print is in the block directly behind it, with only empty lines between:
+tools/lib/pages.py. Each of its lines is run by itself, except that some go on: after a backslash at their end, or up
+to the last line of a <<END. What such a line is to print is in the block directly behind it, with only empty lines between:
 standard output and standard error together. A command with no such block has to end with status 0.
   <!-- figures vary -->        above that block: numbers in it may be others
   <!-- not run: WHY -->        above a block of commands: it is left out, which is said

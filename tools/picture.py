@@ -2,13 +2,19 @@
 """Draws a heap image, and the heap after a pause beside it: picture.py [options] IMAGE [AFTER] > picture.svg
 
 One cell is one region, in rows from the lowest number on, coloured by its kind. A cell is filled from below by its
-live words, then by its garbage; what is left are free words. The thin bar at its right is its remembered set, as a
+live words, then by its garbage; what is left are free words. The thin bar beside it is its remembered set, as a
 part of the largest one in the picture. A dot marks a pinned region. The regions of the collection set have a frame
-in the heap before: with --budget those that g1pause choose takes, with --set those that are named.
+in the heap before: with --budget those that g1pause choose takes, with --set those that are given. In the heap after,
+regions that were freed and regions that received survivors have frames of their own. Rest the pointer on a region to
+read its numbers.
 
-All numbers come from g1pause: show, live and choose. The same images give the same bytes. The colours follow what
-the reader's screen asks for, light or dark.
-Statuses: 0 done; 2 usage; else the status with which g1pause refused an image.
+  --html     a page with the picture, its numbers and its legend
+  --objects  words, objects and references instead of regions, for at most 64 regions of 64 words
+  --steps    a page that steps through the pause of IMAGE, for heaps of the same sizes
+
+All numbers come from g1pause: show, live and choose; with --objects and --steps from g1heap: print and explain. The
+same images give the same bytes. The colours follow what the reader's screen asks for, light or dark.
+Statuses: 0 done; 2 usage; else the status with which g1pause or g1heap refused an image.
 """
 import argparse
 import html
@@ -16,11 +22,17 @@ import pathlib
 import subprocess
 import sys
 
+sys.path.insert(0, str(pathlib.Path(__file__).resolve().parent / "lib"))
+
+import objects  # noqa: E402 (it is in lib/)
+import stepping  # noqa: E402
+
 PROGRAM = pathlib.Path(__file__).resolve().parent.parent / "out" / "g1pause"
 COSTS = ("fixed", "dirty", "card", "byte")
 # Up to so many regions: columns, and the pixels from one cell to the next.
-GRIDS = ((8, 4, 72), (32, 8, 56), (256, 16, 32), (1024, 32, 18), (4096, 64, 10))
-MARGIN, LABEL, HEAD, BETWEEN, LEGEND = 16, 40, 58, 40, 116
+GRIDS = ((8, 4, 72), (32, 8, 56), (256, 16, 32), (1024, 32, 20), (4096, 64, 13))
+MARGIN, LABEL, HEAD, BETWEEN = 16, 40, 58, 40
+LEAST_WIDTH = 380  # of a heap: its heading needs that much
 
 # Each class of shapes: its colour where the screen is light, and where it is dark.
 COLOURS = {
@@ -35,12 +47,17 @@ COLOURS = {
     "garbage-humongous": ("#a5551e", "#a8653a"),
     "cards": ("#0b7a6b", "#41cdb9"),
     "set": ("#c2185b", "#ff7ac6"),
+    "freed": ("#57606a", "#9aa4af"),
+    "filled": ("#1a7f37", "#3fb950"),
     "pin": ("#111111", "#ffffff"),
 }
 
 
+FRAMES = ("set", "freed", "filled")
+
+
 class Refusal(Exception):
-    """What g1pause said on standard error, and its status."""
+    """What a program said on standard error, and its status."""
 
     def __init__(self, text, status):
         super().__init__(text)
@@ -69,6 +86,14 @@ class Region:
     @property
     def garbage(self):
         return self.top - self.live
+
+    def title(self, costs):
+        """What the pointer reads."""
+        if self.kind == "free":
+            return f"region {self.number} free"
+        words = [f"region {self.number} {self.kind}", f"top {self.top}", f"live {100 * self.live // self.top}%"]
+        words += [f"{self.cards} card{'s' * (self.cards != 1)}"] + (["pinned"] if self.pinned else [])
+        return ", ".join(words + costs.get(self.number, []))
 
     @property
     def colour(self):
@@ -103,15 +128,63 @@ class Heap:
         return len(self.regions) * self.region_words - self.total("top")
 
 
-def taken(program, image, options):
-    """The numbers of the collection set, as far as one is asked for."""
+def cost_words(options):
+    """The options of the costs, as both programs take them."""
+    return [word for name in COSTS if getattr(options, name) is not None for word in (f"--{name}", getattr(options, name))]
+
+
+def choice(program, image, options):
+    """The numbers of the collection set, as far as one is asked for, and what a budget says of each candidate."""
     if options.budget is None:
-        return set(options.set or [])
-    words = ["choose", "--budget", options.budget]
-    for name in COSTS:
-        if getattr(options, name) is not None:
-            words += [f"--{name}", getattr(options, name)]
-    return {int(line.split()[1]) for line in answer(program, words, image) if line.endswith(" taken")}
+        return set(options.set or []), {}
+    candidates = {}
+    for line in answer(program, ["choose", "--budget", options.budget, *cost_words(options)], image):
+        words = line.split()
+        if words[0] == "region":
+            candidates[int(words[1])] = [f"cost {words[3]}", words[-1]]
+    return {number for number, words in candidates.items() if words[-1] == "taken"}, candidates
+
+
+class NotThere(Exception):
+    """A region of the set that the heap doesn't have."""
+
+
+def check_set(regions, chosen):
+    for number in sorted(chosen):
+        if number >= regions:
+            raise NotThere(f"region {number} is not there: the heap has {regions}")
+
+
+# The heap by its words.
+
+
+def explained(program, image, options):
+    """The lines of g1heap explain. A refused pause has its lines, too."""
+    words = [program, "explain", image, *cost_words(options)]
+    if options.budget is not None:
+        words += ["--budget", options.budget]
+    elif options.set:
+        words += ["--set", ",".join(map(str, options.set))]
+    done = subprocess.run(words, stdin=subprocess.DEVNULL, capture_output=True, check=False)
+    lines = done.stdout.decode().splitlines()
+    if done.returncode != 0 and not (lines and lines[-1].startswith("refused ")):
+        raise Refusal(f"{image}: {done.stderr.decode(errors='replace').strip()}", done.returncode)
+    return lines
+
+
+def stepping_page(options):
+    printed = answer(options.g1heap, ["print"], options.image)
+    stepping.check_size(printed[0])
+    check_set(int(printed[0].split()[3]), options.set or [])
+    title = options.title or f"A pause of {pathlib.Path(options.image).name}"
+    return stepping.page(printed, explained(options.g1heap, options.image, options), title)
+
+
+def objects_picture(options, images):
+    heaps = [objects.Words(answer(options.g1heap, ["print"], image)) for image in images]
+    chosen, _ = choice(options.program, options.image, options)
+    check_set(heaps[0].regions, chosen)
+    return objects.picture(heaps, chosen)
 
 
 # Drawing.
@@ -133,9 +206,15 @@ class Shapes:
             self.paths.setdefault(name, []).append(
                 f"M{short(x)} {short(y)}h{short(width)}v{short(height)}h{short(-width)}z")
 
-    def frame(self, x, y, side, line):
-        self.others.append(f'<rect class="set" x="{short(x)}" y="{short(y)}" width="{short(side)}" '
-                           f'height="{short(side)}" stroke-width="{short(line)}"/>')
+    def frame(self, name, x, y, side, line):
+        dashes = f' stroke-dasharray="{short(2 * line)} {short(line)}"' if name == "freed" else ""
+        self.others.append(f'<rect class="{name}" x="{short(x)}" y="{short(y)}" width="{short(side)}" '
+                           f'height="{short(side)}" stroke-width="{short(line)}"{dashes}/>')
+
+    def title(self, x, y, side, text):
+        """What the pointer reads on a square that nobody sees."""
+        self.others.append(f'<path class="title" d="M{short(x)} {short(y)}h{short(side)}v{short(side)}h-{short(side)}z">'
+                           f"<title>{html.escape(text)}</title></path>")
 
     def dot(self, x, y, radius):
         self.others.append(f'<circle class="pin" cx="{short(x)}" cy="{short(y)}" r="{short(radius)}"/>')
@@ -159,25 +238,26 @@ class Grid:
         self.columns = min(self.columns, regions)
         self.rows = -(-regions // self.columns)
         self.side = self.pitch - max(1, self.pitch // 12)
-        self.width = LABEL + self.columns * self.pitch
+        self.width = max(LEAST_WIDTH, LABEL + self.columns * self.pitch)
         self.height = HEAD + self.rows * self.pitch
 
 
 def draw_cell(shapes, region, x, y, side, region_words, most_cards):
-    """The colours of one region, from its floor up, and its remembered set at the right."""
-    bar = max(1.5, side / 12)
-    width = side - bar
-    shapes.box(region.colour, x, y, side, side)
+    """The colours of one region, from its floor up, and its remembered set at the right, on no ground."""
+    bar = max(2, side / 10)
+    width = side - bar - max(0.5, side / 36)
+    shapes.box(region.colour, x, y, width, side)
     live, garbage = side * region.live / region_words, side * region.garbage / region_words
     if region.kind != "free":
         shapes.box(f"live-{region.colour}", x, y + side - live, width, live)
         shapes.box(f"garbage-{region.colour}", x, y + side - live - garbage, width, garbage)
     if region.cards:
         height = max(1, side * region.cards / most_cards)
-        shapes.box("cards", x + width, y + side - height, bar, height)
+        shapes.box("cards", x + side - bar, y + side - height, bar, height)
 
 
-def draw_heap(shapes, heap, title, left, chosen, most_cards):
+def draw_heap(shapes, heap, title, left, frames, costs, most_cards):
+    """The heap at some place. `frames` has the class of a region's frame, by its number."""
     grid = Grid(len(heap.regions))
     draw_heading(shapes, heap, title, left + LABEL)
     for region in heap.regions:
@@ -186,12 +266,24 @@ def draw_heap(shapes, heap, title, left, chosen, most_cards):
         draw_cell(shapes, region, x, y, grid.side, heap.region_words, most_cards)
         if column == 0 and row % (1 if grid.pitch >= 18 else 4) == 0:
             shapes.text(x - 8, y + min(grid.side, 11), str(region.number), 10, "end")
-        if region.number in chosen:
-            line = max(1.5, grid.side / 16)
-            shapes.frame(x - line / 4, y - line / 4, grid.side + line / 2, line)
+        if region.number in frames:
+            line = max(1.2, grid.side / 18)
+            shapes.frame(frames[region.number], x + line / 2, y + line / 2, grid.side - line, line)
         if region.pinned:
             radius = max(1.5, grid.side / 12)
             shapes.dot(x + 2 * radius, y + 2 * radius, radius)
+        shapes.title(x, y, grid.side, region.title(costs))
+
+
+def changed(before, after):
+    """The frames of the heap after: what was freed, and what received survivors."""
+    frames = {}
+    for old, new in zip(before.regions, after.regions):
+        if old.kind != "free" and new.kind == "free":
+            frames[new.number] = "freed"
+        elif old.kind == "free" and new.kind != "free":
+            frames[new.number] = "filled"
+    return frames
 
 
 def draw_heading(shapes, heap, title, left):
@@ -202,29 +294,31 @@ def draw_heading(shapes, heap, title, left):
                                    f"current {heap.current}", 12)
 
 
-def draw_legend(shapes, left, top, most_cards, seen):
-    """What the colours mean. Only what is in the picture is told."""
+def draw_legend(shapes, left, top, width, most_cards, seen):
+    """What the colours mean, of what is in the picture. It returns the height that it takes."""
     entries = [("free", "free region"), ("ordinary", "free words of an ordinary region"),
                ("humongous", "free words of a humongous region"), ("live-ordinary", "live words, ordinary"),
                ("live-humongous", "live words, humongous"),
                ("garbage-ordinary", "garbage, ordinary"), ("garbage-humongous", "garbage, humongous"),
-               ("cards", f"remembered set (full: {most_cards} cards)"),
-               ("set", "collection set"), ("pin", "pinned")]
+               ("cards", f"remembered set (full: {most_cards} card{'s' * (most_cards != 1)})"),
+               ("set", "collection set"), ("freed", "freed by the pause"), ("filled", "received survivors"),
+               ("pin", "pinned")]
     x = y = 0
     for name, text in entries:
         if name not in seen:
             continue
-        width = 26 + 7 * len(text)
-        if x and x + width > 620:
+        room = 26 + 7 * len(text)
+        if x and x + room > width:
             x, y = 0, y + 22
         swatch(shapes, name, left + x, top + y)
         shapes.text(left + x + 19, top + y + 11, text, 12)
-        x += width + 8
+        x += room + 8
+    return y + 22
 
 
 def swatch(shapes, name, x, y):
-    if name == "set":
-        shapes.frame(x + 1, y + 1, 11, 2)
+    if name in FRAMES:
+        shapes.frame(name, x + 1, y + 1, 11, 2)
     elif name == "pin":
         shapes.dot(x + 6, y + 6, 3)
     else:
@@ -232,31 +326,33 @@ def swatch(shapes, name, x, y):
 
 
 def style():
-    light, dark = ["text{font-family:sans-serif}"], []
+    light, dark = ["text{font-family:sans-serif}.title{fill:none;pointer-events:all}"], []
     for name, colours in COLOURS.items():
         for rules, colour in zip((light, dark), colours):
             if name == "text":
                 rules.append(f"text{{fill:{colour}}}")
-            elif name == "set":
-                rules.append(f".set{{fill:none;stroke:{colour}}}")
+            elif name in FRAMES:
+                rules.append(f".{name}{{fill:none;stroke:{colour}}}")
             else:
                 rules.append(f".{name}{{fill:{colour}}}")
     return f'<style>{"".join(light)}@media(prefers-color-scheme:dark){{{"".join(dark)}}}</style>'
 
 
-def picture(heaps, chosen):
+def picture(heaps, chosen, costs):
     """The text of the drawing."""
     shapes = Shapes()
     most_cards = max(1, max(region.cards for heap in heaps for region in heap.regions))
     left, height = MARGIN, 0
     for heap, title in zip(heaps, ("before", "after") if len(heaps) > 1 else ("heap",)):
-        draw_heap(shapes, heap, title, left, chosen if heap is heaps[0] else set(), most_cards)
+        first = heap is heaps[0]
+        frames = {number: "set" for number in chosen} if first else changed(heaps[0], heap)
+        draw_heap(shapes, heap, title, left, frames, costs if first else {}, most_cards)
         grid = Grid(len(heap.regions))
-        left += max(grid.width, 380) + BETWEEN
+        left += grid.width + BETWEEN
         height = max(height, grid.height)
-    seen = set(shapes.paths) | {name for name in ("set", "pin") if any(f'"{name}"' in line for line in shapes.others)}
-    draw_legend(shapes, MARGIN + LABEL, MARGIN + height + 16, most_cards, seen)
-    width, height = max(left - BETWEEN + MARGIN, 720), MARGIN + height + LEGEND
+    seen = set(shapes.paths) | {name for name in (*FRAMES, "pin") if any(f'"{name}"' in line for line in shapes.others)}
+    width, top = left - BETWEEN + MARGIN, MARGIN + height + 16
+    height = top + draw_legend(shapes, MARGIN + LABEL, top, width - 2 * MARGIN - LABEL, most_cards, seen) + MARGIN
     head = (f'<svg xmlns="http://www.w3.org/2000/svg" width="{width}" height="{height}" '
             f'viewBox="0 0 {width} {height}" role="img" aria-label="regions of a heap">')
     ground = f'<rect class="page" width="{width}" height="{height}"/>'
@@ -288,14 +384,15 @@ td:first-child {{ text-align: left }}
 </table>
 <p>{chosen}</p>
 <p>A cell is a region, in rows from the lowest number on. It is filled from below by live words, then by garbage; what
-is left are free words. The bar at its right is its remembered set, as a part of the largest one in the picture.
-A region with a frame is in the collection set, a dot marks a pinned region.</p>
+is left are free words. The bar beside it is its remembered set, as a part of the largest one in the picture. Frames
+mark the collection set, and in the heap after what was freed and what received survivors. A dot marks a pinned
+region. Rest the pointer on a region to read its numbers.</p>
 </body>
 </html>
 """
 
 
-def page(heaps, chosen, title):
+def page(heaps, chosen, costs, title):
     """The drawing with its numbers in one file."""
     kinds = ("free", "ordinary", "humongous", "continuation")
     table = [(f"{kind} regions", [sum(1 for region in heap.regions if region.kind == kind) for heap in heaps])
@@ -309,34 +406,64 @@ def page(heaps, chosen, title):
                      for name, values in table)
     heads = "".join(f"<th>{head}</th>" for head in (("before", "after") if len(heaps) > 1 else ("heap",)))
     numbers = ", ".join(str(number) for number in sorted(chosen))
-    told = f"Collection set: {numbers}." if chosen else "No collection set is drawn."
-    return PAGE.format(title=html.escape(title), svg=picture(heaps, chosen), heads=heads, rows=rows, chosen=told)
+    sentence = f"Collection set: {numbers}." if chosen else "No collection set is drawn."
+    return PAGE.format(title=html.escape(title), svg=picture(heaps, chosen, costs), heads=heads, rows=rows, chosen=sentence)
 
 
-def main():
+def regions_picture(options, images):
+    heaps = [Heap(options.program, image) for image in images]
+    chosen, costs = choice(options.program, options.image, options)
+    check_set(len(heaps[0].regions), chosen)
+    title = options.title or ("A heap before and after a pause" if options.after else "A heap")
+    return page(heaps, chosen, costs, title) if options.html else picture(heaps, chosen, costs)
+
+
+def drawn(options):
+    """What the options ask for."""
+    images = [options.image] + ([options.after] if options.after else [])
+    if options.steps:
+        return stepping_page(options)
+    return objects_picture(options, images) if options.objects else regions_picture(options, images)
+
+
+def options_of(words):
     parser = argparse.ArgumentParser(description=__doc__, formatter_class=argparse.RawDescriptionHelpFormatter)
     parser.add_argument("image", metavar="IMAGE", help="the heap before")
     parser.add_argument("after", metavar="AFTER", nargs="?", help="the heap after, drawn beside it")
-    parser.add_argument("--html", action="store_true", help="a page with the picture, its numbers and its legend")
+    form = parser.add_mutually_exclusive_group()
+    form.add_argument("--html", action="store_true", help="a page with the picture, its numbers and its legend")
+    form.add_argument("--objects", action="store_true", help="draws words, objects and references")
+    form.add_argument("--steps", action="store_true", help="a page that steps through the pause")
+    parser.add_argument("--title", metavar="TEXT", help="the title of a page")
     parser.add_argument("--set", metavar="R,R", type=lambda text: [int(word) for word in text.split(",")],
                         help="the regions of the collection set, with commas between them")
     parser.add_argument("--budget", metavar="N", help="frames what g1pause choose takes for this budget")
     for name in COSTS:
-        parser.add_argument(f"--{name}", metavar="N", help="handed to g1pause choose")
+        parser.add_argument(f"--{name}", metavar="N", help="handed to g1pause choose, or to g1heap explain")
     parser.add_argument("--program", metavar="FILE", default=str(PROGRAM), help="g1pause (default: out/g1pause)")
-    options = parser.parse_args()
-    images = [options.image] + ([options.after] if options.after else [])
+    parser.add_argument("--g1heap", metavar="FILE", default=str(PROGRAM.with_name("g1heap")), help="g1heap (default: out/g1heap)")
+    options = parser.parse_args(words)
+    if options.set is not None and options.budget is not None:
+        parser.error("--set and --budget exclude each other")
+    if options.steps and options.after:
+        parser.error("--steps takes one image: it makes the pause itself")
+    return options
+
+
+def main():
+    options = options_of(sys.argv[1:])
     try:
-        heaps = [Heap(options.program, image) for image in images]
-        chosen = taken(options.program, options.image, options)
+        text = drawn(options)
     except Refusal as refusal:
         print(f"picture: {refusal}", file=sys.stderr)
         return refusal.status
+    except (NotThere, objects.TooLarge, stepping.TooLarge) as error:
+        print(f"picture: {options.image}: {error}", file=sys.stderr)
+        return 2
     except OSError as error:
         print(f"picture: {error.filename or 'input or output'}: {error.strerror or error}", file=sys.stderr)
         return 2
-    title = "A heap before and after a pause" if options.after else "A heap"
-    sys.stdout.write(page(heaps, chosen, title) if options.html else picture(heaps, chosen))
+    sys.stdout.write(text)
     return 0
 
 

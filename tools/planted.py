@@ -48,7 +48,7 @@ TYPE = re.compile(r"^(?:pub(?:\(.*\))? )?(?:struct|enum) (\w+)", re.M)
 NAMES = re.compile(r"has no field|is not in scope|has no `|was not admitted|is no name")
 FAULT = re.compile(r"^(?:\./)?(src/\S+?):(\d+):\d+: error", re.M)
 # The kits whose checks the batches can read: the logic is one, but what a check prints is a kit's own.
-KITS = ("rattle-kit-13b",)
+KITS = ("rattle-kit-13b", "rattle-kit-13f")
 # What is said of a hole that is no proof of its function.
 BAD_HOLE = re.compile(r"^(?:\./)?proofs/\S+/Proof\.antt:\S+ error|^error.*Proof\.antt", re.M)
 REFUSED, PROVES, BAD, UNSETTLED = "refused", "NOT REFUSED", "BAD", "NOT SETTLED"

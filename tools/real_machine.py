@@ -2,8 +2,8 @@
 """real_machine.py BINARY [--heap HEAP]
 
 Runs the built program against what a real machine does: streams that are closed, full or broken, limits on files, on
-memory and on threads, a process that is stopped and goes on, and calls that a signal interrupts. What the program has
-to do in each case stands in docs/HOSTILE.md. It needs Linux; a case that this machine cannot make is named as left
+memory and on threads, a process that is stopped and goes on, calls that a signal interrupts, and reads that give few
+bytes. What the program has to do in each case stands in docs/HOSTILE.md. It needs Linux; a case that this machine cannot make is named as left
 out. HEAP is the built g1heap: its commands that read images get the short images, too. The last line is 'N passed, M
 failed'.
 """
@@ -88,6 +88,52 @@ ssize_t write(int file, const void *from, size_t size) {
     return real(file, from, size > 100 ? 100 : size);
 }
 """
+
+# Standard input gives no more bytes a call than READ_MOST, and a file has the count of the requests for memory.
+REQUESTS = r"""
+#define _GNU_SOURCE
+#include <dlfcn.h>
+#include <fcntl.h>
+#include <stdlib.h>
+#include <unistd.h>
+
+extern void *__libc_malloc(size_t);
+extern void *__libc_calloc(size_t, size_t);
+extern void *__libc_realloc(void *, size_t);
+extern void *__libc_memalign(size_t, size_t);
+
+static long requests;
+static int report = -1;
+
+__attribute__((constructor)) static void begin(void) {
+    report = open(getenv("REQUESTS_REPORT"), O_CREAT | O_TRUNC | O_WRONLY, 0600);
+    requests = 0;
+}
+
+static void count(void) {
+    requests++;
+    if (report >= 0 && pwrite(report, &requests, sizeof requests, 0) != sizeof requests) abort();
+}
+
+void *malloc(size_t size) { count(); return __libc_malloc(size); }
+void *calloc(size_t number, size_t size) { count(); return __libc_calloc(number, size); }
+void *realloc(void *old, size_t size) { count(); return __libc_realloc(old, size); }
+void *aligned_alloc(size_t align, size_t size) { count(); return __libc_memalign(align, size); }
+void *memalign(size_t align, size_t size) { count(); return __libc_memalign(align, size); }
+int posix_memalign(void **place, size_t align, size_t size) { count(); *place = __libc_memalign(align, size); return *place ? 0 : 12; }
+
+ssize_t read(int file, void *into, size_t size) {
+    static ssize_t (*real)(int, void *, size_t);
+    if (!real) real = dlsym(RTLD_NEXT, "read");
+    size_t most = atol(getenv("READ_MOST"));
+    return real(file, into, file == 0 && size > most ? most : size);
+}
+"""
+
+
+def many_roots():
+    """An image without words. What comes before them is 160 KB, more than twice what is read at once."""
+    return b"G1IMAGE2" + struct.pack("<6I", 16, 4, 2, 20_000, 0, 2) + bytes(12 * 2) + bytes(8 * 20_000) + bytes(4 * 2)
 
 
 class Machine(Judge):
@@ -206,7 +252,6 @@ class Machine(Judge):
         out, errors = child.stdout.read(), child.stderr.read()
         self.judge("stopped and continued", (out, errors, child.wait(60)) == (SHARED_AFTER, b"", 0))
 
-
     def interrupted(self, folder):
         library = compiled(folder, "interrupts.so", INTERRUPTS, "-shared", "-fPIC", "-ldl")
         os.environ["LD_PRELOAD"] = str(library)
@@ -217,6 +262,23 @@ class Machine(Judge):
         low = self.run(["run"], trace, before=lambda: resource.setrlimit(resource.RLIMIT_AS, (32 << 20, 32 << 20)))
         self.judge(f"interrupted calls and too little memory: {low}", low == MEMORY)
         del os.environ["LD_PRELOAD"]
+
+    def few_bytes(self, folder):
+        """However few bytes a read gives, the front of an image is tried as often, and so the requests for memory are as many."""
+        library, report = compiled(folder, "requests.so", REQUESTS, "-shared", "-fPIC", "-ldl"), folder / "requests"
+        image, counts = folder / "image", {}
+        image.write_bytes(many_roots())
+        os.environ.update(LD_PRELOAD=str(library), REQUESTS_REPORT=str(report))
+        for most in (1 << 30, 100, 1):
+            os.environ["READ_MOST"] = str(most)
+            with open(image, "rb") as stream:
+                out, errors, status = self.run(["show"], stdin=stream)
+            told = out.startswith(b"heap 16 4 2 roots 20000 dirty 0 current none\n") and errors == b"" and status == 0
+            counts[most] = int.from_bytes(report.read_bytes(), "little") if told else None
+        for name in ("LD_PRELOAD", "REQUESTS_REPORT", "READ_MOST"):
+            del os.environ[name]
+        self.judge(f"requests for memory, by the bytes that a read gives: {counts}",
+                   counts[1] is not None and len(set(counts.values())) == 1)
 
 
 def no_threads():
@@ -248,6 +310,7 @@ def main():
     machine.signals()
     with tempfile.TemporaryDirectory() as room:
         machine.interrupted(pathlib.Path(room))
+        machine.few_bytes(pathlib.Path(room))
     return machine.end()
 
 

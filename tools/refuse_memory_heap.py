@@ -53,7 +53,7 @@ class Sweep(Judge):
 
 def unopened(judge, folder, binary, path):
     environment = dict(os.environ, LD_PRELOAD=str(compiled(folder, "unopened.so", UNOPENED, "-shared", "-fPIC")))
-    for words in (["print", path], ["make", path], ["same", path, path]):
+    for words in (["print", path], ["make", path], ["same", path, path], ["explain", path], ["why", path, "16"]):
         answer = run([binary, *words], b"", environment)
         judge.judge(f"no memory to open a file, {words[0]}: {answer}", is_memory(answer))
 
@@ -83,6 +83,11 @@ def main():
                 (["print", path, "--region", "1"], b""),
                 (["same", path, "-", "--covered"], data),
                 (["same", path, "-", "--set", "1"], data),
+                (["explain", path, "--set", "1"], b""),
+                (["explain", "-", "--budget", "1000"], data),
+                (["explain", path, "--set", "0", "--map"], b""),
+                (["why", path, "16"], b""),
+                (["why", "-", "0"], data),
                 (["make"], lines),
                 (["make"], shortened(lines)),
                 (["make"], lines[:-4]),

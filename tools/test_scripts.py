@@ -84,7 +84,7 @@ BROKEN = {
                             ["refuse_memory.py"]),
     "short_for_all": ('say("", 0, "g1pause: fault 3: short\\n", 3);', ["malicious_images.py"]),
 }
-# The same of the driver: another answer in the place of Memory, and an image that is not the one handed in.
+# The same of the driver: another answer instead of Memory, and an image that is not the one handed in.
 DRIVERS = {
     "always_memory": 'say("watched\\nfault 13: memory\\n", 25, "", 0);',
     "room_for_memory": 'real(words); if (memory()) say("watched\\nfault 11: room need 1 free 0\\n", 37, "", 0);',

@@ -34,7 +34,7 @@ ROOTS = {0xFF: 0, 1: None, 2: 8, 3: 8, 4: 4, 5: 0, 6: 4, 7: 0, 8: 8}
 
 
 class Maker:
-    """Makes a dump with identifiers of so many bytes."""
+    """Makes a dump with identifiers of this many bytes."""
 
     def __init__(self, id_bytes):
         self.id_bytes = id_bytes
@@ -103,7 +103,7 @@ def by_hand():
 
 
 def converted(data, region_words=16, card_words=4, regions=6, blank=False):
-    """The image of a dump, and what is told."""
+    """The image of a dump, and what is reported."""
     dump = hprof2image.Dump(io.BytesIO(data))
     index = hprof2image.Index(dump)
     conversion = hprof2image.Conversion(dump, index, region_words, card_words, regions, blank)
@@ -175,7 +175,7 @@ class Dumps(unittest.TestCase):
             self.assertTrue(hprof2image.told(conversion, index, io.StringIO()))
             conversion.image.words[at] ^= 1
             if hprof2image.told(conversion, index, io.StringIO()):
-                self.fail(f"a change of byte {at} is not told")
+                self.fail(f"a change of byte {at} is not reported")
 
     def test_too_many_roots_are_held_by_arrays(self):
         make = Maker(8)
@@ -326,14 +326,41 @@ print({{"show": "heap 16 4 4 roots 1 dirty 0 current none\\n"
 """
 
 
+# The second heap that is shown: the humongous object is gone, and region 3 has what survived.
+AFTER = """#!{python}
+import sys
+new = open(0, "rb").read(1) != b""
+print({{"show": "heap 16 4 4 roots 1 dirty 0 current none\\nregion 0 " + ("free top 0 objects 0 cards 0" if new else
+  "humongous top 16 objects 1 cards 0") + "\\nregion 1 " + ("free top 0 objects 0 cards 0" if new else
+  "continuation top 4 objects 0 cards 0") + "\\nregion 2 ordinary top 8 objects 2 cards 0\\nregion 3 " + (
+  "ordinary top 2 objects 1 cards 0" if new else "free top 0 objects 0 cards 0"),
+  "live": "region 0 live 0\\nregion 1 live 0\\nregion 2 live 16\\nregion 3 live 0"}}[sys.argv[1]])
+"""
+
+LARGE = """#!{python}
+print("heap 16 4 65 roots 0 dirty 0 current none")
+"""
+
+STEPS = """#!{python}
+import sys
+print("heap 16 4 1 roots 0 dirty 0 current none")
+print({{"print": "region 0 free top 0 objects 0 cards 0", "explain": "set -"}}[sys.argv[1]])
+"""
+
+
 class Pictures(unittest.TestCase):
-    def picture(self, *options):
+    def run_picture(self, *options, says=SAYS, check=False):
         with tempfile.TemporaryDirectory() as room:
             program = pathlib.Path(room) / "says"
-            program.write_text(SAYS.format(python=sys.executable))
+            program.write_text(says.format(python=sys.executable))
             program.chmod(0o755)
+            (pathlib.Path(room) / "after").write_bytes(b"x")
+            options = [option.format(program=program, room=room) for option in options]
             words = [sys.executable, str(TOP / "tools/picture.py"), "--program", str(program), "/dev/null", *options]
-            return subprocess.run(words, capture_output=True, text=True, check=True).stdout
+            return subprocess.run(words, capture_output=True, text=True, check=check)
+
+    def picture(self, *options):
+        return self.run_picture(*options, check=True).stdout
 
     def test_the_numbers_are_those_of_the_program(self):
         text = self.picture()
@@ -344,6 +371,43 @@ class Pictures(unittest.TestCase):
     def test_the_collection_set_is_framed(self):
         self.assertEqual(self.picture("--budget", "5").count('class="set"'), 2)
         self.assertEqual(self.picture("--set", "0,2").count('class="set"'), 3)
+
+    def test_the_pointer_reads_a_regions_numbers(self):
+        text = self.picture("--budget", "5")
+        self.assertIn("<title>region 2 ordinary, top 8, live 25%, 4 cards, pinned, cost 1, taken</title>", text)
+        self.assertIn("<title>region 3 free</title>", text)
+        self.assertIn("<title>region 1 continuation, top 4, live 100%, 0 cards</title>", text)
+
+    def test_frames_of_neighbours_do_not_touch(self):
+        frames = re.findall(r'class="set" x="([0-9.]+)" y="[0-9.]+" width="([0-9.]+)"[^>]*stroke-width="([0-9.]+)"', self.picture("--set", "0,1"))
+        (left, width, line), (right, *_) = [tuple(map(float, frame)) for frame in frames[:2]]
+        self.assertLess(left + width + line, right)
+
+    def test_a_bar_is_beside_the_words_and_not_on_them(self):
+        text = self.picture()
+        x, width = map(float, re.search(r'<path class="ordinary" d="M([0-9.]+) [0-9.]+h([0-9.]+)v', text).groups())
+        bars = re.search(r'<path class="cards" d="([^"]+)"', text).group(1)
+        self.assertIn(True, [x + width < float(bar) < x + 72 for bar in re.findall(r"M([0-9.]+) ", bars)])
+
+    def test_what_a_pause_freed_and_filled_is_framed(self):
+        text = self.run_picture("{room}/after", says=AFTER, check=True).stdout
+        self.assertEqual(text.count('class="freed"'), 3)  # both regions of the humongous object, and the legend
+        self.assertEqual(text.count('class="filled"'), 2)
+
+    def test_a_region_of_the_set_that_is_not_there_is_refused(self):
+        done = self.run_picture("--set", "2,4")
+        self.assertEqual((done.returncode, done.stdout), (2, ""))
+        self.assertEqual(done.stderr, "picture: /dev/null: region 4 is not there: the heap has 4\n")
+
+    def test_a_large_heap_has_no_steps(self):
+        done = self.run_picture("--steps", "--g1heap", "{program}", says=LARGE)
+        self.assertEqual(done.returncode, 2)
+        self.assertIn("65 regions of 16 words: the stepping page shows heaps of at most 64 regions of 64 words", done.stderr)
+
+    def test_the_steps_are_the_lines_of_explain(self):
+        text = self.run_picture("--steps", "--g1heap", "{program}", says=STEPS).stdout
+        self.assertIn('"explain":["heap 16 4 1 roots 0 dirty 0 current none","set -"]', text)
+        self.assertNotIn("@", re.sub(r"@media", "", text))
 
     def test_a_page_holds_everything(self):
         text = self.picture("/dev/null", "--html", "--set", "2")
@@ -363,7 +427,7 @@ class Examples(unittest.TestCase):
                 self.assertEqual(path.read_bytes(), kept.read_bytes(), kept)
 
 
-# A crate of three functions, and a prover that says of a function what stands for it in its body. What it says is what
+# A crate of three functions, and a prover whose answer on a function follows from words in its body. It prints what
 # rattle prints for such a body.
 TOY = """\
 fn first() -> u64
@@ -462,15 +526,15 @@ class Planted(unittest.TestCase):
 
     def tried(self):
         """What each row came to, by its name, and the last line and status."""
-        was, rt = (planted.ROOT, planted.load_rt), StandIn(self.folder)
-        planted.ROOT, planted.load_rt = self.folder, lambda: rt
+        was, rt = (planted.ROOT, planted.load_rt, planted.is_known_kit), StandIn(self.folder)
+        planted.ROOT, planted.load_rt, planted.is_known_kit = self.folder, lambda: rt, lambda: True
         here, words = os.getcwd(), sys.argv
         sys.argv = ["planted.py", "toy"]
         try:
             with contextlib.redirect_stdout(io.StringIO()) as out:
                 status = planted.main()
         finally:
-            (planted.ROOT, planted.load_rt), sys.argv = was, words
+            (planted.ROOT, planted.load_rt, planted.is_known_kit), sys.argv = was, words
             os.chdir(here)
         lines = out.getvalue().splitlines()
         return dict(line[len("planted toy/"):].split(": ", 1) for line in lines if line.startswith("planted toy/")), lines[-1], status

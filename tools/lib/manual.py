@@ -34,7 +34,7 @@ def section(text, name):
 
 
 def commands_of(program):
-    """The commands of a program, but for `help`."""
+    """The commands of a program, except `help`."""
     names = [line.split()[0] for line in section(said([program, "--help"]), "Commands")]
     return [name for name in names if name != "help"]
 

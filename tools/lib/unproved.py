@@ -39,7 +39,7 @@ def kit_folder():
 
 
 def link_all(folder, target, but):
-    """Links to everything in the folder but for these names."""
+    """Links to everything in the folder except these names."""
     target.mkdir(parents=True)
     for path in folder.iterdir():
         if path.name not in but:
@@ -92,7 +92,9 @@ def optimized(flags, module, made):
 def run(words):
     done = subprocess.run([str(word) for word in words], capture_output=True, text=True, errors="replace", check=False)
     if done.returncode:
-        raise NotBuilt(f"{words[0]} failed:\n{(done.stdout + done.stderr).strip()[-3000:]}")
+        how = f"status {done.returncode}" if done.returncode > 0 else f"ended by signal {-done.returncode}"
+        said = (done.stdout + done.stderr).strip()[-3000:] or "it said nothing. Is there memory and room on the disk?"
+        raise NotBuilt(f"{words[0]} failed, {how}:\n{said}\nCall it again: nothing is left half built")
 
 
 def build_unproved(crate, program):

@@ -1,0 +1,148 @@
+#!/usr/bin/env python3
+"""Steps through pauses in a real browser: test_pictures.py [--pictures FOLDER] G1PAUSE G1HEAP
+
+tools/picture.py --steps makes a page of each example below. In headless Chromium, at a screen's and at a phone's width, in
+light and dark, the keyboard alone goes forward through all steps and back. At each step the page has to show the line of
+`g1heap explain` that belongs there, and at the end its heap has to be that of the image that `g1pause pause` writes, by
+the lines of `g1heap print`. Nothing may be wider than the screen. The buttons, the slider and the list go to their steps.
+
+With --pictures it also writes the first, a middle and the last step of each page as PNG files, to be looked at.
+Statuses: 0 all passed; 1 something failed; 2 usage, or no Chromium (Debian's package chromium).
+"""
+import argparse
+import pathlib
+import subprocess
+import sys
+import tempfile
+
+TOP = pathlib.Path(__file__).resolve().parent.parent
+sys.path.insert(0, str(TOP / "tools/lib"))
+
+import browser  # noqa: E402 (it is in lib/)
+
+# An example and its set; the last one is refused.
+PAUSES = (("shared_targets.img", "1"), ("gap.img", "0"), ("humongous_chain.img", None), ("dirty_card.img", "1"), ("no_room.img", "0"))
+SCREENS = ((1400, 900, False), (390, 844, True))
+
+
+class Wrong(Exception):
+    """What the page shows and should not."""
+
+
+def lines_of(words, stdin=subprocess.DEVNULL):
+    """The lines that a program prints, and its status."""
+    done = subprocess.run(words, stdin=stdin, capture_output=True, check=False)
+    return done.stdout.decode().splitlines(), done.returncode
+
+
+def expect(what, shown, wanted):
+    if shown != wanted:
+        raise Wrong(f"{what}: {shown!r} in place of {wanted!r}")
+
+
+def heap_after(options, image, chosen, room):
+    """The lines of the image that the pause writes, or of the image itself if the pause is refused."""
+    after = pathlib.Path(room) / "after.img"
+    with open(image, "rb") as stdin, open(after, "wb") as stdout:
+        status = subprocess.run([options.g1pause, "pause", *([chosen] if chosen else [])], stdin=stdin, stdout=stdout,
+                                stderr=subprocess.DEVNULL, check=False).returncode
+    return lines_of([options.g1heap, "print", str(image if status else after)])[0]
+
+
+def make_page(options, image, chosen, room):
+    page = pathlib.Path(room) / "page.html"
+    words = [sys.executable, str(TOP / "tools/picture.py"), "--steps", "--g1heap", options.g1heap, str(image)]
+    page.write_text(subprocess.run(words + (["--set", chosen] if chosen else []), capture_output=True, text=True, check=True).stdout)
+    return page
+
+
+def shown_line(page):
+    return page.run("document.getElementById('line').textContent")
+
+
+def go_through(page, explained):
+    """Forward by the right arrow key, and back by the left one."""
+    for number, line in enumerate(["the heap before", *explained]):
+        expect(f"step {number}", shown_line(page), line)
+        expect(f"count at step {number}", page.run("document.getElementById('count').textContent"), f"step {number} of {len(explained)}")
+        if number and not page.run("document.getElementById('meaning').textContent"):
+            raise Wrong(f"step {number} has no sentence: {line}")
+        page.press("ArrowRight")
+    expect("behind the last step", shown_line(page), explained[-1])
+    for line in reversed(["the heap before", *explained[:-1]]):
+        page.press("ArrowLeft")
+        expect("a step back", shown_line(page), line)
+
+
+def use_the_rest(page, explained):
+    """End and Home, each button, the slider and the list. Buttons are reached and pressed by the keyboard."""
+    page.press("End")
+    expect("End", shown_line(page), explained[-1])
+    page.press("Home")
+    expect("Home", shown_line(page), "the heap before")
+    for button, line in (("next", explained[0]), ("last", explained[-1]), ("back", explained[-2]), ("first", "the heap before")):
+        page.run(f"document.getElementById('{button}').click()")
+        expect(f"button {button}", shown_line(page), line)
+    names = page.run("[...document.querySelectorAll('button, input')].every((one) => one.getAttribute('aria-label') && one.tabIndex >= 0)")
+    expect("names of the controls", names, True)
+    page.run("{ const slider = document.getElementById('where'); slider.value = 2; slider.dispatchEvent(new Event('input')); }")
+    expect("the slider", shown_line(page), explained[1])
+    page.run("document.getElementById('list').children[2].click()")
+    expect("the list", shown_line(page), explained[2])
+
+
+def check_width(page, width):
+    wide = page.run("document.documentElement.scrollWidth")
+    if wide > width:
+        raise Wrong(f"the page is {wide} pixels wide on a screen of {width}")
+
+
+def take_pictures(page, folder, name, steps, screen):
+    for step in (0, steps // 2, steps):
+        page.run(f"show({step})")
+        page.picture(folder / f"{name}-{screen[0]}-{'dark' if screen[2] else 'light'}-{step}.png")
+
+
+def check_pause(options, page, name, chosen):
+    image = TOP / "examples" / name
+    words = [options.g1heap, "explain", str(image), *(["--set", chosen] if chosen else [])]
+    explained, _ = lines_of(words)
+    with tempfile.TemporaryDirectory() as room:
+        path, after = make_page(options, image, chosen, room), heap_after(options, image, chosen, room)
+        for screen in SCREENS:
+            page.screen(*screen)
+            page.open(path)
+            go_through(page, explained)
+            use_the_rest(page, explained)
+            expect("the heap at the end", page.run("printHeap(states[states.length - 1])"), after)
+            check_width(page, screen[0])
+            if options.pictures:
+                take_pictures(page, options.pictures, name.removesuffix(".img"), len(explained), screen)
+    return len(explained)
+
+
+def main():
+    parser = argparse.ArgumentParser(description=__doc__, formatter_class=argparse.RawDescriptionHelpFormatter)
+    parser.add_argument("g1pause", metavar="G1PAUSE", help="the program g1pause")
+    parser.add_argument("g1heap", metavar="G1HEAP", help="the program g1heap")
+    parser.add_argument("--pictures", metavar="FOLDER", type=pathlib.Path, help="also writes PNG files there")
+    options = parser.parse_args()
+    program = browser.find()
+    if program is None:
+        print("test_pictures: there is no Chromium on the path: install Debian's package chromium", file=sys.stderr)
+        return 2
+    passed = failed = 0
+    with browser.Browser(program) as page:
+        for name, chosen in PAUSES:
+            try:
+                print(f"{name}: {check_pause(options, page, name, chosen)} steps")
+                passed += 1
+            except (Wrong, browser.Failed, subprocess.CalledProcessError) as error:
+                print(f"{name}: {error}")
+                failed += 1
+    print(f"{passed} passed, {failed} failed")
+    return 1 if failed else 0
+
+
+if __name__ == "__main__":
+    sys.exit(main())
