@@ -1,5 +1,6 @@
 -- The remembered sets of the image after keep their rules.
-use Rattle.std.proofs.Common.{◌≡◌, ◌≢◌, ℕ, suc, ◌+◌, ◌-◌, ◌*◌, ◌/◌, ◌^◌, ◌<◌, ◌≤◌, ◌⊎◌, inl, inr, Bool, true, false, cond, not, ◌&&◌, ◌||◌, List, [], ◌∷◌, length, get_or, filter, flat_map, Contains, refl, sym, ◌∙◌, ap, subst, arith, eqb, eqb-true, eq-eqb, lit<}
+use Rattle.std.proofs.Common.{◌≡◌, ◌≢◌, ℕ, suc, ◌+◌, ◌-◌, ◌*◌, ◌/◌, ◌^◌, ◌<◌, ◌≤◌, ◌⊎◌, inl, inr, Bool, true, false, cond, not, ◌&&◌, ◌||◌, List, [], ◌∷◌, length, get_or, filter, flat_map}
+use Rattle.std.proofs.Common.{Contains, refl, sym, ◌∙◌, ap, subst, arith, eqb, eqb-true, eq-eqb, lit<}
 use Rattle.std.specs.List.{range_with_len}
 use Rattle.std.specs.List.Sorted.{IsStrictlyIncreasing}
 use Rattle.std.proofs.lemmas.Bool.{cases_Bool, cases_lt, false≢true}
@@ -72,7 +73,8 @@ card_of_set i image r c lt m =
     (e.0.used, e.1, holder (kind i.heap r) (s.owner (omega (arith, m.1))))
 
 -- a card that is exact for a region lies in another, used region, and some object starts in the region itself
-pub exact_card : (h : Heap) → IsBuilt h → (r c : ℕ) → is_exact h r c ≡ true → (kind h (c * h.geometry.k / h.geometry.w) ≢ Free) × (c * h.geometry.k / h.geometry.w ≢ r) × ((kind h r ≡ Ordinary) ⊎ (kind h r ≡ HumongousFirst))
+pub exact_card : (h : Heap) → IsBuilt h → (r c : ℕ) → is_exact h r c ≡ true →
+    (kind h (c * h.geometry.k / h.geometry.w) ≢ Free) × (c * h.geometry.k / h.geometry.w ≢ r) × ((kind h r ≡ Ordinary) ⊎ (kind h r ≡ HumongousFirst))
 exact_card h valid r c t =
     let m = any_member (λ e. leads_into h r e && eqb (card_of h e.slot) c) (refs h) t in
     let e : Ref = m.0 in
@@ -82,7 +84,8 @@ exact_card h valid r c t =
     let away : eqb (region_of h e.slot) r ≡ false = not_is (eqb (region_of h e.slot) r) b.1 in
     let card : card_of h e.slot ≡ c = eqb-true (card_of h e.slot) c a.1 in
     let d = cards_in_region h.geometry.w h.geometry.k h.geometry.n valid.limits in
-    let at : c * h.geometry.k / h.geometry.w ≡ region_of h e.slot = ap (λ y. y * h.geometry.k / h.geometry.w) (sym card) ∙ card_in_region h.geometry.w h.geometry.k d.0 e.slot (card_positive h.geometry.w h.geometry.k h.geometry.n valid.limits) d.1 in
+    let at : c * h.geometry.k / h.geometry.w ≡ region_of h e.slot = ap (λ y. y * h.geometry.k / h.geometry.w) (sym card)
+    ∙ card_in_region h.geometry.w h.geometry.k d.0 e.slot (card_positive h.geometry.w h.geometry.k h.geometry.n valid.limits) d.1 in
     let o = flat_map_cases (λ o. flat_map (refs_at h) (slots o)) (objects h) e m.1 in
     let p = flat_map_cases (refs_at h) (slots o.0) e o.2 in
     let q = map_cases (λ a. record { slot = p.0; target = a }) (named (word h p.0)) e p.2 in
@@ -100,7 +103,8 @@ exact_card h valid r c t =
       elim t.2.2 [ inl a ↦ inl (ap (kind h) (sym there) ∙ a.kind) | inr a ↦ inr (ap (kind h) (sym there) ∙ a.kind) ],
     )
 
-module _ (i : Image) (set l : List ℕ) (j : Image) (valid : IsBuilt i.heap) (ordinary : AllOrdinary i.heap set) (survivors : Survivors i.heap set l) (room : need i.heap l ≤ length (free_regions i.heap)) (moved : IsMoved i set l j) (image : IsImage i) where
+module _ (i : Image) (set l : List ℕ) (j : Image) (valid : IsBuilt i.heap) (ordinary : AllOrdinary i.heap set) (survivors : Survivors i.heap set l)
+    (room : need i.heap l ≤ length (free_regions i.heap)) (moved : IsMoved i set l j) (image : IsImage i) where
   v : IsBuilt j.heap
   v = valid_moved i set l j valid ordinary survivors room moved
 
@@ -136,7 +140,8 @@ module _ (i : Image) (set l : List ℕ) (j : Image) (valid : IsBuilt i.heap) (or
   by_exact r c lt t = let e = exact_card j.heap v r c t in ((lt, e.0), e.1, e.2)
 
   -- a used card that isn't in the set stays used
-  stays_used : (c : ℕ) → c * i.heap.geometry.k / i.heap.geometry.w < i.heap.geometry.n → kind i.heap (c * i.heap.geometry.k / i.heap.geometry.w) ≢ Free → card_in i.heap set c ≡ false → kind j.heap (c * j.heap.geometry.k / j.heap.geometry.w) ≢ Free
+  stays_used : (c : ℕ) → c * i.heap.geometry.k / i.heap.geometry.w < i.heap.geometry.n →
+      kind i.heap (c * i.heap.geometry.k / i.heap.geometry.w) ≢ Free → card_in i.heap set c ≡ false → kind j.heap (c * j.heap.geometry.k / j.heap.geometry.w) ≢ Free
   stays_used c lt used out z =
       let q : ℕ = c * i.heap.geometry.k / i.heap.geometry.w in
       let shape = other_shape i set l j valid ordinary survivors room moved q lt out (used_not_to_space i.heap set l s ordinary survivors room q used) in
@@ -144,19 +149,32 @@ module _ (i : Image) (set l : List ℕ) (j : Image) (valid : IsBuilt i.heap) (or
 
   -- a used region is one of the heap's
   in_heap : (q : ℕ) → kind i.heap q ≢ Free → q < i.heap.geometry.n
-  in_heap q used = elim (cases_lt q i.heap.geometry.n) [ inl lt ↦ lt | inr ge ↦ absurd (used (ap (λ (x : Region). x.kind) (get_or_past i.heap.regions q free_region (let k = valid.region_count in omega arith)))) ]
+  in_heap q used = elim (cases_lt q i.heap.geometry.n) [
+    | inl lt ↦ lt
+    | inr ge ↦ absurd
+        (used (ap (λ (x : Region). x.kind) (get_or_past i.heap.regions q free_region (let k = valid.region_count in omega arith))))
+  ]
 
-  by_refined : (r c : ℕ) → r < i.heap.geometry.n → has set r ≡ false → has (to_space i.heap l) r ≡ false → c < j.heap.geometry.n * j.heap.geometry.w / j.heap.geometry.k → is_refined i r c ≡ true → card_in i.heap set c ≡ false → Right r c
+  by_refined : (r c : ℕ) → r < i.heap.geometry.n → has set r ≡ false → has (to_space i.heap l) r ≡ false →
+      c < j.heap.geometry.n * j.heap.geometry.w / j.heap.geometry.k → is_refined i r c ≡ true → card_in i.heap set c ≡ false → Right r c
   by_refined r c lt a b below t out = elim (or_true (has (remembered_of i r) c) (has i.log c && is_exact i.heap r c) t) [
     | inl x ↦
         let m : In (remembered_of i r) c = in_from_has (remembered_of i r) c x in
         let u = card_of_set i image r c lt (Contains-from_in (remembered_of i r) c m) in
-        let shape = other_shape i set l j valid ordinary survivors room moved r lt a b in
-        ((below, stays_used c (in_heap (c * i.heap.geometry.k / i.heap.geometry.w) u.0) u.0 out), (λ z. u.1 (sym (same_kc c) ∙ z)), (elim u.2 [ inl y ↦ inl (shape.0 ∙ y) | inr y ↦ inr (shape.0 ∙ y) ]))
+        let shape = other_shape i set l j valid ordinary survivors room moved r lt a b in (
+          (below, stays_used c (in_heap (c * i.heap.geometry.k / i.heap.geometry.w) u.0) u.0 out),
+          (λ z. u.1 (sym (same_kc c) ∙ z)),
+          (elim u.2
+              [ inl y ↦ inl (shape.0 ∙ y) | inr y ↦ inr (shape.0 ∙ y) ]),
+        )
     | inr x ↦
         let e = exact_card i.heap valid r c (and_true (has i.log c) (is_exact i.heap r c) x).1 in
-        let shape = other_shape i set l j valid ordinary survivors room moved r lt a b in
-        ((below, stays_used c (in_heap (c * i.heap.geometry.k / i.heap.geometry.w) e.0) e.0 out), (λ z. e.1 (sym (same_kc c) ∙ z)), (elim e.2 [ inl y ↦ inl (shape.0 ∙ y) | inr y ↦ inr (shape.0 ∙ y) ]))
+        let shape = other_shape i set l j valid ordinary survivors room moved r lt a b in (
+          (below, stays_used c (in_heap (c * i.heap.geometry.k / i.heap.geometry.w) e.0) e.0 out),
+          (λ z. e.1 (sym (same_kc c) ∙ z)),
+          (elim e.2
+              [ inl y ↦ inl (shape.0 ∙ y) | inr y ↦ inr (shape.0 ∙ y) ]),
+        )
   ]
 
   right_in : (r c : ℕ) → r < i.heap.geometry.n → In (remembered_of j r) c → Right r c
@@ -214,8 +232,14 @@ module _ (i : Image) (set l : List ℕ) (j : Image) (valid : IsBuilt i.heap) (or
   set_moved : (r : ℕ) → r < j.heap.geometry.n → IsRememberedSet j.heap r (remembered_of j r)
   set_moved r lt = record {
     rising = rising_moved r (below_n r lt);
-    elsewhere = λ k d less. let right = right_in r (get_or (remembered_of j r) k d) (below_n r lt) (there r k d less) in
-        (record { in_heap = card_starts j.heap.geometry.w j.heap.geometry.k j.heap.geometry.n (get_or (remembered_of j r) k d) (card_positive j.heap.geometry.w j.heap.geometry.k j.heap.geometry.n v.limits) right.0.0; used = right.0.1 }, right.1);
+    elsewhere = λ k d less. let right = right_in r (get_or (remembered_of j r) k d) (below_n r lt) (there r k d less) in (
+      record {
+        in_heap = card_starts j.heap.geometry.w j.heap.geometry.k j.heap.geometry.n (get_or (remembered_of j r) k d)
+            (card_positive j.heap.geometry.w j.heap.geometry.k j.heap.geometry.n v.limits) right.0.0;
+        used = right.0.1;
+      },
+      right.1,
+    );
     count = few_moved r (below_n r lt);
     owner = λ some. let right = right_in r (get_or (remembered_of j r) 0 0) (below_n r lt) (there r 0 0 some) in may_hold (kind j.heap r) right.2;
   }
@@ -229,7 +253,8 @@ module _ (i : Image) (set l : List ℕ) (j : Image) (valid : IsBuilt i.heap) (or
   }
 
 -- the image after is an image and covered
-pub tracked_moved : (i : Image) (set l : List ℕ) (j : Image) → IsTracked i → AllOrdinary i.heap set → Survivors i.heap set l → need i.heap l ≤ length (free_regions i.heap) → IsMoved i set l j → IsTracked j
+pub tracked_moved : (i : Image) (set l : List ℕ) (j : Image) → IsTracked i → AllOrdinary i.heap set → Survivors i.heap set l →
+    need i.heap l ≤ length (free_regions i.heap) → IsMoved i set l j → IsTracked j
 tracked_moved i set l j t o v r m = record {
   image = image_moved_is i set l j (built i.heap t.image.heap) o v r m t.image;
   covered = covered_moved i set l j (built i.heap t.image.heap) o v r m t.covered;

@@ -1,5 +1,6 @@
 -- The image after is covered.
-use Rattle.std.proofs.Common.{◌≡◌, ℕ, suc, ◌+◌, ◌*◌, ◌/◌, ◌<◌, ◌≤◌, ◌⊎◌, inl, inr, Bool, true, false, cond, not, ◌&&◌, ◌||◌, List, [], ◌∷◌, length, get_or, map, filter, flat_map, refl, sym, ◌∙◌, ap, subst, arith, eqb, eq-eqb}
+use Rattle.std.proofs.Common.{◌≡◌, ℕ, suc, ◌+◌, ◌*◌, ◌/◌, ◌<◌, ◌≤◌, ◌⊎◌, inl, inr, Bool, true, false, cond, not, ◌&&◌, ◌||◌, List, [], ◌∷◌, length, get_or, map, filter, flat_map, refl, sym}
+use Rattle.std.proofs.Common.{◌∙◌, ap, subst, arith, eqb, eq-eqb}
 use Rattle.std.specs.List.{range_with_len, list_any}
 use Rattle.std.proofs.lemmas.Bool.{cases_Bool, false≢true}
 use Rattle.std.proofs.lemmas.List.FromFn.{get_or-map-range_with_len}
@@ -48,14 +49,17 @@ and_both a b e f = (λ t. e t && f t)
 pub covered_each : (i : Image) → Covered i → (e : Ref) → In (refs i.heap) e → is_covered i e ≡ true
 covered_each i c e h = elim (cases_Bool (is_covered i e)) [
   | inl t ↦ t
-  | inr f ↦ absurd (subst (λ xs. In xs e.slot) c (In-map (λ (x : Ref). x.slot) (filter (λ e. not (is_covered i e)) (refs i.heap)) e (In-filter (λ (e : Ref). not (is_covered i e)) (refs i.heap) e h (ap not f))))
+  | inr f ↦ absurd (subst (λ xs. In xs e.slot) c (In-map (λ (x : Ref). x.slot) (filter (λ e. not (is_covered i e)) (refs i.heap)) e
+      (In-filter (λ (e : Ref). not (is_covered i e)) (refs i.heap) e h (ap not f))))
 ]
 
 pub exact_by : (h : Heap) (r c : ℕ) (e : Ref) → In (refs h) e → region_of h e.target ≡ r → eqb (region_of h e.slot) r ≡ false → card_of h e.slot ≡ c → is_exact h r c ≡ true
 exact_by h r c e m a b d = any_from_in (λ e. leads_into h r e && eqb (card_of h e.slot) c) (refs h) e m
-    (and_both (leads_into h r e) (eqb (card_of h e.slot) c) (and_both (eqb (region_of h e.target) r) (not (eqb (region_of h e.slot) r)) (eq-eqb (region_of h e.target) r a) (ap not b)) (eq-eqb (card_of h e.slot) c d))
+    (and_both (leads_into h r e) (eqb (card_of h e.slot) c) (and_both (eqb (region_of h e.target) r) (not (eqb (region_of h e.slot) r))
+    (eq-eqb (region_of h e.target) r a) (ap not b)) (eq-eqb (card_of h e.slot) c d))
 
-module _ (i : Image) (set l : List ℕ) (j : Image) (valid : IsBuilt i.heap) (ordinary : AllOrdinary i.heap set) (survivors : Survivors i.heap set l) (room : need i.heap l ≤ length (free_regions i.heap)) (moved : IsMoved i set l j) where
+module _ (i : Image) (set l : List ℕ) (j : Image) (valid : IsBuilt i.heap) (ordinary : AllOrdinary i.heap set) (survivors : Survivors i.heap set l)
+    (room : need i.heap l ≤ length (free_regions i.heap)) (moved : IsMoved i set l j) where
   -- a word of a moved object lies in a region that isn't in the set; a survivor's in to-space
   pub moved_region : (k : Object) (m : ℕ) → In (kept i.heap set l) k → m < k.size
       → (region_of i.heap (forward i.heap l k.at + m) < i.heap.geometry.n) × (has set (region_of i.heap (forward i.heap l k.at + m)) ≡ false)
@@ -66,7 +70,9 @@ module _ (i : Image) (set l : List ℕ) (j : Image) (valid : IsBuilt i.heap) (or
         | inl x ↦
             let stays = outside_stays i.heap set l s ordinary survivors room k.at x.0 in
             let u = outside_word i set l j valid ordinary survivors room moved k m x.1 x.0 lt in
-            let z : (region_of i.heap (forward i.heap l k.at + m) < i.heap.geometry.n) × (has set (region_of i.heap (forward i.heap l k.at + m)) ≡ false) = subst (λ y. (region_of i.heap (y + m) < i.heap.geometry.n) × (has set (region_of i.heap (y + m)) ≡ false)) (sym stays) (u.0, u.3) in
+            let z : (region_of i.heap (forward i.heap l k.at + m) < i.heap.geometry.n)
+            × (has set (region_of i.heap (forward i.heap l k.at + m)) ≡ false) = subst (λ y. (region_of i.heap (y + m) < i.heap.geometry.n)
+            × (has set (region_of i.heap (y + m)) ≡ false)) (sym stays) (u.0, u.3) in
             (z.0, z.1, inl (x.0, x.1, stays))
         | inr x ↦
             let at : x.0 ≡ k.at = ap (λ (o : Object). o.at) x.2 in
@@ -95,22 +101,28 @@ module _ (i : Image) (set l : List ℕ) (j : Image) (valid : IsBuilt i.heap) (or
     owner_word : r.m < r.owner.size
     owner_word = let k = kept_refs i set l j valid ordinary survivors room moved r.owner r.is_kept in let m = r.within in omega arith
 
-    from_region : (from < i.heap.geometry.n) × (has set from ≡ false) × (((in_set i.heap set r.owner.at ≡ false) × In (objects i.heap) r.owner × (forward i.heap l r.owner.at ≡ r.owner.at)) ⊎ (has (to_space i.heap l) from ≡ true))
-    from_region = subst (λ y. (y / i.heap.geometry.w < i.heap.geometry.n) × (has set (y / i.heap.geometry.w) ≡ false) × (((in_set i.heap set r.owner.at ≡ false) × In (objects i.heap) r.owner × (forward i.heap l r.owner.at ≡ r.owner.at)) ⊎ (has (to_space i.heap l) (y / i.heap.geometry.w) ≡ true))) (sym r.slot)
+    from_region : (from < i.heap.geometry.n) × (has set from ≡ false) × (((in_set i.heap set r.owner.at ≡ false) × In (objects i.heap) r.owner
+        × (forward i.heap l r.owner.at ≡ r.owner.at)) ⊎ (has (to_space i.heap l) from ≡ true))
+    from_region = subst (λ y. (y / i.heap.geometry.w < i.heap.geometry.n) × (has set (y / i.heap.geometry.w) ≡ false)
+        × (((in_set i.heap set r.owner.at ≡ false) × In (objects i.heap) r.owner × (forward i.heap l r.owner.at ≡ r.owner.at)) ⊎ (has (to_space i.heap l) (y / i.heap.geometry.w) ≡ true))) (sym r.slot)
         (moved_region r.owner r.m r.is_kept owner_word)
 
     target_kept : In (kept i.heap set l) (object_at i.heap r.before)
     target_kept = before_kept i set l j valid ordinary survivors room moved e r
 
-    to_region : (to < i.heap.geometry.n) × (has set to ≡ false) × (((in_set i.heap set r.before ≡ false) × In (objects i.heap) (object_at i.heap r.before) × (forward i.heap l r.before ≡ r.before)) ⊎ (has (to_space i.heap l) to ≡ true))
+    to_region : (to < i.heap.geometry.n) × (has set to ≡ false) × (((in_set i.heap set r.before ≡ false)
+        × In (objects i.heap) (object_at i.heap r.before) × (forward i.heap l r.before ≡ r.before)) ⊎ (has (to_space i.heap l) to ≡ true))
     to_region =
         let z : forward i.heap l r.before + 0 ≡ e.target = omega (arith, r.moved_to) in
         let k = kept_refs i set l j valid ordinary survivors room moved (object_at i.heap r.before) target_kept in
-        subst (λ y. (y / i.heap.geometry.w < i.heap.geometry.n) × (has set (y / i.heap.geometry.w) ≡ false) × (((in_set i.heap set r.before ≡ false) × In (objects i.heap) (object_at i.heap r.before) × (forward i.heap l r.before ≡ r.before)) ⊎ (has (to_space i.heap l) (y / i.heap.geometry.w) ≡ true))) z
+        subst (λ y. (y / i.heap.geometry.w < i.heap.geometry.n) × (has set (y / i.heap.geometry.w) ≡ false)
+        × (((in_set i.heap set r.before ≡ false) × In (objects i.heap) (object_at i.heap r.before) × (forward i.heap l r.before ≡ r.before))
+        ⊎ (has (to_space i.heap l) (y / i.heap.geometry.w) ≡ true))) z
         (moved_region (object_at i.heap r.before) 0 target_kept (omega arith))
 
     exact_moved : is_exact j.heap to card ≡ true
-    exact_moved = exact_by j.heap to card e here (ap (λ y. e.target / y) (ap (λ (g : Geometry). g.w) moved.geometry)) (ap (λ y. eqb (e.slot / y) to) (ap (λ (g : Geometry). g.w) moved.geometry) ∙ differ) (ap (λ y. e.slot / y) (ap (λ (g : Geometry). g.k) moved.geometry))
+    exact_moved = exact_by j.heap to card e here (ap (λ y. e.target / y) (ap (λ (g : Geometry). g.w) moved.geometry))
+        (ap (λ y. eqb (e.slot / y) to) (ap (λ (g : Geometry). g.w) moved.geometry) ∙ differ) (ap (λ y. e.slot / y) (ap (λ (g : Geometry). g.k) moved.geometry))
 
     abbrev divides : (m : ℕ) × (i.heap.geometry.w ≡ m * i.heap.geometry.k)
     divides = cards_in_region i.heap.geometry.w i.heap.geometry.k i.heap.geometry.n valid.limits
@@ -119,17 +131,21 @@ module _ (i : Image) (set l : List ℕ) (j : Image) (valid : IsBuilt i.heap) (or
     slot_below = let b = moved_below i set l j valid ordinary survivors room moved r.owner r.m r.is_kept owner_word in let s = r.slot in omega arith
 
     card_there : card < i.heap.geometry.n * i.heap.geometry.w / i.heap.geometry.k
-    card_there = card_below i.heap.geometry.w i.heap.geometry.k divides.0 i.heap.geometry.n e.slot (card_positive i.heap.geometry.w i.heap.geometry.k i.heap.geometry.n valid.limits) divides.1 slot_below
+    card_there = card_below i.heap.geometry.w i.heap.geometry.k divides.0 i.heap.geometry.n e.slot
+        (card_positive i.heap.geometry.w i.heap.geometry.k i.heap.geometry.n valid.limits) divides.1 slot_below
 
     card_from : card * i.heap.geometry.k / i.heap.geometry.w ≡ from
     card_from = card_in_region i.heap.geometry.w i.heap.geometry.k divides.0 e.slot (card_positive i.heap.geometry.w i.heap.geometry.k i.heap.geometry.n valid.limits) divides.1
 
     has_where : (test : ℕ → Bool) → test card ≡ true → has (cards_where i.heap test) card ≡ true
-    has_where test t = has_from_in (cards_where i.heap test) card (In-filter test (range_with_len 0 (i.heap.geometry.n * i.heap.geometry.w / i.heap.geometry.k)) card (In-range 0 (i.heap.geometry.n * i.heap.geometry.w / i.heap.geometry.k) card (omega arith) (let c = card_there in omega arith)) t)
+    has_where test t = has_from_in (cards_where i.heap test) card (In-filter test
+        (range_with_len 0 (i.heap.geometry.n * i.heap.geometry.w / i.heap.geometry.k)) card
+        (In-range 0 (i.heap.geometry.n * i.heap.geometry.w / i.heap.geometry.k) card (omega arith) (let c = card_there in omega arith)) t)
 
     has_exact : has (exact j.heap to) card ≡ true
     has_exact =
-        let same : i.heap.geometry.n * i.heap.geometry.w / i.heap.geometry.k ≡ j.heap.geometry.n * j.heap.geometry.w / j.heap.geometry.k = λ t. sym (ap (λ (g : Geometry). g.n) moved.geometry) t * sym (ap (λ (g : Geometry). g.w) moved.geometry) t / sym (ap (λ (g : Geometry). g.k) moved.geometry) t in
+        let same : i.heap.geometry.n * i.heap.geometry.w / i.heap.geometry.k ≡ j.heap.geometry.n * j.heap.geometry.w / j.heap.geometry.k =
+        λ t. sym (ap (λ (g : Geometry). g.n) moved.geometry) t * sym (ap (λ (g : Geometry). g.w) moved.geometry) t / sym (ap (λ (g : Geometry). g.k) moved.geometry) t in
         ap (λ y. has (filter (is_exact j.heap to) (range_with_len 0 y)) card) (sym same) ∙ has_where (is_exact j.heap to) exact_moved
 
     refined_before : has (to_space i.heap l) to ≡ false → has (to_space i.heap l) from ≡ false → is_refined i to card ≡ true
@@ -143,23 +159,27 @@ module _ (i : Image) (set l : List ℕ) (j : Image) (valid : IsBuilt i.heap) (or
             let w : word i.heap e.slot ≡ suc e.target = ap (word i.heap) at ∙ r.word_before ∙ ap suc goal in
             let a = r.above in let m = r.within in
             let k : In (refs_at i.heap e.slot) e = In-map (λ a. record { slot = e.slot; target = a }) (named (word i.heap e.slot)) e.target (subst (λ x. In (named x) e.target) (sym w) (inl refl)) in
-            let there : In (refs i.heap) e = In-flat_map (λ o. flat_map (refs_at i.heap) (slots o)) (objects i.heap) r.owner e o.1 (In-flat_map (refs_at i.heap) (slots r.owner) e.slot e (In-range (r.owner.at + 1) r.owner.refs e.slot (omega arith) (omega arith)) k) in
+            let there : In (refs i.heap) e = In-flat_map (λ o. flat_map (refs_at i.heap) (slots o)) (objects i.heap) r.owner e o.1
+            (In-flat_map (refs_at i.heap) (slots r.owner) e.slot e (In-range (r.owner.at + 1) r.owner.refs e.slot (omega arith) (omega arith)) k) in
             let c : is_covered i e ≡ true = covered_each i covered e there in
             elim (or_true (eqb from to || has (remembered_of i to) card) (has i.log card) c) [
               | inl x ↦ elim (or_true (eqb from to) (has (remembered_of i to) card) x) [
                 | inl y ↦ absurd (false≢true (sym differ ∙ y))
                 | inr y ↦ or_left (has (remembered_of i to) card) (has i.log card && is_exact i.heap to card) y
               ]
-              | inr x ↦ or_right (has (remembered_of i to) card) (has i.log card && is_exact i.heap to card) (and_both (has i.log card) (is_exact i.heap to card) x (exact_by i.heap to card e there refl differ refl))
+              | inr x ↦ or_right (has (remembered_of i to) card) (has i.log card && is_exact i.heap to card)
+                  (and_both (has i.log card) (is_exact i.heap to card) x (exact_by i.heap to card e there refl differ refl))
             ]
       ]
     ]
 
     in_new_rem : has (remembered_moved i set l j.heap to) card ≡ true
     in_new_rem = elim (cases_Bool (has (to_space i.heap l) to)) [
-      | inl t ↦ (λ q. has (cond (to_region.1 q) [] (cond (t q) (exact j.heap to) (cards_where i.heap (λ c. (is_refined i to c && not (card_in i.heap set c)) || (card_in i.heap (to_space i.heap l) c && is_exact j.heap to c))))) card) ∙ has_exact
+      | inl t ↦ (λ q. has (cond (to_region.1 q) [] (cond (t q) (exact j.heap to)
+          (cards_where i.heap (λ c. (is_refined i to c && not (card_in i.heap set c)) || (card_in i.heap (to_space i.heap l) c && is_exact j.heap to c))))) card) ∙ has_exact
       | inr f ↦
-          (λ q. has (cond (to_region.1 q) [] (cond (f q) (exact j.heap to) (cards_where i.heap (λ c. (is_refined i to c && not (card_in i.heap set c)) || (card_in i.heap (to_space i.heap l) c && is_exact j.heap to c))))) card)
+          (λ q. has (cond (to_region.1 q) [] (cond (f q) (exact j.heap to) (cards_where i.heap
+          (λ c. (is_refined i to c && not (card_in i.heap set c)) || (card_in i.heap (to_space i.heap l) c && is_exact j.heap to c))))) card)
           ∙ has_where (λ c. (is_refined i to c && not (card_in i.heap set c)) || (card_in i.heap (to_space i.heap l) c && is_exact j.heap to c))
           (elim (cases_Bool (has (to_space i.heap l) from)) [
             | inl t ↦ or_right (is_refined i to card && not (card_in i.heap set card)) (card_in i.heap (to_space i.heap l) card && is_exact j.heap to card)
@@ -182,10 +202,12 @@ module _ (i : Image) (set l : List ℕ) (j : Image) (valid : IsBuilt i.heap) (or
       let t : e.target / j.heap.geometry.w ≡ e.target / i.heap.geometry.w = ap (λ y. e.target / y) (ap (λ (g : Geometry). g.w) moved.geometry) in
       let k : e.slot / j.heap.geometry.k ≡ e.slot / i.heap.geometry.k = ap (λ y. e.slot / y) (ap (λ (g : Geometry). g.k) moved.geometry) in
       (λ q. (eqb (s q) (t q) || has (remembered_of j (t q)) (k q)) || has j.log (k q))
-      ∙ or_left (eqb (e.slot / i.heap.geometry.w) (e.target / i.heap.geometry.w) || has (remembered_of j (e.target / i.heap.geometry.w)) (e.slot / i.heap.geometry.k)) (has j.log (e.slot / i.heap.geometry.k))
+      ∙ or_left (eqb (e.slot / i.heap.geometry.w) (e.target / i.heap.geometry.w) || has (remembered_of j (e.target / i.heap.geometry.w))
+      (e.slot / i.heap.geometry.k)) (has j.log (e.slot / i.heap.geometry.k))
       (elim (cases_Bool (eqb (e.slot / i.heap.geometry.w) (e.target / i.heap.geometry.w))) [
         | inl a ↦ or_left (eqb (e.slot / i.heap.geometry.w) (e.target / i.heap.geometry.w)) (has (remembered_of j (e.target / i.heap.geometry.w)) (e.slot / i.heap.geometry.k)) a
-        | inr a ↦ or_right (eqb (e.slot / i.heap.geometry.w) (e.target / i.heap.geometry.w)) (has (remembered_of j (e.target / i.heap.geometry.w)) (e.slot / i.heap.geometry.k)) (in_rem_moved c e here a)
+        | inr a ↦ or_right (eqb (e.slot / i.heap.geometry.w) (e.target / i.heap.geometry.w))
+            (has (remembered_of j (e.target / i.heap.geometry.w)) (e.slot / i.heap.geometry.k)) (in_rem_moved c e here a)
       ])
 
   pub covered_moved : Covered i → Covered j

@@ -32,9 +32,11 @@ not_in_first xs ys x out = not_has xs x (λ k. false≢true (sym out ∙ has_fro
 not_in_second : (xs ys : List ℕ) (x : ℕ) → has (xs ++ ys) x ≡ false → has ys x ≡ false
 not_in_second xs ys x out = not_has ys x (λ k. false≢true (sym out ∙ has_from_in (xs ++ ys) x (In-append_right xs ys x k)))
 
-module _ (i : Image) (set l : List ℕ) (j : Image) (valid : IsBuilt i.heap) (ordinary : AllOrdinary i.heap set) (survivors : Survivors i.heap set l) (room : need i.heap l ≤ length (free_regions i.heap)) (moved : IsMoved i set l j) where
+module _ (i : Image) (set l : List ℕ) (j : Image) (valid : IsBuilt i.heap) (ordinary : AllOrdinary i.heap set) (survivors : Survivors i.heap set l)
+    (room : need i.heap l ≤ length (free_regions i.heap)) (moved : IsMoved i set l j) where
   -- a kept object that has a word after outside to-space wasn't moved
-  unmoved : (k : Object) (m q : ℕ) → In (kept i.heap set l) k → m < k.size → forward i.heap l k.at + m ≡ q → has (to_space i.heap l) (region_of i.heap q) ≡ false → In (objects i.heap) k × (forward i.heap l k.at ≡ k.at)
+  unmoved : (k : Object) (m q : ℕ) → In (kept i.heap set l) k → m < k.size → forward i.heap l k.at + m ≡ q →
+      has (to_space i.heap l) (region_of i.heap q) ≡ false → In (objects i.heap) k × (forward i.heap l k.at ≡ k.at)
   unmoved k m q c less at out = elim (moved_region i set l j valid ordinary survivors room moved k m c less).2 [
     | inl x ↦ (x.1, x.2)
     | inr t ↦ absurd (false≢true (sym out ∙ ap (λ y. has (to_space i.heap l) (region_of i.heap y)) (sym at) ∙ t))
@@ -105,7 +107,8 @@ module _ (i : Image) (set l : List ℕ) (j : Image) (valid : IsBuilt i.heap) (or
       let m = any_member after (refs j.heap) a in
       let t : before m.0 ≡ true = sym (same_lead r c m.0) ∙ m.2 in
       let p = exact_parts i.heap r c m.0 t in
-      let from : has (to_space i.heap l) (region_of i.heap m.0.slot) ≡ false = ap (has (to_space i.heap l)) (sym (slot_at m.0 p.2)) ∙ not_in_second set (to_space i.heap l) (region_of_card i.heap c) card_out in
+      let from : has (to_space i.heap l) (region_of i.heap m.0.slot) ≡ false =
+      ap (has (to_space i.heap l)) (sym (slot_at m.0 p.2)) ∙ not_in_second set (to_space i.heap l) (region_of_card i.heap c) card_out in
       let to : has (to_space i.heap l) (region_of i.heap m.0.target) ≡ false = ap (has (to_space i.heap l)) p.0 ∙ not_in_second set (to_space i.heap l) r region_out in
       any_from_in before (refs i.heap) m.0 (was_there m.0 m.1 from to) t)
       (λ a.

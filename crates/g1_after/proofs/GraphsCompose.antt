@@ -96,7 +96,8 @@ module _ (g h : Heap) (sound : IsSound g) (s : SameGraph g h) where
       let e : targets h (s.rename a) ≡ map s.rename (targets g a) =
       ap (λ n. flat_map (λ p. named (word h p)) (range_with_len (s.rename a + 1) n)) refs
       ∙ copy_targets s.rename g h (object_at g a) (s.copies a r) (live_fits a r) in
-      child (live_copied a r) (subst (λ xs. Contains xs (s.rename b)) (sym e) (Contains-from_in (map s.rename (targets g a)) (s.rename b) (In-map s.rename (targets g a) b (In-from_contains (targets g a) b c))))
+      child (live_copied a r) (subst (λ xs. Contains xs (s.rename b)) (sym e)
+      (Contains-from_in (map s.rename (targets g a)) (s.rename b) (In-map s.rename (targets g a) b (In-from_contains (targets g a) b c))))
 
   module _ (k : Heap) (t : SameGraph h k) where
     -- the copy's copy is a copy

@@ -81,7 +81,8 @@ module _ (i : Image) (valid : IsBuilt i.heap) (image : IsImage i) (words : List 
       let few = length-filter-le (λ c. not (card_in i.heap (unnamed_regions i.heap) c)) (remembered_of i r) in
       record {
         rising = IsStrictlyIncreasing-filter (λ c. not (card_in i.heap (unnamed_regions i.heap) c)) (remembered_of i r) s.rising;
-        elsewhere = λ k d less. staying_card r (get_or (staying i r) k d) lt (In-from_contains (staying i r) (get_or (staying i r) k d) (k, less, get_or_default (staying i r) k (get_or (staying i r) k d) d less));
+        elsewhere = λ k d less. staying_card r (get_or (staying i r) k d) lt (In-from_contains (staying i r) (get_or (staying i r) k d)
+            (k, less, get_or_default (staying i r) k (get_or (staying i r) k d) d less));
         count = let c = s.count in omega arith;
         owner = λ some. subst MayHoldCards (sym (same_shape i.heap valid words table left r lt f).0) (s.owner (omega arith));
       }

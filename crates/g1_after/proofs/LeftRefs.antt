@@ -95,7 +95,8 @@ module _ (h : Heap) (valid : IsBuilt h) (words : List ℕ) (table : List Region)
       let header : in_set h (unnamed_regions h) o.0.at ≡ false = sym (slot_with_header h valid o.0 p.0 (Contains-from_in (objects h) o.0 o.1) p.1) ∙ there in
       let w : word (with_parts h words table) p.0 ≡ word h p.0 = left.stays p.0 there in
       let here : In (refs_at (with_parts h words table) p.0) e = subst (λ y. In (map (λ a. record { slot = p.0; target = a }) (named y)) e) (sym w) p.2 in
-      In-flat_map (λ o. flat_map (refs_at (with_parts h words table)) (slots o)) (objects (with_parts h words table)) o.0 e (object_left h valid words table left o.0 o.1 header) (In-flat_map (refs_at (with_parts h words table)) (slots o.0) p.0 e p.1 here)
+      In-flat_map (λ o. flat_map (refs_at (with_parts h words table)) (slots o)) (objects (with_parts h words table)) o.0 e
+      (object_left h valid words table left o.0 o.1 header) (In-flat_map (refs_at (with_parts h words table)) (slots o.0) p.0 e p.1 here)
 
   refs_is : (e : Ref) → Contains (refs (with_parts h words table)) e ↔ (Contains (refs h) e × IsFalse (in_set h (unnamed_regions h) e.slot))
   refs_is e = (

@@ -31,7 +31,8 @@ module _ (h : Heap) (valid : IsBuilt h) where
   -- the object of a run
   run_head : (r : ℕ) → r < h.geometry.n → kind h r ≡ HumongousFirst → BeginsRun h r → Contains (objects h) (object_at h (r * h.geometry.w))
   run_head r lt two s =
-      Contains-from_in (objects h) (object_at h (r * h.geometry.w)) (In-flat_map (objects_in h) (regions h) r (object_at h (r * h.geometry.w)) (In-range 0 h.geometry.n r (omega arith) (omega (arith, lt))) (run_object h (w_pos h valid) r two s))
+      Contains-from_in (objects h) (object_at h (r * h.geometry.w)) (In-flat_map (objects_in h) (regions h) r (object_at h (r * h.geometry.w))
+      (In-range 0 h.geometry.n r (omega arith) (omega (arith, lt))) (run_object h (w_pos h valid) r two s))
 
   -- the regions of a run are freed together, or none is
   run_together : (r q : ℕ) → r < h.geometry.n → kind h r ≡ HumongousFirst → BeginsRun h r → q * h.geometry.w < (object_at h (r * h.geometry.w)).size
@@ -131,7 +132,8 @@ module _ (h : Heap) (valid : IsBuilt h) (words : List ℕ) (table : List Region)
   pub stands_left : (a : ℕ) → Contains (objects h) (object_at h a) → in_set h (unnamed_regions h) a ≡ false → Contains (objects (with_parts h words table)) (object_at (with_parts h words table) a)
   stands_left a c out =
       Contains-from_in (objects (with_parts h words table)) (object_at (with_parts h words table) a)
-      (subst (λ (o : Object). In (objects (with_parts h words table)) o) (sym (header_same h valid words table left a out)) (object_left h valid words table left (object_at h a) (In-from_contains (objects h) (object_at h a) c) out))
+      (subst (λ (o : Object). In (objects (with_parts h words table)) o) (sym (header_same h valid words table left a out))
+      (object_left h valid words table left (object_at h a) (In-from_contains (objects h) (object_at h a) c) out))
 
   -- what a slot names stands there still
   slot_left : (e : Ref) → Contains (refs (with_parts h words table)) e → Contains (objects (with_parts h words table)) (object_at (with_parts h words table) e.target)

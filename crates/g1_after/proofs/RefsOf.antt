@@ -40,7 +40,15 @@ slot_of h e c =
     let slot : p.0 ≡ e.slot = ap (λ (x : Ref). x.slot) q.2 in
     let goal : q.0 ≡ e.target = ap (λ (x : Ref). x.target) q.2 in
     let b = range_bounds (o.0.at + 1) o.0.refs p.0 p.1 in
-    record { owner = o.0; is_one = o.1; m = e.slot - o.0.at; above = omega arith; within = omega arith; at = omega arith; names = ap (word h) (sym slot) ∙ named_suc (word h p.0) q.0 q.1 ∙ ap suc goal }
+    record {
+      owner = o.0;
+      is_one = o.1;
+      m = e.slot - o.0.at;
+      above = omega arith;
+      within = omega arith;
+      at = omega arith;
+      names = ap (word h) (sym slot) ∙ named_suc (word h p.0) q.0 q.1 ∙ ap suc goal;
+    }
 
 -- a slot of an object that names an address is a reference
 pub ref_of : (h : Heap) (e : Ref) → SlotOf h e → In (refs h) e

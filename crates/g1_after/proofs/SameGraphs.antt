@@ -1,5 +1,6 @@
 -- After a pause the roots read the same graph, and nothing leads into the set.
-use Rattle.std.proofs.Common.{◌≡◌, ℕ, zero, suc, ◌+◌, ◌-◌, ◌<◌, ◌≤◌, ◌⊎◌, inl, inr, Bool, true, false, not, ◌&&◌, List, [], ◌∷◌, ◌++◌, length, get_or, map, filter, flat_map, Contains, refl, sym, ◌∙◌, ap, subst, arith, add-zero}
+use Rattle.std.proofs.Common.{◌≡◌, ℕ, zero, suc, ◌+◌, ◌-◌, ◌<◌, ◌≤◌, ◌⊎◌, inl, inr, Bool, true, false, not, ◌&&◌, List, [], ◌∷◌, ◌++◌, length, get_or, map, filter, flat_map, Contains, refl}
+use Rattle.std.proofs.Common.{sym, ◌∙◌, ap, subst, arith, add-zero}
 use Rattle.std.specs.List.{range_with_len}
 use Rattle.std.proofs.lemmas.Bool.{cases_Bool, false≢true}
 use Rattle.std.proofs.lemmas.List.{map-append, length-map, get_or-map, get_or_append_left}
@@ -17,7 +18,8 @@ use Rattle.g1_words.specs.Copy.{renamed, words_at, renamed_words, IsCopy}
 use Rattle.g1_after.specs.Moved.{IsMoved}
 use Rattle.g1_words.specs.Graph.{SameGraph}
 use Rattle.g1_words.proofs.Sound.{IsSound}
-use Rattle.g1_words.proofs.Members.{In, In-from_contains, Contains-from_in, In-append_left, In-append_right, In-append_cases, In-flat_map, flat_map_cases, In-map, map_cases, In-filter, filter_member, in_from_has}
+use Rattle.g1_words.proofs.Members.{In, In-from_contains, Contains-from_in, In-append_left, In-append_right, In-append_cases, In-flat_map, flat_map_cases, In-map, map_cases, In-filter}
+use Rattle.g1_words.proofs.Members.{filter_member, in_from_has}
 use Rattle.g1_words.proofs.OneToOne.{target_in_refs, kept_object, forward_one_to_one, survivor_to_free, outside_stays}
 use Rattle.g1_after.proofs.Determined.{word_from_copy}
 use Rattle.g1_after.proofs.ToSpace.{object_copied}
@@ -48,7 +50,8 @@ module _ (h : Heap) (set l : List ℕ) (sound : IsSound h) (ordinary : AllOrdina
       let passes : (in_set h set b && not (in_set h set p.0)) ≡ true = both (in_set h set b) (in_set h set p.0) inb away in
       Contains-from_in (seeds h set) b
       (In-append_right (filter (in_set h set) (root_targets h)) (map (λ e. e.target) (filter (λ e. in_set h set e.target && not (in_set h set e.slot)) (refs h))) b
-      (In-map (λ (e : Ref). e.target) (filter (λ e. in_set h set e.target && not (in_set h set e.slot)) (refs h)) e (In-filter (λ (e : Ref). in_set h set e.target && not (in_set h set e.slot)) (refs h) e er passes)))
+      (In-map (λ (e : Ref). e.target) (filter (λ e. in_set h set e.target && not (in_set h set e.slot)) (refs h)) e
+      (In-filter (λ (e : Ref). in_set h set e.target && not (in_set h set e.slot)) (refs h) e er passes)))
     where
       in_set_of : ℕ → Bool
       in_set_of r = has set r
@@ -61,7 +64,8 @@ module _ (h : Heap) (set l : List ℕ) (sound : IsSound h) (ordinary : AllOrdina
   -- what the roots reach in the set is found
   pub live_found : (a : ℕ) → Live h a → in_set h set a ≡ true → Reached (seeds h set) (children h set) a
   live_found a (seed c) t =
-      seed (Contains-from_in (seeds h set) a (In-append_left (filter (in_set h set) (root_targets h)) (map (λ e. e.target) (filter (λ e. in_set h set e.target && not (in_set h set e.slot)) (refs h))) a
+      seed (Contains-from_in (seeds h set) a (In-append_left (filter (in_set h set) (root_targets h))
+      (map (λ e. e.target) (filter (λ e. in_set h set e.target && not (in_set h set e.slot)) (refs h))) a
       (In-filter (in_set h set) (root_targets h) a (In-from_contains (root_targets h) a c) t)))
   live_found b (child {a = a} r c) t =
       elim (cases_Bool (in_set h set a)) [
@@ -72,7 +76,8 @@ module _ (h : Heap) (set l : List ℕ) (sound : IsSound h) (ordinary : AllOrdina
   pub live_kept : (a : ℕ) → Live h a → Contains (kept h set l) (object_at h a)
   live_kept a r =
       Contains-from_in (kept h set l) (object_at h a) (elim (cases_Bool (in_set h set a)) [
-        | inl t ↦ In-append_right (filter (λ o. not (in_set h set o.at)) (objects h)) (map (object_at h) l) (object_at h a) (In-map (object_at h) l a (In-from_contains l a ((survivors.reached a).1 (live_found a r t))))
+        | inl t ↦ In-append_right (filter (λ o. not (in_set h set o.at)) (objects h)) (map (object_at h) l) (object_at h a)
+            (In-map (object_at h) l a (In-from_contains l a ((survivors.reached a).1 (live_found a r t))))
         | inr f ↦ In-append_left (filter (λ o. not (in_set h set o.at)) (objects h)) (map (object_at h) l) (object_at h a)
             (In-filter (λ (o : Object). not (in_set h set o.at)) (objects h) (object_at h a) (In-from_contains (objects h) (object_at h a) (live_object a r)) (ap not f))
       ])
@@ -106,7 +111,8 @@ module _ (h : Heap) (set l : List ℕ) (sound : IsSound h) (ordinary : AllOrdina
           | inl t ↦ elim (cases_Bool (in_set h set (forward h l b))) [
             | inr out ↦ out
             | inl u ↦
-                let one : kind h (region_of h (forward h l b)) ≡ Ordinary = ordinary (region_of h (forward h l b)) (Contains-from_in set (region_of h (forward h l b)) (in_from_has set (region_of h (forward h l b)) u)) in
+                let one : kind h (region_of h (forward h l b)) ≡ Ordinary = ordinary (region_of h (forward h l b))
+                (Contains-from_in set (region_of h (forward h l b)) (in_from_has set (region_of h (forward h l b)) u)) in
                 let none : kind h (region_of h (forward h l b)) ≡ Free = survivor_to_free h set l sound ordinary survivors room b (f t) in
                 let clash : Ordinary ≡ Free = sym one ∙ none in cc
           ]
@@ -151,7 +157,8 @@ pub roots_renamed : (f : ℕ → ℕ) (xs : List ℕ) → flat_map named (map (r
 roots_renamed f [] = refl
 roots_renamed f (x ∷ xs) = (λ t. named_renamed f x t ++ roots_renamed f xs t) ∙ sym (map-append f (named x) (flat_map named xs))
 
-module _ (i : Image) (set l : List ℕ) (j : Image) (sound : IsSound i.heap) (ordinary : AllOrdinary i.heap set) (survivors : Survivors i.heap set l) (room : need i.heap l ≤ length (free_regions i.heap)) (moved : IsMoved i set l j) where
+module _ (i : Image) (set l : List ℕ) (j : Image) (sound : IsSound i.heap) (ordinary : AllOrdinary i.heap set) (survivors : Survivors i.heap set l)
+    (room : need i.heap l ≤ length (free_regions i.heap)) (moved : IsMoved i set l j) where
   pub no_root_into_set : (b : ℕ) → Contains (root_targets j.heap) b → in_set i.heap set b ≡ false
   no_root_into_set b c =
       let f : ℕ → ℕ = forward i.heap l in
@@ -167,7 +174,8 @@ module _ (i : Image) (set l : List ℕ) (j : Image) (sound : IsSound i.heap) (or
       let fits : o.refs < o.size = sound.slots_fit o (kept_object i.heap set l sound ordinary survivors room o (In-from_contains (kept i.heap set l) o co)) in
       let f : ℕ → ℕ = forward i.heap l in
       let e = copy_targets f i.heap j.heap o (moved.copies o co) fits in
-      let m = map_cases f (flat_map (λ p. named (word i.heap p)) (slots o)) b (subst (λ xs. In xs b) e (In-from_contains (flat_map (λ p. named (word j.heap p)) (range_with_len (f o.at + 1) o.refs)) b c)) in
+      let m = map_cases f (flat_map (λ p. named (word i.heap p)) (slots o)) b
+      (subst (λ xs. In xs b) e (In-from_contains (flat_map (λ p. named (word j.heap p)) (range_with_len (f o.at + 1) o.refs)) b c)) in
       let away : in_set i.heap set (f m.0) ≡ false = away_from_set i.heap set l sound ordinary survivors room m.0
       (λ t. named_survives i.heap set l sound ordinary survivors o m.0 (In-from_contains (kept i.heap set l) o co) m.1 t) in
       subst (λ x. in_set i.heap set x ≡ false) m.2 away

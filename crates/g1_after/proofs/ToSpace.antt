@@ -1,5 +1,6 @@
 -- The objects of a region of to-space after a pause: the survivors placed there, in order.
-use Rattle.std.proofs.Common.{◌≡◌, ℕ, zero, suc, ◌+◌, ◌-◌, ◌*◌, ◌/◌, ◌%◌, ◌^◌, ◌<◌, ◌≤◌, ◌⊎◌, inl, inr, Bool, true, false, cond, not, List, [], ◌∷◌, ◌++◌, length, get_or, map, filter, zip, fold, max, Contains, refl, sym, ◌∙◌, ap, subst, arith, leb, leb-true, le-leb, eqb, eqb-true, eq-eqb, ne_eqb}
+use Rattle.std.proofs.Common.{◌≡◌, ℕ, zero, suc, ◌+◌, ◌-◌, ◌*◌, ◌/◌, ◌%◌, ◌^◌, ◌<◌, ◌≤◌, ◌⊎◌, inl, inr, Bool, true, false, cond, not, List, [], ◌∷◌, ◌++◌, length, get_or, map, filter, zip}
+use Rattle.std.proofs.Common.{fold, max, Contains, refl, sym, ◌∙◌, ap, subst, arith, leb, leb-true, le-leb, eqb, eqb-true, eq-eqb, ne_eqb}
 use Rattle.std.proofs.Common.{flat_map}
 use Rattle.std.proofs.lemmas.Bool.{cases_lt, false≢true}
 use Rattle.std.proofs.Math.Nat.{mul-le-mul_right, div-mul-le_self}
@@ -84,14 +85,16 @@ module _ (h j : Heap) (pos : 0 < h.geometry.w) (f : ℕ → ℕ) where
     pub same_region : (p : ℕ) → p / h.geometry.w < length (free_regions h) → eqb (row_address h p / h.geometry.w) region_at ≡ eqb (p / h.geometry.w) t
     same_region p lt = go (eqb (p / h.geometry.w) t) (eqb (row_address h p / h.geometry.w) region_at) refl refl
       where
-        go : (b c : Bool) → eqb (p / h.geometry.w) t ≡ b → eqb (row_address h p / h.geometry.w) (get_or (free_regions h) t 0) ≡ c → eqb (row_address h p / h.geometry.w) (get_or (free_regions h) t 0) ≡ eqb (p / h.geometry.w) t
+        go : (b c : Bool) → eqb (p / h.geometry.w) t ≡ b → eqb (row_address h p / h.geometry.w) (get_or (free_regions h) t 0) ≡ c →
+            eqb (row_address h p / h.geometry.w) (get_or (free_regions h) t 0) ≡ eqb (p / h.geometry.w) t
         go true true e g = g ∙ sym e
         go false false e g = g ∙ sym e
         go true false e g =
             let k : row_address h p / h.geometry.w ≡ get_or (free_regions h) t 0 = region_of_row h pos p ∙ ap (λ x. get_or (free_regions h) x 0) (eqb-true (p / h.geometry.w) t e) in
             eq-eqb (row_address h p / h.geometry.w) (get_or (free_regions h) t 0) k ∙ sym e
         go false true e g =
-            let k : get_or (free_regions h) (p / h.geometry.w) 0 ≡ get_or (free_regions h) t 0 = sym (region_of_row h pos p) ∙ eqb-true (row_address h p / h.geometry.w) (get_or (free_regions h) t 0) g in
+            let k : get_or (free_regions h) (p / h.geometry.w) 0 ≡ get_or (free_regions h) t 0 =
+            sym (region_of_row h pos p) ∙ eqb-true (row_address h p / h.geometry.w) (get_or (free_regions h) t 0) g in
             let m : p / h.geometry.w ≡ t = distinct_places (free_regions h) (p / h.geometry.w) t 0 (free_distinct h pos) lt here k in
             g ∙ sym (eq-eqb (p / h.geometry.w) t m)
 
@@ -101,12 +104,14 @@ module _ (h j : Heap) (pos : 0 < h.geometry.w) (f : ℕ → ℕ) where
     placed_at a p s F G false e g o rest = rest
     placed_at a p s F G true e g o rest =
         let q : p / h.geometry.w ≡ t = eqb-true (p / h.geometry.w) t e in
-        let head : object_at j (region_at * h.geometry.w + p % h.geometry.w) ≡ moved_object f (object_at h a) = (λ i. object_at j (get_or (free_regions h) (sym q i) 0 * h.geometry.w + p % h.geometry.w)) ∙ (λ i. object_at j (sym g i)) ∙ o in
+        let head : object_at j (region_at * h.geometry.w + p % h.geometry.w) ≡ moved_object f (object_at h a) =
+        (λ i. object_at j (get_or (free_regions h) (sym q i) 0 * h.geometry.w + p % h.geometry.w)) ∙ (λ i. object_at j (sym g i)) ∙ o in
         λ i. head i ∷ rest i
 
     -- the list of what is laid into the region is the list of the survivors that go there
     pub placed : (l ps : List ℕ) → Paired h j f l ps
-        → map (λ x. object_at j (region_at * h.geometry.w + x.0)) (placed_in h.geometry.w t (zip ps (sizes_of h l))) ≡ map (λ a. moved_object f (object_at h a)) (filter (λ a. eqb (f a / h.geometry.w) region_at) l)
+        → map (λ x. object_at j (region_at * h.geometry.w + x.0)) (placed_in h.geometry.w t (zip ps (sizes_of h l)))
+        ≡ map (λ a. moved_object f (object_at h a)) (filter (λ a. eqb (f a / h.geometry.w) region_at) l)
     placed [] [] k = refl
     placed [] (p ∷ ps) k = absurd k
     placed (a ∷ l) [] k = absurd k
@@ -127,7 +132,8 @@ module _ (h j : Heap) (pos : 0 < h.geometry.w) (f : ℕ → ℕ) where
         λ i. head i ∷ rest i
 
     pub ends : (l ps : List ℕ) → Paired h j f l ps
-        → map (λ x. x.0 + x.1 - region_at * h.geometry.w) (filter (λ x. eqb (x.0 / h.geometry.w) region_at) (zip (map (row_address h) ps) (sizes_of h l))) ≡ map (λ x. x.0 + x.1) (placed_in h.geometry.w t (zip ps (sizes_of h l)))
+        → map (λ x. x.0 + x.1 - region_at * h.geometry.w) (filter (λ x. eqb (x.0 / h.geometry.w) region_at)
+        (zip (map (row_address h) ps) (sizes_of h l))) ≡ map (λ x. x.0 + x.1) (placed_in h.geometry.w t (zip ps (sizes_of h l)))
     ends [] [] k = refl
     ends [] (p ∷ ps) k = absurd k
     ends (a ∷ l) [] k = absurd k
@@ -143,7 +149,8 @@ module _ (h j : Heap) (pos : 0 < h.geometry.w) (f : ℕ → ℕ) where
     headers_at a p F true e g o rest x (inr k) = rest x k
     headers_at a p F true e g o rest x (inl k) =
         let q : p / h.geometry.w ≡ t = eqb-true (p / h.geometry.w) t e in
-        let head : (object_at j (region_at * h.geometry.w + p % h.geometry.w)).size ≡ (object_at h a).size = (λ i. (object_at j (get_or (free_regions h) (sym q i) 0 * h.geometry.w + p % h.geometry.w)).size) ∙ (λ i. (object_at j (sym g i)).size) ∙ ap (λ (x : Object). x.size) o in
+        let head : (object_at j (region_at * h.geometry.w + p % h.geometry.w)).size ≡ (object_at h a).size =
+        (λ i. (object_at j (get_or (free_regions h) (sym q i) 0 * h.geometry.w + p % h.geometry.w)).size) ∙ (λ i. (object_at j (sym g i)).size) ∙ ap (λ (x : Object). x.size) o in
         subst (λ (y : ℕ × ℕ). (object_at j (region_at * h.geometry.w + y.0)).size ≡ y.1) k head
 
     pub headers : (l ps : List ℕ) → Paired h j f l ps → (x : ℕ × ℕ) → In (placed_in h.geometry.w t (zip ps (sizes_of h l))) x → (object_at j (region_at * h.geometry.w + x.0)).size ≡ x.1
@@ -160,7 +167,10 @@ module _ (w : ℕ) (pos : 0 < w) where
       → t * w < laid_end w (cond b (u * w + o) (suc u * w) + s) ss
       → (u < t → o + s ≤ w → t * w < laid_end w (u * w + (o + s)) ss → 0 < length (laid_in w t u (o + s) ss))
       → (suc u < t → t * w < laid_end w (suc u * w + s) ss → 0 < length (laid_in w t (suc u) s ss))
-      → 0 < length (elim b as (λ _. List (ℕ × ℕ)) [ true ↦ cond (eqb u t) ((o, s) ∷ laid_in w t u (o + s) ss) (laid_in w t u (o + s) ss) | false ↦ cond (eqb (suc u) t) ((0, s) ∷ laid_in w t (suc u) s ss) (laid_in w t (suc u) s ss) ])
+      → 0 < length (elim b as (λ _. List (ℕ × ℕ)) [
+        | true ↦ cond (eqb u t) ((o, s) ∷ laid_in w t u (o + s) ss) (laid_in w t u (o + s) ss)
+        | false ↦ cond (eqb (suc u) t) ((0, s) ∷ laid_in w t (suc u) s ss) (laid_in w t (suc u) s ss)
+      ])
   used_at t u o s ss le p q (inl lt) true e m here next =
       let n : eqb u t ≡ false = ne_eqb u t (omega arith) in
       let sum : u * w + o + s ≡ u * w + (o + s) = omega arith in
@@ -199,7 +209,8 @@ chain_tiled j base o (x ∷ xs) end c f g =
       subst (λ y. IsTiled j y (map (λ x. object_at j (base + x.0)) xs) (base + end)) next (chain_tiled j base (o + x.1) xs end c.1 (λ y k. f y (inr k)) (λ y k. g y (inr k))),
     )
 
-module _ (i : Image) (set l : List ℕ) (j : Image) (sound : IsSound i.heap) (ordinary : AllOrdinary i.heap set) (survivors : Survivors i.heap set l) (room : need i.heap l ≤ length (free_regions i.heap)) (moved : IsMoved i set l j) where
+module _ (i : Image) (set l : List ℕ) (j : Image) (sound : IsSound i.heap) (ordinary : AllOrdinary i.heap set) (survivors : Survivors i.heap set l)
+    (room : need i.heap l ≤ length (free_regions i.heap)) (moved : IsMoved i set l j) where
   pub survivors_distinct : Distinct l
   survivors_distinct = subst Distinct (sym survivors.in_order) (Distinct-firsts (seeds i.heap set ++ flat_map (children i.heap set) l))
 
@@ -211,7 +222,8 @@ module _ (i : Image) (set l : List ℕ) (j : Image) (sound : IsSound i.heap) (or
   object_copied o k c e =
       let f : ℕ → ℕ = forward i.heap l in
       let pos : o.refs < o.size = sound.slots_fit o c in
-      let w : word j.heap (f o.at) ≡ get_or (renamed_words f i.heap o) (f o.at - f o.at) 0 = word_from_copy f i.heap j.heap o (f o.at) (moved.copies o (Contains-from_in (kept i.heap set l) o k)) (omega arith) (omega arith) in
+      let w : word j.heap (f o.at) ≡ get_or (renamed_words f i.heap o) (f o.at - f o.at) 0 =
+      word_from_copy f i.heap j.heap o (f o.at) (moved.copies o (Contains-from_in (kept i.heap set l) o k)) (omega arith) (omega arith) in
       let z : f o.at - f o.at ≡ 0 = omega arith in
       let same : word j.heap (f o.at) ≡ word i.heap o.at = w ∙ ap (λ m. get_or (renamed_words f i.heap o) m 0) z in
       (λ t. record { at = f o.at; size = same t / 2 ^ 32; refs = same t % 2 ^ 32 }) ∙ ap (λ (x : Object). moved_object f x) (sym e)
@@ -261,7 +273,8 @@ module _ (i : Image) (set l : List ℕ) (j : Image) (sound : IsSound i.heap) (or
     placed_same : placed_in i.heap.geometry.w t (zip (laid i.heap.geometry.w 0 (sizes_of i.heap l)) (sizes_of i.heap l)) ≡ laid_in i.heap.geometry.w t 0 0 (sizes_of i.heap l)
     placed_same =
         let z : 0 ≡ 0 * i.heap.geometry.w + 0 = omega arith in
-        ap (λ x. placed_in i.heap.geometry.w t (zip (laid i.heap.geometry.w x (sizes_of i.heap l)) (sizes_of i.heap l))) z ∙ placed_is_laid i.heap.geometry.w sound.w_positive t 0 0 (sizes_of i.heap l) (omega arith) row_fits
+        ap (λ x. placed_in i.heap.geometry.w t (zip (laid i.heap.geometry.w x (sizes_of i.heap l)) (sizes_of i.heap l))) z
+        ∙ placed_is_laid i.heap.geometry.w sound.w_positive t 0 0 (sizes_of i.heap l) (omega arith) row_fits
 
     abbrev row : List (ℕ × ℕ)
     row = laid_in i.heap.geometry.w t 0 0 (sizes_of i.heap l)
@@ -274,7 +287,8 @@ module _ (i : Image) (set l : List ℕ) (j : Image) (sound : IsSound i.heap) (or
 
     row_of_spots : (x : ℕ × ℕ) → In row x → (0 < x.1) × (x.0 + x.1 ≤ i.heap.geometry.w)
     row_of_spots x k =
-        let m = map_cases (offset_of i.heap.geometry.w) (filter (λ x. eqb (x.0 / i.heap.geometry.w) t) (zip (laid i.heap.geometry.w 0 (sizes_of i.heap l)) (sizes_of i.heap l))) x (subst (λ xs. In xs x) (sym placed_same) k) in
+        let m = map_cases (offset_of i.heap.geometry.w) (filter (λ x. eqb (x.0 / i.heap.geometry.w) t)
+        (zip (laid i.heap.geometry.w 0 (sizes_of i.heap l)) (sizes_of i.heap l))) x (subst (λ xs. In xs x) (sym placed_same) k) in
         let y = (filter_member (λ (x : ℕ × ℕ). eqb (x.0 / i.heap.geometry.w) t) (zip (laid i.heap.geometry.w 0 (sizes_of i.heap l)) (sizes_of i.heap l)) m.0 m.1).0 in
         subst (λ (x : ℕ × ℕ). (0 < x.1) × (x.0 + x.1 ≤ i.heap.geometry.w)) m.2 (spot_fits i.heap.geometry.w sound.w_positive 0 (sizes_of i.heap l) row_fits m.0 y)
 
@@ -303,13 +317,15 @@ module _ (i : Image) (set l : List ℕ) (j : Image) (sound : IsSound i.heap) (or
       where
         reached : t * i.heap.geometry.w < laid_end i.heap.geometry.w 0 (sizes_of i.heap l)
         reached =
-            let d : need i.heap l * i.heap.geometry.w ≤ laid_end i.heap.geometry.w 0 (sizes_of i.heap l) + (i.heap.geometry.w - 1) = div-mul-le_self (laid_end i.heap.geometry.w 0 (sizes_of i.heap l) + (i.heap.geometry.w - 1)) i.heap.geometry.w in
+            let d : need i.heap l * i.heap.geometry.w ≤ laid_end i.heap.geometry.w 0 (sizes_of i.heap l) + (i.heap.geometry.w - 1) =
+            div-mul-le_self (laid_end i.heap.geometry.w 0 (sizes_of i.heap l) + (i.heap.geometry.w - 1)) i.heap.geometry.w in
             let k : suc t * i.heap.geometry.w ≤ need i.heap l * i.heap.geometry.w = mul-le-mul_right i.heap.geometry.w (omega arith) in
             let p = sound.w_positive in
             omega arith
 
     row_objects : map (λ x. object_at j.heap (goal_region * i.heap.geometry.w + x.0)) row ≡ placed_there i.heap l goal_region
-    row_objects = ap (map (λ x. object_at j.heap (goal_region * i.heap.geometry.w + x.0))) (sym placed_same) ∙ placed i.heap j.heap sound.w_positive (forward i.heap l) t there l (laid i.heap.geometry.w 0 (sizes_of i.heap l)) all_paired
+    row_objects = ap (map (λ x. object_at j.heap (goal_region * i.heap.geometry.w + x.0))) (sym placed_same)
+        ∙ placed i.heap j.heap sound.w_positive (forward i.heap l) t there l (laid i.heap.geometry.w 0 (sizes_of i.heap l)) all_paired
 
     -- the objects of a to-space region are the survivors placed there, in order, at their places
     pub to_space_objects : objects_in j.heap goal_region ≡ placed_there i.heap l goal_region
@@ -326,13 +342,15 @@ module _ (i : Image) (set l : List ℕ) (j : Image) (sound : IsSound i.heap) (or
         ∙ row_objects
 
     -- and they fill it up to its top
-    pub to_space_tiled : ((o : Object) → In (objects_in j.heap goal_region) o → IsPlain j.heap o) → IsTiled j.heap (goal_region * j.heap.geometry.w) (objects_in j.heap goal_region) (goal_region * j.heap.geometry.w + top j.heap goal_region)
+    pub to_space_tiled : ((o : Object) → In (objects_in j.heap goal_region) o → IsPlain j.heap o) →
+        IsTiled j.heap (goal_region * j.heap.geometry.w) (objects_in j.heap goal_region) (goal_region * j.heap.geometry.w + top j.heap goal_region)
     to_space_tiled f =
         let base : ℕ = goal_region * i.heap.geometry.w in
         let z : base + 0 ≡ base = omega arith in
         let os : map (λ x. object_at j.heap (base + x.0)) row ≡ objects_in j.heap goal_region = row_objects ∙ sym to_space_objects in
         let t : IsTiled j.heap (base + 0) (map (λ x. object_at j.heap (base + x.0)) row) (base + end) =
-        chain_tiled j.heap base 0 row end chain row_headers (λ x k. f (object_at j.heap (base + x.0)) (subst (λ xs. In xs (object_at j.heap (base + x.0))) os (In-map (λ (x : ℕ × ℕ). object_at j.heap (base + x.0)) row x k))) in
+        chain_tiled j.heap base 0 row end chain row_headers (λ x k. f (object_at j.heap (base + x.0))
+        (subst (λ xs. In xs (object_at j.heap (base + x.0))) os (In-map (λ (x : ℕ × ℕ). object_at j.heap (base + x.0)) row x k))) in
         subst (λ y. IsTiled j.heap (goal_region * y) (objects_in j.heap goal_region) (goal_region * y + top j.heap goal_region)) (sym (ap (λ (g : Geometry). g.w) moved.geometry))
         (subst (λ y. IsTiled j.heap base (objects_in j.heap goal_region) (base + y)) (sym goal_end)
         (subst (λ xs. IsTiled j.heap base xs (base + end)) os (subst (λ y. IsTiled j.heap y (map (λ x. object_at j.heap (base + x.0)) row) (base + end)) z t)))

@@ -1,5 +1,6 @@
 -- The image after keeps the rules of a valid heap.
-use Rattle.std.proofs.Common.{◌≡◌, ◌≢◌, ℕ, suc, ◌+◌, ◌-◌, ◌*◌, ◌/◌, ◌%◌, ◌^◌, ◌<◌, ◌≤◌, ◌⊎◌, inl, inr, true, false, List, length, get_or, filter, flat_map, min, Contains, refl, sym, ◌∙◌, ap, subst, arith, eqb, add-zero}
+use Rattle.std.proofs.Common.{◌≡◌, ◌≢◌, ℕ, suc, ◌+◌, ◌-◌, ◌*◌, ◌/◌, ◌%◌, ◌^◌, ◌<◌, ◌≤◌, ◌⊎◌, inl, inr, true, false, List, length, get_or, filter, flat_map, min, Contains, refl, sym, ◌∙◌, ap}
+use Rattle.std.proofs.Common.{subst, arith, eqb, add-zero}
 use Rattle.std.proofs.lemmas.Bool.{cases_Bool, cases_lt, false≢true}
 use Rattle.std.proofs.lemmas.Nat.{div-mul-add}
 use Rattle.std.proofs.Math.Nat.{mul-le-mul_right}
@@ -29,7 +30,8 @@ use Rattle.g1_words.specs.declared.region.Kind.{Kind}
 use Rattle.g1_words.specs.declared.region.Kind.TheVariants.{Continuation, Free, HumongousFirst, Ordinary}
 use Rattle.g1_words.specs.declared.region.Region.{Region}
 
-module _ (i : Image) (set l : List ℕ) (j : Image) (valid : IsBuilt i.heap) (ordinary : AllOrdinary i.heap set) (survivors : Survivors i.heap set l) (room : need i.heap l ≤ length (free_regions i.heap)) (moved : IsMoved i set l j) where
+module _ (i : Image) (set l : List ℕ) (j : Image) (valid : IsBuilt i.heap) (ordinary : AllOrdinary i.heap set) (survivors : Survivors i.heap set l)
+    (room : need i.heap l ≤ length (free_regions i.heap)) (moved : IsMoved i set l j) where
   pub sound_before : IsSound i.heap
   sound_before = built_is_sound i.heap valid
 
@@ -38,7 +40,8 @@ module _ (i : Image) (set l : List ℕ) (j : Image) (valid : IsBuilt i.heap) (or
   survivor_plain a k =
       let o : Object = object_at i.heap a in
       let m = home i.heap valid o (survivor_object i set l j sound_before ordinary survivors room moved a k) in
-      let one : kind i.heap (region_of i.heap a) ≡ Ordinary = ordinary (region_of i.heap a) (Contains-from_in set (region_of i.heap a) (in_from_has set (region_of i.heap a) (survivor_in_set i.heap set l sound_before ordinary survivors room a k))) in
+      let one : kind i.heap (region_of i.heap a) ≡ Ordinary = ordinary (region_of i.heap a)
+      (Contains-from_in set (region_of i.heap a) (in_from_has set (region_of i.heap a) (survivor_in_set i.heap set l sound_before ordinary survivors room a k))) in
       let at : region_of i.heap a ≡ m.0 = home_region i.heap valid m.0 o m.2 in
       let one' : kind i.heap m.0 ≡ Ordinary = ap (kind i.heap) (sym at) ∙ one in
       elim m.2.2 [ inl x ↦ x.plain | inr x ↦ let clash : HumongousFirst ≡ Ordinary = sym x.kind ∙ one' in cc ]
@@ -48,7 +51,8 @@ module _ (i : Image) (set l : List ℕ) (j : Image) (valid : IsBuilt i.heap) (or
 
   -- a word of a kept object outside the set lies in a used region that isn't in the set
   pub outside_word : (k : Object) (m : ℕ) → In (objects i.heap) k → in_set i.heap set k.at ≡ false → m < k.size
-      → (region_of i.heap (k.at + m) < i.heap.geometry.n) × (kind i.heap (region_of i.heap (k.at + m)) ≢ Free) × (k.at + m < region_of i.heap (k.at + m) * i.heap.geometry.w + top i.heap (region_of i.heap (k.at + m))) × (has set (region_of i.heap (k.at + m)) ≡ false)
+      → (region_of i.heap (k.at + m) < i.heap.geometry.n) × (kind i.heap (region_of i.heap (k.at + m)) ≢ Free)
+      × (k.at + m < region_of i.heap (k.at + m) * i.heap.geometry.w + top i.heap (region_of i.heap (k.at + m))) × (has set (region_of i.heap (k.at + m)) ≡ false)
   outside_word k m c out lt =
       let s = home i.heap valid k (Contains-from_in (objects i.heap) k c) in
       let u = word_used i.heap valid s.0 k m s.2 lt in (
@@ -58,7 +62,8 @@ module _ (i : Image) (set l : List ℕ) (j : Image) (valid : IsBuilt i.heap) (or
         elim (cases_Bool (has set (region_of i.heap (k.at + m)))) [
           | inr f ↦ f
           | inl t ↦
-              let one : kind i.heap (region_of i.heap (k.at + m)) ≡ Ordinary = ordinary (region_of i.heap (k.at + m)) (Contains-from_in set (region_of i.heap (k.at + m)) (in_from_has set (region_of i.heap (k.at + m)) t)) in
+              let one : kind i.heap (region_of i.heap (k.at + m)) ≡ Ordinary = ordinary (region_of i.heap (k.at + m))
+              (Contains-from_in set (region_of i.heap (k.at + m)) (in_from_has set (region_of i.heap (k.at + m)) t)) in
               let w = word_in_ordinary i.heap valid s.0 k m s.2 lt one in
               let same : region_of i.heap (k.at + m) ≡ region_of i.heap k.at = w.1 ∙ sym (home_region i.heap valid s.0 k s.2) in
               absurd (false≢true (sym out ∙ ap (has set) (sym same) ∙ t))
@@ -96,7 +101,11 @@ module _ (i : Image) (set l : List ℕ) (j : Image) (valid : IsBuilt i.heap) (or
       let k : In (objects_in i.heap r) o = run_object i.heap (w_pos i.heap valid) r two first in
       let c : Contains (objects i.heap) o = Contains-from_in (objects i.heap) o (In-flat_map (objects_in i.heap) (regions i.heap) r o (In-range 0 i.heap.geometry.n r (omega arith) (omega arith)) k) in
       let at : region_of i.heap o.at ≡ r = home_region i.heap valid r o (stands i.heap valid r o k) in
-      let out : has set r ≡ false = elim (cases_Bool (has set r)) [ inr f ↦ f | inl t ↦ let clash : Ordinary ≡ HumongousFirst = sym (ordinary r (Contains-from_in set r (in_from_has set r t))) ∙ two in cc ] in
+      let out : has set r ≡ false = elim (cases_Bool (has set r)) [
+        | inr f ↦ f
+        | inl t ↦ let clash : Ordinary ≡ HumongousFirst =
+            sym (ordinary r (Contains-from_in set r (in_from_has set r t))) ∙ two in cc
+      ] in
       ap (λ y. object_at j.heap (r * y)) (ap (λ (g : Geometry). g.w) moved.geometry) ∙ object_stays o c (ap (has set) at ∙ out)
 
   other_by : (r : ℕ) (k : Kind) → r < i.heap.geometry.n → has set r ≡ false → has (to_space i.heap l) r ≡ false → kind i.heap r ≡ k → IsBuiltBy i.heap r k → IsBuiltBy j.heap r k
@@ -108,7 +117,8 @@ module _ (i : Image) (set l : List ℕ) (j : Image) (valid : IsBuilt i.heap) (or
       let os : objects_in j.heap r ≡ objects_in i.heap r = objects_stay i set l j sound_before ordinary survivors room moved r lt a b in
       let tiled : IsTiled j.heap (r * i.heap.geometry.w) (objects_in i.heap r) (r * i.heap.geometry.w + top i.heap r) =
       tiled_same i.heap j.heap (r * i.heap.geometry.w) (objects_in i.heap r) (r * i.heap.geometry.w + top i.heap r) w
-      (λ o m. object_stays o (Contains-from_in (objects i.heap) o (In-flat_map (objects_in i.heap) (regions i.heap) r o here m)) (ap (has set) (sound_before.in_region r o (Contains-from_in (objects_in i.heap r) o m)) ∙ a)) s.2 in
+      (λ o m. object_stays o (Contains-from_in (objects i.heap) o (In-flat_map (objects_in i.heap) (regions i.heap) r o here m))
+      (ap (has set) (sound_before.in_region r o (Contains-from_in (objects_in i.heap r) o m)) ∙ a)) s.2 in
       let x = s.0 in let y = s.1 in (
         omega arith,
         omega arith,
@@ -144,8 +154,13 @@ module _ (i : Image) (set l : List ℕ) (j : Image) (valid : IsBuilt i.heap) (or
       let below : first < r = s.2 in
       let shape = humongous_shape first (omega arith) (λ x. let clash : HumongousFirst ≡ Free = sym two ∙ x in cc) (λ x. let clash : HumongousFirst ≡ Ordinary = sym two ∙ x in cc) in
       let f : BeginsRun i.heap first = subst (IsBuiltBy i.heap first) two (valid.shaped first (omega arith)) in
-      let E = first_stays first (omega arith) two f in
-      (first, shape.0 ∙ two, below, subst (λ (o : Object). (r - first) * j.heap.geometry.w < o.size) (sym E) (subst (λ y. (r - first) * y < (object_at i.heap (first * i.heap.geometry.w)).size) (sym (ap (λ (g : Geometry). g.w) moved.geometry)) s.3))
+      let E = first_stays first (omega arith) two f in (
+        first,
+        shape.0 ∙ two,
+        below,
+        subst (λ (o : Object). (r - first) * j.heap.geometry.w < o.size) (sym E)
+            (subst (λ y. (r - first) * y < (object_at i.heap (first * i.heap.geometry.w)).size) (sym (ap (λ (g : Geometry). g.w) moved.geometry)) s.3),
+      )
 
   placed_plain : (t : ℕ) → t < need i.heap l → (o : Object) → In (objects_in j.heap (get_or (free_regions i.heap) t 0)) o → IsPlain j.heap o
   placed_plain t here o m =
@@ -153,12 +168,17 @@ module _ (i : Image) (set l : List ℕ) (j : Image) (valid : IsBuilt i.heap) (or
       let e = to_space_objects i set l j sound_before ordinary survivors room moved t here in
       let c = map_cases (λ a. moved_object (forward i.heap l) (object_at i.heap a)) (filter (λ a. eqb (region_of i.heap (forward i.heap l a)) r) l) o (subst (λ xs. In xs o) e m) in
       let d = (filter_member (λ a. eqb (region_of i.heap (forward i.heap l a)) r) l c.0 c.1).0 in
-      subst (λ (x : Object). IsPlain j.heap x) c.2 (subst (λ y. ((object_at i.heap c.0).refs < (object_at i.heap c.0).size) × (4 * (object_at i.heap c.0).size ≤ 3 * y)) (sym (ap (λ (g : Geometry). g.w) moved.geometry)) (survivor_plain c.0 d))
+      subst (λ (x : Object). IsPlain j.heap x) c.2 (subst (λ y. ((object_at i.heap c.0).refs < (object_at i.heap c.0).size)
+      × (4 * (object_at i.heap c.0).size ≤ 3 * y)) (sym (ap (λ (g : Geometry). g.w) moved.geometry)) (survivor_plain c.0 d))
 
   goal_shape : (t : ℕ) → t < need i.heap l → IsBuiltBy j.heap (get_or (free_regions i.heap) t 0) Ordinary
   goal_shape t here =
-      let g = goal_top i set l j sound_before ordinary survivors room moved t here in
-      (g.0, subst (λ y. top j.heap (get_or (free_regions i.heap) t 0) ≤ y) (sym (ap (λ (g : Geometry). g.w) moved.geometry)) g.1, to_space_tiled i set l j sound_before ordinary survivors room moved t here (placed_plain t here))
+      let g = goal_top i set l j sound_before ordinary survivors room moved t here in (
+        g.0,
+        subst (λ y. top j.heap (get_or (free_regions i.heap) t 0) ≤ y) (sym (ap (λ (g : Geometry). g.w) moved.geometry)) g.1,
+        to_space_tiled i set
+            l j sound_before ordinary survivors room moved t here (placed_plain t here),
+      )
 
   pub shaped_moved : (r : ℕ) → r < i.heap.geometry.n → IsBuiltBy j.heap r (kind j.heap r)
   shaped_moved r lt = elim (region_cases i.heap set l sound_before ordinary survivors room r) [
@@ -180,17 +200,20 @@ module _ (i : Image) (set l : List ℕ) (j : Image) (valid : IsBuilt i.heap) (or
         t.0,
         t.1,
         subst (λ xs. In xs (moved_object f (object_at i.heap a))) (sym e)
-            (In-map (λ a. moved_object f (object_at i.heap a)) (filter (λ a. eqb (region_of i.heap (f a)) r) l) a (In-filter (λ a. eqb (region_of i.heap (f a)) r) l a k (eq-eqb (region_of i.heap (f a)) r at))),
+            (In-map (λ a. moved_object f (object_at i.heap a)) (filter (λ a. eqb (region_of i.heap (f a)) r) l) a
+            (In-filter (λ a. eqb (region_of i.heap (f a)) r) l a k (eq-eqb (region_of i.heap (f a)) r at))),
       )
 
   -- a word of a survivor lies in its region, below top
   pub survivor_word : (a m : ℕ) → In l a → m < (object_at i.heap a).size
-      → (t : ℕ) × (t < need i.heap l) × (region_of i.heap (forward i.heap l a + m) ≡ get_or (free_regions i.heap) t 0) × (forward i.heap l a + m < get_or (free_regions i.heap) t 0 * i.heap.geometry.w + top j.heap (get_or (free_regions i.heap) t 0))
+      → (t : ℕ) × (t < need i.heap l) × (region_of i.heap (forward i.heap l a + m) ≡ get_or (free_regions i.heap) t 0)
+      × (forward i.heap l a + m < get_or (free_regions i.heap) t 0 * i.heap.geometry.w + top j.heap (get_or (free_regions i.heap) t 0))
   survivor_word a m k lt =
       let s = survivor_there a k in
       let r : ℕ = get_or (free_regions i.heap) s.0 0 in
       let g = goal_shape s.0 s.1 in
-      let tiled : IsTiled j.heap (r * i.heap.geometry.w) (objects_in j.heap r) (r * i.heap.geometry.w + top j.heap r) = subst (λ y. IsTiled j.heap (r * y) (objects_in j.heap r) (r * y + top j.heap r)) (ap (λ (g : Geometry). g.w) moved.geometry) g.2 in
+      let tiled : IsTiled j.heap (r * i.heap.geometry.w) (objects_in j.heap r) (r * i.heap.geometry.w + top j.heap r) =
+      subst (λ y. IsTiled j.heap (r * y) (objects_in j.heap r) (r * y + top j.heap r)) (ap (λ (g : Geometry). g.w) moved.geometry) g.2 in
       let b = tiled_member j.heap (r * i.heap.geometry.w) (objects_in j.heap r) (r * i.heap.geometry.w + top j.heap r) tiled (moved_object (forward i.heap l) (object_at i.heap a)) s.2 in
       let x : ℕ = forward i.heap l a + m - r * i.heap.geometry.w in
       let low = b.0 in let high = b.1 in let t = g.1 in let w = (ap (λ (g : Geometry). g.w) moved.geometry) in
@@ -242,5 +265,7 @@ module _ (i : Image) (set l : List ℕ) (j : Image) (valid : IsBuilt i.heap) (or
   -- the object stands in the image after
   pub object_moved : (b : ℕ) → In (kept i.heap set l) (object_at i.heap b) → Contains (objects j.heap) (object_at j.heap (forward i.heap l b))
   object_moved b k =
-      let e : object_at j.heap (forward i.heap l b) ≡ moved_object (forward i.heap l) (object_at i.heap b) = object_copied i set l j sound_before ordinary survivors room moved (object_at i.heap b) k (kept_is_object i.heap set l sound_before ordinary survivors room (object_at i.heap b) k) refl in
-      Contains-from_in (objects j.heap) (object_at j.heap (forward i.heap l b)) (subst (λ (x : Object). In (objects j.heap) x) (sym e) (kept_is_moved i set l j sound_before ordinary survivors room moved (object_at i.heap b) k))
+      let e : object_at j.heap (forward i.heap l b) ≡ moved_object (forward i.heap l) (object_at i.heap b) =
+      object_copied i set l j sound_before ordinary survivors room moved (object_at i.heap b) k (kept_is_object i.heap set l sound_before ordinary survivors room (object_at i.heap b) k) refl in
+      Contains-from_in (objects j.heap) (object_at j.heap (forward i.heap l b))
+      (subst (λ (x : Object). In (objects j.heap) x) (sym e) (kept_is_moved i set l j sound_before ordinary survivors room moved (object_at i.heap b) k))

@@ -1,5 +1,6 @@
 -- Each step of a claim table keeps its rule.
-use Rattle.std.proofs.Common.{◌≡◌, ◌≢◌, ℕ, zero, suc, ◌+◌, ◌<◌, ◌≤◌, Bool, true, false, cond, ◌&&◌, eqb, ltb, min, ◌^◌, List, [], ◌∷◌, ◌++◌, length, get_or, set, sym, refl, ap, ◌∙◌, subst, ⊎_elim, inl, inr, ◌⊎◌, arith, eq-eqb, ne_eqb, lt-ltb, le-ltb, length-set, get_or-set_same, get_or-set_other, replicate}
+use Rattle.std.proofs.Common.{◌≡◌, ◌≢◌, ℕ, zero, suc, ◌+◌, ◌<◌, ◌≤◌, Bool, true, false, cond, ◌&&◌, eqb, ltb, min, ◌^◌, List, [], ◌∷◌, ◌++◌, length, get_or, set, sym, refl, ap, ◌∙◌, subst}
+use Rattle.std.proofs.Common.{⊎_elim, inl, inr, ◌⊎◌, arith, eq-eqb, ne_eqb, lt-ltb, le-ltb, length-set, get_or-set_same, get_or-set_other, replicate}
 use Rattle.std.proofs.lemmas.List.{length-replicate}
 use mathlib.Core.Logic.{dite}
 use mathlib.Core.Option.{none, some, some-injective, some-ne-none}
@@ -9,8 +10,10 @@ use Rattle.atomic_table.specs.Table.{step, keeps, Allows, Splits, Joins}
 use Rattle.atomic_table.proofs.Lists.{at_set, at_snoc, set_again, set_here, set_else}
 use Rattle.g1_claim.specs.declared.rule.Hand.{Hand}
 use Rattle.g1_claim.specs.Claims.{empty, offer, sight, least_rank, least_value, one_if, times_offered, times_won, IsWordOf, IsWonOnce, IsSettled}
-use Rattle.g1_claim.specs.Rule.{hand, first_hand, hands_total, offers_at, wins_of, least_offered, AreBacked, IsWord, IsIdle, Claiming, Claimed, Sat, after_offer, after_sight, left_hand, right_hand, both_hands, spent_hand, Found, lowered, saw, looked, Won, Beaten, IsKnown}
-use Rattle.g1_claim.proofs.Totals.{least_rank_top, least_rank-append, least_value_top, least_value-append, times_offered-append, times_won-append, hands_total-set, hands_total-snoc, total_le, lowest-set, lowest-set_top, lowest-snoc, lowest_le, lowest_top, shares_of, total_alone, lowest_alone, none_below_all, backed_on, backed-append}
+use Rattle.g1_claim.specs.Rule.{hand, first_hand, hands_total, offers_at, wins_of, least_offered, AreBacked, IsWord, IsIdle, Claiming, Claimed, Sat, after_offer, after_sight, left_hand}
+use Rattle.g1_claim.specs.Rule.{right_hand, both_hands, spent_hand, Found, lowered, saw, looked, Won, Beaten, IsKnown}
+use Rattle.g1_claim.proofs.Totals.{least_rank_top, least_rank-append, least_value_top, least_value-append, times_offered-append, times_won-append, hands_total-set, hands_total-snoc}
+use Rattle.g1_claim.proofs.Totals.{total_le, lowest-set, lowest-set_top, lowest-snoc, lowest_le, lowest_top, shares_of, total_alone, lowest_alone, none_below_all, backed_on, backed-append}
 
 -- what holds of each view
 
@@ -42,7 +45,11 @@ rekept : (words : List ℕ) (l m : List Hand) → Claiming words l → Same l m 
 rekept words l m r s shares idle floors backed = record {
   shares = shares;
   idle = idle;
-  words_least = λ p lt. let was = r.words_least p lt in (was.0 ∙ sym (s.least p), ⊎_elim (λ (x : (get_or words p 0 ≡ empty) × (offers_at p l ≡ 0)). inl (x.0, s.made p ∙ x.1)) (λ (x : wins_of p (get_or words p 0) l ≡ 1). inr (s.wins p (get_or words p 0) ∙ x)) was.1);
+  words_least = λ p lt. let was = r.words_least p lt in (
+    was.0 ∙ sym (s.least p),
+    ⊎_elim
+        (λ (x : (get_or words p 0 ≡ empty) × (offers_at p l ≡ 0)). inl (x.0, s.made p ∙ x.1)) (λ (x : wins_of p (get_or words p 0) l ≡ 1). inr (s.wins p (get_or words p 0) ∙ x)) was.1,
+  );
   outside = λ p far. s.made p ∙ r.outside p far;
   once = λ p q. let o = r.once p q in let e = s.wins p q in omega arith;
   floors = floors;
@@ -99,7 +106,8 @@ module _ (words : List ℕ) (vs : List Hand) (id : ℕ) (v : Hand) (i r : ℕ) (
             (λ nlt. let m : min x r ≡ x = omega arith in
             let c = subst (λ (b : Bool × Bool). wins_of i x vs' ≡ wins_of i x vs + one_if (b.0 && (eqb r x && b.1))) (λ k. (yes k, le-ltb r x (omega arith) k)) (wins' i x) in
             let d = ap one_if (and_false (eqb r x)) in
-            ⊎_elim (λ (e : (x ≡ empty) × (offers_at i vs ≡ 0)). let top = e.0 in absurd (omega arith)) (λ (e : wins_of i x vs ≡ 1). inr (subst (λ (k : ℕ). wins_of i k vs' ≡ 1) (sym m) (omega arith))) was.1),
+            ⊎_elim (λ (e : (x ≡ empty) × (offers_at i vs ≡ 0)). let top = e.0 in absurd (omega arith))
+            (λ (e : wins_of i x vs ≡ 1). inr (subst (λ (k : ℕ). wins_of i k vs' ≡ 1) (sym m) (omega arith))) was.1),
       )
 
   -- elsewhere
@@ -148,7 +156,8 @@ module _ (words : List ℕ) (vs : List Hand) (id : ℕ) (v : Hand) (i r : ℕ) (
     words_least = λ p lt. word' p (subst (λ (n : ℕ). p < n) (length-set words i (min x r)) lt);
     outside = λ p far. let old : length words ≤ p = subst (λ (n : ℕ). n ≤ p) (length-set words i (min x r)) far in let a = apart p (λ (e : i ≡ p). absurd (omega arith)) in a.1 ∙ kept.outside p old;
     once = once';
-    floors = all_set (Floor words) (Floor words') vs id w floor_here (λ u h p lt. let f = h p (subst (λ (n : ℕ). p < n) (length-set words i (min x r)) lt) in let g = falls p in omega arith) kept.floors;
+    floors = all_set (Floor words) (Floor words') vs id w floor_here (λ u h p lt. let f =
+        h p (subst (λ (n : ℕ). p < n) (length-set words i (min x r)) lt) in let g = falls p in omega arith) kept.floors;
     backed = all_set (Backed vs) (Backed vs') vs id w (backed_on v.sights vs vs' still (kept.backed id v at)) (λ u h. backed_on u.sights vs vs' still h) kept.backed;
   }
 
@@ -215,7 +224,8 @@ module _ (words : List ℕ) (vs : List Hand) (id : ℕ) (v : Hand) (kept : Claim
       (all_snoc (Backed vs) mid (right_hand v) tt (all_set (Backed vs) (Backed vs) vs id l (kept.backed id v at) (λ u h. h) kept.backed))
 
 -- two seats become one
-module _ (words : List ℕ) (vs : List Hand) (id : ℕ) (v : Hand) (other : ℕ) (u : Hand) (kept : Claiming words vs) (at : get_elem? vs id ≡ some v) (two : ¬ (other ≡ id)) (at' : get_elem? (set vs id (both_hands v u)) other ≡ some u) where
+module _ (words : List ℕ) (vs : List Hand) (id : ℕ) (v : Hand) (other : ℕ) (u : Hand) (kept : Claiming words vs) (at : get_elem? vs id ≡ some v)
+    (two : ¬ (other ≡ id)) (at' : get_elem? (set vs id (both_hands v u)) other ≡ some u) where
   abbrev both : Hand
   both = both_hands v u
 
@@ -244,8 +254,10 @@ module _ (words : List ℕ) (vs : List Hand) (id : ℕ) (v : Hand) (other : ℕ)
     least = λ p. let f = λ (y : Hand). least_rank p y.offers in let a = least_rank-append p v.offers u.offers in
         let b = lowest-set (λ y. least_rank p y.offers) vs id v both (least_rank p u.offers) at a in let c = lowest_le (λ y. least_rank p y.offers) vs other u was_at in
         let d = lowest-set_top (λ y. least_rank p y.offers) half other u spent at' refl in let e = lowest_le (λ y. least_rank p y.offers) whole id both still_both in omega arith;
-    wins = λ p q. let a = times_won-append p q v.offers u.offers in let b = hands_total-set (λ y. times_won p q y.offers) vs id v both at in let c = hands_total-set (λ y. times_won p q y.offers) half other u spent at' in omega arith;
-    made = λ p. let a = times_offered-append p v.offers u.offers in let b = hands_total-set (λ y. times_offered p y.offers) vs id v both at in let c = hands_total-set (λ y. times_offered p y.offers) half other u spent at' in omega arith;
+    wins = λ p q. let a = times_won-append p q v.offers u.offers in let b = hands_total-set (λ y. times_won p q y.offers) vs id v both at in let c =
+        hands_total-set (λ y. times_won p q y.offers) half other u spent at' in omega arith;
+    made = λ p. let a = times_offered-append p v.offers u.offers in let b = hands_total-set (λ y. times_offered p y.offers) vs id v both at in let c =
+        hands_total-set (λ y. times_offered p y.offers) half other u spent at' in omega arith;
   }
 
   floor_both : Floor words both
@@ -259,7 +271,8 @@ module _ (words : List ℕ) (vs : List Hand) (id : ℕ) (v : Hand) (other : ℕ)
       (let t = hands_total-set shares_of vs id v both at in let s = hands_total-set shares_of half other u spent at' in let k = kept.shares in omega arith)
       (all_set Idle Idle half other spent (λ _. (refl, refl)) (λ y h. h) (all_set Idle Idle vs id both (λ none_left. absurd (omega arith)) (λ y h. h) kept.idle))
       (all_set (Floor words) (Floor words) half other spent floor_spent (λ y h. h) (all_set (Floor words) (Floor words) vs id both floor_both (λ y h. h) kept.floors))
-      (all_set (Backed vs) (Backed vs) half other spent tt (λ y h. h) (all_set (Backed vs) (Backed vs) vs id both (backed-append v.sights u.sights vs (kept.backed id v at) (kept.backed other u was_at)) (λ y h. h) kept.backed))
+      (all_set (Backed vs) (Backed vs) half other spent tt (λ y h. h) (all_set (Backed vs) (Backed vs) vs id both
+      (backed-append v.sights u.sights vs (kept.backed id v at) (kept.backed other u was_at)) (λ y h. h) kept.backed))
 
 -- the table at the start
 
@@ -274,7 +287,8 @@ only F one f (suc k) u e = absurd (some-ne-none u (sym e))
 
 pub begins : (words : List ℕ) (n : ℕ) → words ≡ replicate n empty → Claiming words (hand 64 [] [] [] ∷ [])
 begins words n is = let one : Hand = hand 64 [] [] [] in
-    let start : (p : ℕ) → p < length words → get_or words p 0 ≡ empty = λ p lt. ap (λ (l : List ℕ). get_or l p 0) is ∙ get_or_replicate n p (let a : length words ≡ n = ap length is ∙ length-replicate n empty in omega arith) in record {
+    let start : (p : ℕ) → p < length words → get_or words p 0 ≡ empty = λ p lt. ap (λ (l : List ℕ). get_or l p 0) is
+    ∙ get_or_replicate n p (let a : length words ≡ n = ap length is ∙ length-replicate n empty in omega arith) in record {
       shares = refl;
       idle = only Idle one (λ none_left. (refl, refl));
       words_least = λ p lt. let e = start p lt in (e, inl (e, refl));
@@ -306,7 +320,8 @@ module _ (v : Hand) (words : List ℕ) (vs : List Hand) (kept : Claiming words v
 
     pub settled : IsSettled v.offers
     settled p = dite (dec_lt p (length words))
-        (λ lt. let w = word_of p lt in ⊎_elim (λ (e : (get_or words p 0 ≡ empty) × (times_offered p v.offers ≡ 0)). inl e.1) (λ (e : times_won p (get_or words p 0) v.offers ≡ 1). inr (subst (λ (k : ℕ). times_won p k v.offers ≡ 1) w.0 e)) w.1)
+        (λ lt. let w = word_of p lt in ⊎_elim (λ (e : (get_or words p 0 ≡ empty) × (times_offered p v.offers ≡ 0)). inl e.1)
+        (λ (e : times_won p (get_or words p 0) v.offers ≡ 1). inr (subst (λ (k : ℕ). times_won p k v.offers ≡ 1) w.0 e)) w.1)
         (λ far. let m = total_alone (λ u. times_offered p u.offers) 0 vs id v at refl (λ k u e s. ap (times_offered p) (kept.idle k u e s).0) alone in inl (sym m ∙ kept.outside p (omega arith)))
 
   pub known : IsKnown v
@@ -328,7 +343,12 @@ offers n slots id me i r share place small s ruled _ at _ = let inside : i < len
       keeps,
       tt,
       (length-set s.words i (min (get_or s.words i 0) r) ∙ ruled.0, after),
-      (refl, (s.words, s.views, (ruled.1, (id, at)), inside, refl), known w (set s.words i (min (get_or s.words i 0) r)) (set s.views id w) after id (set_here s.views id w (within s.views id me.0 at))),
+      (
+        refl,
+        (s.words, s.views, (ruled.1, (id, at)), inside, refl),
+        known w (set s.words i (min (get_or s.words i 0) r)) (set s.views id w) after id
+            (set_here s.views id w (within s.views id me.0 at)),
+      ),
     )
 
 pub looks : (n slots id : ℕ) (me : Sat) (i : ℕ) → 0 < me.0.shares → i < n → Allows (Claimed n) slots id me i (λ x. x) (saw (step slots i 0 0 none) me)

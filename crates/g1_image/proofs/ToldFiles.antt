@@ -4,7 +4,7 @@ use Rattle.std.specs.Int.{IsPowerOfTwo}
 use Rattle.std.specs.Int.Count.{ones}
 use Rattle.std.proofs.lemmas.Bool.{cases_lt}
 use Rattle.byteorder.specs.Endian.{little_number}
-use Rattle.g1_words.specs.Geometry.{IsWithinLimits}
+use Rattle.g1_words.specs.Geometry.{IsWithinLimits, most_card_words, most_region_words, most_regions, most_roots, most_words}
 use Rattle.g1_words.proofs.Powers.{power_of_ones, ones_of_power}
 use Rattle.g1_words.specs.declared.fault.Fault.{Fault}
 use Rattle.g1_words.specs.declared.fault.Fault.TheVariants as fault
@@ -28,9 +28,9 @@ decided_power n = decided_as (ones n ≡ 1) (IsPowerOfTwo n) (power_of_ones (n +
 -- sizes within the limits
 pub decided_limits : (w k n : ℕ) → Decided (IsWithinLimits w k n)
 decided_limits w k n =
-    let W : Type 0 = IsPowerOfTwo w × ((16 ≤ w) × (w ≤ 65536)) in
-    let K : Type 0 = IsPowerOfTwo k × ((4 ≤ k) × ((k ≤ 64) × (k ≤ w))) in
-    let N : Type 0 = (1 ≤ n) × ((n ≤ 4096) × (n * w ≤ 2 ^ 24)) in
+    let W : Type 0 = IsPowerOfTwo w × ((16 ≤ w) × (w ≤ most_region_words)) in
+    let K : Type 0 = IsPowerOfTwo k × ((4 ≤ k) × ((k ≤ most_card_words) × (k ≤ w))) in
+    let N : Type 0 = (1 ≤ n) × ((n ≤ most_regions) × (n * w ≤ most_words)) in
     decided_as (W × (K × N)) (IsWithinLimits w k n)
     (λ p. record {
       w_power = p.0.0;
@@ -46,20 +46,21 @@ decided_limits w k n =
     })
     (λ l. ((l.w_power, (l.w_least, l.w_most)), ((l.k_power, (l.k_least, (l.k_most, l.k_in_w))), (l.n_least, (l.n_most, l.words_most)))))
     (decided_both W (K × N)
-    (decided_both (IsPowerOfTwo w) ((16 ≤ w) × (w ≤ 65536)) (decided_power w) (decided_both (16 ≤ w) (w ≤ 65536) (decided_le 16 w) (decided_le w 65536)))
+    (decided_both (IsPowerOfTwo w) ((16 ≤ w) × (w ≤ most_region_words)) (decided_power w) (decided_both (16 ≤ w) (w ≤ most_region_words) (decided_le 16 w) (decided_le w most_region_words)))
     (decided_both K N
-    (decided_both (IsPowerOfTwo k) ((4 ≤ k) × ((k ≤ 64) × (k ≤ w))) (decided_power k)
-    (decided_both (4 ≤ k) ((k ≤ 64) × (k ≤ w)) (decided_le 4 k) (decided_both (k ≤ 64) (k ≤ w) (decided_le k 64) (decided_le k w))))
-    (decided_both (1 ≤ n) ((n ≤ 4096) × (n * w ≤ 2 ^ 24)) (decided_le 1 n) (decided_both (n ≤ 4096) (n * w ≤ 2 ^ 24) (decided_le n 4096) (decided_le (n * w) (2 ^ 24))))))
+    (decided_both (IsPowerOfTwo k) ((4 ≤ k) × ((k ≤ most_card_words) × (k ≤ w))) (decided_power k)
+    (decided_both (4 ≤ k) ((k ≤ most_card_words) × (k ≤ w)) (decided_le 4 k) (decided_both (k ≤ most_card_words) (k ≤ w) (decided_le k most_card_words) (decided_le k w))))
+    (decided_both (1 ≤ n) ((n ≤ most_regions) × (n * w ≤ most_words)) (decided_le 1 n)
+    (decided_both (n ≤ most_regions) (n * w ≤ most_words) (decided_le n most_regions) (decided_le (n * w) most_words)))))
 
 -- a heading within the limits
 decided_heading : (h : Heading) → Decided (IsGoodHeading h)
 decided_heading h =
-    decided_as (IsWithinLimits h.w h.k h.n × ((h.roots ≤ 65536) × (h.current ≤ h.n))) (IsGoodHeading h)
+    decided_as (IsWithinLimits h.w h.k h.n × ((h.roots ≤ most_roots) × (h.current ≤ h.n))) (IsGoodHeading h)
     (λ p. record { sizes = p.0; roots = p.1.0; current = p.1.1 })
     (λ g. (g.sizes, (g.roots, g.current)))
-    (decided_both (IsWithinLimits h.w h.k h.n) ((h.roots ≤ 65536) × (h.current ≤ h.n)) (decided_limits h.w h.k h.n)
-    (decided_both (h.roots ≤ 65536) (h.current ≤ h.n) (decided_le h.roots 65536) (decided_le h.current h.n)))
+    (decided_both (IsWithinLimits h.w h.k h.n) ((h.roots ≤ most_roots) × (h.current ≤ h.n)) (decided_limits h.w h.k h.n)
+    (decided_both (h.roots ≤ most_roots) (h.current ≤ h.n) (decided_le h.roots most_roots) (decided_le h.current h.n)))
 
 -- a number of 32 bits, and the bytes behind it
 record Number (bytes : List ℕ) : Type 0 where
@@ -88,7 +89,8 @@ one_by_one : (h : Heading) (r : List ℕ) → heading_text h ++ r ≡ u32 h.w ++
 one_by_one h r = simp append_assoc
 
 -- six numbers, one behind another, are a heading
-six_numbers : (h : Heading) (bytes r1 r2 r3 r4 r5 r6 : List ℕ) → bytes ≡ u32 h.w ++ r1 → r1 ≡ u32 h.k ++ r2 → r2 ≡ u32 h.n ++ r3 → r3 ≡ u32 h.roots ++ r4 → r4 ≡ u32 h.dirty ++ r5 → r5 ≡ u32 h.current ++ r6 →
+six_numbers : (h : Heading) (bytes r1 r2 r3 r4 r5 r6 : List ℕ) → bytes ≡ u32 h.w ++ r1 → r1 ≡ u32 h.k ++ r2 → r2 ≡ u32 h.n ++ r3 →
+    r3 ≡ u32 h.roots ++ r4 → r4 ≡ u32 h.dirty ++ r5 → r5 ≡ u32 h.current ++ r6 →
     bytes ≡ heading_text h ++ r6
 six_numbers h bytes r1 r2 r3 r4 r5 r6 a b c d e f =
     a ∙ ap (λ l. u32 h.w ++ l) (b ∙ ap (λ l. u32 h.k ++ l) (c ∙ ap (λ l. u32 h.n ++ l) (d ∙ ap (λ l. u32 h.roots ++ l) (e ∙ ap (λ l. u32 h.dirty ++ l) f)))) ∙ sym (one_by_one h r6)
@@ -135,7 +137,8 @@ differs v bytes i lt n = elim (cases_lt i (length bytes)) [
 -- the bytes that are there agree with a version's magic, or one differs
 told_magic : (v : Version) (bytes : List ℕ) → ((i : ℕ) → i < 8 → AgreesAt v bytes i) ⊎ Differs bytes v
 told_magic v bytes =
-    elim (first_breach (AgreesAt v bytes) (λ i. decided_under (i < length bytes) (slice_index bytes i ≡ slice_index (magic v) i) (decided_lt i (length bytes)) (decided_eq (slice_index bytes i) (slice_index (magic v) i))) 8) [
+    elim (first_breach (AgreesAt v bytes) (λ i. decided_under (i < length bytes) (slice_index bytes i ≡ slice_index (magic v) i)
+    (decided_lt i (length bytes)) (decided_eq (slice_index bytes i) (slice_index (magic v) i))) 8) [
       | inl agrees ↦ inl agrees
       | inr x ↦ inr (differs v bytes x.0 x.1.within x.1.breach)
     ]
@@ -179,7 +182,8 @@ told_opening bytes b = elim (told_magic One bytes) [
 
 -- the bytes are those of a whole file
 abbrev pub IsPlain : List ℕ → Type 0
-IsPlain bytes = (v : Version) × (h : Heading) × (table : List Entry) × (roots : List ℕ) × (log : List ℕ) × (remembered : List (List ℕ)) × (words : List ℕ) × PlainIs bytes v h table roots log remembered words
+IsPlain bytes = (v : Version) × (h : Heading) × (table : List Entry) × (roots : List ℕ) × (log : List ℕ) × (remembered : List (List ℕ))
+    × (words : List ℕ) × PlainIs bytes v h table roots log remembered words
 
 -- what stands behind the heading
 told_body : (bytes : List ℕ) → IsBytes bytes → Opened bytes → IsPlain bytes ⊎ AnyFault bytes

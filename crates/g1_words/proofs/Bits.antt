@@ -1,5 +1,6 @@
 -- Marks that are kept as the bits of words.
-use Rattle.std.proofs.Common.{arith, ◌≡◌, ◌≢◌, ◌≤◌, ◌<◌, ◌*◌, ◌/◌, ◌%◌, ◌^◌, ◌==◌, inl, inr, ℕ, List, Bool, true, false, length, slice_index, get_or, set, replicate, sym, ap, subst, ◌∙◌, zero-add, get_or-set_same, get_or-set_other, length-set}
+use Rattle.std.proofs.Common.{arith, ◌≡◌, ◌≢◌, ◌≤◌, ◌<◌, ◌*◌, ◌/◌, ◌%◌, ◌^◌, ◌==◌, inl, inr, ℕ, List, Bool, true, false, length, slice_index, get_or, set, replicate, sym, ap, subst, ◌∙◌}
+use Rattle.std.proofs.Common.{zero-add, get_or-set_same, get_or-set_other, length-set}
 use Rattle.std.specs.Int.Bits.{bit_or}
 use Rattle.std.specs.Int.{bit_at, w64}
 use Rattle.std.proofs.lemmas.List.{same_lists, get_or-replicate, length-replicate}
@@ -51,6 +52,7 @@ marks_of-set count bits a lt in_bits =
     same_lists (marks_of count new) (set old a true) (length-marks_of count new ∙ sym (length-marks_of count bits) ∙ sym same) (λ k d less.
     let under : k < count = omega (arith, less, length-marks_of count new) in
     elim (cases_eq k a) [
-      | inl e ↦ mark_of count new k d under ∙ set_at bits a k in_bits e ∙ sym (subst (λ j. get_or (set old a true) j d ≡ true) (sym e) (get_or-set_same old a true d (omega (arith, lt, length-marks_of count bits))))
+      | inl e ↦ mark_of count new k d under ∙ set_at bits a k in_bits e ∙ sym
+          (subst (λ j. get_or (set old a true) j d ≡ true) (sym e) (get_or-set_same old a true d (omega (arith, lt, length-marks_of count bits))))
       | inr ne ↦ mark_of count new k d under ∙ set_off bits a k in_bits ne ∙ sym (mark_of count bits k d under) ∙ sym (get_or-set_other old a k true d ne)
     ])

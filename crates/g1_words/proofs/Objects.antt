@@ -117,7 +117,8 @@ module _ (h : Heap) (r a : ℕ) (words : List ℕ) (from to : ℕ) (found : Opti
   moved o s = subst (λ x. StandsBetween h.words (start h r) x o) the_end (subst (λ x. StandsBetween h.words x to o) the_start (subst (λ x. StandsBetween x from to o) the_words s))
 
   back : (o : Object) → StandsBetween h.words (start h r) (end h r) o → StandsBetween words from to o
-  back o s = subst (λ x. StandsBetween words from x o) (sym the_end) (subst (λ x. StandsBetween words x (end h r) o) (sym the_start) (subst (λ x. StandsBetween x (start h r) (end h r) o) (sym the_words) s))
+  back o s = subst (λ x. StandsBetween words from x o) (sym the_end) (subst (λ x. StandsBetween words x (end h r) o) (sym the_start)
+      (subst (λ x. StandsBetween x (start h r) (end h r) o) (sym the_words) s))
 
   pub ordinary_filled_there : Reaches words from to
   ordinary_filled_there =

@@ -1,5 +1,6 @@
 -- The new addresses: kept objects don't meet, and no two go to one address.
-use Rattle.std.proofs.Common.{◌≡◌, ℕ, ◌+◌, ◌/◌, ◌%◌, ◌<◌, ◌≤◌, ◌⊎◌, inl, inr, Bool, true, false, cond, not, ◌&&◌, List, [], ◌∷◌, length, map, filter, flat_map, zip, Contains, refl, sym, ◌∙◌, ap, subst, arith, eqb, eqb-true, eq-eqb, add-zero}
+use Rattle.std.proofs.Common.{◌≡◌, ℕ, ◌+◌, ◌/◌, ◌%◌, ◌<◌, ◌≤◌, ◌⊎◌, inl, inr, Bool, true, false, cond, not, ◌&&◌, List, [], ◌∷◌, length, map, filter, flat_map, zip, Contains, refl, sym, ◌∙◌}
+use Rattle.std.proofs.Common.{ap, subst, arith, eqb, eqb-true, eq-eqb, add-zero}
 use Rattle.std.proofs.lemmas.Bool.{false≢true}
 use Rattle.g1_words.specs.declared.region.Kind.TheVariants.{Free}
 use Rattle.g1_words.specs.Heap.{Heap, kind, region_of, objects, object_at, slots, word}
@@ -18,7 +19,8 @@ use Rattle.g1_words.specs.declared.object.Object.{Object}
 module _ (h : Heap) (set : List ℕ) where
   pub reached_in_set : (a : ℕ) → Reached (seeds h set) (children h set) a → in_set h set a ≡ true
   reached_in_set a (seed c) =
-      elim (In-append_cases (filter (in_set h set) (root_targets h)) (map (λ e. e.target) (filter (λ e. in_set h set e.target && not (in_set h set e.slot)) (refs h))) a (In-from_contains (seeds h set) a c)) [
+      elim (In-append_cases (filter (in_set h set) (root_targets h)) (map (λ e. e.target)
+      (filter (λ e. in_set h set e.target && not (in_set h set e.slot)) (refs h))) a (In-from_contains (seeds h set) a c)) [
         | inl k ↦ (filter_member (in_set h set) (root_targets h) a k).1
         | inr k ↦
             let m = map_cases (λ (e : Ref). e.target) (filter (λ e. in_set h set e.target && not (in_set h set e.slot)) (refs h)) a k in
@@ -37,7 +39,8 @@ module _ (h : Heap) (set : List ℕ) where
 
   pub reached_object : IsSound h → (a : ℕ) → Reached (seeds h set) (children h set) a → Contains (objects h) (object_at h a)
   reached_object s a (seed c) =
-      elim (In-append_cases (filter (in_set h set) (root_targets h)) (map (λ e. e.target) (filter (λ e. in_set h set e.target && not (in_set h set e.slot)) (refs h))) a (In-from_contains (seeds h set) a c)) [
+      elim (In-append_cases (filter (in_set h set) (root_targets h)) (map (λ e. e.target)
+      (filter (λ e. in_set h set e.target && not (in_set h set e.slot)) (refs h))) a (In-from_contains (seeds h set) a c)) [
         | inl k ↦ s.root_named a (Contains-from_in (root_targets h) a (filter_member (in_set h set) (root_targets h) a k).0)
         | inr k ↦
             let m = map_cases (λ (e : Ref). e.target) (filter (λ e. in_set h set e.target && not (in_set h set e.slot)) (refs h)) a k in
@@ -72,16 +75,19 @@ module _ (h : Heap) where
   size_at a = (object_at h a).size
 
   spot_at : (from : ℕ) (x : ℕ) (l : List ℕ) (a : ℕ) (b : Bool) → eqb x a ≡ b
-      → (In l a → (q : ℕ) × In (zip l (zip (laid h.geometry.w (next_fit h.geometry.w from (size_at x) + size_at x) (sizes_of h l)) (sizes_of h l))) (a, (q, size_at a)) × (moved_to l (map (row_address h) (laid h.geometry.w (next_fit h.geometry.w from (size_at x) + size_at x) (sizes_of h l))) a ≡ row_address h q))
+      → (In l a → (q : ℕ) × In (zip l (zip (laid h.geometry.w (next_fit h.geometry.w from (size_at x) + size_at x) (sizes_of h l)) (sizes_of h l)))
+      (a, (q, size_at a)) × (moved_to l (map (row_address h) (laid h.geometry.w (next_fit h.geometry.w from (size_at x) + size_at x) (sizes_of h l))) a ≡ row_address h q))
       → In (x ∷ l) a
       → (q : ℕ) × In (zip (x ∷ l) (zip (laid h.geometry.w from (sizes_of h (x ∷ l))) (sizes_of h (x ∷ l)))) (a, (q, size_at a))
-      × (cond b (row_address h (next_fit h.geometry.w from (size_at x))) (moved_to l (map (row_address h) (laid h.geometry.w (next_fit h.geometry.w from (size_at x) + size_at x) (sizes_of h l))) a) ≡ row_address h q)
+      × (cond b (row_address h (next_fit h.geometry.w from (size_at x))) (moved_to l
+      (map (row_address h) (laid h.geometry.w (next_fit h.geometry.w from (size_at x) + size_at x) (sizes_of h l))) a) ≡ row_address h q)
   spot_at from x l a true e rest k = (next_fit h.geometry.w from (size_at x), inl (λ t. (eqb-true x a e t, (next_fit h.geometry.w from (size_at x), size_at (eqb-true x a e t)))), refl)
   spot_at from x l a false e rest (inl f) = absurd (false≢true (sym e ∙ eq-eqb x a f))
   spot_at from x l a false e rest (inr k) = let r = rest k in (r.0, inr r.1, r.2)
 
   pub spot_of : (from : ℕ) (l : List ℕ) (a : ℕ) → In l a
-      → (q : ℕ) × In (zip l (zip (laid h.geometry.w from (sizes_of h l)) (sizes_of h l))) (a, (q, size_at a)) × (moved_to l (map (row_address h) (laid h.geometry.w from (sizes_of h l))) a ≡ row_address h q)
+      → (q : ℕ) × In (zip l (zip (laid h.geometry.w from (sizes_of h l)) (sizes_of h l))) (a, (q, size_at a))
+      × (moved_to l (map (row_address h) (laid h.geometry.w from (sizes_of h l))) a ≡ row_address h q)
   spot_of from [] a k = absurd k
   spot_of from (x ∷ l) a k = spot_at from x l a (eqb x a) refl (spot_of (next_fit h.geometry.w from (size_at x) + size_at x) l a) k
 
@@ -133,7 +139,8 @@ module _ (h : Heap) (set l : List ℕ) (sound : IsSound h) (ordinary : AllOrdina
       let x = word_in_row a k i lk in
       let y = word_in_row b m j lm in
       let same : s.0 + k ≡ t.0 + m = row_one_to_one h sound.w_positive (s.0 + k) (t.0 + m) x.1 y.1 (x.0 ∙ e ∙ sym y.0) in
-      elim (zip_ordered (λ (x y : ℕ × ℕ). x.0 + x.1 ≤ y.0) l (zip (laid h.geometry.w 0 (sizes_of h l)) (sizes_of h l)) (spots_apart h.geometry.w sound.w_positive 0 (sizes_of h l) all_fit) a b (s.0, size_at h a) (t.0, size_at h b) s.1 t.1) [
+      elim (zip_ordered (λ (x y : ℕ × ℕ). x.0 + x.1 ≤ y.0) l (zip (laid h.geometry.w 0 (sizes_of h l)) (sizes_of h l))
+      (spots_apart h.geometry.w sound.w_positive 0 (sizes_of h l) all_fit) a b (s.0, size_at h a) (t.0, size_at h b) s.1 t.1) [
         | inl q ↦ q
         | inr (inl r) ↦ absurd (omega arith)
         | inr (inr r) ↦ absurd (omega arith)

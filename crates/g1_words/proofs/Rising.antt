@@ -1,5 +1,6 @@
 -- Objects and references stand in rising order.
-use Rattle.std.proofs.Common.{◌≡◌, ℕ, zero, suc, ◌+◌, ◌-◌, ◌*◌, ◌<◌, ◌≤◌, inl, inr, Bool, true, false, cond, List, [], ◌∷◌, ◌++◌, map, filter, flat_map, Contains, AllPairs, arith, refl, sym, ap, subst, ◌∙◌}
+use Rattle.std.proofs.Common.{◌≡◌, ℕ, zero, suc, ◌+◌, ◌-◌, ◌*◌, ◌<◌, ◌≤◌, inl, inr, Bool, true, false, cond, List, [], ◌∷◌, ◌++◌, map, filter, flat_map, Contains, AllPairs, arith, refl, sym}
+use Rattle.std.proofs.Common.{ap, subst, ◌∙◌}
 use Rattle.std.specs.List.{range_with_len}
 use Rattle.std.proofs.lemmas.Bool.{cases_lt}
 use Rattle.std.proofs.Math.Nat.{mul-le-mul_left, mul-sub}
@@ -149,7 +150,8 @@ module _ (h : Heap) (valid : IsValid h) where
   told_ref e o has s w =
       let i : In (slots o) e.slot = In-range (o.at + 1) o.refs e.slot (omega (arith, s.0)) (omega (arith, s.1)) in
       let k : In (refs_at h e.slot) e = In-map (λ a. record { slot = e.slot; target = a }) (named (word h e.slot)) e.target (named_there (word h e.slot) e.target w) in
-      Contains-from_in (refs h) e (In-flat_map (λ o. flat_map (refs_at h) (slots o)) (objects h) o e (In-from_contains (objects h) o (has_contains h o has)) (In-flat_map (refs_at h) (slots o) e.slot e i k))
+      Contains-from_in (refs h) e (In-flat_map (λ o. flat_map (refs_at h) (slots o)) (objects h) o e
+      (In-from_contains (objects h) o (has_contains h o has)) (In-flat_map (refs_at h) (slots o) e.slot e i k))
 
   abbrev RefBefore : Ref → Ref → Type 0
   RefBefore e f = e.slot < f.slot

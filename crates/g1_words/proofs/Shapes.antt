@@ -4,7 +4,7 @@ use Rattle.std.specs.Prelude.{All, Option, Some, None, IfSome}
 use Rattle.std.proofs.lemmas.Bool.{cases_lt}
 use Rattle.std.proofs.lemmas.List.{get_or_default, get_or_past}
 use Rattle.std.proofs.Math.Nat.{mul-le-mul_right}
-use Rattle.g1_words.specs.Geometry.{IsWithinLimits}
+use Rattle.g1_words.specs.Geometry.{IsWithinLimits, most_roots}
 use Rattle.g1_words.specs.declared.object.Object.{Object}
 use Rattle.g1_words.specs.declared.region.Kind.{Kind}
 use Rattle.g1_words.specs.declared.region.Kind.TheVariants.{Free, Ordinary, HumongousFirst, Continuation}
@@ -47,7 +47,7 @@ pub record IsBuilt (h : Heap) : Type 0 where
   pub word_count : length h.words ≡ h.geometry.n * h.geometry.w
   pub word_fits : (a : ℕ) → word h a < 2 ^ 64
   pub region_count : length h.regions ≡ h.geometry.n
-  pub root_count : length h.roots ≤ 65536
+  pub root_count : length h.roots ≤ most_roots
   pub shaped : (r : ℕ) → r < h.geometry.n → IsBuiltBy h r (kind h r)
   pub pins : (r : ℕ) → r < h.geometry.n → MayBePinned h r
   pub zero_above : (r m : ℕ) → r < h.geometry.n → top h r ≤ m → m < h.geometry.w → word h (r * h.geometry.w + m) ≡ 0

@@ -130,9 +130,11 @@ module _ (h : Heap) (valid : IsBuilt h) where
       → (region_of h (o.at + m) < h.geometry.n) × (kind h (region_of h (o.at + m)) ≢ Free) × (o.at + m < region_of h (o.at + m) * h.geometry.w + top h (region_of h (o.at + m)))
   word_used r o m s lt = elim s.2 [
     | inl a ↦ let b = ordinary_word r o m a lt in
-        subst (λ q. (q < h.geometry.n) × (kind h q ≢ Free) × (o.at + m < q * h.geometry.w + top h q)) (sym b.0) (s.0, (λ z. let clash : Ordinary ≡ Free = sym a.kind ∙ ap (kind h) (sym b.0) ∙ ap (kind h) b.0 ∙ z in cc), b.1)
+        subst (λ q. (q < h.geometry.n) × (kind h q ≢ Free) × (o.at + m < q * h.geometry.w + top h q)) (sym b.0)
+        (s.0, (λ z. let clash : Ordinary ≡ Free = sym a.kind ∙ ap (kind h) (sym b.0) ∙ ap (kind h) b.0 ∙ z in cc), b.1)
     | inr a ↦ let b = run_word r o m a lt in
-        let k : (r + b.0 < h.geometry.n) × (top h (r + b.0) ≡ min h.geometry.w ((object_at h (r * h.geometry.w)).size - b.0 * h.geometry.w)) × (0 < b.0 → kind h (r + b.0) ≡ Continuation) = a.first.run b.0 b.3 in
+        let k : (r + b.0 < h.geometry.n) × (top h (r + b.0) ≡ min h.geometry.w ((object_at h (r * h.geometry.w)).size - b.0 * h.geometry.w))
+        × (0 < b.0 → kind h (r + b.0) ≡ Continuation) = a.first.run b.0 b.3 in
         subst (λ q. (q < h.geometry.n) × (kind h q ≢ Free) × (o.at + m < q * h.geometry.w + top h q)) (sym b.1) (
           k.0,
           (λ z. elim (cases_lt 0 b.0) [

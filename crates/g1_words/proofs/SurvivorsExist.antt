@@ -1,5 +1,6 @@
 -- The search for survivors ends, so that each set has its list.
-use Rattle.std.proofs.Common.{◌≡◌, ℕ, zero, suc, ◌+◌, ◌<◌, ◌≤◌, inl, inr, not, List, [], ◌∷◌, ◌++◌, length, map, filter, flat_map, refl, sym, ◌∙◌, ap, subst, arith, append_assoc, append-nil, length-append}
+use Rattle.std.proofs.Common.{◌≡◌, ℕ, zero, suc, ◌+◌, ◌<◌, ◌≤◌, inl, inr, not, List, [], ◌∷◌, ◌++◌, length, map, filter, flat_map, refl, sym, ◌∙◌, ap, subst, arith, append_assoc, append-nil}
+use Rattle.std.proofs.Common.{length-append}
 use Rattle.std.proofs.lemmas.Grind.{flat_map-append}
 use Rattle.g1_words.proofs.Firsts.{Distinct, Distinct-firsts, firsts-append}
 use Rattle.g1_words.proofs.Members.{In, In-append_cases, In-append_left, In-append_right, In-from_contains, In-map}
@@ -51,7 +52,8 @@ module _ (seeds : List ℕ) (children : ℕ → List ℕ) where
 
   module _ (bound : List ℕ) (inside : (a : ℕ) → Reached seeds children a → In bound a) where
     next_from : (fuel n : ℕ) (t : List ℕ) → found_in seeds children (suc n) ≡ found_in seeds children n ++ t → length bound < suc fuel + length (found_in seeds children n)
-        → (length bound < fuel + length (found_in seeds children (suc n)) → (m : ℕ) × (found_in seeds children m ≡ found_in seeds children (suc m))) → (m : ℕ) × (found_in seeds children m ≡ found_in seeds children (suc m))
+        → (length bound < fuel + length (found_in seeds children (suc n)) → (m : ℕ) × (found_in seeds children m ≡ found_in seeds children (suc m))) →
+        (m : ℕ) × (found_in seeds children m ≡ found_in seeds children (suc m))
     next_from fuel n [] e lt rest = (n, sym (e ∙ append-nil (found_in seeds children n)))
     next_from fuel n (x ∷ t) e lt rest = let k = ap length e ∙ length-append (found_in seeds children n) (x ∷ t) in rest (omega arith)
 

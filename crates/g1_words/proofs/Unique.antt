@@ -65,7 +65,8 @@ module _ (seeds : List ℕ) (children : ℕ → List ℕ) where
       let h = found_is_front m p s b.in_order f in
       elim (fronts p r (found_from seeds children p) g.0 (sym e ∙ g.1)) [
         | inl k ↦ same_from n l m (found_from seeds children p) g.0 h.0 a b g.1 h.1
-            (let sizes : length p + length r ≡ length (found_from seeds children p) + length g.0 = sym (length-append p r) ∙ ap length (sym e ∙ g.1) ∙ length-append (found_from seeds children p) g.0 in
+            (let sizes : length p + length r ≡ length (found_from seeds children p) + length g.0 =
+            sym (length-append p r) ∙ ap length (sym e ∙ g.1) ∙ length-append (found_from seeds children p) g.0 in
             let longer : length (found_from seeds children p) ≡ length p + suc (length k.1) = ap length k.2 ∙ length-append p (k.0 ∷ k.1) in
             omega arith)
         | inr k ↦

@@ -23,13 +23,15 @@ module _ {S : Type 0} where
   starts dealer all seat ws e of shares none = subst (λ (l : List (Worker S)). IsHiring dealer all all seat l) (sym e)
       record { of_states = refl; seat_of = of; none = none; kept = omega arith; shares = refl; count = omega arith; seats = All-nil (λ w. IsSeatOf dealer w.seat × (w.seat.draws ≡ [])) }
 
-  moved : (all rest next : List S) (ws : List (Worker S)) (w : Worker S) → map (λ w. w.state) ws ++ reverse rest ≡ reverse all → rest ≡ next ++ w.state ∷ [] → map (λ w. w.state) (ws ++ w ∷ []) ++ reverse next ≡ reverse all
+  moved : (all rest next : List S) (ws : List (Worker S)) (w : Worker S) → map (λ w. w.state) ws ++ reverse rest ≡ reverse all →
+      rest ≡ next ++ w.state ∷ [] → map (λ w. w.state) (ws ++ w ∷ []) ++ reverse next ≡ reverse all
   moved all rest next ws w e is =
       let turned : reverse rest ≡ w.state ∷ reverse next = ap (λ (l : List S). reverse l) is ∙ reverse-append next (w.state ∷ []) in
       ap (λ (l : List S). l ++ reverse next) (map-append (λ (v : Worker S). v.state) ws (w ∷ [])) ∙ (append_assoc (map (λ (v : Worker S). v.state) ws) (w.state ∷ []) (reverse next)
       ∙ (ap (λ (l : List S). map (λ (v : Worker S). v.state) ws ++ l) (sym turned) ∙ e))
 
-  pub goes_on : (dealer : DealerView) (all rest next : List S) (seat left : SeatView) (ws vs : List (Worker S)) (w : Worker S) → IsHiring dealer all rest seat ws → rest ≡ next ++ w.state ∷ [] → 1 < seat.shares
+  pub goes_on : (dealer : DealerView) (all rest next : List S) (seat left : SeatView) (ws vs : List (Worker S)) (w : Worker S) →
+      IsHiring dealer all rest seat ws → rest ≡ next ++ w.state ∷ [] → 1 < seat.shares
       → left ≡ record seat { shares = seat.shares - 1 } → IsSeatOf dealer w.seat → w.seat.shares ≡ 1 → w.seat.draws ≡ [] → vs ≡ ws ++ w ∷ [] → IsHiring dealer all next left vs
   goes_on dealer all rest next seat left ws vs w h is two l of one nothing more = subst (λ (z : SeatView × List (Worker S)). IsHiring dealer all next z.0 z.1) (λ i. (sym l i, sym more i)) record {
     of_states = moved all rest next ws w h.of_states is;
@@ -41,7 +43,8 @@ module _ {S : Type 0} where
     seats = All-push (λ (v : Worker S). IsSeatOf dealer v.seat × (v.seat.draws ≡ [])) ws w h.seats (of, nothing);
   }
 
-  pub ends : (dealer : DealerView) (all rest : List S) (seat : SeatView) (ws vs : List (Worker S)) (w : Worker S) → IsHiring dealer all rest seat ws → rest ≡ w.state ∷ [] → w.seat ≡ seat → vs ≡ ws ++ w ∷ [] → IsHired dealer all vs
+  pub ends : (dealer : DealerView) (all rest : List S) (seat : SeatView) (ws vs : List (Worker S)) (w : Worker S) → IsHiring dealer all rest seat ws →
+      rest ≡ w.state ∷ [] → w.seat ≡ seat → vs ≡ ws ++ w ∷ [] → IsHired dealer all vs
   ends dealer all rest seat ws vs w h is same more = subst (λ (l : List (Worker S)). IsHired dealer all l) (sym more) record {
     of_states = sym (append-nil (map (λ (v : Worker S). v.state) (ws ++ w ∷ []))) ∙ moved all rest [] ws w h.of_states is;
     shares = (let s = sum_by_push (λ (v : Worker S). v.seat.shares) ws w in let k = h.kept in let k' = h.shares in let e = ap (λ (z : SeatView). z.shares) same in omega arith);

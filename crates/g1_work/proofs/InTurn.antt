@@ -23,7 +23,8 @@ module _ {S O : Type 0} (runs : S → ℕ → S → O → Type 0) (may_fail : �
   pub back_none : AreBack runs may_fail dealer [] []
   back_none = record { len = refl; ok = λ i d e lt. absurd (omega (arith, lt)); err = λ i d lt. absurd (omega (arith, lt)) }
 
-  pub back_more : (ws : List (Worker S)) (rs : List (Result (Worked S O) Fault)) (w : Worker S) (r : Result (Worked S O) Fault) → AreBack runs may_fail dealer ws rs → IfOk r (IsDone runs dealer w) → IfErr r (IsFaultOf may_fail dealer.chunks)
+  pub back_more : (ws : List (Worker S)) (rs : List (Result (Worked S O) Fault)) (w : Worker S) (r : Result (Worked S O) Fault) →
+      AreBack runs may_fail dealer ws rs → IfOk r (IsDone runs dealer w) → IfErr r (IsFaultOf may_fail dealer.chunks)
       → AreBack runs may_fail dealer (ws ++ w ∷ []) (rs ++ r ∷ [])
   back_more ws rs w r b one bad =
       let long : length (ws ++ w ∷ []) ≡ length ws + 1 = length-append ws (w ∷ []) in
@@ -35,7 +36,8 @@ module _ {S O : Type 0} (runs : S → ℕ → S → O → Type 0) (may_fail : �
               subst (λ (q : Result (Worked S O) Fault × Worker S). IfOk q.0 (IsDone runs dealer q.1)) (λ k. (sym (last rs r i d (at ∙ sym same)) k, sym (last ws w i e at) k)) one
           | no gt ↦
               let low : i < length ws = lt_of_not-le gt in
-              subst (λ (q : Result (Worked S O) Fault × Worker S). IfOk q.0 (IsDone runs dealer q.1)) (λ k. (sym (before rs r i d (omega (arith, low, same))) k, sym (before ws w i e low) k)) (b.ok i d e low)
+              subst (λ (q : Result (Worked S O) Fault × Worker S). IfOk q.0 (IsDone runs dealer q.1))
+              (λ k. (sym (before rs r i d (omega (arith, low, same))) k, sym (before ws w i e low) k)) (b.ok i d e low)
         ];
         err = λ i d lt. elim (dec_le (length ws) i) [
           | yes le ↦

@@ -37,7 +37,8 @@ module _ {S O : Type 0} (runs : S → ℕ → S → O → Type 0) where
         record { seat_of = f.seat; shares = refl; draws = f.none; rises = tt; ran = refl; may_run = (λ c _ lt. f.may_run c lt) }
 
     pub goes_on : (seat : SeatView) (s : S) (xs ys : List (ℕ × O)) (n : ℕ) (next : SeatView) (t : S) (o : O) → IsUnderway runs ready dealer w seat s xs → n < dealer.chunks → seat.floor ≤ n
-        → next ≡ record seat { draws = seat.draws ++ n ∷ []; floor = n + 1; steps = seat.steps + 1 } → runs s n t o → ((other : ℕ) → other ≢ n → ready s other → ready t other) → ys ≡ xs ++ (n, o) ∷ [] → IsUnderway runs ready dealer w next t ys
+        → next ≡ record seat { draws = seat.draws ++ n ∷ []; floor = n + 1; steps = seat.steps + 1 } → runs s n t o →
+        ((other : ℕ) → other ≢ n → ready s other → ready t other) → ys ≡ xs ++ (n, o) ∷ [] → IsUnderway runs ready dealer w next t ys
     goes_on seat s xs ys n next t o u lt le is ran keeps more =
         let all : chunks_of (xs ++ (n, o) ∷ []) ≡ chunks_of xs ++ n ∷ [] = map-append (λ (x : ℕ × O). x.0) xs ((n, o) ∷ []) in
         subst (λ (z : SeatView × List (ℕ × O)). IsUnderway runs ready dealer w z.0 t z.1) (λ i. (sym is i, sym more i))
@@ -51,7 +52,8 @@ module _ {S O : Type 0} (runs : S → ℕ → S → O → Type 0) where
           may_run = (λ c past below. keeps c (λ e. omega arith) (u.may_run c (omega arith) below));
         }
 
-    pub ends : (seat : SeatView) (s : S) (v : Worked S O) (next : SeatView) → IsUnderway runs ready dealer w seat s v.outs.items → next ≡ record seat { floor = dealer.chunks; steps = next.steps; had_none = true } → v.seat ≡ next → v.state ≡ s → IsDone runs dealer w v
+    pub ends : (seat : SeatView) (s : S) (v : Worked S O) (next : SeatView) → IsUnderway runs ready dealer w seat s v.outs.items →
+        next ≡ record seat { floor = dealer.chunks; steps = next.steps; had_none = true } → v.seat ≡ next → v.state ≡ s → IsDone runs dealer w v
     ends seat s v next u is here same =
         let at : v.seat ≡ record seat { floor = dealer.chunks; steps = next.steps; had_none = true } = here ∙ is in record {
           seat = (ap (λ (z : SeatView). z.dealer) at ∙ u.seat_of.0, ap (λ (z : SeatView). z.chunks) at ∙ u.seat_of.1);

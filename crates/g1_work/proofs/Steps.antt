@@ -1,5 +1,6 @@
 -- Each step on the cursor keeps the rule.
-use Rattle.std.proofs.Common.{◌≡◌, ℕ, zero, suc, ◌+◌, ◌-◌, ◌%◌, ◌^◌, ◌<◌, ◌≤◌, ⊎_elim, ◌||◌, min, max, Bool, true, false, List, [], ◌∷◌, ◌++◌, length, get_or, set, sym, refl, ap, ◌∙◌, subst, arith, length-set, length-append, get_or-set_same, lt_of_not-le}
+use Rattle.std.proofs.Common.{◌≡◌, ℕ, zero, suc, ◌+◌, ◌-◌, ◌%◌, ◌^◌, ◌<◌, ◌≤◌, ⊎_elim, ◌||◌, min, max, Bool, true, false, List, [], ◌∷◌, ◌++◌, length, get_or, set, sym, refl, ap, ◌∙◌, subst}
+use Rattle.std.proofs.Common.{arith, length-set, length-append, get_or-set_same, lt_of_not-le}
 use mathlib.Core.Logic.{dite}
 use mathlib.Core.Option.{none, some, some-injective, some-ne-none}
 use native.Mathlib.Decide.{dec_le}
@@ -48,7 +49,13 @@ total_whole f (x ∷ xs) (suc i) v e idle all = let most = total_at (λ u. u.sha
     let r = total_whole f xs i v e (λ j u h z. idle (suc j) u h z) (omega arith) in omega arith
 
 sound_later : (chunks n m : ℕ) (v : Hand) → n ≤ m → IsSound chunks n v → IsSound chunks m v
-sound_later chunks n m v le s = record { chunks_is = s.chunks_is; idle_draws = s.idle_draws; idle_steps = s.idle_steps; floor_seen = (let f = s.floor_seen in omega arith); none_is_end = s.none_is_end }
+sound_later chunks n m v le s = record {
+  chunks_is = s.chunks_is;
+  idle_draws = s.idle_draws;
+  idle_steps = s.idle_steps;
+  floor_seen = (let f = s.floor_seen in omega arith);
+  none_is_end = s.none_is_end;
+}
 
 -- the rule after a step of one hand
 updated : (chunks n m : ℕ) (views : List Hand) (id : ℕ) (v w : Hand) → Dealing chunks n views → get_elem? views id ≡ some v → w.shares ≡ v.shares
@@ -62,7 +69,8 @@ updated chunks n m views id v w d at shares draws count steps bound le sound = r
   count = (let t = total_set (λ u. length u.draws) views id v w at in let h = d.count in omega arith);
   steps = (let t = total_set (λ u. u.steps) views id v w at in let h = d.steps in omega arith);
   bound = (let t = total_set (λ u. weigh u.had_none u.shares) views id v w at in omega arith);
-  each = (λ j u e. ⊎_elim (λ t. subst (λ (z : Hand). IsSound chunks (min m chunks) z) t.1 sound) (λ t. sound_later chunks (min n chunks) (min m chunks) u le (d.each j u t.1)) (at_set views id j w u e));
+  each = (λ j u e. ⊎_elim (λ t. subst (λ (z : Hand). IsSound chunks (min m chunks) z) t.1 sound)
+      (λ t. sound_later chunks (min n chunks) (min m chunks) u le (d.each j u t.1)) (at_set views id j w u e));
 }
 
 there : (l : List Hand) (i : ℕ) (v : Hand) → get_elem? l i ≡ some v → i < length l
@@ -76,13 +84,15 @@ known_at chunks n views id v d at part =
     let sound = d.each id v at in
     let is : v.chunks ≡ chunks = sound.chunks_is part in
     let most = total_weigh views in let bound = d.bound in let shares = d.shares in let floor = sound.floor_seen in (
-      (λ x. let t : times x v.draws ≤ hands_total (λ (u : Hand). times x u.draws) views = total_at (λ (u : Hand). times x u.draws) views id v at in let h = d.draws x in let k = once_most x (min n chunks) v.chunks (omega arith) in omega arith),
+      (λ x. let t : times x v.draws ≤ hands_total (λ (u : Hand). times x u.draws) views = total_at (λ (u : Hand). times x u.draws) views id v at in
+          let h = d.draws x in let k = once_most x (min n chunks) v.chunks (omega arith) in omega arith),
       (let t : v.steps ≤ hands_total (λ (u : Hand). u.steps) views = total_at (λ (u : Hand). u.steps) views id v at in let h = d.steps in omega arith),
       (λ all.
           let every : hands_total (λ u. u.shares) views ≡ v.shares = d.shares ∙ sym all in
           let steps : v.steps ≡ n = sym (total_whole (λ u. u.steps) views id v at (λ j u e z. (d.each j u e).idle_steps z) every) ∙ d.steps in
           let ends : min v.steps v.chunks ≡ min n chunks = λ i. min (steps i) (is i) in (
-            (λ x. sym (total_whole (λ u. times x u.draws) views id v at (λ j u e z. ap (λ (l : List ℕ). times x l) ((d.each j u e).idle_draws z)) every) ∙ (d.draws x ∙ ap (λ (k : ℕ). once_below x k) (sym ends))),
+            (λ x. sym (total_whole (λ u. times x u.draws) views id v at (λ j u e z. ap (λ (l : List ℕ). times x l) ((d.each j u e).idle_draws z))
+                every) ∙ (d.draws x ∙ ap (λ (k : ℕ). once_below x k) (sym ends))),
             sym (total_whole (λ u. length u.draws) views id v at (λ j u e z. ap (λ (l : List ℕ). length l) ((d.each j u e).idle_draws z)) every) ∙ (d.count ∙ sym ends),
             subst (λ (k : ℕ). v.floor ≤ k) (sym ends) floor,
           )),
@@ -92,7 +102,8 @@ placed : (chunks m id : ℕ) (s : State (Unit {0}) Hand) (me : Sat) (w : Hand) �
 placed chunks m id s me w wide d = (length-set s.words 0 m ∙ wide, subst (λ (z : ℕ). Dealing chunks z (set s.views id w)) (sym (get_or-set_same s.words 0 m 0 (omega arith))) d)
 
 -- the hand after a draw, and the rule
-draws_one : (chunks n id : ℕ) (views : List Hand) (v : Hand) → Dealing chunks n views → get_elem? views id ≡ some v → 0 < v.shares → v.had_none ≡ false → n < chunks → Dealing chunks (n + 1) (set views id (after_draw v n))
+draws_one : (chunks n id : ℕ) (views : List Hand) (v : Hand) → Dealing chunks n views → get_elem? views id ≡ some v → 0 < v.shares →
+    v.had_none ≡ false → n < chunks → Dealing chunks (n + 1) (set views id (after_draw v n))
 draws_one chunks n id views v d at part fresh lt =
     let sound = d.each id v at in let before : min n chunks ≡ n = omega arith in let after : min (n + 1) chunks ≡ n + 1 = omega arith in
     let w : Hand = after_draw v n in
@@ -104,7 +115,8 @@ draws_one chunks n id views v d at part fresh lt =
     (omega arith)
     record { chunks_is = sound.chunks_is; idle_draws = (λ z. absurd (omega arith)); idle_steps = (λ z. absurd (omega arith)); floor_seen = (omega arith); none_is_end = (λ h. cc) }
 
-draws_none : (chunks n id : ℕ) (views : List Hand) (v : Hand) → Dealing chunks n views → get_elem? views id ≡ some v → 0 < v.shares → v.had_none ≡ false → chunks ≤ n → Dealing chunks (n + 1) (set views id (after_none v))
+draws_none : (chunks n id : ℕ) (views : List Hand) (v : Hand) → Dealing chunks n views → get_elem? views id ≡ some v → 0 < v.shares →
+    v.had_none ≡ false → chunks ≤ n → Dealing chunks (n + 1) (set views id (after_none v))
 draws_none chunks n id views v d at part fresh le =
     let sound = d.each id v at in let before : min n chunks ≡ chunks = omega arith in let after : min (n + 1) chunks ≡ chunks = omega arith in
     let is : v.chunks ≡ chunks = sound.chunks_is part in let none_yet : weigh v.had_none v.shares ≡ 0 = ap (λ (b : Bool). weigh b v.shares) fresh in let bound = d.bound in
@@ -139,7 +151,8 @@ takes chunks slots id me part fresh s r _ at _ =
     ))
 
 -- a load changes the floor alone
-looks_at : (chunks n id floor : ℕ) (views : List Hand) (v : Hand) → Dealing chunks n views → get_elem? views id ≡ some v → floor ≤ min n chunks → v.floor ≤ floor → Dealing chunks n (set views id (after_look v floor))
+looks_at : (chunks n id floor : ℕ) (views : List Hand) (v : Hand) → Dealing chunks n views → get_elem? views id ≡ some v → floor ≤ min n chunks →
+    v.floor ≤ floor → Dealing chunks n (set views id (after_look v floor))
 looks_at chunks n id floor views v d at le more =
     let sound = d.each id v at in let bound = d.bound in
     updated chunks n n views id v (after_look v floor) d at refl (λ x. refl) refl refl (omega arith) (omega arith)
@@ -154,14 +167,32 @@ sees chunks slots id me part s r _ at _ =
       keeps,
       tt,
       placed chunks n id s me w r.0 after,
-      (omega arith, refl, refl, (λ all. sym (d.steps) ∙ total_whole (λ u. u.steps) s.views id v at (λ j u e z. (d.each j u e).idle_steps z) (d.shares ∙ sym all)), known_at chunks n (set s.views id w) id w after (set_here s.views id w here) part),
+      (
+        omega arith,
+        refl,
+        refl,
+        (λ all. sym (d.steps) ∙ total_whole (λ u. u.steps) s.views id v at (λ j u e z. (d.each j u e).idle_steps z) (d.shares
+            ∙ sym all)),
+        known_at chunks n (set s.views id w) id w after (set_here s.views id w here) part,
+      ),
     )
 
 pub looks : (chunks slots id : ℕ) (me : Sat) → 0 < me.0.shares → Allows (Dealt chunks) slots id me 0 (λ n. n) (looked (step slots 0 0 0 none) me)
 looks chunks slots id me part s r _ at _ =
     let n : ℕ = get_or s.words 0 0 in let d : Dealing chunks n s.views = r.1 in let v : Hand = me.0 in let sound = d.each id v at in
-    let here = there s.views id v at in let after = looks_at chunks n id v.floor s.views v d at sound.floor_seen (omega arith) in
-    (v, keeps, tt, placed chunks n id s me v r.0 after, (refl, refl, (let most = total_at (λ u. u.shares) s.views id v at in let all = d.shares in omega arith), known_at chunks n s.views id v d at part))
+    let here = there s.views id v at in let after = looks_at chunks n id v.floor s.views v d at sound.floor_seen (omega arith) in (
+      v,
+      keeps,
+      tt,
+      placed chunks n id s me v r.0 after,
+      (
+        refl,
+        refl,
+        (let most = total_at (λ u. u.shares) s.views id v at in let all = d.shares in
+            omega arith),
+        known_at chunks n s.views id v d at part,
+      ),
+    )
 
 weigh_split : (b : Bool) (n : ℕ) → 1 < n → weigh b (n - 1) + weigh b 1 ≡ weigh b n
 weigh_split true n h = omega arith
@@ -188,13 +219,26 @@ splits chunks id v two s r at =
         draws = (λ x. let t = total_set (λ u. times x u.draws) s.views id v a at in let t' = total_snoc (λ u. times x u.draws) l b in let h = d.draws x in omega arith);
         count = (let t = total_set (λ u. length u.draws) s.views id v a at in let t' = total_snoc (λ u. length u.draws) l b in let h = d.count in omega arith);
         steps = (let t = total_set (λ u. u.steps) s.views id v a at in let t' = total_snoc (λ u. u.steps) l b in let h = d.steps in omega arith);
-        bound = (let t = total_set (λ u. weigh u.had_none u.shares) s.views id v a at in let t' = total_snoc (λ u. weigh u.had_none u.shares) l b in let h = d.bound in let k = weigh_split v.had_none v.shares two in omega arith);
+        bound = (let t = total_set (λ u. weigh u.had_none u.shares) s.views id v a at in let t' = total_snoc (λ u. weigh u.had_none u.shares) l b in
+            let h = d.bound in let k = weigh_split v.had_none v.shares two in omega arith);
         each = (λ j u e. ⊎_elim
             (λ e'. ⊎_elim
-            (λ t. subst (λ (z : Hand). IsSound chunks (min n chunks) z) t.1 record { chunks_is = (λ h. sound.chunks_is (omega arith)); idle_draws = (λ z. absurd (omega arith)); idle_steps = (λ z. absurd (omega arith)); floor_seen = sound.floor_seen; none_is_end = sound.none_is_end })
+            (λ t. subst (λ (z : Hand). IsSound chunks (min n chunks) z) t.1 record {
+              chunks_is = (λ h. sound.chunks_is (omega arith));
+              idle_draws = (λ z. absurd (omega arith));
+              idle_steps = (λ z. absurd (omega arith));
+              floor_seen = sound.floor_seen;
+              none_is_end = sound.none_is_end;
+            })
             (λ t. d.each j u t.1)
             (at_set s.views id j a u e'))
-            (λ t. subst (λ (z : Hand). IsSound chunks (min n chunks) z) t record { chunks_is = (λ h. sound.chunks_is (omega arith)); idle_draws = (λ z. refl); idle_steps = (λ z. refl); floor_seen = sound.floor_seen; none_is_end = sound.none_is_end })
+            (λ t. subst (λ (z : Hand). IsSound chunks (min n chunks) z) t record {
+              chunks_is = (λ h. sound.chunks_is (omega arith));
+              idle_draws = (λ z. refl);
+              idle_steps = (λ z. refl);
+              floor_seen = sound.floor_seen;
+              none_is_end = sound.none_is_end;
+            })
             (at_snoc l b u j e));
       },
     )
@@ -209,14 +253,30 @@ joins chunks id other v w p q fv fw s r at apart at' =
       record {
         few = d.few;
         shares = (let t = total_set (λ u. u.shares) s.views id v b at in let t' = total_set (λ u. u.shares) l other w e at' in let h = d.shares in omega arith);
-        draws = (λ x. let t = total_set (λ u. times x u.draws) s.views id v b at in let t' = total_set (λ u. times x u.draws) l other w e at' in let h = d.draws x in let k = times_append x v.draws w.draws in omega arith);
-        count = (let t = total_set (λ u. length u.draws) s.views id v b at in let t' = total_set (λ u. length u.draws) l other w e at' in let h = d.count in let k = length-append v.draws w.draws in omega arith);
+        draws = (λ x. let t = total_set (λ u. times x u.draws) s.views id v b at in let t' = total_set (λ u. times x u.draws) l other w e at' in
+            let h = d.draws x in let k = times_append x v.draws w.draws in omega arith);
+        count = (let t = total_set (λ u. length u.draws) s.views id v b at in let t' = total_set (λ u. length u.draws) l other w e at' in let h =
+            d.count in let k = length-append v.draws w.draws in omega arith);
         steps = (let t = total_set (λ u. u.steps) s.views id v b at in let t' = total_set (λ u. u.steps) l other w e at' in let h = d.steps in omega arith);
-        bound = (let t = total_set (λ u. weigh u.had_none u.shares) s.views id v b at in let t' = total_set (λ u. weigh u.had_none u.shares) l other w e at' in let h = d.bound in let k = weigh_both v.had_none w.had_none v.shares w.shares in omega arith);
+        bound = (let t = total_set (λ u. weigh u.had_none u.shares) s.views id v b at in let t' =
+            total_set (λ u. weigh u.had_none u.shares) l other w e at' in let h = d.bound in let k = weigh_both v.had_none w.had_none v.shares w.shares in omega arith);
         each = (λ j u h. ⊎_elim
-            (λ t. subst (λ (z : Hand). IsSound chunks (min n chunks) z) t.1 record { chunks_is = (λ h. absurd (omega arith)); idle_draws = (λ z. refl); idle_steps = (λ z. refl); floor_seen = (omega arith); none_is_end = (λ h. cc) })
+            (λ t. subst (λ (z : Hand). IsSound chunks (min n chunks) z) t.1 record {
+              chunks_is = (λ h. absurd (omega arith));
+              idle_draws = (λ z. refl);
+              idle_steps = (λ z. refl);
+              floor_seen = (omega arith);
+              none_is_end = (λ h. cc);
+            })
             (λ t. ⊎_elim
-            (λ t'. subst (λ (z : Hand). IsSound chunks (min n chunks) z) t'.1 record { chunks_is = (λ h. iv); idle_draws = (λ z. absurd (omega arith)); idle_steps = (λ z. absurd (omega arith)); floor_seen = (omega arith); none_is_end = (λ h. max_end v.had_none w.had_none v.floor w.floor chunks h sv.none_is_end sw.none_is_end (omega arith) (omega arith)) })
+            (λ t'. subst (λ (z : Hand). IsSound chunks (min n chunks) z) t'.1 record {
+              chunks_is = (λ h. iv);
+              idle_draws = (λ z. absurd (omega arith));
+              idle_steps = (λ z. absurd (omega arith));
+              floor_seen = (omega arith);
+              none_is_end =
+                  (λ h. max_end v.had_none w.had_none v.floor w.floor chunks h sv.none_is_end sw.none_is_end (omega arith) (omega arith));
+            })
             (λ t'. d.each j u t'.1)
             (at_set s.views id j b u t.1))
             (at_set l other j e u h));

@@ -1,5 +1,6 @@
 -- All workers' parts are the whole.
-use Rattle.std.proofs.Common.{◌≡◌, ℕ, zero, suc, ◌<◌, ◌≤◌, List, [], ◌∷◌, ◌++◌, map, length, get_or, sym, refl, ap, ◌∙◌, subst, arith, Result, Ok, Err, IfOk, IfErr, ⊎_elim, inl, All, reverse, IsPermutation}
+use Rattle.std.proofs.Common.{◌≡◌, ℕ, zero, suc, ◌<◌, ◌≤◌, List, [], ◌∷◌, ◌++◌, map, length, get_or, sym, refl, ap, ◌∙◌, subst, arith, Result, Ok, Err, IfOk, IfErr, ⊎_elim, inl, All}
+use Rattle.std.proofs.Common.{reverse, IsPermutation}
 use Rattle.std.proofs.Common.{Global}
 use Rattle.std.specs.declared.collections.VecDeque.{VecDeque}
 use Rattle.std.specs.List.{flat_map, sum_by, enumerate_from}
@@ -57,16 +58,21 @@ at_map f (x ∷ xs) zero d lt = refl
 at_map f (x ∷ xs) (suc k) d lt = at_map f xs k d (omega arith)
 
 -- what holds of each state holds of each worker's
-pub ready_each : {S : Type 0} (P : S → Type 0) (states : List S) (ws : List (Worker S)) → map (λ w. w.state) ws ≡ reverse states → All P states → (k : ℕ) (d : Worker S) → k < length ws → P (get_or ws k d).state
+pub ready_each : {S : Type 0} (P : S → Type 0) (states : List S) (ws : List (Worker S)) → map (λ w. w.state) ws ≡ reverse states → All P states →
+    (k : ℕ) (d : Worker S) → k < length ws → P (get_or ws k d).state
 ready_each {S} P states ws e h k d lt = let a = All-permutation P states (reverse states) (IsPermutation-reverse states) h in let b = subst (λ (l : List S). All P l) (sym e) a in
     subst (λ (s : S). P s) (at_map (λ (w : Worker S). w.state) ws k d lt) (b k d.state (let n = length-map ws (λ (w : Worker S). w.state) in omega arith))
 
-pub are_of : {S O : Type 0} (runs : S → ℕ → S → O → Type 0) (may_fail : ℕ → Fault → Type 0) (dealer : DealerView) (ws : List (Worker S)) (rs : List (Result (Worked S O) Fault)) → AreBack runs may_fail dealer ws rs → AreOf dealer rs
+pub are_of : {S O : Type 0} (runs : S → ℕ → S → O → Type 0) (may_fail : ℕ → Fault →
+    Type 0) (dealer : DealerView) (ws : List (Worker S)) (rs : List (Result (Worked S O) Fault)) → AreBack runs may_fail dealer ws rs → AreOf dealer rs
 are_of runs may_fail dealer [] rs b k d lt = let n = b.len in absurd (omega arith)
-are_of {S} {O} runs may_fail dealer (w ∷ ws) rs b k d lt = let n = b.len in IfOk-weaker (get_or rs k d) (λ (v : Worked S O). IsDone runs dealer (get_or (w ∷ ws) k w) v) (λ (v : Worked S O). IsSeatOf dealer v.seat) (λ v h. h.seat) (b.ok k d w (omega arith))
+are_of {S} {O} runs may_fail dealer (w ∷ ws) rs b k d lt = let n = b.len in
+    IfOk-weaker (get_or rs k d) (λ (v : Worked S O). IsDone runs dealer (get_or (w ∷ ws) k w) v) (λ (v : Worked S O). IsSeatOf dealer v.seat) (λ v h. h.seat) (b.ok k d w (omega arith))
 
 -- a fault among what came back is one of the task's
-pub fault_of : {S O : Type 0} (runs : S → ℕ → S → O → Type 0) (may_fail : ℕ → Fault → Type 0) (dealer : DealerView) (ws : List (Worker S)) (rs : List (Result (Worked S O) Fault)) → AreBack runs may_fail dealer ws rs → (e : Fault) → IsFaultAmong rs e → IsFaultOf may_fail dealer.chunks e
+pub fault_of : {S O : Type 0} (runs : S → ℕ → S → O → Type 0) (may_fail : ℕ → Fault →
+    Type 0) (dealer : DealerView) (ws : List (Worker S)) (rs : List (Result (Worked S O) Fault)) → AreBack runs may_fail dealer ws rs → (e : Fault) →
+    IsFaultAmong rs e → IsFaultOf may_fail dealer.chunks e
 fault_of {S} {O} runs may_fail dealer ws rs b e h = ⊎_elim (λ m. inl m)
     (λ t. let n = b.len in let lt = t.1 in subst (λ (r : Result (Worked S O) Fault). IfErr r (IsFaultOf may_fail dealer.chunks)) t.2 (b.err t.0 (Err e) (omega arith))) h
 
@@ -131,11 +137,14 @@ module _ {S O : Type 0} (runs : S → ℕ → S → O → Type 0) (dealer : Deal
 
   flat_map_map : (ds : List (Worked S O)) → flat_map (λ p. p.items) (map (λ (d : Worked S O). d.outs) ds) ≡ flat_map (λ (d : Worked S O). d.outs.items) ds
   flat_map_map [] = refl
-  flat_map_map (d ∷ ds) = flat_map-cons (λ p. p.items) d.outs (map (λ (d : Worked S O). d.outs) ds) ∙ (ap (λ l. d.outs.items ++ l) (flat_map_map ds) ∙ sym (flat_map-cons (λ (d : Worked S O). d.outs.items) d ds))
+  flat_map_map (d ∷ ds) = flat_map-cons (λ p. p.items) d.outs (map (λ (d : Worked S O). d.outs) ds)
+      ∙ (ap (λ l. d.outs.items ++ l) (flat_map_map ds) ∙ sym (flat_map-cons (λ (d : Worked S O). d.outs.items) d ds))
 
-  module _ (may_fail : ℕ → Fault → Type 0) (states : List S) (ws : List (Worker S)) (rs : List (Result (Worked S O) Fault)) (g : Gathered S O) (hired : IsHired dealer states ws) (back : AreBack runs may_fail dealer ws rs) (got : IsGathered dealer rs g) where
+  module _ (may_fail : ℕ → Fault → Type 0) (states : List S) (ws : List (Worker S)) (rs : List (Result (Worked S O) Fault)) (g : Gathered S O)
+      (hired : IsHired dealer states ws) (back : AreBack runs may_fail dealer ws rs) (got : IsGathered dealer rs g) where
     all_done : AllDone (reverse ws) got.0
-    all_done = let z = zipped_reverse (λ w (r : Result (Worked S O) Fault). IfOk r (IsDone runs dealer w)) ws rs (zipped_from (λ w (r : Result (Worked S O) Fault). IfOk r (IsDone runs dealer w)) ws rs back.len (λ i x y lt. back.ok i y x lt)) in
+    all_done = let z = zipped_reverse (λ w (r : Result (Worked S O) Fault). IfOk r (IsDone runs dealer w)) ws rs
+        (zipped_from (λ w (r : Result (Worked S O) Fault). IfOk r (IsDone runs dealer w)) ws rs back.len (λ i x y lt. back.ok i y x lt)) in
         let e : reverse rs ≡ map Ok got.0 = ap (λ (l : List (Result (Worked S O) Fault)). reverse l) got.1 ∙ reverse-reverse (map Ok got.0) in
         done_from (reverse ws) got.0 (subst (λ (l : List (Result (Worked S O) Fault)). Zipped (λ w (r : Result (Worked S O) Fault). IfOk r (IsDone runs dealer w)) (reverse ws) l) e z)
 
@@ -172,9 +181,11 @@ module _ {S O : Type 0} (runs : S → ℕ → S → O → Type 0) (dealer : Deal
     pub each_run : (os : List O) → IsPermutation (flat_map (λ p. p.items) g.parts.items) (enumerate_from 0 os) × (length os ≡ dealer.chunks) → IsEachRun runs dealer.chunks states g.states.items os
     each_run os placed =
         let ds = got.0 in
-        let before : map (λ (w : Worker S). w.state) (reverse ws) ≡ states = rev_map (λ (w : Worker S). w.state) ws ∙ (ap (λ (l : List S). reverse l) hired.of_states ∙ reverse-reverse states) in record {
+        let before : map (λ (w : Worker S). w.state) (reverse ws) ≡ states = rev_map (λ (w : Worker S). w.state) ws
+        ∙ (ap (λ (l : List S). reverse l) hired.of_states ∙ reverse-reverse states) in record {
           parts = map (λ (d : Worked S O). d.outs.items) ds;
-          workers = subst (λ (t : List S × List S). EachRan runs dealer.chunks t.0 (map (λ (d : Worked S O). d.outs.items) ds) t.1) (λ i. (before i, sym got.2.states i)) (each_ran (reverse ws) ds all_done);
+          workers = subst (λ (t : List S × List S). EachRan runs dealer.chunks t.0 (map (λ (d : Worked S O). d.outs.items) ds) t.1)
+              (λ i. (before i, sym got.2.states i)) (each_ran (reverse ws) ds all_done);
           once = subst (λ (l : List (ℕ × O)). IsPermutation l (enumerate_from 0 os)) (outs_are ∙ sym (joined_is (λ (d : Worked S O). d.outs.items) ds)) placed.0;
           count = placed.1;
         }

@@ -8,7 +8,12 @@ use Rattle.g1_work.proofs.each.each_chunk.Goals as goal
 
 pub run_all-requires-after_bounds : goal.run_all-requires-after_bounds
 run_all-requires-after_bounds g c κs within = λ k d lt. let h = c.in_ok-workers.ensures in let s = h.seats k d lt in let n = c.in_ok-dealer.ensures.chunks in
-    record { seat = s.0; none = s.1; may_run = (λ chunk below. ready_each (λ (t : g.row.T-State.Denot). (i : ℕ) → i < c.args.chunks → g.T.Task.ready c.args.task.now t i) _ _ h.of_states c.requires.ready k d lt chunk (omega arith)) }
+    record {
+      seat = s.0;
+      none = s.1;
+      may_run = (λ chunk below. ready_each (λ (t : g.row.T-State.Denot). (i : ℕ) → i < c.args.chunks →
+          g.T.Task.ready c.args.task.now t i) _ _ h.of_states c.requires.ready k d lt chunk (omega arith));
+    }
 
 pub gather-requires-clause-seats : goal.gather-requires-clause-seats
 gather-requires-clause-seats g c = are_of _ _ _ _ _ c.in_ok-results.ensures
@@ -37,4 +42,5 @@ returns-clause-ok g c = subst (λ (n : ℕ). IsEachRun (g.T.Task.runs c.args.tas
 pub returns-in_err-seat-clause-err : goal.returns-in_err-seat-clause-err
 returns-in_err-seat-clause-err g c =
     let p = err_from_is_err_and c.from_residual-in_err-seat.result c.from_residual-in_err-seat.ensures.1 in
-    rw (p.1, p.2) (subst (λ (n : ℕ). IsFaultOf (g.T.Task.may_fail c.args.task.now) n c.in_err-seat.field-0.0) c.in_ok-dealer.ensures.chunks (fault_of _ _ _ _ _ c.in_ok-results.ensures _ c.in_err-seat.ensures.err))
+    rw (p.1, p.2) (subst (λ (n : ℕ). IsFaultOf (g.T.Task.may_fail c.args.task.now) n c.in_err-seat.field-0.0) c.in_ok-dealer.ensures.chunks
+    (fault_of _ _ _ _ _ c.in_ok-results.ensures _ c.in_err-seat.ensures.err))

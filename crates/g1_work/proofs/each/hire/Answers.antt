@@ -16,7 +16,12 @@ pub loop-states-smaller : goal.loop-states-smaller
 loop-states-smaller g c = omega (arith, c.in-Some.ensures.len)
 
 pub loop-states-preserved : goal.loop-states-preserved
-loop-states-preserved g c = let h = c.loop-states.invariant.0 in (goes_on _ _ _ _ _ _ _ _ _ c.loop-states.invariant.0 c.in-Some.ensures.items (omega (arith, h.kept, h.count)) c.split-theirs.ensures.left c.split-theirs.ensures.dealer c.split-theirs.ensures.share c.split-theirs.ensures.no_draws c.in_ok-push.ensures.items, omega (arith, c.in-Some.ensures.len))
+loop-states-preserved g c = let h = c.loop-states.invariant.0 in (
+  goes_on _ _ _ _ _ _ _ _ _ c.loop-states.invariant.0 c.in-Some.ensures.items
+      (omega (arith, h.kept, h.count)) c.split-theirs.ensures.left c.split-theirs.ensures.dealer c.split-theirs.ensures.share
+      c.split-theirs.ensures.no_draws c.in_ok-push.ensures.items,
+  omega (arith, c.in-Some.ensures.len),
+)
 
 pub returns : goal.returns
 returns g c =

@@ -9,6 +9,8 @@ pub loop-worker-preserved : goal.loop-worker-preserved
 loop-worker-preserved g c = record {
   more = tt;
   ends = tt;
-  back = subst (λ (rs : List (Result (Worked g.row.T-State.Denot g.row.T-Out.Denot) Fault)). AreBack (g.T.Task.runs c.args.task.now) (g.T.Task.may_fail c.args.task.now) c.args.dealer.now (c.loop-worker.yielded ++ c.in-Some.worker ∷ []) rs) (sym c.in_ok-push.ensures.items)
-      (back_more (g.T.Task.runs c.args.task.now) (g.T.Task.may_fail c.args.task.now) c.args.dealer.now c.loop-worker.yielded c.loop-worker.results.items c.in-Some.worker c.work-result.result c.loop-worker.invariant.back c.work-result.ensures.ok c.work-result.ensures.err);
+  back = subst (λ (rs : List (Result (Worked g.row.T-State.Denot g.row.T-Out.Denot) Fault)). AreBack (g.T.Task.runs c.args.task.now)
+      (g.T.Task.may_fail c.args.task.now) c.args.dealer.now (c.loop-worker.yielded ++ c.in-Some.worker ∷ []) rs) (sym c.in_ok-push.ensures.items)
+      (back_more (g.T.Task.runs c.args.task.now) (g.T.Task.may_fail c.args.task.now) c.args.dealer.now c.loop-worker.yielded
+      c.loop-worker.results.items c.in-Some.worker c.work-result.result c.loop-worker.invariant.back c.work-result.ensures.ok c.work-result.ensures.err);
 }
