@@ -3,6 +3,7 @@ use Rattle.std.proofs.Common.{◌≡◌, ℕ, ◌+◌, ◌*◌, ◌/◌, ◌<◌
 use Rattle.std.proofs.Math.Seq.{take-length}
 use Rattle.std.proofs.lemmas.List.{take_more}
 use Rattle.std.proofs.lemmas.List.Sums.{sum-map, sum_by_push}
+use Rattle.g1_words.specs.Geometry.{most_words}
 use Rattle.g1_words.specs.Heap.{Heap, object_at}
 use Rattle.g1_words.specs.Layout.{sizes_of}
 use Rattle.g1_words.specs.Valid.{IsValid}
@@ -33,7 +34,7 @@ module _ (h : Heap) (l : List ℕ) where
       few = omega (arith, before.few, fits);
     }
 
-    pub Counted-fits : length l ≤ 2 ^ 24 → count + header / 2 ^ 32 < 2 ^ 64
+    pub Counted-fits : length l ≤ most_words → count + header / 2 ^ 32 < 2 ^ 64
     Counted-fits few = omega (arith, few, there, before.few, fits)
 
   pub Counted-end : (i count : ℕ) → Counted i count → i ≡ length l → count ≡ sum (sizes_of h l)

@@ -40,7 +40,8 @@ leaves_output mark (fault.Device device.Output) none = absurd (none refl)
 leaves_output mark _ none = refl
 
 -- a run gives the refusal that is the answer
-answered : (cost : Cost) (choice : Choice) (xs : List ℕ) (old : Option (List ℕ)) (e : Fault) → e ≢ fault.Device device.Output → IsAnswer cost choice xs (Err e) → RunGives cost choice xs old old (Err e)
+answered : (cost : Cost) (choice : Choice) (xs : List ℕ) (old : Option (List ℕ)) (e : Fault) → e ≢ fault.Device device.Output →
+    IsAnswer cost choice xs (Err e) → RunGives cost choice xs old old (Err e)
 answered cost choice xs old fault.Memory none a = Keeps-refl old
 answered cost choice xs old (fault.Device device.Input) none a = Keeps-refl old
 answered cost choice xs old (fault.Device device.Output) none a = absurd (none refl)
@@ -62,7 +63,8 @@ run_refused cost choice (Some xs) old i e none t (inl p) = subst (λ f. RunGives
 run_refused cost choice (Some xs) old i e none t (inr a) = answered cost choice xs old e (none device.Output) (a xs t)
 
 -- the text of the image after being what is sent to the sink, the answer stands, or where the output failed a beginning of it
-gives : (cost : Cost) (choice : Choice) (xs text : List ℕ) (old new : Option (List ℕ)) (r : Result (Unit {0}) Fault) → IsAnswer cost choice xs (Ok text) → Writes text old new r → RunGives cost choice xs old new r
+gives : (cost : Cost) (choice : Choice) (xs text : List ℕ) (old new : Option (List ℕ)) (r : Result (Unit {0}) Fault) →
+    IsAnswer cost choice xs (Ok text) → Writes text old new r → RunGives cost choice xs old new r
 gives cost choice xs text old new (Ok u) a w = (text, a, w)
 gives cost choice xs text old new (Err fault.Memory) a w = w
 gives cost choice xs text old new (Err (fault.Device device.Output)) a w = (text, w.0, a, w.1, w.2)

@@ -5,11 +5,8 @@ ghost use Rattle.g1_copy.specs.Plans.{IsPlanOf};
 
 use g1_image::Image;
 use g1_layout::Plan;
-use g1_words::{Fault, Heap};
+use g1_words::{Fault, Heap, header};
 use std::alloc::Global;
-
-/// A header word is the object's size in words times this, plus its number of references.
-const REFS_RANGE: u64 = 4_294_967_296;
 
 /// What a pause did.
 #[derive(Debug, Drop)]
@@ -34,7 +31,7 @@ fn copied_words(heap: &Heap, survivors: &[u64]) -> u64
     let words = heap.words();
     let mut count: u64 = 0;
     for a in survivors {
-        count += words[*a as usize] / REFS_RANGE;
+        count += header(words, *a).size;
     }
     count
 }

@@ -17,7 +17,8 @@ returns-in_err-before-clause-only_fault g c =
 
 pub returns-in-Ok-clause-answer : goal.returns-in-Ok-clause-answer
 returns-in-Ok-clause-answer g c =
-    text_told c.args.settings.now.cost c.args.settings.now.choice c.args.bytes.now c.in_ok-before.before c.in-Ok.after c.image.result.now c.encode.result c.in_ok-before.ensures.ok c.in-Ok.ensures.answer c.image.ensures.same
+    text_told c.args.settings.now.cost c.args.settings.now.choice c.args.bytes.now c.in_ok-before.before c.in-Ok.after c.image.result.now
+    c.encode.result c.in_ok-before.ensures.ok c.in-Ok.ensures.answer c.image.ensures.same
     c.encode.ensures.ok
 
 pub returns-in-Ok-clause-only : goal.returns-in-Ok-clause-only

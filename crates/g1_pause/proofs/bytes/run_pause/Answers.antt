@@ -11,7 +11,8 @@ returns-in-Ok-evacuate-clause-answer g c =
 
 pub returns-clause-fault : goal.returns-clause-fault
 returns-clause-fault g c =
-    refused_told c.args.settings.now.cost c.args.settings.now.choice c.args.before c.in-Ok.tracked c.in-Err-evacuate.fault c.in-Ok.ensures.ok c.evacuate.ensures.tracked c.in-Err-evacuate.ensures.refused
+    refused_told c.args.settings.now.cost c.args.settings.now.choice c.args.before c.in-Ok.tracked c.in-Err-evacuate.fault c.in-Ok.ensures.ok
+    c.evacuate.ensures.tracked c.in-Err-evacuate.ensures.refused
 
 pub returns-in-Err-clause-no_device : goal.returns-in-Err-clause-no_device
 returns-in-Err-clause-no_device g c = bare_names_none c.args.before c.in-Err.fault c.in-Err.ensures.fault

@@ -33,7 +33,8 @@ discover-requires-clause-window g c κs within =
 
 pub discover-requires-clause-cards : goal.discover-requires-clause-cards
 discover-requires-clause-cards g c κs within =
-    cards_there c.heap-heap.result.now c.deref-5.result.now c.deref-3.result.now (map (λ s. s.items) c.deref-2.result.now) c.cards_lead_in.ensures.outside (c.deref-5.ensures.value ∙ c.in_ok-cards.ensures.ok)
+    cards_there c.heap-heap.result.now c.deref-5.result.now c.deref-3.result.now (map (λ s. s.items) c.deref-2.result.now)
+    c.cards_lead_in.ensures.outside (c.deref-5.ensures.value ∙ c.in_ok-cards.ensures.ok)
 
 pub discover-requires-clause-outside : goal.discover-requires-clause-outside
 discover-requires-clause-outside g c κs within =
@@ -108,12 +109,14 @@ returns-clause-report g c =
     let is : IsImage t = subst IsImage same c.heap-heap.ensures.valid in
     let tracked : IsTracked i = record { image = c.heap-heap.ensures.valid; covered = subst Covered (sym same) c.image-image.ensures.covered } in
     let chosen : IsSetFor c.args.settings.now.cost t c.args.settings.now.choice c.deref-9.result.now =
-    subst (IsSetFor c.args.settings.now.cost t c.args.settings.now.choice) (sym c.deref-9.ensures.value) (subst (λ (j : Image). IsSetFor c.args.settings.now.cost j c.args.settings.now.choice c.in_ok-set.set.items) same c.in_ok-set.ensures.set) in
+    subst (IsSetFor c.args.settings.now.cost t c.args.settings.now.choice) (sym c.deref-9.ensures.value)
+    (subst (λ (j : Image). IsSetFor c.args.settings.now.cost j c.args.settings.now.choice c.in_ok-set.set.items) same c.in_ok-set.ensures.set) in
     let made =
     set_planned c.args.settings.now.cost c.args.settings.now.choice i c.heap-heap.result.now c.heap-heap.ensures.same c.in_ok-set.set.items c.in_ok-set.ensures.set
     c.deref-6.result.now c.deref-4.result.now c.deref-4.result.now c.deref-7.result.now c.in_ok-survivors.survivors.items c.in_ok-plan.plan c.place.result tracked c.placeable.ensures
     c.deref-6.ensures.value c.deref-4.ensures.value c.deref-4.ensures.value c.deref-7.ensures.value c.in_ok-survivors.ensures.ok c.in_ok-plan.was c.in_ok-plan.ensures.plan c.place.ensures.room in
-    reported c.args.settings.now.cost c.args.settings.now.choice t c.deref-9.result.now c.in_ok-plan.plan.survivors c.in_ok-prepared.prepared c.in_ok-report.report is.heap chosen c.in_ok-prepared.ensures.ok
+    reported c.args.settings.now.cost c.args.settings.now.choice t c.deref-9.result.now c.in_ok-plan.plan.survivors c.in_ok-prepared.prepared
+    c.in_ok-report.report is.heap chosen c.in_ok-prepared.ensures.ok
     (c.in_ok-report.ensures.set ∙ sym c.deref-9.ensures.value)
     (c.in_ok-report.ensures.to ∙ ap (λ (q : Plan). q.to_space) made.made.plan ∙ ap (λ (j : Image). to_space j.heap c.in_ok-plan.plan.survivors) same)
     c.in_ok-report.ensures.objects

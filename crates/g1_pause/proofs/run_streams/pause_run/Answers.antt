@@ -9,7 +9,8 @@ use Rattle.g1_pause.proofs.run_streams.pause_run.Goals as goal
 pub returns-in_err-before-clause-answer : goal.returns-in_err-before-clause-answer
 returns-in_err-before-clause-answer g c =
     let same = err_from_is_err_and c.from_residual.result c.from_residual.ensures.1 in
-    rw (same.1, same.2) (run_unread c.args.settings.now.cost c.args.settings.now.choice (g.I.Source.left c.args.reader.now) (g.O.Sink.written c.args.writer.now) c.in_err-before.field-0.0 c.in_err-before.ensures.no_output c.in_err-before.ensures.err)
+    rw (same.1, same.2) (run_unread c.args.settings.now.cost c.args.settings.now.choice (g.I.Source.left c.args.reader.now)
+    (g.O.Sink.written c.args.writer.now) c.in_err-before.field-0.0 c.in_err-before.ensures.no_output c.in_err-before.ensures.err)
 
 pub returns-in_err-before-clause-output : goal.returns-in_err-before-clause-output
 returns-in_err-before-clause-output g c =
@@ -19,12 +20,14 @@ returns-in_err-before-clause-output g c =
 pub returns-in-Ok-clause-answer : goal.returns-in-Ok-clause-answer
 returns-in-Ok-clause-answer g c =
     let text = c.write.ensures.text in
-    run_written c.args.settings.now.cost c.args.settings.now.choice (g.I.Source.left c.args.reader.now) (g.O.Sink.written c.args.writer.now) (g.O.Sink.written c.write.new.sink) c.in_ok-before.before c.in-Ok.after c.image.result.now c.write.result
+    run_written c.args.settings.now.cost c.args.settings.now.choice (g.I.Source.left c.args.reader.now) (g.O.Sink.written c.args.writer.now)
+    (g.O.Sink.written c.write.new.sink) c.in_ok-before.before c.in-Ok.after c.image.result.now c.write.result
     c.in_ok-before.ensures.ok c.in-Ok.ensures.answer c.image.ensures.same text.0 text.1 text.2
 
 pub returns-in-Err-clause-answer : goal.returns-in-Err-clause-answer
 returns-in-Err-clause-answer g c =
-    run_refused c.args.settings.now.cost c.args.settings.now.choice (g.I.Source.left c.args.reader.now) (g.O.Sink.written c.args.writer.now) c.in_ok-before.before c.in-Err.fault c.in-Err.ensures.no_device c.in_ok-before.ensures.ok c.in-Err.ensures.fault
+    run_refused c.args.settings.now.cost c.args.settings.now.choice (g.I.Source.left c.args.reader.now) (g.O.Sink.written c.args.writer.now)
+    c.in_ok-before.before c.in-Err.fault c.in-Err.ensures.no_device c.in_ok-before.ensures.ok c.in-Err.ensures.fault
 
 pub returns-in-Err-clause-input : goal.returns-in-Err-clause-input
 returns-in-Err-clause-input g c = c.in_ok-before.ensures.marks ∙ leaves_input (g.I.Source.failed c.args.reader.now) c.in-Err.fault c.in-Err.ensures.no_device
