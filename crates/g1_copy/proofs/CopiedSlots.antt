@@ -1,5 +1,6 @@
 -- The slots of the survivors at their places.
-use Rattle.std.proofs.Common.{◌≡◌, ◌≢◌, ◌≤◌, ◌<◌, ℕ, zero, suc, ◌+◌, ◌*◌, ◌/◌, ◌%◌, inl, inr, Bool, true, false, not, List, length, get_or, filter, All, Contains, arith, refl, ap, subst, ◌∙◌, eqb, div-add-mod', flat_map, take, sym}
+use Rattle.std.proofs.Common.{◌≡◌, ◌≢◌, ◌≤◌, ◌<◌, ℕ, zero, suc, ◌+◌, ◌*◌, ◌/◌, ◌%◌, inl, inr, Bool, true, false, not, List, length, get_or, filter, All, Contains, arith, refl, ap, subst}
+use Rattle.std.proofs.Common.{◌∙◌, eqb, div-add-mod', flat_map, take, sym}
 use Rattle.std.specs.List.{range_with_len}
 use Rattle.std.proofs.lemmas.List.{get_or_default, get_or-take, length-take}
 use Rattle.std.proofs.Math.Nat.{mul-le-mul_right}

@@ -1,5 +1,6 @@
 -- The slots of the survivors, as they are read from the words of to-space.
-use Rattle.std.proofs.Common.{◌≡◌, ◌≢◌, ◌≤◌, ◌<◌, ℕ, zero, suc, ◌+◌, ◌-◌, ◌*◌, ◌%◌, ◌^◌, inl, inr, Bool, true, false, not, cond, List, [], ◌∷◌, ◌++◌, length, get_or, slice_index, map, filter, flat_map, take, drop, Contains, arith, refl, sym, ap, ◌∙◌, eqb, ne_eqb, append-nil, All, subst}
+use Rattle.std.proofs.Common.{◌≡◌, ◌≢◌, ◌≤◌, ◌<◌, ℕ, zero, suc, ◌+◌, ◌-◌, ◌*◌, ◌%◌, ◌^◌, inl, inr, Bool, true, false, not, cond, List, [], ◌∷◌, ◌++◌, length, get_or, slice_index, map}
+use Rattle.std.proofs.Common.{filter, flat_map, take, drop, Contains, arith, refl, sym, ap, ◌∙◌, eqb, ne_eqb, append-nil, All, subst}
 use Rattle.std.specs.List.{range_with_len, slice_range}
 use Rattle.std.proofs.lemmas.List.{get_or-drop, get_or-map, get_or-take, length-drop, length-map, length-take-le, map-append, take_more}
 use Rattle.std.proofs.lemmas.List.Elements.{filter-append}
@@ -8,6 +9,7 @@ use Rattle.std.proofs.lemmas.List.Sums.{count_by-le-length, length-filter}
 use Rattle.std.proofs.lemmas.Grind.{flat_map-append, same_number_lists}
 use Rattle.std.proofs.Math.Nat.{mul-le-mul_right}
 use Rattle.std.proofs.Math.ListN.{get_or-append}
+use Rattle.g1_words.specs.Geometry.{most_words}
 use Rattle.g1_words.specs.declared.object.Object.{Object}
 use Rattle.g1_words.specs.Heap.{Heap, is_free, kind, object_at, regions, start, word}
 use Rattle.g1_words.specs.Layout.{forward, free_regions, laid, need, places, sizes_of}
@@ -216,7 +218,7 @@ module _ (h : Heap) (set l : List ℕ) (valid : IsValid h) (can : CanPlace h set
   region_below t there = (is_free_region h (get_or (free_regions h) t 0) (get_or-In (free_regions h) t 0 (omega (arith, there, room)))).1
 
   -- the words of a region end within those of to-space, which are few
-  pub region_ends : (t : ℕ) → t < need h l → (t * h.geometry.w + h.geometry.w ≤ length (to_space_words h l)) × (t * h.geometry.w + h.geometry.w ≤ 2 ^ 24)
+  pub region_ends : (t : ℕ) → t < need h l → (t * h.geometry.w + h.geometry.w ≤ length (to_space_words h l)) × (t * h.geometry.w + h.geometry.w ≤ most_words)
   region_ends t there =
       let whole = length-to_space_words h l room in
       let rows : (t + 1) * h.geometry.w ≤ need h l * h.geometry.w = mul-le-mul_right h.geometry.w (omega (arith, there)) in
@@ -231,7 +233,8 @@ module _ (h : Heap) (set l : List ℕ) (valid : IsValid h) (can : CanPlace h set
       let r = get_or (free_regions h) t 0 in
       let width : t * h.geometry.w + h.geometry.w - t * h.geometry.w ≡ h.geometry.w = omega arith in
       let rest = length-drop (t * w) (to_space_words h l) in
-      let count : length (take h.geometry.w (drop (t * h.geometry.w) (to_space_words h l))) ≡ h.geometry.w = length-take-le w (drop (t * w) (to_space_words h l)) (omega (arith, rest, (region_ends t there).0)) in
+      let count : length (take h.geometry.w (drop (t * h.geometry.w) (to_space_words h l))) ≡ h.geometry.w =
+      length-take-le w (drop (t * w) (to_space_words h l)) (omega (arith, rest, (region_ends t there).0)) in
       ap (λ n. take n (drop (t * w) (to_space_words h l))) width
       ∙ same_number_lists (take w (drop (t * w) (to_space_words h l))) (placed_words h l r) (count ∙ sym (length-placed_words h l r))
       (λ k lt.
@@ -295,7 +298,7 @@ module _ (h : Heap) (p : Plan) (made : IsPlanOf h p) where
       listed = in_list h p.set p.survivors valid can room one.0 there i from to
 
       -- a heap has few words, so few survivors
-      pub index_small : i < 2 ^ 24
+      pub index_small : i < most_words
       index_small = omega (arith, listed, (can_lay h p.set p.survivors valid can).few)
 
       -- there is a place for each survivor
@@ -344,7 +347,8 @@ module _ (h : Heap) (p : Plan) (made : IsPlanOf h p) where
           -- what they name is there
           pub slots_named : (k : ℕ) → k < slice_index words at % 2 ^ 32 → slice_index words (at + k + 1) ≤ h.geometry.n * h.geometry.w
           slots_named k less =
-              let is : slice_index words (at + k + 1) ≡ slice_index (placed_words h p.survivors (get_or (free_regions h) one.0 0)) (offset h p.set p.survivors valid can room i + k + 1) = λ j. slice_index (words_there j) (at_offset j + k + 1) in
+              let is : slice_index words (at + k + 1) ≡ slice_index (placed_words h p.survivors (get_or (free_regions h) one.0 0))
+              (offset h p.set p.survivors valid can room i + k + 1) = λ j. slice_index (words_there j) (at_offset j + k + 1) in
               omega (arith, is, named_there h p.set p.survivors valid can room one.0 there i from to k (omega (arith, less, refs_are)))
 
           -- the slots of the survivors before this one stand below it

@@ -1,5 +1,6 @@
 -- The table of fates that is made for a plan.
-use Rattle.std.proofs.Common.{◌≡◌, ◌≢◌, ℕ, suc, ◌+◌, ◌<◌, ◌⊎◌, inl, inr, Bool, true, false, cond, ◌||◌, List, [], ◌∷◌, ◌++◌, All, AllPairs, Some, None, length, get_or, set, replicate, position, refl, sym, ◌∙◌, ap, subst, arith, eqb}
+use Rattle.std.proofs.Common.{◌≡◌, ◌≢◌, ℕ, suc, ◌+◌, ◌<◌, ◌⊎◌, inl, inr, Bool, true, false, cond, ◌||◌, List, [], ◌∷◌, ◌++◌, All, AllPairs, Some, None, length, get_or, set, replicate}
+use Rattle.std.proofs.Common.{position, refl, sym, ◌∙◌, ap, subst, arith, eqb}
 use Rattle.std.proofs.lemmas.Bool.{cases_Bool, cases_lt, false≢true}
 use Rattle.std.proofs.lemmas.List.{get_or-replicate, get_or-set_other, get_or-set_same, length-replicate, length-set}
 use Rattle.std.proofs.lemmas.List.Folds.{list_any-append}
@@ -79,7 +80,8 @@ run_there set to once r t e = elim (has_fate set to once r) [
 pub Replaced-start : (place : ℕ → ℕ) (told : ℕ → Fate) (old : List Fate) → AreReplaced 0 place told old old
 Replaced-start place told old = record { size = refl; replaced = λ t lt. absurd (omega arith); others = λ r f. refl }
 
-module _ (n : ℕ) (place : ℕ → ℕ) (told : ℕ → Fate) (old cur new : List Fate) (before : AreReplaced n place told old cur) (there : place n < length old) (agree : (t : ℕ) → t < n → place t ≡ place n → told t ≡ told n)
+module _ (n : ℕ) (place : ℕ → ℕ) (told : ℕ → Fate) (old cur new : List Fate) (before : AreReplaced n place told old cur)
+    (there : place n < length old) (agree : (t : ℕ) → t < n → place t ≡ place n → told t ≡ told n)
     (is : new ≡ set cur (place n) (told n)) where
   replaced_here : get_or new (place n) Kept ≡ told n
   replaced_here = ap (λ xs. get_or xs (place n) Kept) is ∙ get_or-set_same cur (place n) (told n) Kept (omega (arith, there, before.size))
@@ -128,7 +130,8 @@ fate_beside set freed to r e = ap (λ b. cond b Freed (filled_or_kept (position 
   or_false_right false = refl
 
 -- the table with these regions freed
-pub freed_beside : (h : Heap) (set freed to : List ℕ) (one two : List Fate) → AreFates h set to one → AreReplaced (length freed) (λ t. get_or freed t 0) (λ t. Freed) one two → AreFates h (set ++ freed) to two
+pub freed_beside : (h : Heap) (set freed to : List ℕ) (one two : List Fate) → AreFates h set to one →
+    AreReplaced (length freed) (λ t. get_or freed t 0) (λ t. Freed) one two → AreFates h (set ++ freed) to two
 freed_beside h set freed to one two are new = record {
   one_each = new.size ∙ are.one_each;
   each = λ r lt. elim (cases_Bool (has freed r)) [
@@ -165,7 +168,8 @@ module _ (h : Heap) (chosen : List ℕ) (p : Plan) (valid : IsValid h) (pause : 
   to_space_distinct to e i j d a b same = let k = distinct_places to i j d (subst Distinct (sym (e ∙ to_space_is)) once) (omega arith) b same in omega arith
 
   -- the table, filled and then freed
-  module _ (to : List ℕ) (same : to ≡ p.to_space) (start one two : List Fate) (kept : start ≡ replicate h.geometry.n Kept) (filled : AreReplaced (length to) (λ t. get_or to t 0) (λ t. Filled t) start one)
+  module _ (to : List ℕ) (same : to ≡ p.to_space) (start one two : List Fate) (kept : start ≡ replicate h.geometry.n Kept)
+      (filled : AreReplaced (length to) (λ t. get_or to t 0) (λ t. Filled t) start one)
       (freed : AreReplaced (length chosen) (λ t. get_or chosen t 0) (λ t. Freed) one two) where
     off : (xs : List ℕ) (r : ℕ) → has xs r ≡ false → (t : ℕ) → t < length xs → get_or xs t 0 ≡ r → ⊥
     off xs r e t lt g = false≢true (sym e ∙ ap (has xs) (sym g) ∙ has_from_in xs (get_or xs t 0) (get_or-In xs t 0 lt))

@@ -1,8 +1,10 @@
 -- How a copy is written: the words of the object first, then each slot's new word.
-use Rattle.std.proofs.Common.{◌≡◌, ℕ, suc, ◌+◌, ◌*◌, ◌/◌, ◌%◌, ◌^◌, ◌<◌, ◌≤◌, ◌⊎◌, inl, inr, Bool, true, false, List, length, get_or, set, take, drop, Contains, refl, sym, ◌∙◌, ap, subst, arith, div-add-mod', mod-lt}
+use Rattle.std.proofs.Common.{◌≡◌, ℕ, suc, ◌+◌, ◌*◌, ◌/◌, ◌%◌, ◌^◌, ◌<◌, ◌≤◌, ◌⊎◌, inl, inr, Bool, true, false, List, length, get_or, set, take, drop, Contains, refl, sym, ◌∙◌, ap, subst}
+use Rattle.std.proofs.Common.{arith, div-add-mod', mod-lt}
 use Rattle.std.proofs.Math.Nat.{mul-le-mul_right}
 use Rattle.std.proofs.lemmas.Bool.{cases_lt}
 use Rattle.std.proofs.lemmas.List.{ext_get_or, get_or-drop, get_or-take, get_or-set_same, get_or-set_other, length-set}
+use Rattle.g1_words.specs.Geometry.{most_words}
 use Rattle.g1_words.proofs.Bounds.{object_within}
 use Rattle.g1_words.proofs.Computed.{contains_has, has_contains}
 use Rattle.g1_words.proofs.Indices.{is_free_region, taken_in}
@@ -67,7 +69,7 @@ bool_cases false = inr refl
 -- an object's words are there, its slots among them, and f renames these to words
 pub record IsThere (h : Heap) (f : ℕ → ℕ) (o : Object) : Type 0 where
   pub within : o.at + o.size ≤ length h.words
-  pub few : length h.words ≤ 2 ^ 24
+  pub few : length h.words ≤ most_words
   pub refs_fit : o.refs < o.size
   pub small : o.size ≤ h.geometry.w
   pub slots : (k : ℕ) → 0 < k → k ≤ o.refs → renamed f (word h (o.at + k)) < 2 ^ 64
@@ -78,7 +80,8 @@ module _ (h : Heap) (set l : List ℕ) (valid : IsValid h) (can : CanPlace h set
   forward_below a lt = elim (bool_cases (has l a)) [
     | inl t ↦
         let k = within_region h set l valid can room a (Contains-from_in l a (in_from_has l a t)) in
-        let free = is_free_region h (region_of h (forward h l a)) (taken_in (need h l) (free_regions h) (region_of h (forward h l a)) (In-from_contains (to_space h l) (region_of h (forward h l a)) k.0)) in
+        let free = is_free_region h (region_of h (forward h l a)) (taken_in (need h l) (free_regions h) (region_of h (forward h l a))
+        (In-from_contains (to_space h l) (region_of h (forward h l a)) k.0)) in
         let parts : forward h l a / h.geometry.w * h.geometry.w + forward h l a % h.geometry.w ≡ forward h l a = div-add-mod' (forward h l a) h.geometry.w in
         let below : (forward h l a / h.geometry.w + 1) * h.geometry.w ≤ h.geometry.n * h.geometry.w = mul-le-mul_right h.geometry.w (omega (arith, free.1)) in
         let offset : forward h l a % h.geometry.w < h.geometry.w = mod-lt (forward h l a) (omega (arith, valid.limits.w_least)) in

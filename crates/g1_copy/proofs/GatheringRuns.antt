@@ -1,5 +1,6 @@
 -- How a region of to-space is filled: survivor by survivor of its run.
-use Rattle.std.proofs.Common.{◌≡◌, ℕ, ◌+◌, ◌-◌, ◌*◌, ◌/◌, ◌%◌, ◌<◌, ◌≤◌, ◌⊎◌, inl, inr, List, ◌++◌, length, get_or, map, take, drop, replicate, refl, sym, ◌∙◌, ap, subst, arith, length-append, length-drop}
+use Rattle.std.proofs.Common.{◌≡◌, ℕ, ◌+◌, ◌-◌, ◌*◌, ◌/◌, ◌%◌, ◌<◌, ◌≤◌, ◌⊎◌, inl, inr, List, ◌++◌, length, get_or, map, take, drop, replicate, refl, sym, ◌∙◌, ap, subst, arith}
+use Rattle.std.proofs.Common.{length-append, length-drop}
 use Rattle.std.proofs.Math.Nat.{mul-div_left, mul-le-mul_right}
 use Rattle.std.proofs.lemmas.Bool.{cases_lt}
 use Rattle.std.proofs.lemmas.List.{ext_get_or, get_or-append_right, get_or-drop, get_or-replicate, get_or-take, get_or_append_left, length-replicate, length-take-le}
@@ -138,7 +139,8 @@ module _ (h : Heap) (set l : List ℕ) (valid : IsValid h) (can : CanPlace h set
             | inr above ↦ outside m lt (get_or-put_above a n words copy m high len above) (inr (omega arith))
             | inl within ↦
                 let word : place i + (m - a) ≡ start h region + m = omega arith in
-                inl (get_or-put_within a n words copy m high len from_there within ∙ ap (λ ys. get_or ys (m - a) 0) is ∙ sym (placed_word h set l valid can room i (m - a) s.0 (omega arith)) ∙ ap (moved_word (forward h l) h (map (object_at h) l)) word)
+                inl (get_or-put_within a n words copy m high len from_there within ∙ ap (λ ys. get_or ys (m - a) 0) is
+                ∙ sym (placed_word h set l valid can room i (m - a) s.0 (omega arith)) ∙ ap (moved_word (forward h l) h (map (object_at h) l)) word)
           ]
         ];
       }
@@ -230,7 +232,8 @@ module _ (h : Heap) (p : Plan) (valid : IsValid h) (made : IsPlanOf h p) (u : Ru
       let from : u.from ≡ laid_before h l t = ap (λ (u : Run). u.from) run.2 in
       let to : u.to ≡ laid_before h l (t + 1) = ap (λ (u : Run). u.to) run.2 in
       let region : u.region ≡ get_or (free_regions h) t 0 = ap (λ (u : Run). u.region) run.2 in
-      Filling-end h p.set l valid made.placeable made.room t run.1 i words (omega arith) (subst (λ n. Filling h l (get_or (free_regions h) t 0) n i words) from (subst (λ r. Filling h l r u.from i words) region f))
+      Filling-end h p.set l valid made.placeable made.room t run.1 i words (omega arith)
+      (subst (λ n. Filling h l (get_or (free_regions h) t 0) n i words) from (subst (λ r. Filling h l r u.from i words) region f))
       ∙ ap (placed_words h l) (sym region)
 
 -- ---- by the index of a region's first word among the gathered

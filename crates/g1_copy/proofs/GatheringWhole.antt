@@ -7,6 +7,7 @@ use Rattle.std.proofs.lemmas.List.{ext_get_or, get_or-drop, get_or-replicate, ge
 use borrow.Rule.Slice.PartMut.{put_mid}
 use Rattle.std.proofs.lemmas.List.FromFn.{length-range_with_len}
 use Rattle.std.proofs.lemmas.List.Sums.{count_by-le-length, length-filter}
+use Rattle.g1_words.specs.Geometry.{most_words}
 use Rattle.g1_words.specs.Heap.{Heap, is_free, kind, regions}
 use Rattle.g1_words.specs.Layout.{free_regions, need}
 use Rattle.g1_words.specs.Valid.{IsValid}
@@ -27,7 +28,7 @@ module _ (h : Heap) (p : Plan) (valid : IsValid h) (made : IsPlanOf h p) where
   some_width = let k = valid.limits.w_least in omega arith
 
   -- to-space has no more words than the heap
-  pub few_words : length p.runs * h.geometry.w ≤ 2 ^ 24
+  pub few_words : length p.runs * h.geometry.w ≤ most_words
   few_words =
       let n = count_runs h p valid made in
       let count = length-filter (λ r. is_free (kind h r)) (regions h) in
@@ -107,7 +108,8 @@ module _ (h : Heap) (p : Plan) (valid : IsValid h) (made : IsPlanOf h p) where
       ext_get_or 0 (take k (drop a words)) (replicate w 0) (len ∙ size ∙ sym (length-replicate w 0))
       (λ i less.
       let near : i < w = omega (arith, less, len, size) in
-      get_or-take k (drop a words) i 0 (omega (arith, near, size)) ∙ get_or-drop a words i 0 ∙ f.empty (a + i) (omega (arith, at)) (omega (arith, at, near, within)) ∙ sym (get_or-replicate w i 0 0 near))
+      get_or-take k (drop a words) i 0 (omega (arith, near, size)) ∙ get_or-drop a words i 0
+      ∙ f.empty (a + i) (omega (arith, at)) (omega (arith, at, near, within)) ∙ sym (get_or-replicate w i 0 0 near))
 
   pub FilledTo-more : (n a k : ℕ) (words region : List ℕ) → n < need h p.survivors → a ≡ n * h.geometry.w → k ≡ h.geometry.w → FilledTo h p.survivors n words
       → region ≡ placed_words h p.survivors (get_or (free_regions h) (a / h.geometry.w) 0) → FilledTo h p.survivors (n + 1) (put_mid a k words region)

@@ -1,5 +1,6 @@
 -- The words of to-space: those of the survivor that takes them, and 0 where none does.
-use Rattle.std.proofs.Common.{◌≡◌, ◌≢◌, ℕ, zero, suc, ◌+◌, ◌-◌, ◌*◌, ◌<◌, ◌≤◌, ◌⊎◌, inl, inr, Bool, true, false, cond, ◌&&◌, List, [], ◌∷◌, length, get_or, map, flat_map, take, zip, AllPairs, refl, sym, ◌∙◌, ap, subst, arith, leb, ltb, leb-true, ltb-true, le-leb, lt-ltb, eqb, eq-eqb, ne_eqb, length-append}
+use Rattle.std.proofs.Common.{◌≡◌, ◌≢◌, ℕ, zero, suc, ◌+◌, ◌-◌, ◌*◌, ◌<◌, ◌≤◌, ◌⊎◌, inl, inr, Bool, true, false, cond, ◌&&◌, List, [], ◌∷◌, length, get_or, map, flat_map, take, zip}
+use Rattle.std.proofs.Common.{AllPairs, refl, sym, ◌∙◌, ap, subst, arith, leb, ltb, leb-true, ltb-true, le-leb, lt-ltb, eqb, eq-eqb, ne_eqb, length-append}
 use Rattle.std.proofs.lemmas.Bool.{cases_lt}
 use Rattle.std.proofs.Math.Nat.{suc-mul, zero-mul}
 use Rattle.std.proofs.lemmas.List.{get_or_default, get_or-take, length-take-le}
@@ -101,7 +102,8 @@ module _ (h : Heap) (set l : List ℕ) (valid : IsValid h) (can : CanPlace h set
       let x = get_or-zip (places h l) (sizes_of h l) i (0, 0) (omega arith) (omega arith) in
       let y = get_or-zip (places h l) (sizes_of h l) j (0, 0) (omega arith) (omega arith) in
       let s : get_or (sizes_of h l) i 0 ≡ width i = size_is h l positive lay room i (omega arith) in
-      let first : (get_or (zip (places h l) (sizes_of h l)) i (0, 0)).0 + (get_or (zip (places h l) (sizes_of h l)) i (0, 0)).1 ≡ place i + width i = (λ t. (x t).0 + (x t).1) ∙ ap (λ z. place i + z) s in
+      let first : (get_or (zip (places h l) (sizes_of h l)) i (0, 0)).0 + (get_or (zip (places h l) (sizes_of h l)) i (0, 0)).1 ≡ place i + width i =
+      (λ t. (x t).0 + (x t).1) ∙ ap (λ z. place i + z) s in
       let second : (get_or (zip (places h l) (sizes_of h l)) j (0, 0)).0 ≡ place j = λ t. (y t).0 in
       omega (arith, p, first, second)
 

@@ -1,5 +1,6 @@
 -- The words that a commit writes in place are those of the heap after.
-use Rattle.std.proofs.Common.{◌≡◌, ℕ, zero, suc, ◌+◌, ◌-◌, ◌*◌, ◌/◌, ◌<◌, ◌≤◌, ◌⊎◌, inl, inr, Bool, true, false, cond, not, ◌&&◌, ◌||◌, List, [], ◌∷◌, ◌++◌, None, Some, length, get_or, map, filter, replicate, position, flat_map, Contains, refl, sym, ◌∙◌, ap, subst, arith, leb, ltb, leb-true, ltb-true, eqb}
+use Rattle.std.proofs.Common.{◌≡◌, ℕ, zero, suc, ◌+◌, ◌-◌, ◌*◌, ◌/◌, ◌<◌, ◌≤◌, ◌⊎◌, inl, inr, Bool, true, false, cond, not, ◌&&◌, ◌||◌, List, [], ◌∷◌, ◌++◌, None, Some, length, get_or, map}
+use Rattle.std.proofs.Common.{filter, replicate, position, flat_map, Contains, refl, sym, ◌∙◌, ap, subst, arith, leb, ltb, leb-true, ltb-true, eqb}
 use Rattle.std.specs.List.{range_with_len}
 use Rattle.std.proofs.lemmas.Bool.{cases_lt, false≢true}
 use Rattle.std.proofs.lemmas.Nat.{div-mul-add}
@@ -121,7 +122,8 @@ module _ (i : Image) (set l : List ℕ) (valid : IsBuilt i.heap) (ordinary : All
       let zt : top j.heap r ≡ 0 = (set_shape i set l j valid ordinary survivors room moved r lt t).1 in
       let zeros : slice_of i.heap.geometry.w r j.heap.words ≡ replicate i.heap.geometry.w 0 =
       ext_get_or 0 (slice_of i.heap.geometry.w r j.heap.words) (replicate i.heap.geometry.w 0) (size ∙ sym (length-replicate i.heap.geometry.w 0))
-      (λ m lt'. let below : m < i.heap.geometry.w = omega arith in get_or-slice_of i.heap.geometry.w r m j.heap.words below ∙ zero_moved i set l j valid ordinary survivors room moved r m lt (omega arith) below ∙ sym (get_or-replicate i.heap.geometry.w m 0 0 below)) in
+      (λ m lt'. let below : m < i.heap.geometry.w = omega arith in get_or-slice_of i.heap.geometry.w r m j.heap.words below
+      ∙ zero_moved i set l j valid ordinary survivors room moved r m lt (omega arith) below ∙ sym (get_or-replicate i.heap.geometry.w m 0 0 below)) in
       zeros ∙ (λ q. by_fate i.heap.geometry.w gathered patches r (cond (sym t q) Freed (filled_or_kept (position (λ d. eqb d r) (to_space i.heap l)))) (slice_of i.heap.geometry.w r i.heap.words))
 
   -- a word of a region that was free is no word of an object outside the set
@@ -161,7 +163,8 @@ module _ (i : Image) (set l : List ℕ) (valid : IsBuilt i.heap) (ordinary : All
         let whole : 0 + q ≡ q = omega arith in
         let inside : q < i.heap.geometry.n * i.heap.geometry.w = omega (arith, next_slice i.heap.geometry.w goal i.heap.geometry.n goal_free.1) in
         get_or-map-range_with_len (moved_word f i.heap (kept i.heap set l)) 0 (i.heap.geometry.n * i.heap.geometry.w) q q 0 inside whole
-        ∙ moved_word_past f i.heap (filter (λ o. not (in_set i.heap set o.at)) (objects i.heap)) (map (object_at i.heap) l) q (none_outside goal m goal_free.0 lt (is_taken f (filter (λ o. not (in_set i.heap set o.at)) (objects i.heap)) q) refl)
+        ∙ moved_word_past f i.heap (filter (λ o. not (in_set i.heap set o.at)) (objects i.heap)) (map (object_at i.heap) l) q
+        (none_outside goal m goal_free.0 lt (is_taken f (filter (λ o. not (in_set i.heap set o.at)) (objects i.heap)) q) refl)
         ∙ sym (get_or-map-range_with_len (moved_word f i.heap (map (object_at i.heap) l)) (start i.heap goal) i.heap.geometry.w m q 0 lt refl)
 
     to_slice : slice_of i.heap.geometry.w goal j.heap.words ≡ after goal (slice_of i.heap.geometry.w goal i.heap.words)
@@ -170,13 +173,16 @@ module _ (i : Image) (set l : List ℕ) (valid : IsBuilt i.heap) (ordinary : All
         let there : t < length (to_space i.heap l) = omega (arith, long, here) in
         let at : get_or (to_space i.heap l) t 0 ≡ goal = get_or-take (need i.heap l) (free_regions i.heap) t 0 here in
         let p : position (λ d. eqb d goal) (to_space i.heap l) ≡ Some t =
-        subst (λ r. position (λ d. eqb d r) (to_space i.heap l) ≡ Some t) at (is_position (to_space i.heap l) t (Distinct-take (need i.heap l) (free_regions i.heap) (free_distinct i.heap s.w_positive)) there) in
-        let wide : (r : ℕ) → length (placed_words i.heap l r) ≡ i.heap.geometry.w = λ r. length-map-range_with_len (moved_word (forward i.heap l) i.heap (map (object_at i.heap) l)) (start i.heap r) i.heap.geometry.w in
+        subst (λ r. position (λ d. eqb d r) (to_space i.heap l) ≡ Some t) at (is_position (to_space i.heap l) t
+        (Distinct-take (need i.heap l) (free_regions i.heap) (free_distinct i.heap s.w_positive)) there) in
+        let wide : (r : ℕ) → length (placed_words i.heap l r) ≡ i.heap.geometry.w =
+        λ r. length-map-range_with_len (moved_word (forward i.heap l) i.heap (map (object_at i.heap) l)) (start i.heap r) i.heap.geometry.w in
         let size : length (slice_of i.heap.geometry.w goal j.heap.words) ≡ i.heap.geometry.w = length-slice_of i.heap.geometry.w goal i.heap.geometry.n j.heap.words moved.size goal_free.1 in
         let same : slice_of i.heap.geometry.w goal j.heap.words ≡ placed_words i.heap l goal =
         ext_get_or 0 (slice_of i.heap.geometry.w goal j.heap.words) (placed_words i.heap l goal) (size ∙ sym (wide goal))
         (λ m lt'. let lt : m < i.heap.geometry.w = omega arith in get_or-slice_of i.heap.geometry.w goal m j.heap.words lt ∙ goal_word m lt) in
-        let from : slice_of i.heap.geometry.w t gathered ≡ placed_words i.heap l goal = flat_slice (placed_words i.heap l) i.heap.geometry.w wide (to_space i.heap l) t there ∙ ap (placed_words i.heap l) at in
+        let from : slice_of i.heap.geometry.w t gathered ≡ placed_words i.heap l goal =
+        flat_slice (placed_words i.heap l) i.heap.geometry.w wide (to_space i.heap l) t there ∙ ap (placed_words i.heap l) at in
         let off : has set goal ≡ false = elim (bool_cases (has set goal)) [
           | inr f ↦ f
           | inl t ↦ let clash : Ordinary ≡ Free = sym (ordinary goal (Contains-from_in set goal (in_from_has set goal t))) ∙ goal_free.0 in cc
@@ -200,7 +206,8 @@ module _ (i : Image) (set l : List ℕ) (valid : IsBuilt i.heap) (ordinary : All
       let out : in_set i.heap set o.0.at ≡ false = elim (bool_cases (in_set i.heap set o.0.at)) [
         | inr f ↦ f
         | inl t ↦
-            let one : kind i.heap (region_of i.heap o.0.at) ≡ Ordinary = ordinary (region_of i.heap o.0.at) (Contains-from_in set (region_of i.heap o.0.at) (in_from_has set (region_of i.heap o.0.at) t)) in
+            let one : kind i.heap (region_of i.heap o.0.at) ≡ Ordinary = ordinary (region_of i.heap o.0.at)
+            (Contains-from_in set (region_of i.heap o.0.at) (in_from_has set (region_of i.heap o.0.at) t)) in
             let h = home i.heap valid o.0 c in
             let hr = home_region i.heap valid h.0 o.0 h.2 in
             elim h.2.2 [
@@ -264,7 +271,10 @@ module _ (i : Image) (set l : List ℕ) (valid : IsBuilt i.heap) (ordinary : All
             | inl t ↦
                 let q : ℕ = r * i.heap.geometry.w + m in
                 let v : word i.heap q ≡ suc b = ap (word i.heap) (sym sum) ∙ e in
-                let there : In (refs_at i.heap q) (record { slot = q; target = b }) = In-map (λ a. record { slot = q; target = a }) (named (word i.heap q)) b (subst (λ z. In (named z) b) (sym v) (inl refl)) in
+                let there : In (refs_at i.heap q) (record { slot = q; target = b }) = In-map (λ a. record {
+                  slot = q;
+                  target = a;
+                }) (named (word i.heap q)) b (subst (λ z. In (named z) b) (sym v) (inl refl)) in
                 let ref : In (refs i.heap) (record { slot = q; target = b }) =
                 In-flat_map (λ o. flat_map (refs_at i.heap) (slots o)) (objects i.heap) o (record { slot = q; target = b }) here
                 (In-flat_map (refs_at i.heap) (slots o) q (record { slot = q; target = b }) (In-range (o.at + 1) o.refs q (omega arith) (omega arith)) there) in
@@ -277,7 +287,8 @@ module _ (i : Image) (set l : List ℕ) (valid : IsBuilt i.heap) (ordinary : All
                 })
           ]
 
-  other_slice : (r : ℕ) → r < i.heap.geometry.n → has set r ≡ false → has (to_space i.heap l) r ≡ false → slice_of i.heap.geometry.w r j.heap.words ≡ after r (slice_of i.heap.geometry.w r i.heap.words)
+  other_slice : (r : ℕ) → r < i.heap.geometry.n → has set r ≡ false → has (to_space i.heap l) r ≡ false →
+      slice_of i.heap.geometry.w r j.heap.words ≡ after r (slice_of i.heap.geometry.w r i.heap.words)
   other_slice r lt a b =
       let xs : List ℕ = slice_of i.heap.geometry.w r i.heap.words in
       let base : ℕ = r * i.heap.geometry.w in

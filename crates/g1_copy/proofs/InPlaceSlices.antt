@@ -1,5 +1,6 @@
 -- What patches leave in a slice, where in a list a number stands, and lists that are put together of slices.
-use Rattle.std.proofs.Common.{◌≡◌, ℕ, zero, suc, ◌+◌, ◌-◌, ◌*◌, ◌<◌, ◌≤◌, ◌⊎◌, inl, inr, Bool, true, false, cond, not, List, [], ◌∷◌, ◌++◌, Some, None, length, get_or, take, drop, set, position, flat_map, refl, sym, ◌∙◌, ap, subst, arith, leb, ltb, leb-true, le-leb, lt-ltb, le-ltb, eqb, eq-eqb, ne_eqb, length-drop, length-append, length-take}
+use Rattle.std.proofs.Common.{◌≡◌, ℕ, zero, suc, ◌+◌, ◌-◌, ◌*◌, ◌<◌, ◌≤◌, ◌⊎◌, inl, inr, Bool, true, false, cond, not, List, [], ◌∷◌, ◌++◌, Some, None, length, get_or, take, drop, set}
+use Rattle.std.proofs.Common.{position, flat_map, refl, sym, ◌∙◌, ap, subst, arith, leb, ltb, leb-true, le-leb, lt-ltb, le-ltb, eqb, eq-eqb, ne_eqb, length-drop, length-append, length-take}
 use Rattle.std.specs.List.{position_or_len}
 use Rattle.std.proofs.lemmas.Bool.{cases_lt, false≢true}
 use Rattle.std.proofs.Math.Nat.{zero-mul, suc-mul}
@@ -76,7 +77,8 @@ length-patched [] base xs = refl
 length-patched (x ∷ ps) base xs = length-patched ps base (cond (leb base x.0) (set xs (x.0 - base) x.1) xs) ∙ length_at x.0 x.1 base xs (leb base x.0)
 
 -- the word at k: where each patch there writes x, and there is one or x stands there
-pub patched_is : (ps : List (ℕ × ℕ)) (base k x : ℕ) (xs : List ℕ) → k < length xs → ((v : ℕ) → In ps (base + k, v) → v ≡ x) → (get_or xs k 0 ≡ x) ⊎ In ps (base + k, x) → get_or (patched ps base xs) k 0 ≡ x
+pub patched_is : (ps : List (ℕ × ℕ)) (base k x : ℕ) (xs : List ℕ) → k < length xs → ((v : ℕ) → In ps (base + k, v) → v ≡ x) →
+    (get_or xs k 0 ≡ x) ⊎ In ps (base + k, x) → get_or (patched ps base xs) k 0 ≡ x
 patched_is [] base k x xs lt f (inl e) = e
 patched_is [] base k x xs lt f (inr m) = absurd m
 patched_is (y ∷ ps) base k x xs lt f d =

@@ -98,7 +98,8 @@ cards_lead i set good ordinary c = (to, from) where
 pub refined_find_patches : RefinedFindPatches
 refined_find_patches i set l good covered rising ordinary survivors =
     ap (map (patch i.heap l))
-    (filter_same_in (λ e. has (cards_into i.heap (map (refined i) (regions i.heap)) set) (card_of i.heap e.slot) && has l e.target) (λ e. not (in_set i.heap set e.slot) && has l e.target) (refs i.heap)
+    (filter_same_in (λ e. has (cards_into i.heap (map (refined i) (regions i.heap)) set) (card_of i.heap e.slot) && has l e.target)
+    (λ e. not (in_set i.heap set e.slot) && has l e.target) (refs i.heap)
     (λ e k. by e k (has l e.target) refl))
   where
     cards : List ℕ
@@ -111,7 +112,8 @@ refined_find_patches i set l good covered rising ordinary survivors =
     target_in a t = reached_in_set i.heap set a ((survivors.reached a).0 (Contains-from_in l a (in_from_has l a t)))
 
     -- a reference from outside lies on a card of its target's refined set
-    on_refined : (e : Ref) → In (refs i.heap) e → region_of i.heap e.target < i.heap.geometry.n → region_of i.heap e.slot ≢ region_of i.heap e.target → Contains (refined i (region_of i.heap e.target)) (card_of i.heap e.slot)
+    on_refined : (e : Ref) → In (refs i.heap) e → region_of i.heap e.target < i.heap.geometry.n →
+        region_of i.heap e.slot ≢ region_of i.heap e.target → Contains (refined i (region_of i.heap e.target)) (card_of i.heap e.slot)
     on_refined e k lt d = elim ((covered_tells i).0 covered e (Contains-from_in (refs i.heap) e k)) [
       | inl same ↦ absurd (d same)
       | inr (inl m) ↦ (refined_tells i good (region_of i.heap e.target) (card_of i.heap e.slot) lt).1 (inl m)
@@ -127,14 +129,16 @@ refined_find_patches i set l good covered rising ordinary survivors =
         let clash : true ≡ false = sym f ∙ sym (home e) ∙ out in cc)
     listed e k t false f =
         let there : In set (region_of i.heap e.target) = in_from_has set (region_of i.heap e.target) (target_in e.target t) in
-        let lt : region_of i.heap e.target < i.heap.geometry.n = ordinary_in_heap i.heap (region_of i.heap e.target) good.heap (ordinary (region_of i.heap e.target) (Contains-from_in set (region_of i.heap e.target) there)) in
+        let lt : region_of i.heap e.target < i.heap.geometry.n = ordinary_in_heap i.heap (region_of i.heap e.target) good.heap
+        (ordinary (region_of i.heap e.target) (Contains-from_in set (region_of i.heap e.target) there)) in
         let d : region_of i.heap e.slot ≢ region_of i.heap e.target = λ s. (let clash : true ≡ false = sym (target_in e.target t) ∙ ap (has set) (sym s) ∙ f in cc) in
         has_from_in cards (card_of i.heap e.slot) (In-from_contains cards (card_of i.heap e.slot)
         ((cards_lead i set good ordinary (card_of i.heap e.slot)).1 ((region_of i.heap e.target, Contains-from_in set (region_of i.heap e.target) there, on_refined e k lt d), home e ∙ f)))
 
     by : (e : Ref) → In (refs i.heap) e → (b : Bool) → has l e.target ≡ b → (has cards (card_of i.heap e.slot) && has l e.target) ≡ (not (in_set i.heap set e.slot) && has l e.target)
     by e k true t = ap (λ z. z && has l e.target) (listed e k t (in_set i.heap set e.slot) refl)
-    by e k false t = ap (λ z. has cards (card_of i.heap e.slot) && z) t ∙ never (has cards (card_of i.heap e.slot)) (not (in_set i.heap set e.slot)) ∙ ap (λ z. not (in_set i.heap set e.slot) && z) (sym t)
+    by e k false t = ap (λ z. has cards (card_of i.heap e.slot) && z) t ∙ never (has cards (card_of i.heap e.slot)) (not (in_set i.heap set e.slot))
+        ∙ ap (λ z. not (in_set i.heap set e.slot) && z) (sym t)
       where
         never : (a b : Bool) → (a && false) ≡ (b && false)
         never true true = refl

@@ -1,5 +1,6 @@
 -- The cards of slots that lead into each region, slot by slot.
-use Rattle.std.proofs.Common.{◌≡◌, ◌≢◌, ◌≤◌, ◌<◌, ℕ, zero, suc, ◌+◌, ◌-◌, ◌*◌, ◌/◌, Bool, true, false, not, cond, ◌&&◌, ◌||◌, List, [], ◌∷◌, ◌++◌, map, filter, replicate, length, get_or, set, take, All, inl, inr, arith, refl, sym, ap, subst, ◌∙◌, eqb, eqb-true, eq-eqb, ne_eqb, append-nil}
+use Rattle.std.proofs.Common.{◌≡◌, ◌≢◌, ◌≤◌, ◌<◌, ℕ, zero, suc, ◌+◌, ◌-◌, ◌*◌, ◌/◌, Bool, true, false, not, cond, ◌&&◌, ◌||◌, List, [], ◌∷◌, ◌++◌, map, filter, replicate, length, get_or}
+use Rattle.std.proofs.Common.{set, take, All, inl, inr, arith, refl, sym, ap, subst, ◌∙◌, eqb, eqb-true, eq-eqb, ne_eqb, append-nil}
 use Rattle.std.specs.List.{range_with_len}
 use Rattle.std.specs.List.Sorted.{IsStrictlyIncreasing}
 use Rattle.std.proofs.lemmas.List.{get_or-map, get_or-take, get_or_default, length-map, length-take}
@@ -65,7 +66,8 @@ table_none a (suc n) = ap (λ ys. [] ∷ ys) (table_none (a + 1) n)
 -- ---- the cards of one region
 
 -- cards that pass a test that none above c passes
-cards_up_to : (h : Heap) (test : ℕ → Bool) (c : ℕ) → c < h.geometry.n * h.geometry.w / h.geometry.k → ((d : ℕ) → test d ≡ true → d ≤ c) → cards_where h test ≡ with_card (filter test (range_with_len 0 c)) c (test c)
+cards_up_to : (h : Heap) (test : ℕ → Bool) (c : ℕ) → c < h.geometry.n * h.geometry.w / h.geometry.k → ((d : ℕ) → test d ≡ true → d ≤ c) →
+    cards_where h test ≡ with_card (filter test (range_with_len 0 c)) c (test c)
 cards_up_to h test c lt most =
     let count : ℕ = h.geometry.n * h.geometry.w / h.geometry.k in
     let more : ℕ = count - (c + 1) in
@@ -82,13 +84,18 @@ cards_up_to h test c lt most =
       go true e = absurd (omega (arith, most d e, le))
       go false e = refl
 
-    last : (b : Bool) (m : ℕ) → filter test (range_with_len (c + 1) m) ≡ [] → filter test (range_with_len 0 c) ++ cond b (c ∷ filter test (range_with_len (c + 1) m)) (filter test (range_with_len (c + 1) m)) ≡ with_card (filter test (range_with_len 0 c)) c b
+    last : (b : Bool) (m : ℕ) → filter test (range_with_len (c + 1) m) ≡ [] →
+        filter test (range_with_len 0 c) ++ cond b (c ∷ filter test (range_with_len (c + 1) m)) (filter test (range_with_len (c + 1) m)) ≡ with_card (filter test (range_with_len 0 c)) c b
     last true m e = ap (λ ys. filter test (range_with_len 0 c) ++ c ∷ ys) e
     last false m e = ap (λ ys. filter test (range_with_len 0 c) ++ ys) e ∙ append-nil (filter test (range_with_len 0 c))
 
 -- those below c are below c
 pub cards_below : (test : ℕ → Bool) (c : ℕ) → All (λ d. d < c) (filter test (range_with_len 0 c))
-cards_below test c = λ k d lt. omega (arith, range_bounds 0 c (get_or (filter test (range_with_len 0 c)) k d) (filter_member test (range_with_len 0 c) (get_or (filter test (range_with_len 0 c)) k d) (get_or-In (filter test (range_with_len 0 c)) k d lt)).0)
+cards_below test c = λ k d lt. omega (
+  arith,
+  range_bounds 0 c (get_or (filter test (range_with_len 0 c)) k d)
+      (filter_member test (range_with_len 0 c) (get_or (filter test (range_with_len 0 c)) k d) (get_or-In (filter test (range_with_len 0 c)) k d lt)).0,
+)
 
 -- ---- one slot more
 
@@ -103,7 +110,8 @@ module _ (h : Heap) (before : List (ℕ × ℕ)) (p x : ℕ) where
   -- a card is linked as before, or by the new slot
   linked_more : (r c : ℕ) → is_linked h after r c ≡ (is_linked h before r c || (leads_into h r (link (p, x)) && eqb (card_of h p) c))
   linked_more r c =
-      list_any-append (λ y. leads_into h r (link y) && eqb (card_of h y.0) c) before ((p, x) ∷ []) ∙ ap (λ b. is_linked h before r c || b) (or_false (leads_into h r (link (p, x)) && eqb (card_of h p) c))
+      list_any-append (λ y. leads_into h r (link y) && eqb (card_of h y.0) c) before ((p, x) ∷ [])
+      ∙ ap (λ b. is_linked h before r c || b) (or_false (leads_into h r (link (p, x)) && eqb (card_of h p) c))
 
   -- a card that the new slot doesn't link to a region
   unlinked : (r c : ℕ) → (leads_into h r (link (p, x)) && eqb (card_of h p) c) ≡ false → is_linked h before r c ≡ is_linked h after r c
@@ -152,7 +160,8 @@ module _ (h : Heap) (before : List (ℕ × ℕ)) (p x : ℕ) where
       list_after : (r : ℕ) → leads_into h r (link (p, x)) ≡ true → cards_where h (is_linked h after r) ≡ with_card (so_far r) (card_of h p) true
       list_after r leads =
           let c : ℕ = card_of h p in
-          let now : is_linked h after r c ≡ true = linked_more r c ∙ ap (λ b. is_linked h before r c || (b && eqb c c)) leads ∙ ap (λ b. is_linked h before r c || b) (eq-eqb c c refl) ∙ or_true_right (is_linked h before r c) in
+          let now : is_linked h after r c ≡ true = linked_more r c ∙ ap (λ b. is_linked h before r c || (b && eqb c c)) leads
+          ∙ ap (λ b. is_linked h before r c || b) (eq-eqb c c refl) ∙ or_true_right (is_linked h before r c) in
           cards_up_to h (is_linked h after r) c inside most
           ∙ ap (λ ys. with_card ys c (is_linked h after r c)) (same_filter (is_linked h after r) (is_linked h before r) (range_with_len 0 c) (λ d i. sym (unlinked r d (lower d i))))
           ∙ ap (with_card (so_far r) c) now
@@ -184,7 +193,8 @@ module _ (h : Heap) (before : List (ℕ × ℕ)) (p x : ℕ) where
           let t : ℕ = region_of h (x - 1) in
           let leads : leads_into h t (link (p, x)) ≡ true =
           ap (λ b. b && not (eqb (region_of h p) t)) (eq-eqb t t refl) ∙ ap not (ne_eqb (region_of h p) t (λ s. apart (sym s))) in
-          table_set (λ r. cards_where h (is_linked h before r)) (λ r. cards_where h (is_linked h after r)) 0 h.geometry.n t items lt (e ∙ sym (list_after t leads) ∙ ap (λ z. cards_where h (is_linked h after z)) (here t))
+          table_set (λ r. cards_where h (is_linked h before r)) (λ r. cards_where h (is_linked h after r)) 0 h.geometry.n t items lt (e
+          ∙ sym (list_after t leads) ∙ ap (λ z. cards_where h (is_linked h after z)) (here t))
           (λ r d. same_filter (is_linked h before r) (is_linked h after r) (range_with_len 0 (h.geometry.n * h.geometry.w / h.geometry.k))
           (λ c i. unlinked r c (ap (λ b. b && eqb (card_of h p) c) (leads_elsewhere r (λ s. d (s ∙ here (region_of h (x - 1))))))))
         where

@@ -1,5 +1,6 @@
 -- The patches of the slots on rising cards are those of all slots that lie on the cards.
-use Rattle.std.proofs.Common.{◌≡◌, ◌≤◌, ◌<◌, ℕ, zero, suc, ◌+◌, ◌*◌, inl, Bool, true, false, cond, ◌&&◌, List, [], ◌∷◌, ◌++◌, map, filter, flat_map, length, arith, refl, sym, ap, ◌∙◌, eqb, eqb-true, eq-eqb, append_assoc, append-nil, take}
+use Rattle.std.proofs.Common.{◌≡◌, ◌≤◌, ◌<◌, ℕ, zero, suc, ◌+◌, ◌*◌, inl, Bool, true, false, cond, ◌&&◌, List, [], ◌∷◌, ◌++◌, map, filter, flat_map, length, arith, refl, sym, ap, ◌∙◌, eqb}
+use Rattle.std.proofs.Common.{eqb-true, eq-eqb, append_assoc, append-nil, take}
 use Rattle.std.specs.List.Sorted.{IsStrictlyIncreasing}
 use Rattle.std.proofs.Math.Nat.{mul-le-mul_right}
 use Rattle.std.proofs.lemmas.Grind.{flat_map-append}

@@ -17,7 +17,8 @@ slots_rise ps rising = IsNonDecreasingBy-from_all_adjacent (λ (x : ℕ × ℕ).
     omega (arith, r, one, next))
 
 -- those that pass the test are before
-pub first_by : (ps : List (ℕ × ℕ)) (end n : ℕ) → n ≤ length ps → AllWithin (λ (x : ℕ × ℕ). ltb x.0 end ≡ true) ps 0 n → AllWithin (λ (x : ℕ × ℕ). ltb x.0 end ≡ false) ps n (length ps) → AreBefore ps end n
+pub first_by : (ps : List (ℕ × ℕ)) (end n : ℕ) → n ≤ length ps → AllWithin (λ (x : ℕ × ℕ). ltb x.0 end ≡ true) ps 0 n →
+    AllWithin (λ (x : ℕ × ℕ). ltb x.0 end ≡ false) ps n (length ps) → AreBefore ps end n
 first_by ps end n within below above = record {
   within = within;
   before = λ k lt. ltb-true (get_or ps k (0, 0)).0 end (below k (0, 0) (omega arith) lt);

@@ -52,7 +52,8 @@ module _ (h : Heap) (remembered : List (List ℕ)) (set cards : List ℕ) (is : 
 
   pub into_there : All (λ c. c < card_count h) cards
   into_there k d lt =
-      let f = filter_member (λ c. list_any (λ r. has (slice_index_or remembered r []) c) set && not (in_set h set (c * h.geometry.k))) (range_with_len 0 (card_count h)) (get_or cards k d) (card_is k d lt) in
+      let f = filter_member (λ c. list_any (λ r. has (slice_index_or remembered r []) c) set && not (in_set h set (c * h.geometry.k)))
+      (range_with_len 0 (card_count h)) (get_or cards k d) (card_is k d lt) in
       let b = range_below 0 (card_count h) (get_or cards k d) f.0 in
       omega arith
 
@@ -60,7 +61,8 @@ module _ (h : Heap) (remembered : List (List ℕ)) (set cards : List ℕ) (is : 
   into_outside chosen e k d lt =
       let c : ℕ = get_or cards k d in
       let f = filter_member (λ c. list_any (λ r. has (slice_index_or remembered r []) c) set && not (in_set h set (c * h.geometry.k))) (range_with_len 0 (card_count h)) c (card_is k d lt) in
-      ap (λ xs. in_set h xs (c * h.geometry.k)) e ∙ not_true (in_set h set (c * h.geometry.k)) (and_true (list_any (λ r. has (slice_index_or remembered r []) c) set) (not (in_set h set (c * h.geometry.k))) f.1).1
+      ap (λ xs. in_set h xs (c * h.geometry.k)) e ∙ not_true (in_set h set (c * h.geometry.k))
+      (and_true (list_any (λ r. has (slice_index_or remembered r []) c) set) (not (in_set h set (c * h.geometry.k))) f.1).1
 
 module _ (i : Image) (set : List ℕ) (p : Plan) (pause : IsPauseOf i.heap set p) where
   ordinary : AllOrdinary i.heap set
@@ -70,7 +72,8 @@ module _ (i : Image) (set : List ℕ) (p : Plan) (pause : IsPauseOf i.heap set p
   has_room = record { ordinary = ordinary; survivors = pause.survivors; room = pause.made.room }
 
   -- the patches on these cards are all that there are
-  pub all_found : (h : Heap) (remembered : List (List ℕ)) (cards : List ℕ) (ps : List (ℕ × ℕ)) → RefinedFindPatches → IsImage i → Covered i → h ≡ i.heap → remembered ≡ map (refined i) (regions i.heap) → cards ≡ cards_into h remembered set
+  pub all_found : (h : Heap) (remembered : List (List ℕ)) (cards : List ℕ) (ps : List (ℕ × ℕ)) → RefinedFindPatches → IsImage i → Covered i →
+      h ≡ i.heap → remembered ≡ map (refined i) (regions i.heap) → cards ≡ cards_into h remembered set
       → ps ≡ patches_on h p.survivors cards → ps ≡ all_patches i.heap set p.survivors
   all_found h remembered cards ps law image covered he se ce pe =
       let same : cards ≡ cards_into i.heap (map (refined i) (regions i.heap)) set = ce ∙ (λ q. cards_into (he q) (se q) set) in
@@ -92,7 +95,8 @@ module _ (i : Image) (set : List ℕ) (p : Plan) (pause : IsPauseOf i.heap set p
     freed = unnamed_regions (heap_moved i.heap set p.survivors)
 
     -- the first regions, told of the set itself
-    own_firsts : (firsts : List ℕ) → firsts ≡ map (λ o. region_of i.heap o.at) (unnamed (heap_moved i.heap p.set p.survivors)) → firsts ≡ map (λ o. region_of i.heap o.at) (unnamed (heap_moved i.heap set p.survivors))
+    own_firsts : (firsts : List ℕ) → firsts ≡ map (λ o. region_of i.heap o.at) (unnamed (heap_moved i.heap p.set p.survivors)) →
+        firsts ≡ map (λ o. region_of i.heap o.at) (unnamed (heap_moved i.heap set p.survivors))
     own_firsts firsts e = e ∙ ap (λ s. map (λ o. region_of i.heap o.at) (unnamed (heap_moved i.heap s p.survivors))) pause.same
 
     module _ (h : Heap) (he : h ≡ i.heap) (firsts : List ℕ) (found : firsts ≡ map (λ o. region_of i.heap o.at) (unnamed (heap_moved i.heap p.set p.survivors))) where
@@ -109,7 +113,8 @@ module _ (i : Image) (set : List ℕ) (p : Plan) (pause : IsPauseOf i.heap set p
     runs_there runs count e same = subst (λ n. All (λ r. r < n) runs) (sym same) (subst (All (λ r. r < i.heap.geometry.n)) (sym e) (freed_below (heap_moved i.heap set p.survivors)))
 
     -- the table afterwards
-    pub fates_after : (h : Heap) (runs : List ℕ) (one two : List Fate) → h ≡ i.heap → runs ≡ freed → AreFates h set (to_space h p.survivors) one → AreReplaced (length runs) (λ t. get_or runs t 0) (λ t. Freed) one two
+    pub fates_after : (h : Heap) (runs : List ℕ) (one two : List Fate) → h ≡ i.heap → runs ≡ freed → AreFates h set (to_space h p.survivors) one →
+        AreReplaced (length runs) (λ t. get_or runs t 0) (λ t. Freed) one two
         → AreFates i.heap (set ++ freed) (to_space i.heap p.survivors) two
     fates_after h runs one two he e are new =
         freed_beside i.heap set freed (to_space i.heap p.survivors) one two (subst (λ y. AreFates y set (to_space y p.survivors) one) he are)
@@ -138,7 +143,8 @@ module _ (i : Image) (set : List ℕ) (p : Plan) (pause : IsPauseOf i.heap set p
         ]
 
     -- what is prepared is made for the pause
-    pub made_for : (x : Prepared) (h : Heap) → h ≡ i.heap → AreFates i.heap (set ++ freed) (to_space i.heap p.survivors) x.fates → x.gathered ≡ to_space_words h p.survivors → x.patches ≡ all_patches i.heap set p.survivors
+    pub made_for : (x : Prepared) (h : Heap) → h ≡ i.heap → AreFates i.heap (set ++ freed) (to_space i.heap p.survivors) x.fates →
+        x.gathered ≡ to_space_words h p.survivors → x.patches ≡ all_patches i.heap set p.survivors
         → AreFirsts h.geometry.w h.geometry.n x.patches x.firsts → x.regions ≡ (image_paused i set p.survivors).heap.regions
         → x.roots ≡ map (renamed (forward h p.survivors)) h.roots → x.remembered ≡ (image_paused i set p.survivors).remembered
         → x.humongous ≡ map (λ o. region_of i.heap o.at) (unnamed (heap_moved i.heap p.set p.survivors)) → IsMadeFor x i set p.survivors

@@ -39,7 +39,8 @@ map_same_in f g [] e = refl
 map_same_in f g (x ∷ xs) e = λ q. e x (inl refl) q ∷ map_same_in f g xs (λ y k. e y (inr k)) q
 
 -- the regions that are made, one more at a time
-pub regions_more : (f : ℕ → Region) (n r : ℕ) (made : List Region) (x : Region) → r < n → made ≡ take r (map f (range_with_len 0 n)) → x ≡ f r → made ++ x ∷ [] ≡ take (r + 1) (map f (range_with_len 0 n))
+pub regions_more : (f : ℕ → Region) (n r : ℕ) (made : List Region) (x : Region) → r < n → made ≡ take r (map f (range_with_len 0 n)) → x ≡ f r →
+    made ++ x ∷ [] ≡ take (r + 1) (map f (range_with_len 0 n))
 regions_more f n r made x lt e g =
     let all : List Region = map f (range_with_len 0 n) in
     let size : length all ≡ n = length-map-range_with_len f 0 n in

@@ -1,5 +1,6 @@
 -- Lists of cards put together, region by region.
-use Rattle.std.proofs.Common.{◌≡◌, ℕ, zero, suc, ◌+◌, ◌*◌, ◌/◌, ◌<◌, ◌≤◌, inl, inr, Bool, true, false, cond, not, ◌&&◌, ◌||◌, List, [], ◌∷◌, ◌++◌, length, get_or, map, filter, All, Contains, refl, sym, ◌∙◌, ap, subst, arith, length-append}
+use Rattle.std.proofs.Common.{◌≡◌, ℕ, zero, suc, ◌+◌, ◌*◌, ◌/◌, ◌<◌, ◌≤◌, inl, inr, Bool, true, false, cond, not, ◌&&◌, ◌||◌, List, [], ◌∷◌, ◌++◌, length, get_or, map, filter, All, Contains}
+use Rattle.std.proofs.Common.{refl, sym, ◌∙◌, ap, subst, arith, length-append}
 use Rattle.std.specs.Prelude.{Result, Ok, Err, IfOk, IfErr, MatchResult}
 use Rattle.std.specs.Global.{Vec}
 use Rattle.std.specs.List.{range_with_len, AllZip}
@@ -92,7 +93,8 @@ where_there h valid test c k =
 
 -- ---- one region's set
 
-module _ (i : Image) (set l : List ℕ) (valid : IsBuilt i.heap) (ordinary : AllOrdinary i.heap set) (survivors : Survivors i.heap set l) (room : need i.heap l ≤ length (free_regions i.heap)) (fates : List Fate) (are : AreFates i.heap set (to_space i.heap l) fates) where
+module _ (i : Image) (set l : List ℕ) (valid : IsBuilt i.heap) (ordinary : AllOrdinary i.heap set) (survivors : Survivors i.heap set l)
+    (room : need i.heap l ≤ length (free_regions i.heap)) (fates : List Fate) (are : AreFates i.heap set (to_space i.heap l) fates) where
   abbrev P : ℕ → ℕ → Bool
   P r c = is_linked i.heap (all_patches i.heap set l) r c
 
@@ -136,7 +138,8 @@ module _ (i : Image) (set l : List ℕ) (valid : IsBuilt i.heap) (ordinary : All
       ∙ (λ t. cards_where i.heap (λ c. (is_refined i r c && not (card_in i.heap set c)) || sym (copied_cards i set l valid ordinary survivors room r c) t))
 
   -- what is joined is the set after the pause
-  pub remembered_moved_is : (r : ℕ) (zs : List ℕ) → r < i.heap.geometry.n → IsJoined i.heap fates (fate_at fates r) (refined i r) (cards_where i.heap (P r)) (cards_where i.heap (C r)) zs → zs ≡ remembered_moved i set l after r
+  pub remembered_moved_is : (r : ℕ) (zs : List ℕ) → r < i.heap.geometry.n →
+      IsJoined i.heap fates (fate_at fates r) (refined i r) (cards_where i.heap (P r)) (cards_where i.heap (C r)) zs → zs ≡ remembered_moved i set l after r
   remembered_moved_is r zs lt m =
       let by : (x : Fate) → fate_of set (to_space i.heap l) r ≡ x → IsJoined i.heap fates x (refined i r) (cards_where i.heap (P r)) (cards_where i.heap (C r)) zs =
       λ x e. subst (λ y. IsJoined i.heap fates y (refined i r) (cards_where i.heap (P r)) (cards_where i.heap (C r)) zs) (are.each r lt ∙ e) m in
@@ -148,7 +151,8 @@ module _ (i : Image) (set l : List ℕ) (valid : IsBuilt i.heap) (ordinary : All
 
   -- ---- all regions
 
-  module _ (remembered outer inner : List (List ℕ)) (the_remembered : remembered ≡ map (refined i) (regions i.heap)) (the_outer : outer ≡ cards_by_region i.heap (all_patches i.heap set l)) (the_inner : inner ≡ cards_by_region i.heap (copied_slots i.heap l)) where
+  module _ (remembered outer inner : List (List ℕ)) (the_remembered : remembered ≡ map (refined i) (regions i.heap)) (the_outer : outer
+      ≡ cards_by_region i.heap (all_patches i.heap set l)) (the_inner : inner ≡ cards_by_region i.heap (copied_slots i.heap l)) where
     remembered_at : (r : ℕ) → r < i.heap.geometry.n → cards_at remembered r ≡ refined i r
     remembered_at r lt = ap (λ xs. cards_at xs r) the_remembered ∙ get_or-map-range_with_len (refined i) 0 i.heap.geometry.n r r [] lt (omega arith)
 
@@ -164,7 +168,8 @@ module _ (i : Image) (set l : List ℕ) (valid : IsBuilt i.heap) (ordinary : All
       remembered_count = ap length the_remembered ∙ length-map-range_with_len (refined i) 0 i.heap.geometry.n;
       outer_count = ap length the_outer ∙ length-map-range_with_len (λ r. cards_where i.heap (P r)) 0 i.heap.geometry.n;
       inner_count = ap length the_inner ∙ length-map-range_with_len (λ r. cards_where i.heap (C r)) 0 i.heap.geometry.n;
-      there = λ r lt. subst (All (λ c. region_of_card i.heap c < i.heap.geometry.n)) (sym (remembered_at r lt)) (λ k d lt'. where_there i.heap valid (is_refined i r) (get_or (refined i r) k d) (get_or-In (refined i r) k d lt'));
+      there = λ r lt. subst (All (λ c. region_of_card i.heap c < i.heap.geometry.n)) (sym (remembered_at r lt))
+          (λ k d lt'. where_there i.heap valid (is_refined i r) (get_or (refined i r) k d) (get_or-In (refined i r) k d lt'));
       remembered_rise = λ r lt. subst IsStrictlyIncreasing (sym (remembered_at r lt)) (cards_rise i.heap (is_refined i r));
       outer_rise = λ r lt. subst IsStrictlyIncreasing (sym (outer_at r lt)) (cards_rise i.heap (P r));
       inner_rise = λ r lt. subst IsStrictlyIncreasing (sym (inner_at r lt)) (cards_rise i.heap (C r));
@@ -206,7 +211,8 @@ module _ (h : Heap) (fates : List Fate) (remembered outer inner : List (List ℕ
     so_many = length-append (map (λ s. s.items) sets) (v.items ∷ []) ∙ ap (λ x. x + 1) m.so_many;
     each = λ r lt. elim (cases_lt r n) [
       | inl low ↦
-          let at : cards_at (map (λ s. s.items) sets) r ≡ cards_at (map (λ s. s.items) sets ++ v.items ∷ []) r = sym (get_or_append_left (map (λ s. s.items) sets) (v.items ∷ []) [] r (omega (arith, low, m.so_many))) in
+          let at : cards_at (map (λ s. s.items) sets) r ≡ cards_at (map (λ s. s.items) sets ++ v.items ∷ []) r =
+          sym (get_or_append_left (map (λ s. s.items) sets) (v.items ∷ []) [] r (omega (arith, low, m.so_many))) in
           subst (IsJoined h fates (fate_at fates r) (cards_at remembered r) (cards_at outer r) (cards_at inner r)) at (m.each r low)
       | inr ge ↦
           let same : n ≡ r = omega (arith, ge, lt) in
@@ -227,7 +233,8 @@ module _ (h : Heap) (fates : List Fate) (remembered outer inner : List (List ℕ
 
   -- what holds of each pair holds at each place
   all_at : (from n : ℕ) (ys : List (Vec ℕ)) → AllZip IsAt (range_with_len from n) (map (λ y. Ok y) ys)
-      → (length (map (λ s. s.items) ys) ≡ n) × ((k : ℕ) → k < n → IsJoined h fates (fate_at fates (from + k)) (cards_at remembered (from + k)) (cards_at outer (from + k)) (cards_at inner (from + k)) (cards_at (map (λ s. s.items) ys) k))
+      → (length (map (λ s. s.items) ys) ≡ n) × ((k : ℕ) → k < n → IsJoined h fates (fate_at fates (from + k)) (cards_at remembered (from + k))
+      (cards_at outer (from + k)) (cards_at inner (from + k)) (cards_at (map (λ s. s.items) ys) k))
   all_at from zero [] z = (refl, λ k lt. absurd (omega (arith, lt)))
   all_at from zero (y ∷ ys) z = absurd z
   all_at from (suc n) [] z = absurd z
@@ -236,7 +243,8 @@ module _ (h : Heap) (fates : List Fate) (remembered outer inner : List (List ℕ
       (ap suc rest.0, λ k lt. go k lt rest.1)
     where
       go : (k : ℕ) → k < suc n
-          → ((k : ℕ) → k < n → IsJoined h fates (fate_at fates (from + 1 + k)) (cards_at remembered (from + 1 + k)) (cards_at outer (from + 1 + k)) (cards_at inner (from + 1 + k)) (cards_at (map (λ s. s.items) ys) k))
+          → ((k : ℕ) → k < n → IsJoined h fates (fate_at fates (from + 1 + k)) (cards_at remembered (from + 1 + k)) (cards_at outer (from + 1 + k))
+          (cards_at inner (from + 1 + k)) (cards_at (map (λ s. s.items) ys) k))
           → IsJoined h fates (fate_at fates (from + k)) (cards_at remembered (from + k)) (cards_at outer (from + k)) (cards_at inner (from + k)) (cards_at (map (λ s. s.items) (y ∷ ys)) k)
       go zero lt rest =
           let e : from ≡ from + 0 = omega arith in

@@ -45,7 +45,8 @@ pub LeftTo-start : (h : Heap) (fates : List Fate) (old : List (List ℕ)) → Le
 LeftTo-start h fates old = record { one_each = refl; done = λ r lt. absurd (omega arith); others = λ r le. refl }
 
 -- one region more
-pub LeftTo-step : (h : Heap) (fates : List Fate) (k : ℕ) (old mid new : List (List ℕ)) (cards : List ℕ) → k < length old → LeftTo h fates k old mid → new ≡ set mid k cards → cards ≡ left h fates (fate_at fates k) (cards_at mid k)
+pub LeftTo-step : (h : Heap) (fates : List Fate) (k : ℕ) (old mid new : List (List ℕ)) (cards : List ℕ) → k < length old → LeftTo h fates k old mid →
+    new ≡ set mid k cards → cards ≡ left h fates (fate_at fates k) (cards_at mid k)
     → LeftTo h fates (k + 1) old new
 LeftTo-step h fates k old mid new cards lt before is made = record {
   one_each = ap length is ∙ length-set mid k cards ∙ before.one_each;
@@ -86,7 +87,8 @@ module _ (i : Image) (set l : List ℕ) (tracked : IsTracked i) (a : HasRoom i.h
       let used = cards_used i set l tracked a r c lt k in
       elim (cases_Bool (has set (region_of_card i.heap c))) [
         | inr e ↦ e
-        | inl t ↦ absurd (used.used (set_shape i set l (image_moved i set l) valid a.ordinary a.survivors a.room (made_is_moved i set l valid a.ordinary a.survivors a.room) (region_of_card i.heap c) (there c used) t).0)
+        | inl t ↦ absurd (used.used (set_shape i set l (image_moved i set l) valid a.ordinary a.survivors a.room
+            (made_is_moved i set l valid a.ordinary a.survivors a.room) (region_of_card i.heap c) (there c used) t).0)
       ]
     where
       there : (c : ℕ) → IsUsedCard after c → region_of_card i.heap c < i.heap.geometry.n
@@ -124,10 +126,12 @@ module _ (i : Image) (set l : List ℕ) (tracked : IsTracked i) (a : HasRoom i.h
       cards : List ℕ
       cards = remembered_of (image_moved i set l) r
 
-      by_set : ((fate_of set (to_space i.heap l) r ≡ Freed) × (has set r ≡ true)) ⊎ (is_kept_fate (fate_of set (to_space i.heap l) r) ≡ true) → left i.heap fates (fate_of set (to_space i.heap l) r) cards ≡ filter (λ c. not (card_in after freed c)) cards
+      by_set : ((fate_of set (to_space i.heap l) r ≡ Freed) × (has set r ≡ true)) ⊎ (is_kept_fate (fate_of set (to_space i.heap l) r) ≡ true) →
+          left i.heap fates (fate_of set (to_space i.heap l) r) cards ≡ filter (λ c. not (card_in after freed c)) cards
       by_set (inl (f, t)) =
           let none : cards ≡ [] = set_is i set l tracked a r lt
-          ∙ (λ q. cond (t q) [] (cond (has (to_space i.heap l) r) (exact after r) (cards_where i.heap (λ c. (is_refined i r c && not (card_in i.heap set c)) || (card_in i.heap (to_space i.heap l) c && is_exact after r c))))) in
+          ∙ (λ q. cond (t q) [] (cond (has (to_space i.heap l) r) (exact after r)
+          (cards_where i.heap (λ c. (is_refined i r c && not (card_in i.heap set c)) || (card_in i.heap (to_space i.heap l) c && is_exact after r c))))) in
           ap (λ x. left i.heap fates x cards) f ∙ ap (filter (λ c. not (card_in after freed c))) (sym none)
       by_set (inr k) = ap (λ b. cond b (filter (stays i.heap fates) cards) []) k ∙ filter_same_in (stays i.heap fates) (λ c. not (card_in after freed c)) cards (λ c m. card_stays r c lt m)
 

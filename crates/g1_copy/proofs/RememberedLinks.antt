@@ -1,5 +1,6 @@
 -- The patches and the copied slots are the references of the heap after the pause that lead into to-space or lie in it.
-use Rattle.std.proofs.Common.{◌≡◌, ℕ, zero, suc, ◌+◌, ◌-◌, ◌<◌, ◌≤◌, ◌⊎◌, inl, inr, Bool, true, false, not, ◌&&◌, ◌||◌, List, length, filter, flat_map, refl, sym, ◌∙◌, ap, subst, arith, eqb, eqb-true, ne_eqb}
+use Rattle.std.proofs.Common.{◌≡◌, ℕ, zero, suc, ◌+◌, ◌-◌, ◌<◌, ◌≤◌, ◌⊎◌, inl, inr, Bool, true, false, not, ◌&&◌, ◌||◌, List, length, filter, flat_map, refl, sym, ◌∙◌, ap, subst, arith, eqb}
+use Rattle.std.proofs.Common.{eqb-true, ne_eqb}
 use Rattle.std.specs.List.{range_with_len}
 use Rattle.std.proofs.lemmas.Bool.{cases_Bool, false≢true}
 use Rattle.g1_words.specs.declared.object.Object.{Object}
@@ -9,7 +10,8 @@ use Rattle.g1_words.specs.Lists.{has}
 use Rattle.g1_words.specs.References.{Ref, named, refs, refs_at}
 use Rattle.g1_words.specs.Survivors.{AllOrdinary, Survivors, in_set}
 use Rattle.g1_words.specs.Layout.{forward, free_regions, kept, need, to_space}
-use Rattle.g1_words.proofs.Members.{In, In-from_contains, Contains-from_in, In-map, In-filter, In-flat_map, map_cases, filter_member, flat_map_cases, in_from_has, has_from_in, or_true, and_true, any_member}
+use Rattle.g1_words.proofs.Members.{In, In-from_contains, Contains-from_in, In-map, In-filter, In-flat_map, map_cases, filter_member, flat_map_cases, in_from_has, has_from_in, or_true}
+use Rattle.g1_words.proofs.Members.{and_true, any_member}
 use Rattle.g1_words.proofs.Indices.{range_bounds}
 use Rattle.g1_words.proofs.Computed.{In-range}
 use Rattle.g1_words.proofs.Sound.{IsSound}
@@ -104,7 +106,8 @@ module _ (i : Image) (set l : List ℕ) (valid : IsBuilt i.heap) (ordinary : All
     | inl t ↦
         let q = home i.heap valid o (Contains-from_in (objects i.heap) o k) in
         let at : region_of i.heap o.at ≡ q.0 = home_region i.heap valid q.0 o q.2 in
-        let one : kind i.heap q.0 ≡ Ordinary = ap (kind i.heap) (sym at) ∙ ordinary (region_of i.heap o.at) (Contains-from_in set (region_of i.heap o.at) (in_from_has set (region_of i.heap o.at) t)) in
+        let one : kind i.heap q.0 ≡ Ordinary = ap (kind i.heap) (sym at) ∙ ordinary (region_of i.heap o.at)
+        (Contains-from_in set (region_of i.heap o.at) (in_from_has set (region_of i.heap o.at) t)) in
         elim q.2.2 [
           | inl a ↦ absurd (false≢true (sym out ∙ ap (has set) ((ordinary_word i.heap valid q.0 o m a lt).0 ∙ sym at) ∙ t))
           | inr a ↦ let clash : HumongousFirst ≡ Ordinary = sym a.kind ∙ one in cc
@@ -252,7 +255,8 @@ module _ (i : Image) (set l : List ℕ) (valid : IsBuilt i.heap) (ordinary : All
                   let test : (not (in_set i.heap set d.slot) && has l d.target) ≡ true = and_both (not (in_set i.heap set d.slot)) (has l d.target) (ap not u.3) (has_from_in l d.target survives) in
                   let same : patch i.heap l d ≡ slot_word e = λ t. (slot t, suc (sym r.target_at t)) in
                   subst (In (all_patches i.heap set l)) same
-                  (In-map (patch i.heap l) (filter (λ e. not (in_set i.heap set e.slot) && has l e.target) (refs i.heap)) d (In-filter (λ (e : Ref). not (in_set i.heap set e.slot) && has l e.target) (refs i.heap) d there test))),
+                  (In-map (patch i.heap l) (filter (λ e. not (in_set i.heap set e.slot) && has l e.target) (refs i.heap)) d
+                  (In-filter (λ (e : Ref). not (in_set i.heap set e.slot) && has l e.target) (refs i.heap) d there test))),
             )
         | inr x ↦
             let at : x.0 ≡ r.owner.at = ap (λ (o : Object). o.at) x.2 in

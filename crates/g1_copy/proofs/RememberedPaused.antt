@@ -87,7 +87,8 @@ module _ (i : Image) (set : List ℕ) (p : Plan) (image : IsImage i) (pause : Is
   outer_there = patches_there i.heap set l image.heap can pause.made.room
 
   module _ (h : Heap) (heap : h ≡ i.heap) (patches : List (ℕ × ℕ)) (the_patches : patches ≡ all_patches i.heap set l)
-      (fates : List Fate) (are : AreFates i.heap set (to_space i.heap l) fates) (remembered outer inner : List (List ℕ)) (the_remembered : remembered ≡ map (refined i) (regions i.heap)) (the_outer : outer ≡ cards_by_region h patches) (the_inner : inner ≡ cards_by_region h (copied_slots h l)) where
+      (fates : List Fate) (are : AreFates i.heap set (to_space i.heap l) fates) (remembered outer inner : List (List ℕ)) (the_remembered : remembered
+      ≡ map (refined i) (regions i.heap)) (the_outer : outer ≡ cards_by_region h patches) (the_inner : inner ≡ cards_by_region h (copied_slots h l)) where
     outer_are : outer ≡ cards_by_region i.heap (all_patches i.heap set l)
     outer_are = the_outer ∙ (λ t. cards_by_region (heap t) (the_patches t))
 

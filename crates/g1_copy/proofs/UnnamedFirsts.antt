@@ -1,5 +1,6 @@
 -- Which humongous objects nothing names once the survivors have moved, from the heap before.
-use Rattle.std.proofs.Common.{◌≡◌, ◌≢◌, ℕ, ◌+◌, ◌*◌, ◌<◌, inl, inr, Bool, true, false, cond, not, ◌&&◌, ◌||◌, List, [], ◌∷◌, ◌++◌, All, get_or, map, filter, flat_map, Contains, refl, sym, ◌∙◌, ap, subst, arith, eqb, eqb-true, eq-eqb}
+use Rattle.std.proofs.Common.{◌≡◌, ◌≢◌, ℕ, ◌+◌, ◌*◌, ◌<◌, inl, inr, Bool, true, false, cond, not, ◌&&◌, ◌||◌, List, [], ◌∷◌, ◌++◌, All, get_or, map, filter, flat_map, Contains, refl, sym}
+use Rattle.std.proofs.Common.{◌∙◌, ap, subst, arith, eqb, eqb-true, eq-eqb}
 use Rattle.std.specs.List.{list_any, range_with_len}
 use Rattle.std.proofs.lemmas.Bool.{cases_Bool, false≢true}
 use Rattle.std.proofs.lemmas.List.{map-append}
@@ -208,7 +209,8 @@ module _ (i : Image) (set l : List ℕ) (tracked : IsTracked i) (a : HasRoom i.h
           let m = any_member (λ x. eqb (region_of i.heap x) r) (root_targets i.heap) t in
           let at : m.0 ≡ r * i.heap.geometry.w = root_there m.0 m.1 (eqb-true (region_of i.heap m.0) r m.2) in
           let stays : forward i.heap l m.0 ≡ r * i.heap.geometry.w = ap (forward i.heap l) at ∙ outside_stays i.heap set l s a.ordinary a.survivors a.room (r * i.heap.geometry.w) outside in
-          let k : In (map (forward i.heap l) (root_targets i.heap)) (r * i.heap.geometry.w) = subst (In (map (forward i.heap l) (root_targets i.heap))) stays (In-map (forward i.heap l) (root_targets i.heap) m.0 m.1) in
+          let k : In (map (forward i.heap l) (root_targets i.heap)) (r * i.heap.geometry.w) =
+          subst (In (map (forward i.heap l) (root_targets i.heap))) stays (In-map (forward i.heap l) (root_targets i.heap) m.0 m.1) in
           has_from_in (root_targets j.heap) (r * i.heap.geometry.w) (subst (λ xs. In xs (r * i.heap.geometry.w)) (sym (roots_renamed (forward i.heap l) i.heap.roots)) k)
 
     -- the object lies in no region that was free
@@ -236,7 +238,8 @@ module _ (i : Image) (set l : List ℕ) (tracked : IsTracked i) (a : HasRoom i.h
       same_lies q = ap (λ (x : Object). lies_in i.heap q x) object_same
 
       -- a card of its set is one of the heap's, refined and outside the set, or of to-space and exact
-      card_is : (c : ℕ) → In (remembered_of j r) c → (c < card_count i.heap) × (((is_refined i r c && not (card_in i.heap set c)) || (card_in i.heap (to_space i.heap l) c && is_exact j.heap r c)) ≡ true)
+      card_is : (c : ℕ) → In (remembered_of j r) c → (c < card_count i.heap)
+          × (((is_refined i r c && not (card_in i.heap set c)) || (card_in i.heap (to_space i.heap l) c && is_exact j.heap r c)) ≡ true)
       card_is c k =
           let test : ℕ → Bool = λ c. (is_refined i r c && not (card_in i.heap set c)) || (card_in i.heap (to_space i.heap l) c && is_exact j.heap r c) in
           let same : remembered_of j r ≡ cards_where i.heap (λ c. (is_refined i r c && not (card_in i.heap set c)) || (card_in i.heap (to_space i.heap l) c && is_exact j.heap r c)) =
@@ -266,7 +269,8 @@ module _ (i : Image) (set l : List ℕ) (tracked : IsTracked i) (a : HasRoom i.h
           λ q. not (off q) && one q
 
       -- elsewhere what was exact stays so
-      elsewhere : (c : ℕ) → has set (region_of_card i.heap c) ≡ false → has (to_space i.heap l) (region_of_card i.heap c) ≡ false → by_card c ≡ (not (lies_in i.heap (region_of_card i.heap c) o) && is_exact i.heap r c)
+      elsewhere : (c : ℕ) → has set (region_of_card i.heap c) ≡ false → has (to_space i.heap l) (region_of_card i.heap c) ≡ false →
+          by_card c ≡ (not (lies_in i.heap (region_of_card i.heap c) o) && is_exact i.heap r c)
       elsewhere c out off =
           let none : (x : ℕ) → has set x ≡ false → has (to_space i.heap l) x ≡ false → has (set ++ to_space i.heap l) x ≡ false =
           λ x e f. list_any-append (λ y. eqb x y) set (to_space i.heap l) ∙ (λ q. e q || f q) in
@@ -333,7 +337,8 @@ module _ (i : Image) (set l : List ℕ) (tracked : IsTracked i) (a : HasRoom i.h
         ∙ alone (is_named j.heap (object_at j.heap (r * i.heap.geometry.w)))
         ∙ (λ q. cond (not (named_tells r lt two stays fates are by_cards q)) (home q ∷ []) [])
       where
-        alone : (b : Bool) → map (λ (o : Object). region_of i.heap o.at) (cond (not b) (object_at j.heap (r * i.heap.geometry.w) ∷ []) []) ≡ cond (not b) (region_of i.heap (r * i.heap.geometry.w) ∷ []) []
+        alone : (b : Bool) → map (λ (o : Object). region_of i.heap o.at) (cond (not b) (object_at j.heap (r * i.heap.geometry.w) ∷ []) [])
+            ≡ cond (not b) (region_of i.heap (r * i.heap.geometry.w) ∷ []) []
         alone true = refl
         alone false = refl
 
@@ -351,4 +356,5 @@ module _ (i : Image) (set l : List ℕ) (tracked : IsTracked i) (a : HasRoom i.h
       → (r : ℕ) → r < i.heap.geometry.n → All (λ c. c < card_count i.heap) (cards_at remembered r)
   cards_there remembered e r lt k d less =
       let m : In (cards_at remembered r) (get_or (cards_at remembered r) k d) = get_or-In (cards_at remembered r) k d less in
-      card_inside j.heap (get_or (cards_at remembered r) k d) moved_tracked.image.heap (cards_used r (get_or (cards_at remembered r) k d) lt (subst (λ xs. In (cards_at xs r) (get_or (cards_at remembered r) k d)) e m))
+      card_inside j.heap (get_or (cards_at remembered r) k d) moved_tracked.image.heap
+      (cards_used r (get_or (cards_at remembered r) k d) lt (subst (λ xs. In (cards_at xs r) (get_or (cards_at remembered r) k d)) e m))

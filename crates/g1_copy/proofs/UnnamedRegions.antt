@@ -97,7 +97,8 @@ module _ (h : Heap) (valid : IsValid h) where
       In-range (region_of h o.at) (count o) x above below
 
   -- the runs rise
-  regions_rise : (os : List Object) → Ordered IsBefore os → ((o : Object) → In os o → In (unnamed h) o) → (lo : ℕ) → ((o : Object) → In os o → lo ≤ region_of h o.at) → Rises lo (flat_map (λ o. humongous_regions h (region_of h o.at)) os)
+  regions_rise : (os : List Object) → Ordered IsBefore os → ((o : Object) → In os o → In (unnamed h) o) → (lo : ℕ) →
+      ((o : Object) → In os o → lo ≤ region_of h o.at) → Rises lo (flat_map (λ o. humongous_regions h (region_of h o.at)) os)
   regions_rise [] order these lo above = tt
   regions_rise (o ∷ os) order these lo above =
       let r : ℕ = region_of h o.at in
@@ -136,7 +137,8 @@ module _ (h : Heap) (valid : IsValid h) where
       (λ x k.
       let m = flat_map_cases (λ o. humongous_regions h (region_of h o.at)) (unnamed h) x k in
       let t = run_lies m.0 x m.1 (subst (λ xs. In xs x) (regions_are m.0 m.1) m.2) in
-      In-filter (λ r. list_any (lies_in h r) (unnamed h)) (regions h) x (In-range 0 h.geometry.n x (omega arith) (let lt = inside m.0 x m.1 t in omega (arith, lt))) (any_from_in (lies_in h x) (unnamed h) m.0 m.1 t))
+      In-filter (λ r. list_any (lies_in h r) (unnamed h)) (regions h) x (In-range 0 h.geometry.n x (omega arith) (let lt = inside m.0 x m.1 t in
+      omega (arith, lt))) (any_from_in (lies_in h x) (unnamed h) m.0 m.1 t))
       (λ x k.
       let m = filter_member (λ r. list_any (lies_in h r) (unnamed h)) (regions h) x k in
       let a = any_member (lies_in h x) (unnamed h) m.1 in
@@ -156,7 +158,8 @@ unnamed_first h o k =
 
 -- ---- from the heap before
 
-module _ (i : Image) (set l : List ℕ) (tracked : IsTracked i) (a : HasRoom i.heap set l) (firsts : List ℕ) (are : firsts ≡ map (λ (o : Object). region_of i.heap o.at) (unnamed (heap_moved i.heap set l))) where
+module _ (i : Image) (set l : List ℕ) (tracked : IsTracked i) (a : HasRoom i.heap set l) (firsts : List ℕ) (are : firsts
+    ≡ map (λ (o : Object). region_of i.heap o.at) (unnamed (heap_moved i.heap set l))) where
   abbrev j : Heap
   j = heap_moved i.heap set l
 

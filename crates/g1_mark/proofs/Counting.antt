@@ -1,7 +1,9 @@
 -- The bytes of each region, object by object.
-use Rattle.std.proofs.Common.{◌≡◌, ◌≢◌, ◌≤◌, ◌<◌, ℕ, zero, suc, ◌+◌, ◌*◌, ◌/◌, ◌^◌, Bool, List, [], ◌∷◌, ◌++◌, map, filter, flat_map, length, get_or, set, take, drop, slice_index, replicate, Contains, arith, refl, sym, ap, subst, ◌∙◌, eqb, length-set, get_or-set_same, get_or-set_other}
+use Rattle.std.proofs.Common.{◌≡◌, ◌≢◌, ◌≤◌, ◌<◌, ℕ, zero, suc, ◌+◌, ◌*◌, ◌/◌, ◌^◌, Bool, List, [], ◌∷◌, ◌++◌, map, filter, flat_map, length, get_or, set, take, drop, slice_index, replicate}
+use Rattle.std.proofs.Common.{Contains, arith, refl, sym, ap, subst, ◌∙◌, eqb, length-set, get_or-set_same, get_or-set_other}
 use Rattle.std.specs.List.{range_with_len}
 use native.Mathlib.Decide.{ℕ_discrete}
+use Rattle.g1_words.specs.Geometry.{most_words}
 use Rattle.g1_words.specs.declared.object.Object.{Object}
 use Rattle.g1_words.specs.Heap.{Heap, word, regions, region_of, objects, objects_in, object_at}
 use Rattle.g1_words.specs.Lists.{has}
@@ -29,7 +31,8 @@ map_range f a zero (x ∷ xs) len h = absurd (omega (arith, len))
 map_range f a (suc n) [] len h = absurd (omega (arith, len))
 map_range f a (suc n) (x ∷ xs) len h =
     let first : x ≡ f a = h 0 (omega arith) ∙ ap f (let e : a + 0 ≡ a = omega arith in e) in
-    let rest : xs ≡ map f (range_with_len (a + 1) n) = map_range f (a + 1) n xs (omega (arith, len)) (λ r lt. h (suc r) (omega (arith, lt)) ∙ ap f (let e : a + suc r ≡ a + 1 + r = omega arith in e)) in
+    let rest : xs ≡ map f (range_with_len (a + 1) n) = map_range f (a + 1) n xs (omega (arith, len))
+    (λ r lt. h (suc r) (omega (arith, lt)) ∙ ap f (let e : a + suc r ≡ a + 1 + r = omega arith in e)) in
     λ i. first i ∷ rest i
 
 abbrev pub zeros : ℕ → List ℕ
@@ -58,15 +61,17 @@ split_at (x ∷ xs) (suc i) d lt =
 
 module _ (h : Heap) (valid : IsValid h) where
   region_ordered : (r : ℕ) → r < h.geometry.n → Ordered IsBefore (objects_in h r)
-  region_ordered r lt = ordered_part IsBefore (objects_in h) (regions h) r (Ordered-from_pairs IsBefore (objects h) (objects_apart h valid)) (In-range 0 h.geometry.n r (omega arith) (omega (arith, lt)))
+  region_ordered r lt = ordered_part IsBefore (objects_in h) (regions h) r (Ordered-from_pairs IsBefore (objects h) (objects_apart h valid))
+      (In-range 0 h.geometry.n r (omega arith) (omega (arith, lt)))
 
   of_heap : (r : ℕ) (o : Object) → r < h.geometry.n → In (objects_in h r) o → Contains (objects h) o
   of_heap r o lt i = Contains-from_in (objects h) o (In-flat_map (objects_in h) (regions h) r o (In-range 0 h.geometry.n r (omega arith) (omega (arith, lt))) i)
 
   -- a region's objects take no more words than the heap has
-  sizes_few : (test : ℕ → Bool) (r : ℕ) → r < h.geometry.n → sizes (filter (λ o. test o.at) (objects_in h r)) ≤ 2 ^ 24
+  sizes_few : (test : ℕ → Bool) (r : ℕ) → r < h.geometry.n → sizes (filter (λ o. test o.at) (objects_in h r)) ≤ most_words
   sizes_few test r lt =
-      let k = sizes_fit (λ o. test o.at) 0 (h.geometry.n * h.geometry.w) (objects_in h r) (region_ordered r lt) (λ o i. omega arith) (λ o i. object_within h valid o (contains_has h o valid.shaped (of_heap r o lt i))) (omega arith) in
+      let k = sizes_fit (λ o. test o.at) 0 (h.geometry.n * h.geometry.w) (objects_in h r) (region_ordered r lt) (λ o i. omega arith)
+      (λ o i. object_within h valid o (contains_has h o valid.shaped (of_heap r o lt i))) (omega arith) in
       omega (arith, k, valid.limits.words_most)
 
   pub bytes_few : (test : ℕ → Bool) (r : ℕ) → r < h.geometry.n → bytes_where h test r ≤ 2 ^ 27
@@ -115,7 +120,8 @@ module _ (h : Heap) (valid : IsValid h) where
               subst (λ q. slice_index (set bytes region (slice_index bytes region + 8 * size)) q ≡ bytes_where h (has (front ++ a ∷ [])) q) (sym same)
               (get_or-set_same bytes region (slice_index bytes region + 8 * size) 0 (omega (arith, e, region_there, b.one_each))
               ∙ (let k : slice_index bytes region ≡ bytes_where h (has front) region = b.each region (omega (arith, e, region_there)) in
-              let m : bytes_where h (has (front ++ a ∷ [])) region ≡ bytes_where h (has front) region + 8 * (word h a / 2 ^ 32) = subst (λ q. bytes_where h (has (front ++ a ∷ [])) q ≡ bytes_where h (has front) q + 8 * (word h a / 2 ^ 32)) (sym e) bytes_here in
+              let m : bytes_where h (has (front ++ a ∷ [])) region ≡ bytes_where h (has front) region + 8 * (word h a / 2 ^ 32) =
+              subst (λ q. bytes_where h (has (front ++ a ∷ [])) q ≡ bytes_where h (has front) q + 8 * (word h a / 2 ^ 32)) (sym e) bytes_here in
               omega (arith, k, m, f)))
           | no d ↦ get_or-set_other bytes region r (slice_index bytes region + 8 * size) 0 d ∙ b.each r lt ∙ sym (bytes_else r (λ z. d (z ∙ sym e)))
         ];
@@ -128,7 +134,8 @@ module _ (h : Heap) (valid : IsValid h) where
   }
 
   pub counted_all : (addresses bytes : List ℕ) → AreBytesOf h addresses bytes → bytes ≡ map (bytes_where h (has addresses)) (regions h)
-  counted_all addresses bytes b = map_range (bytes_where h (has addresses)) 0 h.geometry.n bytes b.one_each (λ r lt. b.each r lt ∙ ap (bytes_where h (has addresses)) (let e : r ≡ 0 + r = omega arith in e))
+  counted_all addresses bytes b = map_range (bytes_where h (has addresses)) 0 h.geometry.n bytes b.one_each (λ r lt. b.each r lt
+      ∙ ap (bytes_where h (has addresses)) (let e : r ≡ 0 + r = omega arith in e))
 
 -- an address of a list without repeats isn't among those before it
 pub not_before : (xs : List ℕ) (i : ℕ) → xs ≡ firsts xs → i < length xs → In (take i xs) (get_or xs i 0) → ⊥

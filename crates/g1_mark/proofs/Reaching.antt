@@ -42,5 +42,6 @@ module _ (h : Heap) (valid : IsValid h) where
       let k = reached_from_live a r in
       let o : Contains (objects h) (object_at h a) = reached_object h (used h) (sound h valid) a k in
       let e = target_in_refs h (used h) (object_at h a) b (In-from_contains (objects h) (object_at h a) o) (In-from_contains (targets h a) b c) in
-      let there : in_set h (used h) b ≡ true = subst (λ x. in_set h (used h) x ≡ true) e.2 (object_used h valid (object_at h e.0.target) ((sound h valid).slot_named e.0 (Contains-from_in (refs h) e.0 e.1))) in
+      let there : in_set h (used h) b ≡ true = subst (λ x. in_set h (used h) x ≡ true) e.2
+      (object_used h valid (object_at h e.0.target) ((sound h valid).slot_named e.0 (Contains-from_in (refs h) e.0 e.1))) in
       child k (Contains-from_in (children h (used h) a) b (In-filter (in_set h (used h)) (targets h a) b (In-from_contains (targets h a) b c) there))

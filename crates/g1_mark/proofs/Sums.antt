@@ -29,7 +29,8 @@ size_kept o os true = sum_by-cons (λ (q : Object). q.size) o os
 size_kept o os false = omega arith
 
 -- objects one after another take no more words than there are
-pub sizes_fit : (p : Object → Bool) (lo bound : ℕ) (os : List Object) → Ordered IsBefore os → ((o : Object) → In os o → lo ≤ o.at) → ((o : Object) → In os o → o.at + o.size ≤ bound) → lo ≤ bound → lo + sizes (filter p os) ≤ bound
+pub sizes_fit : (p : Object → Bool) (lo bound : ℕ) (os : List Object) → Ordered IsBefore os → ((o : Object) → In os o → lo ≤ o.at) →
+    ((o : Object) → In os o → o.at + o.size ≤ bound) → lo ≤ bound → lo + sizes (filter p os) ≤ bound
 sizes_fit p lo bound [] ord low high le = omega (arith, le)
 sizes_fit p lo bound (o ∷ os) ord low high le =
     let rest = sizes_fit p (o.at + o.size) bound os ord.1 (λ q i. ord.0 q i) (λ q i. high q (inr i)) (high o (inl refl)) in
@@ -86,7 +87,8 @@ sizes_none a (o ∷ os) h = at (eqb o.at a) refl (sizes_none a os (λ q i. h q (
 pub sizes_one : (q : Object) (os : List Object) → Ordered IsBefore os → ((o : Object) → In os o → 0 < o.size) → In os q → sizes (filter (λ o. eqb o.at q.at) os) ≡ q.size
 sizes_one q [] ord some i = absurd i
 sizes_one q (o ∷ os) ord some (inl e) =
-    let none : sizes (filter (λ o. eqb o.at q.at) os) ≡ 0 = sizes_none q.at os (λ p j. λ f. let b : o.at + o.size ≤ p.at = ord.0 p j in let s = some o (inl refl) in let z : o.at ≡ q.at = ap (λ (x : Object). x.at) e in absurd (omega (arith, b, s, z, f))) in
+    let none : sizes (filter (λ o. eqb o.at q.at) os) ≡ 0 = sizes_none q.at os (λ p j. λ f. let b : o.at + o.size ≤ p.at = ord.0 p j in let s =
+    some o (inl refl) in let z : o.at ≡ q.at = ap (λ (x : Object). x.at) e in absurd (omega (arith, b, s, z, f))) in
     let kept = size_kept o (filter (λ o. eqb o.at q.at) os) (eqb o.at q.at) in
     let yes_here : cond (eqb o.at q.at) o.size 0 ≡ o.size = ap (λ b. cond b o.size 0) (eq-eqb o.at q.at (ap (λ (x : Object). x.at) e)) in
     let same : o.size ≡ q.size = ap (λ (x : Object). x.size) e in

@@ -33,7 +33,8 @@ filter_append : (p : ℕ → Bool) (xs ys : List ℕ) → filter p (xs ++ ys) �
 filter_append p xs ys = Rattle.g1_frontier.proofs.Seeds.filter_append p xs ys
 
 -- one region more
-pub used_more : (p : ℕ → Bool) (r : ℕ) (front more : List ℕ) (b : Bool) → front ≡ filter p (range_with_len 0 r) → p r ≡ b → more ≡ front ++ cond b (r ∷ []) [] → more ≡ filter p (range_with_len 0 (r + 1))
+pub used_more : (p : ℕ → Bool) (r : ℕ) (front more : List ℕ) (b : Bool) → front ≡ filter p (range_with_len 0 r) → p r ≡ b
+    → more ≡ front ++ cond b (r ∷ []) [] → more ≡ filter p (range_with_len 0 (r + 1))
 used_more p r front more b e t f =
     f ∙ (λ i. e i ++ cond (sym t i) (r ∷ []) []) ∙ sym (filter_append p (range_with_len 0 r) (r ∷ [])) ∙ ap (filter p) grown
   where

@@ -2,6 +2,7 @@
 use Rattle.std.proofs.Common.{◌≡◌, ℕ, zero, suc, ◌+◌, ◌<◌, ◌≤◌, ◌^◌, ◌++◌, ◌⊎◌, inl, inr, List, [], ◌∷◌, length, set, Contains, refl, sym, ap, subst, ◌∙◌, arith, slice_index}
 use Rattle.std.proofs.lemmas.Bool.{cases_lt}
 use Rattle.std.proofs.lemmas.List.{get_or_append_left, get_or_push, length_push, length-set}
+use Rattle.g1_words.specs.Geometry.{most_words}
 use Rattle.g1_words.specs.Heap.{Heap, word, object_at, objects}
 use Rattle.g1_words.specs.Valid.{IsValid}
 use Rattle.g1_same.specs.declared.walk.Walk.{Walk}
@@ -69,7 +70,7 @@ pub few_pairs : (g h : Heap) (w : Walk) → IsValid g → IsWalk g h w → lengt
 few_pairs g h w valid walk = let k = index_few w.new_of.items w.before.items walk.index_before (before_within g h w valid walk) in omega (arith, k, walk.table_before)
 
 -- so their places fit the tables
-pub pairs_fit : (g h : Heap) (w : Walk) → IsValid g → IsWalk g h w → length w.before.items ≤ 2 ^ 24
+pub pairs_fit : (g h : Heap) (w : Walk) → IsValid g → IsWalk g h w → length w.before.items ≤ most_words
 pairs_fit g h w valid walk = let k = few_pairs g h w valid walk in omega (arith, k, valid.word_count, valid.limits.words_most)
 
 pub record IsAdded (w v : Walk) (f n a b : ℕ) : Type 0 where
@@ -170,7 +171,8 @@ module _ (g h : Heap) (w v : Walk) (f n a b : ℕ) (walk : IsWalk g h w) (e : Is
     added_walk = record {
       table_before = ap length e.new_of ∙ length-set w.new_of.items a (suc (length w.before.items)) ∙ walk.table_before;
       table_after = ap length e.old_of ∙ length-set w.old_of.items b (suc (length w.before.items)) ∙ walk.table_after;
-      index_before = subst (λ t. IsIndex t v.before.items) (sym e.new_of) (subst (λ l. IsIndex (set w.new_of.items a (suc (length w.before.items))) l) (sym e.before) (index_more w.new_of.items w.before.items walk.index_before a a_lt a_new));
+      index_before = subst (λ t. IsIndex t v.before.items) (sym e.new_of) (subst (λ l. IsIndex (set w.new_of.items a (suc (length w.before.items))) l)
+          (sym e.before) (index_more w.new_of.items w.before.items walk.index_before a a_lt a_new));
       index_after = subst (λ t. IsIndex t v.after.items) (sym e.old_of) (subst (λ l. IsIndex (set w.old_of.items b (suc (length w.before.items))) l) (sym e.after)
           (subst (λ m. IsIndex (set w.old_of.items b (suc m)) (w.after.items ++ b ∷ [])) walk.pairs (index_more w.old_of.items w.after.items walk.index_after b b_lt b_new)));
       pairs = pushed_length w.after.items v.after.items b e.after ∙ ap (λ m. m + 1) walk.pairs ∙ sym len;
@@ -185,7 +187,8 @@ module _ (g h : Heap) (w v : Walk) (f n a b : ℕ) (walk : IsWalk g h w) (e : Is
         | inr q ↦ subst (λ z. Contains (objects h) (object_at h z)) (sym (after_new i q)) y_in
       ];
       alike = λ i p. elim (split i p) [
-        | inl q ↦ subst (λ z. AreAlike g h z (slice_index v.after.items i)) (sym (added_grown.olds i q)) (subst (λ z. AreAlike g h (slice_index w.before.items i) z) (sym (added_grown.news i q)) (walk.alike i q))
+        | inl q ↦ subst (λ z. AreAlike g h z (slice_index v.after.items i)) (sym (added_grown.olds i q))
+            (subst (λ z. AreAlike g h (slice_index w.before.items i) z) (sym (added_grown.news i q)) (walk.alike i q))
         | inr q ↦ subst (λ z. AreAlike g h z (slice_index v.after.items i)) (sym (before_new i q)) (subst (λ z. AreAlike g h a z) (sym (after_new i q)) alike)
       ];
       backward = λ i p. elim (split i p) [

@@ -213,7 +213,8 @@ module _ (g h : Heap) (left : IsValid g) (right : IsValid h) (w : Walk) (walk : 
   one_new q r b m k bq br u v =
       let i = placed q m b bq u in
       let j = placed r k b br v in
-      let e : i.0 ≡ j.0 = index_apart w.old_of.items w.after.items walk.index_after (after_within g h w right walk) i.0 j.0 (omega (arith, i.1, walk.pairs)) (omega (arith, j.1, walk.pairs)) (sym i.3 ∙ j.3) in
+      let e : i.0 ≡ j.0 = index_apart w.old_of.items w.after.items walk.index_after (after_within g h w right walk) i.0 j.0
+      (omega (arith, i.1, walk.pairs)) (omega (arith, j.1, walk.pairs)) (sym i.3 ∙ j.3) in
       i.2 ∙ ap (slice_index w.before.items) e ∙ sym j.2
 
   alike_at : (q : List ℕ) (x y a b : ℕ) → Before q p → Together g h q x y → x ≡ suc a → y ≡ suc b → AreAlike g h a b

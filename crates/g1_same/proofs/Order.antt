@@ -1,5 +1,6 @@
 -- A walk that links everything has found the objects in breadth-first order, and tells the renaming.
-use Rattle.std.proofs.Common.{◌≡◌, ℕ, zero, suc, ◌+◌, ◌<◌, ◌≤◌, ◌⊎◌, inl, inr, not, cond, List, [], ◌∷◌, ◌++◌, length, take, flat_map, refl, sym, ap, subst, ◌∙◌, arith, slice_index, append_assoc, append-nil}
+use Rattle.std.proofs.Common.{◌≡◌, ℕ, zero, suc, ◌+◌, ◌<◌, ◌≤◌, ◌⊎◌, inl, inr, not, cond, List, [], ◌∷◌, ◌++◌, length, take, flat_map, refl, sym, ap, subst, ◌∙◌, arith, slice_index}
+use Rattle.std.proofs.Common.{append_assoc, append-nil}
 use Rattle.std.specs.List.{range_with_len}
 use Rattle.std.proofs.lemmas.Bool.{cases_lt}
 use Rattle.std.proofs.lemmas.List.{take_all, take_more}
@@ -108,7 +109,8 @@ module _ (g h : Heap) (left : IsValid g) (right : IsValid h) (w : Walk) (walk : 
               | inl q ↦
                   let rise = walk.rising m k.0 q k.1 in
                   let low : IsEarlier (slice_index w.from.items m) (slice_index w.number.items m) f n =
-                  subst (λ z. IsEarlier (slice_index w.from.items m) (slice_index w.number.items m) z n) exact.0 (subst (λ z. IsEarlier (slice_index w.from.items m) (slice_index w.number.items m) (slice_index w.from.items k.0) z) exact.1 rise) in
+                  subst (λ z. IsEarlier (slice_index w.from.items m) (slice_index w.number.items m) z n) exact.0
+                  (subst (λ z. IsEarlier (slice_index w.from.items m) (slice_index w.number.items m) (slice_index w.from.items k.0) z) exact.1 rise) in
                   absurd (front.over m (omega arith) (omega (arith, q, k.1)) low)
               | inr q ↦ omega (arith, p, q)
             ] in
@@ -120,7 +122,8 @@ module _ (g h : Heap) (left : IsValid g) (right : IsValid h) (w : Walk) (walk : 
               m + 1,
               record {
                 most = omega (arith, lt);
-                names = again ∙ firsts_new l a absent ∙ ap (λ z. z ++ a ∷ []) front.names ∙ ap (λ z. take m w.before.items ++ slice_index w.before.items z ∷ []) last ∙ sym (take_more w.before.items m 0 lt);
+                names = again ∙ firsts_new l a absent ∙ ap (λ z. z ++ a ∷ []) front.names
+                    ∙ ap (λ z. take m w.before.items ++ slice_index w.before.items z ∷ []) last ∙ sym (take_more w.before.items m 0 lt);
                 under = λ i q. elim (cases_lt i m) [
                   | inl r ↦ earlier_next (slice_index w.from.items i) (slice_index w.number.items i) f n (front.under i r)
                   | inr r ↦
@@ -163,7 +166,8 @@ module _ (g h : Heap) (left : IsValid g) (right : IsValid h) (w : Walk) (walk : 
         let lt : k < length g.roots = omega (arith, le) in
         let s = step (flat_map named (take k g.roots)) 0 k r.0 (slice_index g.roots k) (slice_index h.roots k) r.1 (roots k lt) (λ i p ef en. (way_at i 0 k p ef en).2) in
         let e : flat_map named (take k g.roots) ++ named (slice_index g.roots k) ≡ flat_map named (take (k + 1) g.roots) =
-        sym (ap (flat_map named) (take_more g.roots k 0 lt) ∙ flat_map-append named (take k g.roots) (slice_index g.roots k ∷ []) ∙ ap (λ z. flat_map named (take k g.roots) ++ z) (append-nil (named (slice_index g.roots k)))) in
+        sym (ap (flat_map named) (take_more g.roots k 0 lt) ∙ flat_map-append named (take k g.roots) (slice_index g.roots k ∷ [])
+        ∙ ap (λ z. flat_map named (take k g.roots) ++ z) (append-nil (named (slice_index g.roots k)))) in
         let one : k + 1 ≡ suc k = omega arith in
         (s.0, subst (λ z. IsFront w (flat_map named (take z g.roots)) 0 z s.0) one (subst (λ z. IsFront w z 0 (k + 1) s.0) e s.1))
 
@@ -180,7 +184,8 @@ module _ (g h : Heap) (left : IsValid g) (right : IsValid h) (w : Walk) (walk : 
         let x : ℕ = word g (a + 1 + k) in
         let s = step (l ++ slots_named a k) (suc j) k r.0 x (word h (slice_index w.after.items j + 1 + k)) r.1 (pairs j p k (omega (arith, le))) (λ i q ef en. (way_at i (suc j) k q ef en).3) in
         let e : slots_named a k ++ named x ≡ slots_named a (k + 1) =
-        sym (ap (flat_map (λ q. named (word g q))) (range_more (a + 1) k) ∙ flat_map-append (λ q. named (word g q)) (range_with_len (a + 1) k) ((a + 1 + k) ∷ []) ∙ ap (λ z. slots_named a k ++ z) (append-nil (named x))) in
+        sym (ap (flat_map (λ q. named (word g q))) (range_more (a + 1) k) ∙ flat_map-append (λ q. named (word g q)) (range_with_len (a + 1) k)
+        ((a + 1 + k) ∷ []) ∙ ap (λ z. slots_named a k ++ z) (append-nil (named x))) in
         let whole : (l ++ slots_named a k) ++ named x ≡ l ++ slots_named a (k + 1) = append_assoc l (slots_named a k) (named x) ∙ ap (λ z. l ++ z) e in
         let one : k + 1 ≡ suc k = omega arith in
         (s.0, subst (λ z. IsFront w (l ++ slots_named a z) (suc j) z s.0) one (subst (λ z. IsFront w z (suc j) (k + 1) s.0) whole s.1))
@@ -202,10 +207,12 @@ module _ (g h : Heap) (left : IsValid g) (right : IsValid h) (w : Walk) (walk : 
         let s = over_slots j lt l r.0 n (omega arith) r.1 in
         let e : flat_map (targets g) (take j olds) ++ targets g a ≡ flat_map (targets g) (take (j + 1) olds) =
         sym (ap (flat_map (targets g)) (take_more olds j 0 lt) ∙ flat_map-append (targets g) (take j olds) (a ∷ []) ∙ ap (λ z. flat_map (targets g) (take j olds) ++ z) (append-nil (targets g a))) in
-        let whole : l ++ targets g a ≡ root_targets g ++ flat_map (targets g) (take (j + 1) olds) = append_assoc (root_targets g) (flat_map (targets g) (take j olds)) (targets g a) ∙ ap (λ z. root_targets g ++ z) e in
+        let whole : l ++ targets g a ≡ root_targets g ++ flat_map (targets g) (take (j + 1) olds) =
+        append_assoc (root_targets g) (flat_map (targets g) (take j olds)) (targets g a) ∙ ap (λ z. root_targets g ++ z) e in
         let front : IsFront w (root_targets g ++ flat_map (targets g) (take (j + 1) olds)) (suc j) n s.0 = subst (λ z. IsFront w z (suc j) n s.0) whole s.1 in
         let one : j + 1 ≡ suc j = omega arith in
-        let more : IsFront w (root_targets g ++ flat_map (targets g) (take (suc j) olds)) (suc j) n s.0 = subst (λ z. IsFront w (root_targets g ++ flat_map (targets g) (take z olds)) (suc j) n s.0) one front in
+        let more : IsFront w (root_targets g ++ flat_map (targets g) (take (suc j) olds)) (suc j) n s.0 =
+        subst (λ z. IsFront w (root_targets g ++ flat_map (targets g) (take z olds)) (suc j) n s.0) one front in
         (s.0, up (root_targets g ++ flat_map (targets g) (take (suc j) olds)) (suc j) n s.0 more (λ i p e. (way_at i (suc j) (slice_index w.number.items i) p e refl).1))
 
     pub in_order : w.before.items ≡ firsts (root_targets g ++ flat_map (targets g) w.before.items)

@@ -41,11 +41,13 @@ module _ (g h : Heap) (left : IsValid g) (right : IsValid h) (w : Walk) (walk : 
   way_live zero (suc j) n a b i le back p way = absurd (omega (arith, le, back))
   way_live (suc t) (suc j) n a b i le back p way =
       slot_live g (slice_index w.before.items j) a n
-      (way_live t (slice_index w.from.items j) (slice_index w.number.items j) (slice_index w.before.items j) (slice_index w.after.items j) j (omega (arith, le, back)) (walk.backward j way.0) way.0 (walk.ways j way.0))
+      (way_live t (slice_index w.from.items j) (slice_index w.number.items j) (slice_index w.before.items j) (slice_index w.after.items j) j
+      (omega (arith, le, back)) (walk.backward j way.0) way.0 (walk.ways j way.0))
       way.1 way.3
 
   pub live_at : (i : ℕ) → i < length w.before.items → Live g (slice_index w.before.items i)
-  live_at i p = way_live i (slice_index w.from.items i) (slice_index w.number.items i) (slice_index w.before.items i) (slice_index w.after.items i) i (omega arith) (walk.backward i p) p (walk.ways i p)
+  live_at i p = way_live i (slice_index w.from.items i) (slice_index w.number.items i) (slice_index w.before.items i) (slice_index w.after.items i) i
+      (omega arith) (walk.backward i p) p (walk.ways i p)
 
   pub once : (i j : ℕ) → i < length w.before.items → j < length w.before.items → slice_index w.before.items i ≡ slice_index w.before.items j → i ≡ j
   once = index_apart w.new_of.items w.before.items walk.index_before (before_within g h w left walk)
@@ -85,7 +87,8 @@ module _ (g h : Heap) (left : IsValid g) (right : IsValid h) (w : Walk) (walk : 
           | inr k ↦
               let e : b + m ≡ b + 1 + (m - 1) = omega (arith, k.0) in
               let d : a + 1 + (m - 1) ≡ a + m = omega (arith, k.0) in
-              ap (word h) e ∙ linked_renamed (suc i) (m - 1) (word g (a + 1 + (m - 1))) (word h (b + 1 + (m - 1))) (pairs i p (m - 1) (omega (arith, k.0, k.1))) ∙ ap (λ z. renamed rename (word g z)) d ∙ sym k.2
+              ap (word h) e ∙ linked_renamed (suc i) (m - 1) (word g (a + 1 + (m - 1))) (word h (b + 1 + (m - 1)))
+              (pairs i p (m - 1) (omega (arith, k.0, k.1))) ∙ ap (λ z. renamed rename (word g z)) d ∙ sym k.2
         ]
 
     copied_at : (i : ℕ) → i < length w.before.items → IsCopy rename g h (object_at g (slice_index w.before.items i))
@@ -107,10 +110,12 @@ module _ (g h : Heap) (left : IsValid g) (right : IsValid h) (w : Walk) (walk : 
           let j = found b lb in
           let fi : rename a ≡ slice_index w.after.items i.0 = ap rename (sym i.2) ∙ rename_at i.0 i.1 in
           let fj : rename b ≡ slice_index w.after.items j.0 = ap rename (sym j.2) ∙ rename_at j.0 j.1 in
-          let k : i.0 ≡ j.0 = index_apart w.old_of.items w.after.items walk.index_after (after_within g h w right walk) i.0 j.0 (omega (arith, i.1, walk.pairs)) (omega (arith, j.1, walk.pairs)) (sym fi ∙ e ∙ fj) in
+          let k : i.0 ≡ j.0 = index_apart w.old_of.items w.after.items walk.index_after (after_within g h w right walk) i.0 j.0
+          (omega (arith, i.1, walk.pairs)) (omega (arith, j.1, walk.pairs)) (sym fi ∙ e ∙ fj) in
           sym i.2 ∙ ap (slice_index w.before.items) k ∙ j.2;
       roots = ext_get_or 0 h.roots (map (renamed rename) g.roots) (sym count ∙ sym (length-map g.roots (renamed rename)))
-          (λ n lt. let p : n < length g.roots = omega (arith, lt, count) in linked_renamed 0 n (slice_index g.roots n) (slice_index h.roots n) (roots n p) ∙ sym (get_or-map (renamed rename) g.roots n 0 0 p));
+          (λ n lt. let p : n < length g.roots = omega (arith, lt, count) in linked_renamed 0 n (slice_index g.roots n) (slice_index h.roots n)
+          (roots n p) ∙ sym (get_or-map (renamed rename) g.roots n 0 0 p));
       stands = λ a la.
           let i = found a la in
           let f : slice_index w.after.items i.0 ≡ rename a = sym (rename_at i.0 i.1) ∙ ap rename i.2 in

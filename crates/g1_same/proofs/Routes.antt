@@ -85,7 +85,8 @@ module _ (g h : Heap) (w : Walk) (walk : IsWalk g h w) where
   route_before zero f m k n p q le e (slot i a o gt l) (slot j b s lt r) = absurd (omega (arith, le))
   route_before (suc t) f m k n p q le (inl e) (slot i a o gt l) (slot j b s lt r) =
       let back = walk.backward j lt in
-      before_push o s a b (route_before t (slice_index w.from.items i) (slice_index w.number.items i) (slice_index w.from.items j) (slice_index w.number.items j) o s (omega (arith, back, le)) (walk.rising i j (omega (arith, e)) lt) l r)
+      before_push o s a b (route_before t (slice_index w.from.items i) (slice_index w.number.items i) (slice_index w.from.items j)
+      (slice_index w.number.items j) o s (omega (arith, back, le)) (walk.rising i j (omega (arith, e)) lt) l r)
   route_before (suc t) f m k n p q le (inr e) (slot i a o gt l) (slot j b s lt r) =
       let same : i ≡ j = omega (arith, e.0) in
       let one : o ≡ s = route_one w (slice_index w.from.items j) (slice_index w.number.items j) o s (subst (λ z. IsRoute w (slice_index w.from.items z) (slice_index w.number.items z) o) same l) r in

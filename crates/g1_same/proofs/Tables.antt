@@ -1,5 +1,6 @@
 -- The table of a list: by element, 1 more than its place.
-use Rattle.std.proofs.Common.{◌≡◌, ◌≢◌, ◌↔◌, ℕ, suc, ◌-◌, ◌<◌, ◌≤◌, ◌++◌, inl, inr, false, List, [], ◌∷◌, length, set, refl, sym, subst, ◌∙◌, arith, slice_index, eqb, eqb-true, get_or-set_same, get_or-set_other, length-append}
+use Rattle.std.proofs.Common.{◌≡◌, ◌≢◌, ◌↔◌, ℕ, suc, ◌-◌, ◌<◌, ◌≤◌, ◌++◌, inl, inr, false, List, [], ◌∷◌, length, set, refl, sym, subst, ◌∙◌, arith, slice_index, eqb, eqb-true}
+use Rattle.std.proofs.Common.{get_or-set_same, get_or-set_other, length-append}
 use Rattle.std.specs.List.{AllByRecursion, IsDistinct}
 use Rattle.std.proofs.lemmas.Bool.{cases_lt, cases_Bool}
 use Rattle.std.proofs.lemmas.List.{get_or_append_left, get_or_push, length-set}

@@ -30,6 +30,9 @@ objects_outside h window base (a ∷ rest) = All-cons (IsOutside h window) (Obje
 abbrev pub going_on : Heap → TableView → SeatView → Vec ℕ Global → Search
 going_on h t s found = record { claims = t; seat = s; found = found; from = 0; next = length h.roots + length h.words }
 
-pub is_going_on : (h : Heap) → IsValid h → (cards : List ℕ) → AreRegions h (1 ∷ []) → AreCards h cards → AreOutside h (1 ∷ []) cards → LeadIn h (1 ∷ []) cards → (t : TableView) (s : SeatView) (found : Vec ℕ Global) → IsSeatOf t s → s.hand.shares ≡ 64 → t.places ≡ h.geometry.w → AddsOffers (place h (1 ∷ [])) (all_pairs h (1 ∷ []) (first_items (length h.roots) cards)) [] s.hand.offers → found.items ≡ map (λ q. q.1) (winners (place h (1 ∷ [])) s.hand.offers (all_pairs h (1 ∷ []) (first_items (length h.roots) cards))) → IsSearching h (1 ∷ []) (going_on h t s found)
+pub is_going_on : (h : Heap) → IsValid h → (cards : List ℕ) → AreRegions h (1 ∷ []) → AreCards h cards → AreOutside h (1 ∷ []) cards →
+    LeadIn h (1 ∷ []) cards → (t : TableView) (s : SeatView) (found : Vec ℕ Global) → IsSeatOf t s → s.hand.shares ≡ 64 → t.places ≡ h.geometry.w →
+    AddsOffers (place h (1 ∷ [])) (all_pairs h (1 ∷ []) (first_items (length h.roots) cards)) [] s.hand.offers →
+    found.items ≡ map (λ q. q.1) (winners (place h (1 ∷ [])) s.hand.offers (all_pairs h (1 ∷ []) (first_items (length h.roots) cards))) → IsSearching h (1 ∷ []) (going_on h t s found)
 is_going_on h valid cards region rising outside lead_in t s found seat whole places adds won =
     first_search h valid (1 ∷ []) cards region rising outside lead_in (going_on h t s found) seat whole (omega (arith, places)) adds won refl refl

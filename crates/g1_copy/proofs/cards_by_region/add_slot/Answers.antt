@@ -35,7 +35,8 @@ returns c =
     let lt = target_region c.args.heap.now c.args.word c.geometry-geometry.ensures.valid c.requires.some c.requires.within in
     OnOk-map c.push_once.result _ _ (λ push before below e.
     map-set (λ s. s.items) c.args.lists.now r c.push_once.new.cards
-    ∙ pushed_at h before c.args.slot c.args.word r c.card_of.result (map (λ s. s.items) c.args.lists.now) (slice_index_or c.args.lists.now r c.index-lists-region.result).items c.push_once.new.cards.items
+    ∙ pushed_at h before c.args.slot c.args.word r c.card_of.result (map (λ s. s.items) c.args.lists.now)
+    (slice_index_or c.args.lists.now r c.index-lists-region.result).items c.push_once.new.cards.items
     c.geometry-geometry.ensures.valid c.requires.inside c.requires.some c.requires.within into card (λ f. c.if-region-region_of.false (into ∙ f ∙ sym own)) below e
     (sym (get_or-map (λ s. s.items) c.args.lists.now r c.index-lists-region.result [] (omega (arith, into, lt, c.requires.one_each)))) push)
     c.push_once.ensures

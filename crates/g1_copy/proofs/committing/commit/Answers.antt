@@ -46,24 +46,57 @@ invariant_of-heap g c =
     let b = (goal.at.invariant_of-heap g c).After-prepared in
     let words = new_words g (goal.at.invariant_of-heap g c).After-clear (the_width g b) (the_words g b) in
     (tracked_parts c.args.prepared c.args.tracked (the_tracked g b)
-    (record { fates = c.prepared.inside.fates.items; gathered = c.prepared.inside.gathered.items; patches = c.prepared.inside.patches.items; firsts = c.prepared.inside.firsts.items; regions = c.prepared.inside.regions.items; roots = c.prepared.inside.roots.items; remembered = map (λ s. s.items) c.prepared.inside.remembered.items; humongous = c.prepared.inside.humongous.items })
-    c.heap.inside.geometry (take c.heap.inside.words.len (c.write.new.words ++ drop (length c.write.new.words) c.heap.inside.words.items)) c.clear.new.self.keys c.prepared.view_is (the_geometry g b) words c.clear.ensures.empty c.image_after.ensures.tracked c.requires.made).image.heap
+    (record {
+      fates = c.prepared.inside.fates.items;
+      gathered = c.prepared.inside.gathered.items;
+      patches = c.prepared.inside.patches.items;
+      firsts = c.prepared.inside.firsts.items;
+      regions = c.prepared.inside.regions.items;
+      roots = c.prepared.inside.roots.items;
+      remembered =
+          map (λ s. s.items) c.prepared.inside.remembered.items;
+      humongous = c.prepared.inside.humongous.items;
+    })
+    c.heap.inside.geometry (take c.heap.inside.words.len (c.write.new.words ++ drop (length c.write.new.words) c.heap.inside.words.items))
+    c.clear.new.self.keys c.prepared.view_is (the_geometry g b) words c.clear.ensures.empty c.image_after.ensures.tracked c.requires.made).image.heap
 
 pub invariant_of-result : goal.invariant_of-result
 invariant_of-result g c =
     let b = (goal.at.invariant_of-result g c).After-prepared in
     let words = new_words g (goal.at.invariant_of-result g c).After-clear (the_width g b) (the_words g b) in
     (tracked_parts c.args.prepared c.args.tracked (the_tracked g b)
-    (record { fates = c.prepared.inside.fates.items; gathered = c.prepared.inside.gathered.items; patches = c.prepared.inside.patches.items; firsts = c.prepared.inside.firsts.items; regions = c.prepared.inside.regions.items; roots = c.prepared.inside.roots.items; remembered = map (λ s. s.items) c.prepared.inside.remembered.items; humongous = c.prepared.inside.humongous.items })
-    c.heap.inside.geometry (take c.heap.inside.words.len (c.write.new.words ++ drop (length c.write.new.words) c.heap.inside.words.items)) c.clear.new.self.keys c.prepared.view_is (the_geometry g b) words c.clear.ensures.empty c.image_after.ensures.tracked c.requires.made).image
+    (record {
+      fates = c.prepared.inside.fates.items;
+      gathered = c.prepared.inside.gathered.items;
+      patches = c.prepared.inside.patches.items;
+      firsts = c.prepared.inside.firsts.items;
+      regions = c.prepared.inside.regions.items;
+      roots = c.prepared.inside.roots.items;
+      remembered =
+          map (λ s. s.items) c.prepared.inside.remembered.items;
+      humongous = c.prepared.inside.humongous.items;
+    })
+    c.heap.inside.geometry (take c.heap.inside.words.len (c.write.new.words ++ drop (length c.write.new.words) c.heap.inside.words.items))
+    c.clear.new.self.keys c.prepared.view_is (the_geometry g b) words c.clear.ensures.empty c.image_after.ensures.tracked c.requires.made).image
 
 pub invariant_of-result-2 : goal.invariant_of-result-2
 invariant_of-result-2 g c =
     let b = (goal.at.invariant_of-result-2 g c).After-prepared in
     let words = new_words g (goal.at.invariant_of-result-2 g c).After-clear (the_width g b) (the_words g b) in
     (tracked_parts c.args.prepared c.args.tracked (the_tracked g b)
-    (record { fates = c.prepared.inside.fates.items; gathered = c.prepared.inside.gathered.items; patches = c.prepared.inside.patches.items; firsts = c.prepared.inside.firsts.items; regions = c.prepared.inside.regions.items; roots = c.prepared.inside.roots.items; remembered = map (λ s. s.items) c.prepared.inside.remembered.items; humongous = c.prepared.inside.humongous.items })
-    c.heap.inside.geometry (take c.heap.inside.words.len (c.write.new.words ++ drop (length c.write.new.words) c.heap.inside.words.items)) c.clear.new.self.keys c.prepared.view_is (the_geometry g b) words c.clear.ensures.empty c.image_after.ensures.tracked c.requires.made).covered
+    (record {
+      fates = c.prepared.inside.fates.items;
+      gathered = c.prepared.inside.gathered.items;
+      patches = c.prepared.inside.patches.items;
+      firsts = c.prepared.inside.firsts.items;
+      regions = c.prepared.inside.regions.items;
+      roots = c.prepared.inside.roots.items;
+      remembered =
+          map (λ s. s.items) c.prepared.inside.remembered.items;
+      humongous = c.prepared.inside.humongous.items;
+    })
+    c.heap.inside.geometry (take c.heap.inside.words.len (c.write.new.words ++ drop (length c.write.new.words) c.heap.inside.words.items))
+    c.clear.new.self.keys c.prepared.view_is (the_geometry g b) words c.clear.ensures.empty c.image_after.ensures.tracked c.requires.made).covered
 
 pub returns : goal.returns
 returns g c =
@@ -71,6 +104,17 @@ returns g c =
     let words = new_words g (goal.at.returns g c).After-clear (the_width g b) (the_words g b) in
     record {
       paused = paused_parts c.args.prepared c.args.tracked (the_tracked g b)
-          (record { fates = c.prepared.inside.fates.items; gathered = c.prepared.inside.gathered.items; patches = c.prepared.inside.patches.items; firsts = c.prepared.inside.firsts.items; regions = c.prepared.inside.regions.items; roots = c.prepared.inside.roots.items; remembered = map (λ s. s.items) c.prepared.inside.remembered.items; humongous = c.prepared.inside.humongous.items })
-          c.heap.inside.geometry (take c.heap.inside.words.len (c.write.new.words ++ drop (length c.write.new.words) c.heap.inside.words.items)) c.clear.new.self.keys c.prepared.view_is (the_geometry g b) words c.clear.ensures.empty;
+          (record {
+            fates = c.prepared.inside.fates.items;
+            gathered = c.prepared.inside.gathered.items;
+            patches = c.prepared.inside.patches.items;
+            firsts = c.prepared.inside.firsts.items;
+            regions = c.prepared.inside.regions.items;
+            roots = c.prepared.inside.roots.items;
+            remembered =
+                map (λ s. s.items) c.prepared.inside.remembered.items;
+            humongous = c.prepared.inside.humongous.items;
+          })
+          c.heap.inside.geometry (take c.heap.inside.words.len (c.write.new.words ++ drop (length c.write.new.words) c.heap.inside.words.items))
+          c.clear.new.self.keys c.prepared.view_is (the_geometry g b) words c.clear.ensures.empty;
     }

@@ -18,7 +18,8 @@ loop-k-preserved c =
           let next : ℕ × ℕ = (c.args.place + c.loop-k.k + 1, slice_index c.args.words.now (c.args.at + c.loop-k.k + 1)) in
           ap (map (λ s. s.items)) w.lists-is
           ∙ w.in_ok-add_slot.ensures (before ++ first_slots xs c.args.at c.args.place k) (first_below xs c.args.at c.args.place before k low) (c.loop-k.invariant before low e)
-          ∙ ap (cards_by_region h) (append_assoc before (first_slots xs c.args.at c.args.place k) (next ∷ []) ∙ ap (λ ys. before ++ ys) (sym (filled_slot xs c.args.at c.args.place k w.if-word-ne0.true)))
+          ∙ ap (cards_by_region h) (append_assoc before (first_slots xs c.args.at c.args.place k) (next ∷ [])
+          ∙ ap (λ ys. before ++ ys) (sym (filled_slot xs c.args.at c.args.place k w.if-word-ne0.true)))
       | else-word-ne0 w ↦ λ before low e.
           ap (map (λ s. s.items)) w.lists-is ∙ c.loop-k.invariant before low e ∙ ap (λ ys. cards_by_region h (before ++ ys)) (sym (null_slot xs c.args.at c.args.place k w.if-word-ne0.false))
     ]

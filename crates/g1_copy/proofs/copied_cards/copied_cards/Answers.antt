@@ -59,7 +59,8 @@ slice_bounds-words-end c =
     let first = ap (λ z. c.loop-number.number * z) width in
     let lt : c.loop-number.number < need c.args.heap.now c.args.plan.now.survivors = omega (arith, c.loop-number-test.true, ap length c.runs-runs.ensures, runs_count h p made) in
     let ends = region_ends h p.set p.survivors c.geometry-geometry.ensures.valid made.placeable made.room t lt in
-    let there : c.loop-number.number * c.region_words-region_words.result + c.region_words-region_words.result ≤ length c.args.gathered.now = omega (arith, first, width, ends.0, ap length c.requires.gathered) in
+    let there : c.loop-number.number * c.region_words-region_words.result + c.region_words-region_words.result ≤ length c.args.gathered.now =
+    omega (arith, first, width, ends.0, ap length c.requires.gathered) in
     there
 
 pub add_run-requires-clause-words : goal.add_run-requires-clause-words
@@ -112,8 +113,10 @@ returns c =
     let h = c.args.heap.now in
     let p = c.args.plan.now in
     let made = c.requires.plan in
-    let end : c.loop-number.number ≡ need c.args.heap.now c.args.plan.now.survivors = omega (arith, c.loop-number-test.false, c.loop-number.auto.number-end, ap length c.runs-runs.ensures, runs_count h p made) in
-    let all : laid_before h p.survivors c.loop-number.number ≡ length p.survivors = ap (laid_before h p.survivors) end ∙ laid_all h p.set p.survivors c.geometry-geometry.ensures.valid made.placeable made.room in
+    let end : c.loop-number.number ≡ need c.args.heap.now c.args.plan.now.survivors =
+    omega (arith, c.loop-number-test.false, c.loop-number.auto.number-end, ap length c.runs-runs.ensures, runs_count h p made) in
+    let all : laid_before h p.survivors c.loop-number.number ≡ length p.survivors =
+    ap (laid_before h p.survivors) end ∙ laid_all h p.set p.survivors c.geometry-geometry.ensures.valid made.placeable made.room in
     c.loop-number.invariant ∙ ap (λ i. cards_by_region h (first_copied h p.survivors i)) all ∙ ap (λ l. cards_by_region h (flat_map (moved_slots h p.survivors) l)) (take-length p.survivors)
 
 pub loop-number-smaller : goal.loop-number-smaller

@@ -22,7 +22,8 @@ free-requires c =
     let h = c.args.heap.now in
     let n : c.regions.result ≡ h.geometry.n = c.regions.ensures.value ∙ ap (λ g. g.n) c.geometry.ensures.same in
     let size : length c.deref_mut.result.now ≡ h.geometry.n = ap length (c.deref_mut.ensures.value ∙ c.in_ok-fates.ensures) ∙ length-replicate c.regions.result Kept ∙ n in
-    let lent = c.deref_mut-2.ensures.value ∙ lent_back c.in_ok-fates.fates.len c.deref_mut.result.now c.fill.new.fates c.in_ok-fates.fates.items c.deref_mut.ensures.value c.fill.ensures.size c.deref_mut.ensures.len in
+    let lent = c.deref_mut-2.ensures.value ∙ lent_back c.in_ok-fates.fates.len c.deref_mut.result.now c.fill.new.fates c.in_ok-fates.fates.items
+    c.deref_mut.ensures.value c.fill.ensures.size c.deref_mut.ensures.len in
     let size' : length c.deref_mut-2.result.now ≡ h.geometry.n = ap length lent ∙ c.fill.ensures.size ∙ size in
     subst (λ x. All (λ r. r < x) c.args.set.now) (sym size') (set_below h c.args.set.now c.args.plan.now c.geometry.ensures.valid c.requires)
 
@@ -36,6 +37,7 @@ returns c =
     let kept = c.deref_mut.ensures.value ∙ c.in_ok-fates.ensures ∙ ap (λ x. replicate x Kept) n in
     let lent = c.deref_mut-2.ensures.value ∙ lent_back len c.deref_mut.result.now c.fill.new.fates items c.deref_mut.ensures.value c.fill.ensures.size c.deref_mut.ensures.len in
     let freed = subst (λ xs. AreReplaced (length set) (λ t. get_or set t 0) (λ t. Freed) xs c.free.new.fates) lent c.free.ensures in
-    let back = lent_back len c.deref_mut-2.result.now c.free.new.fates (take len (c.fill.new.fates ++ drop (length c.fill.new.fates) items)) c.deref_mut-2.ensures.value c.free.ensures.size c.deref_mut-2.ensures.len in
+    let back = lent_back len c.deref_mut-2.result.now c.free.new.fates (take len (c.fill.new.fates ++ drop (length c.fill.new.fates) items))
+    c.deref_mut-2.ensures.value c.free.ensures.size c.deref_mut-2.ensures.len in
     subst (AreFates h set (to_space h c.args.plan.now.survivors)) (sym back)
     (fates_made h set c.args.plan.now c.geometry.ensures.valid c.requires c.to_space.result.now c.to_space.ensures c.deref_mut.result.now c.fill.new.fates c.free.new.fates kept c.fill.ensures freed)

@@ -70,7 +70,8 @@ loop-i-preserved c =
     let s = in_run h p c.geometry.ensures.valid c.requires.plan c.args.run c.requires.run i (omega arith) (omega arith) in
     let count = length-renamed_words (forward h p.survivors) h (object_at h (get_or p.survivors i 0)) s.object.refs_fit in
     record {
-      filling = Filling-more h p c.geometry.ensures.valid c.requires.plan c.args.run c.requires.run i from (from + object.size - from) c.loop-i.words c.copy.new.copy (omega arith) (omega arith) c.loop-i.invariant.filling at size
+      filling = Filling-more h p c.geometry.ensures.valid c.requires.plan c.args.run c.requires.run i from (from + object.size - from) c.loop-i.words
+          c.copy.new.copy (omega arith) (omega arith) c.loop-i.invariant.filling at size
           (ap length whole ∙ count ∙ sym size) whole;
       ahead = c.object-object.ensures.ahead;
     }

@@ -14,7 +14,8 @@ fill_at-requires-clause-empty c =
     let n = c.loop-number.number in
     let w : c.region_words-region_words.result ≡ h.geometry.w = cc in
     let lt : c.loop-number.number < need h p.survivors = omega (arith, c.loop-number-test.true, ap length c.runs-number-end.ensures, count_runs h p c.geometry.ensures.valid c.requires.plan) in
-    next_empty h p c.geometry.ensures.valid c.requires.plan n (n * c.region_words-region_words.result) (n * c.region_words-region_words.result + c.region_words-region_words.result - n * c.region_words-region_words.result) c.loop-number.words
+    next_empty h p c.geometry.ensures.valid c.requires.plan n (n * c.region_words-region_words.result)
+    (n * c.region_words-region_words.result + c.region_words-region_words.result - n * c.region_words-region_words.result) c.loop-number.words
     lt (ap (λ x. n * x) w) (omega (arith, w)) c.loop-number.invariant
 
 pub loop-number-preserved : goal.loop-number-preserved
@@ -24,7 +25,8 @@ loop-number-preserved c =
     let n = c.loop-number.number in
     let w : c.region_words-region_words.result ≡ h.geometry.w = cc in
     let lt : c.loop-number.number < need h p.survivors = omega (arith, c.loop-number-test.true, ap length c.runs-number-end.ensures, count_runs h p c.geometry.ensures.valid c.requires.plan) in
-    FilledTo-more h p c.geometry.ensures.valid c.requires.plan n (n * c.region_words-region_words.result) (n * c.region_words-region_words.result + c.region_words-region_words.result - n * c.region_words-region_words.result) c.loop-number.words c.fill_at.new.words
+    FilledTo-more h p c.geometry.ensures.valid c.requires.plan n (n * c.region_words-region_words.result)
+    (n * c.region_words-region_words.result + c.region_words-region_words.result - n * c.region_words-region_words.result) c.loop-number.words c.fill_at.new.words
     lt (ap (λ x. n * x) w) (omega (arith, w)) c.loop-number.invariant c.fill_at.ensures
 
 pub returns : goal.returns

@@ -12,7 +12,8 @@ pub loop-card-preserved : goal.loop-card-preserved
 loop-card-preserved g c =
     let xs = c.args.cards.now in
     let i = c.loop-card.card-index in
-    pushed_more (λ c'. patches_at c.args.heap.now c.args.plan.now.survivors (slots_on c.args.heap.now c')) [] c.loop-card.patches.items c.push_card.new.patches.items (take i xs) (get_or xs i 0) c.loop-card.invariant c.in_ok-push_card.ensures
+    pushed_more (λ c'. patches_at c.args.heap.now c.args.plan.now.survivors (slots_on c.args.heap.now c')) [] c.loop-card.patches.items
+    c.push_card.new.patches.items (take i xs) (get_or xs i 0) c.loop-card.invariant c.in_ok-push_card.ensures
     ∙ ap (flat_map (λ c'. patches_at c.args.heap.now c.args.plan.now.survivors (slots_on c.args.heap.now c'))) (sym (take_more xs i 0 c.loop-card-test.true))
 
 pub returns-clause-ok : goal.returns-clause-ok

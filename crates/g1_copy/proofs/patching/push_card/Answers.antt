@@ -21,7 +21,8 @@ loop-slot-preserved c =
     let xs = c.as_slice-slot-items.result.now in
     let i = c.loop-slot.slot-index in
     let l = c.args.plan.now.survivors in
-    pushed_more (patch_at c.args.heap.now l) c.args.patches.now.items c.loop-slot.patches.items c.push_patch.new.patches.items (take i xs) (get_or xs i 0) c.loop-slot.invariant c.in_ok-push_patch.ensures
+    pushed_more (patch_at c.args.heap.now l) c.args.patches.now.items c.loop-slot.patches.items c.push_patch.new.patches.items (take i xs)
+    (get_or xs i 0) c.loop-slot.invariant c.in_ok-push_patch.ensures
     ∙ ap (λ ys. c.args.patches.now.items ++ patches_at c.args.heap.now c.args.plan.now.survivors ys) (sym (take_more xs i 0 c.loop-slot-test.true))
 
 pub returns : goal.returns

@@ -35,7 +35,8 @@ pub returns : goal.returns
 returns c = λ u.
     let h = c.args.heap.now in
     let n : c.regions-count.result ≡ h.geometry.n = c.regions-count.ensures.value ∙ ap (λ g. g.n) c.geometry.ensures.same in
-    regions_all (λ r. region_by_fate c.args.plan.now.runs u (fate_at c.args.fates.now r) (region h r)) h.geometry.n c.loop-r.r c.loop-r.regions.items (omega (arith, c.loop-r-test.false, n)) (c.loop-r.invariant u)
+    regions_all (λ r. region_by_fate c.args.plan.now.runs u (fate_at c.args.fates.now r) (region h r)) h.geometry.n c.loop-r.r c.loop-r.regions.items
+    (omega (arith, c.loop-r-test.false, n)) (c.loop-r.invariant u)
 
 pub loop-r-smaller : goal.loop-r-smaller
 loop-r-smaller c = omega (arith, c.loop-r-test.true)

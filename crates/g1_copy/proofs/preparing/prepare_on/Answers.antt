@@ -15,7 +15,8 @@ use Rattle.g1_copy.specs.Fates.{AreFates}
 use Rattle.g1_copy.specs.Gathered.{to_space_words}
 use Rattle.g1_copy.specs.Plans.{IsPauseOf}
 use Rattle.g1_copy.specs.Patches.{AreFirsts}
-use Rattle.g1_copy.proofs.PreparedPause.{all_found, fates_after, firsts_there, found_rise, into_outside, into_rise, into_there, made_for, own_patches, remembered_left, regions_freed, runs_there, table_after}
+use Rattle.g1_copy.proofs.PreparedPause.{all_found, fates_after, firsts_there, found_rise, into_outside, into_rise, into_there, made_for, own_patches, remembered_left, regions_freed}
+use Rattle.g1_copy.proofs.PreparedPause.{runs_there, table_after}
 use Rattle.g1_copy.proofs.preparing.prepare_on.Given.{Over}
 use Rattle.g1_copy.proofs.preparing.prepare_on.Goals as goal
 use Rattle.g1_copy.proofs.preparing.prepare_on.Goals.{After-heap-heap, After-free, In_ok-freed}
@@ -45,7 +46,8 @@ remembered_by_fate-requires-clause-patches g c κs within =
     let he = c.heap-heap.ensures.same ∙ ap (λ (x : Image). x.heap) c.image.ensures.same in
     let image : IsImage i = subst IsImage c.image.ensures.same c.heap-heap.ensures.valid in
     let here = c.requires.cards ∙ ap (λ h. cards_into h (map (λ s. s.items) c.args.remembered.now) c.args.set.now) (sym he) in
-    let found = all_found i c.args.set.now p c.requires.plan c.heap-heap.result.now (map (λ s. s.items) c.args.remembered.now) c.args.cards.now c.deref-2.result.now c.all_patches.ensures image c.image.ensures.covered he c.requires.remembered here (c.deref-2.ensures.value ∙ c.in_ok-patches.ensures.ok) in
+    let found = all_found i c.args.set.now p c.requires.plan c.heap-heap.result.now (map (λ s. s.items) c.args.remembered.now) c.args.cards.now
+    c.deref-2.result.now c.all_patches.ensures image c.image.ensures.covered he c.requires.remembered here (c.deref-2.ensures.value ∙ c.in_ok-patches.ensures.ok) in
     own_patches i c.args.set.now p c.requires.plan c.deref-2.result.now found
 
 -- ---- the humongous objects that are freed
@@ -93,23 +95,29 @@ freed i set l = unnamed_regions (heap_moved i.heap set l)
 pub humongous_regions-requires : goal.humongous_regions-requires
 humongous_regions-requires g c =
     let b = (goal.at.humongous_regions-requires g c).After-heap-heap in
-    firsts_there c.args.tracked.now c.args.set.now c.args.plan.now c.requires.plan (the_tracked g b) c.heap-heap.result.now (the_heap g b) c.deref-6.result.now (c.deref-6.ensures.value ∙ c.in_ok-humongous.ensures)
+    firsts_there c.args.tracked.now c.args.set.now c.args.plan.now c.requires.plan (the_tracked g b) c.heap-heap.result.now (the_heap g b)
+    c.deref-6.result.now (c.deref-6.ensures.value ∙ c.in_ok-humongous.ensures)
 
 -- they are the runs that were found
-the_runs : (g : Over) (c : In_ok-freed g) → IsTracked c.args.tracked.now → c.heap-heap.result.now ≡ c.args.tracked.now.heap → c.in_ok-freed.freed.items ≡ freed c.args.tracked.now c.args.set.now c.args.plan.now.survivors
+the_runs : (g : Over) (c : In_ok-freed g) → IsTracked c.args.tracked.now → c.heap-heap.result.now ≡ c.args.tracked.now.heap →
+    c.in_ok-freed.freed.items ≡ freed c.args.tracked.now c.args.set.now c.args.plan.now.survivors
 the_runs g c tracked he =
-    regions_freed c.args.tracked.now c.args.set.now c.args.plan.now c.requires.plan tracked c.heap-heap.result.now he c.deref-6.result.now (c.deref-6.ensures.value ∙ c.in_ok-humongous.ensures) c.in_ok-freed.freed.items c.in_ok-freed.ensures
+    regions_freed c.args.tracked.now c.args.set.now c.args.plan.now c.requires.plan tracked c.heap-heap.result.now he c.deref-6.result.now
+    (c.deref-6.ensures.value ∙ c.in_ok-humongous.ensures) c.in_ok-freed.freed.items c.in_ok-freed.ensures
 
 pub free-requires : goal.free-requires
 free-requires g c =
     let b = (goal.at.free-requires g c).After-heap-heap in
-    let count : length c.deref_mut.result.now ≡ c.args.tracked.now.heap.geometry.n = ap length c.deref_mut.ensures.value ∙ c.in_ok-fates.ensures.one_each ∙ ap (λ (h : Heap). h.geometry.n) (the_heap g b) in
+    let count : length c.deref_mut.result.now ≡ c.args.tracked.now.heap.geometry.n =
+    ap length c.deref_mut.ensures.value ∙ c.in_ok-fates.ensures.one_each ∙ ap (λ (h : Heap). h.geometry.n) (the_heap g b) in
     runs_there c.args.tracked.now c.args.set.now c.args.plan.now c.requires.plan (the_tracked g b) c.deref-7.result.now (length c.deref_mut.result.now)
     (c.deref-7.ensures.value ∙ the_runs g (goal.at.free-requires g c).In_ok-freed (the_tracked g b) (the_heap g b)) count
 
 -- the table of fates afterwards
-the_fates : (g : Over) (c : After-free g) → IsTracked c.args.tracked.now → c.heap-heap.result.now ≡ c.args.tracked.now.heap → c.in_ok-freed.freed.items ≡ freed c.args.tracked.now c.args.set.now c.args.plan.now.survivors
-    → AreFates c.args.tracked.now.heap (c.args.set.now ++ freed c.args.tracked.now c.args.set.now c.args.plan.now.survivors) (to_space c.args.tracked.now.heap c.args.plan.now.survivors) c.free.new.fates
+the_fates : (g : Over) (c : After-free g) → IsTracked c.args.tracked.now → c.heap-heap.result.now ≡ c.args.tracked.now.heap →
+    c.in_ok-freed.freed.items ≡ freed c.args.tracked.now c.args.set.now c.args.plan.now.survivors
+    → AreFates c.args.tracked.now.heap (c.args.set.now ++ freed c.args.tracked.now c.args.set.now c.args.plan.now.survivors)
+    (to_space c.args.tracked.now.heap c.args.plan.now.survivors) c.free.new.fates
 the_fates g c tracked he runs =
     let h = c.heap-heap.result.now in
     fates_after c.args.tracked.now c.args.set.now c.args.plan.now c.requires.plan tracked h c.deref-7.result.now c.deref_mut.result.now c.free.new.fates he (c.deref-7.ensures.value ∙ runs)
@@ -148,7 +156,8 @@ firsts-requires g c =
     let he = c.heap-heap.ensures.same ∙ ap (λ (x : Image). x.heap) c.image.ensures.same in
     let image : IsImage i = subst IsImage c.image.ensures.same c.heap-heap.ensures.valid in
     let here = c.requires.cards ∙ ap (λ h. cards_into h (map (λ s. s.items) c.args.remembered.now) c.args.set.now) (sym he) in
-    let found = all_found i c.args.set.now p c.requires.plan c.heap-heap.result.now (map (λ s. s.items) c.args.remembered.now) c.args.cards.now c.deref-10.result.now c.all_patches.ensures image c.image.ensures.covered he c.requires.remembered here (c.deref-10.ensures.value ∙ c.in_ok-patches.ensures.ok) in
+    let found = all_found i c.args.set.now p c.requires.plan c.heap-heap.result.now (map (λ s. s.items) c.args.remembered.now) c.args.cards.now
+    c.deref-10.result.now c.all_patches.ensures image c.image.ensures.covered he c.requires.remembered here (c.deref-10.ensures.value ∙ c.in_ok-patches.ensures.ok) in
     found_rise i c.args.set.now p c.requires.plan c.deref-10.result.now image found
 
 pub new_regions-requires-clause-fates : goal.new_regions-requires-clause-fates
@@ -181,15 +190,28 @@ returns-clause-ok g c =
     let clears : List ℕ = c.args.set.now ++ freed i c.args.set.now p.survivors in
     let image : IsImage i = tracked.image in
     let here = c.requires.cards ∙ ap (λ h. cards_into h (map (λ s. s.items) c.args.remembered.now) c.args.set.now) (sym he) in
-    let found = all_found i set p pause h (map (λ s. s.items) c.args.remembered.now) c.args.cards.now ps c.all_patches.ensures image c.image.ensures.covered he c.requires.remembered here c.in_ok-patches.ensures.ok in
+    let found = all_found i set p pause h (map (λ s. s.items) c.args.remembered.now) c.args.cards.now ps c.all_patches.ensures image
+    c.image.ensures.covered he c.requires.remembered here c.in_ok-patches.ensures.ok in
     let firsts = subst (λ xs. AreFirsts h.geometry.w h.geometry.n xs c.in_ok-firsts.field-0.items) c.deref-10.ensures.value c.in_ok-firsts.ensures in
     let back : take c.in_ok-fates.fates.len (c.free.new.fates ++ drop (length c.free.new.fates) c.in_ok-fates.fates.items) ≡ c.free.new.fates = fates_back g b in
     let table = table_after i set p pause tracked h c.in_ok-new_regions.field-0.items c.deref-11.result.now he
     (subst (AreFates i.heap clears (to_space i.heap p.survivors)) (sym (c.deref-11.ensures.value ∙ back)) fates) c.in_ok-new_regions.ensures in
     let kept = lent_back c.in_ok-sets.sets.len c.deref_mut-2.result.now c.leave_all.new.sets c.in_ok-sets.sets.items c.deref_mut-2.ensures.value c.leave_all.auto.sets c.deref_mut-2.ensures.len in
-    let sets = remembered_left i set p pause tracked h c.deref-8.result.now c.deref-9.result.now (map (λ s. s.items) c.deref_mut-2.result.now) (map (λ s. s.items) c.leave_all.new.sets) he (c.deref-9.ensures.value ∙ runs)
+    let sets = remembered_left i set p pause tracked h c.deref-8.result.now c.deref-9.result.now (map (λ s. s.items) c.deref_mut-2.result.now)
+    (map (λ s. s.items) c.leave_all.new.sets) he (c.deref-9.ensures.value ∙ runs)
     (subst (AreFates i.heap clears (to_space i.heap p.survivors)) (sym (c.deref-8.ensures.value ∙ back)) fates)
     (ap (map (λ s. s.items)) c.deref_mut-2.ensures.value ∙ c.in_ok-sets.ensures.ok) c.leave_all.ensures.left (λ z. ap (map (λ s. s.items)) (c.leave_all.ensures.same z)) in
     made_for i set p pause tracked
-    (record { fates = take c.in_ok-fates.fates.len (c.free.new.fates ++ drop (length c.free.new.fates) c.in_ok-fates.fates.items); gathered = c.in_ok-gathered.gathered.items; patches = ps; firsts = c.in_ok-firsts.field-0.items; regions = c.in_ok-new_regions.field-0.items; roots = c.in_ok-new_roots.field-0.items; remembered = map (λ s. s.items) (take c.in_ok-sets.sets.len (c.leave_all.new.sets ++ drop (length c.leave_all.new.sets) c.in_ok-sets.sets.items)); humongous = c.in_ok-humongous.humongous.items })
-    h he (subst (AreFates i.heap clears (to_space i.heap p.survivors)) (sym back) fates) c.in_ok-gathered.ensures found firsts table c.in_ok-new_roots.ensures (ap (map (λ s. s.items)) kept ∙ sets) c.in_ok-humongous.ensures
+    (record {
+      fates = take c.in_ok-fates.fates.len (c.free.new.fates ++ drop (length c.free.new.fates) c.in_ok-fates.fates.items);
+      gathered = c.in_ok-gathered.gathered.items;
+      patches = ps;
+      firsts = c.in_ok-firsts.field-0.items;
+      regions = c.in_ok-new_regions.field-0.items;
+      roots = c.in_ok-new_roots.field-0.items;
+      remembered = map (λ s. s.items)
+          (take c.in_ok-sets.sets.len (c.leave_all.new.sets ++ drop (length c.leave_all.new.sets) c.in_ok-sets.sets.items));
+      humongous = c.in_ok-humongous.humongous.items;
+    })
+    h he (subst (AreFates i.heap clears (to_space i.heap p.survivors)) (sym back) fates) c.in_ok-gathered.ensures found firsts table
+    c.in_ok-new_roots.ensures (ap (map (λ s. s.items)) kept ∙ sets) c.in_ok-humongous.ensures

@@ -8,7 +8,8 @@ count : (c : After-regions-count) → c.regions-count.result ≡ c.args.heap.now
 count c = c.regions-count.ensures.value ∙ ap (λ g. g.n) c.geometry.ensures.same
 
 pub loop-region-init : goal.loop-region-init
-loop-region-init c = subst (λ xs. JoinedTo c.args.heap.now c.args.fates.now (map (λ s. s.items) c.args.remembered.now) (map (λ s. s.items) c.args.outer.now) (map (λ s. s.items) c.args.inner.now) 0 (map (λ s. s.items) xs)) (sym c.in_ok-sets.ensures.items)
+loop-region-init c = subst (λ xs. JoinedTo c.args.heap.now c.args.fates.now (map (λ s. s.items) c.args.remembered.now)
+    (map (λ s. s.items) c.args.outer.now) (map (λ s. s.items) c.args.inner.now) 0 (map (λ s. s.items) xs)) (sym c.in_ok-sets.ensures.items)
     (record { so_many = refl; each = λ r lt. absurd (omega (arith, lt)) })
 
 pub loop-region-preserved : goal.loop-region-preserved
@@ -26,7 +27,8 @@ pub returns-clause-ok : goal.returns-clause-ok
 returns-clause-ok c =
     let n = count (goal.at.returns-clause-ok c).After-regions-count in
     let all : c.loop-region.region ≡ c.args.heap.now.geometry.n = omega (arith, c.loop-region-test.false, c.loop-region.auto.region-end, n) in
-    JoinedTo-all c.args.heap.now c.args.fates.now (map (λ s. s.items) c.args.remembered.now) (map (λ s. s.items) c.args.outer.now) (map (λ s. s.items) c.args.inner.now) c.loop-region.region (map (λ s. s.items) c.loop-region.sets.items) all c.loop-region.invariant
+    JoinedTo-all c.args.heap.now c.args.fates.now (map (λ s. s.items) c.args.remembered.now) (map (λ s. s.items) c.args.outer.now)
+    (map (λ s. s.items) c.args.inner.now) c.loop-region.region (map (λ s. s.items) c.loop-region.sets.items) all c.loop-region.invariant
 
 pub loop-region-smaller : goal.loop-region-smaller
 loop-region-smaller c = omega (arith, c.loop-region-test.true)

@@ -8,4 +8,5 @@ pub returns-clause-ok : goal.returns-clause-ok
 returns-clause-ok g c =
     let i = c.args.tracked.now in
     let l = c.args.plan.now.survivors in
-    subst (λ s. IfOk c.remembered_by_fate.result (λ v. map (λ s. s.items) v.items ≡ map (remembered_moved i s l (heap_moved i.heap s l)) (regions i.heap))) c.requires.plan.same c.remembered_by_fate.ensures.ok
+    subst (λ s. IfOk c.remembered_by_fate.result (λ v. map (λ s. s.items) v.items
+    ≡ map (remembered_moved i s l (heap_moved i.heap s l)) (regions i.heap))) c.requires.plan.same c.remembered_by_fate.ensures.ok

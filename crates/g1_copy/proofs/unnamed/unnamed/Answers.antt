@@ -26,7 +26,8 @@ unnamed_firsts-requires-clause-one_each c =
     let i = c.args.tracked.now in
     let p = c.args.plan.now in
     let he = the_heap (goal.at.unnamed_firsts-requires-clause-one_each c).After-heap-heap in
-    sym (length-map c.args.remembered.now (λ s. s.items)) ∙ ap length c.requires.remembered ∙ length-map-range_with_len (remembered_moved i p.set p.survivors (heap_moved i.heap p.set p.survivors)) 0 i.heap.geometry.n
+    sym (length-map c.args.remembered.now (λ s. s.items)) ∙ ap length c.requires.remembered
+    ∙ length-map-range_with_len (remembered_moved i p.set p.survivors (heap_moved i.heap p.set p.survivors)) 0 i.heap.geometry.n
     ∙ ap (λ (h : Heap). h.geometry.n) (sym he)
 
 pub unnamed_firsts-requires-clause-cards : goal.unnamed_firsts-requires-clause-cards
@@ -45,5 +46,6 @@ returns c =
     let same : filter (is_unnamed c.heap-heap.result.now c.args.fates.now (map (λ s. s.items) c.args.remembered.now)) (regions c.heap-heap.result.now)
     ≡ map (λ o. region_of c.args.tracked.now.heap o.at) (unnamed (heap_moved c.args.tracked.now.heap c.args.plan.now.set c.args.plan.now.survivors)) =
     ap (λ h. filter (is_unnamed h c.args.fates.now (map (λ s. s.items) c.args.remembered.now)) (regions h)) (the_heap b)
-    ∙ firsts_are i p.set p.survivors (the_tracked b) (has_room i p.set p c.requires.plan) c.named_by_cards.ensures c.survivors_moved.ensures.stays c.args.fates.now c.requires.fates (map (λ s. s.items) c.args.remembered.now) c.requires.remembered in
+    ∙ firsts_are i p.set p.survivors (the_tracked b) (has_room i p.set p c.requires.plan) c.named_by_cards.ensures c.survivors_moved.ensures.stays
+    c.args.fates.now c.requires.fates (map (λ s. s.items) c.args.remembered.now) c.requires.remembered in
     subst (λ xs. IfOk c.unnamed_firsts.result (λ v. v.items ≡ xs)) same c.unnamed_firsts.ensures

@@ -9,7 +9,8 @@ use Rattle.g1_mark.proofs.Counting.{zeros, bytes_few, bytes_here, region_there, 
 use Rattle.g1_mark.proofs.bytes.bytes_at.Goals as goal
 
 pub loop-address-init : goal.loop-address-init
-loop-address-init c = counted_none c.args.heap.now c.geometry-geometry.ensures.valid c.in_ok-bytes.bytes.items (c.in_ok-bytes.ensures ∙ ap zeros (c.regions.ensures.value ∙ ap (λ g. g.n) c.geometry-geometry.ensures.same))
+loop-address-init c = counted_none c.args.heap.now c.geometry-geometry.ensures.valid c.in_ok-bytes.bytes.items (c.in_ok-bytes.ensures
+    ∙ ap zeros (c.regions.ensures.value ∙ ap (λ g. g.n) c.geometry-geometry.ensures.same))
 
 pub size_at-requires : goal.size_at-requires
 size_at-requires c =
@@ -36,7 +37,8 @@ overflow_add-index_mut c =
     let region : c.region_of-region.result ≡ region_of h a = c.region_of-region.ensures ∙ ap (λ g. a / g.w) c.geometry-geometry.ensures.same in
     let there = region_there h valid a object in
     let low : region_of h a < length c.loop-address.bytes.items = omega (arith, there, c.loop-address.invariant.one_each) in
-    let is : get_or c.loop-address.bytes.items (region_of h a) 0 ≡ c.index_mut.result.now = read c.loop-address.bytes.items c.region_of-region.result (region_of h a) c.index_mut.result.now c.index_mut.result.now 0 region low c.index_mut.ensures.value (λ i. c.index_mut.result.now) in
+    let is : get_or c.loop-address.bytes.items (region_of h a) 0 ≡ c.index_mut.result.now =
+    read c.loop-address.bytes.items c.region_of-region.result (region_of h a) c.index_mut.result.now c.index_mut.result.now 0 region low c.index_mut.ensures.value (λ i. c.index_mut.result.now) in
     let size : c.size_at.result ≡ word h a / 2 ^ 32 = c.size_at.ensures in
     let here = bytes_here h valid a object front (not_before c.args.addresses.now c.loop-address.address-index c.requires.once c.loop-address-test.true) in
     let few = bytes_few h valid (has (front ++ a ∷ [])) (region_of h a) there in
@@ -53,11 +55,17 @@ loop-address-preserved c =
     let object : Contains (objects h) (object_at h a) = c.requires.objects c.loop-address.address-index 0 c.loop-address-test.true in
     let region : c.region_of-region.result ≡ region_of h a = c.region_of-region.ensures ∙ ap (λ g. a / g.w) c.geometry-geometry.ensures.same in
     let low : c.region_of-region.result < length c.loop-address.bytes.items = omega (arith, region, region_there h valid a object, c.loop-address.invariant.one_each) in
-    let is : get_or c.loop-address.bytes.items c.region_of-region.result 0 ≡ c.index_mut.result.now = read c.loop-address.bytes.items c.region_of-region.result c.region_of-region.result c.index_mut.result.now c.index_mut.result.now 0 (λ i. c.region_of-region.result) low c.index_mut.ensures.value (λ i. c.index_mut.result.now) in
+    let is : get_or c.loop-address.bytes.items c.region_of-region.result 0 ≡ c.index_mut.result.now =
+    read c.loop-address.bytes.items c.region_of-region.result c.region_of-region.result c.index_mut.result.now c.index_mut.result.now 0
+    (λ i. c.region_of-region.result) low c.index_mut.ensures.value (λ i. c.index_mut.result.now) in
     let told : c.size_at.result ≡ word h a / 2 ^ 32 = c.size_at.ensures in
-    subst (λ l. AreBytesOf h l (set c.loop-address.bytes.items c.region_of-region.result (c.index_mut.result.now + 8 * c.size_at.result))) (sym (take_more c.args.addresses.now c.loop-address.address-index 0 c.loop-address-test.true))
-    (subst (λ v. AreBytesOf h (take c.loop-address.address-index c.args.addresses.now ++ get_or c.args.addresses.now c.loop-address.address-index 0 ∷ []) (set c.loop-address.bytes.items c.region_of-region.result (v + 8 * c.size_at.result))) is
-    (counted_more h valid a object (take c.loop-address.address-index c.args.addresses.now) (not_before c.args.addresses.now c.loop-address.address-index c.requires.once c.loop-address-test.true) c.loop-address.bytes.items c.region_of-region.result c.size_at.result c.loop-address.invariant region told))
+    subst (λ l. AreBytesOf h l (set c.loop-address.bytes.items c.region_of-region.result (c.index_mut.result.now + 8 * c.size_at.result)))
+    (sym (take_more c.args.addresses.now c.loop-address.address-index 0 c.loop-address-test.true))
+    (subst (λ v. AreBytesOf h (take c.loop-address.address-index c.args.addresses.now
+    ++ get_or c.args.addresses.now c.loop-address.address-index 0 ∷ []) (set c.loop-address.bytes.items c.region_of-region.result (v + 8 * c.size_at.result))) is
+    (counted_more h valid a object (take c.loop-address.address-index c.args.addresses.now)
+    (not_before c.args.addresses.now c.loop-address.address-index c.requires.once c.loop-address-test.true) c.loop-address.bytes.items
+    c.region_of-region.result c.size_at.result c.loop-address.invariant region told))
 
 pub returns : goal.returns
 returns c =

@@ -10,6 +10,8 @@ loop-region-preserved c =
     let r : ℕ = c.loop-region.region in
     let told : test r ≡ c.is_used.result = sym (c.is_used.ensures.value ∙ ap (λ q. not (is_free q.kind)) c.region.ensures) in
     elim c.if-is_used.branch [
-      | then-is_used+in_ok-push w ↦ used_more test r c.loop-region.used.items c.if-is_used.used.items true c.loop-region.invariant (told ∙ w.if-is_used.true) (ap (λ v. v.items) w.used-is ∙ w.in_ok-push.ensures.items)
-      | else-is_used w ↦ used_more test r c.loop-region.used.items c.if-is_used.used.items false c.loop-region.invariant (told ∙ w.if-is_used.false) (ap (λ v. v.items) w.used-is ∙ sym (append-nil c.loop-region.used.items))
+      | then-is_used+in_ok-push w ↦ used_more test r c.loop-region.used.items c.if-is_used.used.items true c.loop-region.invariant (told
+          ∙ w.if-is_used.true) (ap (λ v. v.items) w.used-is ∙ w.in_ok-push.ensures.items)
+      | else-is_used w ↦ used_more test r c.loop-region.used.items c.if-is_used.used.items false c.loop-region.invariant (told ∙ w.if-is_used.false)
+          (ap (λ v. v.items) w.used-is ∙ sym (append-nil c.loop-region.used.items))
     ]

@@ -15,4 +15,5 @@ discover-requires-clause-window g c κs within =
 pub discover-requires-clause-lead_in : goal.discover-requires-clause-lead_in
 discover-requires-clause-lead_in g c κs within =
     let h = c.args.heap.now in
-    λ e i t f. absurd (false≢true (sym f ∙ ap (λ w. in_set h w e.slot) (c.as_slice.ensures.value ∙ c.in_ok-window.ensures.used) ∙ slot_used h c.used_regions.ensures.valid e (In-from_contains (refs h) e i)))
+    λ e i t f. absurd (false≢true (sym f ∙ ap (λ w. in_set h w e.slot) (c.as_slice.ensures.value ∙ c.in_ok-window.ensures.used)
+    ∙ slot_used h c.used_regions.ensures.valid e (In-from_contains (refs h) e i)))

@@ -10,7 +10,8 @@ cards_into-requires-clause-remembered g c =
 
 pub discover-requires-clause-cards : goal.discover-requires-clause-cards
 discover-requires-clause-cards g c κs within =
-    cards_there c.heap-heap.result.now c.as_slice-cards.result.now c.args.set.now (map (λ s. s.items) c.args.remembered.now) c.cards_lead_in.ensures.outside (c.as_slice-cards.ensures.value ∙ c.in_ok-into.ensures.ok)
+    cards_there c.heap-heap.result.now c.as_slice-cards.result.now c.args.set.now (map (λ s. s.items) c.args.remembered.now)
+    c.cards_lead_in.ensures.outside (c.as_slice-cards.ensures.value ∙ c.in_ok-into.ensures.ok)
 
 pub discover-requires-clause-outside : goal.discover-requires-clause-outside
 discover-requires-clause-outside g c κs within =

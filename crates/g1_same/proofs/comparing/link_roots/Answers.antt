@@ -25,7 +25,8 @@ loop-number-preserved c =
     let l : IsLinked v 0 n (slice_index c.roots-roots.result.now n) (slice_index c.roots-others.result.now n) =
     none_then (IsLinked v 0 n (slice_index c.roots-roots.result.now n) (slice_index c.roots-others.result.now n)) c.in_ok-how.field-0 c.in_default.not-Some c.in_ok-how.ensures.linked in
     let l' : IsLinked v 0 n (slice_index g.roots n) (slice_index h.roots n) =
-    subst (λ q. IsLinked v 0 n (slice_index q n) (slice_index h.roots n)) c.roots-roots.ensures (subst (λ q. IsLinked v 0 n (slice_index c.roots-roots.result.now n) (slice_index q n)) c.roots-others.ensures l) in
+    subst (λ q. IsLinked v 0 n (slice_index q n) (slice_index h.roots n)) c.roots-roots.ensures
+    (subst (λ q. IsLinked v 0 n (slice_index c.roots-roots.result.now n) (slice_index q n)) c.roots-others.ensures l) in
     record {
       walk = c.in_ok-how.ensures.walk;
       linked = roots_more g h c.loop-number.walk v n c.in_ok-how.ensures.grown c.loop-number.invariant.linked l';

@@ -160,8 +160,11 @@ loop-number-preserved c =
 
 pub returns-in-Some-clause-until : goal.returns-in-Some-clause-until
 returns-in-Some-clause-until c =
-    let w : Walk = c.loop-number.walk in
-    (omega arith, slots_kept c.args.before.now c.args.after.now w c.link.new.walk c.args.place c.loop-number.number c.in_ok-how.ensures.grown (omega (arith, c.requires.place, c.loop-number.invariant.grown.more)) c.loop-number.invariant.linked)
+    let w : Walk = c.loop-number.walk in (
+      omega arith,
+      slots_kept c.args.before.now c.args.after.now w c.link.new.walk c.args.place c.loop-number.number c.in_ok-how.ensures.grown
+          (omega (arith, c.requires.place, c.loop-number.invariant.grown.more)) c.loop-number.invariant.linked,
+    )
 
 pub returns-clause-linked : goal.returns-clause-linked
 returns-clause-linked c =

@@ -17,11 +17,13 @@ loop-from-preserved c =
     record {
       within = omega (arith, back, f, lt);
       route = λ p r.
-          let r' : IsRoute w (slice_index w.from.items j) (slice_index w.number.items j) p = subst (λ z. IsRoute w z (slice_index w.number.items j) p) f (subst (λ z. IsRoute w c.index-from.result.now z p) n r) in
+          let r' : IsRoute w (slice_index w.from.items j) (slice_index w.number.items j) p =
+          subst (λ z. IsRoute w z (slice_index w.number.items j) p) f (subst (λ z. IsRoute w c.index-from.result.now z p) n r) in
           let s : IsRoute w (suc j) c.loop-from.number (p ++ c.loop-from.number ∷ []) = slot j c.loop-from.number p lt r' in
           let u = c.loop-from.invariant.route (p ++ c.loop-from.number ∷ []) (subst (λ z. IsRoute w z c.loop-from.number (p ++ c.loop-from.number ∷ [])) is s) in
           let e : (p ++ c.loop-from.number ∷ []) ++ reverse c.loop-from.slots.items ≡ p ++ reverse c.push.new.self.items =
-          append_assoc p (c.loop-from.number ∷ []) (reverse c.loop-from.slots.items) ∙ ap (λ l. p ++ l) (sym (ap reverse c.in_ok-push.ensures.items ∙ reverse-append c.loop-from.slots.items (c.loop-from.number ∷ []))) in
+          append_assoc p (c.loop-from.number ∷ []) (reverse c.loop-from.slots.items)
+          ∙ ap (λ l. p ++ l) (sym (ap reverse c.in_ok-push.ensures.items ∙ reverse-append c.loop-from.slots.items (c.loop-from.number ∷ []))) in
           subst (IsRoute w c.args.stop.from c.args.stop.number) e u;
     }
 

@@ -39,7 +39,8 @@ returns-in_ok-add-in-New-clause-walk c =
       old_of = c.in_ok-add-in-New.ensures.old_of;
     } in
     let way : IsWay g h w.before.items w.after.items c.args.from c.args.number (suc a) (suc b) =
-    subst (λ z. IsWay g h w.before.items w.after.items c.args.from c.args.number z (suc b)) met.0 (subst (λ z. IsWay g h w.before.items w.after.items c.args.from c.args.number c.args.x z) met.1 c.requires.way) in
+    subst (λ z. IsWay g h w.before.items w.after.items c.args.from c.args.number z (suc b)) met.0
+    (subst (λ z. IsWay g h w.before.items w.after.items c.args.from c.args.number c.args.x z) met.1 c.requires.way) in
     added_walk g h w v c.args.from c.args.number a b c.requires.walk e x_in y_in met.4 x_lt y_lt met.2 met.3 way c.requires.backward c.requires.below
 
 pub returns-in_ok-add-in-New-clause-linked : goal.returns-in_ok-add-in-New-clause-linked
@@ -59,7 +60,8 @@ returns-in_ok-add-in-New-clause-linked c =
       new_of = c.in_ok-add-in-New.ensures.new_of;
       old_of = c.in_ok-add-in-New.ensures.old_of;
     } in
-    subst (λ z. IsLinked v c.args.from c.args.number z c.args.y) (sym met.0) (subst (λ z. IsLinked v c.args.from c.args.number (suc a) z) (sym met.1) (added_linked g h w v c.args.from c.args.number a b c.requires.walk e))
+    subst (λ z. IsLinked v c.args.from c.args.number z c.args.y) (sym met.0)
+    (subst (λ z. IsLinked v c.args.from c.args.number (suc a) z) (sym met.1) (added_linked g h w v c.args.from c.args.number a b c.requires.walk e))
 
 pub returns-in_ok-add-in-New-clause-below : goal.returns-in_ok-add-in-New-clause-below
 returns-in_ok-add-in-New-clause-below c =

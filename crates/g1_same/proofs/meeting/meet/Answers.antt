@@ -49,7 +49,8 @@ returns-then-i-ne0 c =
     let x_is : c.args.x ≡ suc (c.args.x - 1) = some c.args.x c.if-x-eq0.false in
     let y_is : c.args.y ≡ suc (c.args.y - 1) = some c.args.y c.if-y-eq0-2.false in
     let s = split_here g h w left right c.requires.walk (c.args.x - 1) (c.args.y - 1) c.index-i.result.now c.index-j.result.now x_lt y_lt is_i is_j c.if-i-j.true c.if-i-ne0.true in
-    let m : c.index.result.now ≡ slice_index w.after.items (c.index-i.result.now - 1) = get_or_read w.after.items (c.index-i.result.now - 1) c.index.result.now (omega (arith, s.0, c.requires.walk.pairs)) c.index.ensures 0 in
+    let m : c.index.result.now ≡ slice_index w.after.items (c.index-i.result.now - 1) =
+    get_or_read w.after.items (c.index-i.result.now - 1) c.index.result.now (omega (arith, s.0, c.requires.walk.pairs)) c.index.ensures 0 in
     ((x_is, y_is, λ e. s.2 (sym m ∙ e), c.index-i.result.now - 1, s.0, s.1, sym m), tt)
 
 pub index-requires-then-i-j : goal.index-requires-then-i-j
@@ -82,8 +83,12 @@ returns-then-i-j c =
     let x_is : c.args.x ≡ suc (c.args.x - 1) = some c.args.x c.if-x-eq0.false in
     let y_is : c.args.y ≡ suc (c.args.y - 1) = some c.args.y c.if-y-eq0-2.false in
     let s = joined_here g h w left right c.requires.walk (c.args.x - 1) (c.args.y - 1) c.index-i.result.now c.index-j.result.now x_lt y_lt is_i is_j c.if-i-j.true c.if-i-ne0.false in
-    let m : c.index-then-i-j.result.now ≡ slice_index w.before.items (c.index-j.result.now - 1) = get_or_read w.before.items (c.index-j.result.now - 1) c.index-then-i-j.result.now s.0 c.index-then-i-j.ensures 0 in
-    ((x_is, y_is, λ e. s.2 (sym m ∙ e), c.index-j.result.now - 1, s.0, sym m, s.1), new_before g h w left right c.requires.walk (c.args.x - 1) (c.args.y - 1) c.index-i.result.now c.index-j.result.now x_lt y_lt is_i is_j c.if-i-ne0.false)
+    let m : c.index-then-i-j.result.now ≡ slice_index w.before.items (c.index-j.result.now - 1) =
+    get_or_read w.before.items (c.index-j.result.now - 1) c.index-then-i-j.result.now s.0 c.index-then-i-j.ensures 0 in (
+      (x_is, y_is, λ e. s.2 (sym m ∙ e), c.index-j.result.now - 1, s.0, sym m, s.1),
+      new_before g h w left right c.requires.walk (c.args.x - 1)
+          (c.args.y - 1) c.index-i.result.now c.index-j.result.now x_lt y_lt is_i is_j c.if-i-ne0.false,
+    )
 
 pub returns-then-i-ne0-2 : goal.returns-then-i-ne0-2
 returns-then-i-ne0-2 c =
@@ -116,6 +121,8 @@ returns-in-Some c =
     let y_is : c.args.y ≡ suc (c.args.y - 1) = some c.args.y c.if-y-eq0-2.false in
     let none : c.index-j.result.now ≡ 0 = sym c.if-i-j.false ∙ c.if-i-ne0-2.false in
     let seen = seen_of g h w (suc (c.args.x - 1)) (suc (c.args.y - 1)) c.in-Some.how c.in-Some.ensures.some in
-    let least = least_of g h w (c.args.x - 1) (c.args.y - 1) c.in-Some.how c.in-Some.ensures.some (new_before g h w left right c.requires.walk (c.args.x - 1) (c.args.y - 1) c.index-i.result.now c.index-j.result.now x_lt y_lt is_i is_j c.if-i-ne0-2.false) (new_after g h w left right c.requires.walk (c.args.x - 1) (c.args.y - 1) c.index-i.result.now c.index-j.result.now x_lt y_lt is_i is_j none) c.in-Some.ensures.lower in
+    let least = least_of g h w (c.args.x - 1) (c.args.y - 1) c.in-Some.how c.in-Some.ensures.some
+    (new_before g h w left right c.requires.walk (c.args.x - 1) (c.args.y - 1) c.index-i.result.now c.index-j.result.now x_lt y_lt is_i is_j
+    c.if-i-ne0-2.false) (new_after g h w left right c.requires.walk (c.args.x - 1) (c.args.y - 1) c.index-i.result.now c.index-j.result.now x_lt y_lt is_i is_j none) c.in-Some.ensures.lower in
     subst (λ z. IsSeen g h w c.in-Some.how z c.args.y × IsLeast g h w c.in-Some.how z c.args.y) (sym x_is)
     (subst (λ z. IsSeen g h w c.in-Some.how (suc (c.args.x - 1)) z × IsLeast g h w c.in-Some.how (suc (c.args.x - 1)) z) (sym y_is) (seen, least))

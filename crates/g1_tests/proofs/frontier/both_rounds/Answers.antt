@@ -15,7 +15,8 @@ use Rattle.g1_tests.proofs.frontier.both_rounds.Goals as goal
 pub claim_round-requires-clause-items : goal.claim_round-requires-clause-items
 claim_round-requires-clause-items g c κs within =
     let h = c.args.heap.now in
-    subst (All (IsItem h)) (sym c.in_ok-items.ensures.items) (first_are_items h c.geometry.ensures.valid (1 ∷ []) c.args.cards.now c.requires.region c.requires.cards c.requires.outside c.requires.lead_in)
+    subst (All (IsItem h)) (sym c.in_ok-items.ensures.items) (first_are_items h c.geometry.ensures.valid (1 ∷ []) c.args.cards.now c.requires.region
+    c.requires.cards c.requires.outside c.requires.lead_in)
 
 pub claim_round-requires-clause-outside : goal.claim_round-requires-clause-outside
 claim_round-requires-clause-outside g c κs within =
@@ -25,12 +26,14 @@ claim_round-requires-clause-outside g c κs within =
 pub claim_round-requires-clause-rise : goal.claim_round-requires-clause-rise
 claim_round-requires-clause-rise g c κs within =
     let h = c.args.heap.now in
-    subst (λ l. Rises (all_pairs h (1 ∷ []) l)) (sym c.in_ok-items.ensures.items) (first_rises h c.geometry.ensures.valid (1 ∷ []) c.args.cards.now c.requires.region c.requires.cards c.requires.outside c.requires.lead_in)
+    subst (λ l. Rises (all_pairs h (1 ∷ []) l)) (sym c.in_ok-items.ensures.items)
+    (first_rises h c.geometry.ensures.valid (1 ∷ []) c.args.cards.now c.requires.region c.requires.cards c.requires.outside c.requires.lead_in)
 
 pub claim_round-requires-clause-ranks : goal.claim_round-requires-clause-ranks
 claim_round-requires-clause-ranks g c κs within =
     let h = c.args.heap.now in
-    subst (λ l. AreRanks (all_pairs h (1 ∷ []) l)) (sym c.in_ok-items.ensures.items) (first_ranks h c.geometry.ensures.valid (1 ∷ []) c.args.cards.now c.requires.region c.requires.cards c.requires.outside c.requires.lead_in)
+    subst (λ l. AreRanks (all_pairs h (1 ∷ []) l)) (sym c.in_ok-items.ensures.items)
+    (first_ranks h c.geometry.ensures.valid (1 ∷ []) c.args.cards.now c.requires.region c.requires.cards c.requires.outside c.requires.lead_in)
 
 -- where a search stands after the first round
 after_first : (g : Over) (c : goal.After-claim_round-arg-2-1 g) → IsSearching c.args.heap.now (1 ∷ []) (going_on c.args.heap.now c.in_ok-claims-2.claims c.in_ok-claims-2.seat c.in_ok-found.found)

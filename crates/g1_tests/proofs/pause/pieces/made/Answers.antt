@@ -42,11 +42,13 @@ patches-requires-clause-plan g c κs within =
 
 pub patches-requires-clause-rising : goal.patches-requires-clause-rising
 patches-requires-clause-rising g c κs within =
-    (cards_there c.heap-heap.result.now c.deref-4.result.now c.args.set.now (map (λ s. s.items) c.deref.result.now) c.cards_lead_in.ensures.outside (c.deref-4.ensures.value ∙ c.in_ok-cards.ensures.ok)).rise
+    (cards_there c.heap-heap.result.now c.deref-4.result.now c.args.set.now (map (λ s. s.items) c.deref.result.now) c.cards_lead_in.ensures.outside
+    (c.deref-4.ensures.value ∙ c.in_ok-cards.ensures.ok)).rise
 
 pub patches-requires-clause-there : goal.patches-requires-clause-there
 patches-requires-clause-there g c κs within =
-    (cards_there c.heap-heap.result.now c.deref-4.result.now c.args.set.now (map (λ s. s.items) c.deref.result.now) c.cards_lead_in.ensures.outside (c.deref-4.ensures.value ∙ c.in_ok-cards.ensures.ok)).below
+    (cards_there c.heap-heap.result.now c.deref-4.result.now c.args.set.now (map (λ s. s.items) c.deref.result.now) c.cards_lead_in.ensures.outside
+    (c.deref-4.ensures.value ∙ c.in_ok-cards.ensures.ok)).below
 
 pub patches-requires-clause-outside : goal.patches-requires-clause-outside
 patches-requires-clause-outside g c κs within =
@@ -79,7 +81,8 @@ pub new_rem-requires-clause-patches : goal.new_rem-requires-clause-patches
 new_rem-requires-clause-patches g c κs within =
     set_patched c.image.result.now c.args.tracked.now c.image.ensures.same c.heap-heap.result.now c.heap-heap.ensures.same c.heap-heap.ensures.valid c.image.ensures.covered
     c.args.set.now c.requires.regions c.requires.ordinary
-    c.deref-4.result.now (map (λ s. s.items) c.deref.result.now) c.in_ok-plan.plan c.deref-6.result.now c.all_patches.ensures (c.deref-4.ensures.value ∙ c.in_ok-cards.ensures.ok) (ap (map (λ s. s.items)) c.deref.ensures.value ∙ c.in_ok-remembered.ensures.ok)
+    c.deref-4.result.now (map (λ s. s.items) c.deref.result.now) c.in_ok-plan.plan c.deref-6.result.now c.all_patches.ensures (c.deref-4.ensures.value
+    ∙ c.in_ok-cards.ensures.ok) (ap (map (λ s. s.items)) c.deref.ensures.value ∙ c.in_ok-remembered.ensures.ok)
     (set_planned c.image.result.now c.args.tracked.now c.image.ensures.same c.heap-heap.result.now c.heap-heap.ensures.same c.heap-heap.ensures.valid c.image.ensures.covered
     c.args.set.now c.requires.regions c.requires.ordinary
     c.deref-3.result.now c.in_ok-survivors.survivors.items c.in_ok-plan.plan c.place.result c.placeable.ensures c.deref-3.ensures.value c.in_ok-survivors.ensures.ok
