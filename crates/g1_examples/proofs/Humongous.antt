@@ -37,7 +37,14 @@ shape2 : IsShapedBy Continuation humongous_owner 2
 shape2 = (0, object_at humongous_owner 0, first0, lit< tt, lit< tt, refl)
 
 shape3 : IsShapedBy Ordinary humongous_owner 3
-shape3 = (lit< tt, lit≤ tt, object_at humongous_owner 48 ∷ [], (refl, object48, refl), All-from_in (λ (o : Object). 4 * o.size ≤ 3 * 16) (object_at humongous_owner 48 ∷ []) (each_member (λ (o : Object). 4 * o.size ≤ 3 * 16) (object_at humongous_owner 48 ∷ []) (lit≤ tt, tt)))
+shape3 = (
+  lit< tt,
+  lit≤ tt,
+  object_at humongous_owner 48 ∷ [],
+  (refl, object48, refl),
+  All-from_in (λ (o : Object). 4 * o.size ≤ 3 * 16)
+      (object_at humongous_owner 48 ∷ []) (each_member (λ (o : Object). 4 * o.size ≤ 3 * 16) (object_at humongous_owner 48 ∷ []) (lit≤ tt, tt)),
+)
 
 shaped9 : (r : ℕ) → r < 6 → IsShaped humongous_owner r
 shaped9 zero lt = record { by_kind = shape0; current = λ e. cc }
@@ -48,11 +55,13 @@ shaped9 (suc (suc (suc (suc zero)))) lt = record { by_kind = refl; current = λ 
 shaped9 (suc (suc (suc (suc (suc zero))))) lt = record { by_kind = refl; current = λ e. cc }
 shaped9 (suc (suc (suc (suc (suc (suc r)))))) lt = absurd (omega arith)
 
-zero_by_test : (r i : ℕ) → list_all (λ i. ltb i (top humongous_owner r) || eqb (word humongous_owner (start humongous_owner r + i)) 0) (range_with_len 0 16) ≡ true → top humongous_owner r ≤ i → i < 16 → word humongous_owner (start humongous_owner r + i) ≡ 0
+zero_by_test : (r i : ℕ) → list_all (λ i. ltb i (top humongous_owner r) || eqb (word humongous_owner (start humongous_owner r + i)) 0)
+    (range_with_len 0 16) ≡ true → top humongous_owner r ≤ i → i < 16 → word humongous_owner (start humongous_owner r + i) ≡ 0
 zero_by_test r i t le lt =
     eqb-true (word humongous_owner (start humongous_owner r + i)) 0
     (or_else (ltb i (top humongous_owner r)) (eqb (word humongous_owner (start humongous_owner r + i)) 0) (le-ltb i (top humongous_owner r) le)
-    (subst (λ m. (ltb m (top humongous_owner r) || eqb (word humongous_owner (start humongous_owner r + m)) 0) ≡ true) (omega arith) (each_below (λ i. ltb i (top humongous_owner r) || eqb (word humongous_owner (start humongous_owner r + i)) 0) 16 0 t i lt)))
+    (subst (λ m. (ltb m (top humongous_owner r) || eqb (word humongous_owner (start humongous_owner r + m)) 0) ≡ true) (omega arith)
+    (each_below (λ i. ltb i (top humongous_owner r) || eqb (word humongous_owner (start humongous_owner r + i)) 0) 16 0 t i lt)))
 
 zero9 : (r i : ℕ) → r < 6 → top humongous_owner r ≤ i → i < 16 → word humongous_owner (start humongous_owner r + i) ≡ 0
 zero9 zero i lt le below = zero_by_test 0 i refl le below
@@ -106,7 +115,18 @@ pins9 (suc (suc (suc (suc (suc (suc r)))))) t = absurd (let clash : false ≡ tr
 
 pub humongous_owner_is_valid : IsValid humongous_owner
 humongous_owner_is_valid = record {
-  limits = record { w_power = (4, refl); w_least = lit≤ tt; w_most = lit≤ tt; k_power = (2, refl); k_least = lit≤ tt; k_most = lit≤ tt; k_in_w = lit≤ tt; n_least = lit≤ tt; n_most = lit≤ tt; words_most = lit≤ tt };
+  limits = record {
+    w_power = (4, refl);
+    w_least = lit≤ tt;
+    w_most = lit≤ tt;
+    k_power = (2, refl);
+    k_least = lit≤ tt;
+    k_most = lit≤ tt;
+    k_in_w = lit≤ tt;
+    n_least = lit≤ tt;
+    n_most = lit≤ tt;
+    words_most = lit≤ tt;
+  };
   word_count = refl;
   word_fits = All-from_in (λ x. x < 2 ^ 64) humongous_owner.words (λ x i. ltb-true x (2 ^ 64) (all_members (λ x. ltb x (2 ^ 64)) humongous_owner.words refl x i));
   region_count = refl;

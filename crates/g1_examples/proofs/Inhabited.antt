@@ -1,5 +1,6 @@
 -- A small image keeps all rules, so that the laws' premises are met by something.
-use Rattle.std.proofs.Common.{◌≡◌, ◌≢◌, ℕ, zero, suc, ◌+◌, ◌*◌, ◌^◌, ◌<◌, ◌≤◌, inl, inr, Bool, true, false, ◌||◌, List, [], ◌∷◌, slice_index_or, refl, sym, ap, subst, arith, lit<, lit≤, ltb, eqb, eqb-true, ltb-true, le-ltb}
+use Rattle.std.proofs.Common.{◌≡◌, ◌≢◌, ℕ, zero, suc, ◌+◌, ◌*◌, ◌^◌, ◌<◌, ◌≤◌, inl, inr, Bool, true, false, ◌||◌, List, [], ◌∷◌, slice_index_or, refl, sym, ap, subst, arith, lit<, lit≤, ltb}
+use Rattle.std.proofs.Common.{eqb, eqb-true, ltb-true, le-ltb}
 use Rattle.std.specs.Prelude.{All}
 use Rattle.std.specs.List.{list_all, range_with_len}
 use Rattle.std.proofs.lemmas.List.{get_or_default}
@@ -24,10 +25,24 @@ object16 : IsObject dead_owner.words (object_at dead_owner 16)
 object16 = record { header = refl; refs_fit = lit< tt; size_fits = lit< tt }
 
 shape0 : IsShapedBy Ordinary dead_owner 0
-shape0 = (lit< tt, lit≤ tt, object_at dead_owner 0 ∷ [], (refl, object0, refl), All-from_in (λ (o : Object). 4 * o.size ≤ 3 * 16) (object_at dead_owner 0 ∷ []) (each_member (λ (o : Object). 4 * o.size ≤ 3 * 16) (object_at dead_owner 0 ∷ []) (lit≤ tt, tt)))
+shape0 = (
+  lit< tt,
+  lit≤ tt,
+  object_at dead_owner 0 ∷ [],
+  (refl, object0, refl),
+  All-from_in (λ (o : Object). 4 * o.size ≤ 3 * 16)
+      (object_at dead_owner 0 ∷ []) (each_member (λ (o : Object). 4 * o.size ≤ 3 * 16) (object_at dead_owner 0 ∷ []) (lit≤ tt, tt)),
+)
 
 shape1 : IsShapedBy Ordinary dead_owner 1
-shape1 = (lit< tt, lit≤ tt, object_at dead_owner 16 ∷ [], (refl, object16, refl), All-from_in (λ (o : Object). 4 * o.size ≤ 3 * 16) (object_at dead_owner 16 ∷ []) (each_member (λ (o : Object). 4 * o.size ≤ 3 * 16) (object_at dead_owner 16 ∷ []) (lit≤ tt, tt)))
+shape1 = (
+  lit< tt,
+  lit≤ tt,
+  object_at dead_owner 16 ∷ [],
+  (refl, object16, refl),
+  All-from_in (λ (o : Object). 4 * o.size ≤ 3 * 16)
+      (object_at dead_owner 16 ∷ []) (each_member (λ (o : Object). 4 * o.size ≤ 3 * 16) (object_at dead_owner 16 ∷ []) (lit≤ tt, tt)),
+)
 
 shaped5 : (r : ℕ) → r < 4 → IsShaped dead_owner r
 shaped5 zero lt = record { by_kind = shape0; current = λ e. refl }
@@ -41,11 +56,13 @@ or_else true b e t = cc
 or_else false b e t = t
 
 -- by a test of each word of a region
-zero_by_test : (r i : ℕ) → list_all (λ i. ltb i (top dead_owner r) || eqb (word dead_owner (start dead_owner r + i)) 0) (range_with_len 0 16) ≡ true → top dead_owner r ≤ i → i < 16 → word dead_owner (start dead_owner r + i) ≡ 0
+zero_by_test : (r i : ℕ) → list_all (λ i. ltb i (top dead_owner r) || eqb (word dead_owner (start dead_owner r + i)) 0) (range_with_len 0 16) ≡ true →
+    top dead_owner r ≤ i → i < 16 → word dead_owner (start dead_owner r + i) ≡ 0
 zero_by_test r i t le lt =
     eqb-true (word dead_owner (start dead_owner r + i)) 0
     (or_else (ltb i (top dead_owner r)) (eqb (word dead_owner (start dead_owner r + i)) 0) (le-ltb i (top dead_owner r) le)
-    (subst (λ m. (ltb m (top dead_owner r) || eqb (word dead_owner (start dead_owner r + m)) 0) ≡ true) (omega arith) (each_below (λ i. ltb i (top dead_owner r) || eqb (word dead_owner (start dead_owner r + i)) 0) 16 0 t i lt)))
+    (subst (λ m. (ltb m (top dead_owner r) || eqb (word dead_owner (start dead_owner r + m)) 0) ≡ true) (omega arith)
+    (each_below (λ i. ltb i (top dead_owner r) || eqb (word dead_owner (start dead_owner r + i)) 0) 16 0 t i lt)))
 
 zero5 : (r i : ℕ) → r < 4 → top dead_owner r ≤ i → i < 16 → word dead_owner (start dead_owner r + i) ≡ 0
 zero5 zero i lt le below = zero_by_test 0 i refl le below
@@ -81,7 +98,18 @@ pins5 (suc (suc (suc (suc r)))) t = absurd (let clash : false ≡ true = t in cc
 
 pub dead_owner_is_valid : IsValid dead_owner
 dead_owner_is_valid = record {
-  limits = record { w_power = (4, refl); w_least = lit≤ tt; w_most = lit≤ tt; k_power = (2, refl); k_least = lit≤ tt; k_most = lit≤ tt; k_in_w = lit≤ tt; n_least = lit≤ tt; n_most = lit≤ tt; words_most = lit≤ tt };
+  limits = record {
+    w_power = (4, refl);
+    w_least = lit≤ tt;
+    w_most = lit≤ tt;
+    k_power = (2, refl);
+    k_least = lit≤ tt;
+    k_most = lit≤ tt;
+    k_in_w = lit≤ tt;
+    n_least = lit≤ tt;
+    n_most = lit≤ tt;
+    words_most = lit≤ tt;
+  };
   word_count = refl;
   word_fits = All-from_in (λ x. x < 2 ^ 64) dead_owner.words (λ x i. ltb-true x (2 ^ 64) (all_members (λ x. ltb x (2 ^ 64)) dead_owner.words refl x i));
   region_count = refl;
@@ -99,7 +127,8 @@ sets5 zero lt = record { rising = λ k lt. absurd (omega arith); elsewhere = λ 
 sets5 (suc zero) lt =
     record {
       rising = λ k lt. absurd (omega arith);
-      elsewhere = All-from_in (λ c. IsUsedCard dead_owner c × (region_of_card dead_owner c ≢ 1)) (0 ∷ []) (each_member (λ c. IsUsedCard dead_owner c × (region_of_card dead_owner c ≢ 1)) (0 ∷ []) ((record { in_heap = lit< tt; used = λ e. cc }, λ e. cc), tt));
+      elsewhere = All-from_in (λ c. IsUsedCard dead_owner c × (region_of_card dead_owner c ≢ 1)) (0 ∷ [])
+          (each_member (λ c. IsUsedCard dead_owner c × (region_of_card dead_owner c ≢ 1)) (0 ∷ []) ((record { in_heap = lit< tt; used = λ e. cc }, λ e. cc), tt));
       count = lit< tt;
       owner = λ lt. tt;
     }

@@ -71,7 +71,7 @@ pub fn humongous_objects()
 {}
 
 /// What the definitions refuse: a cycle that keeps itself, another order, a pause that changes nothing.
-pub fn refused()
+pub fn refusals()
     ensures no_cycle { Survivors dead_cycle (1 ∷ []) (16 ∷ 18 ∷ []) → ⊥ }
     ensures other_order { Survivors shared_target (1 ∷ []) (16 ∷ 21 ∷ []) → ⊥ }
     ensures unchanged { Paused dead_owner_image (1 ∷ []) dead_owner_image → ⊥ }

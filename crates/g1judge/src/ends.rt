@@ -13,7 +13,7 @@ pub fn words(heap: &Heap, renamed: &[u64]) -> u64
     requires { (h : Heap) × (news : List ℕ) × IsRenaming heap.now h renamed.now news }
     ensures { result ≡ words_of heap.now renamed.now }
 {
-    let _sizes = heap.geometry();
+    g1_words::laws::valid(heap);
     let mut words = 0;
     for address in renamed {
         words += size_at(heap, *address);
@@ -22,7 +22,7 @@ pub fn words(heap: &Heap, renamed: &[u64]) -> u64
 }
 
 // The reference word that a path leads to.
-fn reached(heap: &Heap, root: u64, slots: &[u64]) -> u64
+fn follow(heap: &Heap, root: u64, slots: &[u64]) -> u64
     requires { (y : ℕ) × LeadsTo heap.now (root ∷ slots.now) y }
     ensures { LeadsTo heap.now (root ∷ slots.now) result }
 {
@@ -70,8 +70,8 @@ pub fn ends(before: &Heap, after: &Heap, difference: &Difference) -> Ends
             word_after: 0,
         },
         Difference::At { root, slots, how } => {
-            let old = reached(before, *root, slots.as_slice());
-            let new = reached(after, *root, slots.as_slice());
+            let old = follow(before, *root, slots.as_slice());
+            let new = follow(after, *root, slots.as_slice());
             let (word_before, word_after) = values(before, after, how, old, new);
             Ends {
                 before: old,

@@ -17,13 +17,33 @@ pub returns-clause-own_slot_after : goal.returns-clause-own_slot_after
 returns-clause-own_slot_after c = ([], search_ends (seeds own_slot.heap []) (children own_slot.heap []) 0 refl, record { between = own_slot; moved = own_slot_stays; freed = refl })
 
 pub returns-clause-named_by_the_dead : goal.returns-clause-named_by_the_dead
-returns-clause-named_by_the_dead c = ([], search_ends (seeds named_by_the_dead.heap []) (children named_by_the_dead.heap []) 0 refl, record { between = named_by_the_dead; moved = dead_stays; freed = refl })
+returns-clause-named_by_the_dead c = (
+  [],
+  search_ends (seeds named_by_the_dead.heap []) (children named_by_the_dead.heap []) 0 refl,
+  record
+      { between = named_by_the_dead; moved = dead_stays; freed = refl },
+)
 
 pub returns-clause-with_the_dead : goal.returns-clause-with_the_dead
-returns-clause-with_the_dead c = ([], search_ends (seeds named_by_the_dead.heap (0 ∷ [])) (children named_by_the_dead.heap (0 ∷ [])) 0 refl, record { between = without_the_dead; moved = dead_goes; freed = refl })
+returns-clause-with_the_dead c = (
+  [],
+  search_ends (seeds named_by_the_dead.heap (0 ∷ [])) (children named_by_the_dead.heap (0 ∷ [])) 0 refl,
+  record
+      { between = without_the_dead; moved = dead_goes; freed = refl },
+)
 
 pub returns-clause-unnamed_owner_after : goal.returns-clause-unnamed_owner_after
-returns-clause-unnamed_owner_after c = (48 ∷ [], search_ends (seeds unnamed_owner.heap (3 ∷ [])) (children unnamed_owner.heap (3 ∷ [])) 1 refl, record { between = with_a_copy; moved = copied; freed = refl })
+returns-clause-unnamed_owner_after c = (
+  48 ∷ [],
+  search_ends (seeds unnamed_owner.heap (3 ∷ [])) (children unnamed_owner.heap (3 ∷ [])) 1 refl,
+  record
+      { between = with_a_copy; moved = copied; freed = refl },
+)
 
 pub returns-clause-named_owner_after : goal.returns-clause-named_owner_after
-returns-clause-named_owner_after c = (48 ∷ [], search_ends (seeds humongous_owner_image.heap (3 ∷ [])) (children humongous_owner_image.heap (3 ∷ [])) 1 refl, record { between = humongous_owner_after; moved = humongous_moved; freed = refl })
+returns-clause-named_owner_after c = (
+  48 ∷ [],
+  search_ends (seeds humongous_owner_image.heap (3 ∷ [])) (children humongous_owner_image.heap (3 ∷ []))
+      1 refl,
+  record { between = humongous_owner_after; moved = humongous_moved; freed = refl },
+)

@@ -8,13 +8,16 @@ use Rattle.g1_words.proofs.Unique.{breadth_first_unique, search_ends}
 use Rattle.g1_words.specs.declared.region.Kind.TheVariants.{Free, HumongousFirst, Ordinary}
 use Rattle.g1_after.proofs.PausedLaws.{one_image_after}
 use Rattle.g1_examples.proofs.Moving.{chain_paused, dead_owner_paused}
-use Rattle.g1_examples.proofs.refused.Goals as goal
+use Rattle.g1_examples.proofs.refusals.Goals as goal
 
 pub returns-clause-no_cycle : goal.returns-clause-no_cycle
-returns-clause-no_cycle c = λ b. let e : ◌≡◌ {A = List ℕ} [] (16 ∷ 18 ∷ []) = breadth_first_unique (seeds dead_cycle (1 ∷ [])) (children dead_cycle (1 ∷ [])) [] (16 ∷ 18 ∷ []) (search_ends (seeds dead_cycle (1 ∷ [])) (children dead_cycle (1 ∷ [])) 0 refl) b in cc
+returns-clause-no_cycle c = λ b. let e : ◌≡◌ {A = List ℕ} [] (16 ∷ 18 ∷ []) =
+    breadth_first_unique (seeds dead_cycle (1 ∷ [])) (children dead_cycle (1 ∷ [])) [] (16 ∷ 18 ∷ []) (search_ends (seeds dead_cycle (1 ∷ [])) (children dead_cycle (1 ∷ [])) 0 refl) b in cc
 
 pub returns-clause-other_order : goal.returns-clause-other_order
-returns-clause-other_order c = λ b. let e : ◌≡◌ {A = List ℕ} (21 ∷ 16 ∷ []) (16 ∷ 21 ∷ []) = breadth_first_unique (seeds shared_target (1 ∷ [])) (children shared_target (1 ∷ [])) (21 ∷ 16 ∷ []) (16 ∷ 21 ∷ []) (search_ends (seeds shared_target (1 ∷ [])) (children shared_target (1 ∷ [])) 1 refl) b in cc
+returns-clause-other_order c = λ b. let e : ◌≡◌ {A = List ℕ} (21 ∷ 16 ∷ []) (16 ∷ 21 ∷ []) =
+    breadth_first_unique (seeds shared_target (1 ∷ [])) (children shared_target (1 ∷ [])) (21 ∷ 16 ∷ []) (16 ∷ 21 ∷ [])
+    (search_ends (seeds shared_target (1 ∷ [])) (children shared_target (1 ∷ [])) 1 refl) b in cc
 
 pub returns-clause-unchanged : goal.returns-clause-unchanged
 returns-clause-unchanged c = λ m.

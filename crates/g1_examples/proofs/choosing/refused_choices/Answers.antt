@@ -7,11 +7,13 @@ use Rattle.g1_examples.proofs.choosing.refused_choices.Goals as goal
 
 pub returns-clause-skipping : goal.returns-clause-skipping
 returns-clause-skipping c = λ b.
-    let e : ◌≡◌ {A = List ℕ} (0 ∷ []) (0 ∷ 2 ∷ []) = one_set unit_prices three_regions three_remembered three_lives 0 35 (0 ∷ []) (0 ∷ 2 ∷ []) (buys 35 1 (0 ∷ []) (lit≤ tt) (λ _. lit≤ tt) (λ _. lit< tt) refl) b in cc
+    let e : ◌≡◌ {A = List ℕ} (0 ∷ []) (0 ∷ 2 ∷ []) = one_set unit_prices three_regions three_remembered three_lives 0 35 (0 ∷ []) (0 ∷ 2 ∷ [])
+    (buys 35 1 (0 ∷ []) (lit≤ tt) (λ _. lit≤ tt) (λ _. lit< tt) refl) b in cc
 
 pub returns-clause-missed : goal.returns-clause-missed
 returns-clause-missed c = λ b.
-    let e : ◌≡◌ {A = List ℕ} [] (0 ∷ []) = one_set unit_prices three_regions three_remembered three_lives 0 25 [] (0 ∷ []) (buys 25 0 [] (lit≤ tt) (λ some. absurd (omega arith)) (λ _. lit< tt) refl) b in cc
+    let e : ◌≡◌ {A = List ℕ} [] (0 ∷ []) = one_set unit_prices three_regions three_remembered three_lives 0 25 [] (0 ∷ [])
+    (buys 25 0 [] (lit≤ tt) (λ some. absurd (omega arith)) (λ _. lit< tt) refl) b in cc
 
 pub returns-clause-left_out : goal.returns-clause-left_out
 returns-clause-left_out c = λ b.

@@ -8,9 +8,9 @@ pub values-word_before-requires : goal.values-word_before-requires
 values-word_before-requires c =
     let g = c.args.before.now in
     let h = c.args.after.now in
-    let old = c.reached-old.result in
-    let new = c.reached-new.result in
+    let old = c.follow-old.result in
+    let new = c.follow-new.result in
     let p = c.in-At.root ∷ c.in-At.slots.items in
-    let left : LeadsTo g p old = subst (λ ss. LeadsTo g (c.in-At.root ∷ ss) old) c.as_slice.ensures.value c.reached-old.ensures in
-    let right : LeadsTo h p new = subst (λ ss. LeadsTo h (c.in-At.root ∷ ss) new) c.as_slice-in-At.ensures.value c.reached-new.ensures in
+    let left : LeadsTo g p old = subst (λ ss. LeadsTo g (c.in-At.root ∷ ss) old) c.as_slice.ensures.value c.follow-old.ensures in
+    let right : LeadsTo h p new = subst (λ ss. LeadsTo h (c.in-At.root ∷ ss) new) c.as_slice-in-At.ensures.value c.follow-new.ensures in
     (p, left, right, clash_here g h p old new left right c.in-At.how (subst (IsDifference g h) c.in-At.is c.requires.is))

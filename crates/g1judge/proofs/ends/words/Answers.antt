@@ -8,5 +8,5 @@ pub overflow_add-words : goal.overflow_add-words
 overflow_add-words c =
     let h = c.args.heap.now in
     let more = sum_by_more_le (λ a. (object_at h a).size) c.args.renamed.now c.loop-address.address-index 0 c.loop-address-test.true in
-    let few = words_fit h c.requires.0 c.args.renamed.now c.requires.1 c.geometry-sizes.ensures.valid c.requires.2 in
+    let few = words_fit h c.requires.0 c.args.renamed.now c.requires.1 c.valid.ensures c.requires.2 in
     omega (arith, more, few, c.loop-address.invariant, c.size_at-words.ensures)
