@@ -50,8 +50,9 @@ impl<'a> Task for Rows<'a> {
     type Out = String;
 
     ghost use Rattle.std.specs.Prelude.{◌≡◌, ◌≤◌, ◌<◌, ◌*◌, ℕ, ⊤};
+    ghost use Rattle.g1_work.specs.Team.{most_chunk};
 
-    ghost ready = { λ s _ k. (k * s.chunk < s.image.now.heap.geometry.n) × (s.chunk ≤ 65536) };
+    ghost ready = { λ s _ k. (k * s.chunk < s.image.now.heap.geometry.n) × (s.chunk ≤ most_chunk) };
 
     ghost runs = { λ _ _ _ _ _. ⊤ };
 
