@@ -1,6 +1,7 @@
 -- What the effects of commands may rely on.
 use Rattle.std.proofs.Common.{ℕ, ◌+◌, ◌-◌, ◌^◌, ◌<◌, ◌≤◌, length, set, arith}
 use Rattle.std.proofs.lemmas.List.FromFn.{length-map-range_with_len}
+use Rattle.g1_words.specs.Geometry.{most_words}
 use Rattle.g1_words.specs.Heap.{word, object_at}
 use Rattle.g1_words.proofs.Shapes.{built}
 use Rattle.g1_image.specs.Image.{Image}
@@ -28,7 +29,7 @@ module _ (i : Image) (t : IsTracked i) (a p x : ℕ) where
     pub slot_inside : slot_address a p < length i.heap.words
     slot_inside = let n = seen_named i t a fits.0 in let f = slot_fits in omega (arith, f, n.refs, n.within)
 
-    pub slot_small : slot_address a p < 2 ^ 24
+    pub slot_small : slot_address a p < most_words
     slot_small = let n = seen_named i t a fits.0 in let s = slot_inside in omega (arith, s, n.small)
 
     pub slot_kept : IsTracked (with_words i (set i.heap.words (slot_address a p) x) (logged i (slot_address a p) x))
@@ -43,7 +44,7 @@ module _ (i : Image) (t : IsTracked i) (a p x : ℕ) where
     pub value_inside : value_address i.heap a p < length i.heap.words
     value_inside = let n = seen_named i t a fits.0 in let f = value_fits in omega (arith, f, n.refs, n.within)
 
-    pub value_small : length i.heap.words ≤ 2 ^ 24
+    pub value_small : length i.heap.words ≤ most_words
     value_small = (seen_named i t a fits.0).small
 
     pub value_kept : x < 2 ^ 64 → IsTracked (with_words i (set i.heap.words (value_address i.heap a p) x) i.log)

@@ -38,7 +38,8 @@ pub record IsLineOf (line name bytes : List ℕ) : Type 0 where
   pub whole : line ≡ name ++ bytes
   pub parts : (c : Command) → line ≡ command_line c → (name ≡ name_of c) × (bytes ≡ spaced (numbers_of c))
 
-pub line_of : (n : ℕ) (line name bytes : List ℕ) → n ≤ length line → ((k : ℕ) → k < n → get_or line k 0 ≡ 32 → ⊥) → (n < length line → get_or line n 0 ≡ 32) → name ≡ take n line → bytes ≡ drop n line → IsLineOf line name bytes
+pub line_of : (n : ℕ) (line name bytes : List ℕ) → n ≤ length line → ((k : ℕ) → k < n → get_or line k 0 ≡ 32 → ⊥) →
+    (n < length line → get_or line n 0 ≡ 32) → name ≡ take n line → bytes ≡ drop n line → IsLineOf line name bytes
 line_of n line name bytes le w end front back = record {
   whole = sym (take_drop n line) ∙ ap (λ xs. xs ++ drop n line) (sym front) ∙ ap (λ xs. name ++ xs) (sym back);
   parts = λ c e. let s = command_parts n line c le w end e in (front ∙ s.0, back ∙ s.1);

@@ -89,7 +89,8 @@ fourth : (a b d e : ℕ) (xs : List ℕ) → AllFit (a ∷ b ∷ d ∷ e ∷ xs)
 fourth a b d e xs f = third b d e xs (fit_rest a (b ∷ d ∷ e ∷ xs) f)
 
 -- a line that is none of nine is no command's
-none_of : (line : List ℕ) → (Writes3 New line → ⊥) → (Writes3 Get line → ⊥) → (Writes3 Put line → ⊥) → (Writes3 Set line → ⊥) → (Writes2 Say line → ⊥) → (Writes2 Same line → ⊥) → (Writes2 Copy line → ⊥) → (Writes1 Drop line → ⊥) → (Writes1 Pause line → ⊥)
+none_of : (line : List ℕ) → (Writes3 New line → ⊥) → (Writes3 Get line → ⊥) → (Writes3 Put line → ⊥) → (Writes3 Set line → ⊥) →
+    (Writes2 Say line → ⊥) → (Writes2 Same line → ⊥) → (Writes2 Copy line → ⊥) → (Writes1 Drop line → ⊥) → (Writes1 Pause line → ⊥)
     → (c : Command) → AllFit (numbers_of c) → line ≡ command_line c → ⊥
 none_of line new get put set_ say same_ copy drop_ pause (New r refs words) f e = new (r, fit_head r (refs ∷ words ∷ []) f, (refs, second r refs (words ∷ []) f, (words, third r refs words [] f, e)))
 none_of line new get put set_ say same_ copy drop_ pause (Get r q m) f e = get (r, fit_head r (q ∷ m ∷ []) f, (q, second r q (m ∷ []) f, (m, third r q m [] f, e)))
@@ -101,7 +102,8 @@ none_of line new get put set_ say same_ copy drop_ pause (Copy r q) f e = copy (
 none_of line new get put set_ say same_ copy drop_ pause (Drop r) f e = drop_ (r, fit_head r [] f, e)
 none_of line new get put set_ say same_ copy drop_ pause (Pause b) f e = pause (b, fit_head b [] f, e)
 
-by_nine : (line : List ℕ) → Told (Writes3 New line) → Told (Writes3 Get line) → Told (Writes3 Put line) → Told (Writes3 Set line) → Told (Writes2 Say line) → Told (Writes2 Same line) → Told (Writes2 Copy line) → Told (Writes1 Drop line) → Told (Writes1 Pause line)
+by_nine : (line : List ℕ) → Told (Writes3 New line) → Told (Writes3 Get line) → Told (Writes3 Put line) → Told (Writes3 Set line) →
+    Told (Writes2 Say line) → Told (Writes2 Same line) → Told (Writes2 Copy line) → Told (Writes1 Drop line) → Told (Writes1 Pause line)
     → Told (IsCommandLine line)
 by_nine line (inl (r, x, (m, y, (w, z, e)))) get put set_ say same_ copy drop_ pause = inl (New r m w, fits3 r m w x y z, e)
 by_nine line (inr new) (inl (r, x, (q, y, (m, z, e)))) put set_ say same_ copy drop_ pause = inl (Get r q m, fits3 r q m x y z, e)
@@ -131,7 +133,12 @@ heap_told line =
   where
     by : Told (WritesHeap line) → Told (IsHeapLine line)
     by (inl (w, x, (k, y, (n, z, (roots, u, e))))) = inl (w, k, n, roots, fits4 w k n roots x y z u, e)
-    by (inr no_line) = inr (λ (w, k, n, roots, f, e). no_line (w, fit_head w (k ∷ n ∷ roots ∷ []) f, (k, second w k (n ∷ roots ∷ []) f, (n, third w k n (roots ∷ []) f, (roots, fourth w k n roots [] f, e)))))
+    by (inr no_line) = inr (λ (w, k, n, roots, f, e). no_line (
+      w,
+      fit_head w (k ∷ n ∷ roots ∷ [])
+          f,
+      (k, second w k (n ∷ roots ∷ []) f, (n, third w k n (roots ∷ []) f, (roots, fourth w k n roots [] f, e))),
+    ))
 
 -- bytes have a first end of a line, or none
 abbrev EndsAt : List ℕ → Type 0
@@ -168,7 +175,8 @@ module _ (bytes : List ℕ) (g : Geometry) (roots : ℕ) where
   line_told : (cs : List Command) (rest line more : List ℕ) → IsRead bytes g.w g.k g.n roots cs rest → rest ≡ line ++ 10 ∷ more → (In line 10 → ⊥) → Told (IsCommandLine line)
       → ((c : Command) → IsRead bytes g.w g.k g.n roots (cs ++ c ∷ []) more → Outcome bytes) → Outcome bytes
   line_told cs rest line more r e n (inl (c, f, is)) next = next c (read_more bytes g.w g.k g.n roots cs (cs ++ c ∷ []) rest line more c r e is f refl)
-  line_told cs rest line more r e n (inr m) next = let z : length cs + 1 ≡ suc (length cs) = omega arith in bad_told cs rest r (subst (λ k. IsBadRest k rest) (sym z) (inr (line, more, e, unended line n, m)))
+  line_told cs rest line more r e n (inr m) next = let z : length cs + 1 ≡ suc (length cs) = omega arith in
+      bad_told cs rest r (subst (λ k. IsBadRest k rest) (sym z) (inr (line, more, e, unended line n, m)))
 
   rest_told : (cs : List Command) (rest : List ℕ) (fuel : ℕ) → 0 < length rest → length rest ≤ suc fuel → IsRead bytes g.w g.k g.n roots cs rest → EndsAt rest ⊎ (In rest 10 → ⊥)
       → ((ds : List Command) (more : List ℕ) → length more ≤ fuel → IsRead bytes g.w g.k g.n roots ds more → Outcome bytes) → Outcome bytes

@@ -66,7 +66,8 @@ slot_set_same v u t w m k x same sm s e d =
       roots = d.roots ∙ same.roots ∙ ap (map (renamed f)) (sym e.roots);
       slots = λ a p. elim (equal_or_not a m) [
         | inl n ↦ d.slots (f a) (both_seen v u same a (old a p)).1 (λ q. n (same.one_to_one a m (old a p) sm q)) ∙ same.slots a (old a p) ∙ ap (map (renamed f)) (sym (e.slots a (old a p) n))
-        | inr q ↦ ap (λ z. w.slots (f z)) q ∙ d.written ∙ ap (λ xs. set xs k (renamed f x)) (same.slots m sm) ∙ sym (map-set (renamed f) (v.slots m) k x) ∙ ap (map (renamed f)) (sym e.written) ∙ ap (λ z. map (renamed f) (t.slots z)) (sym q)
+        | inr q ↦ ap (λ z. w.slots (f z)) q ∙ d.written ∙ ap (λ xs. set xs k (renamed f x)) (same.slots m sm)
+            ∙ sym (map-set (renamed f) (v.slots m) k x) ∙ ap (map (renamed f)) (sym e.written) ∙ ap (λ z. map (renamed f) (t.slots z)) (sym q)
       ];
       values = λ a p. d.values (f a) (both_seen v u same a (old a p)).1 ∙ same.values a (old a p) ∙ sym (e.values a (old a p));
     }
@@ -151,8 +152,10 @@ module _ (v u t w : View) (m a r refs count : ℕ) (same : SameView v u) (e : Is
         d.roots ∙ ap (λ xs. set xs r (suc a)) (same.roots ∙ sym (names_kept v.roots (root_seen v))) ∙ ap (λ z. set (map (renamed with_new) v.roots) r (suc z)) (sym at_new)
         ∙ sym (map-set (renamed with_new) v.roots r (suc m)) ∙ ap (map (renamed with_new)) (sym e.roots);
     slots = λ b p. elim (made_seen v t m r refs count e b p) [
-      | inl x ↦ ap w.slots (ap with_new x ∙ at_new) ∙ d.new_slots ∙ sym (map-renamed_zeros with_new refs) ∙ ap (map (renamed with_new)) (sym e.new_slots) ∙ ap (λ z. map (renamed with_new) (t.slots z)) (sym x)
-      | inr x ↦ ap w.slots (at_old b x) ∙ d.slots (same.rename b) (both_seen v u same b x).1 ∙ same.slots b x ∙ sym (names_kept (v.slots b) (λ c. slot_seen v b c x)) ∙ ap (map (renamed with_new)) (sym (e.slots b x))
+      | inl x ↦ ap w.slots (ap with_new x ∙ at_new) ∙ d.new_slots ∙ sym (map-renamed_zeros with_new refs)
+          ∙ ap (map (renamed with_new)) (sym e.new_slots) ∙ ap (λ z. map (renamed with_new) (t.slots z)) (sym x)
+      | inr x ↦ ap w.slots (at_old b x) ∙ d.slots (same.rename b) (both_seen v u same b x).1 ∙ same.slots b x
+          ∙ sym (names_kept (v.slots b) (λ c. slot_seen v b c x)) ∙ ap (map (renamed with_new)) (sym (e.slots b x))
     ];
     values = λ b p. elim (made_seen v t m r refs count e b p) [
       | inl x ↦ ap w.values (ap with_new x ∙ at_new) ∙ d.new_values ∙ sym e.new_values ∙ ap t.values (sym x)

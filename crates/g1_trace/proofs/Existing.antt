@@ -4,7 +4,7 @@ use Rattle.std.specs.Prelude.{Option, Some, None, All, slice_set}
 use Rattle.std.specs.List.{AllByRecursion}
 use Rattle.std.proofs.lemmas.List.Elements.{All-head, All-tail}
 use Rattle.g1_words.specs.declared.fault.Fault.{Fault}
-use Rattle.g1_words.specs.Geometry.{Geometry, IsWithinLimits}
+use Rattle.g1_words.specs.Geometry.{Geometry, IsWithinLimits, most_roots}
 use Rattle.g1_image.specs.Image.{Image}
 use Rattle.g1_image.specs.Cards.{IsTracked}
 use Rattle.g1_image.proofs.Decided.{Decided, decided_as, decided_both, decided_le}
@@ -67,8 +67,8 @@ run_exists cost g roots commands limits few fits =
 
 decided_size : (g : Geometry) (roots : ℕ) → Decided (IsHeapSize g roots)
 decided_size g roots =
-    decided_as (IsWithinLimits g.w g.k g.n × (roots ≤ 65536)) (IsHeapSize g roots) (λ p. record { sizes = p.0; roots = p.1 }) (λ s. (s.sizes, s.roots))
-    (decided_both (IsWithinLimits g.w g.k g.n) (roots ≤ 65536) (decided_limits g.w g.k g.n) (decided_le roots 65536))
+    decided_as (IsWithinLimits g.w g.k g.n × (roots ≤ most_roots)) (IsHeapSize g roots) (λ p. record { sizes = p.0; roots = p.1 }) (λ s. (s.sizes, s.roots))
+    (decided_both (IsWithinLimits g.w g.k g.n) (roots ≤ most_roots) (decided_limits g.w g.k g.n) (decided_le roots most_roots))
 
 writes : (c : Command) → AllFit (numbers_of c) → WritesWord c
 writes (New r refs words) f = tt

@@ -13,7 +13,8 @@ use Rattle.g1_trace.proofs.Ready.{free_run}
 pub find_first : (p : ℕ → Bool) (a n x : ℕ) → a ≤ x → x < a + n → p x ≡ true → ((q : ℕ) → a ≤ q → q < x → p q ≡ false) → find p (range_with_len a n) ≡ Some x
 find_first p a zero x low high t f = absurd (omega (arith, low, high))
 find_first p a (suc n) x low high t f = elim (cases_lt a x) [
-  | inl lt ↦ ap (λ b. cond b (Some a) (find p (range_with_len (a + 1) n))) (f a (omega arith) lt) ∙ find_first p (a + 1) n x (omega (arith, lt)) (omega (arith, high)) t (λ q l h. f q (omega (arith, l)) h)
+  | inl lt ↦ ap (λ b. cond b (Some a) (find p (range_with_len (a + 1) n))) (f a (omega arith) lt)
+      ∙ find_first p (a + 1) n x (omega (arith, lt)) (omega (arith, high)) t (λ q l h. f q (omega (arith, l)) h)
   | inr ge ↦
       let e : a ≡ x = omega (arith, ge, low) in
       ap (λ b. cond b (Some a) (find p (range_with_len (a + 1) n))) (ap p e ∙ t) ∙ ap (λ y. Some y) e

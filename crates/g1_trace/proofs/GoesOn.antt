@@ -29,10 +29,12 @@ module _ {S : Type 0} (step : S → Command → Reply → S → Type 0) (start :
   pub leads_start : (replies : List Reply) → replies ≡ [] → GoesOn step start all replies start all
   leads_start replies e = λ rs k. subst (λ xs. Replies step start all (xs ++ rs)) (sym e) k
 
-  pub leads_on : (replies : List Reply) (here t : S) (k : ℕ) (d : Command) (r : Reply) (longer : List Reply) → k < length all → GoesOn step start all replies here (drop k all) → step here (get_or all k d) r t → longer ≡ replies ++ r ∷ []
+  pub leads_on : (replies : List Reply) (here t : S) (k : ℕ) (d : Command) (r : Reply) (longer : List Reply) → k < length all →
+      GoesOn step start all replies here (drop k all) → step here (get_or all k d) r t → longer ≡ replies ++ r ∷ []
       → GoesOn step start all longer t (drop (k + 1) all)
   leads_on replies here t k d r longer lt f st e = λ rs m.
-      subst (λ xs. Replies step start all (xs ++ rs)) (sym e) (subst (Replies step start all) (sym (append-one replies rs r)) (f (r ∷ rs) (subst (λ cs. Replies step here cs (r ∷ rs)) (sym (drop-here all k d lt)) (t, st, m))))
+      subst (λ xs. Replies step start all (xs ++ rs)) (sym e) (subst (Replies step start all) (sym (append-one replies rs r))
+      (f (r ∷ rs) (subst (λ cs. Replies step here cs (r ∷ rs)) (sym (drop-here all k d lt)) (t, st, m))))
 
   pub leads_end : (replies : List Reply) (here : S) (k : ℕ) → (k < length all → ⊥) → GoesOn step start all replies here (drop k all) → Replies step start all replies
   leads_end replies here k n f = subst (Replies step start all) (append-nil replies) (f [] (subst (λ cs. Replies step here cs []) (sym (drop-past all k n)) tt))

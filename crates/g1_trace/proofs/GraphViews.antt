@@ -48,7 +48,8 @@ words_split h a (suc m) n (suc k) e =
     ap (λ xs. word h a ∷ xs) (words_split h (a + 1) m n k q ∙ ap (λ x. words_at h (a + 1) m ++ words_at h x n) z)
 
 module _ (f : ℕ → ℕ) (h j : Heap) (a : ℕ) (fits : (object_at h a).refs < (object_at h a).size) (copy : words_at j (f a) (object_at h a).size ≡ renamed_words f h (object_at h a)) where
-  first_and_rest : (n : ℕ) → (object_at h a).size ≡ suc n → (word j (f a) ≡ word h a) × (words_at j (f a + 1) n ≡ map (renamed f) (words_at h (a + 1) (object_at h a).refs) ++ words_at h (a + 1 + (object_at h a).refs) ((object_at h a).size - 1 - (object_at h a).refs))
+  first_and_rest : (n : ℕ) → (object_at h a).size ≡ suc n → (word j (f a) ≡ word h a)
+      × (words_at j (f a + 1) n ≡ map (renamed f) (words_at h (a + 1) (object_at h a).refs) ++ words_at h (a + 1 + (object_at h a).refs) ((object_at h a).size - 1 - (object_at h a).refs))
   first_and_rest n e =
       let c : word j (f a) ∷ words_at j (f a + 1) n ≡ renamed_words f h (object_at h a) = ap (words_at j (f a)) (sym e) ∙ copy in
       (ap (λ zs. get_or zs 0 0) c, ap (drop 1) c)
@@ -64,7 +65,8 @@ module _ (f : ℕ → ℕ) (h j : Heap) (a : ℕ) (fits : (object_at h a).refs <
       let n : size - 1 ≡ rs + (size - 1 - rs) = omega (arith, lt) in
       let len : length (words_at j (f a + 1) rs) ≡ length (map (renamed f) (words_at h (a + 1) rs)) =
       length-map-range_with_len (word j) (f a + 1) rs ∙ sym (length-map (words_at h (a + 1) rs) (renamed f) ∙ length-map-range_with_len (word h) (a + 1) rs) in
-      let both = append_parts (words_at j (f a + 1) rs) (map (renamed f) (words_at h (a + 1) rs)) (words_at j (f a + 1 + rs) (size - 1 - rs)) (words_at h (a + 1 + rs) (size - 1 - rs)) len (sym (words_split j (f a + 1) rs (size - 1 - rs) (size - 1) n) ∙ c.1) in
+      let both = append_parts (words_at j (f a + 1) rs) (map (renamed f) (words_at h (a + 1) rs)) (words_at j (f a + 1 + rs) (size - 1 - rs))
+      (words_at h (a + 1 + rs) (size - 1 - rs)) len (sym (words_split j (f a + 1) rs (size - 1 - rs) (size - 1) n) ∙ c.1) in
       (c.0, both.0, both.1)
 
 pub graph_view : (h j : Heap) → ((a : ℕ) → Seen (heap_view h) a → (object_at h a).refs < (object_at h a).size) → SameGraph h j → SameView (heap_view h) (heap_view j)

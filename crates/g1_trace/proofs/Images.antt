@@ -45,7 +45,8 @@ module _ (h : Heap) (p y : ℕ) where
       let header : get_or (set h.words p y) b 0 ≡ get_or h.words b 0 = get_or-set_other h.words p b y 0 n in
       ap (λ x. map (λ q. get_or (set h.words p y) q 0) (range_with_len (b + 1) (x % 2 ^ 32))) header ∙ unwritten h.words p y (b + 1) (object_at h b).refs f
 
-  same_values : (b : ℕ) → (b ≡ p → ⊥) → ((k : ℕ) → k < (object_at h b).size - 1 - (object_at h b).refs → b + 1 + (object_at h b).refs + k ≡ p → ⊥) → (heap_view (record h { words = set h.words p y })).values b ≡ (heap_view h).values b
+  same_values : (b : ℕ) → (b ≡ p → ⊥) → ((k : ℕ) → k < (object_at h b).size - 1 - (object_at h b).refs → b + 1 + (object_at h b).refs + k ≡ p → ⊥) →
+      (heap_view (record h { words = set h.words p y })).values b ≡ (heap_view h).values b
   same_values b n f =
       let header : get_or (set h.words p y) b 0 ≡ get_or h.words b 0 = get_or-set_other h.words p b y 0 n in
       ap (λ x. map (λ q. get_or (set h.words p y) q 0) (range_with_len (b + 1 + x % 2 ^ 32) (x / 2 ^ 32 - 1 - x % 2 ^ 32))) header
@@ -105,7 +106,8 @@ module _ (h : Heap) (laid : IsLaid h) (a : ℕ) (seen : Seen (heap_view h) a) wh
       record {
         roots = refl;
         written =
-            ap (λ z. map (λ q. get_or (set h.words (a + 1 + rs + k) x) q 0) (range_with_len (a + 1 + z % 2 ^ 32) (z / 2 ^ 32 - 1 - z % 2 ^ 32))) (get_or-set_other h.words (a + 1 + rs + k) a x 0 (header a seen))
+            ap (λ z. map (λ q. get_or (set h.words (a + 1 + rs + k) x) q 0) (range_with_len (a + 1 + z % 2 ^ 32) (z / 2 ^ 32 - 1 - z % 2 ^ 32)))
+            (get_or-set_other h.words (a + 1 + rs + k) a x 0 (header a seen))
             ∙ written_at h.words (a + 1 + rs + k) x (a + 1 + rs) ((object_at h a).size - 1 - rs) k k_fits refl (subst (λ z. z < length h.words) (sym p) (in_words (rs + k + 1) low high));
         values = λ b s n. same_values h (a + 1 + rs + k) x b (header b s)
             (λ m lt2 e. no_other (rs + k + 1) low high b (1 + (object_at h b).refs + m) s n (omega (arith, lt2)) (omega (arith, e)));
@@ -152,8 +154,10 @@ module _ (h j : Heap) (laid : IsLaid h) (a refs count root : ℕ) (unused : IsUn
             ∙ (λ t. map (λ q. get_or (set h.words a new) q 0) (range_with_len (a + 1 + its_refs t) (its_size t - 1 - its_refs t)))
             ∙ ap (λ n. map (λ q. get_or (set h.words a new) q 0) (range_with_len (a + 1 + refs) n)) rest
             ∙ zeros_at (set h.words a new) (a + 1 + refs) count (λ q low high. zero_there q (omega (arith, low)) (omega (arith, high)));
-        slots = λ b s. ap (λ ws. slots_in ws b) words ∙ same_slots h a new b (λ e. let f : (object_at h b).refs < (object_at h b).size = laid.slots_fit b s in not_there b 0 s (omega (arith, f)) (add-zero b ∙ e))
+        slots = λ b s. ap (λ ws. slots_in ws b) words ∙ same_slots h a new b (λ e. let f : (object_at h b).refs < (object_at h b).size =
+            laid.slots_fit b s in not_there b 0 s (omega (arith, f)) (add-zero b ∙ e))
             (λ m lt e. let f : (object_at h b).refs < (object_at h b).size = laid.slots_fit b s in not_there b (m + 1) s (omega (arith, f, lt)) (omega (arith, e)));
-        values = λ b s. ap (λ ws. values_in ws b) words ∙ same_values h a new b (λ e. let f : (object_at h b).refs < (object_at h b).size = laid.slots_fit b s in not_there b 0 s (omega (arith, f)) (add-zero b ∙ e))
+        values = λ b s. ap (λ ws. values_in ws b) words ∙ same_values h a new b (λ e. let f : (object_at h b).refs < (object_at h b).size =
+            laid.slots_fit b s in not_there b 0 s (omega (arith, f)) (add-zero b ∙ e))
             (λ m lt e. not_there b (1 + (object_at h b).refs + m) s (omega (arith, lt)) (omega (arith, e)));
       }

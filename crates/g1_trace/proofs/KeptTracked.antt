@@ -1,6 +1,7 @@
 -- Each command that writes a word or a root keeps a tracked image.
 use Rattle.std.proofs.Common.{◌≡◌, ℕ, zero, suc, ◌+◌, ◌-◌, ◌*◌, ◌/◌, ◌%◌, ◌^◌, ◌<◌, ◌≤◌, inl, inr, List, [], ◌∷◌, length, set, flat_map, Contains, refl, sym, ◌∙◌, ap, subst, arith, div-add-mod'}
 use Rattle.std.proofs.lemmas.List.{length-set}
+use Rattle.g1_words.specs.Geometry.{most_roots, most_words}
 use Rattle.g1_words.specs.declared.object.Object.{Object}
 use Rattle.g1_words.specs.declared.region.Kind.{Kind}
 use Rattle.g1_words.specs.declared.region.Kind.TheVariants.{Free, Ordinary, HumongousFirst, Continuation}
@@ -55,7 +56,7 @@ module _ (i : Image) (tracked : IsTracked i) where
       let c = object_seen a w in
       let f = refs_fit a c in
       let l : a + 0 < i.heap.geometry.n * i.heap.geometry.w = word_below a 0 c (omega (arith, f)) in
-      let t : i.heap.geometry.n * i.heap.geometry.w ≤ 2 ^ 24 = tracked.image.heap.limits.words_most in
+      let t : i.heap.geometry.n * i.heap.geometry.w ≤ most_words = tracked.image.heap.limits.words_most in
       omega (arith, l, t)
 
   -- ---- a slot is written, with the barrier
@@ -77,7 +78,8 @@ module _ (i : Image) (tracked : IsTracked i) where
               ]
               | inr new ↦ elim (logged_now i (a + k) e.target) [
                 | inl s ↦ inl (ap (region_of i.heap) new.0 ∙ s)
-                | inr s ↦ inr (inr (subst (λ z. Contains (logged i (a + k) z) (card_of i.heap e.slot)) (sym new.1) (subst (λ z. Contains (logged i (a + k) (suc e.target)) (card_of i.heap z)) (sym new.0) s)))
+                | inr s ↦ inr (inr (subst (λ z. Contains (logged i (a + k) z) (card_of i.heap e.slot)) (sym new.1)
+                    (subst (λ z. Contains (logged i (a + k) (suc e.target)) (card_of i.heap z)) (sym new.0) s)))
               ]
             ]);
       }
@@ -147,11 +149,16 @@ module _ (h : Heap) (v : IsBuilt h) (rs : List ℕ) where
 
   shaped_roots : (r : ℕ) (k : Kind) → IsBuiltBy h r k → IsBuiltBy (record h { roots = rs }) r k
   shaped_roots r Free s = s
-  shaped_roots r Ordinary s = (s.0, s.1, subst (λ os. IsTiled (record h { roots = rs }) (r * h.geometry.w) os (r * h.geometry.w + top h r)) (sym (same_in r)) (tiled_roots (r * h.geometry.w) (objects_in h r) (r * h.geometry.w + top h r) s.2))
+  shaped_roots r Ordinary s = (
+    s.0,
+    s.1,
+    subst (λ os. IsTiled (record h { roots = rs }) (r * h.geometry.w) os (r * h.geometry.w + top h r))
+        (sym (same_in r)) (tiled_roots (r * h.geometry.w) (objects_in h r) (r * h.geometry.w + top h r) s.2),
+  )
   shaped_roots r HumongousFirst s = record { refs = s.refs; humongous = s.humongous; run = s.run }
   shaped_roots r Continuation s = s
 
-  pub roots_built : length rs ≤ 65536 → ((a : ℕ) → In rs (suc a) → Contains (objects h) (object_at h a)) → IsBuilt (record h { roots = rs })
+  pub roots_built : length rs ≤ most_roots → ((a : ℕ) → In rs (suc a) → Contains (objects h) (object_at h a)) → IsBuilt (record h { roots = rs })
   roots_built few named = record {
     limits = v.limits;
     word_count = v.word_count;
@@ -169,7 +176,7 @@ module _ (h : Heap) (v : IsBuilt h) (rs : List ℕ) where
 pub root_tracked : (i : Image) → IsTracked i → (r x : ℕ) → SeenWord (heap_view i.heap) x → IsTracked (with_roots i (set i.heap.roots r x))
 root_tracked i tracked r x w =
     let v = built i.heap tracked.image.heap in
-    let few : length (set i.heap.roots r x) ≤ 65536 = (let l = tracked.image.heap.root_count in let e = length-set i.heap.roots r x in omega (arith, l, e)) in
+    let few : length (set i.heap.roots r x) ≤ most_roots = (let l = tracked.image.heap.root_count in let e = length-set i.heap.roots r x in omega (arith, l, e)) in
     record {
       image = image_kept i (with_roots i (set i.heap.roots r x)) refl (λ q n. refl) tracked.image
           (roots_built i.heap v (set i.heap.roots r x) few (λ a m. elim (In-set i.heap.roots r x (suc a) m) [

@@ -126,10 +126,26 @@ name_word (Get r q m) = word_by (103 ∷ 101 ∷ 116 ∷ []) ((λ e. absurd (ome
 name_word (Put r m q) = word_by (112 ∷ 117 ∷ 116 ∷ []) ((λ e. absurd (omega (arith, e))), ((λ e. absurd (omega (arith, e))), ((λ e. absurd (omega (arith, e))), tt)))
 name_word (Set r m x) = word_by (115 ∷ 101 ∷ 116 ∷ []) ((λ e. absurd (omega (arith, e))), ((λ e. absurd (omega (arith, e))), ((λ e. absurd (omega (arith, e))), tt)))
 name_word (Say r m) = word_by (115 ∷ 97 ∷ 121 ∷ []) ((λ e. absurd (omega (arith, e))), ((λ e. absurd (omega (arith, e))), ((λ e. absurd (omega (arith, e))), tt)))
-name_word (Same r q) = word_by (115 ∷ 97 ∷ 109 ∷ 101 ∷ []) ((λ e. absurd (omega (arith, e))), ((λ e. absurd (omega (arith, e))), ((λ e. absurd (omega (arith, e))), ((λ e. absurd (omega (arith, e))), tt))))
-name_word (Copy r q) = word_by (99 ∷ 111 ∷ 112 ∷ 121 ∷ []) ((λ e. absurd (omega (arith, e))), ((λ e. absurd (omega (arith, e))), ((λ e. absurd (omega (arith, e))), ((λ e. absurd (omega (arith, e))), tt))))
-name_word (Drop r) = word_by (100 ∷ 114 ∷ 111 ∷ 112 ∷ []) ((λ e. absurd (omega (arith, e))), ((λ e. absurd (omega (arith, e))), ((λ e. absurd (omega (arith, e))), ((λ e. absurd (omega (arith, e))), tt))))
-name_word (Pause b) = word_by (112 ∷ 97 ∷ 117 ∷ 115 ∷ 101 ∷ []) ((λ e. absurd (omega (arith, e))), ((λ e. absurd (omega (arith, e))), ((λ e. absurd (omega (arith, e))), ((λ e. absurd (omega (arith, e))), ((λ e. absurd (omega (arith, e))), tt)))))
+name_word (Same r q) = word_by (115 ∷ 97 ∷ 109 ∷ 101 ∷ []) (
+  (λ e. absurd
+      (omega (arith, e))),
+  ((λ e. absurd (omega (arith, e))), ((λ e. absurd (omega (arith, e))), ((λ e. absurd (omega (arith, e))), tt))),
+)
+name_word (Copy r q) = word_by (99 ∷ 111 ∷ 112 ∷ 121 ∷ []) (
+  (λ e. absurd
+      (omega (arith, e))),
+  ((λ e. absurd (omega (arith, e))), ((λ e. absurd (omega (arith, e))), ((λ e. absurd (omega (arith, e))), tt))),
+)
+name_word (Drop r) = word_by (100 ∷ 114 ∷ 111 ∷ 112 ∷ []) (
+  (λ e. absurd
+      (omega (arith, e))),
+  ((λ e. absurd (omega (arith, e))), ((λ e. absurd (omega (arith, e))), ((λ e. absurd (omega (arith, e))), tt))),
+)
+name_word (Pause b) = word_by (112 ∷ 97 ∷ 117 ∷ 115 ∷ 101 ∷ []) (
+  (λ e. absurd
+      (omega (arith, e))),
+  ((λ e. absurd (omega (arith, e))), ((λ e. absurd (omega (arith, e))), ((λ e. absurd (omega (arith, e))), ((λ e. absurd (omega (arith, e))), tt)))),
+)
 
 -- a line's first word and the rest of it, where the line is a command's
 pub command_parts : (n : ℕ) (line : List ℕ) (c : Command) → n ≤ length line → ((k : ℕ) → k < n → get_or line k 0 ≡ 32 → ⊥) → (n < length line → get_or line n 0 ≡ 32) → line ≡ command_line c
@@ -138,4 +154,12 @@ command_parts n line c le w end e = split_is n line (name_of c) (spaced (numbers
 
 pub heap_parts : (n : ℕ) (line : List ℕ) (w k m roots : ℕ) → n ≤ length line → ((k : ℕ) → k < n → get_or line k 0 ≡ 32 → ⊥) → (n < length line → get_or line n 0 ≡ 32) → line ≡ heap_line w k m roots
     → (take n line ≡ 104 ∷ 101 ∷ 97 ∷ 112 ∷ []) × (drop n line ≡ spaced (w ∷ k ∷ m ∷ roots ∷ []))
-heap_parts n line w k m roots le p end e = split_is n line (104 ∷ 101 ∷ 97 ∷ 112 ∷ []) (spaced (w ∷ k ∷ m ∷ roots ∷ [])) le p end (word_by (104 ∷ 101 ∷ 97 ∷ 112 ∷ []) ((λ e. absurd (omega (arith, e))), ((λ e. absurd (omega (arith, e))), ((λ e. absurd (omega (arith, e))), ((λ e. absurd (omega (arith, e))), tt))))) (spaced_end (w ∷ k ∷ m ∷ roots ∷ [])) e
+heap_parts n line w k m roots le p end e = split_is n line (104 ∷ 101 ∷ 97 ∷ 112 ∷ []) (spaced (w ∷ k ∷ m ∷ roots ∷ [])) le p end
+    (word_by (104 ∷ 101 ∷ 97 ∷ 112 ∷ []) (
+      (λ e. absurd (omega (arith, e))),
+      (
+        (λ e. absurd
+            (omega (arith, e))),
+        ((λ e. absurd (omega (arith, e))), ((λ e. absurd (omega (arith, e))), tt)),
+      ),
+    )) (spaced_end (w ∷ k ∷ m ∷ roots ∷ [])) e

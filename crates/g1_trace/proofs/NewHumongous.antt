@@ -1,9 +1,11 @@
 -- A new humongous object, at the start of a run of free regions, keeps the rules of a heap.
-use Rattle.std.proofs.Common.{◌≡◌, ◌≢◌, ℕ, ◌+◌, ◌-◌, ◌*◌, ◌%◌, ◌^◌, ◌<◌, ◌≤◌, ◌⊎◌, inl, inr, Bool, true, false, cond, ◌&&◌, [], ◌∷◌, ◌++◌, Some, min, refl, sym, ◌∙◌, ap, subst, arith, eqb, eq-eqb, ltb, leb, lt-ltb, ltb-true, leb-true, le-leb, div-add-mod'}
+use Rattle.std.proofs.Common.{◌≡◌, ◌≢◌, ℕ, ◌+◌, ◌-◌, ◌*◌, ◌%◌, ◌^◌, ◌<◌, ◌≤◌, ◌⊎◌, inl, inr, Bool, true, false, cond, ◌&&◌, [], ◌∷◌, ◌++◌, Some, min, refl, sym, ◌∙◌, ap, subst, arith, eqb}
+use Rattle.std.proofs.Common.{eq-eqb, ltb, leb, lt-ltb, ltb-true, leb-true, le-leb, div-add-mod'}
 use Rattle.std.proofs.lemmas.Bool.{cases_lt}
 use Rattle.std.proofs.lemmas.Nat.{le-div}
 use Rattle.std.proofs.lemmas.List.FromFn.{get_or-map-range_with_len}
 use Rattle.std.proofs.Math.Nat.{mul-le-mul_right, add-mul}
+use Rattle.g1_words.specs.Geometry.{most_words}
 use Rattle.g1_words.specs.declared.object.Object.{Object}
 use Rattle.g1_words.specs.declared.region.Region.{Region}
 use Rattle.g1_words.specs.declared.region.Kind.TheVariants.{Free, Ordinary, HumongousFirst, Continuation}
@@ -20,7 +22,7 @@ use Rattle.g1_trace.proofs.NewOrdinary.{not_equal}
 pub some_regions : (h : Heap) → IsBuilt h → (size : ℕ) → 0 < size → 0 < run_length h size
 some_regions h v size pos = let p = w_pos h v in le-div 1 (size + (h.geometry.w - 1)) h.geometry.w p (omega (arith, pos, p))
 
-module _ (h : Heap) (v : IsBuilt h) (r size refs0 root : ℕ) (lt : r < h.geometry.n) (unused : IsUnused h (r * h.geometry.w + top h r) size) (fits : refs0 < size) (small : size ≤ 2 ^ 24)
+module _ (h : Heap) (v : IsBuilt h) (r size refs0 root : ℕ) (lt : r < h.geometry.n) (unused : IsUnused h (r * h.geometry.w + top h r) size) (fits : refs0 < size) (small : size ≤ most_words)
     (big : is_humongous h size ≡ true) (there : r + run_length h size ≤ h.geometry.n) (free : (c : ℕ) → c < run_length h size → kind h (r + c) ≡ Free) where
   abbrev j : Heap
   j = heap_with h r size refs0 root
@@ -146,8 +148,12 @@ module _ (h : Heap) (v : IsBuilt h) (r size refs0 root : ℕ) (lt : r < h.geomet
   new_run : TakesRun j r size
   new_run c l =
       let k = count_above c l in
-      let e : r + c - r ≡ c = omega arith in
-      (in_heap (r + c) (omega (arith, k)), top_run (r + c) (omega arith) (omega (arith, k)) ∙ ap (λ x. min h.geometry.w (size - x * h.geometry.w)) e, λ p. kind_later (r + c) (omega (arith, p)) (omega (arith, k)))
+      let e : r + c - r ≡ c = omega arith in (
+        in_heap (r + c) (omega (arith, k)),
+        top_run (r + c) (omega arith) (omega (arith, k)) ∙ ap (λ x. min h.geometry.w (size - x * h.geometry.w))
+            e,
+        λ p. kind_later (r + c) (omega (arith, p)) (omega (arith, k)),
+      )
 
   new_first : BeginsRun j r
   new_first = let f = sym object_here in record {

@@ -1,8 +1,10 @@
 -- A new object keeps a tracked image.
-use Rattle.std.proofs.Common.{◌≡◌, ◌≢◌, ℕ, ◌+◌, ◌*◌, ◌^◌, ◌<◌, ◌≤◌, ◌⊎◌, inl, inr, Bool, true, false, cond, [], ◌∷◌, ◌++◌, length, Option, Some, None, refl, sym, ◌∙◌, ap, subst, arith, ltb, ltb-false, leb-true}
+use Rattle.std.proofs.Common.{◌≡◌, ◌≢◌, ℕ, ◌+◌, ◌*◌, ◌^◌, ◌<◌, ◌≤◌, ◌⊎◌, inl, inr, Bool, true, false, cond, [], ◌∷◌, ◌++◌, length, Option, Some, None, refl, sym, ◌∙◌, ap, subst, arith, ltb}
+use Rattle.std.proofs.Common.{ltb-false, leb-true}
 use Rattle.std.specs.Prelude.{find}
 use Rattle.std.proofs.lemmas.Bool.{cases_lt}
 use Rattle.std.proofs.lemmas.List.{get_or_past}
+use Rattle.g1_words.specs.Geometry.{most_words}
 use Rattle.g1_words.specs.declared.object.Object.{Object}
 use Rattle.g1_words.specs.declared.region.Kind.TheVariants.{Free, Ordinary}
 use Rattle.g1_words.specs.declared.region.Region.{Region}
@@ -29,7 +31,8 @@ used_below h e r n = elim (cases_lt r h.geometry.n) [
   | inr ge ↦ absurd (n (ap (λ (q : Region). q.kind) (get_or_past h.regions r free_region (omega (arith, e, ge)))))
 ]
 
-module _ (i : Image) (tracked : IsTracked i) (r size refs0 root : ℕ) (unused : IsUnused i.heap (r * i.heap.geometry.w + top i.heap r) size) (fits : refs0 < size) (small : size ≤ 2 ^ 24) (lt : r < i.heap.geometry.n) where
+module _ (i : Image) (tracked : IsTracked i) (r size refs0 root : ℕ) (unused : IsUnused i.heap (r * i.heap.geometry.w + top i.heap r) size)
+    (fits : refs0 < size) (small : size ≤ most_words) (lt : r < i.heap.geometry.n) where
   abbrev h : Heap
   h = i.heap
 
@@ -61,7 +64,7 @@ module _ (i : Image) (tracked : IsTracked i) (r size refs0 root : ℕ) (unused :
       kept_by (humongous_built i.heap v r size refs0 root lt unused fits small big there free) (humongous_stay i.heap v r size refs0 root lt unused fits small big there free)
       (humongous_here i.heap v r size refs0 root lt unused fits small big there free) (humongous_elsewhere i.heap v r size refs0 root lt unused fits small big there free)
 
-module _ (i : Image) (tracked : IsTracked i) (r size refs0 root : ℕ) (unused : IsUnused i.heap (r * i.heap.geometry.w + top i.heap r) size) (fits : refs0 < size) (small : size ≤ 2 ^ 24) where
+module _ (i : Image) (tracked : IsTracked i) (r size refs0 root : ℕ) (unused : IsUnused i.heap (r * i.heap.geometry.w + top i.heap r) size) (fits : refs0 < size) (small : size ≤ most_words) where
   in_current : is_humongous i.heap size ≡ false → (c : Option ℕ) → i.heap.current ≡ c → fits_current i.heap size c ≡ true → c ≡ Some r → IsTracked (with_heap i (heap_with i.heap r size refs0 root))
   in_current plain None e f q = cc
   in_current plain (Some x) e f q =
@@ -71,7 +74,8 @@ module _ (i : Image) (tracked : IsTracked i) (r size refs0 root : ℕ) (unused :
       (subst (λ y. top i.heap y + size ≤ i.heap.geometry.w) same (leb-true (top i.heap x + size) i.heap.geometry.w f)) (inl (ap (kind i.heap) (sym same) ∙ k.1))
 
   new_at : (big cur : Bool) → is_humongous i.heap size ≡ big → fits_current i.heap size i.heap.current ≡ cur
-      → cond big (find (is_free_run i.heap (run_length i.heap size)) (regions i.heap)) (cond cur i.heap.current (find (is_free_region i.heap) (regions i.heap))) ≡ Some r → IsTracked (with_heap i (heap_with i.heap r size refs0 root))
+      → cond big (find (is_free_run i.heap (run_length i.heap size)) (regions i.heap))
+      (cond cur i.heap.current (find (is_free_region i.heap) (regions i.heap))) ≡ Some r → IsTracked (with_heap i (heap_with i.heap r size refs0 root))
   new_at true cur e f q =
       let v = built i.heap tracked.image.heap in
       let m = found (is_free_run i.heap (run_length i.heap size)) (regions i.heap) r q in
@@ -90,13 +94,14 @@ module _ (i : Image) (tracked : IsTracked i) (r size refs0 root : ℕ) (unused :
 pub new_tracked : (i : Image) → IsTracked i → (root refs0 words r : ℕ) → place_for i.heap (1 + refs0 + words) ≡ Some r → IsTracked (with_heap i (heap_with i.heap r (1 + refs0 + words) refs0 root))
 new_tracked i tracked root refs0 words r place = by (ltb (i.heap.geometry.n * i.heap.geometry.w) (1 + refs0 + words)) refl place
   where
-    by : (b : Bool) → ltb (i.heap.geometry.n * i.heap.geometry.w) (1 + refs0 + words) ≡ b → cond b None (region_for i.heap (1 + refs0 + words)) ≡ Some r → IsTracked (with_heap i (heap_with i.heap r (1 + refs0 + words) refs0 root))
+    by : (b : Bool) → ltb (i.heap.geometry.n * i.heap.geometry.w) (1 + refs0 + words) ≡ b →
+        cond b None (region_for i.heap (1 + refs0 + words)) ≡ Some r → IsTracked (with_heap i (heap_with i.heap r (1 + refs0 + words) refs0 root))
     by true e p = absurd (clash p)
       where
         clash : None ≡ Some r → ⊥
         clash q = cc
     by false e p =
-        let t : i.heap.geometry.n * i.heap.geometry.w ≤ 2 ^ 24 = tracked.image.heap.limits.words_most in
+        let t : i.heap.geometry.n * i.heap.geometry.w ≤ most_words = tracked.image.heap.limits.words_most in
         let le : 1 + refs0 + words ≤ i.heap.geometry.n * i.heap.geometry.w = ltb-false (i.heap.geometry.n * i.heap.geometry.w) (1 + refs0 + words) e in
         new_at i tracked r (1 + refs0 + words) refs0 root ((built_ready i.heap (built i.heap tracked.image.heap)).places (1 + refs0 + words) r (omega arith) le p) (omega arith) (omega (arith, t, le))
         (is_humongous i.heap (1 + refs0 + words)) (fits_current i.heap (1 + refs0 + words) i.heap.current) refl refl p

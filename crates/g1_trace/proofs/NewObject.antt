@@ -1,10 +1,12 @@
 -- A new object keeps the rules of a heap, by what becomes of the regions.
-use Rattle.std.proofs.Common.{◌≡◌, ◌≢◌, ℕ, zero, suc, ◌+◌, ◌-◌, ◌*◌, ◌/◌, ◌%◌, ◌^◌, ◌<◌, ◌≤◌, ◌⊎◌, inl, inr, Bool, true, false, List, [], ◌∷◌, ◌++◌, set, map, flat_map, Contains, Some, refl, sym, ◌∙◌, ap, subst, arith, lt-ltb, le-ltb}
+use Rattle.std.proofs.Common.{◌≡◌, ◌≢◌, ℕ, zero, suc, ◌+◌, ◌-◌, ◌*◌, ◌/◌, ◌%◌, ◌^◌, ◌<◌, ◌≤◌, ◌⊎◌, inl, inr, Bool, true, false, List, [], ◌∷◌, ◌++◌, set, map, flat_map, Contains, Some, refl}
+use Rattle.std.proofs.Common.{sym, ◌∙◌, ap, subst, arith, lt-ltb, le-ltb}
 use Rattle.std.proofs.lemmas.Bool.{cases_lt}
 use Rattle.std.proofs.lemmas.Nat.{div-mul-add}
 use Rattle.std.proofs.lemmas.List.{length-set, get_or-set_same, get_or-set_other}
 use Rattle.std.proofs.lemmas.List.FromFn.{length-map-range_with_len, get_or-map-range_with_len}
 use Rattle.std.specs.Prelude.{◌==◌, IsTrue, if◌then◌else◌}
+use Rattle.g1_words.specs.Geometry.{most_words}
 use Rattle.g1_words.specs.declared.object.Object.{Object}
 use Rattle.g1_words.specs.declared.region.Region.{Region}
 use Rattle.g1_words.specs.declared.region.Kind.{Kind}
@@ -33,7 +35,8 @@ tiled_tiles h (suc m) a (o ∷ os) end t le =
     let k = tiled_from h (a + o.size) os end t.2 in
     let pos : o.refs < o.size = t.1.0 in
     let size : o.size ≡ (object_at h a).size = ap (λ (x : Object). x.size) t.0 in
-    ap (λ b. elim b as (λ _. List Object) [ true ↦ object_at h a ∷ tiles h m (a + (object_at h a).size) end | false ↦ [] ]) (lt-ltb a end (omega (arith, k, pos))) ∙ ((λ i. sym t.0 i ∷ tiles h m (a + sym size i) end) ∙ ap (λ xs. o ∷ xs) (tiled_tiles h m (a + o.size) os end t.2 (omega (arith, pos, le))))
+    ap (λ b. elim b as (λ _. List Object) [ true ↦ object_at h a ∷ tiles h m (a + (object_at h a).size) end | false ↦ [] ])
+    (lt-ltb a end (omega (arith, k, pos))) ∙ ((λ i. sym t.0 i ∷ tiles h m (a + sym size i) end) ∙ ap (λ xs. o ∷ xs) (tiled_tiles h m (a + o.size) os end t.2 (omega (arith, pos, le))))
 
 pub tiled_append : (h : Heap) (b : ℕ) (os : List Object) (end : ℕ) (new : Object) → IsTiled h b os end → new ≡ object_at h end → IsPlain h new → IsTiled h b (os ++ new ∷ []) (end + new.size)
 tiled_append h b [] end new t e p = (e ∙ ap (object_at h) (sym t), p, ap (λ x. x + new.size) t)
@@ -47,7 +50,7 @@ pin_kept true false c run more old none k may t = may t
 pin_kept false b true run more old none k may t = k
 pin_kept false b false run more old none k may t = may t
 
-module _ (h : Heap) (v : IsBuilt h) (r size refs0 root : ℕ) (lt : r < h.geometry.n) (unused : IsUnused h (r * h.geometry.w + top h r) size) (fits : refs0 < size) (small : size ≤ 2 ^ 24) where
+module _ (h : Heap) (v : IsBuilt h) (r size refs0 root : ℕ) (lt : r < h.geometry.n) (unused : IsUnused h (r * h.geometry.w + top h r) size) (fits : refs0 < size) (small : size ≤ most_words) where
   abbrev j : Heap
   j = heap_with h r size refs0 root
 
@@ -119,7 +122,8 @@ module _ (h : Heap) (v : IsBuilt h) (r size refs0 root : ℕ) (lt : r < h.geomet
         (subst (λ xs. In xs new) (sym here) (In-append_right (objects_in h r) (new ∷ []) new (inl refl)))))
 
     named_there : (b : ℕ) → Contains (objects h) (object_at h b) → Contains (objects j) (object_at j b)
-    named_there b c = subst (λ o. Contains (objects j) o) (sym (same_object b (no_header (object_at h b) c))) (Contains-from_in (objects j) (object_at h b) (old_stays (object_at h b) (In-from_contains (objects h) (object_at h b) c)))
+    named_there b c = subst (λ o. Contains (objects j) o) (sym (same_object b (no_header (object_at h b) c)))
+        (Contains-from_in (objects j) (object_at h b) (old_stays (object_at h b) (In-from_contains (objects h) (object_at h b) c)))
 
     -- the new object's slots name nothing
     pub refs_stay : (e : Ref) → In (refs j) e → In (refs h) e
@@ -132,7 +136,8 @@ module _ (h : Heap) (v : IsBuilt h) (r size refs0 root : ℕ) (lt : r < h.geomet
               let c = Contains-from_in (objects h) x.0 old in
               let p = pos_of x.0 c in
               let n : s.0 ≡ r * h.geometry.w + top h r → ⊥ = λ q. unused.apart x.0 s.0 c (omega (arith, b)) (omega (arith, b, p)) (omega (arith, q)) (omega (arith, q, fits)) in
-              In-flat_map (λ o. flat_map (refs_at h) (slots o)) (objects h) x.0 e old (In-flat_map (refs_at h) (slots x.0) s.0 e s.1 (subst (λ z. In (map (λ b. record { slot = s.0; target = b }) (named z)) e) (same_word s.0 n) s.2))
+              In-flat_map (λ o. flat_map (refs_at h) (slots o)) (objects h) x.0 e old
+              (In-flat_map (refs_at h) (slots x.0) s.0 e s.1 (subst (λ z. In (map (λ b. record { slot = s.0; target = b }) (named z)) e) (same_word s.0 n) s.2))
           | inr q ↦
               let at : x.0.at ≡ r * h.geometry.w + top h r = ap (λ (o : Object). o.at) q in
               let rs : x.0.refs ≡ refs0 = ap (λ (o : Object). o.refs) q in
@@ -159,10 +164,11 @@ module _ (h : Heap) (v : IsBuilt h) (r size refs0 root : ℕ) (lt : r < h.geomet
       shaped = shaped;
       pins = pins;
       zero_above = zeros;
-      root_named = λ b c. elim (In-set h.roots root (suc (r * h.geometry.w + top h r)) (suc b) (named-in (set h.roots root (suc (r * h.geometry.w + top h r))) b (In-from_contains (root_targets j) b c))) [
-        | inl q ↦ let e : r * h.geometry.w + top h r ≡ b = omega (arith, q) in subst (λ x. Contains (objects j) (object_at j x)) e new_there
-        | inr m ↦ named_there b (v.root_named b (Contains-from_in (root_targets h) b (in-named h.roots b m)))
-      ];
+      root_named = λ b c. elim (In-set h.roots root (suc (r * h.geometry.w + top h r)) (suc b)
+          (named-in (set h.roots root (suc (r * h.geometry.w + top h r))) b (In-from_contains (root_targets j) b c))) [
+            | inl q ↦ let e : r * h.geometry.w + top h r ≡ b = omega (arith, q) in subst (λ x. Contains (objects j) (object_at j x)) e new_there
+            | inr m ↦ named_there b (v.root_named b (Contains-from_in (root_targets h) b (in-named h.roots b m)))
+          ];
       slot_named = λ e c. named_there e.target (v.slot_named e (Contains-from_in (refs h) e (refs_stay e (In-from_contains (refs j) e c))));
       current = current;
     }
@@ -193,7 +199,8 @@ module _ (h : Heap) (v : IsBuilt h) (r size refs0 root : ℕ) (lt : r < h.geomet
     other_at q Ordinary l n t o k s = (
       subst (λ x. 0 < x) (sym t) s.0,
       subst (λ x. x ≤ h.geometry.w) (sym t) s.1,
-      subst (λ os. IsTiled j (q * h.geometry.w) os (q * h.geometry.w + top j q)) (sym o) (subst (λ x. IsTiled j (q * h.geometry.w) (objects_in h q) (q * h.geometry.w + x)) (sym t) (tiled_kept (q * h.geometry.w) (objects_in h q) (q * h.geometry.w + top h q) (in_all q l) s.2)),
+      subst (λ os. IsTiled j (q * h.geometry.w) os (q * h.geometry.w + top j q)) (sym o)
+          (subst (λ x. IsTiled j (q * h.geometry.w) (objects_in h q) (q * h.geometry.w + x)) (sym t) (tiled_kept (q * h.geometry.w) (objects_in h q) (q * h.geometry.w + top h q) (in_all q l) s.2)),
     )
     other_at q HumongousFirst l n t o k s =
         let f = sym (first_same q room n) in

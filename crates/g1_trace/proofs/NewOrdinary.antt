@@ -1,6 +1,7 @@
 -- A new ordinary object, at the top of a region, keeps the rules of a heap.
 use Rattle.std.proofs.Common.{◌≡◌, ◌≢◌, ℕ, ◌+◌, ◌*◌, ◌^◌, ◌<◌, ◌≤◌, ◌⊎◌, inl, inr, Bool, true, false, cond, [], ◌∷◌, ◌++◌, Some, refl, sym, ◌∙◌, ap, subst, arith, eqb, eqb-true, eq-eqb, ltb-false}
 use Rattle.std.proofs.lemmas.List.FromFn.{get_or-map-range_with_len}
+use Rattle.g1_words.specs.Geometry.{most_words}
 use Rattle.g1_words.specs.declared.object.Object.{Object}
 use Rattle.g1_words.specs.declared.region.Region.{Region}
 use Rattle.g1_words.specs.declared.region.Kind.TheVariants.{Free, Ordinary, HumongousFirst, Continuation}
@@ -18,7 +19,7 @@ not_equal_at x y false e n = e
 pub not_equal : (x y : ℕ) → (x ≡ y → ⊥) → eqb x y ≡ false
 not_equal x y n = not_equal_at x y (eqb x y) refl n
 
-module _ (h : Heap) (v : IsBuilt h) (r size refs0 root : ℕ) (lt : r < h.geometry.n) (unused : IsUnused h (r * h.geometry.w + top h r) size) (fits : refs0 < size) (small : size ≤ 2 ^ 24)
+module _ (h : Heap) (v : IsBuilt h) (r size refs0 root : ℕ) (lt : r < h.geometry.n) (unused : IsUnused h (r * h.geometry.w + top h r) size) (fits : refs0 < size) (small : size ≤ most_words)
     (plain : is_humongous h size ≡ false) (inside : top h r + size ≤ h.geometry.w) (usable : (kind h r ≡ Ordinary) ⊎ ((kind h r ≡ Free) × (top h r ≡ 0))) where
   abbrev j : Heap
   j = heap_with h r size refs0 root
@@ -93,7 +94,12 @@ module _ (h : Heap) (v : IsBuilt h) (r size refs0 root : ℕ) (lt : r < h.geomet
       (λ q l. elim (equal_or_not q r) [
         | inl n ↦ other_shaped h v r size refs0 root lt unused fits small low_room no_first runs_stay q l n (region_else q l n)
         | inr e ↦ subst (λ x. IsBuiltBy j x (kind j x)) (sym e) (subst (IsBuiltBy j r) (sym kind_here)
-            (let t = top_here in (omega (arith, t, fits), omega (arith, t, inside), subst (λ os. IsTiled j (r * h.geometry.w) os (r * h.geometry.w + top j r)) (sym ordinary_here) (subst (λ x. IsTiled j (r * h.geometry.w) (objects_in h r ++ new ∷ []) (r * h.geometry.w + x)) (sym top_here) new_tiled))))
+            (let t = top_here in (
+              omega (arith, t, fits),
+              omega (arith, t, inside),
+              subst (λ os. IsTiled j (r * h.geometry.w) os
+                  (r * h.geometry.w + top j r)) (sym ordinary_here) (subst (λ x. IsTiled j (r * h.geometry.w) (objects_in h r ++ new ∷ []) (r * h.geometry.w + x)) (sym top_here) new_tiled),
+            )))
       ])
       (zeros_kept h v r size refs0 root lt unused fits small low_room (λ q l. elim (equal_or_not q r) [
         | inl n ↦ let t : top j q ≡ top h q = ap (λ (z : Region). z.top) (region_else q l n) in omega (arith, t)

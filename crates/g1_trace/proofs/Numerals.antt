@@ -74,7 +74,8 @@ none_large word i large x small q =
     let v : read_on 0 word ≡ x = ap (read_on 0) q ∙ digits_value-decimal own x small in
     let p = read_part word i in absurd (omega (arith, v, p, large, small))
 
-pub some_number : (word : List ℕ) (i value : ℕ) → length word ≤ i → 0 < length word → (get_or word 0 0 ≡ 48 → length word ≤ 1) → AreDigits word → value ≡ read_on 0 (take i word) → value < 2 ^ 64 → word ≡ decimal value
+pub some_number : (word : List ℕ) (i value : ℕ) → length word ≤ i → 0 < length word → (get_or word 0 0 ≡ 48 → length word ≤ 1) → AreDigits word →
+    value ≡ read_on 0 (take i word) → value < 2 ^ 64 → word ≡ decimal value
 some_number word i value le some lead digits e small =
     let v : value ≡ read_on 0 word = e ∙ ap (read_on 0) (take_all i word le) in
     sym (ap decimal v ∙ decimal-digits_value own word digits some (λ z. let l = lead z in omega (arith, l, some)) (omega (arith, v, small)))

@@ -37,14 +37,22 @@ name_clean (Say r m) = ((λ e. absurd (omega (arith, e))), ((λ e. absurd (omega
 name_clean (Same r q) = ((λ e. absurd (omega (arith, e))), ((λ e. absurd (omega (arith, e))), ((λ e. absurd (omega (arith, e))), ((λ e. absurd (omega (arith, e))), tt))))
 name_clean (Copy r q) = ((λ e. absurd (omega (arith, e))), ((λ e. absurd (omega (arith, e))), ((λ e. absurd (omega (arith, e))), ((λ e. absurd (omega (arith, e))), tt))))
 name_clean (Drop r) = ((λ e. absurd (omega (arith, e))), ((λ e. absurd (omega (arith, e))), ((λ e. absurd (omega (arith, e))), ((λ e. absurd (omega (arith, e))), tt))))
-name_clean (Pause b) = ((λ e. absurd (omega (arith, e))), ((λ e. absurd (omega (arith, e))), ((λ e. absurd (omega (arith, e))), ((λ e. absurd (omega (arith, e))), ((λ e. absurd (omega (arith, e))), tt)))))
+name_clean (Pause b) = (
+  (λ e. absurd (omega (arith, e))),
+  (
+    (λ e. absurd
+        (omega (arith, e))),
+    ((λ e. absurd (omega (arith, e))), ((λ e. absurd (omega (arith, e))), ((λ e. absurd (omega (arith, e))), tt))),
+  ),
+)
 
 command_clean : (c : Command) → AllFit (numbers_of c) → Clean (command_line c)
 command_clean c f = clean_append (name_of c) (spaced (numbers_of c)) (name_clean c) (spaced_clean (numbers_of c) f)
 
 heap_clean : (w k n roots : ℕ) → AllFit (w ∷ k ∷ n ∷ roots ∷ []) → Clean (heap_line w k n roots)
 heap_clean w k n roots f =
-    clean_append (104 ∷ 101 ∷ 97 ∷ 112 ∷ []) (spaced (w ∷ k ∷ n ∷ roots ∷ [])) ((λ e. absurd (omega (arith, e))), ((λ e. absurd (omega (arith, e))), ((λ e. absurd (omega (arith, e))), ((λ e. absurd (omega (arith, e))), tt)))) (spaced_clean (w ∷ k ∷ n ∷ roots ∷ []) f)
+    clean_append (104 ∷ 101 ∷ 97 ∷ 112 ∷ []) (spaced (w ∷ k ∷ n ∷ roots ∷ []))
+    ((λ e. absurd (omega (arith, e))), ((λ e. absurd (omega (arith, e))), ((λ e. absurd (omega (arith, e))), ((λ e. absurd (omega (arith, e))), tt)))) (spaced_clean (w ∷ k ∷ n ∷ roots ∷ []) f)
 
 line_clean : (m : ℕ) (line : List ℕ) → IsLineAt m line → Clean line
 line_clean zero line (w, k, n, roots, f, e) = subst Clean (sym e) (heap_clean w k n roots f)
@@ -135,7 +143,8 @@ tails m a b as_ bs x y p q e =
     (first_lines a b (ended as_ ++ x) (ended bs ++ y) (line_clean m a p) (line_clean m b q) (sym (append_assoc (a ++ 10 ∷ []) (ended as_) x) ∙ e ∙ append_assoc (b ++ 10 ∷ []) (ended bs) y)).1
 
 -- no more lines of their form than before the bad one
-lines_le : (m : ℕ) (good lines : List (List ℕ)) (rest more : List ℕ) → AreLines m good → AreLines m lines → ended good ++ rest ≡ ended lines ++ more → IsBadRest (length good + m) rest → length lines ≤ length good
+lines_le : (m : ℕ) (good lines : List (List ℕ)) (rest more : List ℕ) → AreLines m good → AreLines m lines → ended good ++ rest ≡ ended lines ++ more →
+    IsBadRest (length good + m) rest → length lines ≤ length good
 lines_le m good [] rest more p q e b = omega arith
 lines_le m [] (l ∷ ls) rest more p q e b = absurd (starts_good m rest l (ended ls ++ more) q.0 (e ∙ append_assoc (l ++ 10 ∷ []) (ended ls) more) (after_none m rest b))
 lines_le m (g ∷ gs) (l ∷ ls) rest more p q e b =
@@ -143,7 +152,8 @@ lines_le m (g ∷ gs) (l ∷ ls) rest more p q e b =
     let r = lines_le (suc m) gs ls rest more p.1 q.1 (tails m g l gs ls rest more p.0 q.0 e) (subst (λ k. IsBadRest k rest) z b) in
     omega (arith, r)
 
-text_no_bad : (m : ℕ) (good lines : List (List ℕ)) (rest : List ℕ) → AreLines m good → AreLines m lines → ended good ++ rest ≡ ended lines ++ [] → IsBadRest (length good + m) rest → 0 < length lines + m → ⊥
+text_no_bad : (m : ℕ) (good lines : List (List ℕ)) (rest : List ℕ) → AreLines m good → AreLines m lines → ended good ++ rest ≡ ended lines ++ [] →
+    IsBadRest (length good + m) rest → 0 < length lines + m → ⊥
 text_no_bad m [] [] rest p q e b some = nothing_good m rest (omega (arith, some)) e (after_none m rest b)
 text_no_bad m [] (l ∷ ls) rest p q e b some = starts_good m rest l (ended ls ++ []) q.0 (e ∙ append_assoc (l ++ 10 ∷ []) (ended ls) []) (after_none m rest b)
 text_no_bad m (g ∷ gs) [] rest p q e b some = ended_some g (ended gs ++ rest) (sym e ∙ append_assoc (g ++ 10 ∷ []) (ended gs) rest)

@@ -1,11 +1,14 @@
 -- A new object put into place, told of a heap's parts.
-use Rattle.std.proofs.Common.{◌≡◌, ℕ, suc, ◌+◌, ◌*◌, ◌^◌, ◌<◌, ◌≤◌, inl, inr, Bool, true, false, cond, List, length, get_or, set, map, Option, Some, None, refl, sym, ◌∙◌, ap, subst, arith, eqb, ltb, ltb-false, leb-true, eq-eqb}
-use Rattle.std.specs.Prelude.{find}
+use Rattle.std.proofs.Common.{◌≡◌, ℕ, suc, ◌+◌, ◌*◌, ◌^◌, ◌<◌, ◌≤◌, inl, inr, Bool, true, false, cond, List, length, get_or, set, map, Option, Some, None, refl, sym, ◌∙◌, ap, subst, arith}
+use Rattle.std.proofs.Common.{eqb, ltb, lt-ltb, le-ltb, ltb-false, leb-true, eq-eqb}
+use Rattle.std.specs.Prelude.{◌↔◌, find}
 use Rattle.std.specs.List.{range_with_len}
+use Rattle.std.proofs.lemmas.Bool.{cases_lt}
 use Rattle.std.proofs.lemmas.List.{length-set, get_or-set_same, get_or-set_other}
 use Rattle.std.proofs.lemmas.List.FromFn.{get_or-map-range_with_len, length-map-range_with_len}
 use Rattle.g1_words.specs.declared.region.Region.{Region}
 use Rattle.g1_words.specs.declared.region.Kind.TheVariants.{Ordinary}
+use Rattle.g1_words.specs.Geometry.{Geometry}
 use Rattle.g1_words.specs.Heap.{Heap, free_region, region, kind, pinned, top, end, regions}
 use Rattle.g1_words.proofs.Indices.{range_bounds}
 use Rattle.g1_words.proofs.Shapes.{IsBuilt}
@@ -21,50 +24,78 @@ use Rattle.g1_trace.proofs.Tables.{same_list}
 
 -- ---- the image put together again
 
-pub ordinary_same : (i : Image) (r size refs root : ℕ) (heap : Heap) (remembered : List (List ℕ)) (log : List ℕ) (at used : ℕ) (pin : Bool) → record { heap = heap; remembered = remembered; log = log } ≡ i → at ≡ end i.heap r → used ≡ top i.heap r + size → pin ≡ pinned i.heap r
+pub ordinary_same : (i : Image) (r size refs root header : ℕ) (heap : Heap) (remembered : List (List ℕ)) (log : List ℕ) (at used : ℕ) (pin : Bool) →
+    record { heap = heap; remembered = remembered; log = log } ≡ i → at ≡ end i.heap r → used ≡ top i.heap r + size → pin ≡ pinned i.heap r → header ≡ size * 2 ^ 32 + refs
     → with_heap i (ordinary_heap i.heap r size refs root) ≡ record {
-      heap = record { geometry = heap.geometry; words = set heap.words at (size * 2 ^ 32 + refs); regions = set heap.regions r (record { kind = Ordinary; top = used; pinned = pin }); roots = set heap.roots root (at + 1); current = Some r };
+      heap = record {
+        geometry = heap.geometry;
+        words = set heap.words at header;
+        regions = set heap.regions r (record { kind = Ordinary; top = used; pinned = pin });
+        roots = set heap.roots root (at + 1);
+        current = Some r;
+      };
       remembered = remembered;
       log = log;
     }
-ordinary_same i r size refs root heap remembered log at used pin e a u k =
+ordinary_same i r size refs root header heap remembered log at used pin e a u k w =
     let h : heap ≡ i.heap = ap (λ (x : Image). x.heap) e in
     let next : suc (end i.heap r) ≡ at + 1 = omega (arith, a) in
-    let whole : (x : Heap) (p q n : ℕ) (b : Bool) → Heap = λ x p q n b. record { geometry = x.geometry; words = set x.words p (size * 2 ^ 32 + refs); regions = set x.regions r (record { kind = Ordinary; top = q; pinned = b }); roots = set x.roots root n; current = Some r } in
-    let image : (x : Image) (p q n : ℕ) (b : Bool) → Image = λ x p q n b. record { heap = whole x.heap p q n b; remembered = x.remembered; log = x.log } in
-    λ s. image (sym e s) (sym a s) (sym u s) (next s) (sym k s)
+    let whole : (x : Heap) (p q n m : ℕ) (b : Bool) → Heap = λ x p q n m b. record {
+      geometry = x.geometry;
+      words = set x.words p m;
+      regions = set x.regions r (record { kind = Ordinary; top = q; pinned = b });
+      roots = set x.roots root n;
+      current = Some r;
+    } in
+    let image : (x : Image) (p q n m : ℕ) (b : Bool) → Image = λ x p q n m b. record { heap = whole x.heap p q n m b; remembered = x.remembered; log = x.log } in
+    λ s. image (sym e s) (sym a s) (sym u s) (next s) (sym w s) (sym k s)
 
-pub ordinary_parts : (i : Image) (r size refs root : ℕ) (heap : Heap) (remembered : List (List ℕ)) (log : List ℕ) (at used : ℕ) (pin : Bool) → record { heap = heap; remembered = remembered; log = log } ≡ i → at ≡ end i.heap r → used ≡ top i.heap r + size → pin ≡ pinned i.heap r
+pub ordinary_parts : (i : Image) (r size refs root header : ℕ) (heap : Heap) (remembered : List (List ℕ)) (log : List ℕ) (at used : ℕ) (pin : Bool) →
+    record { heap = heap; remembered = remembered; log = log } ≡ i → at ≡ end i.heap r → used ≡ top i.heap r + size → pin ≡ pinned i.heap r → header ≡ size * 2 ^ 32 + refs
     → IsTracked (with_heap i (ordinary_heap i.heap r size refs root))
     → IsTracked (record {
-      heap = record { geometry = heap.geometry; words = set heap.words at (size * 2 ^ 32 + refs); regions = set heap.regions r (record { kind = Ordinary; top = used; pinned = pin }); roots = set heap.roots root (at + 1); current = Some r };
+      heap = record {
+        geometry = heap.geometry;
+        words = set heap.words at header;
+        regions = set heap.regions r (record { kind = Ordinary; top = used; pinned = pin });
+        roots = set heap.roots root (at + 1);
+        current = Some r;
+      };
       remembered = remembered;
       log = log;
     })
-ordinary_parts i r size refs root heap remembered log at used pin e a u k t = subst IsTracked (ordinary_same i r size refs root heap remembered log at used pin e a u k) t
+ordinary_parts i r size refs root header heap remembered log at used pin e a u k w t = subst IsTracked (ordinary_same i r size refs root header heap remembered log at used pin e a u k w) t
 
-pub humongous_same : (i : Image) (r size refs root : ℕ) (heap : Heap) (remembered : List (List ℕ)) (log : List ℕ) (at : ℕ) (table : List Region) → record { heap = heap; remembered = remembered; log = log } ≡ i → at ≡ end i.heap r
-    → table ≡ run_taken i.heap.geometry.w i.heap.regions r size (run_length i.heap size)
+pub humongous_same : (i : Image) (r size refs root header : ℕ) (heap : Heap) (remembered : List (List ℕ)) (log : List ℕ) (at : ℕ)
+    (table : List Region) → record { heap = heap; remembered = remembered; log = log } ≡ i → at ≡ end i.heap r
+    → table ≡ run_taken i.heap.geometry.w i.heap.regions r size (run_length i.heap size) → header ≡ size * 2 ^ 32 + refs
     → with_heap i (humongous_heap i.heap r size refs root) ≡ record {
-      heap = record { geometry = heap.geometry; words = set heap.words at (size * 2 ^ 32 + refs); regions = table; roots = set heap.roots root (at + 1); current = heap.current };
+      heap = record { geometry = heap.geometry; words = set heap.words at header; regions = table; roots = set heap.roots root (at + 1); current = heap.current };
       remembered = remembered;
       log = log;
     }
-humongous_same i r size refs root heap remembered log at table e a u =
+humongous_same i r size refs root header heap remembered log at table e a u w =
     let next : suc (end i.heap r) ≡ at + 1 = omega (arith, a) in
-    let whole : (x : Heap) (p n : ℕ) (rs : List Region) → Heap = λ x p n rs. record { geometry = x.geometry; words = set x.words p (size * 2 ^ 32 + refs); regions = rs; roots = set x.roots root n; current = x.current } in
-    let image : (x : Image) (p n : ℕ) (rs : List Region) → Image = λ x p n rs. record { heap = whole x.heap p n rs; remembered = x.remembered; log = x.log } in
-    λ s. image (sym e s) (sym a s) (next s) (sym u s)
+    let whole : (x : Heap) (p n m : ℕ) (rs : List Region) → Heap = λ x p n m rs. record {
+      geometry = x.geometry;
+      words = set x.words p m;
+      regions = rs;
+      roots = set x.roots root n;
+      current = x.current;
+    } in
+    let image : (x : Image) (p n m : ℕ) (rs : List Region) → Image = λ x p n m rs. record { heap = whole x.heap p n m rs; remembered = x.remembered; log = x.log } in
+    λ s. image (sym e s) (sym a s) (next s) (sym w s) (sym u s)
 
-pub humongous_parts : (i : Image) (r size refs root : ℕ) (heap : Heap) (remembered : List (List ℕ)) (log : List ℕ) (at : ℕ) (table : List Region) → record { heap = heap; remembered = remembered; log = log } ≡ i → at ≡ end i.heap r
-    → table ≡ run_taken i.heap.geometry.w i.heap.regions r size (run_length i.heap size)
+pub humongous_parts : (i : Image) (r size refs root header : ℕ) (heap : Heap) (remembered : List (List ℕ)) (log : List ℕ) (at : ℕ)
+    (table : List Region) → record { heap = heap; remembered = remembered; log = log } ≡ i → at ≡ end i.heap r
+    → table ≡ run_taken i.heap.geometry.w i.heap.regions r size (run_length i.heap size) → header ≡ size * 2 ^ 32 + refs
     → IsTracked (with_heap i (humongous_heap i.heap r size refs root))
     → IsTracked (record {
-      heap = record { geometry = heap.geometry; words = set heap.words at (size * 2 ^ 32 + refs); regions = table; roots = set heap.roots root (at + 1); current = heap.current };
+      heap = record { geometry = heap.geometry; words = set heap.words at header; regions = table; roots = set heap.roots root (at + 1); current = heap.current };
       remembered = remembered;
       log = log;
     })
-humongous_parts i r size refs root heap remembered log at table e a u t = subst IsTracked (humongous_same i r size refs root heap remembered log at table e a u) t
+humongous_parts i r size refs root header heap remembered log at table e a u w t = subst IsTracked (humongous_same i r size refs root header heap remembered log at table e a u w) t
 
 -- ---- the heap with a new object, by its two cases
 
@@ -104,6 +135,14 @@ module _ (h : Heap) (count : length h.regions ≡ h.geometry.n) (r size refs roo
     roots = set h.roots root (suc (end h r));
     current = cond (big t) h.current (Some r);
   }
+
+-- what the test of sizes says of a heap
+pub humongous_is : (h : Heap) (g : Geometry) (size : ℕ) (b : Bool) → g ≡ h.geometry → ((b ≡ true) ↔ (3 * g.w < 4 * size)) → is_humongous h size ≡ b
+humongous_is h g size true e f = lt-ltb (3 * h.geometry.w) (4 * size) (subst (λ (x : Geometry). 3 * x.w < 4 * size) e (f.0 refl))
+humongous_is h g size false e f = le-ltb (3 * h.geometry.w) (4 * size) (elim (cases_lt (3 * g.w) (4 * size)) [
+  | inl lt ↦ (let clash : false ≡ true = f.1 lt in cc)
+  | inr ge ↦ (let same : g.w ≡ h.geometry.w = ap (λ (x : Geometry). x.w) e in omega (arith, ge, same))
+])
 
 -- ---- what is known of a place that was found
 

@@ -1,5 +1,6 @@
 -- A valid heap is ready for every command.
-use Rattle.std.proofs.Common.{◌≡◌, ℕ, ◌+◌, ◌-◌, ◌*◌, ◌/◌, ◌%◌, ◌<◌, ◌≤◌, inl, inr, Bool, true, false, cond, List, [], ◌∷◌, length, Option, Some, None, Contains, refl, sym, ◌∙◌, ap, subst, arith, leb, ltb-false, leb-true, mod-lt, div-add-mod'}
+use Rattle.std.proofs.Common.{◌≡◌, ℕ, ◌+◌, ◌-◌, ◌*◌, ◌/◌, ◌%◌, ◌<◌, ◌≤◌, inl, inr, Bool, true, false, cond, List, [], ◌∷◌, length, Option, Some, None, Contains, refl, sym, ◌∙◌, ap, subst}
+use Rattle.std.proofs.Common.{arith, leb, ltb-false, leb-true, mod-lt, div-add-mod'}
 use Rattle.std.specs.List.{range_with_len, list_all, find}
 use Rattle.std.proofs.lemmas.Nat.{div-mul-add, le-div}
 use Rattle.std.proofs.Math.Nat.{mul-le-mul_right, add-mul}
@@ -30,7 +31,8 @@ live_object h sound b (child {a = a} r c) =
 pub seen_object : (h : Heap) → IsSound h → (a : ℕ) → Seen (heap_view h) a → Contains (objects h) (object_at h a)
 seen_object h sound a s = live_object h sound a (seen_live h a s)
 
-found_at : {X : Type 0} (p : X → Bool) (x : X) (xs : List X) (r : X) (b : Bool) → p x ≡ b → cond b (Some x) (find p xs) ≡ Some r → (find p xs ≡ Some r → In xs r × (p r ≡ true)) → In (x ∷ xs) r × (p r ≡ true)
+found_at : {X : Type 0} (p : X → Bool) (x : X) (xs : List X) (r : X) (b : Bool) → p x ≡ b → cond b (Some x) (find p xs) ≡ Some r →
+    (find p xs ≡ Some r → In xs r × (p r ≡ true)) → In (x ∷ xs) r × (p r ≡ true)
 found_at {X} p x xs r true e q f = (inl (some_of q), ap p (sym (some_of q)) ∙ e)
   where
     some_of : Some x ≡ Some r → x ≡ r
@@ -80,7 +82,8 @@ module _ (h : Heap) (valid : IsBuilt h) where
   }
 
   -- a word above its region's top is 0, and no object's
-  above_top : (r x q : ℕ) → r < h.geometry.n → top h r ≤ x → x < h.geometry.w → q ≡ r * h.geometry.w + x → (word h q ≡ 0) × ((b : ℕ) → Seen (heap_view h) b → CoversWord h b q → ⊥) × ((o : Object) → Contains (objects h) o → o.at ≤ q → q < o.at + o.size → ⊥)
+  above_top : (r x q : ℕ) → r < h.geometry.n → top h r ≤ x → x < h.geometry.w → q ≡ r * h.geometry.w + x →
+      (word h q ≡ 0) × ((b : ℕ) → Seen (heap_view h) b → CoversWord h b q → ⊥) × ((o : Object) → Contains (objects h) o → o.at ≤ q → q < o.at + o.size → ⊥)
   above_top r x q lt le small e = (
     ap (word h) e ∙ valid.zero_above r x lt le small,
     λ b s c.
@@ -118,8 +121,11 @@ module _ (h : Heap) (valid : IsBuilt h) where
 
   pub free_run : (m r : ℕ) → is_free_run h m r ≡ true → (r + m ≤ h.geometry.n) × ((c : ℕ) → c < m → kind h (r + c) ≡ Free)
   free_run m r e =
-      let both = and_true (leb (r + m) h.geometry.n) (list_all (λ q. is_free (kind h q)) (range_with_len r m)) e in
-      (leb-true (r + m) h.geometry.n both.0, λ c lt. free_by_test (kind h (r + c)) (each_passes (λ q. is_free (kind h q)) (range_with_len r m) both.1 (r + c) (In-range r m (r + c) (omega arith) (omega (arith, lt)))))
+      let both = and_true (leb (r + m) h.geometry.n) (list_all (λ q. is_free (kind h q)) (range_with_len r m)) e in (
+        leb-true (r + m) h.geometry.n both.0,
+        λ c lt. free_by_test (kind h (r + c))
+            (each_passes (λ q. is_free (kind h q)) (range_with_len r m) both.1 (r + c) (In-range r m (r + c) (omega arith) (omega (arith, lt)))),
+      )
 
   -- a run of free regions
   unused_run : (r size : ℕ) → is_free_run h (run_length h size) r ≡ true → 0 < size → IsUnused h (r * h.geometry.w + top h r) size
@@ -133,7 +139,8 @@ module _ (h : Heap) (valid : IsBuilt h) where
       let s : (r + run_length h size) * h.geometry.w ≤ h.geometry.n * h.geometry.w = mul-le-mul_right h.geometry.w run.0 in
       let t : (r + run_length h size) * h.geometry.w ≡ r * h.geometry.w + run_length h size * h.geometry.w = add-mul r (run_length h size) h.geometry.w in
       let n : length h.words ≡ h.geometry.n * h.geometry.w = valid.word_count in
-      let above : (q : ℕ) → r * h.geometry.w + top h r ≤ q → q < r * h.geometry.w + top h r + size → (word h q ≡ 0) × ((b : ℕ) → Seen (heap_view h) b → CoversWord h b q → ⊥) × ((o : Object) → Contains (objects h) o → o.at ≤ q → q < o.at + o.size → ⊥) = λ q low high.
+      let above : (q : ℕ) → r * h.geometry.w + top h r ≤ q → q < r * h.geometry.w + top h r + size →
+      (word h q ≡ 0) × ((b : ℕ) → Seen (heap_view h) b → CoversWord h b q → ⊥) × ((o : Object) → Contains (objects h) o → o.at ≤ q → q < o.at + o.size → ⊥) = λ q low high.
       let y : ℕ = q - r * h.geometry.w in
       let c : ℕ = y / h.geometry.w in
       let dy : c * h.geometry.w + y % h.geometry.w ≡ y = div-add-mod' y h.geometry.w in

@@ -1,6 +1,8 @@
 -- One command on an image is one command on the plain store.
-use Rattle.std.proofs.Common.{◌≡◌, ℕ, ◌+◌, ◌*◌, ◌^◌, ◌<◌, ◌≤◌, ◌⊎◌, inl, inr, Bool, true, false, cond, [], ◌∷◌, ◌++◌, length, set, replicate, Some, None, Ok, Contains, refl, sym, ◌∙◌, ap, subst, arith, ltb, ltb-false}
+use Rattle.std.proofs.Common.{◌≡◌, ℕ, ◌+◌, ◌*◌, ◌^◌, ◌<◌, ◌≤◌, ◌⊎◌, inl, inr, Bool, true, false, cond, [], ◌∷◌, ◌++◌, length, set, replicate, Some, None, Ok, Contains, refl, sym, ◌∙◌, ap}
+use Rattle.std.proofs.Common.{subst, arith, ltb, ltb-false}
 use Rattle.std.proofs.lemmas.List.{length-map, length-set, length-append}
+use Rattle.g1_words.specs.Geometry.{most_words}
 use Rattle.g1_words.specs.Heap.{Heap, top, object_at}
 use Rattle.g1_words.proofs.Members.{Contains-from_in}
 use Rattle.g1_words.proofs.Shapes.{built}
@@ -46,17 +48,23 @@ module _ (cost : Cost) (s : Store) (i j : Image) (tracked : IsTracked i) (shows 
       let t : Store = store_after s (SetRoot r x) in
       record {
         numbered = λ m h. shows.numbered m (root_set_seen (store_view s) (store_view t) r x w (store_root s shows.numbered r x) m h);
-        view = root_set_same (store_view s) (heap_view i.heap) (store_view t) (heap_view (record (i.heap) { roots = set i.heap.roots r (renamed shows.view.rename x) })) r x shows.view w (store_root s shows.numbered r x) (image_root i.heap r (renamed shows.view.rename x));
+        view = root_set_same (store_view s) (heap_view i.heap) (store_view t) (heap_view
+            (record (i.heap) { roots = set i.heap.roots r (renamed shows.view.rename x) })) r x shows.view w (store_root s shows.numbered r x) (image_root i.heap r (renamed shows.view.rename x));
       }
 
   slot_kept : (m k x : ℕ) → Seen (store_view s) m → k < length ((store_view s).slots m) → SeenWord (store_view s) x
       → Shows (store_after s (SetSlot m k x)) (record (i.heap) { words = set i.heap.words (shows.view.rename m + 1 + k) (renamed shows.view.rename x) })
   slot_kept m k x sm lt w =
       let t : Store = store_after s (SetSlot m k x) in
-      let here : k < length ((heap_view i.heap).slots (shows.view.rename m)) = subst (λ n. k < n) (sym (ap length (shows.view.slots m sm) ∙ length-map ((store_view s).slots m) (renamed shows.view.rename))) lt in
+      let here : k < length ((heap_view i.heap).slots (shows.view.rename m)) =
+      subst (λ n. k < n) (sym (ap length (shows.view.slots m sm) ∙ length-map ((store_view s).slots m) (renamed shows.view.rename))) lt in
       record {
-        numbered = λ b h. subst (λ n. b < n) (sym (length-set s.entries m (record { slots = set (entry s m).slots k x; values = (entry s m).values }))) (shows.numbered b (slot_set_seen (store_view s) (store_view t) m k x w (store_slot s shows.numbered m k x sm) b h));
-        view = slot_set_same (store_view s) (heap_view i.heap) (store_view t) (heap_view (record (i.heap) { words = set i.heap.words (shows.view.rename m + 1 + k) (renamed shows.view.rename x) })) m k x shows.view sm w (store_slot s shows.numbered m k x sm)
+        numbered = λ b h. subst (λ n. b < n) (sym (length-set s.entries m (record {
+          slots = set (entry s m).slots k x;
+          values = (entry s m).values;
+        }))) (shows.numbered b (slot_set_seen (store_view s) (store_view t) m k x w (store_slot s shows.numbered m k x sm) b h));
+        view = slot_set_same (store_view s) (heap_view i.heap) (store_view t) (heap_view
+            (record (i.heap) { words = set i.heap.words (shows.view.rename m + 1 + k) (renamed shows.view.rename x) })) m k x shows.view sm w (store_slot s shows.numbered m k x sm)
             (image_slot i.heap ready.laid (shows.view.rename m) (in_image m sm) k (renamed shows.view.rename x) here);
       }
 
@@ -66,8 +74,13 @@ module _ (cost : Cost) (s : Store) (i j : Image) (tracked : IsTracked i) (shows 
       let t : Store = store_after s (SetValue m k x) in
       let here : k < length ((heap_view i.heap).values (shows.view.rename m)) = subst (λ n. k < n) (sym (ap length (shows.view.values m sm))) lt in
       record {
-        numbered = λ b h. subst (λ n. b < n) (sym (length-set s.entries m (record { slots = (entry s m).slots; values = set (entry s m).values k x }))) (shows.numbered b (value_set_seen (store_view s) (store_view t) m k x (store_value s shows.numbered m k x sm) b h));
-        view = value_set_same (store_view s) (heap_view i.heap) (store_view t) (heap_view (record (i.heap) { words = set i.heap.words (shows.view.rename m + 1 + (object_at i.heap (shows.view.rename m)).refs + k) x })) m k x shows.view sm (store_value s shows.numbered m k x sm)
+        numbered = λ b h. subst (λ n. b < n) (sym (length-set s.entries m (record {
+          slots = (entry s m).slots;
+          values = set (entry s m).values k x;
+        }))) (shows.numbered b (value_set_seen (store_view s) (store_view t) m k x (store_value s shows.numbered m k x sm) b h));
+        view = value_set_same (store_view s) (heap_view i.heap) (store_view t)
+            (heap_view (record (i.heap) { words = set i.heap.words (shows.view.rename m + 1 + (object_at i.heap (shows.view.rename m)).refs + k) x }))
+            m k x shows.view sm (store_value s shows.numbered m k x sm)
             (image_value i.heap ready.laid (shows.view.rename m) (in_image m sm) k x here);
       }
 
@@ -77,7 +90,7 @@ module _ (cost : Cost) (s : Store) (i j : Image) (tracked : IsTracked i) (shows 
       let t : Store = store_after s (MakeNew root refs count) in
       let h : Heap = i.heap in
       let a : ℕ = r * h.geometry.w + top h r in
-      let small : refs < 2 ^ 32 = let x : h.geometry.n * h.geometry.w ≤ 2 ^ 24 = ready.small in omega (arith, x, fits) in
+      let small : refs < 2 ^ 32 = let x : h.geometry.n * h.geometry.w ≤ most_words = ready.small in omega (arith, x, fits) in
       let made = image_made h (heap_with h r (1 + refs + count) refs root) ready.laid a refs count root (ready.places (1 + refs + count) r (omega arith) fits place) small refl refl in
       let new = store_made s shows.numbered root refs count in
       let e : Entry = record { slots = replicate refs 0; values = replicate count 0 } in
@@ -114,7 +127,11 @@ module _ (cost : Cost) (s : Store) (i j : Image) (tracked : IsTracked i) (shows 
   effect_kept (SetValue m k x) told reply fits (q, e) = inl (q, subst (λ (y : Image). Shows (store_after s (SetValue m k x)) y.heap) (sym e) (value_kept m k x fits.0 fits.1))
   effect_kept (MakeNew root refs count) told reply fits (inl (p, q, e)) = inr (Contains-from_in (Full ∷ []) reply (inl (sym q)), unchanged s shows e)
   effect_kept (MakeNew root refs count) told reply fits (inr (r, p, q, e)) =
-      inl (q, subst (λ (y : Image). Shows (store_after s (MakeNew root refs count)) y.heap) (sym e) (place_found root refs count r (ltb (i.heap.geometry.n * i.heap.geometry.w) (1 + refs + count)) refl p))
+      inl (
+        q,
+        subst (λ (y : Image). Shows (store_after s (MakeNew root refs count)) y.heap) (sym e)
+            (place_found root refs count r (ltb (i.heap.geometry.n * i.heap.geometry.w) (1 + refs + count)) refl p),
+      )
   effect_kept (MakePause b) told reply fits (inl (made, q)) = inl (q, pause_kept b made)
   effect_kept (MakePause b) told reply fits (inr (fault, refused, q, e)) = inr (Contains-from_in (Room ∷ []) reply (inl (sym q)), unchanged s shows e)
 
@@ -122,7 +139,8 @@ module _ (cost : Cost) (s : Store) (i j : Image) (tracked : IsTracked i) (shows 
   unfolding Kept
   step_kept c reply st =
       let a : Answer = answer_of (store_view s) c in
-      let told : IsEffect cost i (renamed_effect shows.view.rename a.effect) a.reply reply j = subst (λ (x : Answer). IsEffect cost i x.effect x.reply reply j) (answers_agree (store_view s) (heap_view i.heap) shows.view c) st in
+      let told : IsEffect cost i (renamed_effect shows.view.rename a.effect) a.reply reply j =
+      subst (λ (x : Answer). IsEffect cost i x.effect x.reply reply j) (answers_agree (store_view s) (heap_view i.heap) shows.view c) st in
       elim (effect_kept a.effect a.reply reply (answer_fits (store_view s) c) told) [
         | inl x ↦ (store_after s a.effect, inl (x.0, refl), x.1)
         | inr x ↦ (s, inr (x.0, refl), x.1)

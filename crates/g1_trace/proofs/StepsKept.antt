@@ -1,9 +1,10 @@
 -- Every command keeps a tracked image, and whole traces reply as the plain store does.
-use Rattle.std.proofs.Common.{◌≡◌, ◌≢◌, ℕ, zero, suc, ◌+◌, ◌-◌, ◌*◌, ◌^◌, ◌<◌, ◌≤◌, inl, inr, Bool, true, false, cond, List, [], length, get_or, replicate, flat_map, refl, sym, ap, subst, arith, ltb, lit<, ◌∙◌}
+use Rattle.std.proofs.Common.{◌≡◌, ◌≢◌, ℕ, zero, suc, ◌+◌, ◌-◌, ◌*◌, ◌^◌, ◌<◌, ◌≤◌, inl, inr, Bool, true, false, cond, List, [], length, get_or, replicate, flat_map, refl, sym, ap, subst}
+use Rattle.std.proofs.Common.{arith, ltb, lit<, ◌∙◌}
 use Rattle.std.specs.Prelude.{⊤, Some, None}
 use Rattle.std.proofs.lemmas.List.{length-replicate}
 use Rattle.std.proofs.lemmas.List.FromFn.{length-map-range_with_len}
-use Rattle.g1_words.specs.Geometry.{Geometry, IsWithinLimits}
+use Rattle.g1_words.specs.Geometry.{Geometry, IsWithinLimits, most_roots}
 use Rattle.g1_words.specs.declared.object.Object.{Object}
 use Rattle.g1_words.specs.declared.region.Region.{Region}
 use Rattle.g1_words.specs.Heap.{Heap, free_region, region, word, regions, objects_by, objects_in, objects, object_at, slots}
@@ -59,16 +60,23 @@ module _ (v : View) (P : Effect → Type 0) (nothing : P Nothing) where
 answer_writes : (v : View) (c : Command) → WritesWord c → EffectWritesWord (answer_of v c).effect
 unfolding EffectWritesWord
 answer_writes v (New r refs words) m = behind_range v EffectWritesWord tt r (answer reply.Ok (MakeNew r refs words)) tt
-answer_writes v (Get r q p) m = behind_range v EffectWritesWord tt r _ (behind_range v EffectWritesWord tt q _ (behind_null v EffectWritesWord tt (get_or v.roots q 0) _ (λ a. behind_within v EffectWritesWord tt p (v.slots a) (answer reply.Ok (SetRoot r (get_or (v.slots a) p 0))) tt)))
-answer_writes v (Put r p q) m = behind_range v EffectWritesWord tt r _ (behind_range v EffectWritesWord tt q _ (behind_null v EffectWritesWord tt (get_or v.roots r 0) _ (λ a. behind_within v EffectWritesWord tt p (v.slots a) (answer reply.Ok (SetSlot a p (get_or v.roots q 0))) tt)))
-answer_writes v (Set r p x) m = behind_range v EffectWritesWord tt r _ (behind_null v EffectWritesWord tt (get_or v.roots r 0) _ (λ a. behind_within v EffectWritesWord tt p (v.values a) (answer reply.Ok (SetValue a p x)) m))
-answer_writes v (Say r p) m = behind_range v EffectWritesWord tt r _ (behind_null v EffectWritesWord tt (get_or v.roots r 0) _ (λ a. behind_within v EffectWritesWord tt p (v.values a) (answer (reply.Number (get_or (v.values a) p 0)) Nothing) tt))
+answer_writes v (Get r q p) m = behind_range v EffectWritesWord tt r _
+    (behind_range v EffectWritesWord tt q _ (behind_null v EffectWritesWord tt (get_or v.roots q 0) _
+    (λ a. behind_within v EffectWritesWord tt p (v.slots a) (answer reply.Ok (SetRoot r (get_or (v.slots a) p 0))) tt)))
+answer_writes v (Put r p q) m = behind_range v EffectWritesWord tt r _
+    (behind_range v EffectWritesWord tt q _ (behind_null v EffectWritesWord tt (get_or v.roots r 0) _
+    (λ a. behind_within v EffectWritesWord tt p (v.slots a) (answer reply.Ok (SetSlot a p (get_or v.roots q 0))) tt)))
+answer_writes v (Set r p x) m = behind_range v EffectWritesWord tt r _
+    (behind_null v EffectWritesWord tt (get_or v.roots r 0) _ (λ a. behind_within v EffectWritesWord tt p (v.values a) (answer reply.Ok (SetValue a p x)) m))
+answer_writes v (Say r p) m = behind_range v EffectWritesWord tt r _ (behind_null v EffectWritesWord tt (get_or v.roots r 0) _
+    (λ a. behind_within v EffectWritesWord tt p (v.values a) (answer (reply.Number (get_or (v.values a) p 0)) Nothing) tt))
 answer_writes v (Same r q) m = behind_range v EffectWritesWord tt r _ (behind_range v EffectWritesWord tt q _ tt)
 answer_writes v (Copy r q) m = behind_range v EffectWritesWord tt r _ (behind_range v EffectWritesWord tt q (answer reply.Ok (SetRoot r (get_or v.roots q 0))) tt)
 answer_writes v (Drop r) m = behind_range v EffectWritesWord tt r (answer reply.Ok (SetRoot r 0)) tt
 answer_writes v (Pause b) m = tt
 
-effect_tracked : (cost : Cost) (i : Image) (e : Effect) (told reply : Reply) (j : Image) → IsTracked i → EffectFits (heap_view i.heap) e → EffectWritesWord e → IsEffect cost i e told reply j → IsTracked j
+effect_tracked : (cost : Cost) (i : Image) (e : Effect) (told reply : Reply) (j : Image) → IsTracked i → EffectFits (heap_view i.heap) e →
+    EffectWritesWord e → IsEffect cost i e told reply j → IsTracked j
 unfolding EffectWritesWord
 effect_tracked cost i Nothing told reply j tr fits w (q, e) = subst IsTracked (sym e) tr
 effect_tracked cost i (SetRoot r x) told reply j tr fits w (q, e) = subst IsTracked (sym e) (root_tracked i tr r x fits.1)
@@ -96,7 +104,7 @@ zeros_get zero r x = refl
 zeros_get (suc n) zero x = refl
 zeros_get (suc n) (suc r) x = zeros_get n r x
 
-module _ (g : Geometry) (roots : ℕ) (limits : IsWithinLimits g.w g.k g.n) (few : roots ≤ 65536) where
+module _ (g : Geometry) (roots : ℕ) (limits : IsWithinLimits g.w g.k g.n) (few : roots ≤ most_roots) where
   all_free : (r : ℕ) → region (empty_image g roots).heap r ≡ free_region
   all_free r = zeros_get g.n r free_region
 
@@ -115,7 +123,7 @@ module _ (g : Geometry) (roots : ℕ) (limits : IsWithinLimits g.w g.k g.n) (few
     word_count = length-replicate (g.n * g.w) 0;
     word_fits = λ a. subst (λ x. x < 2 ^ 64) (sym (zeros_get (g.n * g.w) a 0)) (lit< tt);
     region_count = length-replicate g.n free_region;
-    root_count = subst (λ x. x ≤ 65536) (sym (length-replicate roots 0)) few;
+    root_count = subst (λ x. x ≤ most_roots) (sym (length-replicate roots 0)) few;
     shaped = λ r lt. subst (λ (q : Region). IsBuiltBy (empty_image g roots).heap r q.kind) (sym (all_free r)) (ap (λ (q : Region). q.top) (all_free r));
     pins = λ r lt t. absurd (let clash : false ≡ true = sym (ap (λ (q : Region). q.pinned) (all_free r)) ∙ t in cc);
     zero_above = λ r m lt le small. zeros_get (g.n * g.w) (r * g.w + m) 0;

@@ -1,6 +1,10 @@
 -- The table of regions as the regions of a run are taken one after another.
-use Rattle.std.proofs.Common.{◌≡◌, ◌≢◌, ℕ, suc, ◌+◌, ◌-◌, ◌*◌, ◌/◌, ◌%◌, ◌<◌, ◌≤◌, inl, inr, Bool, true, false, cond, ◌&&◌, List, [], ◌∷◌, length, get_or, set, min, refl, sym, ◌∙◌, ap, arith, eqb, ltb, leb, lt-ltb, le-ltb, le-leb, ltb-true, leb-true, eq-eqb, div-add-mod'}
+use Rattle.std.proofs.Common.{◌≡◌, ◌≢◌, ℕ, suc, ◌+◌, ◌-◌, ◌*◌, ◌/◌, ◌%◌, ◌<◌, ◌≤◌, inl, inr, Bool, true, false, cond, ◌&&◌, List, [], ◌∷◌, length, get_or, set, min, refl, sym, ◌∙◌, ap}
+use Rattle.std.proofs.Common.{arith, eqb, ltb, leb, lt-ltb, le-ltb, le-leb, ltb-true, leb-true, eq-eqb, div-add-mod'}
+use Rattle.std.specs.Int.{div_ceil}
 use Rattle.std.proofs.lemmas.Bool.{cases_lt}
+use Rattle.std.proofs.lemmas.Grind.{div_ceil_times}
+use Rattle.std.proofs.lemmas.Nat.{div-mul-add}
 use Rattle.std.proofs.lemmas.List.{length-set, get_or-set_same, get_or-set_other}
 use Rattle.std.proofs.lemmas.List.FromFn.{get_or-map-range_with_len, length-map-range_with_len}
 use Rattle.std.proofs.Math.Nat.{mul-le-mul_right, add-mul}
@@ -36,13 +40,21 @@ below_size w size i p l =
     let le : (i + 1) * w ≤ (size + (w - 1)) / w * w = mul-le-mul_right w (omega (arith, l)) in
     omega (arith, s, d, le, p)
 
+-- the two ways to round up
+pub rounded_up : (w size : ℕ) → 0 < w → div_ceil size w ≡ (size + (w - 1)) / w
+rounded_up w size p =
+    let k : (size ≤ div_ceil size w * w) × (div_ceil size w * w < size + w) = div_ceil_times size w p in
+    let row : size + (w - 1) ≡ div_ceil size w * w + (size + (w - 1) - div_ceil size w * w) = omega (arith, k.0, k.1, p) in
+    sym (ap (λ x. x / w) row ∙ div-mul-add (div_ceil size w) w (size + (w - 1) - div_ceil size w * w) (omega (arith, k.0, k.1, p)))
+
 module _ (w : ℕ) (regions : List Region) (r size : ℕ) where
   in_first : ℕ → ℕ → Bool
   in_first m q = leb r q && ltb q (r + m)
 
   at_taken : (m q : ℕ) → q < length regions
       → get_or (run_taken w regions r size m) q free_region ≡ cond (leb r q && ltb q (r + m)) (run_region (table_heap w regions) r size q) (get_or regions q free_region)
-  at_taken m q lt = get_or-map-range_with_len (λ q. cond (leb r q && ltb q (r + m)) (run_region (table_heap w regions) r size q) (get_or regions q free_region)) 0 (length regions) q q free_region lt (omega arith)
+  at_taken m q lt = get_or-map-range_with_len (λ q. cond (leb r q && ltb q (r + m)) (run_region (table_heap w regions) r size q)
+      (get_or regions q free_region)) 0 (length regions) q q free_region lt (omega arith)
 
   taken_size : (m : ℕ) → length (run_taken w regions r size m) ≡ length regions
   taken_size m = length-map-range_with_len (λ q. cond (leb r q && ltb q (r + m)) (run_region (table_heap w regions) r size q) (get_or regions q free_region)) 0 (length regions)
@@ -56,7 +68,8 @@ module _ (w : ℕ) (regions : List Region) (r size : ℕ) where
 
   -- nothing is taken yet
   pub none_taken : regions ≡ run_taken w regions r size 0
-  none_taken = same_list free_region regions (run_taken w regions r size 0) (sym (taken_size 0)) (λ q lt. sym (at_taken 0 q lt ∙ ap (λ b. cond b (run_region (table_heap w regions) r size q) (get_or regions q free_region)) (not_first q)))
+  none_taken = same_list free_region regions (run_taken w regions r size 0) (sym (taken_size 0))
+      (λ q lt. sym (at_taken 0 q lt ∙ ap (λ b. cond b (run_region (table_heap w regions) r size q) (get_or regions q free_region)) (not_first q)))
 
   others_same : (i q : ℕ) → q ≢ r + i → (leb r q && ltb q (r + (i + 1))) ≡ (leb r q && ltb q (r + i))
   others_same i q n = ap (λ b. leb r q && b) (same_bool (ltb q (r + (i + 1))) (ltb q (r + i))
@@ -68,7 +81,8 @@ module _ (w : ℕ) (regions : List Region) (r size : ℕ) where
       → x ≡ region_with (cond (eqb i 0) HumongousFirst Continuation) (min w (size - i * w)) → set table (r + i) x ≡ run_taken w regions r size (i + 1)
   one_taken i table x lt e is =
       ap (λ xs. set xs (r + i) x) e
-      ∙ same_list free_region (set (run_taken w regions r size i) (r + i) x) (run_taken w regions r size (i + 1)) (length-set (run_taken w regions r size i) (r + i) x ∙ taken_size i ∙ sym (taken_size (i + 1)))
+      ∙ same_list free_region (set (run_taken w regions r size i) (r + i) x) (run_taken w regions r size (i + 1))
+      (length-set (run_taken w regions r size i) (r + i) x ∙ taken_size i ∙ sym (taken_size (i + 1)))
       (λ q l. let small : q < length regions = (let a = length-set (run_taken w regions r size i) (r + i) x in let b = taken_size i in omega (arith, l, a, b)) in
       elim (equal_or_not q (r + i)) [
         | inl n ↦ get_or-set_other (run_taken w regions r size i) (r + i) q x free_region n ∙ at_taken i q small

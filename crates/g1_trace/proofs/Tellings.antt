@@ -27,9 +27,11 @@ abbrev pub Arrives : {S : Type 0} → (S → Command → Reply → S → Type 0)
 Arrives step start commands replies here = (cs : List Command) (rs : List Reply) → Replies step here cs rs → Replies step start (commands ++ cs) (replies ++ rs)
 
 module _ {S : Type 0} (step : S → Command → Reply → S → Type 0) (start : S) where
-  arrives_on : (commands : List Command) (replies : List Reply) (here t : S) (c : Command) (r : Reply) → Arrives step start commands replies here → step here c r t → Arrives step start (commands ++ c ∷ []) (replies ++ r ∷ []) t
+  arrives_on : (commands : List Command) (replies : List Reply) (here t : S) (c : Command) (r : Reply) → Arrives step start commands replies here →
+      step here c r t → Arrives step start (commands ++ c ∷ []) (replies ++ r ∷ []) t
   arrives_on commands replies here t c r f st = λ cs rs m.
-      subst (λ xs. Replies step start xs ((replies ++ r ∷ []) ++ rs)) (sym (append-one commands cs c)) (subst (λ xs. Replies step start (commands ++ (c ∷ cs)) xs) (sym (append-one replies rs r)) (f (c ∷ cs) (r ∷ rs) (t, st, m)))
+      subst (λ xs. Replies step start xs ((replies ++ r ∷ []) ++ rs)) (sym (append-one commands cs c))
+      (subst (λ xs. Replies step start (commands ++ (c ∷ cs)) xs) (sym (append-one replies rs r)) (f (c ∷ cs) (r ∷ rs) (t, st, m)))
 
   arrives_end : (commands : List Command) (replies : List Reply) (here : S) → Arrives step start commands replies here → Replies step start commands replies
   arrives_end commands replies here f = subst (λ xs. Replies step start xs replies) (append-nil commands) (subst (λ xs. Replies step start (commands ++ []) xs) (append-nil replies) (f [] [] tt))
@@ -74,7 +76,8 @@ lines_more : (replies : List Reply) (r : Reply) → reply_lines (replies ++ r �
 lines_more replies r = flat_map-append reply_line replies (r ∷ []) ∙ ap (λ xs. reply_lines replies ++ xs) (append-nil (reply_line r))
 
 so_far_on : (cost : Cost) (bytes : List ℕ) (i next : Image) (rest text line left longer : List ℕ) (lines : ℕ) (c : Command) (r : Reply) → IsSoFar cost bytes i rest text lines
-    → rest ≡ line ++ 10 ∷ left → line ≡ command_line c → AllFit (numbers_of c) → IsStep cost i c r next → ((s : Store) → Shows s i.heap → (t : Store) × IsPlainStep s c r t × Shows t next.heap) → longer ≡ text ++ reply_line r
+    → rest ≡ line ++ 10 ∷ left → line ≡ command_line c → AllFit (numbers_of c) → IsStep cost i c r next →
+    ((s : Store) → Shows s i.heap → (t : Store) × IsPlainStep s c r t × Shows t next.heap) → longer ≡ text ++ reply_line r
     → IsSoFar cost bytes next left longer (lines + 1)
 so_far_on cost bytes i next rest text line left longer lines c r so e is fits st shows more =
     let plain = shows so.store so.shows in
@@ -118,7 +121,8 @@ so_far_end cost bytes i rest text lines so e = record {
   told = so.told;
 }
 
-bad_so_far : (cost : Cost) (bytes : List ℕ) (i : Image) (rest text : List ℕ) (lines : ℕ) (so : IsSoFar cost bytes i rest text lines) → IsBadRest (length so.commands + 1) rest → IsFirstBadLine bytes (lines + 1)
+bad_so_far : (cost : Cost) (bytes : List ℕ) (i : Image) (rest text : List ℕ) (lines : ℕ) (so : IsSoFar cost bytes i rest text lines) →
+    IsBadRest (length so.commands + 1) rest → IsFirstBadLine bytes (lines + 1)
 bad_so_far cost bytes i rest text lines so b =
     let count = so.count in
     bad_later bytes so.sizes.w so.sizes.k so.sizes.n so.roots so.commands rest (lines + 1) so.read (omega (arith, count)) b
@@ -143,7 +147,8 @@ text_outside bytes g roots commands b t =
       outside = λ h. b.outside (subst (λ m. IsHeapSize b.sizes m) (sym s.1) (subst (λ (x : Geometry). IsHeapSize x roots) (sym s.0) h));
     }
 
-pub begins : (bytes line rest : List ℕ) (w k n roots : ℕ) → bytes ≡ line ++ 10 ∷ rest → line ≡ heap_line w k n roots → AllFit (w ∷ k ∷ n ∷ roots ∷ []) → BeginsWith bytes (record { w = w; k = k; n = n }) roots rest
+pub begins : (bytes line rest : List ℕ) (w k n roots : ℕ) → bytes ≡ line ++ 10 ∷ rest → line ≡ heap_line w k n roots →
+    AllFit (w ∷ k ∷ n ∷ roots ∷ []) → BeginsWith bytes (record { w = w; k = k; n = n }) roots rest
 begins bytes line rest w k n roots e is fits = record { text = e ∙ ap (λ l. l ++ 10 ∷ rest) is ∙ sym (append_assoc (heap_line w k n roots) (10 ∷ []) rest); first = fits }
 
 -- ---- one text of replies
@@ -152,5 +157,6 @@ pub one_told : OneTold
 one_told cost bytes answer other p q =
     let s = one_trace bytes p.sizes q.sizes p.roots q.roots p.commands q.commands p.text q.text in
     let same : IsRun cost p.sizes p.roots p.commands q.replies =
-    subst (λ (g : Geometry). IsRun cost g p.roots p.commands q.replies) (sym s.0) (subst (λ m. IsRun cost q.sizes m p.commands q.replies) (sym s.1) (subst (λ cs. IsRun cost q.sizes q.roots cs q.replies) (sym s.2) q.run)) in
+    subst (λ (g : Geometry). IsRun cost g p.roots p.commands q.replies) (sym s.0)
+    (subst (λ m. IsRun cost q.sizes m p.commands q.replies) (sym s.1) (subst (λ cs. IsRun cost q.sizes q.roots cs q.replies) (sym s.2) q.run)) in
     p.told ∙ ap reply_lines (one_run cost p.sizes p.roots p.commands p.replies q.replies p.run same) ∙ sym q.told

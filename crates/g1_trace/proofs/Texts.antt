@@ -1,5 +1,6 @@
 -- The lines of a trace that are read so far, and the first bad one.
-use Rattle.std.proofs.Common.{◌≡◌, ◌≢◌, ℕ, suc, ◌+◌, ◌<◌, ◌≤◌, ◌⊎◌, inl, inr, List, [], ◌∷◌, ◌++◌, length, get_or, map, flat_map, Contains, refl, sym, ◌∙◌, ap, subst, arith, append_assoc, length-append}
+use Rattle.std.proofs.Common.{◌≡◌, ◌≢◌, ℕ, suc, ◌+◌, ◌<◌, ◌≤◌, ◌⊎◌, inl, inr, List, [], ◌∷◌, ◌++◌, length, get_or, map, flat_map, Contains, refl, sym, ◌∙◌, ap, subst, arith, append_assoc}
+use Rattle.std.proofs.Common.{length-append}
 use Rattle.std.specs.Prelude.{All}
 use Rattle.std.proofs.lemmas.List.{get_or_default, length-map}
 use Rattle.std.proofs.lemmas.Grind.{flat_map-append}
@@ -27,7 +28,8 @@ no_end xs f (k, lt, e) = f k lt (get_or_default xs k 0 10 lt ∙ e)
 
 all_more : (cs : List Command) (c : Command) → All (λ c. AllFit (numbers_of c)) cs → AllFit (numbers_of c) → All (λ c. AllFit (numbers_of c)) (cs ++ c ∷ [])
 all_more cs c old new k d lt =
-    let m = Contains-from_in (cs ++ c ∷ []) (get_or (cs ++ c ∷ []) k d) (In-from_contains (cs ++ c ∷ []) (get_or (cs ++ c ∷ []) k d) (k, lt, get_or_default (cs ++ c ∷ []) k (get_or (cs ++ c ∷ []) k d) d lt)) in
+    let m = Contains-from_in (cs ++ c ∷ []) (get_or (cs ++ c ∷ []) k d) (In-from_contains (cs ++ c ∷ []) (get_or (cs ++ c ∷ []) k d)
+    (k, lt, get_or_default (cs ++ c ∷ []) k (get_or (cs ++ c ∷ []) k d) d lt)) in
     by (get_or (cs ++ c ∷ []) k d) (In-append_cases cs (c ∷ []) (get_or (cs ++ c ∷ []) k d) (In-from_contains (cs ++ c ∷ []) (get_or (cs ++ c ∷ []) k d) m))
   where
     by : (x : Command) → In cs x ⊎ In (c ∷ []) x → AllFit (numbers_of x)
@@ -35,7 +37,8 @@ all_more cs c old new k d lt =
     by x (inr (inl e)) = subst (λ (y : Command). AllFit (numbers_of y)) e new
     by x (inr (inr e)) = absurd e
 
-pub read_start : (bytes line rest : List ℕ) (w k n roots : ℕ) (cs : List Command) → bytes ≡ line ++ 10 ∷ rest → line ≡ heap_line w k n roots → AllFit (w ∷ k ∷ n ∷ roots ∷ []) → cs ≡ [] → IsRead bytes w k n roots cs rest
+pub read_start : (bytes line rest : List ℕ) (w k n roots : ℕ) (cs : List Command) → bytes ≡ line ++ 10 ∷ rest → line ≡ heap_line w k n roots →
+    AllFit (w ∷ k ∷ n ∷ roots ∷ []) → cs ≡ [] → IsRead bytes w k n roots cs rest
 read_start bytes line rest w k n roots cs e is fits none =
     subst (λ xs. IsRead bytes w k n roots xs rest) (sym none) (record {
       text = e ∙ ap (λ l. l ++ 10 ∷ rest) is ∙ sym (append_assoc (heap_line w k n roots) (10 ∷ []) rest);
@@ -43,11 +46,13 @@ read_start bytes line rest w k n roots cs e is fits none =
       later = λ k d lt. absurd (omega (arith, lt));
     })
 
-pub read_more : (bytes : List ℕ) (w k n roots : ℕ) (cs more : List Command) (rest line left : List ℕ) (c : Command) → IsRead bytes w k n roots cs rest → rest ≡ line ++ 10 ∷ left → line ≡ command_line c → AllFit (numbers_of c) → more ≡ cs ++ c ∷ []
+pub read_more : (bytes : List ℕ) (w k n roots : ℕ) (cs more : List Command) (rest line left : List ℕ) (c : Command) →
+    IsRead bytes w k n roots cs rest → rest ≡ line ++ 10 ∷ left → line ≡ command_line c → AllFit (numbers_of c) → more ≡ cs ++ c ∷ []
     → IsRead bytes w k n roots more left
 read_more bytes w k n roots cs more rest line left c r e is fits longer =
     let one : rest ≡ (command_line c ++ 10 ∷ []) ++ left = e ∙ ap (λ l. l ++ 10 ∷ left) is ∙ sym (append_assoc (command_line c) (10 ∷ []) left) in
-    let lines : lines_of (cs ++ c ∷ []) ≡ lines_of cs ++ (command_line c ++ 10 ∷ []) = flat_map-append (λ c. command_line c ++ 10 ∷ []) cs (c ∷ []) ∙ ap (λ xs. lines_of cs ++ xs) (append_nil (command_line c ++ 10 ∷ [])) in
+    let lines : lines_of (cs ++ c ∷ []) ≡ lines_of cs ++ (command_line c ++ 10 ∷ []) =
+    flat_map-append (λ c. command_line c ++ 10 ∷ []) cs (c ∷ []) ∙ ap (λ xs. lines_of cs ++ xs) (append_nil (command_line c ++ 10 ∷ [])) in
     subst (λ xs. IsRead bytes w k n roots xs left) (sym longer) (record {
       text = r.text ∙ ap (λ xs. (heap_line w k n roots ++ 10 ∷ []) ++ (lines_of cs ++ xs)) one
           ∙ ap (λ xs. (heap_line w k n roots ++ 10 ∷ []) ++ xs) (sym (append_assoc (lines_of cs) (command_line c ++ 10 ∷ []) left) ∙ ap (λ xs. xs ++ left) (sym lines));
@@ -79,7 +84,8 @@ pub later_lines : (m : ℕ) (cs : List Command) → All (λ c. AllFit (numbers_o
 later_lines m [] f = tt
 later_lines m (c ∷ cs) f = ((c, f 0 c (omega arith), refl), later_lines (suc m) cs (λ k d lt. f (suc k) d (omega (arith, lt))))
 
-pub bad_later : (bytes : List ℕ) (w k n roots : ℕ) (cs : List Command) (rest : List ℕ) (number : ℕ) → IsRead bytes w k n roots cs rest → number ≡ length cs + 2 → IsBadRest (length cs + 1) rest → IsFirstBadLine bytes number
+pub bad_later : (bytes : List ℕ) (w k n roots : ℕ) (cs : List Command) (rest : List ℕ) (number : ℕ) → IsRead bytes w k n roots cs rest →
+    number ≡ length cs + 2 → IsBadRest (length cs + 1) rest → IsFirstBadLine bytes number
 bad_later bytes w k n roots cs rest number r e b =
     let size : length (map command_line cs) ≡ length cs = length-map cs command_line in
     let count : length (heap_line w k n roots ∷ map command_line cs) ≡ length cs + 1 = omega (arith, size) in

@@ -1,8 +1,9 @@
 -- What is read of a heap, told as the table of commands tells it.
-use Rattle.std.proofs.Common.{◌≡◌, ◌≢◌, ℕ, suc, ◌+◌, ◌-◌, ◌^◌, ◌<◌, ◌≤◌, inl, inr, cond, List, length, get_or, refl, sym, ◌∙◌, ap, subst, arith, lt-ltb, le-ltb}
+use Rattle.std.proofs.Common.{◌≡◌, ◌≢◌, ℕ, suc, ◌+◌, ◌-◌, ◌^◌, ◌<◌, ◌≤◌, inl, inr, cond, List, Contains, length, get_or, refl, sym, ◌∙◌, ap, subst, arith, lt-ltb, le-ltb}
 use Rattle.std.proofs.lemmas.List.FromFn.{get_or-map-range_with_len, length-map-range_with_len}
+use Rattle.g1_words.specs.Geometry.{most_words}
 use Rattle.g1_words.specs.declared.object.Object.{Object}
-use Rattle.g1_words.specs.Heap.{Heap, word, object_at}
+use Rattle.g1_words.specs.Heap.{Heap, word, object_at, objects}
 use Rattle.g1_words.specs.Valid.{IsReference, IsValid}
 use Rattle.g1_words.proofs.Bounds.{object_within}
 use Rattle.g1_words.proofs.Computed.{has_contains}
@@ -14,9 +15,10 @@ use Rattle.g1_trace.specs.Mutator.{heap_view}
 
 -- what a root names is an object, told by its header
 pub record IsNamed (h : Heap) (a : ℕ) : Type 0 where
+  pub there : Contains (objects h) (object_at h a)
   pub refs : (object_at h a).refs < (object_at h a).size
   pub within : a + (object_at h a).size ≤ length h.words
-  pub small : length h.words ≤ 2 ^ 24
+  pub small : length h.words ≤ most_words
 
 pub root_named : (h : Heap) (r : ℕ) → IsValid h → r < length h.roots → get_or h.roots r 0 ≢ 0 → IsNamed h (get_or h.roots r 0 - 1)
 root_named h r valid lt some = by (get_or h.roots r 0) (valid.roots r 0 lt) some
@@ -31,6 +33,7 @@ root_named h r valid lt some = by (get_or h.roots r 0) (valid.roots r 0 lt) some
         let count = valid.word_count in
         let most = valid.limits.words_most in
         subst (IsNamed h) at (record {
+          there = subst (Contains (objects h)) is (has_contains h o has);
           refs = subst (λ (q : Object). q.refs < q.size) is fits;
           within = subst (λ (q : Object). o.at + q.size ≤ length h.words) is (omega (arith, end, count));
           small = omega (arith, count, most);
@@ -73,7 +76,8 @@ module _ (h : Heap) (r q m : ℕ) (o : Object) (lr : r < length h.roots) (lq : q
       let e : get_or h.roots q 0 ≡ suc o.at = omega (arith, n) in
       let c = slot_count h o.at in
       let f = refs_is in
-      sym (range_yes (heap_view h) r _ lr ∙ range_yes (heap_view h) q _ lq ∙ names (heap_view h) (get_or h.roots q 0) o.at _ e ∙ within_no (heap_view h) m ((heap_view h).slots o.at) _ (omega (arith, c, f, le)))
+      sym (range_yes (heap_view h) r _ lr ∙ range_yes (heap_view h) q _ lq ∙ names (heap_view h) (get_or h.roots q 0) o.at _ e
+      ∙ within_no (heap_view h) m ((heap_view h).slots o.at) _ (omega (arith, c, f, le)))
 
   pub get_done : (x : ℕ) → get_or h.roots q 0 ≡ o.at + 1 → m < o.refs → x ≡ word h (o.at + 1 + m) → answer Ok (SetRoot r x) ≡ answer_of (heap_view h) (Get r q m)
   get_done x n lt w =
@@ -81,14 +85,16 @@ module _ (h : Heap) (r q m : ℕ) (o : Object) (lr : r < length h.roots) (lq : q
       let c = slot_count h o.at in
       let f = refs_is in
       ap (λ y. answer Ok (SetRoot r y)) (w ∙ sym (slot_read h o.at m (omega (arith, f, lt))))
-      ∙ sym (range_yes (heap_view h) r _ lr ∙ range_yes (heap_view h) q _ lq ∙ names (heap_view h) (get_or h.roots q 0) o.at _ e ∙ within_yes (heap_view h) m ((heap_view h).slots o.at) _ (omega (arith, c, f, lt)))
+      ∙ sym (range_yes (heap_view h) r _ lr ∙ range_yes (heap_view h) q _ lq ∙ names (heap_view h) (get_or h.roots q 0) o.at _ e
+      ∙ within_yes (heap_view h) m ((heap_view h).slots o.at) _ (omega (arith, c, f, lt)))
 
   pub put_range : get_or h.roots r 0 ≡ o.at + 1 → o.refs ≤ m → answer Range Nothing ≡ answer_of (heap_view h) (Put r m q)
   put_range n le =
       let e : get_or h.roots r 0 ≡ suc o.at = omega (arith, n) in
       let c = slot_count h o.at in
       let f = refs_is in
-      sym (range_yes (heap_view h) r _ lr ∙ range_yes (heap_view h) q _ lq ∙ names (heap_view h) (get_or h.roots r 0) o.at _ e ∙ within_no (heap_view h) m ((heap_view h).slots o.at) _ (omega (arith, c, f, le)))
+      sym (range_yes (heap_view h) r _ lr ∙ range_yes (heap_view h) q _ lq ∙ names (heap_view h) (get_or h.roots r 0) o.at _ e
+      ∙ within_no (heap_view h) m ((heap_view h).slots o.at) _ (omega (arith, c, f, le)))
 
   pub put_done : (x : ℕ) → get_or h.roots r 0 ≡ o.at + 1 → m < o.refs → x ≡ get_or h.roots q 0 → answer Ok (SetSlot o.at m x) ≡ answer_of (heap_view h) (Put r m q)
   put_done x n lt w =
@@ -96,7 +102,8 @@ module _ (h : Heap) (r q m : ℕ) (o : Object) (lr : r < length h.roots) (lq : q
       let c = slot_count h o.at in
       let f = refs_is in
       ap (λ y. answer Ok (SetSlot o.at m y)) w
-      ∙ sym (range_yes (heap_view h) r _ lr ∙ range_yes (heap_view h) q _ lq ∙ names (heap_view h) (get_or h.roots r 0) o.at _ e ∙ within_yes (heap_view h) m ((heap_view h).slots o.at) _ (omega (arith, c, f, lt)))
+      ∙ sym (range_yes (heap_view h) r _ lr ∙ range_yes (heap_view h) q _ lq ∙ names (heap_view h) (get_or h.roots r 0) o.at _ e
+      ∙ within_yes (heap_view h) m ((heap_view h).slots o.at) _ (omega (arith, c, f, lt)))
 
 -- ---- one root: a data word is read or written
 

@@ -1,5 +1,6 @@
 -- What two views of the same objects answer, and what an effect may rely on.
-use Rattle.std.proofs.Common.{◌≡◌, ℕ, zero, suc, ◌<◌, ◌⊎◌, inl, inr, Bool, true, false, cond, List, [], ◌∷◌, length, get_or, set, replicate, map, flat_map, Contains, refl, sym, ◌∙◌, ap, subst, arith, eqb, eqb-true, eq-eqb, ltb, ltb-true}
+use Rattle.std.proofs.Common.{◌≡◌, ℕ, zero, suc, ◌<◌, ◌⊎◌, inl, inr, Bool, true, false, cond, List, [], ◌∷◌, length, get_or, set, replicate, map, flat_map, Contains, refl, sym, ◌∙◌, ap}
+use Rattle.std.proofs.Common.{subst, arith, eqb, eqb-true, eq-eqb, ltb, ltb-true}
 use Rattle.std.proofs.lemmas.List.{length-map}
 use Rattle.g1_words.specs.References.{named}
 use Rattle.g1_words.specs.Live.{Reached, seed, child}
@@ -102,8 +103,10 @@ module _ (v : View) where
 
   pub answer_fits : (c : Command) → EffectFits v (answer_of v c).effect
   answer_fits (New r refs values) = range r (answer Ok (MakeNew r refs values)) (λ h. h)
-  answer_fits (Get r q i) = range r _ (λ h. range q _ (λ _. fits_not_null (get_or v.roots q 0) _ (root_word v q) (λ a s. inside i (v.slots a) (answer Ok (SetRoot r (get_or (v.slots a) i 0))) (λ _. (h, slot_word v a i s)))))
-  answer_fits (Put r i q) = range r _ (λ h. range q _ (λ _. fits_not_null (get_or v.roots r 0) _ (root_word v r) (λ a s. inside i (v.slots a) (answer Ok (SetSlot a i (get_or v.roots q 0))) (λ k. (s, k, root_word v q)))))
+  answer_fits (Get r q i) = range r _ (λ h. range q _ (λ _. fits_not_null (get_or v.roots q 0) _ (root_word v q)
+      (λ a s. inside i (v.slots a) (answer Ok (SetRoot r (get_or (v.slots a) i 0))) (λ _. (h, slot_word v a i s)))))
+  answer_fits (Put r i q) = range r _ (λ h. range q _ (λ _. fits_not_null (get_or v.roots r 0) _ (root_word v r)
+      (λ a s. inside i (v.slots a) (answer Ok (SetSlot a i (get_or v.roots q 0))) (λ k. (s, k, root_word v q)))))
   answer_fits (Set r i x) = range r _ (λ h. fits_not_null (get_or v.roots r 0) _ (root_word v r) (λ a s. inside i (v.values a) (answer Ok (SetValue a i x)) (λ k. (s, k))))
   answer_fits (Say r i) = range r _ (λ h. fits_not_null (get_or v.roots r 0) _ (root_word v r) (λ a s. inside i (v.values a) (answer (Number (get_or (v.values a) i 0)) Nothing) (λ k. tt)))
   answer_fits (Same r q) = range r _ (λ h. range q _ (λ _. tt))
@@ -176,7 +179,11 @@ module _ (v u : View) (same : SameView v u) where
   pub both_seen : (a : ℕ) → Seen v a → Seen v a × Seen u (same.rename a)
   both_seen = seen_within v (λ a. Seen v a × Seen u (same.rename a))
       (λ a h. (root_seen v a h, root_seen u (same.rename a) (subst (λ xs. In xs (suc (same.rename a))) (sym same.roots) (in-renamed same.rename v.roots a h))))
-      (λ b a p h. (slot_seen v b a p.0 h, slot_seen u (same.rename b) (same.rename a) p.1 (subst (λ xs. In xs (suc (same.rename a))) (sym (same.slots b p.0)) (in-renamed same.rename (v.slots b) a h))))
+      (λ b a p h. (
+        slot_seen v b a p.0 h,
+        slot_seen u (same.rename b) (same.rename a) p.1
+            (subst (λ xs. In xs (suc (same.rename a))) (sym (same.slots b p.0)) (in-renamed same.rename (v.slots b) a h)),
+      ))
 
   root_same : (r : ℕ) → get_or u.roots r 0 ≡ renamed same.rename (get_or v.roots r 0)
   root_same r = ap (λ xs. get_or xs r 0) same.roots ∙ get_or-renamed same.rename v.roots r
@@ -197,11 +204,13 @@ module _ (v u : View) (same : SameView v u) where
       through true = refl
       through false = refl
 
-  not_null_at : (x : ℕ) (f g : ℕ → Answer) → SeenWord v x → ((a : ℕ) → Seen v a → f (same.rename a) ≡ renamed_answer same.rename (g a)) → not_null u (renamed same.rename x) f ≡ renamed_answer same.rename (not_null v x g)
+  not_null_at : (x : ℕ) (f g : ℕ → Answer) → SeenWord v x → ((a : ℕ) → Seen v a → f (same.rename a) ≡ renamed_answer same.rename (g a)) →
+      not_null u (renamed same.rename x) f ≡ renamed_answer same.rename (not_null v x g)
   not_null_at zero f g s e = refl
   not_null_at (suc a) f g s e = e a s
 
-  object_same : (r : ℕ) (f g : ℕ → Answer) → ((a : ℕ) → Seen v a → f (same.rename a) ≡ renamed_answer same.rename (g a)) → not_null u (get_or u.roots r 0) f ≡ renamed_answer same.rename (not_null v (get_or v.roots r 0) g)
+  object_same : (r : ℕ) (f g : ℕ → Answer) → ((a : ℕ) → Seen v a → f (same.rename a) ≡ renamed_answer same.rename (g a)) →
+      not_null u (get_or u.roots r 0) f ≡ renamed_answer same.rename (not_null v (get_or v.roots r 0) g)
   object_same r f g e = ap (λ x. not_null u x f) (root_same r) ∙ not_null_at (get_or v.roots r 0) f g (root_word v r) e
 
   slot_count : (a : ℕ) → Seen v a → length (u.slots (same.rename a)) ≡ length (v.slots a)
@@ -219,18 +228,22 @@ module _ (v u : View) (same : SameView v u) where
   same_test : (r q : ℕ) → eqb (get_or u.roots r 0) (get_or u.roots q 0) ≡ eqb (get_or v.roots r 0) (get_or v.roots q 0)
   same_test r q =
       (λ t. eqb (root_same r t) (root_same q t))
-      ∙ eqb-renamed same.rename (get_or v.roots r 0) (get_or v.roots q 0) (equal_or_not (get_or v.roots r 0) (get_or v.roots q 0)) (back_at (get_or v.roots r 0) (get_or v.roots q 0) (root_word v r) (root_word v q))
+      ∙ eqb-renamed same.rename (get_or v.roots r 0) (get_or v.roots q 0) (equal_or_not (get_or v.roots r 0) (get_or v.roots q 0))
+      (back_at (get_or v.roots r 0) (get_or v.roots q 0) (root_word v r) (root_word v q))
 
   pub answers_agree : (c : Command) → answer_of u c ≡ renamed_answer same.rename (answer_of v c)
   answers_agree (New r refs values) = in_range_same r (answer Ok (MakeNew r refs values)) (answer Ok (MakeNew r refs values)) refl
   answers_agree (Get r q i) =
-      in_range_same r _ _ (in_range_same q _ _ (object_same q _ _ (λ a s. within_same i (v.slots a) (u.slots (same.rename a)) _ _ (slot_count a s) (ap (λ x. answer Ok (SetRoot r x)) (slot_same a s i)))))
+      in_range_same r _ _ (in_range_same q _ _ (object_same q _ _ (λ a s. within_same i (v.slots a) (u.slots (same.rename a)) _ _ (slot_count a s)
+      (ap (λ x. answer Ok (SetRoot r x)) (slot_same a s i)))))
   answers_agree (Put r i q) =
-      in_range_same r _ _ (in_range_same q _ _ (object_same r _ _ (λ a s. within_same i (v.slots a) (u.slots (same.rename a)) _ _ (slot_count a s) (ap (λ x. answer Ok (SetSlot (same.rename a) i x)) (root_same q)))))
+      in_range_same r _ _ (in_range_same q _ _ (object_same r _ _ (λ a s. within_same i (v.slots a) (u.slots (same.rename a)) _ _ (slot_count a s)
+      (ap (λ x. answer Ok (SetSlot (same.rename a) i x)) (root_same q)))))
   answers_agree (Set r i x) =
       in_range_same r _ _ (object_same r _ _ (λ a s. within_same i (v.values a) (u.values (same.rename a)) _ _ (ap length (same.values a s)) refl))
   answers_agree (Say r i) =
-      in_range_same r _ _ (object_same r _ _ (λ a s. within_same i (v.values a) (u.values (same.rename a)) _ _ (ap length (same.values a s)) (ap (λ xs. answer (Number (get_or xs i 0)) Nothing) (same.values a s))))
+      in_range_same r _ _ (object_same r _ _ (λ a s. within_same i (v.values a) (u.values (same.rename a)) _ _ (ap length (same.values a s))
+      (ap (λ xs. answer (Number (get_or xs i 0)) Nothing) (same.values a s))))
   answers_agree (Same r q) = in_range_same r _ _ (in_range_same q _ _ (ap (λ b. answer (Number (cond b 1 0)) Nothing) (same_test r q)))
   answers_agree (Copy r q) = in_range_same r _ _ (in_range_same q _ _ (ap (λ x. answer Ok (SetRoot r x)) (root_same q)))
   answers_agree (Drop r) = in_range_same r (answer Ok (SetRoot r 0)) (answer Ok (SetRoot r 0)) refl

@@ -37,7 +37,8 @@ start_shows g roots =
     }
 
 module _ (cost : Cost) (keeps : StepKeeps) where
-  pub run_shows : (s : Store) (i : Image) (commands : List Command) (replies : List Reply) → AllByRecursion WritesWord commands → IsTracked i → Shows s i.heap → Replies (IsStep cost) i commands replies → Replies IsPlainStep s commands replies
+  pub run_shows : (s : Store) (i : Image) (commands : List Command) (replies : List Reply) → AllByRecursion WritesWord commands → IsTracked i →
+      Shows s i.heap → Replies (IsStep cost) i commands replies → Replies IsPlainStep s commands replies
   run_shows s i [] [] fits tracked shows run = tt
   run_shows s i [] (r ∷ rs) fits tracked shows run = absurd run
   run_shows s i (c ∷ cs) [] fits tracked shows run = absurd run

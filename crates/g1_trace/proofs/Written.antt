@@ -53,7 +53,8 @@ module _ (h : Heap) (valid : IsBuilt h) (a k y : ℕ) (here : Contains (objects 
   not_first r two e =
       let m = home h valid (object_at h a) here in
       let p = w_pos h valid in
-      let start : region_of h (a + k) ≡ r = ap (λ x. x / h.geometry.w) (sym e) ∙ (let z : r * h.geometry.w ≡ r * h.geometry.w + 0 = omega arith in ap (λ x. x / h.geometry.w) z ∙ div-mul-add r h.geometry.w 0 p) in
+      let start : region_of h (a + k) ≡ r = ap (λ x. x / h.geometry.w) (sym e)
+      ∙ (let z : r * h.geometry.w ≡ r * h.geometry.w + 0 = omega arith in ap (λ x. x / h.geometry.w) z ∙ div-mul-add r h.geometry.w 0 p) in
       elim m.2.2 [
         | inl x ↦
             let o = ordinary_word h valid m.0 (object_at h a) k x high in
@@ -63,7 +64,8 @@ module _ (h : Heap) (valid : IsBuilt h) (a k y : ℕ) (here : Contains (objects 
             let q = x.first.run o.0 o.3 in
             elim (cases_lt 0 o.0) [
               | inl lt ↦ let clash : Continuation ≡ HumongousFirst = sym (q.2 lt) ∙ ap (kind h) (sym o.1 ∙ start) ∙ two in cc
-              | inr ge ↦ let z : r ≡ m.0 = (let s : m.0 + o.0 ≡ r = sym o.1 ∙ start in omega (arith, s, ge)) in let at = x.at in let w : r * h.geometry.w ≡ m.0 * h.geometry.w = ap (λ v. v * h.geometry.w) z in absurd (omega (arith, at, w, e, low))
+              | inr ge ↦ let z : r ≡ m.0 = (let s : m.0 + o.0 ≡ r = sym o.1 ∙ start in omega (arith, s, ge)) in let at = x.at in
+                  let w : r * h.geometry.w ≡ m.0 * h.geometry.w = ap (λ v. v * h.geometry.w) z in absurd (omega (arith, at, w, e, low))
             ]
       ]
 
@@ -107,7 +109,12 @@ module _ (h : Heap) (valid : IsBuilt h) (a k y : ℕ) (here : Contains (objects 
             let t = map_cases (λ b. record { slot = s.0; target = b }) (named (get_or (set h.words (a + k) y) s.0 0)) e s.2 in
             let len : a + k < length h.words = in_words in
             let wrote : get_or (set h.words (a + k) y) s.0 0 ≡ y = ap (λ z. get_or (set h.words (a + k) y) z 0) q ∙ get_or-set_same h.words (a + k) y 0 len in
-            inr (ap (λ (z : Ref). z.slot) (sym t.2) ∙ q, sym wrote ∙ named_word (get_or (set h.words (a + k) y) s.0 0) t.0 t.1 ∙ ap (λ (z : Ref). suc z.target) t.2, (x.0, x.1, subst (In (slots x.0)) q s.1))
+            inr (
+              ap (λ (z : Ref). z.slot) (sym t.2) ∙ q,
+              sym wrote ∙ named_word (get_or (set h.words (a + k) y) s.0 0) t.0 t.1
+                  ∙ ap (λ (z : Ref). suc z.target) t.2,
+              (x.0, x.1, subst (In (slots x.0)) q s.1),
+            )
       ]
     where
       in_words : a + k < length h.words
@@ -119,7 +126,8 @@ module _ (h : Heap) (valid : IsBuilt h) (a k y : ℕ) (here : Contains (objects 
   module _ (fits : y < 2 ^ 64) (names : (o : Object) → In (objects h) o → In (slots o) (a + k) → (b : ℕ) → y ≡ suc b → Contains (objects h) (object_at h b)) where
     object_kept : (q : ℕ) → Contains (objects h) (object_at h q) → Contains (objects (record h { words = set h.words (a + k) y })) (object_at (record h { words = set h.words (a + k) y }) q)
     object_kept q c =
-        subst (λ (o : Object). Contains (objects (record h { words = set h.words (a + k) y })) o) (sym (same_object q (no_header (object_at h q) c))) (subst (λ os. Contains os (object_at h q)) (sym same_objects) c)
+        subst (λ (o : Object). Contains (objects (record h { words = set h.words (a + k) y })) o) (sym (same_object q (no_header (object_at h q) c)))
+        (subst (λ os. Contains os (object_at h q)) (sym same_objects) c)
 
     pub written_built : IsBuilt (record h { words = set h.words (a + k) y })
     written_built = record {

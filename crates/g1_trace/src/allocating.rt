@@ -8,7 +8,7 @@ ghost use Rattle.g1_trace.specs.Placing.{run_taken, ordinary_heap, humongous_hea
 
 use g1_image::Image;
 use g1_rem::{Tracked, image};
-use g1_words::{Heap, Kind, REFS_RANGE, Region};
+use g1_words::{Geometry, Heap, Kind, Region, header_word};
 
 /// Returns whether a region is free.
 fn is_free(heap: &Heap, r: u32) -> bool
@@ -53,13 +53,13 @@ fn region_for(heap: &Heap, size: u64) -> Option<u32>
     requires fits { size ≤ heap.now.geometry.n * heap.now.geometry.w }
     ensures { result ≡ region_for heap.now size }
 {
-    let region_words = heap.geometry().region_words();
-    if 4 * size > 3 * region_words {
-        return lowest_run(heap, (size + (region_words - 1)) / region_words);
+    let geometry = heap.geometry();
+    if geometry.is_humongous(size) {
+        return lowest_run(heap, geometry.regions_for(size));
     }
     match heap.current() {
         Some(current) => {
-            if u64::from(heap.region(current).top) + size <= region_words {
+            if u64::from(heap.region(current).top) + size <= geometry.region_words() {
                 Some(current)
             } else {
                 lowest_free(heap)
@@ -73,8 +73,7 @@ fn region_for(heap: &Heap, size: u64) -> Option<u32>
 pub(crate) fn place_for(heap: &Heap, refs: u64, words: u64) -> Option<u32>
     ensures { result ≡ place_for heap.now (1 + refs + words) }
 {
-    let geometry = heap.geometry();
-    let total = geometry.regions() * geometry.region_words();
+    let total = heap.geometry().words();
     if refs >= total || words >= total - refs {
         return None;
     }
@@ -110,15 +109,14 @@ fn run_region(region_words: u64, size: u64, i: u64) -> Region
 }
 
 /// Takes the regions of a humongous object's run.
-fn take_run(regions: &mut Vec<Region>, region_words: u64, first: u32, size: u64)
-    requires width { (16 ≤ region_words) × (region_words ≤ most_region_words) }
+fn take_run(regions: &mut Vec<Region>, geometry: &Geometry, first: u32, size: u64)
     requires size { (0 < size) × (size ≤ most_words) }
-    requires there { first + (size + (region_words - 1)) / region_words ≤ length regions.old.items }
+    requires there { first + (size + (geometry.now.w - 1)) / geometry.now.w ≤ length regions.old.items }
     requires few { length regions.old.items ≤ most_regions }
-    ensures { regions.new.items ≡ run_taken region_words regions.old.items first size ((size + (region_words - 1)) / region_words) }
+    ensures { regions.new.items ≡ run_taken geometry.now.w regions.old.items first size ((size + (geometry.now.w - 1)) / geometry.now.w) }
 {
-    let count = (size + (region_words - 1)) / region_words;
-    for i in 0..count {
+    let region_words = geometry.region_words();
+    for i in 0..geometry.regions_for(size) {
         regions[first as usize + i as usize] = run_region(region_words, size, i);
     }
 }
@@ -149,8 +147,8 @@ fn place_ordinary(tracked: Tracked, r: u32, root: u64, size: u64, refs: u64) -> 
         ..
     } = heap;
     let Region { top, pinned, .. } = regions[r as usize];
-    let at = u64::from(r) * geometry.region_words() + u64::from(top);
-    words[at as usize] = size * REFS_RANGE + refs;
+    let at = geometry.start(r) + u64::from(top);
+    words[at as usize] = header_word(size, refs);
     roots[root as usize] = at + 1;
     regions[r as usize] = Region {
         kind: Kind::Ordinary,
@@ -199,11 +197,10 @@ fn place_humongous(tracked: Tracked, r: u32, root: u64, size: u64, refs: u64) ->
         mut roots,
         current,
     } = heap;
-    let region_words = geometry.region_words();
-    let at = u64::from(r) * region_words;
-    words[at as usize] = size * REFS_RANGE + refs;
+    let at = geometry.start(r);
+    words[at as usize] = header_word(size, refs);
     roots[root as usize] = at + 1;
-    take_run(&mut regions, region_words, r, size);
+    take_run(&mut regions, &geometry, r, size);
     let heap = Heap {
         geometry,
         words,
@@ -229,9 +226,9 @@ pub(crate) fn place_object(tracked: Tracked, r: u32, root: u64, refs: u64, words
     requires kept { IsTracked (with_heap tracked (heap_with tracked.heap r (1 + refs + words) refs root)) }
     ensures { result ≡ with_heap tracked (heap_with tracked.heap r (1 + refs + words) refs root) }
 {
-    let region_words = image(&tracked).heap().geometry().region_words();
+    let geometry = image(&tracked).heap().geometry();
     let size = 1 + refs + words;
-    if 4 * size > 3 * region_words {
+    if geometry.is_humongous(size) {
         place_humongous(tracked, r, root, size, refs)
     } else {
         place_ordinary(tracked, r, root, size, refs)

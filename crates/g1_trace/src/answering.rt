@@ -6,10 +6,10 @@ ghost use Rattle.g1_trace.specs.Mutator.{heap_view};
 
 use crate::command::{Command, Reply};
 use crate::effect::{Answer, Effect};
-use g1_words::{Heap, Object, REFS_RANGE};
+use g1_words::{Heap, Object};
 
 /// A refusal by one of the checks: nothing is done.
-fn refused(reply: Reply) -> Answer
+fn refuse(reply: Reply) -> Answer
     ensures { result ≡ record { reply = reply; effect = Effect.Nothing } }
 {
     Answer {
@@ -38,18 +38,12 @@ fn object_of(heap: &Heap, root: u64) -> Option<Object>
     ensures small { length heap.now.words ≤ most_words }
     ensures null { IfNone result (slice_index heap.now.roots root ≡ 0) }
 {
-    let _geometry = heap.geometry();
+    g1_words::laws::valid(heap);
     let value = heap.roots()[root as usize];
     if value == 0 {
         return None;
     }
-    let at = value - 1;
-    let header = heap.words()[at as usize];
-    Some(Object {
-        at,
-        size: header / REFS_RANGE,
-        refs: header % REFS_RANGE,
-    })
+    Some(heap.object(value - 1))
 }
 
 fn answer_get(heap: &Heap, root: u64, from: u64, slot: u64) -> Answer
@@ -57,16 +51,16 @@ fn answer_get(heap: &Heap, root: u64, from: u64, slot: u64) -> Answer
 {
     let count = heap.roots().len() as u64;
     if root >= count {
-        return refused(Reply::Range);
+        return refuse(Reply::Range);
     }
     if from >= count {
-        return refused(Reply::Range);
+        return refuse(Reply::Range);
     }
     match object_of(heap, from) {
-        None => refused(Reply::Null),
+        None => refuse(Reply::Null),
         Some(source) => {
             if slot >= source.refs {
-                return refused(Reply::Range);
+                return refuse(Reply::Range);
             }
             let value = heap.words()[(source.at + 1 + slot) as usize];
             done(Effect::SetRoot { root, value })
@@ -79,16 +73,16 @@ fn answer_put(heap: &Heap, root: u64, slot: u64, from: u64) -> Answer
 {
     let count = heap.roots().len() as u64;
     if root >= count {
-        return refused(Reply::Range);
+        return refuse(Reply::Range);
     }
     if from >= count {
-        return refused(Reply::Range);
+        return refuse(Reply::Range);
     }
     match object_of(heap, root) {
-        None => refused(Reply::Null),
+        None => refuse(Reply::Null),
         Some(target) => {
             if slot >= target.refs {
-                return refused(Reply::Range);
+                return refuse(Reply::Range);
             }
             let value = heap.roots()[from as usize];
             done(Effect::SetSlot {
@@ -104,17 +98,17 @@ fn answer_set(heap: &Heap, root: u64, word: u64, value: u64) -> Answer
     ensures { result ≡ answer_of (heap_view heap.now) (Command.Set root word value) }
 {
     if root >= heap.roots().len() as u64 {
-        return refused(Reply::Range);
+        return refuse(Reply::Range);
     }
     match object_of(heap, root) {
-        None => refused(Reply::Null),
+        None => refuse(Reply::Null),
         Some(object) => {
             if word >= object.size - 1 - object.refs {
-                return refused(Reply::Range);
+                return refuse(Reply::Range);
             }
             done(Effect::SetValue {
                 object: object.at,
-                place: word,
+                word,
                 value,
             })
         }
@@ -125,16 +119,16 @@ fn answer_say(heap: &Heap, root: u64, word: u64) -> Answer
     ensures { result ≡ answer_of (heap_view heap.now) (Command.Say root word) }
 {
     if root >= heap.roots().len() as u64 {
-        return refused(Reply::Range);
+        return refuse(Reply::Range);
     }
     match object_of(heap, root) {
-        None => refused(Reply::Null),
+        None => refuse(Reply::Null),
         Some(object) => {
             if word >= object.size - 1 - object.refs {
-                return refused(Reply::Range);
+                return refuse(Reply::Range);
             }
             let value = heap.words()[(object.at + 1 + object.refs + word) as usize];
-            refused(Reply::Number(value))
+            refuse(Reply::Number(value))
         }
     }
 }
@@ -145,15 +139,15 @@ fn answer_same(heap: &Heap, root: u64, other: u64) -> Answer
     let roots = heap.roots();
     let count = roots.len() as u64;
     if root >= count {
-        return refused(Reply::Range);
+        return refuse(Reply::Range);
     }
     if other >= count {
-        return refused(Reply::Range);
+        return refuse(Reply::Range);
     }
     if roots[root as usize] == roots[other as usize] {
-        refused(Reply::Number(1))
+        refuse(Reply::Number(1))
     } else {
-        refused(Reply::Number(0))
+        refuse(Reply::Number(0))
     }
 }
 
@@ -163,10 +157,10 @@ fn answer_copy(heap: &Heap, root: u64, from: u64) -> Answer
     let roots = heap.roots();
     let count = roots.len() as u64;
     if root >= count {
-        return refused(Reply::Range);
+        return refuse(Reply::Range);
     }
     if from >= count {
-        return refused(Reply::Range);
+        return refuse(Reply::Range);
     }
     done(Effect::SetRoot {
         root,
@@ -182,7 +176,7 @@ pub(crate) fn answer(heap: &Heap, command: &Command) -> Answer
     match *command {
         Command::New { root, refs, words } => {
             if root >= count {
-                return refused(Reply::Range);
+                return refuse(Reply::Range);
             }
             done(Effect::MakeNew { root, refs, words })
         }
@@ -194,7 +188,7 @@ pub(crate) fn answer(heap: &Heap, command: &Command) -> Answer
         Command::Copy { root, from } => answer_copy(heap, root, from),
         Command::Drop { root } => {
             if root >= count {
-                return refused(Reply::Range);
+                return refuse(Reply::Range);
             }
             done(Effect::SetRoot { root, value: 0 })
         }

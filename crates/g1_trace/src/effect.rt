@@ -10,7 +10,7 @@ pub enum Effect {
     /// A slot of an object becomes the value.
     SetSlot { object: u64, slot: u64, value: u64 },
     /// A data word of an object becomes the value.
-    SetValue { object: u64, place: u64, value: u64 },
+    SetValue { object: u64, word: u64, value: u64 },
     /// A root references a new object.
     MakeNew { root: u64, refs: u64, words: u64 },
     /// A pause is made.

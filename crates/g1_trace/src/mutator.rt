@@ -20,7 +20,7 @@ use g1_choose::Cost;
 use g1_image::Image;
 use g1_pause::{Choice, Settings, evacuate};
 use g1_rem::{Tracked, image};
-use g1_words::{Fault, Geometry, Heap, Kind, REFS_RANGE, Region};
+use g1_words::{Fault, Geometry, Heap, Kind, MOST_ROOTS, Region, header};
 use g1_work::Gate;
 use indexmap::IndexSet;
 use std::alloc::Global;
@@ -48,7 +48,6 @@ fn free_heap(alloc: Global, geometry: Geometry, roots: u64) -> Result<Heap, Faul
     ensures memory { IfErr result (λ e. e ≡ Fault.Memory) }
 {
     let regions = geometry.regions();
-    let total = regions * geometry.region_words();
     let free = Region {
         kind: Kind::Free,
         top: 0,
@@ -56,7 +55,7 @@ fn free_heap(alloc: Global, geometry: Geometry, roots: u64) -> Result<Heap, Faul
     };
     Ok(Heap {
         geometry,
-        words: vec![in alloc; 0u64; total as usize]?,
+        words: vec![in alloc; 0u64; geometry.words() as usize]?,
         regions: vec![in alloc; free; regions as usize]?,
         roots: vec![in alloc; 0u64; roots as usize]?,
         current: None,
@@ -110,13 +109,13 @@ fn pause<R: Threads + Sync, G: Gate + Sync>(
 }
 
 /// The image with another data word of an object. Its header says where its data words begin.
-fn set_data(tracked: Tracked, object: u64, place: u64, value: u64) -> Tracked
+fn set_data(tracked: Tracked, object: u64, word: u64, value: u64) -> Tracked
     requires before { IsTracked tracked }
-    requires fits { EffectFits (heap_view tracked.heap) (Effect.SetValue object place value) }
-    ensures { result ≡ with_words tracked (slice_set tracked.heap.words (value_address tracked.heap object place) value) tracked.log }
+    requires fits { EffectFits (heap_view tracked.heap) (Effect.SetValue object word value) }
+    ensures { result ≡ with_words tracked (slice_set tracked.heap.words (value_address tracked.heap object word) value) tracked.log }
 {
-    let refs = image(&tracked).heap().words()[object as usize] % REFS_RANGE;
-    set_value(tracked, object + 1 + refs + place, value)
+    let refs = header(image(&tracked).heap().words(), object).refs;
+    set_value(tracked, object + 1 + refs + word, value)
 }
 
 /// Does what a command does, if the table of commands answers so.
@@ -157,9 +156,9 @@ fn carry_out<R: Threads + Sync, G: Gate + Sync>(
         },
         Effect::SetValue {
             object,
-            place,
+            word,
             value,
-        } => (set_data(tracked, object, place, value), Ok(told.reply)),
+        } => (set_data(tracked, object, word, value), Ok(told.reply)),
         Effect::MakeNew { root, refs, words } => {
             let place = place_for(image(&tracked).heap(), refs, words);
             match place {
@@ -183,7 +182,7 @@ impl Mutator {
         ensures ok { IfOk result (λ m. (m ≡ empty_image geometry roots) × (roots ≤ most_roots)) }
         ensures err { IfErr result (λ e. (e ≡ Fault.Memory) ⊎ ((e ≡ Fault.Geometry) × (most_roots < roots))) }
     {
-        if roots > 65_536 {
+        if roots > u64::from(MOST_ROOTS) {
             return Err(Fault::Geometry);
         }
         let heap = free_heap(alloc, geometry, roots)?;

@@ -13,7 +13,7 @@ use crate::laws;
 use crate::mutator::Mutator;
 use crate::parsing::{first_line, next_command, parse_trace, split_line};
 use g1_choose::Cost;
-use g1_words::{Fault, Geometry};
+use g1_words::{Fault, Geometry, MOST_ROOTS};
 use g1_work::Gate;
 use itoa::Buffer;
 use std::alloc::{AllocError, Global};
@@ -90,7 +90,7 @@ fn begin(alloc: Global, bytes: &[u8]) -> Result<(Mutator, &[u8]), Fault>
         Ok(geometry) => geometry,
         Err(_) => return Err(outside(alloc, bytes)),
     };
-    if roots > 65_536 {
+    if roots > u64::from(MOST_ROOTS) {
         return Err(outside(alloc, bytes));
     }
     match Mutator::new(alloc, geometry, roots) {

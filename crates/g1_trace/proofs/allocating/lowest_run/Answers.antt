@@ -17,7 +17,8 @@ returns-then-from-count c =
     let here : kind h c.loop-r.r ≡ Free = free_by_test (kind h c.loop-r.r) (sym c.is_free.ensures ∙ c.if-not-is_free.false) in
     let last : c.loop-r.first + c.args.count ≡ c.loop-r.r + 1 = omega (arith, inv.below, c.from.ensures, c.if-from-count.true) in
     sym (find_first (is_free_run h c.args.count) 0 h.geometry.n c.loop-r.first (omega arith) (omega (arith, n, inv.below, c.loop-r-test.true))
-    (run_there h (built h c.geometry.ensures.valid) c.args.count c.loop-r.first (omega (arith, last, n, c.loop-r-test.true)) (λ q low high. free_below h c.loop-r.first c.loop-r.r inv.free here q low (omega (arith, last, high))))
+    (run_there h (built h c.geometry.ensures.valid) c.args.count c.loop-r.first
+    (omega (arith, last, n, c.loop-r-test.true)) (λ q low high. free_below h c.loop-r.first c.loop-r.r inv.free here q low (omega (arith, last, high))))
     (λ q _ lt. inv.none q lt))
 
 pub loop-r-preserved : goal.loop-r-preserved
@@ -31,13 +32,15 @@ loop-r-preserved c =
         free = λ q low high. absurd (omega (arith, low, high, w.first-is));
         none = λ q lt. elim (cases_lt q c.loop-r.first) [
           | inl old ↦ inv.none q old
-          | inr ge ↦ run_broken h (built h c.geometry.ensures.valid) c.args.count q c.loop-r.r (omega (arith, lt, w.first-is)) (omega (arith, ge, inv.few)) (not_free (kind h c.loop-r.r) (sym c.is_free.ensures ∙ w.if-not-is_free.true))
+          | inr ge ↦ run_broken h (built h c.geometry.ensures.valid) c.args.count q c.loop-r.r (omega (arith, lt, w.first-is))
+              (omega (arith, ge, inv.few)) (not_free (kind h c.loop-r.r) (sym c.is_free.ensures ∙ w.if-not-is_free.true))
         ];
       }
       | else-not-is_free+else-from-count w ↦ record {
         below = omega (arith, w.first-is, inv.below);
         few = omega (arith, w.first-is, inv.below, inv.few, w.from.ensures, w.if-from-count.false);
-        free = λ q low high. free_below h c.loop-r.first c.loop-r.r inv.free (free_by_test (kind h c.loop-r.r) (sym c.is_free.ensures ∙ w.if-not-is_free.false)) q (omega (arith, low, w.first-is)) high;
+        free = λ q low high. free_below h c.loop-r.first c.loop-r.r inv.free (free_by_test (kind h c.loop-r.r) (sym c.is_free.ensures
+            ∙ w.if-not-is_free.false)) q (omega (arith, low, w.first-is)) high;
         none = λ q lt. inv.none q (omega (arith, lt, w.first-is));
       }
     ]

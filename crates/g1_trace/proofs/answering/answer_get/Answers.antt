@@ -7,7 +7,8 @@ returns-then-slot-source c =
     let n = ap length c.roots.ensures in
     let r : c.args.root < length c.args.heap.now.roots = omega (arith, c.if-root-count.false, n) in
     let q : c.args.from < length c.args.heap.now.roots = omega (arith, c.if-from-count.false, n) in
-    c.refused-then-slot-source.ensures ∙ get_range c.args.heap.now c.args.root c.args.from c.args.slot c.in-Some.source r q c.in-Some.ensures.object c.in-Some.ensures.named (omega (arith, c.if-slot-source.true))
+    c.refuse-then-slot-source.ensures ∙ get_range c.args.heap.now c.args.root c.args.from c.args.slot c.in-Some.source r q c.in-Some.ensures.object
+    c.in-Some.ensures.named (omega (arith, c.if-slot-source.true))
 
 pub returns-else-slot-source : goal.returns-else-slot-source
 returns-else-slot-source c =

@@ -7,7 +7,8 @@ returns-then-slot-target c =
     let n = ap length c.roots.ensures in
     let r : c.args.root < length c.args.heap.now.roots = omega (arith, c.if-root-count.false, n) in
     let q : c.args.from < length c.args.heap.now.roots = omega (arith, c.if-from-count.false, n) in
-    c.refused-then-slot-target.ensures ∙ put_range c.args.heap.now c.args.root c.args.from c.args.slot c.in-Some.target r q c.in-Some.ensures.object c.in-Some.ensures.named (omega (arith, c.if-slot-target.true))
+    c.refuse-then-slot-target.ensures ∙ put_range c.args.heap.now c.args.root c.args.from c.args.slot c.in-Some.target r q c.in-Some.ensures.object
+    c.in-Some.ensures.named (omega (arith, c.if-slot-target.true))
 
 pub returns-else-slot-target : goal.returns-else-slot-target
 returns-else-slot-target c =

@@ -6,11 +6,11 @@ pub returns-then-word-object : goal.returns-then-word-object
 returns-then-word-object c =
     let n = ap length c.roots.ensures in
     let r : c.args.root < length c.args.heap.now.roots = omega (arith, c.if-root-roots.false, n) in
-    c.refused-then-word-object.ensures ∙ say_range c.args.heap.now c.args.root c.args.word c.in-Some.object r c.in-Some.ensures.object c.in-Some.ensures.named (omega (arith, c.if-word-object.true))
+    c.refuse-then-word-object.ensures ∙ say_range c.args.heap.now c.args.root c.args.word c.in-Some.object r c.in-Some.ensures.object c.in-Some.ensures.named (omega (arith, c.if-word-object.true))
 
 pub returns-else-word-object : goal.returns-else-word-object
 returns-else-word-object c =
     let n = ap length c.roots.ensures in
     let r : c.args.root < length c.args.heap.now.roots = omega (arith, c.if-root-roots.false, n) in
-    c.refused-in-Some.ensures ∙ say_done c.args.heap.now c.args.root c.args.word c.in-Some.object r c.in-Some.ensures.object c.in-Some.ensures.named _ (omega (arith, c.if-word-object.false))
+    c.refuse-in-Some.ensures ∙ say_done c.args.heap.now c.args.root c.args.word c.in-Some.object r c.in-Some.ensures.object c.in-Some.ensures.named _ (omega (arith, c.if-word-object.false))
     (ap (λ ws. get_or ws (c.in-Some.object.at + 1 + c.in-Some.object.refs + c.args.word) 0) c.words.ensures)

@@ -47,7 +47,8 @@ set_data-requires-clause-fits g c = subst (EffectFits (heap_view c.args.tracked.
 pub place_object-requires-clause-kept : goal.place_object-requires-clause-kept
 place_object-requires-clause-kept g c =
     let found : place_for c.args.tracked.heap (1 + c.in-MakeNew.refs + c.in-MakeNew.words) ≡ Some c.in-Some.r =
-    sym (c.place_for-place.ensures ∙ ap (λ (h : Heap). place_for h (1 + c.in-MakeNew.refs + c.in-MakeNew.words)) (c.heap.ensures.same ∙ ap (λ (i : Image). i.heap) c.image.ensures.same)) ∙ c.in-Some.is in
+    sym (c.place_for-place.ensures ∙ ap (λ (h : Heap). place_for h (1 + c.in-MakeNew.refs + c.in-MakeNew.words)) (c.heap.ensures.same
+    ∙ ap (λ (i : Image). i.heap) c.image.ensures.same)) ∙ c.in-Some.is in
     new_tracked c.args.tracked c.requires.before c.in-MakeNew.root c.in-MakeNew.refs c.in-MakeNew.words c.in-Some.r found
 
 pub overflow_add-object : goal.overflow_add-object
@@ -91,5 +92,6 @@ pub returns-in-None-clause-done : goal.returns-in-None-clause-done
 returns-in-None-clause-done g c =
     let i : Image = c.args.tracked in
     let found : place_for i.heap (1 + c.in-MakeNew.refs + c.in-MakeNew.words) ≡ None =
-    sym (c.place_for-place.ensures ∙ ap (λ (h : Heap). place_for h (1 + c.in-MakeNew.refs + c.in-MakeNew.words)) (c.heap.ensures.same ∙ ap (λ (x : Image). x.heap) c.image.ensures.same)) ∙ c.in-None.is in
+    sym (c.place_for-place.ensures ∙ ap (λ (h : Heap). place_for h (1 + c.in-MakeNew.refs + c.in-MakeNew.words)) (c.heap.ensures.same
+    ∙ ap (λ (x : Image). x.heap) c.image.ensures.same)) ∙ c.in-None.is in
     subst (λ (e : Effect). IsEffect c.args.cost.now i e c.args.told.reply Full i) (sym c.in-MakeNew.is) (inl (found, refl, refl))

@@ -9,9 +9,9 @@ use Rattle.g1_trace.proofs.mutator.free_heap.Goals as goal
 pub invariant_of-result : goal.invariant_of-result
 invariant_of-result c =
     let g : Geometry = c.args.geometry in
-    let total : c.regions-regions.result * c.region_words.result ≡ g.n * g.w = (λ t. c.regions-regions.ensures.value t * c.region_words.ensures.value t) in
-    let words : c.in_ok-vec.field-0.items ≡ replicate (g.n * g.w) 0 = c.in_ok-vec.ensures.items_if_clones_equal (λ y e. e) ∙ ap (λ m. replicate m 0) total in
-    let regions : c.in_ok-vec-2.field-0.items ≡ replicate g.n free_region = c.in_ok-vec-2.ensures.items_if_clones_equal (λ y e. e) ∙ ap (λ m. replicate m free_region) c.regions-regions.ensures.value in
+    let words : c.in_ok-vec.field-0.items ≡ replicate (g.n * g.w) 0 = c.in_ok-vec.ensures.items_if_clones_equal (λ y e. e) ∙ ap (λ m. replicate m 0) c.words.ensures.value in
+    let regions : c.in_ok-vec-2.field-0.items ≡ replicate g.n free_region =
+    c.in_ok-vec-2.ensures.items_if_clones_equal (λ y e. e) ∙ ap (λ m. replicate m free_region) c.regions-regions.ensures.value in
     let roots : c.in_ok-vec-3.field-0.items ≡ replicate c.args.roots 0 = c.in_ok-vec-3.ensures.items_if_clones_equal (λ y e. e) in
     let made : Heap = record { geometry = g; words = c.in_ok-vec.field-0.items; regions = c.in_ok-vec-2.field-0.items; roots = c.in_ok-vec-3.field-0.items; current = None } in
     let same : made ≡ (empty_image g c.args.roots).heap = λ t. record { geometry = g; words = words t; regions = regions t; roots = roots t; current = None } in
@@ -20,8 +20,8 @@ invariant_of-result c =
 pub returns-clause-ok : goal.returns-clause-ok
 returns-clause-ok c =
     let g : Geometry = c.args.geometry in
-    let total : c.regions-regions.result * c.region_words.result ≡ g.n * g.w = (λ t. c.regions-regions.ensures.value t * c.region_words.ensures.value t) in
-    let words : c.in_ok-vec.field-0.items ≡ replicate (g.n * g.w) 0 = c.in_ok-vec.ensures.items_if_clones_equal (λ y e. e) ∙ ap (λ m. replicate m 0) total in
-    let regions : c.in_ok-vec-2.field-0.items ≡ replicate g.n free_region = c.in_ok-vec-2.ensures.items_if_clones_equal (λ y e. e) ∙ ap (λ m. replicate m free_region) c.regions-regions.ensures.value in
+    let words : c.in_ok-vec.field-0.items ≡ replicate (g.n * g.w) 0 = c.in_ok-vec.ensures.items_if_clones_equal (λ y e. e) ∙ ap (λ m. replicate m 0) c.words.ensures.value in
+    let regions : c.in_ok-vec-2.field-0.items ≡ replicate g.n free_region =
+    c.in_ok-vec-2.ensures.items_if_clones_equal (λ y e. e) ∙ ap (λ m. replicate m free_region) c.regions-regions.ensures.value in
     let roots : c.in_ok-vec-3.field-0.items ≡ replicate c.args.roots 0 = c.in_ok-vec-3.ensures.items_if_clones_equal (λ y e. e) in
     λ t. record { geometry = g; words = words t; regions = regions t; roots = roots t; current = None }

@@ -12,4 +12,5 @@ pub returns-in-Some-later_line-clause-fits : goal.returns-in-Some-later_line-cla
 returns-in-Some-later_line-clause-fits c = c.in-Some-later_line.ensures.fits
 
 pub returns-in-None-later_line-clause-bad : goal.returns-in-None-later_line-clause-bad
-returns-in-None-later_line-clause-bad c = λ m. bad_line m c.args.lines.now c.in-Some.split.0.now c.in-Some.split.1.now c.in-Some.ensures.some.0 c.in-Some.ensures.some.1 c.in-None-later_line.ensures.none
+returns-in-None-later_line-clause-bad c = λ m. bad_line m c.args.lines.now c.in-Some.split.0.now c.in-Some.split.1.now c.in-Some.ensures.some.0
+    c.in-Some.ensures.some.1 c.in-None-later_line.ensures.none

@@ -1,7 +1,8 @@
 use Rattle.std.proofs.Common.{◌≡◌, ◌+◌, ◌-◌, ◌*◌, ◌≤◌, ℕ, List, length, get_or, take, arith, below_more}
 use Rattle.g1_trace.proofs.Numerals.{read_on, read_more, none_empty, none_zero, none_other, none_large, some_number}
 use Rattle.g1_trace.proofs.parsing.number.Goals as goal
-use Rattle.g1_trace.proofs.parsing.number.Goals.{then-b-lt48-via-then-b-lt48, then-b-lt48-via-else-b-lt48+then-b-gt57, else-word-eq48-via-then-word-eq48+else-word-gt1, else-word-eq48-via-else-word-eq48}
+use Rattle.g1_trace.proofs.parsing.number.Goals.{then-b-lt48-via-then-b-lt48, then-b-lt48-via-else-b-lt48+then-b-gt57, else-word-eq48-via-then-word-eq48+else-word-gt1}
+use Rattle.g1_trace.proofs.parsing.number.Goals.{else-word-eq48-via-else-word-eq48}
 
 pub returns-then-word-eq0-clause-none : goal.returns-then-word-eq0-clause-none
 returns-then-word-eq0-clause-none c = none_empty c.args.word.now c.if-word-eq0.true

@@ -7,12 +7,18 @@ pub returns-in-None-clause-err : goal.returns-in-None-clause-err
 returns-in-None-clause-err c = inr (1, refl, bad_start c.args.bytes.now c.in-None.ensures.none)
 
 pub returns-in-None-first_line-clause-err : goal.returns-in-None-first_line-clause-err
-returns-in-None-first_line-clause-err c = inr (1, refl, bad_first c.args.bytes.now c.in-Some.split.0.now c.in-Some.split.1.now c.in-Some.ensures.some.0 c.in-Some.ensures.some.1 c.in-None-first_line.ensures.none)
+returns-in-None-first_line-clause-err c = inr (
+  1,
+  refl,
+  bad_first c.args.bytes.now c.in-Some.split.0.now c.in-Some.split.1.now
+      c.in-Some.ensures.some.0 c.in-Some.ensures.some.1 c.in-None-first_line.ensures.none,
+)
 
 pub loop-rest-init : goal.loop-rest-init
 loop-rest-init c =
     let n = c.in-Some-first_line.numbers in
-    read_start c.args.bytes.now c.in-Some.split.0.now c.in-Some.split.1.now n.0 n.1 n.2 n.3 c.new-commands.result.items c.in-Some.ensures.some.0 c.in-Some-first_line.ensures.some c.in-Some-first_line.ensures.fits c.new-commands.ensures.items
+    read_start c.args.bytes.now c.in-Some.split.0.now c.in-Some.split.1.now n.0 n.1 n.2 n.3 c.new-commands.result.items c.in-Some.ensures.some.0
+    c.in-Some-first_line.ensures.some c.in-Some-first_line.ensures.fits c.new-commands.ensures.items
 
 pub returns-in-Err-clause-err : goal.returns-in-Err-clause-err
 returns-in-Err-clause-err c = inr (

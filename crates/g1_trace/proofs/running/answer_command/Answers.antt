@@ -14,5 +14,6 @@ pub returns-in-Ok-clause-answered : goal.returns-in-Ok-clause-answered
 returns-in-Ok-clause-answered g c =
     let next : Image = c.step-next.result.0 in
     let told = c.in-Ok.ensures.told in
-    let replied : IsStep c.args.cost.now c.args.mutator c.args.command.now told.0 next = subst (λ x. IfOk x (λ r. IsStep c.args.cost.now c.args.mutator c.args.command.now r next)) told.1 c.step-next.ensures.replied in
+    let replied : IsStep c.args.cost.now c.args.mutator c.args.command.now told.0 next =
+    subst (λ x. IfOk x (λ r. IsStep c.args.cost.now c.args.mutator c.args.command.now r next)) told.1 c.step-next.ensures.replied in
     (told.0, replied, told.2)

@@ -17,7 +17,8 @@ loop-command-init g c =
     let all : List Command = c.deref-command-items.result.now in
     let made : c.in-Ok.mutator ≡ empty_image (sizes c.args.trace.now) roots = c.in-Ok.ensures.ok in
     record {
-      heap = subst (λ (i : Image). (rs : List Reply) → Replies (IsStep c.args.cost.now) i all rs → Replies (IsStep c.args.cost.now) (empty_image (sizes c.args.trace.now) roots) all (c.new-replies.result.items ++ rs)) (sym made)
+      heap = subst (λ (i : Image). (rs : List Reply) → Replies (IsStep c.args.cost.now) i all rs →
+          Replies (IsStep c.args.cost.now) (empty_image (sizes c.args.trace.now) roots) all (c.new-replies.result.items ++ rs)) (sym made)
           (leads_start (IsStep c.args.cost.now) (empty_image (sizes c.args.trace.now) roots) all c.new-replies.result.items c.new-replies.ensures.items);
       plain = (
         empty_store roots,
@@ -39,8 +40,14 @@ loop-command-preserved g c =
     let lt : k < length all = omega (arith, c.loop-command-test.true) in
     let plain = c.traces.ensures.step c.args.cost.now inv.plain.0 i (get_or all k d) answered.0 next c.in-Ok-answer_command.ensures.tracked inv.plain.1 answered.1 in
     record {
-      heap = leads_on (IsStep c.args.cost.now) (empty_image (sizes c.args.trace.now) c.args.trace.now.roots) all c.loop-command.replies.items i next k d answered.0 longer lt inv.heap answered.1 answered.2;
-      plain = (plain.0, plain.2, leads_on IsPlainStep (empty_store c.args.trace.now.roots) all c.loop-command.replies.items inv.plain.0 plain.0 k d answered.0 longer lt inv.plain.2 plain.1 answered.2);
+      heap = leads_on (IsStep c.args.cost.now) (empty_image (sizes c.args.trace.now) c.args.trace.now.roots) all c.loop-command.replies.items i next k
+          d answered.0 longer lt inv.heap answered.1 answered.2;
+      plain = (
+        plain.0,
+        plain.2,
+        leads_on IsPlainStep (empty_store c.args.trace.now.roots) all c.loop-command.replies.items inv.plain.0 plain.0 k d
+            answered.0 longer lt inv.plain.2 plain.1 answered.2,
+      );
     }
 
 pub returns-clause-run : goal.returns-clause-run
@@ -56,7 +63,8 @@ returns-clause-run g c =
     })
 
 pub returns-clause-only : goal.returns-clause-only
-returns-clause-only g c = λ told run. c.one_run.ensures.run c.args.cost.now (sizes c.args.trace.now) c.args.trace.now.roots c.args.trace.now.commands.items told c.loop-command.replies.items run (returns-clause-run g c)
+returns-clause-only g c = λ told run. c.one_run.ensures.run c.args.cost.now (sizes c.args.trace.now) c.args.trace.now.roots
+    c.args.trace.now.commands.items told c.loop-command.replies.items run (returns-clause-run g c)
 
 pub loop-command-smaller : goal.loop-command-smaller
 loop-command-smaller g c = omega (arith, c.loop-command-test.true)

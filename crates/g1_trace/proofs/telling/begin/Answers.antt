@@ -6,7 +6,12 @@ use Rattle.g1_trace.proofs.Tellings.{begins}
 use Rattle.g1_trace.proofs.telling.begin.Goals as goal
 
 pub returns-in-None-first_line-clause-refused : goal.returns-in-None-first_line-clause-refused
-returns-in-None-first_line-clause-refused c = inr (inl (1, refl, bad_first c.args.bytes.now c.in-Some.split.0.now c.in-Some.split.1.now c.in-Some.ensures.some.0 c.in-Some.ensures.some.1 c.in-None-first_line.ensures.none))
+returns-in-None-first_line-clause-refused c = inr (inl (
+  1,
+  refl,
+  bad_first c.args.bytes.now c.in-Some.split.0.now c.in-Some.split.1.now
+      c.in-Some.ensures.some.0 c.in-Some.ensures.some.1 c.in-None-first_line.ensures.none,
+))
 
 pub outside-requires : goal.outside-requires
 outside-requires c =
@@ -19,15 +24,15 @@ outside-requires c =
       outside = λ h. c.in-Err.ensures.err.1 h.sizes;
     }
 
-pub outside-requires-then-roots-gt65536 : goal.outside-requires-then-roots-gt65536
-outside-requires-then-roots-gt65536 c =
+pub outside-requires-then-roots-from : goal.outside-requires-then-roots-from
+outside-requires-then-roots-from c =
     let n = c.in-Some-first_line.numbers in
     record {
       sizes = record { w = n.0; k = n.1; n = n.2 };
       roots = n.3;
       rest = c.in-Some.split.1.now;
       begins = begins c.args.bytes.now c.in-Some.split.0.now c.in-Some.split.1.now n.0 n.1 n.2 n.3 c.in-Some.ensures.some.0 c.in-Some-first_line.ensures.some c.in-Some-first_line.ensures.fits;
-      outside = λ h. let few = h.roots in absurd (omega (arith, c.if-roots-gt65536.true, few));
+      outside = λ h. let few = h.roots in absurd (omega (arith, c.if-roots-from.true, c.from.ensures, few));
     }
 
 pub returns-in-Ok-new-clause-ok : goal.returns-in-Ok-new-clause-ok

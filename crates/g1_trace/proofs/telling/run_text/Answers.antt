@@ -11,7 +11,8 @@ pub loop-rest-preserved : goal.loop-rest-preserved
 loop-rest-preserved g c =
     let l = c.loop-rest in
     let answered = c.in-Ok-answer_line.answered in
-    so_far_answered c.args.cost.now c.args.bytes.now l.mutator answered.0 l.rest.now l.text.items answered.1.now c.answer_line.new.text.items l.lines c.traces.ensures.step c.in-Ok-answer_line.ensures.tracked l.invariant c.in-Ok-answer_line.ensures.answered
+    so_far_answered c.args.cost.now c.args.bytes.now l.mutator answered.0 l.rest.now l.text.items answered.1.now c.answer_line.new.text.items l.lines
+    c.traces.ensures.step c.in-Ok-answer_line.ensures.tracked l.invariant c.in-Ok-answer_line.ensures.answered
 
 pub loop-rest-smaller : goal.loop-rest-smaller
 loop-rest-smaller g c =

@@ -16,13 +16,15 @@ use Rattle.g1_trace.proofs.mutator.Mutator.step.Goals as goal
 pub carry_out-tracked-requires-clause-fits : goal.carry_out-tracked-requires-clause-fits
 carry_out-tracked-requires-clause-fits g c κs within =
     let h : Heap = c.self.inside.tracked.heap in
-    let told : c.answer-told.result ≡ answer_of (heap_view h) c.args.command.now = c.answer-told.ensures ∙ ap (λ (x : Heap). answer_of (heap_view x) c.args.command.now) (c.heap.ensures.same ∙ ap (λ (i : Image). i.heap) c.image.ensures.same) in
+    let told : c.answer-told.result ≡ answer_of (heap_view h) c.args.command.now =
+    c.answer-told.ensures ∙ ap (λ (x : Heap). answer_of (heap_view x) c.args.command.now) (c.heap.ensures.same ∙ ap (λ (i : Image). i.heap) c.image.ensures.same) in
     subst (λ (a : Answer). EffectFits (heap_view h) a.effect) (sym told) (answer_fits (heap_view h) c.args.command.now)
 
 pub carry_out-tracked-requires-clause-paused : goal.carry_out-tracked-requires-clause-paused
 carry_out-tracked-requires-clause-paused g c κs within =
     let h : Heap = c.self.inside.tracked.heap in
-    let told : c.answer-told.result ≡ answer_of (heap_view h) c.args.command.now = c.answer-told.ensures ∙ ap (λ (x : Heap). answer_of (heap_view x) c.args.command.now) (c.heap.ensures.same ∙ ap (λ (i : Image). i.heap) c.image.ensures.same) in
+    let told : c.answer-told.result ≡ answer_of (heap_view h) c.args.command.now =
+    c.answer-told.ensures ∙ ap (λ (x : Heap). answer_of (heap_view x) c.args.command.now) (c.heap.ensures.same ∙ ap (λ (i : Image). i.heap) c.image.ensures.same) in
     subst (λ (a : Answer). ForPause a.effect (a.reply ≡ Done)) (sym told) (answer_pauses (heap_view h) c.args.command.now)
 
 pub carry_out-tracked-requires-clause-before : goal.carry_out-tracked-requires-clause-before
@@ -40,7 +42,8 @@ returns-clause-replied g c =
     let told : c.answer-told.result ≡ answer_of (heap_view i.heap) c.args.command.now =
     c.answer-told.ensures ∙ ap (λ (x : Heap). answer_of (heap_view x) c.args.command.now) (c.heap.ensures.same ∙ ap (λ (x : Image). x.heap) (c.image.ensures.same ∙ same)) in
     let done : IfOk c.carry_out-tracked.result.1 (λ r. IsEffect c.args.cost.now i c.answer-told.result.effect c.answer-told.result.reply r c.carry_out-tracked.result.0) =
-    subst (λ (x : Image). IfOk c.carry_out-tracked.result.1 (λ r. IsEffect c.args.cost.now x c.answer-told.result.effect c.answer-told.result.reply r c.carry_out-tracked.result.0)) same c.carry_out-tracked.ensures.done in
+    subst (λ (x : Image). IfOk c.carry_out-tracked.result.1 (λ r. IsEffect c.args.cost.now x c.answer-told.result.effect c.answer-told.result.reply r
+    c.carry_out-tracked.result.0)) same c.carry_out-tracked.ensures.done in
     subst (λ (a : Answer). IfOk c.carry_out-tracked.result.1 (λ r. IsEffect c.args.cost.now i a.effect a.reply r c.carry_out-tracked.result.0)) told done
 
 pub returns-clause-only : goal.returns-clause-only
@@ -61,7 +64,8 @@ returns-clause-shows g c =
 
 pub returns-clause-same : goal.returns-clause-same
 returns-clause-same g c =
-    IfErr-weaken c.carry_out-tracked.result.1 (λ e. c.carry_out-tracked.result.0 ≡ c.self.inside.tracked) (λ e. c.carry_out-tracked.result.0 ≡ c.args.self) (λ e same. same ∙ c.self.view_is) c.carry_out-tracked.ensures.same
+    IfErr-weaken c.carry_out-tracked.result.1 (λ e. c.carry_out-tracked.result.0 ≡ c.self.inside.tracked) (λ e. c.carry_out-tracked.result.0
+    ≡ c.args.self) (λ e same. same ∙ c.self.view_is) c.carry_out-tracked.ensures.same
 
 pub returns-clause-memory : goal.returns-clause-memory
 returns-clause-memory g c = c.carry_out-tracked.ensures.memory
