@@ -21,7 +21,7 @@ pub use geometry::Geometry;
 pub use heap::{Heap, MOST_ROOTS, pinned};
 pub use marks::Marks;
 pub use object::{
-    Object, REFS_RANGE, card_of, data, header, header_word, object_at, objects_in, region_of,
-    size_at, slots, slots_of,
+    Object, card_of, data, header, header_word, object_at, objects_in, region_of, size_at, slots,
+    slots_of,
 };
 pub use region::{Kind, Region};

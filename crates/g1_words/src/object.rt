@@ -20,7 +20,7 @@ pub struct Object {
 }
 
 /// A header word is the object's size in words times this, plus its number of reference slots.
-pub const REFS_RANGE: u64 = 4_294_967_296;
+const REFS_RANGE: u64 = 4_294_967_296;
 
 /// What the word at an address says, read as a header: the object that starts there, if one does.
 pub fn header(words: &[u64], at: u64) -> Object
