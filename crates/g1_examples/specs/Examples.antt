@@ -44,7 +44,8 @@ dead_cycle = heap16 (replicate 16 0 ++ filled 48 (head 2 1 ∷ 19 ∷ head 2 1 �
 
 -- an object that is named from many places
 abbrev pub shared_target : Heap
-shared_target = heap16 (filled 16 (head 4 1 ∷ 22 ∷ 1 ∷ 2 ∷ head 2 1 ∷ 22 ∷ []) ++ filled 48 (head 5 3 ∷ 22 ∷ 22 ∷ 22 ∷ 1 ∷ head 2 0 ∷ 8 ∷ [])) (ordinary 6 ∷ ordinary 7 ∷ free_region ∷ free_region ∷ []) (22 ∷ 17 ∷ []) 4
+shared_target = heap16 (filled 16 (head 4 1 ∷ 22 ∷ 1 ∷ 2 ∷ head 2 1 ∷ 22 ∷ []) ++ filled 48 (head 5 3 ∷ 22 ∷ 22 ∷ 22 ∷ 1 ∷ head 2 0 ∷ 8 ∷ []))
+    (ordinary 6 ∷ ordinary 7 ∷ free_region ∷ free_region ∷ []) (22 ∷ 17 ∷ []) 4
 
 -- survivors that don't fill a region
 abbrev pub with_a_gap : Heap
@@ -82,12 +83,14 @@ shared_target_image = image shared_target ([] ∷ (0 ∷ 1 ∷ []) ∷ [] ∷ []
 
 -- after the pause that evacuates region 1
 abbrev pub shared_target_after : Image
-shared_target_after = image (heap16 (filled 32 (head 4 1 ∷ 33 ∷ 1 ∷ 2 ∷ head 2 1 ∷ 33 ∷ []) ++ filled 32 (head 2 0 ∷ 8 ∷ head 5 3 ∷ 33 ∷ 33 ∷ 33 ∷ 1 ∷ [])) (ordinary 6 ∷ free_region ∷ ordinary 7 ∷ free_region ∷ []) (33 ∷ 35 ∷ []) 4)
+shared_target_after = image (heap16 (filled 32 (head 4 1 ∷ 33 ∷ 1 ∷ 2 ∷ head 2 1 ∷ 33 ∷ [])
+    ++ filled 32 (head 2 0 ∷ 8 ∷ head 5 3 ∷ 33 ∷ 33 ∷ 33 ∷ 1 ∷ [])) (ordinary 6 ∷ free_region ∷ ordinary 7 ∷ free_region ∷ []) (33 ∷ 35 ∷ []) 4)
     ([] ∷ [] ∷ (0 ∷ 1 ∷ []) ∷ [] ∷ []) []
 
 -- an object that a slot in the second region of a humongous run names
 abbrev pub humongous_owner : Heap
-humongous_owner = heap16 ((head 40 20 ∷ replicate 16 0) ++ ((49 ∷ replicate 30 0) ++ (head 2 0 ∷ 4 ∷ replicate 46 0))) (first 16 ∷ more 16 ∷ more 8 ∷ ordinary 2 ∷ free_region ∷ free_region ∷ []) (1 ∷ []) 6
+humongous_owner = heap16 ((head 40 20 ∷ replicate 16 0) ++ ((49 ∷ replicate 30 0) ++ (head 2 0 ∷ 4 ∷ replicate 46 0)))
+    (first 16 ∷ more 16 ∷ more 8 ∷ ordinary 2 ∷ free_region ∷ free_region ∷ []) (1 ∷ []) 6
 
 -- with the card that covers the reference
 abbrev pub humongous_owner_image : Image
@@ -95,7 +98,8 @@ humongous_owner_image = image humongous_owner ([] ∷ [] ∷ [] ∷ (4 ∷ []) �
 
 -- after the pause that evacuates region 3
 abbrev pub humongous_owner_after : Image
-humongous_owner_after = image (heap16 ((head 40 20 ∷ replicate 16 0) ++ ((65 ∷ replicate 46 0) ++ (head 2 0 ∷ 4 ∷ replicate 30 0))) (first 16 ∷ more 16 ∷ more 8 ∷ free_region ∷ ordinary 2 ∷ free_region ∷ []) (1 ∷ []) 6)
+humongous_owner_after = image (heap16 ((head 40 20 ∷ replicate 16 0) ++ ((65 ∷ replicate 46 0) ++ (head 2 0 ∷ 4 ∷ replicate 30 0)))
+    (first 16 ∷ more 16 ∷ more 8 ∷ free_region ∷ ordinary 2 ∷ free_region ∷ []) (1 ∷ []) 6)
     ([] ∷ [] ∷ [] ∷ [] ∷ (4 ∷ []) ∷ [] ∷ []) []
 
 -- one object, which a root names

@@ -1,5 +1,6 @@
 -- What one worker kept alone is what won.
-use Rattle.std.proofs.Common.{◌≡◌, ℕ, ◌<◌, Bool, true, false, cond, min, eqb, eq-eqb, List, [], ◌∷◌, ◌++◌, map, filter, sym, refl, ap, ◌∙◌, subst, inl, inr, arith, append_assoc, append-nil, IsPermutation}
+use Rattle.std.proofs.Common.{◌≡◌, ℕ, ◌<◌, Bool, true, false, cond, min, eqb, eq-eqb, List, [], ◌∷◌, ◌++◌, map, filter, sym, refl, ap, ◌∙◌, subst, inl, inr, arith, append_assoc, append-nil}
+use Rattle.std.proofs.Common.{IsPermutation}
 use Rattle.std.proofs.lemmas.List.Elements.{All-cons, All-nil}
 use Rattle.std.proofs.lemmas.List.Sorted.{IsPermutation-refl}
 use Rattle.g1_claim.specs.declared.rule.Offer.{Offer}
@@ -30,17 +31,21 @@ module _ (place : ℕ → ℕ) where
       let top = least_rank_top p os in
       let rest = none_lower p m.0.0 ms (omega (arith, low, top)) above in
       let parts = least_rank-append p os (offer_of place m ∷ map (offer_of place) ms) in
-      let one : least_rank p (offer_of place m ∷ map (offer_of place) ms) ≡ min m.0.0 (least_rank p (map (offer_of place) ms)) = ap (λ b. min (cond b m.0.0 empty) (least_rank p (map (offer_of place) ms))) (eq-eqb p p refl) in
+      let one : least_rank p (offer_of place m ∷ map (offer_of place) ms) ≡ min m.0.0 (least_rank p (map (offer_of place) ms)) =
+      ap (λ b. min (cond b m.0.0 empty) (least_rank p (map (offer_of place) ms))) (eq-eqb p p refl) in
       eq-eqb (least_rank p (os ++ offer_of place m ∷ map (offer_of place) ms)) m.0.0 (omega (arith, parts, one, rest, low))
 
   -- what lowered its word stays the least, where the ranks rise
-  kept_least : (os : List Offer) (ms : List Try) → Lowers place os ms → Ordered RankLess (map pair_of ms) → (q : ℕ × ℕ) → In (map pair_of (filter answered_true ms)) q → is_least place (os ++ map (offer_of place) ms) q ≡ true
+  kept_least : (os : List Offer) (ms : List Try) → Lowers place os ms → Ordered RankLess (map pair_of ms) → (q : ℕ × ℕ) →
+      In (map pair_of (filter answered_true ms)) q → is_least place (os ++ map (offer_of place) ms) q ≡ true
   kept_least os [] l o q i = absurd i
   kept_least os (m ∷ ms) l o q i =
-      at m.1 refl i (λ k. subst (λ as_one. is_least place as_one q ≡ true) (append_assoc os (offer_of place m ∷ []) (map (offer_of place) ms)) (kept_least (os ++ offer_of place m ∷ []) ms l.1 o.1 q k))
+      at m.1 refl i (λ k. subst (λ as_one. is_least place as_one q ≡ true) (append_assoc os (offer_of place m ∷ []) (map (offer_of place) ms))
+      (kept_least (os ++ offer_of place m ∷ []) ms l.1 o.1 q k))
     where
       at : (b : Bool) → m.1 ≡ b → In (map pair_of (cond b (m ∷ filter answered_true ms) (filter answered_true ms))) q
-          → (In (map pair_of (filter answered_true ms)) q → is_least place (os ++ offer_of place m ∷ map (offer_of place) ms) q ≡ true) → is_least place (os ++ offer_of place m ∷ map (offer_of place) ms) q ≡ true
+          → (In (map pair_of (filter answered_true ms)) q → is_least place (os ++ offer_of place m ∷ map (offer_of place) ms) q ≡ true) →
+          is_least place (os ++ offer_of place m ∷ map (offer_of place) ms) q ≡ true
       at true t (inl e) later = subst (λ r. is_least place (os ++ offer_of place m ∷ map (offer_of place) ms) r ≡ true) e (stays_least os m ms (l.0 t) o.0)
       at true t (inr k) later = later k
       at false t k later = later k
@@ -81,4 +86,5 @@ module _ (t : TableView) (place : ℕ → ℕ) (ps : List (ℕ × ℕ)) (before 
   alone_won seat settled above =
       let l : List (ℕ × ℕ) = after.kept.items in
       let in_order : IsByRank l = λ i j d lt len. let k = kept_rise i j d lt len in omega (arith, k) in
-      sym all_least ∙ round_won t place ps before.seat after.seat (l ∷ []) (alone_offered seat settled) l (subst (λ k. IsPermutation k l) (sym (append-nil l)) (IsPermutation-refl l)) rise above in_order
+      sym all_least ∙ round_won t place ps before.seat after.seat (l ∷ []) (alone_offered seat settled) l
+      (subst (λ k. IsPermutation k l) (sym (append-nil l)) (IsPermutation-refl l)) rise above in_order

@@ -1,5 +1,6 @@
 -- A round's offers, whichever worker made them.
-use Rattle.std.proofs.Common.{◌≡◌, ℕ, suc, ◌*◌, ◌<◌, ◌≤◌, inl, inr, Bool, true, false, cond, List, [], ◌∷◌, ◌++◌, map, filter, length, sum_by, sym, refl, ap, ◌∙◌, subst, arith, append_assoc, append-nil, IsPermutation, All}
+use Rattle.std.proofs.Common.{◌≡◌, ℕ, suc, ◌*◌, ◌<◌, ◌≤◌, inl, inr, Bool, true, false, cond, List, [], ◌∷◌, ◌++◌, map, filter, length, sum_by, sym, refl, ap, ◌∙◌, subst, arith, append_assoc}
+use Rattle.std.proofs.Common.{append-nil, IsPermutation, All}
 use Rattle.std.specs.List.{flat_map, enumerate_from}
 use Rattle.std.proofs.lemmas.List.{map-append}
 use Rattle.std.proofs.lemmas.List.Concat.{flat_map-append}
@@ -41,7 +42,8 @@ kept_ordered (m ∷ ms) o =
       | false ↦ kept_ordered ms o.1
     ]
 
-module _ (place : ℕ → ℕ) (P : ℕ → List (ℕ × ℕ)) {O : Type 0} (runs : Holder → ℕ → Holder → O → Type 0) (says : (s : Holder) (k : ℕ) (t : Holder) (o : O) → runs s k t o → HasTried place (P k) s t) where
+module _ (place : ℕ → ℕ) (P : ℕ → List (ℕ × ℕ)) {O : Type 0} (runs : Holder → ℕ → Holder → O →
+    Type 0) (says : (s : Holder) (k : ℕ) (t : Holder) (o : O) → runs s k t o → HasTried place (P k) s t) where
   abbrev pub given : List (ℕ × O) → List (ℕ × ℕ)
   given xs = flat_map (λ x. P x.0) xs
 
@@ -71,7 +73,8 @@ module _ (place : ℕ → ℕ) (P : ℕ → List (ℕ × ℕ)) {O : Type 0} (run
           made = one.made ++ rest.made;
           each = map-append pair_of one.made rest.made ∙ (λ i. one.each i ++ rest.each i) ∙ sym (flat_map-append (λ (x : ℕ × O). P x.0) p (joined ps));
           offers = (λ i. (one.offers ∙ ap (λ os. os ++ map (offer_of place) one.made) fresh.no_offers) i ++ rest.offers i) ∙ sym (map-append (offer_of place) one.made rest.made);
-          kept = (λ i. (one.kept ∙ ap (λ os. os ++ map pair_of (filter answered_true one.made)) fresh.none_kept) i ++ rest.kept i) ∙ sym (ap (map pair_of) (filter_append answered_true one.made rest.made) ∙ map-append pair_of (filter answered_true one.made) (filter answered_true rest.made));
+          kept = (λ i. (one.kept ∙ ap (λ os. os ++ map pair_of (filter answered_true one.made)) fresh.none_kept) i ++ rest.kept i)
+              ∙ sym (ap (map pair_of) (filter_append answered_true one.made rest.made) ∙ map-append pair_of (filter answered_true one.made) (filter answered_true rest.made));
           shares = let a = one.shares ∙ fresh.share in let b = rest.shares in let c = sum_by-cons (λ (h : Holder). h.seat.hand.shares) u us in omega (arith, a, b, c);
         }
 
@@ -149,18 +152,22 @@ module _ {A : Type 0} (t : TableView) (place : ℕ → ℕ) (f : A → List (ℕ
 
   seats_of : (seat : SeatView) (count : ℕ) (before : List Holder) → IsGivenOut t seat count before → All (λ h. IsSeatOf t h.seat) before
   seats_of seat count before g =
-      subst (All (λ (h : Holder). IsSeatOf t h.seat)) (sym g.are) (All-append (λ (h : Holder). IsSeatOf t h.seat) g.others (g.last ∷ []) (λ k d lt. (g.fresh k d lt).seat) (All-cons (λ (h : Holder). IsSeatOf t h.seat) g.last [] g.seat (All-nil (λ (h : Holder). IsSeatOf t h.seat))))
+      subst (All (λ (h : Holder). IsSeatOf t h.seat)) (sym g.are) (All-append (λ (h : Holder). IsSeatOf t h.seat) g.others (g.last ∷ [])
+      (λ k d lt. (g.fresh k d lt).seat) (All-cons (λ (h : Holder). IsSeatOf t h.seat) g.last [] g.seat (All-nil (λ (h : Holder). IsSeatOf t h.seat))))
 
-  pub all_back : (n : ℕ) (seat : SeatView) (count : ℕ) (before after : List Holder) (outs : List O) → IsGivenOut t seat count before → IsEachRun runs n before after outs → All (λ h. IsSeatOf t h.seat) after
+  pub all_back : (n : ℕ) (seat : SeatView) (count : ℕ) (before after : List Holder) (outs : List O) → IsGivenOut t seat count before →
+      IsEachRun runs n before after outs → All (λ h. IsSeatOf t h.seat) after
   all_back n seat count before after outs g r = seats_back place P runs says n t before r.parts after r.workers (seats_of seat count before g)
 
   pub count_back : (n : ℕ) (seat : SeatView) (count : ℕ) (before after : List Holder) (outs : List O) → IsGivenOut t seat count before → IsEachRun runs n before after outs → length after ≡ count
   count_back n seat count before after outs g r = as_many place P runs says n t before r.parts after r.workers ∙ g.count_is
 
-  pub whole_round : (n : ℕ) (seat after_seat : SeatView) (count : ℕ) (before after : List Holder) (outs : List O) (lists : List (List (ℕ × ℕ))) → IsGivenOut t seat count before → IsEachRun runs n before after outs → HasTaken t after after_seat lists
+  pub whole_round : (n : ℕ) (seat after_seat : SeatView) (count : ℕ) (before after : List Holder) (outs : List O) (lists : List (List (ℕ × ℕ))) →
+      IsGivenOut t seat count before → IsEachRun runs n before after outs → HasTaken t after after_seat lists
       → length items ≤ n * size → Ordered RankLess (flat_map f items) → HasOffered t place (flat_map f items) seat after_seat lists
   whole_round n seat after_seat count before after outs lists g r k le o =
-      let each : EachRan runs n (g.others ++ g.last ∷ []) r.parts (k.others ++ k.last ∷ []) = subst (λ (q : List Holder × List Holder). EachRan runs n q.0 r.parts q.1) (λ i. (g.are i, k.are i)) r.workers in
+      let each : EachRan runs n (g.others ++ g.last ∷ []) r.parts (k.others ++ k.last ∷ []) =
+      subst (λ (q : List Holder × List Holder). EachRan runs n q.0 r.parts q.1) (λ i. (g.are i, k.are i)) r.workers in
       let l = last_apart place P runs says n g.others g.last r.parts k.others k.last each in
       let rest = others_together place P runs says n t g.others l.others k.others l.ran g.fresh in
       let one = ran_tried place P runs says g.last l.last k.last l.ran_last in
@@ -170,7 +177,8 @@ module _ {A : Type 0} (t : TableView) (place : ℕ → ℕ) (f : A → List (ℕ
       let swapped : Y ++ X ≡ flat_map (λ (x : ℕ × O). P x.0) (joined r.parts) = sym (ap (flat_map (λ (x : ℕ × O). P x.0)) l.parts ∙ flat_map-append (λ (x : ℕ × O). P x.0) (joined l.others) l.last) in
       let moved : IsPermutation (X ++ Y) (flat_map (λ (x : ℕ × O). P x.0) (joined r.parts)) = subst (IsPermutation (X ++ Y)) swapped (IsPermutation-append_comm X Y) in
       let all : IsPermutation (flat_map (λ (x : ℕ × O). P x.0) (joined r.parts)) (flat_map f items) =
-      subst (IsPermutation (flat_map (λ (x : ℕ × O). P x.0) (joined r.parts))) (all_pieces f size items outs (subst (λ m. length items ≤ m * size) (sym r.count) le)) (flat-permutation (λ (x : ℕ × O). P x.0) (joined r.parts) (enumerate_from 0 outs) r.once) in
+      subst (IsPermutation (flat_map (λ (x : ℕ × O). P x.0) (joined r.parts)))
+      (all_pieces f size items outs (subst (λ m. length items ≤ m * size) (sym r.count) le)) (flat-permutation (λ (x : ℕ × O). P x.0) (joined r.parts) (enumerate_from 0 outs) r.once) in
       let made : List Try = one.made ++ rest.made in
       let pairs_are : map pair_of made ≡ X ++ Y = map-append pair_of one.made rest.made ∙ (λ i. one.each i ++ rest.each i) in
       let shares : after_seat.hand.shares ≡ 64 = let a = k.shares in let b = one.shares in let c = rest.shares in let d = g.shares in omega (arith, a, b, c, d) in record {
@@ -182,11 +190,13 @@ module _ {A : Type 0} (t : TableView) (place : ℕ → ℕ) (f : A → List (ℕ
             ∙ ap (λ os. seat.hand.offers ++ os) (sym (map-append (offer_of place) one.made rest.made));
         kept =
             ap (flat_map (λ (l : List (ℕ × ℕ)). l)) k.kept
-            ∙ (λ i. (one.kept ∙ ap (λ ks. ks ++ map pair_of (filter answered_true one.made)) g.none_kept) i ++ (flat_of_map (λ (l : List (ℕ × ℕ)). l) (λ (h : Holder). h.kept.items) k.others ∙ rest.kept) i)
+            ∙ (λ i. (one.kept ∙ ap (λ ks. ks ++ map pair_of (filter answered_true one.made)) g.none_kept) i
+            ++ (flat_of_map (λ (l : List (ℕ × ℕ)). l) (λ (h : Holder). h.kept.items) k.others ∙ rest.kept) i)
             ∙ sym (ap (map pair_of) (filter_append answered_true one.made rest.made) ∙ map-append pair_of (filter answered_true one.made) (filter answered_true rest.made));
         rise = subst (All Rises) (sym k.kept) (All-cons Rises k.last.kept.items (map (λ (h : Holder). h.kept.items) k.others)
             (pairs_from_ordered RankLess k.last.kept.items (one_rises place P runs says n t ordered g.last l.last k.last l.ran_last l.rises g.none_kept))
-            (all_map Rises (λ (h : Holder). h.kept.items) k.others (λ h i. pairs_from_ordered RankLess h.kept.items (all_in (λ (h : Holder). Ordered RankLess h.kept.items) k.others h (all_rise place P runs says n t ordered g.others l.others k.others l.ran g.fresh) i))));
+            (all_map Rises (λ (h : Holder). h.kept.items) k.others (λ h i. pairs_from_ordered RankLess h.kept.items
+            (all_in (λ (h : Holder). Ordered RankLess h.kept.items) k.others h (all_rise place P runs says n t ordered g.others l.others k.others l.ran g.fresh) i))));
         seat = k.seat;
         whole = shares;
         settled = k.settled shares;

@@ -1,5 +1,6 @@
 -- What one round of claims gives.
-use Rattle.std.proofs.Common.{◌≡◌, ◌≢◌, ℕ, ◌+◌, ◌-◌, ◌<◌, ◌≤◌, Bool, true, false, cond, eqb, eq-eqb, eqb-true, List, [], ◌∷◌, map, filter, sym, refl, ap, ◌∙◌, subst, inl, inr, arith, IsPermutation, All, AllPairs, Vec, Global}
+use Rattle.std.proofs.Common.{◌≡◌, ◌≢◌, ℕ, ◌+◌, ◌-◌, ◌<◌, ◌≤◌, Bool, true, false, cond, eqb, eq-eqb, eqb-true, List, [], ◌∷◌, map, filter, sym, refl, ap, ◌∙◌, subst, inl, inr, arith}
+use Rattle.std.proofs.Common.{IsPermutation, All, AllPairs, Vec, Global}
 use Rattle.std.specs.List.{flat_map}
 use Rattle.std.proofs.lemmas.List.Sorted.{IsPermutation-sym, IsPermutation-map}
 use Rattle.std.proofs.lemmas.Map.Keys.{IsDistinct-IsPermutation}
@@ -72,7 +73,8 @@ unfolding rank_of
 differ_permuted ps qs p o =
     let before : AllPairs (λ x y. x ≢ y) (map rank_of ps) = pairs_from_ordered (λ x y. x ≢ y) (map rank_of ps) (Ordered-map (λ x y. x ≢ y) rank_of ps o) in
     let after : AllPairs (λ x y. x ≢ y) (map rank_of qs) =
-    AllPairs-from_IsDistinct Decides-eqb (map rank_of qs) (IsDistinct-IsPermutation eqb eqb_flips (map rank_of ps) (map rank_of qs) (IsPermutation-map rank_of ps qs p) (IsDistinct-from_AllPairs Decides-eqb (map rank_of ps) before)) in
+    AllPairs-from_IsDistinct Decides-eqb (map rank_of qs) (IsDistinct-IsPermutation eqb eqb_flips (map rank_of ps) (map rank_of qs)
+    (IsPermutation-map rank_of ps qs p) (IsDistinct-from_AllPairs Decides-eqb (map rank_of ps) before)) in
     Ordered-unmap (λ x y. x ≢ y) rank_of qs (Ordered-from_pairs (λ x y. x ≢ y) (map rank_of qs) after)
 
 pub rises_differ : (ps : List (ℕ × ℕ)) → Ordered RankLess ps → Ordered RanksDiffer ps
@@ -115,13 +117,15 @@ module _ (t : TableView) (place : ℕ → ℕ) (ps : List (ℕ × ℕ)) (before 
     kept_all = subst (λ l. IsPermutation l merged) o.kept perm
 
     pub merged_from : (q : ℕ × ℕ) → In merged q → In ps q
-    merged_from q i = in_permuted (map pair_of o.made) ps q o.each (in_some o.made q (in_permuted merged (map pair_of (filter answered_true o.made)) q (IsPermutation-sym (map pair_of (filter answered_true o.made)) merged kept_all) i))
+    merged_from q i = in_permuted (map pair_of o.made) ps q o.each (in_some o.made q
+        (in_permuted merged (map pair_of (filter answered_true o.made)) q (IsPermutation-sym (map pair_of (filter answered_true o.made)) merged kept_all) i))
 
     pub round_won : Rises ps → AreAbove before.hand.offers ps → IsByRank merged → winners place after.hand.offers merged ≡ winners place after.hand.offers ps
     round_won rise above in_order =
         let risen : Ordered RankLess ps = Ordered-from_pairs RankLess ps rise in
         let differ : Ordered RanksDiffer (map pair_of o.made) = differ_permuted ps (map pair_of o.made) (IsPermutation-sym (map pair_of o.made) ps o.each) (rises_differ ps risen) in
         let strictly : Ordered RankLess merged =
-        rises_strictly merged (Ordered-from_pairs (λ (q r : ℕ × ℕ). q.0 ≤ r.0) merged in_order) (differ_permuted (map pair_of (filter answered_true o.made)) merged kept_all (some_differ o.made differ)) in
+        rises_strictly merged (Ordered-from_pairs (λ (q r : ℕ × ℕ). q.0 ≤ r.0) merged in_order)
+        (differ_permuted (map pair_of (filter answered_true o.made)) merged kept_all (some_differ o.made differ)) in
         merged_won place ps merged before.hand.offers after.hand.offers o.made o.offers o.each risen differ
         (λ a q i j e. let lt = all_in (λ q. a.rank < q.0) ps q (all_in (λ a. All (λ q. a.rank < q.0) ps) before.hand.offers a above i) j in omega (arith, lt, e)) o.settled kept_all strictly

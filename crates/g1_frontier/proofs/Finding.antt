@@ -1,5 +1,6 @@
 -- What a round finds.
-use Rattle.std.proofs.Common.{◌≡◌, ℕ, suc, ◌<◌, ◌≤◌, inl, inr, Bool, true, false, not, cond, eqb, eqb-true, eq-eqb, List, [], ◌∷◌, ◌++◌, map, filter, length, refl, sym, ap, subst, ◌∙◌, arith, All, true≢false}
+use Rattle.std.proofs.Common.{◌≡◌, ℕ, suc, ◌<◌, ◌≤◌, inl, inr, Bool, true, false, not, cond, eqb, eqb-true, eq-eqb, List, [], ◌∷◌, ◌++◌, map, filter, length, refl, sym, ap, subst, ◌∙◌}
+use Rattle.std.proofs.Common.{arith, All, true≢false}
 use Rattle.std.proofs.lemmas.List.{map-append}
 use Rattle.std.proofs.lemmas.List.Sorted.{IsPermutation-sym}
 use Rattle.std.proofs.lemmas.List.Elements.{All-append}
@@ -69,7 +70,8 @@ module _ (place : ℕ → ℕ) (inside : ℕ → Bool) (apart : (a b : ℕ) → 
       tail [] = []
       tail (z ∷ zs) = zs
 
-  module _ (ps : List (ℕ × ℕ)) (found : List ℕ) (before after : List Offer) (next : ℕ) (adds : AddsOffers place ps before after) (rise : Ordered RankLess ps) (low : (q : ℕ × ℕ) → In ps q → q.0 < empty) (within : (q : ℕ × ℕ) → In ps q → inside q.1 ≡ true)
+  module _ (ps : List (ℕ × ℕ)) (found : List ℕ) (before after : List Offer) (next : ℕ) (adds : AddsOffers place ps before after)
+      (rise : Ordered RankLess ps) (low : (q : ℕ × ℕ) → In ps q → q.0 < empty) (within : (q : ℕ × ℕ) → In ps q → inside q.1 ≡ true)
       (below : All (λ o. o.rank < next) before) (above : (q : ℕ × ℕ) → In ps q → next ≤ q.0) (claimed : (a : ℕ) → inside a ≡ true → has (places_of before) (place a) ≡ has found a) where
     abbrev bids : List (ℕ × ℕ)
     bids = map (bid place) ps

@@ -29,22 +29,29 @@ module _ (i : Image) (good : IsImage i) where
       card_in_region i.heap.geometry.w i.heap.geometry.k m.0 p (omega (arith, l.k_least)) m.1
 
   -- a covered reference from outside lies on a card of the refined set
-  on_refined : Covered i → (e : Ref) → Contains (refs i.heap) e → region_of i.heap e.target < i.heap.geometry.n → region_of i.heap e.slot ≢ region_of i.heap e.target → Contains (refined i (region_of i.heap e.target)) (card_of i.heap e.slot)
+  on_refined : Covered i → (e : Ref) → Contains (refs i.heap) e → region_of i.heap e.target < i.heap.geometry.n →
+      region_of i.heap e.slot ≢ region_of i.heap e.target → Contains (refined i (region_of i.heap e.target)) (card_of i.heap e.slot)
   on_refined covered e c lt d = elim ((covered_tells i).0 covered e c) [
     | inl same ↦ absurd (d same)
     | inr (inl k) ↦ (refined_tells i good (region_of i.heap e.target) (card_of i.heap e.slot) lt).1 (inl k)
-    | inr (inr k) ↦ (refined_tells i good (region_of i.heap e.target) (card_of i.heap e.slot) lt).1 (inr (k, (exact_tells i.heap good.heap (region_of i.heap e.target) (card_of i.heap e.slot)).1 (e, c, refl, d, refl)))
+    | inr (inr k) ↦ (refined_tells i good (region_of i.heap e.target) (card_of i.heap e.slot) lt).1
+        (inr (k, (exact_tells i.heap good.heap (region_of i.heap e.target) (card_of i.heap e.slot)).1 (e, c, refl, d, refl)))
   ]
 
   -- no card of a refined set lies in its region
   refined_elsewhere : (r c : ℕ) → r < i.heap.geometry.n → Contains (refined i r) c → c * i.heap.geometry.k / i.heap.geometry.w ≢ r
   refined_elsewhere r c lt k = elim ((refined_tells i good r c lt).0 k) [
-    | inl m ↦ (all_in (λ x. Rattle.g1_image.specs.Image.IsUsedCard i.heap x × (region_of_card i.heap x ≢ r)) (remembered_of i r) c (good.remembered r lt).elsewhere (In-from_contains (remembered_of i r) c m)).1
+    | inl m ↦ (all_in (λ x. Rattle.g1_image.specs.Image.IsUsedCard i.heap x × (region_of_card i.heap x ≢ r)) (remembered_of i r) c
+        (good.remembered r lt).elsewhere (In-from_contains (remembered_of i r) c m)).1
     | inr m ↦ (let e = (exact_tells i.heap good.heap r c).0 m.1 in λ z. e.3 (sym (card_home e.0.slot) ∙ ap (λ x. x * i.heap.geometry.k / i.heap.geometry.w) e.4 ∙ z))
   ]
 
   refined_below : (r c : ℕ) → Contains (refined i r) c → c < card_count i.heap
-  refined_below r c k = omega (arith, range_below 0 (card_count i.heap) c (filter_member (is_refined i r) (Rattle.std.specs.List.range_with_len 0 (card_count i.heap)) c (In-from_contains (refined i r) c k)).0)
+  refined_below r c k = omega (
+    arith,
+    range_below 0 (card_count i.heap) c
+        (filter_member (is_refined i r) (Rattle.std.specs.List.range_with_len 0 (card_count i.heap)) c (In-from_contains (refined i r) c k)).0,
+  )
 
 pub refined_lead_in : RefinedLeadIn
 refined_lead_in i window cards good covered below are = (
@@ -62,7 +69,11 @@ pub refined_leads_in : RefinedLeadsIn
 refined_leads_in i r good covered lt =
     let one : List ℕ = r ∷ [] in
     let are : AreRefinedOf i (r ∷ []) (refined i r) = λ c. (
-      (λ k. ((r, Contains-from_in (r ∷ []) r (inl refl), k), same_bool (has (r ∷ []) (c * i.heap.geometry.k / i.heap.geometry.w)) (λ t. only c k (in_from_has (r ∷ []) (c * i.heap.geometry.k / i.heap.geometry.w) t)))),
+      (λ k. (
+        (r, Contains-from_in (r ∷ []) r (inl refl), k),
+        same_bool (has (r ∷ []) (c * i.heap.geometry.k / i.heap.geometry.w))
+            (λ t. only c k (in_from_has (r ∷ []) (c * i.heap.geometry.k / i.heap.geometry.w) t)),
+      )),
       (λ k. subst (λ q. Contains (refined i q) c) (single k.0.0 (In-from_contains (r ∷ []) k.0.0 k.0.1)) k.0.2),
     ) in
     let lead = refined_lead_in i (r ∷ []) (refined i r) good covered (all_from_in (λ q. q < i.heap.geometry.n) (r ∷ []) (λ q k. subst (λ z. z < i.heap.geometry.n) (sym (single q k)) lt)) are in (

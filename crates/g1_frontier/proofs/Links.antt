@@ -1,5 +1,6 @@
 -- From the least rank at each place to first occurrences.
-use Rattle.std.proofs.Common.{◌≡◌, ℕ, suc, ◌<◌, ◌≤◌, inl, inr, Bool, true, false, cond, not, ◌&&◌, ◌||◌, min, List, [], ◌∷◌, ◌++◌, map, filter, refl, sym, ◌∙◌, ap, arith, eqb, eqb-true, eq-eqb, ne_eqb, append_assoc, true≢false, IsPermutation}
+use Rattle.std.proofs.Common.{◌≡◌, ℕ, suc, ◌<◌, ◌≤◌, inl, inr, Bool, true, false, cond, not, ◌&&◌, ◌||◌, min, List, [], ◌∷◌, ◌++◌, map, filter, refl, sym, ◌∙◌, ap, arith, eqb, eqb-true}
+use Rattle.std.proofs.Common.{eq-eqb, ne_eqb, append_assoc, true≢false, IsPermutation}
 use Rattle.std.specs.List.{All}
 use Rattle.std.proofs.lemmas.List.Elements.{All-cons, All-nil}
 use Rattle.std.proofs.lemmas.List.Sorted.{All-permutation, IsPermutation-sym}
@@ -97,7 +98,8 @@ map_snoc [] i = refl
 map_snoc (j ∷ pre) i = ap (λ l. j.0 ∷ l) (map_snoc pre i)
 
 next_test : (pre : List (ℕ × ℕ)) (i : ℕ × ℕ) (y : ℕ) → (not (eqb i.0 y) && not (has (map place_of pre) y)) ≡ not (has (map place_of (pre ++ i ∷ [])) y)
-next_test pre i y = ap (λ b. not b && not (has (map place_of pre) y)) (flip_eqb i.0 y) ∙ at (eqb y i.0) (has (map place_of pre) y) ∙ sym (ap not (ap (λ l. has l y) (map_snoc pre i) ∙ has_snoc (map place_of pre) i.0 y))
+next_test pre i y = ap (λ b. not b && not (has (map place_of pre) y)) (flip_eqb i.0 y) ∙ at (eqb y i.0) (has (map place_of pre) y)
+    ∙ sym (ap not (ap (λ l. has l y) (map_snoc pre i) ∙ has_snoc (map place_of pre) i.0 y))
   where
     at : (a b : Bool) → (not a && not b) ≡ not (b || a)
     at true true = refl
@@ -143,12 +145,15 @@ least_are_firsts pre (i ∷ is) climbs low above =
     let next : List (ℕ × ℕ) = pre ++ i ∷ [] in
     let same : next ++ is ≡ pre ++ i ∷ is = append_assoc pre (i ∷ []) is in
     let rest = least_are_firsts next is climbs.1 low.1
-    (both (λ (j : ℕ × ℕ). Each (λ (k : ℕ × ℕ). k.1 < j.1) pre) (λ (j : ℕ × ℕ). i.1 < j.1) (λ (j : ℕ × ℕ). Each (λ (k : ℕ × ℕ). k.1 < j.1) next) is (λ j a b. each_snoc (λ (k : ℕ × ℕ). k.1 < j.1) pre i a b) above.1 climbs.0) in
+    (both (λ (j : ℕ × ℕ). Each (λ (k : ℕ × ℕ). k.1 < j.1) pre) (λ (j : ℕ × ℕ). i.1 < j.1) (λ (j : ℕ × ℕ). Each (λ (k : ℕ × ℕ). k.1 < j.1) next) is
+    (λ j a b. each_snoc (λ (k : ℕ × ℕ). k.1 < j.1) pre i a b) above.1 climbs.0) in
     let fs : List ℕ = firsts (map place_of is) in
     let tail : map place_of (filter (λ j. eqb (least_bid j.0 (pre ++ i ∷ is)) j.1) is) ≡ filter (λ p. not (has (map place_of pre) p)) (filter (λ y. not (eqb i.0 y)) fs) =
     ap (λ (l : List (ℕ × ℕ)). map place_of (filter (λ j. eqb (least_bid j.0 l) j.1) is)) (sym same) ∙ rest
-    ∙ sym (filter_twice (λ p. not (has (map place_of pre) p)) (λ y. not (eqb i.0 y)) fs ∙ filter-same (λ y. not (eqb i.0 y) && not (has (map place_of pre) y)) (λ y. not (has (map place_of next) y)) fs (next_test pre i)) in
-    ap (λ b. map place_of (cond b (i ∷ filter (λ j. eqb (least_bid j.0 (pre ++ i ∷ is)) j.1) is) (filter (λ j. eqb (least_bid j.0 (pre ++ i ∷ is)) j.1) is))) (head_test pre i is low.0 above.0 climbs.0)
+    ∙ sym (filter_twice (λ p. not (has (map place_of pre) p)) (λ y. not (eqb i.0 y)) fs
+    ∙ filter-same (λ y. not (eqb i.0 y) && not (has (map place_of pre) y)) (λ y. not (has (map place_of next) y)) fs (next_test pre i)) in
+    ap (λ b. map place_of (cond b (i ∷ filter (λ j. eqb (least_bid j.0 (pre ++ i ∷ is)) j.1) is)
+    (filter (λ j. eqb (least_bid j.0 (pre ++ i ∷ is)) j.1) is))) (head_test pre i is low.0 above.0 climbs.0)
     ∙ at (not (has (map place_of pre) i.0)) (filter (λ j. eqb (least_bid j.0 (pre ++ i ∷ is)) j.1) is) (filter (λ p. not (has (map place_of pre) p)) (filter (λ y. not (eqb i.0 y)) fs)) tail
   where
     at : (b : Bool) (l : List (ℕ × ℕ)) (m : List ℕ) → map place_of l ≡ m → map place_of (cond b (i ∷ l) l) ≡ cond b (i.0 ∷ m) m
@@ -190,5 +195,6 @@ won_are_firsts before made is e climbs low above =
     let b : List (ℕ × ℕ) = map bid_of before in
     ap (map place_of) (filter-same (λ j. eqb (least_rank j.0 (before ++ made)) j.1) (λ j. eqb (least_bid j.0 (b ++ is)) j.1) is
     (λ j. ap (λ n. eqb n j.1)
-    (least_of_offers j.0 (before ++ made) ∙ ap (least_bid j.0) (map_both before made) ∙ least_append j.0 b (map bid_of made) ∙ ap (λ n. min (least_bid j.0 b) n) (least_permuted j.0 (map bid_of made) is e) ∙ sym (least_append j.0 b is))))
+    (least_of_offers j.0 (before ++ made) ∙ ap (least_bid j.0) (map_both before made) ∙ least_append j.0 b (map bid_of made)
+    ∙ ap (λ n. min (least_bid j.0 b) n) (least_permuted j.0 (map bid_of made) is e) ∙ sym (least_append j.0 b is))))
     ∙ least_are_firsts b is climbs low above

@@ -17,7 +17,8 @@ has_same xs ys a f g = bool_same (has xs a) (has ys a) (λ e. has_from_in ys a (
 pub has_firsts : (xs : List ℕ) (a : ℕ) → has (firsts xs) a ≡ has xs a
 has_firsts xs a = has_same (firsts xs) xs a (firsts_member xs a) (In-firsts xs a)
 
-keep_at : (x y : ℕ) (ys : List ℕ) → (In (y ∷ ys) x → ⊥) → filter (λ z. not (eqb x z)) ys ≡ ys → (b : Bool) → eqb x y ≡ b → cond (not b) (y ∷ filter (λ z. not (eqb x z)) ys) (filter (λ z. not (eqb x z)) ys) ≡ y ∷ ys
+keep_at : (x y : ℕ) (ys : List ℕ) → (In (y ∷ ys) x → ⊥) → filter (λ z. not (eqb x z)) ys ≡ ys → (b : Bool) → eqb x y ≡ b →
+    cond (not b) (y ∷ filter (λ z. not (eqb x z)) ys) (filter (λ z. not (eqb x z)) ys) ≡ y ∷ ys
 keep_at x y ys h r true e = absurd (h (inl (sym (eqb-true x y e))))
 keep_at x y ys h r false e = ap (λ l. y ∷ l) r
 

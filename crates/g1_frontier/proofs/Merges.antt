@@ -1,5 +1,6 @@
 -- Ranks with addresses in the order of pairs, and lists of them that are merged.
-use Rattle.std.proofs.Common.{◌≡◌, ◌≢◌, ℕ, suc, ◌+◌, ◌<◌, ◌≤◌, Bool, true, false, List, [], ◌∷◌, ◌++◌, map, length, get_or, sym, refl, ap, ◌∙◌, subst, inl, inr, ◌⊎◌, arith, IsPermutation, All, AllPairs, append-nil, nat_cmp, Vec, Global, vec_len}
+use Rattle.std.proofs.Common.{◌≡◌, ◌≢◌, ℕ, suc, ◌+◌, ◌<◌, ◌≤◌, Bool, true, false, List, [], ◌∷◌, ◌++◌, map, length, get_or, sym, refl, ap, ◌∙◌, subst, inl, inr, ◌⊎◌, arith, IsPermutation}
+use Rattle.std.proofs.Common.{All, AllPairs, append-nil, nat_cmp, Vec, Global, vec_len}
 use Rattle.std.specs.Prelude.{Option, Some}
 use Rattle.std.specs.Ordering.{partial_ordering_then, partial_lt}
 use Rattle.std.specs.Cmp.{IsStrictWeakOrder, nat_cmp_is}
@@ -97,7 +98,8 @@ all_up (x ∷ ps) h = steps_up ps x h
 
 pub risen_from_sorted : (ps : List (ℕ × ℕ)) → IsSortedBy (partial_lt pair_cmp) ps → AllPairs (λ q r. q.0 ≤ r.0) ps
 risen_from_sorted ps s =
-    pairs_from_ordered (λ (q r : ℕ × ℕ). q.0 ≤ r.0) ps (all_up ps (λ k d lt. elim (is_not (get_or ps (k + 1) d) (get_or ps k d) (s k d (omega arith) lt)) [ inl l ↦ omega (arith, l) | inr l ↦ omega (arith, l.0) ]))
+    pairs_from_ordered (λ (q r : ℕ × ℕ). q.0 ≤ r.0) ps (all_up ps (λ k d lt. elim
+    (is_not (get_or ps (k + 1) d) (get_or ps k d) (s k d (omega arith) lt)) [ inl l ↦ omega (arith, l) | inr l ↦ omega (arith, l.0) ]))
 
 -- ---- ranks that differ
 
@@ -115,7 +117,8 @@ pub drained : {S A : Type 0} {steps : S → Option A → S → Type 0} (p : Run 
 unfolding YieldsRun
 drained {S} {A} {steps} p s e = subst (λ u. DrainsIf steps (p.whole ≡ true) u p.items) e p.gave.0
 
-pub sources : (gives : Vec (ℕ × ℕ) Global → IntoIter (ℕ × ℕ) Global → Type 0) → ((v : Vec (ℕ × ℕ) Global) (r : IntoIter (ℕ × ℕ) Global) → gives v r → (into_iter_items r ≡ v.items) × (into_iter_len r ≡ vec_len v))
+pub sources : (gives : Vec (ℕ × ℕ) Global → IntoIter (ℕ × ℕ) Global → Type 0) →
+    ((v : Vec (ℕ × ℕ) Global) (r : IntoIter (ℕ × ℕ) Global) → gives v r → (into_iter_items r ≡ v.items) × (into_iter_len r ≡ vec_len v))
     → (vs : List (Vec (ℕ × ℕ) Global)) → SourcesGive gives (into_iter_steps {X = ℕ × ℕ} {Z = Global}) vs (map (λ v. v.items) vs)
 sources gives h [] = tt
 sources gives h (v ∷ vs) = (
@@ -123,9 +126,11 @@ sources gives h (v ∷ vs) = (
   sources gives h vs,
 )
 
-pub all_given : (merged : List (ℕ × ℕ)) (vs : List (Vec (ℕ × ℕ) Global)) (got rest : List (ℕ × ℕ)) → IsPermutation (joined_lists (map (λ v. v.items) vs)) (got ++ rest) → rest ≡ [] → merged ≡ got → IsPermutation (flat_map (λ v. v.items) vs) merged
+pub all_given : (merged : List (ℕ × ℕ)) (vs : List (Vec (ℕ × ℕ) Global)) (got rest : List (ℕ × ℕ)) →
+    IsPermutation (joined_lists (map (λ v. v.items) vs)) (got ++ rest) → rest ≡ [] → merged ≡ got → IsPermutation (flat_map (λ v. v.items) vs) merged
 all_given merged vs got rest p e f =
-    subst (λ (q : List (ℕ × ℕ) × List (ℕ × ℕ)). IsPermutation q.0 q.1) (λ i. (flat_of_map (λ (l : List (ℕ × ℕ)). l) (λ (v : Vec (ℕ × ℕ) Global). v.items) vs i, (ap (λ l. got ++ l) e ∙ append-nil got ∙ sym f) i)) p
+    subst (λ (q : List (ℕ × ℕ) × List (ℕ × ℕ)). IsPermutation q.0 q.1) (λ i.
+    (flat_of_map (λ (l : List (ℕ × ℕ)). l) (λ (v : Vec (ℕ × ℕ) Global). v.items) vs i, (ap (λ l. got ++ l) e ∙ append-nil got ∙ sym f) i)) p
 
 pub all_sorted : (vs : List (Vec (ℕ × ℕ) Global)) → All (λ v. AllPairs (λ q r. q.0 < r.0) v.items) vs → All (IsSortedBy (partial_lt pair_cmp)) (map (λ v. v.items) vs)
 all_sorted vs h = all_map (IsSortedBy (partial_lt pair_cmp)) (λ v. v.items) vs (λ v i. sorted_from_rising v.items (all_in (λ v. AllPairs (λ q r. q.0 < r.0) v.items) vs v h i))

@@ -1,5 +1,6 @@
 -- Offers, one after another.
-use Rattle.std.proofs.Common.{◌≡◌, ℕ, suc, ◌+◌, ◌^◌, ◌<◌, Bool, true, false, cond, List, [], ◌∷◌, ◌++◌, map, filter, flat_map, take, get_or, length, sym, refl, ap, ◌∙◌, subst, arith, append_assoc, append-nil}
+use Rattle.std.proofs.Common.{◌≡◌, ℕ, suc, ◌+◌, ◌^◌, ◌<◌, Bool, true, false, cond, List, [], ◌∷◌, ◌++◌, map, filter, flat_map, take, get_or, length, sym, refl, ap, ◌∙◌, subst, arith}
+use Rattle.std.proofs.Common.{append_assoc, append-nil}
 use Rattle.std.proofs.lemmas.List.{map-append, take_more, flat_map_more}
 use Rattle.g1_claim.specs.declared.rule.Offer.{Offer}
 use Rattle.g1_claim.specs.Claims.{offer, least_rank}
@@ -61,7 +62,8 @@ module _ (place : ℕ → ℕ) where
       at false = refl
 
   -- one more of a list
-  pub tried_more : {A : Type 0} (f : A → List (ℕ × ℕ)) (xs : List A) (n : ℕ) (d : A) (a b c : Holder) → n < length xs → HasTried place (flat_map f (take n xs)) a b → HasTried place (f (get_or xs n d)) b c → HasTried place (flat_map f (take (n + 1) xs)) a c
+  pub tried_more : {A : Type 0} (f : A → List (ℕ × ℕ)) (xs : List A) (n : ℕ) (d : A) (a b c : Holder) → n < length xs →
+      HasTried place (flat_map f (take n xs)) a b → HasTried place (f (get_or xs n d)) b c → HasTried place (flat_map f (take (n + 1) xs)) a c
   tried_more f xs n d a b c lt x y =
       subst (λ ps. HasTried place ps a c) (flat_map_more f [] (take n xs) (get_or xs n d) ∙ ap (flat_map f) (sym (take_more xs n d lt)))
       (tried_append (flat_map f (take n xs)) (f (get_or xs n d)) a b c x y)

@@ -53,7 +53,8 @@ module _ {A B : Type 0} (f : A → List B) (size : ℕ) (xs : List A) where
       ∙ ap (flat_map f) (take_drop size (drop (k * size) xs))
 
   pub all_pieces : {O : Type 0} (os : List O) → length xs ≤ length os * size → flat_map (λ x. flat_map f (piece size x.0 xs)) (enumerate_from 0 os) ≡ flat_map f xs
-  all_pieces os le = pieces_from os 0 (subst (λ n. length xs ≤ n * size) (let e : length os ≡ 0 + length os = omega arith in e) le) ∙ ap (λ n. flat_map f (drop n xs)) (let e : 0 * size ≡ 0 = omega arith in e)
+  all_pieces os le = pieces_from os 0 (subst (λ n. length xs ≤ n * size) (let e : length os ≡ 0 + length os = omega arith in e) le)
+      ∙ ap (λ n. flat_map f (drop n xs)) (let e : 0 * size ≡ 0 = omega arith in e)
 
 -- ---- pieces in order
 
@@ -90,14 +91,16 @@ module _ {A B : Type 0} (R : B → B → Type 0) (f : A → List B) (size : ℕ)
   piece_ordered : (k : ℕ) → Ordered R (flat_map f (piece size k xs))
   piece_ordered k =
       let rest : List A = drop (k * size) xs in
-      (Ordered-apart R (flat_map f (take size rest)) (flat_map f (drop size rest)) (subst (Ordered R) (sym (sym (flat_map-append f (take size rest) (drop size rest)) ∙ ap (flat_map f) (take_drop size rest))) (cut (k * size)).1)).0
+      (Ordered-apart R (flat_map f (take size rest)) (flat_map f (drop size rest))
+      (subst (Ordered R) (sym (sym (flat_map-append f (take size rest) (drop size rest)) ∙ ap (flat_map f) (take_drop size rest))) (cut (k * size)).1)).0
 
   pieces_apart : (j k : ℕ) (x y : B) → j < k → In (flat_map f (piece size j xs)) x → In (flat_map f (piece size k xs)) y → R x y
   pieces_apart j k x y lt a b =
       let m : (j + 1) * size ≤ k * size = mul-le-mul_right size (omega (arith, lt)) in
       let p = flat_map_cases f (piece size j xs) x a in
       let q = flat_map_cases f (piece size k xs) y b in
-      (cut (k * size)).2 x y (In-flat_map f (take (k * size) xs) p.0 x (early size (j * size) (k * size) xs p.0 (omega (arith, m)) p.1) p.2) (In-flat_map f (drop (k * size) xs) q.0 y (In-take size (drop (k * size) xs) q.0 q.1) q.2)
+      (cut (k * size)).2 x y (In-flat_map f (take (k * size) xs) p.0 x (early size (j * size) (k * size) xs p.0 (omega (arith, m)) p.1) p.2)
+      (In-flat_map f (drop (k * size) xs) q.0 y (In-take size (drop (k * size) xs) q.0 q.1) q.2)
 
   -- chunks that rise have pieces in order
   pub some_pieces : {O : Type 0} (n : ℕ) (cs : List (ℕ × O)) → RisesBelow n (chunks_of cs) → Ordered R (flat_map (λ c. flat_map f (piece size c.0 xs)) cs)

@@ -1,5 +1,6 @@
 -- What one worker finds.
-use Rattle.std.proofs.Common.{◌≡◌, ◌≢◌, ◌≤◌, ◌<◌, ℕ, suc, ◌^◌, ◌+◌, ◌*◌, ◌/◌, inl, inr, ◌⊎◌, Bool, true, false, cond, not, ◌||◌, min, eqb, eq-eqb, ne_eqb, List, [], ◌∷◌, ◌++◌, map, filter, flat_map, length, take, get_or, Contains, refl, sym, ap, subst, ◌∙◌, arith, All, append_assoc, append-nil, length-append, true≢false}
+use Rattle.std.proofs.Common.{◌≡◌, ◌≢◌, ◌≤◌, ◌<◌, ℕ, suc, ◌^◌, ◌+◌, ◌*◌, ◌/◌, inl, inr, ◌⊎◌, Bool, true, false, cond, not, ◌||◌, min, eqb, eq-eqb, ne_eqb, List, [], ◌∷◌, ◌++◌, map, filter}
+use Rattle.std.proofs.Common.{flat_map, length, take, get_or, Contains, refl, sym, ap, subst, ◌∙◌, arith, All, append_assoc, append-nil, length-append, true≢false}
 use Rattle.std.proofs.lemmas.Bool.{cases_lt}
 use Rattle.std.proofs.lemmas.Nat.{le-div}
 use Rattle.std.proofs.lemmas.List.{map-append, take_more, flat_map_more}
@@ -117,7 +118,8 @@ module _ (s : Scope) (ok : IsScope s) where
     }
 
     -- a seat that offered at the place of one more
-    pub more_found : (after : SeatView) (a r : ℕ) (b : Bool) → inside s a ≡ true → has found a ≡ false → r ≡ length found → IsSeatOf t after → after.hand.shares ≡ seat.hand.shares → after.hand.offers ≡ seat.hand.offers ++ offer (place_in s a) r b ∷ [] → HasFound s t after (found ++ a ∷ [])
+    pub more_found : (after : SeatView) (a r : ℕ) (b : Bool) → inside s a ≡ true → has found a ≡ false → r ≡ length found → IsSeatOf t after →
+        after.hand.shares ≡ seat.hand.shares → after.hand.offers ≡ seat.hand.offers ++ offer (place_in s a) r b ∷ [] → HasFound s t after (found ++ a ∷ [])
     more_found after a r b i new rank is shares offers =
         let o : Offer = offer (place_in s a) r b in
         let os : List Offer = seat.hand.offers in
@@ -154,7 +156,8 @@ module _ (s : Scope) (ok : IsScope s) where
     }
 
     -- one more of a list
-    pub noted_more : {A : Type 0} (f : A → List ℕ) (xs : List A) (n : ℕ) (d : A) (a b c : Queue) → n < length xs → HasNoted s t (flat_map f (take n xs)) a b → HasNoted s t (f (get_or xs n d)) b c → HasNoted s t (flat_map f (take (n + 1) xs)) a c
+    pub noted_more : {A : Type 0} (f : A → List ℕ) (xs : List A) (n : ℕ) (d : A) (a b c : Queue) → n < length xs →
+        HasNoted s t (flat_map f (take n xs)) a b → HasNoted s t (f (get_or xs n d)) b c → HasNoted s t (flat_map f (take (n + 1) xs)) a c
     noted_more f xs n d a b c lt x y =
         subst (λ l. HasNoted s t l a c) (flat_map_more f [] (take n xs) (get_or xs n d) ∙ ap (flat_map f) (sym (take_more xs n d lt)))
         (noted_append (flat_map f (take n xs)) (f (get_or xs n d)) a b c x y)
@@ -170,7 +173,8 @@ module _ (s : Scope) (ok : IsScope s) where
         }
 
     -- one more waits
-    pub noted_waits : (a b : Queue) (x : Target) → IsQueue s t a → IsTarget s x → b.seat ≡ a.seat → b.found.items ≡ a.found.items → b.waiting.items ≡ a.waiting.items ++ x ∷ [] → HasNoted s t (x.address ∷ []) a b
+    pub noted_waits : (a b : Queue) (x : Target) → IsQueue s t a → IsTarget s x → b.seat ≡ a.seat → b.found.items ≡ a.found.items →
+        b.waiting.items ≡ a.waiting.items ++ x ∷ [] → HasNoted s t (x.address ∷ []) a b
     noted_waits a b x is target seat found waits = record {
       queue = record {
         found = subst (λ (v : SeatView). HasFound s t v b.found.items) (sym seat) (subst (HasFound s t a.seat) (sym found) is.found);
@@ -179,7 +183,8 @@ module _ (s : Scope) (ok : IsScope s) where
       behind = [];
       stays = found ∙ sym (append-nil a.found.items);
       longer =
-          ap firsts ((λ i. found i ++ addresses (waits i)) ∙ ap (λ l. a.found.items ++ l) (map-append (λ (x : Target). x.address) a.waiting.items (x ∷ [])) ∙ sym (append_assoc a.found.items (addresses a.waiting.items) (x.address ∷ [])));
+          ap firsts ((λ i. found i ++ addresses (waits i)) ∙ ap (λ l. a.found.items ++ l)
+          (map-append (λ (x : Target). x.address) a.waiting.items (x ∷ [])) ∙ sym (append_assoc a.found.items (addresses a.waiting.items) (x.address ∷ [])));
     }
 
 -- ---- what a word names in the window
@@ -225,7 +230,8 @@ module _ (s : Scope) (ok : IsScope s) (t : TableView) where
   }
 
   -- the seeds are noted
-  pub begun : (cards : List ℕ) → AreCards s.heap.now cards → AreOutside s.heap.now s.window.now cards → LeadIn s.heap.now s.window.now cards → (a b c d : Queue) → a.found.items ≡ [] → a.waiting.items ≡ []
+  pub begun : (cards : List ℕ) → AreCards s.heap.now cards → AreOutside s.heap.now s.window.now cards → LeadIn s.heap.now s.window.now cards →
+      (a b c d : Queue) → a.found.items ≡ [] → a.waiting.items ≡ []
       → HasNoted s t (flat_map (names_in s) s.heap.now.roots) a b → HasNoted s t (flat_map (card_names s) cards) b c → HasNoted s t [] c d → d.waiting.items ≡ [] → IsUnderWay s t 0 d
   begun cards rising outside lead_in a b c d found waits x y z settled =
       let h = s.heap.now in
@@ -248,7 +254,8 @@ module _ (s : Scope) (ok : IsScope s) (t : TableView) where
     here = In-get a.found.items from 0 lt
 
     pub here_reached : Reached (seeds s.heap.now s.window.now) (children s.heap.now s.window.now) (get_or a.found.items from 0)
-    here_reached = u.reached (get_or a.found.items from 0) (Contains-from_in (noted a) (get_or a.found.items from 0) (In-append_left a.found.items (addresses a.waiting.items) (get_or a.found.items from 0) here))
+    here_reached = u.reached (get_or a.found.items from 0) (Contains-from_in (noted a) (get_or a.found.items from 0)
+        (In-append_left a.found.items (addresses a.waiting.items) (get_or a.found.items from 0) here))
 
     -- what is searched is an object
     pub here_object : Contains (objects s.heap.now) (object_at s.heap.now (get_or a.found.items from 0))

@@ -1,5 +1,6 @@
 -- The ranks of a round, and what it names.
-use Rattle.std.proofs.Common.{◌≡◌, ℕ, zero, suc, ◌+◌, ◌-◌, ◌<◌, ◌≤◌, ◌%◌, ◌^◌, inl, inr, Bool, true, false, cond, List, [], ◌∷◌, ◌++◌, map, filter, flat_map, length, get_or, sum_by, arith, refl, sym, ap, subst, ◌∙◌, append_assoc, length-append, eqb}
+use Rattle.std.proofs.Common.{◌≡◌, ℕ, zero, suc, ◌+◌, ◌-◌, ◌<◌, ◌≤◌, ◌%◌, ◌^◌, inl, inr, Bool, true, false, cond, List, [], ◌∷◌, ◌++◌, map, filter, flat_map, length, get_or, sum_by, arith}
+use Rattle.std.proofs.Common.{refl, sym, ap, subst, ◌∙◌, append_assoc, length-append, eqb}
 use Rattle.std.specs.List.{range_with_len}
 use Rattle.std.proofs.lemmas.List.Sums.{sum_by-cons}
 use Rattle.std.proofs.lemmas.Grind.{flat_map-append}
@@ -118,7 +119,9 @@ module _ (h : Heap) (window : List ℕ) where
   read_range : (f : ℕ → List ℕ) (pre xs : List ℕ) → flat_map (λ n. f (get_or (pre ++ xs) n 0)) (range_with_len (length pre) (length xs)) ≡ flat_map f xs
   read_range f pre [] = refl
   read_range f pre (x ∷ xs) =
-      (λ i. f (at pre x xs i) ++ (ap (λ (l : List ℕ). flat_map (λ n. f (get_or l n 0)) (range_with_len (length pre + 1) (length xs))) (sym (append_assoc pre (x ∷ []) xs)) ∙ ap (λ m. flat_map (λ n. f (get_or ((pre ++ x ∷ []) ++ xs) n 0)) (range_with_len m (length xs))) (sym (length-append pre (x ∷ []))) ∙ read_range f (pre ++ x ∷ []) xs) i)
+      (λ i. f (at pre x xs i) ++ (ap (λ (l : List ℕ). flat_map (λ n. f (get_or l n 0)) (range_with_len (length pre + 1) (length xs)))
+      (sym (append_assoc pre (x ∷ []) xs)) ∙ ap (λ m. flat_map (λ n. f (get_or ((pre ++ x ∷ []) ++ xs) n 0)) (range_with_len m (length xs)))
+      (sym (length-append pre (x ∷ []))) ∙ read_range f (pre ++ x ∷ []) xs) i)
     where
       at : (ys : List ℕ) (y : ℕ) (zs : List ℕ) → get_or (ys ++ y ∷ zs) (length ys) 0 ≡ y
       at [] y zs = refl
@@ -154,8 +157,10 @@ module _ (h : Heap) (window : List ℕ) where
     cards_rise : Ordered RankLess (all_pairs h window (map (λ c. Card c base) cards))
     cards_rise =
         subst (Ordered RankLess) (sym cards_pairs)
-        (Ordered-flat_map (λ x y. x < y) RankLess (λ c. flat_map (λ p. aims h window (base + p) (word h p)) (slots_on h c)) cards (Ordered-from_pairs (λ x y. x < y) cards (AllPairs-from_increasing cards rising.rise))
-        (λ c i. aimed_ordered (λ p. base + p) (word h) (slots_on h c) (shifted (slots_on h c) (Ordered-filter (λ x y. x < y) (λ p. eqb (card_of h p) c) (all_slots h) (slots_ordered h window cards valid rising outside lead_in))))
+        (Ordered-flat_map (λ x y. x < y) RankLess (λ c. flat_map (λ p. aims h window (base + p) (word h p)) (slots_on h c)) cards
+        (Ordered-from_pairs (λ x y. x < y) cards (AllPairs-from_increasing cards rising.rise))
+        (λ c i. aimed_ordered (λ p. base + p) (word h) (slots_on h c) (shifted (slots_on h c)
+        (Ordered-filter (λ x y. x < y) (λ p. eqb (card_of h p) c) (all_slots h) (slots_ordered h window cards valid rising outside lead_in))))
         (λ c d a b i j lt k l.
         let m = card_rank c a k in
         let n = card_rank d b l in
@@ -172,7 +177,8 @@ module _ (h : Heap) (window : List ℕ) where
     cards_name : map (λ (q : ℕ × ℕ). q.1) (all_pairs h window (map (λ c. Card c base) cards)) ≡ flat_map (λ c. filter (in_set h window) (flat_map (λ p. named (word h p)) (slots_on h c))) cards
     cards_name = ap (map (λ (q : ℕ × ℕ). q.1)) cards_pairs ∙ map_flat (λ (q : ℕ × ℕ). q.1) (λ c. flat_map (λ p. aims h window (base + p) (word h p)) (slots_on h c)) cards ∙ same cards
       where
-        same : (cs : List ℕ) → flat_map (λ c. map (λ (q : ℕ × ℕ). q.1) (flat_map (λ p. aims h window (base + p) (word h p)) (slots_on h c))) cs ≡ flat_map (λ c. filter (in_set h window) (flat_map (λ p. named (word h p)) (slots_on h c))) cs
+        same : (cs : List ℕ) → flat_map (λ c. map (λ (q : ℕ × ℕ). q.1) (flat_map (λ p. aims h window (base + p) (word h p)) (slots_on h c))) cs
+            ≡ flat_map (λ c. filter (in_set h window) (flat_map (λ p. named (word h p)) (slots_on h c))) cs
         same [] = refl
         same (c ∷ cs) = λ i. aimed_names (λ p. base + p) (word h) (slots_on h c) i ++ same cs i
 
@@ -185,7 +191,8 @@ module _ (h : Heap) (window : List ℕ) where
     pub first_rise : Ordered RankLess (all_pairs h window (first_items (length h.roots) cards))
     first_rise =
         subst (Ordered RankLess) (sym split)
-        (Ordered-append RankLess (all_pairs h window (root_items (length h.roots))) (all_pairs h window (map (λ c. Card c (length h.roots)) cards)) (roots_rise (length h.roots)) (cards_rise valid cards rising outside lead_in (length h.roots))
+        (Ordered-append RankLess (all_pairs h window (root_items (length h.roots))) (all_pairs h window (map (λ c. Card c (length h.roots)) cards))
+        (roots_rise (length h.roots)) (cards_rise valid cards rising outside lead_in (length h.roots))
         (λ q r i j. let a = roots_rank (length h.roots) q i in let b = cards_range valid cards rising outside lead_in (length h.roots) r j in omega (arith, a, b.0)))
 
     pub first_range : (q : ℕ × ℕ) → In (all_pairs h window (first_items (length h.roots) cards)) q → q.0 < length h.roots + length h.words

@@ -1,5 +1,6 @@
 -- A search from round to round.
-use Rattle.std.proofs.Common.{◌≡◌, ◌≢◌, ℕ, zero, suc, ◌+◌, ◌*◌, ◌<◌, ◌≤◌, ◌^◌, inl, inr, ◌⊎◌, true, List, [], ◌∷◌, ◌++◌, map, flat_map, length, take, drop, sum_by, refl, sym, ap, subst, ◌∙◌, arith, All, Contains, length-append, get_or}
+use Rattle.std.proofs.Common.{◌≡◌, ◌≢◌, ℕ, zero, suc, ◌+◌, ◌*◌, ◌<◌, ◌≤◌, ◌^◌, inl, inr, ◌⊎◌, true, List, [], ◌∷◌, ◌++◌, map, flat_map, length, take, drop, sum_by, refl, sym, ap, subst, ◌∙◌}
+use Rattle.std.proofs.Common.{arith, All, Contains, length-append, get_or}
 use Rattle.std.specs.List.{range_with_len}
 use Rattle.std.proofs.Math.Nat.{div-le_self, mul-le-mul_right}
 use Rattle.std.proofs.lemmas.Bool.Decides.{Decides-eqb}
@@ -52,14 +53,17 @@ items_snoc h base [] a = ap (λ b. ObjectItem a b ∷ []) (let e : base ≡ base
 items_snoc h base (x ∷ all_of) a =
     ap (λ l. ObjectItem x base ∷ l)
     (items_snoc h (base + slot_count h x) all_of a
-    ∙ ap (λ b. object_items h (base + slot_count h x) all_of ++ ObjectItem a b ∷ []) (let s = sum_by-cons (slot_count h) x all_of in let e : base + slot_count h x + sum_by (slot_count h) all_of ≡ base + sum_by (slot_count h) (x ∷ all_of) = omega (arith, s) in e))
+    ∙ ap (λ b. object_items h (base + slot_count h x) all_of ++ ObjectItem a b ∷ []) (let s = sum_by-cons (slot_count h) x all_of in
+    let e : base + slot_count h x + sum_by (slot_count h) all_of ≡ base + sum_by (slot_count h) (x ∷ all_of) = omega (arith, s) in e))
 
 pub total_more : (h : Heap) (all_of : List ℕ) (i : ℕ) → i < length all_of → sum_by (slot_count h) (take (i + 1) all_of) ≡ sum_by (slot_count h) (take i all_of) + slot_count h (get_or all_of i 0)
 total_more h all_of i lt =
     let a : ℕ = get_or all_of i 0 in
-    ap (sum_by (slot_count h)) (take_more all_of i 0 lt) ∙ sum_by-append (slot_count h) (take i all_of) (a ∷ []) ∙ ap (λ n. sum_by (slot_count h) (take i all_of) + n) (let s = sum_by-cons (slot_count h) a [] in let e : sum_by (slot_count h) (a ∷ []) ≡ slot_count h a = omega (arith, s) in e)
+    ap (sum_by (slot_count h)) (take_more all_of i 0 lt) ∙ sum_by-append (slot_count h) (take i all_of) (a ∷ [])
+    ∙ ap (λ n. sum_by (slot_count h) (take i all_of) + n) (let s = sum_by-cons (slot_count h) a [] in let e : sum_by (slot_count h) (a ∷ []) ≡ slot_count h a = omega (arith, s) in e)
 
-pub items_more : (h : Heap) (base : ℕ) (all_of : List ℕ) (i : ℕ) → i < length all_of → object_items h base (take i all_of) ++ ObjectItem (get_or all_of i 0) (base + sum_by (slot_count h) (take i all_of)) ∷ [] ≡ object_items h base (take (i + 1) all_of)
+pub items_more : (h : Heap) (base : ℕ) (all_of : List ℕ) (i : ℕ) → i < length all_of →
+    object_items h base (take i all_of) ++ ObjectItem (get_or all_of i 0) (base + sum_by (slot_count h) (take i all_of)) ∷ [] ≡ object_items h base (take (i + 1) all_of)
 items_more h base all_of i lt = sym (items_snoc h base (take i all_of) (get_or all_of i 0)) ∙ ap (object_items h base) (sym (take_more all_of i 0 lt))
 
 -- ---- slots are few
@@ -109,7 +113,8 @@ module _ (h : Heap) (valid : IsValid h) where
         let bq_high = range_below (b + 1) (slot_count h b) q l in
         let fa = (sound h valid).slots_fit (object_at h a) (are a i) in
         let fb = (sound h valid).slots_fit (object_at h b) (are b j) in
-        elim (either IsBefore (objects h) (object_at h a) (object_at h b) (Ordered-from_pairs IsBefore (objects h) (objects_apart h valid)) (In-from_contains (objects h) (object_at h a) (are a i)) (In-from_contains (objects h) (object_at h b) (are b j))) [
+        elim (either IsBefore (objects h) (object_at h a) (object_at h b) (Ordered-from_pairs IsBefore (objects h) (objects_apart h valid))
+        (In-from_contains (objects h) (object_at h a) (are a i)) (In-from_contains (objects h) (object_at h b) (are b j))) [
           | inl same ↦ ne (ap (λ (o : Object). o.at) same)
           | inr (inl before) ↦ omega (arith, ap_high, bq_low, fa, before, e)
           | inr (inr before) ↦ omega (arith, ap_low, bq_high, fb, before, e)
@@ -119,7 +124,8 @@ module _ (h : Heap) (valid : IsValid h) where
     slot_total =
         let all : List ℕ = flat_map (λ a. slots (object_at h a)) all_of in
         let apart : Ordered (λ x y. x ≢ y) (flat_map (λ a. slots (object_at h a)) all_of) =
-        Ordered-flat_map (λ x y. x ≢ y) (λ x y. x ≢ y) (λ a. slots (object_at h a)) all_of (differ all_of distinct) (λ a i. range_differs (slots (object_at h a)) (Ordered-range (a + 1) (slot_count h a))) (λ a b p q i j ne k l. slots_differ a b p q i j ne k l) in
+        Ordered-flat_map (λ x y. x ≢ y) (λ x y. x ≢ y) (λ a. slots (object_at h a)) all_of (differ all_of distinct)
+        (λ a i. range_differs (slots (object_at h a)) (Ordered-range (a + 1) (slot_count h a))) (λ a b p q i j ne k l. slots_differ a b p q i j ne k l) in
         let few = length-le_from_distinct_below all (length h.words) (IsDistinct-from_AllPairs Decides-eqb all (pairs_from_ordered (λ x y. x ≢ y) all apart))
         (λ q e. let m = flat_map_cases (λ a. slots (object_at h a)) all_of q (in_from_has all q e) in
         let high = range_below (m.0 + 1) (slot_count h m.0) q m.2 in
@@ -173,13 +179,16 @@ module _ (h : Heap) (valid : IsValid h) where
     small q i = first_range h window valid cards rising outside lead_in q i
 
     pub first_ranks : AreRanks (all_pairs h window (first_items (length h.roots) cards))
-    first_ranks = all_from_in (λ q. q.0 < 2 ^ 32) (all_pairs h window (first_items (length h.roots) cards)) (λ q i. let k = small q i in omega (arith, k, valid.root_count, valid.word_count, valid.limits.words_most))
+    first_ranks = all_from_in (λ q. q.0 < 2 ^ 32) (all_pairs h window (first_items (length h.roots) cards)) (λ q i. let k = small q i in
+        omega (arith, k, valid.root_count, valid.word_count, valid.limits.words_most))
 
     some : 0 < h.geometry.w
     some = omega (arith, valid.limits.w_least)
 
-    pub first_search : (s : Search) → IsSeatOf s.claims s.seat → s.seat.hand.shares ≡ 64 → s.claims.places ≡ length window * h.geometry.w → AddsOffers (place h window) (all_pairs h window (first_items (length h.roots) cards)) [] s.seat.hand.offers
-        → s.found.items ≡ map (λ q. q.1) (winners (place h window) s.seat.hand.offers (all_pairs h window (first_items (length h.roots) cards))) → s.from ≡ 0 → s.next ≡ length h.roots + length h.words → IsSearching h window s
+    pub first_search : (s : Search) → IsSeatOf s.claims s.seat → s.seat.hand.shares ≡ 64 → s.claims.places ≡ length window * h.geometry.w →
+        AddsOffers (place h window) (all_pairs h window (first_items (length h.roots) cards)) [] s.seat.hand.offers
+        → s.found.items ≡ map (λ q. q.1) (winners (place h window) s.seat.hand.offers (all_pairs h window (first_items (length h.roots) cards))) →
+        s.from ≡ 0 → s.next ≡ length h.roots + length h.words → IsSearching h window s
     first_search s seat whole places adds found from next =
         let apart : (a b : ℕ) → in_set h window a ≡ true → in_set h window b ≡ true → place h window b ≡ place h window a → b ≡ a = λ a b t u e. place_apart h window some a b t u e in
         let rise : Ordered RankLess ps = first_rise h window valid cards rising outside lead_in in
@@ -192,8 +201,10 @@ module _ (h : Heap) (valid : IsValid h) where
           seat = seat;
           whole = whole;
           places = places;
-          claimed = claimed_on (place h window) (in_set h window) apart ps [] [] s.seat.hand.offers 0 adds rise low within (All-nil (λ (o : Offer). o.rank < 0)) (λ q i. omega arith) (λ a t. refl) s.found.items (found ∙ on);
-          ranks = ranks_on (place h window) (in_set h window) apart ps [] [] s.seat.hand.offers 0 adds rise low within (All-nil (λ (o : Offer). o.rank < 0)) (λ q i. omega arith) (λ a t. refl) s.next (omega arith) (λ q i. let k = small q i in omega (arith, k, next));
+          claimed = claimed_on (place h window) (in_set h window) apart ps [] [] s.seat.hand.offers 0 adds rise low within
+              (All-nil (λ (o : Offer). o.rank < 0)) (λ q i. omega arith) (λ a t. refl) s.found.items (found ∙ on);
+          ranks = ranks_on (place h window) (in_set h window) apart ps [] [] s.seat.hand.offers 0 adds rise low within
+              (All-nil (λ (o : Offer). o.rank < 0)) (λ q i. omega arith) (λ a t. refl) s.next (omega arith) (λ q i. let k = small q i in omega (arith, k, next));
           next = let z : sum_by (slot_count h) (take s.from s.found.items) ≡ 0 = ap (sum_by (slot_count h)) none in omega (arith, next, z);
           from = omega (arith, from);
           in_order = begins (seeds h window) (children h window) s.found.items e ∙ ap (λ l. firsts (seeds h window ++ flat_map (children h window) l)) (sym none);
@@ -262,8 +273,10 @@ module _ (h : Heap) (valid : IsValid h) where
         all_from_in (λ (o : Offer). All (λ (q : ℕ × ℕ). o.rank < q.0) qs) s.seat.hand.offers
         (λ o i. all_from_in (λ (q : ℕ × ℕ). o.rank < q.0) qs (λ q j. let a = all_in (λ (o : Offer). o.rank < s.next) s.seat.hand.offers o r.ranks i in let b = (range_of q j).0 in omega (arith, a, b)))
 
-    pub next_search : (t : Search) → IsSeatOf t.claims t.seat → t.seat.hand.shares ≡ 64 → t.claims ≡ s.claims → AddsOffers (place h window) (all_pairs h window (object_items h s.next (drop s.from s.found.items))) s.seat.hand.offers t.seat.hand.offers
-        → t.found.items ≡ s.found.items ++ map (λ q. q.1) (winners (place h window) t.seat.hand.offers (all_pairs h window (object_items h s.next (drop s.from s.found.items)))) → t.from ≡ length s.found.items
+    pub next_search : (t : Search) → IsSeatOf t.claims t.seat → t.seat.hand.shares ≡ 64 → t.claims ≡ s.claims →
+        AddsOffers (place h window) (all_pairs h window (object_items h s.next (drop s.from s.found.items))) s.seat.hand.offers t.seat.hand.offers
+        → t.found.items ≡ s.found.items ++ map (λ q. q.1) (winners (place h window) t.seat.hand.offers
+        (all_pairs h window (object_items h s.next (drop s.from s.found.items)))) → t.from ≡ length s.found.items
         → t.next ≡ s.next + sum_by (slot_count h) (drop s.from s.found.items) → IsSearching h window t
     next_search t seat whole same adds more from next =
         let some_words : 0 < h.geometry.w = omega (arith, valid.limits.w_least) in
@@ -276,17 +289,21 @@ module _ (h : Heap) (valid : IsValid h) where
         let named : map (λ (q : ℕ × ℕ). q.1) qs ≡ flat_map (children h window) rest = objects_name h window s.next rest in
         let e : t.found.items ≡ firsts (found ++ flat_map (children h window) rest) = more ∙ on ∙ ap (λ l. firsts (found ++ l)) named in
         let front : take (length found) t.found.items ≡ found = ap (take (length found)) more ∙ take_front found (map (λ q. q.1) (winners (place h window) t.seat.hand.offers qs)) in
-        let long : length t.found.items ≡ length found + length (map (λ (q : ℕ × ℕ). q.1) (winners (place h window) t.seat.hand.offers qs)) = ap length more ∙ length-append found (map (λ q. q.1) (winners (place h window) t.seat.hand.offers qs)) in record {
+        let long : length t.found.items ≡ length found + length (map (λ (q : ℕ × ℕ). q.1) (winners (place h window) t.seat.hand.offers qs)) =
+        ap length more ∙ length-append found (map (λ q. q.1) (winners (place h window) t.seat.hand.offers qs)) in record {
           seat = seat;
           whole = whole;
           places = ap (λ (c : TableView). c.places) same ∙ r.places;
           claimed = claimed_on (place h window) (in_set h window) apart qs found s.seat.hand.offers t.seat.hand.offers s.next adds rise low within r.ranks above r.claimed t.found.items (more ∙ on);
-          ranks = ranks_on (place h window) (in_set h window) apart qs found s.seat.hand.offers t.seat.hand.offers s.next adds rise low within r.ranks above r.claimed t.next (omega (arith, next)) (λ q i. let k = (range_of q i).1 in omega (arith, k, next));
+          ranks = ranks_on (place h window) (in_set h window) apart qs found s.seat.hand.offers t.seat.hand.offers s.next adds rise low within r.ranks
+              above r.claimed t.next (omega (arith, next)) (λ q i. let k = (range_of q i).1 in omega (arith, k, next));
           next =
-              let z : sum_by (slot_count h) (take t.from t.found.items) ≡ sum_by (slot_count h) found = ap (λ n. sum_by (slot_count h) (take n t.found.items)) from ∙ ap (sum_by (slot_count h)) front in
+              let z : sum_by (slot_count h) (take t.from t.found.items) ≡ sum_by (slot_count h) found =
+              ap (λ n. sum_by (slot_count h) (take n t.found.items)) from ∙ ap (sum_by (slot_count h)) front in
               let p = total_parts in
               let n = r.next in omega (arith, next, z, p, n);
           from = omega (arith, from, long, t.found.ok);
-          in_order = turn (seeds h window) (children h window) found t.found.items s.from r.in_order e ∙ ap (λ n. firsts (seeds h window ++ flat_map (children h window) (take n t.found.items))) (sym from);
+          in_order = turn (seeds h window) (children h window) found t.found.items s.from r.in_order e
+              ∙ ap (λ n. firsts (seeds h window ++ flat_map (children h window) (take n t.found.items))) (sym from);
           reached = λ a c. turn_reached (seeds h window) (children h window) found t.found.items s.from (λ b i. r.reached b (Contains-from_in found b i)) e a (In-from_contains t.found.items a c);
         }

@@ -1,5 +1,6 @@
 -- What the first items name in the window are the seeds.
-use Rattle.std.proofs.Common.{◌≡◌, ◌≤◌, ◌<◌, ℕ, zero, suc, ◌+◌, ◌*◌, ◌/◌, inl, inr, Bool, true, false, not, cond, ◌&&◌, List, [], ◌∷◌, ◌++◌, map, filter, flat_map, Contains, arith, refl, sym, ap, subst, ◌∙◌, eqb, eqb-true, eq-eqb}
+use Rattle.std.proofs.Common.{◌≡◌, ◌≤◌, ◌<◌, ℕ, zero, suc, ◌+◌, ◌*◌, ◌/◌, inl, inr, Bool, true, false, not, cond, ◌&&◌, List, [], ◌∷◌, ◌++◌, map, filter, flat_map, Contains, arith, refl}
+use Rattle.std.proofs.Common.{sym, ap, subst, ◌∙◌, eqb, eqb-true, eq-eqb}
 use Rattle.std.proofs.lemmas.Nat.{le-div}
 use Rattle.std.proofs.Math.Nat.{div-mul-le_self}
 use Rattle.std.proofs.lemmas.Bool.{cases_lt, false≢true}
@@ -82,7 +83,8 @@ module _ (h : Heap) (window cards : List ℕ) (valid : IsValid h) (rising : AreC
   pub apart : (c d p q : ℕ) → c < d → In (slots_on h c) p → In (slots_on h d) q → p < q
   apart c d p q lt i j = elim (cases_lt p q) [
     | inl less ↦ less
-    | inr ge ↦ let k : q / h.geometry.k ≤ p / h.geometry.k = le-div (q / h.geometry.k) p h.geometry.k (omega (arith, valid.limits.k_least)) (omega (arith, div-mul-le_self q h.geometry.k, ge)) in absurd (omega (arith, k, lt, (on_card c p i).1, (on_card d q j).1))
+    | inr ge ↦ let k : q / h.geometry.k ≤ p / h.geometry.k = le-div (q / h.geometry.k) p h.geometry.k (omega (arith, valid.limits.k_least))
+        (omega (arith, div-mul-le_self q h.geometry.k, ge)) in absurd (omega (arith, k, lt, (on_card c p i).1, (on_card d q j).1))
   ]
 
   -- the cards' slots are those that lie on one of the cards
@@ -149,7 +151,8 @@ module _ (h : Heap) (window cards : List ℕ) (valid : IsValid h) (rising : AreC
 
   by_cards : flat_map (λ c. filter (in_set h window) (flat_map (λ p. named (word h p)) (slots_on h c))) cards ≡ map (λ (e : Ref). e.target) (filter crosses (refs h))
   by_cards =
-      flat_same (λ c. filter (in_set h window) (flat_map (λ p. named (word h p)) (slots_on h c))) (λ c. flat_map inner (slots_on h c)) cards (λ c i. filter_flat (in_set h window) (λ p. named (word h p)) (slots_on h c))
+      flat_same (λ c. filter (in_set h window) (flat_map (λ p. named (word h p)) (slots_on h c))) (λ c. flat_map inner (slots_on h c)) cards
+      (λ c i. filter_flat (in_set h window) (λ p. named (word h p)) (slots_on h c))
       ∙ flat_of_flat inner (slots_on h) cards
       ∙ ap (flat_map inner) card_slots
       ∙ flat_of_filter inner on_cards (all_slots h)

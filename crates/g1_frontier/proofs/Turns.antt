@@ -1,5 +1,6 @@
 -- The search from round to round.
-use Rattle.std.proofs.Common.{◌≡◌, ℕ, zero, suc, ◌+◌, ◌-◌, ◌≤◌, inr, not, List, [], ◌∷◌, ◌++◌, filter, length, take, drop, refl, sym, ◌∙◌, ap, subst, arith, append_assoc, append-nil, length-append, ⊎_elim}
+use Rattle.std.proofs.Common.{◌≡◌, ℕ, zero, suc, ◌+◌, ◌-◌, ◌≤◌, inr, not, List, [], ◌∷◌, ◌++◌, filter, length, take, drop, refl, sym, ◌∙◌, ap, subst, arith, append_assoc, append-nil}
+use Rattle.std.proofs.Common.{length-append, ⊎_elim}
 use Rattle.std.specs.List.{flat_map}
 use Rattle.std.proofs.lemmas.Grind.{flat_map-append}
 use Rattle.g1_words.specs.Lists.{has}
@@ -62,10 +63,12 @@ module _ (seeds : List ℕ) (children : ℕ → List ℕ) where
   grows found mid more add e f = f ∙ firsts-append found add ∙ ap (λ l. l ++ filter (λ y. not (has found y)) (firsts add)) (again found mid e)
 
   pub no_shorter : (found mid more add : List ℕ) → found ≡ firsts mid → more ≡ firsts (found ++ add) → length found ≤ length more
-  no_shorter found mid more add e f = let g : length more ≡ length found + length (filter (λ y. not (has found y)) (firsts add)) = ap length (grows found mid more add e f) ∙ length-append found (filter (λ y. not (has found y)) (firsts add)) in omega arith
+  no_shorter found mid more add e f = let g : length more ≡ length found + length (filter (λ y. not (has found y)) (firsts add)) =
+      ap length (grows found mid more add e f) ∙ length-append found (filter (λ y. not (has found y)) (firsts add)) in omega arith
 
   -- after a round over those that were found and not yet searched
-  pub turn : (found more : List ℕ) (from : ℕ) → found ≡ firsts (seeds ++ flat_map children (take from found)) → more ≡ firsts (found ++ flat_map children (drop from found)) → more ≡ firsts (seeds ++ flat_map children (take (length found) more))
+  pub turn : (found more : List ℕ) (from : ℕ) → found ≡ firsts (seeds ++ flat_map children (take from found)) →
+      more ≡ firsts (found ++ flat_map children (drop from found)) → more ≡ firsts (seeds ++ flat_map children (take (length found) more))
   turn found more from e f =
       let front : List ℕ = flat_map children (take from found) in
       let back : List ℕ = flat_map children (drop from found) in
@@ -73,13 +76,15 @@ module _ (seeds : List ℕ) (children : ℕ → List ℕ) where
       let whole : front ++ back ≡ flat_map children found = sym (flat_map-append children (take from found) (drop from found)) ∙ ap (flat_map children) (take_drop from found) in
       f ∙ ap (λ l. firsts (l ++ back)) e ∙ firsts_more (seeds ++ front) back ∙ ap firsts (append_assoc seeds front back ∙ ap (λ l. seeds ++ l) (whole ∙ ap (flat_map children) (sym same)))
 
-  pub turn_reached : (found more : List ℕ) (from : ℕ) → ((a : ℕ) → In found a → Reached seeds children a) → more ≡ firsts (found ++ flat_map children (drop from found)) → (a : ℕ) → In more a → Reached seeds children a
+  pub turn_reached : (found more : List ℕ) (from : ℕ) → ((a : ℕ) → In found a → Reached seeds children a) →
+      more ≡ firsts (found ++ flat_map children (drop from found)) → (a : ℕ) → In more a → Reached seeds children a
   turn_reached found more from r f a h =
       ⊎_elim (λ (k : In found a). r a k)
       (λ (k : In (flat_map children (drop from found)) a). let c = flat_map_cases children (drop from found) a k in child (r c.0 (in_rest from found c.0 c.1)) (Contains-from_in (children c.0) a c.2))
       (In-append_cases found (flat_map children (drop from found)) a (firsts_member (found ++ flat_map children (drop from found)) a (subst (λ l. In l a) f h)))
 
-  pub ends : (found : List ℕ) (from : ℕ) → length found ≤ from → found ≡ firsts (seeds ++ flat_map children (take from found)) → ((a : ℕ) → In found a → Reached seeds children a) → IsBreadthFirst seeds children found
+  pub ends : (found : List ℕ) (from : ℕ) → length found ≤ from → found ≡ firsts (seeds ++ flat_map children (take from found)) →
+      ((a : ℕ) → In found a → Reached seeds children a) → IsBreadthFirst seeds children found
   ends found from le e r =
       let whole : found ≡ firsts (seeds ++ flat_map children found) = e ∙ ap (λ l. firsts (seeds ++ flat_map children l)) (take_all found from le) in record {
         reached = λ a. (

@@ -1,5 +1,6 @@
 -- Which offers have the least rank of their place.
-use Rattle.std.proofs.Common.{◌≡◌, ◌≢◌, ℕ, Bool, true, false, ◌&&◌, eqb, List, [], ◌∷◌, ◌++◌, map, filter, sym, refl, ap, ◌∙◌, subst, ⊎_elim, inl, inr, ◌⊎◌, arith, eq-eqb, ne_eqb, eqb-true, append_assoc, IsPermutation}
+use Rattle.std.proofs.Common.{◌≡◌, ◌≢◌, ℕ, Bool, true, false, ◌&&◌, eqb, List, [], ◌∷◌, ◌++◌, map, filter, sym, refl, ap, ◌∙◌, subst, ⊎_elim, inl, inr, ◌⊎◌, arith, eq-eqb, ne_eqb, eqb-true}
+use Rattle.std.proofs.Common.{append_assoc, IsPermutation}
 use Rattle.std.proofs.lemmas.List.Sorted.{All-permutation, IsPermutation-sym}
 use Rattle.g1_claim.specs.declared.rule.Offer.{Offer}
 use Rattle.g1_claim.specs.Claims.{least_rank, times_offered, times_won, one_if, IsSettled}
@@ -20,7 +21,8 @@ none_won : (p r : ℕ) (os : List Offer) → ((o : Offer) → In os o → o.rank
 none_won p r [] h = refl
 none_won p r (o ∷ os) h =
     let a = none_won p r os (λ x i. h x (inr i)) in
-    let b : one_if (eqb o.place p && (eqb o.rank r && o.won)) ≡ 0 = subst (λ (t : Bool). one_if (eqb o.place p && (t && o.won)) ≡ 0) (sym (ne_eqb o.rank r (h o (inl refl)))) (elim (eqb o.place p) as (λ (t : Bool). one_if (t && false) ≡ 0) [ true ↦ refl | false ↦ refl ]) in omega (arith, a, b)
+    let b : one_if (eqb o.place p && (eqb o.rank r && o.won)) ≡ 0 = subst (λ (t : Bool). one_if (eqb o.place p && (t && o.won)) ≡ 0)
+    (sym (ne_eqb o.rank r (h o (inl refl)))) (elim (eqb o.place p) as (λ (t : Bool). one_if (t && false) ≡ 0) [ true ↦ refl | false ↦ refl ]) in omega (arith, a, b)
 
 bool_cases : (b : Bool) → (b ≡ true) ⊎ (b ≡ false)
 bool_cases true = inl refl
@@ -38,26 +40,30 @@ least_won os pre post o is low high settled least =
     let a = none_won p r pre low in
     let b = none_won p r post high in
     let c = times_won-append p r pre (o ∷ post) in
-    let d : one_if (eqb o.place p && (eqb o.rank r && o.won)) ≡ 0 = subst (λ (k : Bool × Bool × Bool). one_if (k.0 && (k.1 && k.2)) ≡ 0) (λ i. (sym (eq-eqb p p refl) i, sym (eq-eqb r r refl) i, sym f i)) refl in
+    let d : one_if (eqb o.place p && (eqb o.rank r && o.won)) ≡ 0 = subst (λ (k : Bool × Bool × Bool). one_if (k.0 && (k.1 && k.2)) ≡ 0)
+    (λ i. (sym (eq-eqb p p refl) i, sym (eq-eqb r r refl) i, sym f i)) refl in
     let none : times_won p r os ≡ 0 = ap (times_won p r) is ∙ c ∙ (omega arith) in
     let e = times_offered-append p pre (o ∷ post) in
     let g : one_if (eqb o.place p) ≡ 1 = ap one_if (eq-eqb p p refl) in
     let some_offer : times_offered p os ≡ times_offered p (pre ++ o ∷ post) = ap (times_offered p) is in
-    ⊎_elim (λ (z : times_offered p os ≡ 0). absurd (omega arith)) (λ (z : times_won p (least_rank p os) os ≡ 1). let one : times_won p r os ≡ 1 = subst (λ (k : ℕ). times_won p k os ≡ 1) w z in absurd (omega arith)) (settled p))
+    ⊎_elim (λ (z : times_offered p os ≡ 0). absurd (omega arith)) (λ (z : times_won p (least_rank p os) os ≡ 1). let one : times_won p r os ≡ 1 =
+    subst (λ (k : ℕ). times_won p k os ≡ 1) w z in absurd (omega arith)) (settled p))
     (bool_cases o.won)
 
 abbrev pub Differ : Offer → Offer → Type 0
 Differ a b = a.rank ≢ b.rank
 
 -- whatever the order of the offers
-pub winner_won : (os pre ms : List Offer) → os ≡ pre ++ ms → ((a b : Offer) → In pre a → In ms b → a.rank ≢ b.rank) → Ordered Differ ms → IsSettled os → (o : Offer) → In ms o → eqb (least_rank o.place os) o.rank ≡ true → o.won ≡ true
+pub winner_won : (os pre ms : List Offer) → os ≡ pre ++ ms → ((a b : Offer) → In pre a → In ms b → a.rank ≢ b.rank) → Ordered Differ ms →
+    IsSettled os → (o : Offer) → In ms o → eqb (least_rank o.place os) o.rank ≡ true → o.won ≡ true
 winner_won os pre [] is low apart settled o i least = absurd i
 winner_won os pre (x ∷ ms) is low apart settled o (inl e) least =
     subst (λ (y : Offer). eqb (least_rank y.place os) y.rank ≡ true → y.won ≡ true) e
     (least_won os pre ms x is (λ a k. low a x k (inl refl)) (λ a k same. apart.0 a k (sym same)) settled) least
 winner_won os pre (x ∷ ms) is low apart settled o (inr i) least =
     winner_won os (pre ++ x ∷ []) ms (is ∙ sym (append_assoc pre (x ∷ []) ms))
-    (λ a b k l. ⊎_elim (λ (m : In pre a). low a b m (inr l)) (λ (m : In (x ∷ []) a). ⊎_elim (λ (e : x ≡ a). subst (λ (y : Offer). y.rank ≢ b.rank) e (apart.0 b l)) (λ (n : ⊥). absurd n) m) (In-append_cases pre (x ∷ []) a k))
+    (λ a b k l. ⊎_elim (λ (m : In pre a). low a b m (inr l)) (λ (m : In (x ∷ []) a). ⊎_elim
+    (λ (e : x ≡ a). subst (λ (y : Offer). y.rank ≢ b.rank) e (apart.0 b l)) (λ (n : ⊥). absurd n) m) (In-append_cases pre (x ∷ []) a k))
     apart.1 settled o i least
 
 -- the ranks of what was tried differ, where those of the pairs rise
@@ -72,7 +78,8 @@ offers_differ place (m ∷ ms) o = (
 )
 
 -- of what the workers kept and was merged, that which is still there is what won, by rising rank
-pub merged_won : (place : ℕ → ℕ) (ps merged : List (ℕ × ℕ)) (before after : List Offer) (made : List Try) → after ≡ before ++ map (offer_of place) made → IsPermutation (map pair_of made) ps → Ordered RankLess ps → Ordered RanksDiffer (map pair_of made)
+pub merged_won : (place : ℕ → ℕ) (ps merged : List (ℕ × ℕ)) (before after : List Offer) (made : List Try) →
+    after ≡ before ++ map (offer_of place) made → IsPermutation (map pair_of made) ps → Ordered RankLess ps → Ordered RanksDiffer (map pair_of made)
     → ((o : Offer) (q : ℕ × ℕ) → In before o → In ps q → o.rank ≢ q.0) → IsSettled after → IsPermutation (map pair_of (filter answered_true made)) merged → Ordered RankLess merged
     → winners place after merged ≡ winners place after ps
 merged_won place ps merged before after made is perm rise differ above settled kept in_order =
@@ -81,7 +88,8 @@ merged_won place ps merged before after made is perm rise differ above settled k
     (Ordered-filter RankLess (is_least place after) merged in_order) (Ordered-filter RankLess (is_least place after) ps rise)
     (λ q i.
     let f = filter_member (is_least place after) merged q i in
-    let m = map_cases pair_of (filter answered_true made) q (in_permuted merged (map pair_of (filter answered_true made)) q (IsPermutation-sym (map pair_of (filter answered_true made)) merged kept) f.0) in
+    let m = map_cases pair_of (filter answered_true made) q (in_permuted merged (map pair_of (filter answered_true made)) q
+    (IsPermutation-sym (map pair_of (filter answered_true made)) merged kept) f.0) in
     let t = filter_member answered_true made m.0 m.1 in
     In-filter (is_least place after) ps q (in_permuted (map pair_of made) ps q perm (subst (In (map pair_of made)) m.2 (In-map pair_of made m.0 t.0))) f.1)
     (λ q i.
@@ -95,4 +103,5 @@ merged_won place ps merged before after made is perm rise differ above settled k
     (offers_differ place made differ) settled (offer_of place m.0) (In-map (offer_of place) made m.0 m.1)
     (subst (λ (r : ℕ × ℕ). is_least place after r ≡ true) (sym m.2) f.1) in
     In-filter (is_least place after) merged q
-    (in_permuted (map pair_of (filter answered_true made)) merged q kept (subst (In (map pair_of (filter answered_true made))) m.2 (In-map pair_of (filter answered_true made) m.0 (In-filter answered_true made m.0 m.1 won)))) f.1)
+    (in_permuted (map pair_of (filter answered_true made)) merged q kept (subst (In (map pair_of (filter answered_true made))) m.2
+    (In-map pair_of (filter answered_true made) m.0 (In-filter answered_true made m.0 m.1 won)))) f.1)

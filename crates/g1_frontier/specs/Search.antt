@@ -15,7 +15,8 @@ use Rattle.g1_frontier.specs.declared.survivors.Search.{Search}
 abbrev pub places_of : List Offer → List ℕ
 places_of os = map (λ o. o.place) os
 
--- between two rounds: the table has the window's words, and the seat all shares; the places that were offered are those of what was found, by ranks below the next one; what is found stands in order up to what was searched, and is reached
+-- between two rounds: the table has the window's words, and the seat all shares; the places that were offered are those
+-- of what was found, by ranks below the next one; what is found stands in order up to what was searched, and is reached
 pub record IsSearching (h : Heap) (window : List ℕ) (s : Search) : Type 0 where
   pub seat : IsSeatOf s.claims s.seat
   pub whole : s.seat.hand.shares ≡ all_shares

@@ -84,7 +84,8 @@ current_in c n = by (nat_lt c n) refl where
     | inr ge ↦ (let clash : true ≡ false = sym e ∙ le-ltb c n ge in cc)
   ]
 
-module _ (bytes : List ℕ) (v : Version) (h : Heading) (table : List Entry) (roots log : List ℕ) (remembered : List (List ℕ)) (words : List ℕ) (p : PlainIs bytes v h table roots log remembered words) where
+module _ (bytes : List ℕ) (v : Version) (h : Heading) (table : List Entry) (roots log : List ℕ) (remembered : List (List ℕ)) (words : List ℕ)
+    (p : PlainIs bytes v h table roots log remembered words) where
   -- the heap of a whole file, its regions and references aside
   draft : IsDraft (heap_of (plain_file v h table roots log remembered words))
   draft = record {

@@ -1,5 +1,6 @@
 -- The image of a file that keeps all rules.
-use Rattle.std.proofs.Common.{◌≡◌, ◌≤◌, ◌<◌, ℕ, zero, suc, ◌+◌, ◌-◌, ◌*◌, ◌^◌, inl, inr, List, [], ◌∷◌, ◌++◌, length, take, drop, replicate, slice_index, slice_index_or, min, map, arith, refl, sym, ap, subst, ◌∙◌, append_assoc, length-append, length-drop, length-take, Bool, true, false}
+use Rattle.std.proofs.Common.{◌≡◌, ◌≤◌, ◌<◌, ℕ, zero, suc, ◌+◌, ◌-◌, ◌*◌, ◌^◌, inl, inr, List, [], ◌∷◌, ◌++◌, length, take, drop, replicate, slice_index, slice_index_or, min, map, arith}
+use Rattle.std.proofs.Common.{refl, sym, ap, subst, ◌∙◌, append_assoc, length-append, length-drop, length-take, Bool, true, false}
 use Rattle.std.specs.Prelude.{◌==◌, IsTrue, IsFalse, Some, None, unwrap_or, nat_lt, if◌then◌else◌}
 use Rattle.std.proofs.lemmas.List.{length-map, get_or-map, length-replicate, get_or_append_left, get_or-append-add, get_or_past, take-append-drop, take-append-le, get_or-replicate}
 use Rattle.std.proofs.lemmas.Grind.{get_or_default_zero}
@@ -40,14 +41,16 @@ pub log_fault : (bytes : List ℕ) (f : File) (h : Heap) (log : List ℕ) (e : F
     e ≡ fault.Card (stand.Dirty i) → IsFirstBreach (IsGoodLogged h log) (length log) i → MayFail bytes e
 log_fault bytes f h log e i fits text known same logs g is b =
     let good : IsGoodHeap (heap_of f) = subst IsGoodHeap same g in
-    let first : IsFirstBreach (LogGood f) (length f.log) i = subst (λ l. IsFirstBreach (IsGoodLogged (heap_of f) l) (length l) i) logs (subst (λ x. IsFirstBreach (IsGoodLogged x log) (length log) i) same b) in
+    let first : IsFirstBreach (LogGood f) (length f.log) i = subst (λ l. IsFirstBreach (IsGoodLogged (heap_of f) l) (length l) i) logs
+    (subst (λ x. IsFirstBreach (IsGoodLogged x log) (length log) i) same b) in
     subst (MayFail bytes) (sym is) (inr (f, fits, text, (known, good.shaped, good.roots, good.slots, first)))
 
 -- the log of a file is good where the one that was checked is its own
 pub logs_good : (f : File) (h : Heap) (log : List ℕ) → h ≡ heap_of f → log ≡ f.log → ((i : ℕ) → i < length log → IsGoodLogged h log i) → LogsGood f
 logs_good f h log same logs good = subst (λ l. (i : ℕ) → i < length l → IsGoodLogged (heap_of f) l i) logs (subst (λ x. (i : ℕ) → i < length log → IsGoodLogged x log i) same good)
 
-pub remembered_fault : (bytes : List ℕ) (f : File) (h : Heap) (remembered : List (List ℕ)) (e : Fault) (r : ℕ) → FileFits f → bytes ≡ file_text f → TableKnown f → h ≡ heap_of f → remembered ≡ f.remembered →
+pub remembered_fault : (bytes : List ℕ) (f : File) (h : Heap) (remembered : List (List ℕ)) (e : Fault) (r : ℕ) → FileFits f → bytes ≡ file_text f →
+    TableKnown f → h ≡ heap_of f → remembered ≡ f.remembered →
     IsGoodHeap h → LogsGood f → e ≡ fault.Card (stand.Region r) → IsFirstBreach (λ q. IsRememberedSet h q (slice_index_or remembered q [])) h.geometry.n r → MayFail bytes e
 remembered_fault bytes f h remembered e r fits text known same own g logged is b =
     let good : IsGoodHeap (heap_of f) = subst IsGoodHeap same g in
@@ -171,13 +174,15 @@ region_is [] r = refl
 region_is (e ∷ es) zero = refl
 region_is (e ∷ es) (suc r) = region_is es r
 
-pub region_top : (es : List Entry) (r : ℕ) → (slice_index_or (map region_of_entry es) r (record { kind = Free; top = 0; pinned = false })).top ≡ (slice_index_or es r (record { kind = 0; top = 0; flags = 0 })).top
+pub region_top : (es : List Entry) (r : ℕ) → (slice_index_or (map region_of_entry es) r (record { kind = Free; top = 0; pinned = false })).top
+    ≡ (slice_index_or es r (record { kind = 0; top = 0; flags = 0 })).top
 region_top [] r = refl
 region_top (e ∷ es) zero = refl
 region_top (e ∷ es) (suc r) = region_top es r
 
 -- a heap whose regions and references are good is valid
-pub valid_heap : (h : Heap) → IsDraft h → IsGoodHeap h → ((r : ℕ) → r < h.geometry.n → MayBePinned h r) → ((r i : ℕ) → r < h.geometry.n → (region h r).top ≤ i → i < h.geometry.w → slice_index h.words (start h r + i) ≡ 0) → IsValid h
+pub valid_heap : (h : Heap) → IsDraft h → IsGoodHeap h → ((r : ℕ) → r < h.geometry.n → MayBePinned h r) →
+    ((r i : ℕ) → r < h.geometry.n → (region h r).top ≤ i → i < h.geometry.w → slice_index h.words (start h r + i) ≡ 0) → IsValid h
 valid_heap h d g pins zeros = record {
   limits = d.limits;
   word_count = d.word_count;
@@ -260,7 +265,8 @@ is_image f fits d g known logged remembered = record {
 }
 
 -- an image made of the heap, the remembered sets and the log of a file that keeps all rules
-pub made_image : (f : File) (h : Heap) (log : List ℕ) → FileFits f → IsDraft h → h ≡ heap_of f → log ≡ f.log → IsGoodHeap (heap_of f) → TableKnown f → LogsGood f → ((r : ℕ) → r < f.n → RememberedGood f r) →
+pub made_image : (f : File) (h : Heap) (log : List ℕ) → FileFits f → IsDraft h → h ≡ heap_of f → log ≡ f.log → IsGoodHeap (heap_of f) → TableKnown f →
+    LogsGood f → ((r : ℕ) → r < f.n → RememberedGood f r) →
     IsImage (record { heap = h; remembered = f.remembered; log = log })
 made_image f h log fits d same logs good known logged remembered =
     subst (λ l. IsImage (record { heap = h; remembered = f.remembered; log = l })) (sym logs)

@@ -41,7 +41,8 @@ module _ (h : Heap) where
       subst (λ (o : Object). IsObject h.words o × (4 * o.size ≤ 3 * h.geometry.w) × IsTiled h.words (a + o.size) to h.geometry.w) (object_there a f.0 f.1 f.2) (f.2, f.3, f.4)
 
   -- a row with one object more in front
-  tiled_more : (a to : ℕ) → IsObject h.words (object_at h a) → 4 * (object_at h a).size ≤ 3 * h.geometry.w → IsTiled h.words (a + (object_at h a).size) to h.geometry.w → IsTiled h.words a to h.geometry.w
+  tiled_more : (a to : ℕ) → IsObject h.words (object_at h a) → 4 * (object_at h a).size ≤ 3 * h.geometry.w →
+      IsTiled h.words (a + (object_at h a).size) to h.geometry.w → IsTiled h.words a to h.geometry.w
   tiled_more a to i small t = (object_at h a ∷ t.0, (refl, i, t.1), all_more (λ o. 4 * o.size ≤ 3 * h.geometry.w) (object_at h a) t.0 small t.2)
 
   -- objects that aren't humongous fill some words

@@ -1,5 +1,6 @@
 -- The file of an image: its numbers fit, and it tells the image's heap.
-use Rattle.std.proofs.Common.{◌≡◌, ◌≢◌, ◌≤◌, ◌<◌, ℕ, zero, suc, ◌+◌, ◌-◌, ◌*◌, ◌/◌, ◌^◌, inl, inr, List, [], ◌∷◌, ◌++◌, length, take, drop, replicate, slice_index, slice_index_or, min, map, arith, refl, sym, ap, subst, ◌∙◌, length-append, length-drop, length-take, get_or-drop}
+use Rattle.std.proofs.Common.{◌≡◌, ◌≢◌, ◌≤◌, ◌<◌, ℕ, zero, suc, ◌+◌, ◌-◌, ◌*◌, ◌/◌, ◌^◌, inl, inr, List, [], ◌∷◌, ◌++◌, length, take, drop, replicate, slice_index, slice_index_or, min, map}
+use Rattle.std.proofs.Common.{arith, refl, sym, ap, subst, ◌∙◌, length-append, length-drop, length-take, get_or-drop}
 use Rattle.std.specs.Prelude.{◌↔◌, ◌==◌, Bool, true, false, IsFalse, All, Option, Some, None, IfSome, unwrap_or, nat_lt, if◌then◌else◌}
 use Rattle.std.proofs.lemmas.List.{length-map, get_or_default, get_or_past, get_or-map, take-append-drop, drop-drop}
 use Rattle.std.proofs.lemmas.Grind.{get_or_default_zero}
@@ -175,7 +176,12 @@ file_fits v i image tells =
     let there : k < length i.heap.regions = omega (arith, lt, length-map i.heap.regions entry_of) in
     let is : slice_index_or (map entry_of i.heap.regions) k d ≡ entry_of (slice_index_or i.heap.regions k free_region) = get_or-map entry_of i.heap.regions k free_region d there in
     let top : (slice_index_or i.heap.regions k free_region).top ≤ i.heap.geometry.w = tops k free_region there in
-    subst (EntryFits v) (sym is) (kind_fits (slice_index_or i.heap.regions k free_region).kind, omega (arith, top, valid.limits.w_most), flags_fit v (slice_index_or i.heap.regions k free_region).pinned (told_at v i.heap k there tells)) in
+    subst (EntryFits v) (sym is) (
+      kind_fits (slice_index_or i.heap.regions k free_region).kind,
+      omega
+          (arith, top, valid.limits.w_most),
+      flags_fit v (slice_index_or i.heap.regions k free_region).pinned (told_at v i.heap k there tells),
+    ) in
     let words_fit : Bounded i.heap.words = λ k. elim (cases_lt k (length i.heap.words)) [
       | inl lt ↦ valid.word_fits k 0 lt
       | inr ge ↦ (let e : slice_index i.heap.words k ≡ 0 = get_or_past i.heap.words k 0 ge in omega (arith, e))
@@ -222,6 +228,14 @@ texts_exist i image = (
   (file_text (file_of Two i), (image, tt, refl)),
   (
     λ x r lt. x.1.1 r free_region (omega (arith, lt, image.heap.region_count)),
-    λ none. (file_text (file_of One i), (image, (λ k d lt. subst (λ q. IsFalse q.pinned) (get_or_default i.heap.regions k free_region d lt) (none k (omega (arith, lt, image.heap.region_count)))), refl)),
+    λ none. (
+      file_text (file_of One i),
+      (
+        image,
+        (λ k d lt. subst (λ q. IsFalse q.pinned) (get_or_default i.heap.regions k free_region d lt)
+            (none k (omega (arith, lt, image.heap.region_count)))),
+        refl,
+      ),
+    ),
   ),
 )

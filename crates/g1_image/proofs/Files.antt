@@ -5,7 +5,8 @@ use Rattle.std.proofs.Math.Seq.{drop-append_seam}
 use Rattle.g1_words.specs.declared.fault.Fault.{Fault}
 use Rattle.g1_words.specs.declared.fault.Fault.TheVariants as fault
 use Rattle.g1_image.specs.declared.cursor.Heading.{Heading}
-use Rattle.g1_image.specs.Text.{File, Entry, Version, magic, heading_text, heading_of, body_text, file_text, table_text, words_text, numbers_text, remembered_texts, entry_text, remembered_text, u32, u64, words_of, table_words}
+use Rattle.g1_image.specs.Text.{File, Entry, Version, magic, heading_text, heading_of, body_text, file_text, table_text, words_text, numbers_text, remembered_texts, entry_text}
+use Rattle.g1_image.specs.Text.{remembered_text, u32, u64, words_of, table_words}
 use Rattle.g1_image.specs.Reading.{Are, IsU32, IsU64, IsBytes, EndsWithin, FailsIf}
 use Rattle.g1_image.specs.Faults.{HeadingFits, IsGoodHeading, EntryFits, RememberedFits, FileFits, FaultOf, MayFail}
 use Rattle.g1_image.specs.Plain.{plain_file, PlainIs, FrontFits, front_text}
@@ -101,7 +102,8 @@ module _ (bytes rest : List ℕ) (v : Version) (h : Heading) (hf : HeadingFits h
           (λ f fits k. refl) (λ f fits k. are_roots h f fits k.0.1.1) (words_free h.roots) roots r2 fr er
 
       pub short_log : EndsWithin (Are IsU32 h.dirty) numbers_text r2 → FaultOf bytes fault.Short
-      short_log w = short (Left-short FileFits file_text bytes (λ f. ((Unit {0} × Is v h f) × (f.table ≡ table)) × (f.roots ≡ roots)) after_roots r2 (λ f. f.log) (Are IsU32 h.dirty) numbers_text after_log known2
+      short_log w = short (Left-short FileFits file_text bytes (λ f. ((Unit {0} × Is v h f) × (f.table ≡ table)) × (f.roots ≡ roots)) after_roots r2
+          (λ f. f.log) (Are IsU32 h.dirty) numbers_text after_log known2
           (λ f fits k. refl) (λ f fits k. are_log h f fits k.0.0.1.1) w)
 
       module _ (log : List ℕ) (r3 : List ℕ) (fl : Are IsU32 h.dirty log) (el : r2 ≡ numbers_text log ++ r3) where
@@ -110,12 +112,14 @@ module _ (bytes rest : List ℕ) (v : Version) (h : Heading) (hf : HeadingFits h
             (λ f fits k. refl) (λ f fits k. are_log h f fits k.0.0.1.1) (numbers_free h.dirty) log r3 fl el
 
         pub short_remembered : EndsWithin (Are RememberedFits h.n) remembered_texts r3 → FaultOf bytes fault.Short
-        short_remembered w = short (Left-short FileFits file_text bytes (λ f. (((Unit {0} × Is v h f) × (f.table ≡ table)) × (f.roots ≡ roots)) × (f.log ≡ log)) after_log r3 (λ f. f.remembered) (Are RememberedFits h.n) remembered_texts after_remembered known3
+        short_remembered w = short (Left-short FileFits file_text bytes (λ f. (((Unit {0} × Is v h f) × (f.table ≡ table)) × (f.roots ≡ roots))
+            × (f.log ≡ log)) after_log r3 (λ f. f.remembered) (Are RememberedFits h.n) remembered_texts after_remembered known3
             (λ f fits k. refl) (λ f fits k. are_remembered h f fits k.0.0.0.1.1) w)
 
         module _ (remembered : List (List ℕ)) (r4 : List ℕ) (fs : Are RememberedFits h.n remembered) (es : r3 ≡ remembered_texts remembered ++ r4) where
           known4 : Left FileFits file_text bytes (λ f. ((((Unit {0} × Is v h f) × (f.table ≡ table)) × (f.roots ≡ roots)) × (f.log ≡ log)) × (f.remembered ≡ remembered)) after_remembered r4
-          known4 = Left-step FileFits file_text bytes (λ f. (((Unit {0} × Is v h f) × (f.table ≡ table)) × (f.roots ≡ roots)) × (f.log ≡ log)) after_log r3 (λ f. f.remembered) (Are RememberedFits h.n) remembered_texts after_remembered known3
+          known4 = Left-step FileFits file_text bytes (λ f. (((Unit {0} × Is v h f) × (f.table ≡ table)) × (f.roots ≡ roots)) × (f.log ≡ log))
+              after_log r3 (λ f. f.remembered) (Are RememberedFits h.n) remembered_texts after_remembered known3
               (λ f fits k. refl) (λ f fits k. are_remembered h f fits k.0.0.0.1.1) (Are-free RememberedFits remembered_text set_free h.n) remembered r4 fs es
 
           are_words : (f : File) → FileFits f → f.table ≡ table → Are IsU64 (table_words table) f.words
@@ -123,7 +127,8 @@ module _ (bytes rest : List ℕ) (v : Version) (h : Heading) (hf : HeadingFits h
 
           -- the words aren't all there
           pub short_words : length r4 < 8 * table_words table → FaultOf bytes fault.Short
-          short_words lt = short (Left-short FileFits file_text bytes (λ f. ((((Unit {0} × Is v h f) × (f.table ≡ table)) × (f.roots ≡ roots)) × (f.log ≡ log)) × (f.remembered ≡ remembered)) after_remembered r4
+          short_words lt = short (Left-short FileFits file_text bytes (λ f. ((((Unit {0} × Is v h f) × (f.table ≡ table)) × (f.roots ≡ roots))
+              × (f.log ≡ log)) × (f.remembered ≡ remembered)) after_remembered r4
               (λ f. f.words) (Are IsU64 (table_words table)) words_text (λ f. []) known4
               (λ f fits k. sym (append-nil (words_text f.words))) (λ f fits k. are_words f fits k.0.0.0.1) (words_short (table_words table) r4 lt))
 
@@ -190,7 +195,8 @@ pub front_text-flat : (v : Version) (h : Heading) (table : List Entry) (roots lo
 front_text-flat v h table roots log remembered left = simp (append_assoc, append-nil)
 
 -- what follows a front, by how many bytes it has
-pub front_dropped : (v : Version) (h : Heading) (table : List Entry) (roots log : List ℕ) (remembered : List (List ℕ)) (left bytes : List ℕ) → bytes ≡ front_text v h table roots log remembered left → left ≡ drop (length bytes - length left) bytes
+pub front_dropped : (v : Version) (h : Heading) (table : List Entry) (roots log : List ℕ) (remembered : List (List ℕ)) (left bytes : List ℕ) →
+    bytes ≡ front_text v h table roots log remembered left → left ≡ drop (length bytes - length left) bytes
 front_dropped v h table roots log remembered left bytes e =
     let front : List ℕ = front_text v h table roots log remembered [] in
     let same : bytes ≡ front_text v h table roots log remembered [] ++ left = e ∙ front_text-flat v h table roots log remembered left in
@@ -198,17 +204,20 @@ front_dropped v h table roots log remembered left bytes e =
     sym (ap (λ k. drop k bytes) size ∙ ap (drop (length front)) same ∙ drop-append_seam front left)
 
 -- what follows a front in bytes is bytes
-pub front_suffix : (v : Version) (h : Heading) (table : List Entry) (roots log : List ℕ) (remembered : List (List ℕ)) (left bytes : List ℕ) → bytes ≡ front_text v h table roots log remembered left → IsBytes bytes → IsBytes left
+pub front_suffix : (v : Version) (h : Heading) (table : List Entry) (roots log : List ℕ) (remembered : List (List ℕ)) (left bytes : List ℕ) →
+    bytes ≡ front_text v h table roots log remembered left → IsBytes bytes → IsBytes left
 front_suffix v h table roots log remembered left bytes e b =
     suffix bytes (front_text v h table roots log remembered []) left (e ∙ front_text-flat v h table roots log remembered left) b
 
 -- a front with too few bytes behind it
-pub front_short : (v : Version) (h : Heading) (table : List Entry) (roots log : List ℕ) (remembered : List (List ℕ)) (left : List ℕ) → FrontFits v h table roots log remembered → length left < 8 * table_words table →
+pub front_short : (v : Version) (h : Heading) (table : List Entry) (roots log : List ℕ) (remembered : List (List ℕ)) (left : List ℕ) →
+    FrontFits v h table roots log remembered → length left < 8 * table_words table →
     FaultOf (front_text v h table roots log remembered left) fault.Short
 front_short v h table roots log remembered left f lt =
     short_words (front_text v h table roots log remembered left) _ v h f.heading f.good refl table _ f.entries refl roots _ f.root_words refl log _ f.logged refl remembered left f.sets refl lt
 
 -- a whole file with bytes behind it
-pub plain_trailing : (bytes : List ℕ) (v : Version) (h : Heading) (table : List Entry) (roots log : List ℕ) (remembered : List (List ℕ)) (left more : List ℕ) → PlainIs bytes v h table roots log remembered left → 0 < length more →
+pub plain_trailing : (bytes : List ℕ) (v : Version) (h : Heading) (table : List Entry) (roots log : List ℕ) (remembered : List (List ℕ))
+    (left more : List ℕ) → PlainIs bytes v h table roots log remembered left → 0 < length more →
     FaultOf (bytes ++ more) fault.Trailing
 plain_trailing bytes v h table roots log remembered left more p lt = (plain_file v h table roots log remembered left, more, p.fits, ap (λ l. l ++ more) p.text, lt)

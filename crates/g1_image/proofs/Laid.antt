@@ -1,5 +1,6 @@
 -- Words that are laid from a source one part after the other.
-use Rattle.std.proofs.Common.{◌≡◌, ◌≤◌, ◌<◌, ℕ, zero, suc, ◌+◌, ◌-◌, ◌*◌, Bool, List, [], ◌∷◌, ◌++◌, Option, length, take, drop, replicate, slice_index_or, min, arith, refl, sym, ap, ◌∙◌, append_assoc, append-nil, length-append, length-drop, take-append-drop, length-take-le, add-one, drop-cons}
+use Rattle.std.proofs.Common.{◌≡◌, ◌≤◌, ◌<◌, ℕ, zero, suc, ◌+◌, ◌-◌, ◌*◌, Bool, List, [], ◌∷◌, ◌++◌, Option, length, take, drop, replicate, slice_index_or, min, arith, refl, sym, ap, ◌∙◌}
+use Rattle.std.proofs.Common.{append_assoc, append-nil, length-append, length-drop, take-append-drop, length-take-le, add-one, drop-cons}
 use Rattle.std.proofs.lemmas.List.{take-append-le, take_all, replicate-append-replicate}
 use Rattle.std.proofs.lemmas.List.Sums.{sum_by-append}
 use Rattle.std.proofs.Math.Seq.{drop-append_seam}
@@ -31,7 +32,8 @@ pub record Skipped (m n : Bool) (a b : Option (List ℕ)) (count left : ℕ) : T
   pub takes : Takes m n a b taken
   pub size : length taken + 8 * left ≡ 8 * count
 
-pub skipped_more : (m n o : Bool) (a b l : Option (List ℕ)) (count left here : ℕ) (w after : List ℕ) → Skipped m n a b count left → o ≡ n → Keeps b (prepend_known w l) → IsBytes w → here ≤ left → 8 * here ≤ length w →
+pub skipped_more : (m n o : Bool) (a b l : Option (List ℕ)) (count left here : ℕ) (w after : List ℕ) → Skipped m n a b count left → o ≡ n →
+    Keeps b (prepend_known w l) → IsBytes w → here ≤ left → 8 * here ≤ length w →
     after ≡ drop (8 * here) w → Skipped m o a (prepend_known after l) count (left - here)
 skipped_more m n o a b l count left here w after s mark kept are le within e = record {
   taken = s.taken ++ take (8 * here) w;
@@ -56,7 +58,8 @@ pub record Pushed (m n : Bool) (a b : Option (List ℕ)) (count left : ℕ) (old
   pub skipped : Skipped m n a b count left
   pub words : new ≡ old ++ words_of (count - left) skipped.taken
 
-pub pushed_more : (m n o : Bool) (a b l : Option (List ℕ)) (count left here : ℕ) (w after old mid new : List ℕ) → Pushed m n a b count left old mid → o ≡ n → Keeps b (prepend_known w l) → IsBytes w → here ≤ left → 8 * here ≤ length w →
+pub pushed_more : (m n o : Bool) (a b l : Option (List ℕ)) (count left here : ℕ) (w after old mid new : List ℕ) → Pushed m n a b count left old mid →
+    o ≡ n → Keeps b (prepend_known w l) → IsBytes w → here ≤ left → 8 * here ≤ length w →
     after ≡ drop (8 * here) w → new ≡ mid ++ words_of here w → Pushed m o a (prepend_known after l) count (left - here) old new
 unfolding skipped_more
 pushed_more m n o a b l count left here w after old mid new p mark kept are le within e is =
@@ -84,7 +87,8 @@ pushed_all m n a b count left old new p none =
     (p.skipped.taken, p.skipped.takes, omega (arith, p.skipped.size), p.words ∙ ap (λ k. old ++ words_of k p.skipped.taken) all)
 
 -- a region's words: those that were laid, and zeros that are still to come; those that were passed over don't matter
-pub region_laid : (w top used : ℕ) (old new bs cs : List ℕ) → used ≡ min top w → length bs ≡ 8 * used → new ≡ old ++ words_of used bs → new ++ replicate (w - used) 0 ≡ old ++ region_words w top (bs ++ cs)
+pub region_laid : (w top used : ℕ) (old new bs cs : List ℕ) → used ≡ min top w → length bs ≡ 8 * used → new ≡ old ++ words_of used bs →
+    new ++ replicate (w - used) 0 ≡ old ++ region_words w top (bs ++ cs)
 region_laid w top used old new bs cs u len p =
     let front : words_of used bs ≡ words_of (min top w) (bs ++ cs) = sym (words_of-front used bs cs (omega (arith, len))) ∙ ap (λ k. words_of k (bs ++ cs)) u in
     let pad : w - used ≡ w - top = omega (arith, u) in
@@ -95,7 +99,8 @@ pub none_laid : (old : List ℕ) (zeros w : ℕ) → old ++ replicate (zeros + w
 none_laid old zeros w =
     let used : min 0 w ≡ 0 = omega arith in
     let pad : w - 0 ≡ w = omega arith in
-    ap (λ l. old ++ l) (sym (replicate-append-replicate zeros w 0)) ∙ sym (append_assoc old (replicate zeros 0) (replicate w 0)) ∙ (λ t. (old ++ replicate zeros 0) ++ (words_of (sym used t) [] ++ replicate (sym pad t) 0))
+    ap (λ l. old ++ l) (sym (replicate-append-replicate zeros w 0)) ∙ sym (append_assoc old (replicate zeros 0) (replicate w 0))
+    ∙ (λ t. (old ++ replicate zeros 0) ++ (words_of (sym used t) [] ++ replicate (sym pad t) 0))
 
 table_words-snoc : (es : List Entry) (e : Entry) → table_words (es ++ e ∷ []) ≡ table_words es + e.top
 table_words-snoc es e = omega (arith, sum_by-append (λ (e : Entry). e.top) es (e ∷ []), table_words-cons e [])
@@ -110,7 +115,8 @@ all_words-snoc w (x ∷ es) e bs cs len more =
     let rest : List ℕ = drop (8 * x.top) bs in
     let front : words_of (min x.top w) (bs ++ cs) ≡ words_of (min x.top w) bs = words_of-front (min x.top w) bs cs (omega (arith, sum)) in
     let back : drop (8 * x.top) (bs ++ cs) ≡ drop (8 * x.top) bs ++ cs = drop-append-le (8 * x.top) bs cs (omega (arith, sum)) in
-    let tail : all_words w (es ++ e ∷ []) (words_of (table_words (es ++ e ∷ [])) (drop (8 * x.top) (bs ++ cs))) ≡ all_words w es (words_of (table_words es) (drop (8 * x.top) bs)) ++ region_words w e.top cs =
+    let tail : all_words w (es ++ e ∷ []) (words_of (table_words (es ++ e ∷ [])) (drop (8 * x.top) (bs ++ cs)))
+    ≡ all_words w es (words_of (table_words es) (drop (8 * x.top) bs)) ++ region_words w e.top cs =
     ap (λ l. all_words w (es ++ e ∷ []) (words_of (table_words (es ++ e ∷ [])) l)) back ∙ all_words-snoc w es e rest cs (omega (arith, sum, length-drop (8 * x.top) bs)) more in
     let own : List ℕ = words_of (min x.top w) bs in
     let zeros : List ℕ = replicate (w - x.top) 0 in
@@ -162,7 +168,8 @@ pub table_words-next : (table : List Entry) (i : ℕ) (d : Entry) → i < length
     (table_words (take (i + 1) table) ≡ table_words (take i table) + (slice_index_or table i d).top) × (table_words (take i table) + (slice_index_or table i d).top ≤ table_words table)
 table_words-next table i d lt =
     let x : Entry = slice_index_or table i d in
-    let parts : table_words table ≡ table_words (take i table) + table_words (drop i table) = ap table_words (sym (take-append-drop i table)) ∙ sum_by-append (λ (e : Entry). e.top) (take i table) (drop i table) in
+    let parts : table_words table ≡ table_words (take i table) + table_words (drop i table) =
+    ap table_words (sym (take-append-drop i table)) ∙ sum_by-append (λ (e : Entry). e.top) (take i table) (drop i table) in
     let split : drop i table ≡ x ∷ drop (i + 1) table = drop-cons table i d lt ∙ ap (λ k. x ∷ drop k table) (sym (add-one i)) in
     let sum : table_words (drop i table) ≡ x.top + table_words (drop (i + 1) table) = ap table_words split ∙ table_words-cons x (drop (i + 1) table) in
     (ap table_words (take-snoc i table d lt) ∙ table_words-snoc (take i table) x, omega (arith, parts, sum))

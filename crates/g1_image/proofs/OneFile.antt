@@ -9,7 +9,8 @@ use Rattle.g1_image.proofs.Files.{numbers_free, words_free, are_table, are_roots
 
 pub file_free : IsPrefixFree FileFits file_text
 file_free x y s t fx fy e =
-    let flat : (f : File) (r : List ℕ) → file_text f ++ r ≡ magic f.version ++ (heading_text (heading_of f) ++ (table_text f.version f.table ++ (words_text f.roots ++ (numbers_text f.log ++ (remembered_texts f.remembered ++ (words_text f.words ++ r)))))) =
+    let flat : (f : File) (r : List ℕ) → file_text f ++ r ≡ magic f.version
+    ++ (heading_text (heading_of f) ++ (table_text f.version f.table ++ (words_text f.roots ++ (numbers_text f.log ++ (remembered_texts f.remembered ++ (words_text f.words ++ r)))))) =
     λ f r. simp append_assoc in
     let rest : List ℕ = words_text x.roots ++ (numbers_text x.log ++ (remembered_texts x.remembered ++ (words_text x.words ++ s))) in
     let v = magic_free x.version y.version _ _ (sym (flat x s) ∙ e ∙ flat y t) in

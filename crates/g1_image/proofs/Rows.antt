@@ -1,5 +1,6 @@
 -- Marks at the objects of a row, and of all regions.
-use Rattle.std.proofs.Common.{◌≡◌, ◌≢◌, ◌≤◌, ◌<◌, ℕ, zero, suc, ◌+◌, ◌-◌, ◌*◌, ◌^◌, ◌⊎◌, inl, inr, Bool, true, false, List, [], ◌∷◌, length, slice_index, set, replicate, arith, refl, sym, ap, subst, ◌∙◌, get_or-set_other, get_or-set_same}
+use Rattle.std.proofs.Common.{◌≡◌, ◌≢◌, ◌≤◌, ◌<◌, ℕ, zero, suc, ◌+◌, ◌-◌, ◌*◌, ◌^◌, ◌⊎◌, inl, inr, Bool, true, false, List, [], ◌∷◌, length, slice_index, set, replicate, arith, refl, sym}
+use Rattle.std.proofs.Common.{ap, subst, ◌∙◌, get_or-set_other, get_or-set_same}
 use Rattle.std.specs.Prelude.{IsTrue}
 use Rattle.std.proofs.lemmas.Bool.{cases_lt}
 use Rattle.std.proofs.Math.Nat.{mul-le-mul_right}
@@ -226,7 +227,8 @@ module _ (h : Heap) (r : ℕ) (kind : (region h r).kind ≡ Ordinary) (shaped : 
   -- objects fill the used words of an ordinary region
   pub ordinary_filled : (words : List ℕ) (from to : ℕ) → words ≡ h.words → from ≡ start h r → to ≡ end h r → Reaches words from to
   ordinary_filled words from to a b c =
-      subst (λ x. Reaches x from to) (sym a) (subst (λ x. Reaches h.words x to) (sym b) (subst (λ x. Reaches h.words (start h r) x) (sym c) (ordinary.2, subst (λ k. HoldsBy k h r ordinary.2) kind ordinary.3)))
+      subst (λ x. Reaches x from to) (sym a) (subst (λ x. Reaches h.words x to) (sym b)
+      (subst (λ x. Reaches h.words (start h r) x) (sym c) (ordinary.2, subst (λ k. HoldsBy k h r ordinary.2) kind ordinary.3)))
 
   -- an ordinary region's used words are some of the heap's
   pub ordinary_ends : r < h.geometry.n → end h r ≤ h.geometry.n * h.geometry.w

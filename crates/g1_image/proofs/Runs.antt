@@ -61,7 +61,8 @@ module _ (h : Heap) (r : ℕ) (q : Object) (at : q.at ≡ start h r) (word : sli
   pub read_first : (region h r).kind ≡ HumongousFirst → q.refs < q.size → IsFirst h r q
   read_first kind fit = record { kind = kind; at = at; object = record { header = ap (λ a. slice_index h.words a) at ∙ word; refs_fit = fit; size_fits = size } }
 
-  pub first_made : (region h r).kind ≡ HumongousFirst → q.refs < q.size → 3 * h.geometry.w < 4 * q.size → (region h r).top ≡ min h.geometry.w q.size → IsWholeRun h r q.size → IsShapedBy HumongousFirst h r
+  pub first_made : (region h r).kind ≡ HumongousFirst → q.refs < q.size → 3 * h.geometry.w < 4 * q.size → (region h r).top ≡ min h.geometry.w q.size →
+      IsWholeRun h r q.size → IsShapedBy HumongousFirst h r
   first_made kind fit big top run = (q, read_first kind fit, big, top, run)
 
   pub Latest-first : IsShaped h r → (region h r).kind ≡ HumongousFirst → Latest h (r + 1) r q.size

@@ -1,5 +1,6 @@
 -- Bytes that wait and bytes that come, sent one part after the other.
-use Rattle.std.proofs.Common.{◌≡◌, ℕ, ◌+◌, ◌-◌, ◌≤◌, ◌<◌, List, [], ◌++◌, Option, Some, None, Result, Ok, Err, length, take, drop, refl, sym, ap, ◌∙◌, arith, append_assoc, append-nil, length-append, length-drop, take-append-drop, length-take-le, subst}
+use Rattle.std.proofs.Common.{◌≡◌, ℕ, ◌+◌, ◌-◌, ◌≤◌, ◌<◌, List, [], ◌++◌, Option, Some, None, Result, Ok, Err, length, take, drop, refl, sym, ap, ◌∙◌, arith, append_assoc, append-nil}
+use Rattle.std.proofs.Common.{length-append, length-drop, take-append-drop, length-take-le, subst}
 use Rattle.std.specs.Prelude.{OnOk, IfErr}
 use Rattle.std.proofs.lemmas.List.{take-take}
 use Rattle.std.proofs.Math.Seq.{take-add, take-append-add}
@@ -93,7 +94,8 @@ sending_more a b c xs ys zs whole rest come more p e q = record {
   behind = append_assoc p.part come more ∙ ap (λ l. p.part ++ l) (sym e) ∙ p.behind;
 }
 
-pub sending_fails : (a b c : Option (List ℕ)) (xs ys whole rest come more : List ℕ) (e : Fault) → Sending a b xs whole ys rest → rest ≡ come ++ more → SendFails b c ys come e → SendFails a c xs whole e
+pub sending_fails : (a b c : Option (List ℕ)) (xs ys whole rest come more : List ℕ) (e : Fault) → Sending a b xs whole ys rest → rest ≡ come ++ more →
+    SendFails b c ys come e → SendFails a c xs whole e
 sending_fails a b c xs ys whole rest come more e p is q =
     let all : p.part ++ (come ++ more) ≡ whole = ap (λ l. p.part ++ l) (sym is) ∙ p.behind in
     subst (λ l. SendFails a c xs l e) all (fails_behind a b c xs ys p.part (come ++ more) e p.sent (fails_before b c ys come more e q))
@@ -117,4 +119,5 @@ part_written a b front words e p =
 pub rest_written : (a b c : Option (List ℕ)) (front words ys zs : List ℕ) (r : Result (Unit {0}) Fault) → Sent a b front words ys
     → OnOk r (Sent b c ys [] zs) → OnOk r (zs ≡ []) → IfErr r (SendFails b c ys []) → Writes (front ++ words) a c r
 rest_written a b c front words ys zs (Ok u) p q none f = all_written a b c front words ys p (subst (Sent b c ys []) none q)
-rest_written a b c front words ys zs (Err e) p q none f = subst (λ l. Writes (front ++ l) a c (Err e)) (append-nil words) (part_written a c front (words ++ []) e (fails_behind a b c front ys words [] e p f))
+rest_written a b c front words ys zs (Err e) p q none f = subst (λ l. Writes (front ++ l) a c (Err e)) (append-nil words)
+    (part_written a c front (words ++ []) e (fails_behind a b c front ys words [] e p f))

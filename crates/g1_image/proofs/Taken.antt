@@ -1,5 +1,6 @@
 -- Bytes that wait, and bytes that are taken from a source one part after the other.
-use Rattle.std.proofs.Common.{◌≡◌, ◌≤◌, ◌<◌, ℕ, zero, suc, ◌+◌, ◌-◌, Bool, List, [], ◌∷◌, ◌++◌, Option, Some, None, length, take, drop, slice_range, arith, refl, sym, ap, ◌∙◌, append_assoc, length-append, length-take, drop-drop, take-append-drop, length-take-le}
+use Rattle.std.proofs.Common.{◌≡◌, ◌≤◌, ◌<◌, ℕ, zero, suc, ◌+◌, ◌-◌, Bool, List, [], ◌∷◌, ◌++◌, Option, Some, None, length, take, drop, slice_range, arith, refl, sym, ap, ◌∙◌, append_assoc}
+use Rattle.std.proofs.Common.{length-append, length-take, drop-drop, take-append-drop, length-take-le}
 use Rattle.std.specs.Prelude.{IfSome}
 use Rattle.std.proofs.lemmas.List.{take-append-le, drop-take}
 use Rattle.std.proofs.Math.Seq.{take-append-add}
@@ -60,7 +61,8 @@ takes_more l m n a b c bs cs p q = record {
 }
 
 -- the first of the bytes that wait
-pub takes_front : (m n : Bool) (a l : Option (List ℕ)) (old new : List ℕ) (k : ℕ) → n ≡ m → Keeps a (prepend_known old l) → IsBytes old → new ≡ drop k old → Takes m n a (prepend_known new l) (take k old)
+pub takes_front : (m n : Bool) (a l : Option (List ℕ)) (old new : List ℕ) (k : ℕ) → n ≡ m → Keeps a (prepend_known old l) → IsBytes old →
+    new ≡ drop k old → Takes m n a (prepend_known new l) (take k old)
 takes_front m n a l old new k same kept b e = record {
   mark = same;
   bytes = (prepend_known-read a l old new (take k old) ⊥ kept (sym (take-append-drop k old) ∙ ap (λ x. take k old ++ x) (sym e)) (λ x. absurd x)).0;

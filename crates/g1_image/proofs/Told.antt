@@ -56,12 +56,14 @@ text_fault m n a l w (fault.Device device.Input) same kept f h = absurd f.3
 text_fault m n a l w (fault.Device device.Output) same kept f h = absurd f.3
 text_fault m n a l w e same kept f h = (same, of_waiting a l w (λ xs. FaultOf xs e) kept h)
 
-pub front_fails : (m n : Bool) (a l : Option (List ℕ)) (w : List ℕ) (e : Fault) → n ≡ m → Keeps a (prepend_known w l) → MayFail w e → (FaultOf w e → IfSome l (λ ys. FaultOf (w ++ ys) e)) → TextFails m n a e
+pub front_fails : (m n : Bool) (a l : Option (List ℕ)) (w : List ℕ) (e : Fault) → n ≡ m → Keeps a (prepend_known w l) → MayFail w e →
+    (FaultOf w e → IfSome l (λ ys. FaultOf (w ++ ys) e)) → TextFails m n a e
 front_fails m n a l w e same kept (inl p) h = subst (TextFails m n a) (sym p) same
 front_fails m n a l w e same kept (inr f) h = text_fault m n a l w e same kept f (h f)
 
 -- the front is taken from the bytes that wait
-pub front_taken : (v : Version) (h : Heading) (table : List Entry) (roots log : List ℕ) (remembered : List (List ℕ)) (a l : Option (List ℕ)) (w bytes new : List ℕ) (count : ℕ) → Keeps a (prepend_known w l) → bytes ≡ w →
+pub front_taken : (v : Version) (h : Heading) (table : List Entry) (roots log : List ℕ) (remembered : List (List ℕ)) (a l : Option (List ℕ))
+    (w bytes new : List ℕ) (count : ℕ) → Keeps a (prepend_known w l) → bytes ≡ w →
     bytes ≡ front_text v h table roots log remembered (drop count bytes) → new ≡ drop count w → Consumes a (prepend_known new l) (front_text v h table roots log remembered [])
 front_taken v h table roots log remembered a l w bytes new count kept same text e =
     let rest : drop count bytes ≡ new = ap (drop count) same ∙ sym e in
@@ -70,7 +72,8 @@ front_taken v h table roots log remembered a l w bytes new count kept same text 
 
 module _ (v : Version) (h : Heading) (table : List Entry) (roots log : List ℕ) (remembered : List (List ℕ)) (fits : FrontFits v h table roots log remembered) where
   -- the front was taken, and then the words aren't all there
-  pub words_fail : (m n o : Bool) (a b : Option (List ℕ)) (e : Fault) → n ≡ m → Consumes a b (front_text v h table roots log remembered []) → TakeFails n o b (8 * table_words table) e → TextFails m o a e
+  pub words_fail : (m n o : Bool) (a b : Option (List ℕ)) (e : Fault) → n ≡ m → Consumes a b (front_text v h table roots log remembered []) →
+      TakeFails n o b (8 * table_words table) e → TextFails m o a e
   words_fail m n o a b fault.Memory same p f = f ∙ same
   words_fail m n o a b (fault.Device device.Input) same p f = f
   words_fail m n o a b fault.Short same p f = (f.0 ∙ same, of a b p f.1) where

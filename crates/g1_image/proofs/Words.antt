@@ -1,5 +1,6 @@
 -- Words of 64 bits in bytes, and the words of regions.
-use Rattle.std.proofs.Common.{◌≡◌, ◌≤◌, ◌<◌, ℕ, zero, suc, ◌+◌, ◌-◌, ◌*◌, ◌^◌, List, [], ◌∷◌, ◌++◌, length, take, drop, replicate, arith, refl, sym, ap, ◌∙◌, append_assoc, length-append, length-drop, get_or-drop, slice_index, slice_index_or, add-one, drop-cons, min, flat_map}
+use Rattle.std.proofs.Common.{◌≡◌, ◌≤◌, ◌<◌, ℕ, zero, suc, ◌+◌, ◌-◌, ◌*◌, ◌^◌, List, [], ◌∷◌, ◌++◌, length, take, drop, replicate, arith, refl, sym, ap, ◌∙◌, append_assoc, length-append}
+use Rattle.std.proofs.Common.{length-drop, get_or-drop, slice_index, slice_index_or, add-one, drop-cons, min, flat_map}
 use Rattle.std.proofs.lemmas.List.{append-nil, take_all, drop-drop, drop-take, drop_all, take_at}
 use borrow.Rule.Slice.PartMut.{put_mid, post_of}
 use Rattle.std.proofs.lemmas.List.Sums.{sum_by-append}
@@ -98,7 +99,8 @@ tail_written s n len old items d dst a e f many l m =
     take_at (put_mid s (length d - s) d dst) (drop (length (put_mid s (length d - s) d dst)) items) len (omega (arith, ap length whole, length-append old dst, a, l, m)) ∙ whole
 
 -- words written over the zeros by which a list grew
-pub tail_grown : (s n had len : ℕ) (old items d dst : List ℕ) → s ≡ had → s ≡ length old → items ≡ take (s + n) old ++ replicate (s + n - had) 0 → d ≡ items → length d ≡ s + n → len ≡ s + n → length dst ≡ n →
+pub tail_grown : (s n had len : ℕ) (old items d dst : List ℕ) → s ≡ had → s ≡ length old → items ≡ take (s + n) old ++ replicate (s + n - had) 0 →
+    d ≡ items → length d ≡ s + n → len ≡ s + n → length dst ≡ n →
     take len (put_mid s (length d - s) d dst ++ drop (length (put_mid s (length d - s) d dst)) items) ≡ old ++ dst
 tail_grown s n had len old items d dst same start grown f many l m =
     let more : s + n - had ≡ n = omega (arith, same) in
@@ -120,8 +122,10 @@ table_words-cons e es = omega (arith, sum_by-append (λ (e : Entry). e.top) (e �
 pub laid_front : (w : ℕ) (e : Entry) (es : List Entry) (rest : List ℕ) →
     all_words w (e ∷ es) (words_of (table_words (e ∷ es)) rest) ≡ words_of (min e.top w) rest ++ (replicate (w - e.top) 0 ++ all_words w es (words_of (table_words es) (drop (8 * e.top) rest)))
 laid_front w e es rest =
-    let some : take (min e.top w) (words_of (table_words (e ∷ es)) rest) ≡ words_of (min e.top w) rest = take-words_of (min e.top w) (table_words (e ∷ es)) rest (omega (arith, table_words-cons e es)) in
-    let others : drop e.top (words_of (table_words (e ∷ es)) rest) ≡ words_of (table_words es) (drop (8 * e.top) rest) = drop-words_of e.top (table_words (e ∷ es)) (table_words es) rest (table_words-cons e es) in
+    let some : take (min e.top w) (words_of (table_words (e ∷ es)) rest) ≡ words_of (min e.top w) rest =
+    take-words_of (min e.top w) (table_words (e ∷ es)) rest (omega (arith, table_words-cons e es)) in
+    let others : drop e.top (words_of (table_words (e ∷ es)) rest) ≡ words_of (table_words es) (drop (8 * e.top) rest) =
+    drop-words_of e.top (table_words (e ∷ es)) (table_words es) rest (table_words-cons e es) in
     λ t. some t ++ (replicate (w - e.top) 0 ++ all_words w es (others t))
 
 pub laid_step : (w i : ℕ) (table : List Entry) (d : Entry) (out read padded rest after all : List ℕ) (used : ℕ) → i < length table →
@@ -147,5 +151,6 @@ laid_step w i table d out read padded rest after all used lt u len come r p a =
 pub table_words-fits : (w : ℕ) (table : List Entry) (i : ℕ) (d : Entry) → i < length table → (slice_index_or table i d).top ≤ table_words (drop i table)
 table_words-fits w table i d lt =
     let split : drop i table ≡ slice_index_or table i d ∷ drop (suc i) table = drop-cons table i d lt in
-    let sum : table_words (drop i table) ≡ (slice_index_or table i d).top + table_words (drop (suc i) table) = ap table_words split ∙ table_words-cons (slice_index_or table i d) (drop (suc i) table) in
+    let sum : table_words (drop i table) ≡ (slice_index_or table i d).top + table_words (drop (suc i) table) =
+    ap table_words split ∙ table_words-cons (slice_index_or table i d) (drop (suc i) table) in
     omega (arith, sum)

@@ -1,5 +1,6 @@
 -- An image: a heap, each region's remembered set, the dirty log. Its text.
-use Rattle.std.specs.Prelude.{◌≡◌, ◌≢◌, ◌<◌, ◌==◌, ℕ, Bool, true, false, IsFalse, ◌-◌, ◌*◌, ◌/◌, ◌^◌, List, [], ◌∷◌, ◌++◌, length, map, take, drop, replicate, slice_index_or, All, AllPairs, Some, None, unwrap_or, if◌then◌else◌, nat_lt, min}
+use Rattle.std.specs.Prelude.{◌≡◌, ◌≢◌, ◌<◌, ◌==◌, ℕ, Bool, true, false, IsFalse, ◌-◌, ◌*◌, ◌/◌, ◌^◌, List, [], ◌∷◌, ◌++◌, length, map, take, drop, replicate, slice_index_or, All, AllPairs}
+use Rattle.std.specs.Prelude.{Some, None, unwrap_or, if◌then◌else◌, nat_lt, min}
 use Rattle.std.specs.List.Sorted.{IsStrictlyIncreasing}
 use Rattle.g1_words.specs.Heap.{Heap, region}
 use Rattle.g1_words.specs.Valid.{IsValid}

@@ -84,7 +84,8 @@ module _ (chosen : List ℕ) (g h : Heap) (w v : Pairs) (a b : ℕ) (walk : IsWa
     added_walk = record {
       table_before = ap length e.new_of ∙ length-set w.new_of.items a (suc (length w.before.items)) ∙ walk.table_before;
       table_after = ap length e.old_of ∙ length-set w.old_of.items b (suc (length w.before.items)) ∙ walk.table_after;
-      index_before = subst (λ t. IsIndex t v.before.items) (sym e.new_of) (subst (λ l. IsIndex (set w.new_of.items a (suc (length w.before.items))) l) (sym e.before) (index_more w.new_of.items w.before.items walk.index_before a a_lt a_new));
+      index_before = subst (λ t. IsIndex t v.before.items) (sym e.new_of) (subst (λ l. IsIndex (set w.new_of.items a (suc (length w.before.items))) l)
+          (sym e.before) (index_more w.new_of.items w.before.items walk.index_before a a_lt a_new));
       index_after = subst (λ t. IsIndex t v.after.items) (sym e.old_of) (subst (λ l. IsIndex (set w.old_of.items b (suc (length w.before.items))) l) (sym e.after)
           (subst (λ m. IsIndex (set w.old_of.items b (suc m)) (w.after.items ++ b ∷ [])) walk.pairs (index_more w.old_of.items w.after.items walk.index_after b b_lt b_new)));
       pairs = pushed_length w.after.items v.after.items b e.after ∙ ap (λ m. m + 1) walk.pairs ∙ sym len;

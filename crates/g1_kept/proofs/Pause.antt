@@ -70,7 +70,8 @@ module _ (i : Image) (set l : List ℕ) (b : Image) (valid : IsValid i.heap) (ro
   moved_region r lt = ap (λ t. get_or t r free_region) moved.table ∙ get_or-map-range_with_len (new_region i.heap set l) 0 i.heap.geometry.n r r free_region lt (omega arith)
 
   left_region : (r : ℕ) → r < i.heap.geometry.n → region after r ≡ cond (has freed r) free_region (region b.heap r)
-  left_region r lt = get_or-map-range_with_len (λ r. cond (has freed r) free_region (region b.heap r)) 0 b.heap.geometry.n r r free_region (omega (arith, lt, ap (λ s. s.n) moved.geometry)) (omega arith)
+  left_region r lt = get_or-map-range_with_len (λ r. cond (has freed r) free_region (region b.heap r)) 0 b.heap.geometry.n r r free_region
+      (omega (arith, lt, ap (λ s. s.n) moved.geometry)) (omega arith)
 
   of_set_free : (r : ℕ) → r < i.heap.geometry.n → has set r ≡ true → region b.heap r ≡ free_region
   of_set_free r lt e = moved_region r lt ∙ cond_true (has set r) free_region _ e
@@ -152,7 +153,8 @@ module _ (i : Image) (set l : List ℕ) (b : Image) (valid : IsValid i.heap) (ro
           let p = flat_map_cases (λ p. named (word h p)) (slots (object_at h a)) x there in
           let e : Ref = record { slot = p.0; target = x } in
           let at : In (refs_at h p.0) e = In-map (λ a. record { slot = p.0; target = a }) (named (word h p.0)) x p.2 in
-          let inside : In (refs h) e = In-flat_map (λ o. flat_map (refs_at h) (slots o)) (objects h) (object_at h a) e (In-from_contains (objects h) (object_at h a) object) (In-flat_map (refs_at h) (slots (object_at h a)) p.0 e p.1 at) in
+          let inside : In (refs h) e = In-flat_map (λ o. flat_map (refs_at h) (slots o)) (objects h) (object_at h a) e
+          (In-from_contains (objects h) (object_at h a) object) (In-flat_map (refs_at h) (slots (object_at h a)) p.0 e p.1 at) in
           let test : (Ref → Bool) = λ e. in_set h set e.target && not (in_set h set e.slot) in
           let passes : test e ≡ true = ap (λ b. b && not (in_set h set p.0)) t ∙ ap not (slot_outside a p.0 object out p.1) in
           let chosen : In (map (λ (e : Ref). e.target) (filter test (refs h))) x = In-map (λ (e : Ref). e.target) (filter test (refs h)) e (In-filter test (refs h) e inside passes) in
@@ -163,9 +165,11 @@ module _ (i : Image) (set l : List ℕ) (b : Image) (valid : IsValid i.heap) (ro
 
   kept_there : (a : ℕ) → Stays a → In (kept i.heap set l) (object_at i.heap a)
   kept_there a r = elim (cases_Bool (in_set i.heap set a)) [
-    | inl t ↦ In-append_right (filter (λ o. not (in_set i.heap set o.at)) (objects i.heap)) (map (object_at i.heap) l) (object_at i.heap a) (In-map (object_at i.heap) l a (In-from_contains l a (survives a r t)))
+    | inl t ↦ In-append_right (filter (λ o. not (in_set i.heap set o.at)) (objects i.heap)) (map (object_at i.heap) l) (object_at i.heap a)
+        (In-map (object_at i.heap) l a (In-from_contains l a (survives a r t)))
     | inr f ↦ In-append_left (filter (λ (o : Object). not (in_set i.heap set o.at)) (objects i.heap)) (map (object_at i.heap) l) (object_at i.heap a)
-        (In-filter (λ (o : Object). not (in_set i.heap set o.at)) (objects i.heap) (object_at i.heap a) (In-from_contains (objects i.heap) (object_at i.heap a) (remains_object set i.heap after valid a r)) (ap not f))
+        (In-filter (λ (o : Object). not (in_set i.heap set o.at)) (objects i.heap) (object_at i.heap a)
+        (In-from_contains (objects i.heap) (object_at i.heap a) (remains_object set i.heap after valid a r)) (ap not f))
   ]
 
   not_in_freed : (a : ℕ) → Stays a → in_set i.heap freed a ≡ false
@@ -215,7 +219,8 @@ pause_keeps i set l j valid room p =
           let there = (objects_paused i set l j valid room p (moved_object f (object_at h a))).1 (object_at h a, c, refl) in
           let head : word j.heap (f a) ≡ word h a = copied_header f h j.heap a valid (remains_object set h j.heap valid a r) (copies_paused i set l j valid room p (object_at h a) c) in
           let object : ℕ → ℕ → ℕ → Object = λ a s r. record { at = a; size = s; refs = r } in
-          let same : object (f a) (word h a / 2 ^ 32) (word h a % 2 ^ 32) ≡ object (f a) (word j.heap (f a) / 2 ^ 32) (word j.heap (f a) % 2 ^ 32) = ap (λ x. object (f a) (x / 2 ^ 32) (x % 2 ^ 32)) (sym head) in
+          let same : object (f a) (word h a / 2 ^ 32) (word h a % 2 ^ 32) ≡ object (f a) (word j.heap (f a) / 2 ^ 32) (word j.heap (f a) % 2 ^ 32) =
+          ap (λ x. object (f a) (x / 2 ^ 32) (x % 2 ^ 32)) (sym head) in
           subst (Contains (objects j.heap)) same there;
       copies = λ a r. copies_paused i set l j valid room p (object_at h a) (stays a r);
     }

@@ -155,7 +155,8 @@ module _ (set : List ℕ) (g h : Heap) (left : IsValid g) (right : IsValid h) (w
       moves = moves;
       one_to_one = one_to_one;
       roots = ext_get_or 0 h.roots (map (renamed rename) g.roots) (count ∙ sym (length-map g.roots (renamed rename)))
-          (λ n lt. let p : n < length g.roots = omega (arith, lt, count) in paired_renamed (slice_index g.roots n) (slice_index h.roots n) (roots n p) ∙ sym (get_or-map (renamed rename) g.roots n 0 0 p));
+          (λ n lt. let p : n < length g.roots = omega (arith, lt, count) in paired_renamed (slice_index g.roots n) (slice_index h.roots n) (roots n p)
+          ∙ sym (get_or-map (renamed rename) g.roots n 0 0 p));
       stands = λ a r. (compared a r).stands;
       copies = λ a r. copied_at a (remains_object set g h left a r) (compared a r);
     }

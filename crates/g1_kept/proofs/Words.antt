@@ -20,10 +20,12 @@ named_below h x valid some names = let o = object_in h (x - 1) valid (names (x -
 module _ (set : List ℕ) (g h : Heap) (w : Pairs) (walk : IsWalk set g h w) (a b i j : ℕ)
     (a_lt : a < length w.new_of.items) (b_lt : b < length w.old_of.items) (is_i : i ≡ slice_index w.new_of.items a) (is_j : j ≡ slice_index w.old_of.items b) where
   in_before : i ≢ 0 → (i - 1 < length w.before.items) × (slice_index w.before.items (i - 1) ≡ a)
-  in_before some = subst (λ m. (m - 1 < length w.before.items) × (slice_index w.before.items (m - 1) ≡ a)) (sym is_i) (index_some w.new_of.items w.before.items walk.index_before a a_lt (λ z. some (is_i ∙ z)))
+  in_before some = subst (λ m. (m - 1 < length w.before.items) × (slice_index w.before.items (m - 1) ≡ a)) (sym is_i)
+      (index_some w.new_of.items w.before.items walk.index_before a a_lt (λ z. some (is_i ∙ z)))
 
   in_after : j ≢ 0 → (j - 1 < length w.after.items) × (slice_index w.after.items (j - 1) ≡ b)
-  in_after some = subst (λ m. (m - 1 < length w.after.items) × (slice_index w.after.items (m - 1) ≡ b)) (sym is_j) (index_some w.old_of.items w.after.items walk.index_after b b_lt (λ z. some (is_j ∙ z)))
+  in_after some = subst (λ m. (m - 1 < length w.after.items) × (slice_index w.after.items (m - 1) ≡ b)) (sym is_j)
+      (index_some w.old_of.items w.after.items walk.index_after b b_lt (λ z. some (is_j ∙ z)))
 
   pub known_here : i ≡ j → i ≢ 0 → IsPaired set g w (suc a) (suc b)
   known_here same some =

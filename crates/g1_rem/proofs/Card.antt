@@ -1,5 +1,6 @@
 -- The slots on a card are those of the objects from the one over its first word on.
-use Rattle.std.proofs.Common.{◌≡◌, ◌≢◌, ◌≤◌, ◌<◌, ℕ, ◌+◌, ◌-◌, ◌*◌, ◌/◌, ◌%◌, inl, inr, List, [], ◌∷◌, ◌++◌, length, filter, flat_map, arith, refl, sym, ap, subst, ◌∙◌, append-nil, eqb, eqb-true, eq-eqb, div-add-mod'}
+use Rattle.std.proofs.Common.{◌≡◌, ◌≢◌, ◌≤◌, ◌<◌, ℕ, ◌+◌, ◌-◌, ◌*◌, ◌/◌, ◌%◌, inl, inr, List, [], ◌∷◌, ◌++◌, length, filter, flat_map, arith, refl, sym, ap, subst, ◌∙◌, append-nil, eqb}
+use Rattle.std.proofs.Common.{eqb-true, eq-eqb, div-add-mod'}
 use Rattle.std.specs.Prelude.{Option, Some, None}
 use Rattle.std.proofs.lemmas.Bool.{cases_lt}
 use Rattle.std.proofs.Math.Nat.{mul-le-mul_right}
@@ -170,7 +171,8 @@ module _ (h : Heap) (valid : IsValid h) where
           Rises-weaken 0 a (flat_map slots os) (omega arith) (Chain-slots a os d)
 
       -- in an ordinary region, the row from that object to the region's top has them
-      pub ordinary_on : (r : ℕ) → r ≡ a / h.geometry.w → kind h r ≡ Ordinary → Reaches h.words a (end h r) × ((os : List Object) → Tiles h.words a os (end h r) → filter (is_between lo hi) (flat_map slots os) ≡ slots_on h c)
+      pub ordinary_on : (r : ℕ) → r ≡ a / h.geometry.w → kind h r ≡ Ordinary →
+          Reaches h.words a (end h r) × ((os : List Object) → Tiles h.words a os (end h r) → filter (is_between lo hi) (flat_map slots os) ≡ slots_on h c)
       ordinary_on r place e =
           let st : (r < h.geometry.n) × StandsIn (kind h r) h r (object_at h a) = subst (λ x. (x < h.geometry.n) × StandsIn (kind h x) h x (object_at h a)) (sym place) here in
           let t : StandsIn Ordinary h r (object_at h a) = subst (λ k. StandsIn k h r (object_at h a)) e st.1 in
@@ -199,7 +201,8 @@ module _ (h : Heap) (valid : IsValid h) where
           )
 
       -- a humongous object stands alone
-      alone_by : (k : Kind) (o : Object) (p : ℕ) → k ≢ Ordinary → kind h (a / h.geometry.w) ≡ k → IsShapedBy k h (a / h.geometry.w) → StandsIn k h (a / h.geometry.w) (object_at h a) → In (objects h) o → In (slots o) p → lo ≤ p → p < hi → In (object_at h a ∷ []) o
+      alone_by : (k : Kind) (o : Object) (p : ℕ) → k ≢ Ordinary → kind h (a / h.geometry.w) ≡ k → IsShapedBy k h (a / h.geometry.w) →
+          StandsIn k h (a / h.geometry.w) (object_at h a) → In (objects h) o → In (slots o) p → lo ≤ p → p < hi → In (object_at h a ∷ []) o
       alone_by Free o p not e s t i sl le lt = absurd t
       alone_by Ordinary o p not e s t i sl le lt = absurd (not refl)
       alone_by HumongousFirst o p not e s t i sl le lt =
@@ -219,7 +222,8 @@ module _ (h : Heap) (valid : IsValid h) where
                   | inl further ↦ (
                       let e : a / h.geometry.w + (lo / h.geometry.w - a / h.geometry.w) ≡ lo / h.geometry.w = omega (arith, further) in
                       let mul : (a / h.geometry.w + (lo / h.geometry.w - a / h.geometry.w)) * h.geometry.w ≡ lo / h.geometry.w * h.geometry.w = ap (λ x. x * h.geometry.w) e in
-                      let cont : kind h (lo / h.geometry.w) ≡ Continuation = subst (λ x. kind h x ≡ Continuation) e (run (lo / h.geometry.w - a / h.geometry.w) (omega (arith, further)) (omega (arith, mul, f.0, over.1.to, t.0))).1 in
+                      let cont : kind h (lo / h.geometry.w) ≡ Continuation = subst (λ x. kind h x ≡ Continuation) e
+                      (run (lo / h.geometry.w - a / h.geometry.w) (omega (arith, further)) (omega (arith, mul, f.0, over.1.to, t.0))).1 in
                       let none : StandsIn Continuation h (lo / h.geometry.w) o = subst (λ k. StandsIn k h (lo / h.geometry.w) o) cont st.1 in
                       absurd none)
                   | inr same_region ↦ (
@@ -234,7 +238,8 @@ module _ (h : Heap) (valid : IsValid h) where
           ]
       alone_by Continuation o p not e s t i sl le lt = absurd t
 
-      pub alone_on : kind h (a / h.geometry.w) ≢ Ordinary → Reaches h.words a (a + (object_at h a).size) × ((os : List Object) → Tiles h.words a os (a + (object_at h a).size) → filter (is_between lo hi) (flat_map slots os) ≡ slots_on h c)
+      pub alone_on : kind h (a / h.geometry.w) ≢ Ordinary → Reaches h.words a (a + (object_at h a).size)
+          × ((os : List Object) → Tiles h.words a os (a + (object_at h a).size) → filter (is_between lo hi) (flat_map slots os) ≡ slots_on h c)
       alone_on not =
           let it : IsObject h.words (object_at h a) = stands_object (kind h (a / h.geometry.w)) h (a / h.geometry.w) (object_at h a) here.1 in
           let row : Tiles h.words a (object_at h a ∷ []) (a + (object_at h a).size) = (refl, it, refl) in (
@@ -258,7 +263,8 @@ pub over_at : (h : Heap) (x y : ℕ) (v w : Option ℕ) → x ≡ y → v ≡ w 
 over_at h x y v w e f o = subst (λ z. IsOver h z w) e (subst (λ z. IsOver h x z) f o)
 
 -- the row to the top of an ordinary region
-pub ordinary_row_on : (h : Heap) (c lo hi a : ℕ) → IsValid h → lo ≡ c * h.geometry.k → hi ≡ lo + h.geometry.k → IsOver h lo (Some a) → kind h (a / h.geometry.w) ≡ Ordinary → RowOn h c lo hi a (end h (a / h.geometry.w))
+pub ordinary_row_on : (h : Heap) (c lo hi a : ℕ) → IsValid h → lo ≡ c * h.geometry.k → hi ≡ lo + h.geometry.k → IsOver h lo (Some a) →
+    kind h (a / h.geometry.w) ≡ Ordinary → RowOn h c lo hi a (end h (a / h.geometry.w))
 ordinary_row_on h c lo hi a valid e f over k =
     let r = ordinary_on h valid c lo hi e f a over (a / h.geometry.w) refl k in
     let s = object_stands h (object_at h a) (a / h.geometry.w) valid (contains_has h (object_at h a) valid.shaped over.0) refl in
@@ -266,7 +272,8 @@ ordinary_row_on h c lo hi a valid e f over k =
     record { in_words = omega (arith, region_in_words h (a / h.geometry.w) valid s.0, shaped.1); filled = r.0; all = r.1 }
 
 -- the one humongous object
-pub alone_row_on : (h : Heap) (c lo hi a : ℕ) → IsValid h → lo ≡ c * h.geometry.k → hi ≡ lo + h.geometry.k → IsOver h lo (Some a) → kind h (a / h.geometry.w) ≢ Ordinary → RowOn h c lo hi a (a + (object_at h a).size)
+pub alone_row_on : (h : Heap) (c lo hi a : ℕ) → IsValid h → lo ≡ c * h.geometry.k → hi ≡ lo + h.geometry.k → IsOver h lo (Some a) →
+    kind h (a / h.geometry.w) ≢ Ordinary → RowOn h c lo hi a (a + (object_at h a).size)
 alone_row_on h c lo hi a valid e f over k =
     let r = alone_on h valid c lo hi e f a over k in
     record { in_words = omega (arith, object_fits h valid (object_at h a) over.0, valid.word_count); filled = r.0; all = r.1 }

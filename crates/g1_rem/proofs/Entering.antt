@@ -1,5 +1,7 @@
 -- The dirty cards that lead into each region, card by card and slot by slot.
-use Rattle.std.proofs.Common.{◌≡◌, ◌≢◌, ◌≤◌, ◌<◌, ℕ, zero, suc, ◌+◌, ◌-◌, inl, inr, Bool, true, false, not, cond, ◌&&◌, ◌||◌, List, [], ◌∷◌, ◌++◌, length, slice_index, slice_index_or, get_or, replicate, map, take, drop, filter, All, AllPairs, Contains, arith, refl, sym, ap, subst, ◌∙◌, eqb, eqb-true, eq-eqb, append-nil, get_or-set_same, get_or-set_other}
+use Rattle.std.proofs.Common.{◌≡◌, ◌≢◌, ◌≤◌, ◌<◌, ℕ, zero, suc, ◌+◌, ◌-◌, inl, inr, Bool, true, false, not, cond, ◌&&◌, ◌||◌, List, [], ◌∷◌, ◌++◌, length, slice_index, slice_index_or}
+use Rattle.std.proofs.Common.{get_or, replicate, map, take, drop, filter, All, AllPairs, Contains, arith, refl, sym, ap, subst, ◌∙◌, eqb, eqb-true, eq-eqb, append-nil, get_or-set_same}
+use Rattle.std.proofs.Common.{get_or-set_other}
 use Rattle.std.specs.Prelude.{Some, None, Result, Ok, Err, IfOk, IfErr, MatchResult}
 use Rattle.std.specs.Global.{Vec}
 use Rattle.std.proofs.lemmas.List.Kept.{IsStrictlyIncreasing-filter}
@@ -138,7 +140,8 @@ grown_push h card p t ps items old mid g led lt pushed = record {
 -- ---- one card at the end of a list
 
 -- the card stands at the end already
-pub once_there : (before xs : List ℕ) (card : ℕ) (b : Bool) → All (λ c. c < card) before → xs ≡ with_card before card b → 0 < length xs → slice_index xs (length xs - 1) ≡ card → xs ≡ with_card before card true
+pub once_there : (before xs : List ℕ) (card : ℕ) (b : Bool) → All (λ c. c < card) before → xs ≡ with_card before card b → 0 < length xs →
+    slice_index xs (length xs - 1) ≡ card → xs ≡ with_card before card true
 once_there before xs card true below e some last = e
 once_there before xs card false below e some last =
     let lt = below (length xs - 1) 0 (omega (arith, some, ap length e)) in
@@ -171,7 +174,8 @@ entering_start h lists e = record {
 }
 
 -- all cards so far are below the next
-pub entering_below : (h : Heap) (ds : List ℕ) (lists : List (List ℕ)) (card : ℕ) → AreEntering h ds lists → All (λ c. c < card) ds → (r : ℕ) → r < h.geometry.n → All (λ c. c < card) (slice_index_or lists r [])
+pub entering_below : (h : Heap) (ds : List ℕ) (lists : List (List ℕ)) (card : ℕ) → AreEntering h ds lists → All (λ c. c < card) ds → (r : ℕ) →
+    r < h.geometry.n → All (λ c. c < card) (slice_index_or lists r [])
 entering_below h ds lists card a below r lt =
     subst (All (λ c. c < card)) (sym (a.each r lt)) (all_in (λ c. c < card) (filter (is_exact h r) ds) (λ c i. in_all (λ c. c < card) ds c below (filter_member (is_exact h r) ds c i).0))
 
@@ -305,7 +309,8 @@ refined_more i r sets v lt e f =
     map-append (λ (s : Vec ℕ). s.items) sets (v ∷ []) ∙ (λ k. e k ++ set k ∷ []) ∙ sym (map-append (refined i) (take r (regions i.heap)) (get_or (regions i.heap) r 0 ∷ []))
     ∙ ap (map (refined i)) (sym (take_more (regions i.heap) r 0 (omega (arith, lt, size))))
 
-pub refined_whole : (i : Image) (r : ℕ) (sets : List (Vec ℕ)) → i.heap.geometry.n ≤ r → map (λ s. s.items) sets ≡ map (refined i) (take r (regions i.heap)) → map (λ s. s.items) sets ≡ map (refined i) (regions i.heap)
+pub refined_whole : (i : Image) (r : ℕ) (sets : List (Vec ℕ)) → i.heap.geometry.n ≤ r →
+    map (λ s. s.items) sets ≡ map (refined i) (take r (regions i.heap)) → map (λ s. s.items) sets ≡ map (refined i) (regions i.heap)
 refined_whole i r sets le e =
     let size : length (regions i.heap) ≡ i.heap.geometry.n = length-range_with_len 0 i.heap.geometry.n in
     e ∙ ap (map (refined i)) (take_all r (regions i.heap) (omega (arith, le, size)))

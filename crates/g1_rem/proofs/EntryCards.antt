@@ -1,5 +1,6 @@
 -- Marks, and the list of those that are left.
-use Rattle.std.proofs.Common.{◌≡◌, ◌≤◌, ◌<◌, ℕ, zero, suc, ◌+◌, ◌*◌, ◌/◌, inl, inr, Bool, true, false, not, ◌&&◌, ◌||◌, List, [], ◌∷◌, ◌++◌, length, slice_index_or, set, filter, replicate, arith, refl, sym, ap, ◌∙◌, eqb, eqb-true, eq-eqb, ne_eqb, length-set, append-nil}
+use Rattle.std.proofs.Common.{◌≡◌, ◌≤◌, ◌<◌, ℕ, zero, suc, ◌+◌, ◌*◌, ◌/◌, inl, inr, Bool, true, false, not, ◌&&◌, ◌||◌, List, [], ◌∷◌, ◌++◌, length, slice_index_or, set, filter, replicate}
+use Rattle.std.proofs.Common.{arith, refl, sym, ap, ◌∙◌, eqb, eqb-true, eq-eqb, ne_eqb, length-set, append-nil}
 use Rattle.std.specs.List.{range_with_len, list_any}
 use Rattle.std.proofs.lemmas.List.{get_or-set_same, get_or-set_other, length-replicate}
 use Rattle.std.proofs.lemmas.List.Elements.{filter-append}
@@ -88,7 +89,8 @@ marked_more old mid new xs n a b = marked_then (has xs) (λ x. eqb x n) (has (xs
 pub listed_more : (remembered : List (List ℕ)) (old mid new : List Bool) (rs : List ℕ) (r : ℕ) → AreMarked (λ c. list_any (λ r. has (slice_index_or remembered r []) c) rs) old mid
     → AreMarked (has (slice_index_or remembered r [])) mid new → AreMarked (λ c. list_any (λ r. has (slice_index_or remembered r []) c) (rs ++ r ∷ [])) old new
 listed_more remembered old mid new rs r a b =
-    marked_then (λ c. list_any (λ r. has (slice_index_or remembered r []) c) rs) (has (slice_index_or remembered r [])) (λ c. list_any (λ r. has (slice_index_or remembered r []) c) (rs ++ r ∷ [])) old mid new a b
+    marked_then (λ c. list_any (λ r. has (slice_index_or remembered r []) c) rs) (has (slice_index_or remembered r []))
+    (λ c. list_any (λ r. has (slice_index_or remembered r []) c) (rs ++ r ∷ [])) old mid new a b
     (λ c. any_more (λ r. has (slice_index_or remembered r []) c) rs r)
 
 -- marks none of which was set at first
@@ -116,7 +118,8 @@ filtered_push p n e = ap (filter p) (range_more n) ∙ filter-append p (range_wi
 
 -- and one that doesn't
 pub filtered_pass : (p : ℕ → Bool) (n : ℕ) → p n ≡ false → filter p (range_with_len 0 (n + 1)) ≡ filter p (range_with_len 0 n)
-filtered_pass p n e = ap (filter p) (range_more n) ∙ filter-append p (range_with_len 0 n) (n ∷ []) ∙ ap (λ l. filter p (range_with_len 0 n) ++ l) (rw e refl) ∙ append-nil (filter p (range_with_len 0 n))
+filtered_pass p n e = ap (filter p) (range_more n) ∙ filter-append p (range_with_len 0 n) (n ∷ [])
+    ∙ ap (λ l. filter p (range_with_len 0 n) ++ l) (rw e refl) ∙ append-nil (filter p (range_with_len 0 n))
 
 -- tests that the members don't tell apart
 pub filter_same_in : {A : Type 0} (p q : A → Bool) (xs : List A) → ((x : A) → In xs x → p x ≡ q x) → filter p xs ≡ filter q xs

@@ -24,11 +24,13 @@ module _ {A : Type 0} (R : ℕ → Result A Fault → Type 0) (S : ℕ → A →
 
   module _ (js : List ℕ) (xs : List (Result A Fault)) (z : AllZip R js xs) where
     -- the answers, as they were gathered
-    pub gathered : (answer : Result (Vec A) Fault) → MatchResult answer (λ v. (ys : List A) × (xs ≡ map (λ y. Ok y) ys) × (v.items ≡ ys)) (λ e. Contains xs (Err e)) → IfOk answer (λ v. AllZip S js v.items)
+    pub gathered : (answer : Result (Vec A) Fault) → MatchResult answer (λ v. (ys : List A) × (xs ≡ map (λ y. Ok y) ys) × (v.items ≡ ys))
+        (λ e. Contains xs (Err e)) → IfOk answer (λ v. AllZip S js v.items)
     gathered (Ok v) (ys, e, f) = subst (AllZip S js) (sym f) (all_there js ys (subst (AllZip R js) e z))
     gathered (Err fault) m = tt
 
     -- the fault, as it was gathered
-    pub gathered_memory : (answer : Result (Vec A) Fault) → MatchResult answer (λ v. (ys : List A) × (xs ≡ map (λ y. Ok y) ys) × (v.items ≡ ys)) (λ e. Contains xs (Err e)) → IfErr answer (λ e. e ≡ Memory)
+    pub gathered_memory : (answer : Result (Vec A) Fault) → MatchResult answer (λ v. (ys : List A) × (xs ≡ map (λ y. Ok y) ys) × (v.items ≡ ys))
+        (λ e. Contains xs (Err e)) → IfErr answer (λ e. e ≡ Memory)
     gathered_memory (Ok v) m = tt
     gathered_memory (Err fault) m = only_memory js xs fault z (In-from_contains xs (Err fault) m)

@@ -47,7 +47,8 @@ module _ (h : Heap) where
     joined_from j (suc m) e [] z = absurd z
     joined_from j (suc m) e (v ∷ lists) z =
         subst (AreStartsBetween h (slice_index begins j) h.geometry.n) (sym (map-append address_below v.items (flat_map (λ v. v.items) lists)))
-        (starts_append (slice_index begins j) (slice_index begins (j + 1)) h.geometry.n (map address_below v.items) (map address_below (flat_map (λ v. v.items) lists)) z.0 (joined_from (j + 1) m (omega (arith, e)) lists z.1))
+        (starts_append (slice_index begins j) (slice_index begins (j + 1)) h.geometry.n (map address_below v.items)
+        (map address_below (flat_map (λ v. v.items) lists)) z.0 (joined_from (j + 1) m (omega (arith, e)) lists z.1))
 
     -- those of all ranges
     pub joined_all : (lists : List (Vec ℕ)) → AreStartsInEach h begins ranges lists → AreStartsBetween h 0 h.geometry.n (map address_below (flat_map (λ v. v.items) lists))

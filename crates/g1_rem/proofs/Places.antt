@@ -1,5 +1,6 @@
 -- The places in the remembered sets, which move on with the slots.
-use Rattle.std.proofs.Common.{◌≡◌, ◌≢◌, ◌≤◌, ◌<◌, ℕ, ◌+◌, ◌/◌, inl, inr, true, false, List, [], ◌∷◌, ◌++◌, length, slice_index, get_or, arith, sym, ap, subst, ◌∙◌, get_or-set_same, get_or-set_other, ltb, ltb-true}
+use Rattle.std.proofs.Common.{◌≡◌, ◌≢◌, ◌≤◌, ◌<◌, ℕ, ◌+◌, ◌/◌, inl, inr, true, false, List, [], ◌∷◌, ◌++◌, length, slice_index, get_or, arith, sym, ap, subst, ◌∙◌, get_or-set_same}
+use Rattle.std.proofs.Common.{get_or-set_other, ltb, ltb-true}
 use Rattle.std.proofs.Math.ListN.{set, length-set}
 use Rattle.std.specs.List.{AllWithin}
 use Rattle.std.specs.List.Sorted.{IsStrictlyIncreasing, IsNonDecreasingBy}
@@ -53,7 +54,8 @@ behind_later i places p q valid le b = record {
   some = omega (arith, valid.limits.k_least)
 
 -- one place moved on
-pub behind_set : (i : Image) (places : List ℕ) (p r place : ℕ) → r < i.heap.geometry.n → AreBehind i places p → IsBehind (remembered_of i r) place (card_of i.heap p) → AreBehind i (set places r place) p
+pub behind_set : (i : Image) (places : List ℕ) (p r place : ℕ) → r < i.heap.geometry.n → AreBehind i places p →
+    IsBehind (remembered_of i r) place (card_of i.heap p) → AreBehind i (set places r place) p
 behind_set i places p r place lt b here = record {
   one_each = length-set places r place ∙ b.one_each;
   each = λ q lt'. elim (cases_lt q r) [
@@ -76,7 +78,8 @@ pub ready_from : (i : Image) (places : List ℕ) (r : ℕ) → IsValid i.heap �
 ready_from i places r valid le b = record { from = start i.heap r; behind = b; ahead = from_chain i.heap valid r le }
 
 -- an object's slots are passed
-pub ready_next : (i : Image) (places later : List ℕ) (o : Object) (os : List Object) (p : ℕ) → IsValid i.heap → (r : AreReadyFor i places (o ∷ os)) → p ≤ o.at + o.size → AreBehind i later p → AreReadyFor i later os
+pub ready_next : (i : Image) (places later : List ℕ) (o : Object) (os : List Object) (p : ℕ) → IsValid i.heap → (r : AreReadyFor i places (o ∷ os)) →
+    p ≤ o.at + o.size → AreBehind i later p → AreReadyFor i later os
 ready_next i places later o os p valid r le b = record {
   from = o.at + o.size;
   behind = behind_later i later p (o.at + o.size) valid le b;
@@ -97,7 +100,8 @@ pub placed_none : (i : Image) (card : ℕ) (places : List ℕ) → places ≡ []
 placed_none i card places none = record { one_each = ap length none; each = λ r lt. absurd (omega (arith, lt)) }
 
 -- one set more
-pub placed_more : (i : Image) (card count : ℕ) (places more : List ℕ) (place : ℕ) → ArePlaced i card count places → more ≡ places ++ place ∷ [] → IsBehind (remembered_of i count) place card → ArePlaced i card (count + 1) more
+pub placed_more : (i : Image) (card count : ℕ) (places more : List ℕ) (place : ℕ) → ArePlaced i card count places → more ≡ places ++ place ∷ [] →
+    IsBehind (remembered_of i count) place card → ArePlaced i card (count + 1) more
 placed_more i card count places more place p e here = record {
   one_each = ap length e ∙ length-append places (place ∷ []) ∙ ap (λ x. x + 1) p.one_each;
   each = λ r lt. elim (cases_lt r count) [
@@ -112,7 +116,8 @@ placed_more i card count places more place p e here = record {
 }
 
 -- all sets, before the first slot of the regions from one on
-pub placed_all : (i : Image) (r card count : ℕ) (places : List ℕ) → IsValid i.heap → r ≤ i.heap.geometry.n → card ≡ card_of i.heap (start i.heap r) → count ≡ i.heap.geometry.n → ArePlaced i card count places → AreReadyFor i places (objects_from i.heap r)
+pub placed_all : (i : Image) (r card count : ℕ) (places : List ℕ) → IsValid i.heap → r ≤ i.heap.geometry.n → card ≡ card_of i.heap (start i.heap r) →
+    count ≡ i.heap.geometry.n → ArePlaced i card count places → AreReadyFor i places (objects_from i.heap r)
 placed_all i r card count places valid le e all p =
     ready_from i places r valid le (record {
       one_each = p.one_each ∙ all;

@@ -1,5 +1,6 @@
 -- The slots between two addresses, object by object.
-use Rattle.std.proofs.Common.{◌≡◌, ◌≤◌, ◌<◌, ℕ, zero, suc, ◌+◌, ◌-◌, ◌/◌, ◌%◌, ◌^◌, ◌⊎◌, inl, inr, true, List, [], ◌∷◌, ◌++◌, length, slice_index, filter, flat_map, max, min, arith, refl, sym, ap, subst, ◌∙◌, append-nil}
+use Rattle.std.proofs.Common.{◌≡◌, ◌≤◌, ◌<◌, ℕ, zero, suc, ◌+◌, ◌-◌, ◌/◌, ◌%◌, ◌^◌, ◌⊎◌, inl, inr, true, List, [], ◌∷◌, ◌++◌, length, slice_index, filter, flat_map, max, min, arith, refl}
+use Rattle.std.proofs.Common.{sym, ap, subst, ◌∙◌, append-nil}
 use Rattle.std.specs.Prelude.{nat_le, nat_lt}
 use Rattle.std.specs.List.{range_with_len}
 use Rattle.std.proofs.lemmas.Bool.{leb-true, le-leb, ltb-true, lt-ltb}
@@ -29,7 +30,8 @@ pub is_between_there : (lo hi p : ℕ) → is_between lo hi p ≡ true → (lo �
 is_between_there lo hi p e = let b = and_true (nat_le lo p) (nat_lt p hi) e in (leb-true lo p b.0, ltb-true p hi b.1)
 
 -- one object's slots between two addresses
-pub slots_range : (at refs lo hi first last : ℕ) → first ≡ max (at + 1) lo → last ≡ min (at + 1 + refs) hi → range_with_len first (last - first) ≡ filter (is_between lo hi) (range_with_len (at + 1) refs)
+pub slots_range : (at refs lo hi first last : ℕ) → first ≡ max (at + 1) lo → last ≡ min (at + 1 + refs) hi →
+    range_with_len first (last - first) ≡ filter (is_between lo hi) (range_with_len (at + 1) refs)
 slots_range at refs lo hi first last f l =
     Rises-one first (at + 1) (range_with_len first (last - first)) (filter (is_between lo hi) (range_with_len (at + 1) refs))
     (Rises-range first (last - first))
@@ -37,7 +39,8 @@ slots_range at refs lo hi first last f l =
     (λ p i.
     let a = range_above first (last - first) p i in
     let b = range_below first (last - first) p i in
-    In-filter (is_between lo hi) (range_with_len (at + 1) refs) p (In-range (at + 1) refs p (omega (arith, a, f)) (omega (arith, a, b, l))) (between_is lo hi p (omega (arith, a, f)) (omega (arith, a, b, l))))
+    In-filter (is_between lo hi) (range_with_len (at + 1) refs) p (In-range (at + 1) refs p (omega (arith, a, f)) (omega (arith, a, b, l)))
+    (between_is lo hi p (omega (arith, a, f)) (omega (arith, a, b, l))))
     (λ p i.
     let m = filter_member (is_between lo hi) (range_with_len (at + 1) refs) p i in
     let a = range_above (at + 1) refs p m.0 in
@@ -108,8 +111,10 @@ module _ (words : List ℕ) (from to lo hi at : ℕ) (items : List ℕ) (s : Sca
       let size : o.size ≡ header / 2 ^ 32 = scan_size in
       let refs : o.refs ≡ header % 2 ^ 32 = scan_refs in
       let its : range_with_len first (last - first) ≡ filter (is_between lo hi) (slots o) =
-      slots_range at (header % 2 ^ 32) lo hi first last f l ∙ ap (λ x. filter (is_between lo hi) (range_with_len (x + 1) (header % 2 ^ 32))) (sym g.at) ∙ ap (λ x. filter (is_between lo hi) (range_with_len (o.at + 1) x)) (sym refs) in
-      let len : length more ≡ length items + (last - first) = ap length pushed ∙ length-append items (range_with_len first (last - first)) ∙ ap (λ x. length items + x) (length-range_with_len first (last - first)) in
+      slots_range at (header % 2 ^ 32) lo hi first last f l ∙ ap (λ x. filter (is_between lo hi) (range_with_len (x + 1) (header % 2 ^ 32)))
+      (sym g.at) ∙ ap (λ x. filter (is_between lo hi) (range_with_len (o.at + 1) x)) (sym refs) in
+      let len : length more ≡ length items + (last - first) = ap length pushed ∙ length-append items (range_with_len first (last - first))
+      ∙ ap (λ x. length items + x) (length-range_with_len first (last - first)) in
       let one : flat_map slots (s.before ++ o ∷ []) ≡ flat_map slots s.before ++ slots o =
       flat_map-append slots s.before (o ∷ []) ∙ ap (λ l. flat_map slots s.before ++ l) (append-nil (slots o)) in
       record {
@@ -122,7 +127,8 @@ module _ (words : List ℕ) (from to lo hi at : ℕ) (items : List ℕ) (s : Sca
       }
 
 -- past the last object, or past the card
-pub scan_end : (words : List ℕ) (from to lo hi at : ℕ) (items : List ℕ) → Scanned words from to lo hi at items → (to ≤ at) ⊎ (hi ≤ at) → (os : List Object) → Tiles words from os to → items ≡ filter (is_between lo hi) (flat_map slots os)
+pub scan_end : (words : List ℕ) (from to lo hi at : ℕ) (items : List ℕ) → Scanned words from to lo hi at items → (to ≤ at) ⊎ (hi ≤ at) →
+    (os : List Object) → Tiles words from os to → items ≡ filter (is_between lo hi) (flat_map slots os)
 scan_end words from to lo hi at items s over os t =
     let after : List Object = s.ahead.0 in
     let whole : os ≡ s.before ++ after = Tiles-one words from os (s.before ++ after) to t (Tiles-append words from s.before at after to s.passed s.ahead.1) in

@@ -21,7 +21,8 @@ pub record Marking (h : Heap) (from until r at to : ℕ) (starts : List (Option 
   pub told : Told h from until (drop place (objects_in h r) ++ objects_from h (r + 1)) starts
 
 -- before the first object
-pub marking_start : (h : Heap) (from until r at to : ℕ) (starts : List (Option ℕ)) → IsValid h → r < h.geometry.n → at ≡ start h r → Tiles h.words (start h r) (objects_in h r) to → Told h from until (objects_from h r) starts → Marking h from until r at to starts
+pub marking_start : (h : Heap) (from until r at to : ℕ) (starts : List (Option ℕ)) → IsValid h → r < h.geometry.n → at ≡ start h r →
+    Tiles h.words (start h r) (objects_in h r) to → Told h from until (objects_from h r) starts → Marking h from until r at to starts
 marking_start h from until r at to starts valid lt e t told = record {
   place = 0;
   row = subst (λ x. Tiles h.words x (objects_in h r) to) (sym e) t;
@@ -47,7 +48,8 @@ module _ (h : Heap) (from until r at to : ℕ) (old : List (Option ℕ)) (valid 
       omega (arith, step.0, same, e)
 
   -- its cards are written
-  pub marking_step : (mid new : List (Option ℕ)) (size : ℕ) → size ≡ (object_at h at).size → IsMarkedTo old mid from h.geometry.k (min at until) None → IsMarkedTo mid new from h.geometry.k (min (at + size) until) (Some at) → Marking h from until r (at + size) to new
+  pub marking_step : (mid new : List (Option ℕ)) (size : ℕ) → size ≡ (object_at h at).size →
+      IsMarkedTo old mid from h.geometry.k (min at until) None → IsMarkedTo mid new from h.geometry.k (min (at + size) until) (Some at) → Marking h from until r (at + size) to new
   marking_step mid new size e a b =
       let n = row_front h r valid lt m.place at to m.row more in
       let same : n.object.size ≡ size = ap (λ o. o.size) n.whole ∙ sym e in
@@ -65,7 +67,8 @@ pub record Asking (i : Image) (r at to : ℕ) (places : List ℕ) : Type 0 where
   pub ready : AreReadyFor i places (drop place (objects_in i.heap r) ++ objects_from i.heap (r + 1))
 
 -- before the first object
-pub asking_start : (i : Image) (r at to : ℕ) (places : List ℕ) → IsValid i.heap → r < i.heap.geometry.n → at ≡ start i.heap r → Tiles i.heap.words (start i.heap r) (objects_in i.heap r) to → AreReadyFor i places (objects_from i.heap r) → Asking i r at to places
+pub asking_start : (i : Image) (r at to : ℕ) (places : List ℕ) → IsValid i.heap → r < i.heap.geometry.n → at ≡ start i.heap r →
+    Tiles i.heap.words (start i.heap r) (objects_in i.heap r) to → AreReadyFor i places (objects_from i.heap r) → Asking i r at to places
 asking_start i r at to places valid lt e t ready = record {
   place = 0;
   row = subst (λ x. Tiles i.heap.words x (objects_in i.heap r) to) (sym e) t;
@@ -116,7 +119,8 @@ module _ (i : Image) (r at to : ℕ) (places : List ℕ) (valid : IsValid i.heap
     asking_found = found_here i r a.place at refs (row_front i.heap r valid lt a.place at to a.row more) e a.same
 
     -- where none is bare the walk goes on
-    pub asking_step : (later : List ℕ) (size : ℕ) → size ≡ (object_at i.heap at).size → IsFirstOf (filter (is_bare i) (range_with_len (at + 1) (at + 1 + refs - (at + 1)))) None → AreBehind i later (at + 1 + refs) → Asking i r (at + size) to later
+    pub asking_step : (later : List ℕ) (size : ℕ) → size ≡ (object_at i.heap at).size →
+        IsFirstOf (filter (is_bare i) (range_with_len (at + 1) (at + 1 + refs - (at + 1)))) None → AreBehind i later (at + 1 + refs) → Asking i r (at + size) to later
     asking_step later size f none behind =
         let n = row_front i.heap r valid lt a.place at to a.row more in
         let same : n.object.size ≡ size = ap (λ o. o.size) n.whole ∙ sym f in
@@ -124,5 +128,6 @@ module _ (i : Image) (r at to : ℕ) (places : List ℕ) (valid : IsValid i.heap
           place = a.place + 1;
           row = subst (λ x. Tiles i.heap.words (at + x) (drop (a.place + 1) (objects_in i.heap r)) to) same (row_rest i.heap r a.place at to n a.row);
           same = none_here i r a.place at refs n e a.same none;
-          ready = ready_next i places later n.object (drop (a.place + 1) (objects_in i.heap r) ++ objects_from i.heap (r + 1)) (at + 1 + refs) valid left (omega (arith, e, n.refs_is, n.at_is, left.ahead.1)) behind;
+          ready = ready_next i places later n.object (drop (a.place + 1) (objects_in i.heap r) ++ objects_from i.heap (r + 1)) (at + 1 + refs) valid
+              left (omega (arith, e, n.refs_is, n.at_is, left.ahead.1)) behind;
         }

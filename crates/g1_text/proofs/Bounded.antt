@@ -14,8 +14,10 @@ use Rattle.g1_words.proofs.Computed.{in_region_has}
 use Rattle.g1_words.proofs.Objects.{object_stands, tops_fit}
 use Rattle.g1_words.proofs.Sound.{stands_object}
 use Rattle.g1_image.specs.Image.{Image, IsImage, IsUsedCard, remembered_of}
-use Rattle.g1_text.specs.Lines.{reference_word, current_word, heading, root_line, root_lines, log_lines, pinned_words, region_line, remembered_lines, slot_values, data_values, object_line, region_lines, image_lines}
-use Rattle.g1_text.proofs.Splitting.{IsWord, AreWords, IsLine, AreLines, Small, by_letters, number_word, numbers_words, reference_is_word, references_words, words_append, word_append, lines_append, small_all, small_drop, small_take, small_at, range_lines, range_of_lines, member_lines}
+use Rattle.g1_text.specs.Lines.{reference_word, current_word, heading, root_line, root_lines, log_lines, pinned_words, region_line, remembered_lines, slot_values, data_values, object_line}
+use Rattle.g1_text.specs.Lines.{region_lines, image_lines}
+use Rattle.g1_text.proofs.Splitting.{IsWord, AreWords, IsLine, AreLines, Small, by_letters, number_word, numbers_words, reference_is_word, references_words, words_append, word_append}
+use Rattle.g1_text.proofs.Splitting.{lines_append, small_all, small_drop, small_take, small_at, range_lines, range_of_lines, member_lines}
 
 tiles_few : (h : Heap) (m from to : ℕ) → length (tiles h m from to) ≤ m
 tiles_few h zero from to = omega arith
@@ -112,7 +114,8 @@ module _ (i : Image) (good : IsImage i) where
           number_word o.at small.0,
           (
             word_append (decimal o.size) (47 ∷ decimal o.refs) (number_word o.size small.1) ((λ e. absurd (omega (arith, e))), (λ e. absurd (omega (arith, e))), number_word o.refs small.2),
-            words_append (map reference_word (slot_values i.heap.words o)) (map decimal (data_values i.heap.words o)) (references_words (slot_values i.heap.words o) (slots_small o)) (numbers_words (data_values i.heap.words o) (data_small o)),
+            words_append (map reference_word (slot_values i.heap.words o)) (map decimal (data_values i.heap.words o))
+                (references_words (slot_values i.heap.words o) (slots_small o)) (numbers_words (data_values i.heap.words o) (data_small o)),
           ),
         ),
       )
@@ -193,6 +196,7 @@ module _ (i : Image) (good : IsImage i) where
   pub image_are_lines : AreLines (image_lines i)
   image_are_lines = (
     heading_is_line,
-    lines_append (root_lines i.heap.roots ++ log_lines i.log) (flat_map (region_lines i) (regions i.heap)) (lines_append (root_lines i.heap.roots) (log_lines i.log) roots_are_lines (logged i.log log_small))
+    lines_append (root_lines i.heap.roots ++ log_lines i.log) (flat_map (region_lines i) (regions i.heap))
+        (lines_append (root_lines i.heap.roots) (log_lines i.log) roots_are_lines (logged i.log log_small))
         (range_of_lines (region_lines i) 0 i.heap.geometry.n (λ r lt. region_are_lines r (omega (arith, lt)))),
   )

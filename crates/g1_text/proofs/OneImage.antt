@@ -61,8 +61,10 @@ object_one ws vs o p a b e =
     let at : o.at ≡ p.at = decimal_injective o.at p.at a.at b.at (ap (word_at 1) e) in
     let sizes = sizes_one o.size o.refs p.size p.refs a.size a.refs b.size b.refs (ap (word_at 2) e) in
     let same : o ≡ p = (λ t. record { at = at t; size = sizes.0 t; refs = sizes.1 t }) in
-    let lengths : length (map reference_word (slot_values ws o)) ≡ length (map reference_word (slot_values vs p)) = length_map (slot_values ws o) ∙ slots_count ws o a ∙ sizes.1 ∙ sym (slots_count vs p b) ∙ sym (length_map (slot_values vs p)) in
-    let parts = fronts_one (map reference_word (slot_values ws o)) (map reference_word (slot_values vs p)) (map decimal (data_values ws o)) (map decimal (data_values vs p)) lengths (ap (drop 3) e) in (
+    let lengths : length (map reference_word (slot_values ws o)) ≡ length (map reference_word (slot_values vs p)) =
+    length_map (slot_values ws o) ∙ slots_count ws o a ∙ sizes.1 ∙ sym (slots_count vs p b) ∙ sym (length_map (slot_values vs p)) in
+    let parts = fronts_one (map reference_word (slot_values ws o)) (map reference_word (slot_values vs p)) (map decimal (data_values ws o))
+    (map decimal (data_values vs p)) lengths (ap (drop 3) e) in (
       same,
       record {
         slots = references_one (slot_values ws o) (slot_values vs p) a.slots b.slots parts.0 ∙ ap (slot_values vs) (sym same);
@@ -144,7 +146,14 @@ held_by HumongousFirst h r a is lt s low high =
     record { home = r; object = s.0; in_heap = lt; member = first_member h r s.0 s.1; from = omega (arith, s.1.at, low); to = omega (arith, s.1.at, s.3, high) }
 held_by Continuation h r a is lt s low high =
     let apart : (r - s.0) * h.geometry.w + s.0 * h.geometry.w ≡ r * h.geometry.w = products (r - s.0) s.0 h.geometry.w r (omega (arith, s.3)) in
-    record { home = s.0; object = s.1; in_heap = omega (arith, lt, s.3); member = first_member h s.0 s.1 s.2; from = omega (arith, s.2.at, low, apart); to = omega (arith, s.2.at, s.4, s.5, high, apart) }
+    record {
+      home = s.0;
+      object = s.1;
+      in_heap = omega (arith, lt, s.3);
+      member = first_member h s.0 s.1 s.2;
+      from = omega (arith, s.2.at, low, apart);
+      to = omega (arith, s.2.at, s.4, s.5, high, apart);
+    }
 
 -- a used word is that of an object
 pub held : (h : Heap) (r a : ℕ) → IsValid h → r < h.geometry.n → start h r ≤ a → a < end h r → IsHeld h a

@@ -1,5 +1,6 @@
 -- Two images with one full text are one image.
-use Rattle.std.proofs.Common.{◌≡◌, ℕ, zero, suc, ◌+◌, ◌-◌, ◌*◌, ◌/◌, ◌%◌, ◌<◌, ◌≤◌, inl, inr, List, [], ◌∷◌, ◌++◌, length, get_or, drop, map, flat_map, refl, sym, ◌∙◌, ap, subst, arith, append_assoc, div-add-mod', mod-lt}
+use Rattle.std.proofs.Common.{◌≡◌, ℕ, zero, suc, ◌+◌, ◌-◌, ◌*◌, ◌/◌, ◌%◌, ◌<◌, ◌≤◌, inl, inr, List, [], ◌∷◌, ◌++◌, length, get_or, drop, map, flat_map, refl, sym, ◌∙◌, ap, subst, arith}
+use Rattle.std.proofs.Common.{append_assoc, div-add-mod', mod-lt}
 use Rattle.std.specs.Prelude.{slice_index}
 use Rattle.std.specs.List.{range_with_len}
 use Rattle.std.proofs.Math.Nat.{div-lt_iff_lt-mul}
@@ -40,8 +41,10 @@ module _ (i j : Image) (good : IsImage i) (fine : IsImage j) (same_n : i.heap.ge
       let fj = objects_few (kind j.heap r) j.heap r in
       let kinds : kind i.heap r ≡ kind j.heap r = kind_one (kind i.heap r) (kind j.heap r) (ap (word_at 2) line) in
       let tops : top i.heap r ≡ top j.heap r = decimal_injective (top i.heap r) (top j.heap r) (omega (arith, ti)) (omega (arith, tj)) (ap (word_at 4) line) in
-      let counts : length (objects_in i.heap r) ≡ length (objects_in j.heap r) = decimal_injective (length (objects_in i.heap r)) (length (objects_in j.heap r)) (omega (arith, fi, ti)) (omega (arith, fj, tj)) (ap (word_at 6) line) in
-      let cards : length (remembered_of i r) ≡ length (remembered_of j r) = decimal_injective (length (remembered_of i r)) (length (remembered_of j r)) (omega (arith, (good.remembered r lt).count)) (omega (arith, (fine.remembered r there).count)) (ap (word_at 8) line) in
+      let counts : length (objects_in i.heap r) ≡ length (objects_in j.heap r) =
+      decimal_injective (length (objects_in i.heap r)) (length (objects_in j.heap r)) (omega (arith, fi, ti)) (omega (arith, fj, tj)) (ap (word_at 6) line) in
+      let cards : length (remembered_of i r) ≡ length (remembered_of j r) = decimal_injective (length (remembered_of i r))
+      (length (remembered_of j r)) (omega (arith, (good.remembered r lt).count)) (omega (arith, (fine.remembered r there).count)) (ap (word_at 8) line) in
       let pins : pinned i.heap r ≡ pinned j.heap r = pin_one (pinned i.heap r) (pinned j.heap r) (ap (drop 9) line) in
       let lines_i : List (List (List ℕ)) = map (object_line i.heap.words) (objects_in i.heap r) in
       let lines_j : List (List (List ℕ)) = map (object_line j.heap.words) (objects_in j.heap r) in
@@ -86,12 +89,14 @@ module _ (i j : Image) (good : IsImage i) (fine : IsImage j) (same_n : i.heap.ge
               let h : IsHeld i.heap a = held i.heap r a vi below (omega (arith, sum)) (omega (arith, sum, used)) in
               let there : h.home < j.heap.geometry.n = (let l = h.in_heap in omega (arith, l, same_n)) in
               let in_j : In (objects_in j.heap h.home) h.object = subst (λ os. In os h.object) (each h.home h.in_heap).objects h.member in
-              word_one i.heap.words j.heap.words h.object a (plain i good h.home h.object h.in_heap h.member).object (plain j fine h.home h.object there in_j).object ((each h.home h.in_heap).words h.object h.member) h.from h.to
+              word_one i.heap.words j.heap.words h.object a (plain i good h.home h.object h.in_heap h.member).object
+              (plain j fine h.home h.object there in_j).object ((each h.home h.in_heap).words h.object h.member) h.from h.to
           | inr unused ↦
               let there : r < j.heap.geometry.n = omega (arith, below, same_n) in
               let tops : top i.heap r ≡ top j.heap r = ap (λ (x : Region). x.top) (each r below).region in
               let place : start j.heap r + q ≡ a = ap (λ x. r * x + q) (sym same_w) ∙ sum in
-              ap (slice_index i.heap.words) (sym sum) ∙ vi.zero_above r q below unused small ∙ sym (vj.zero_above r q there (omega (arith, tops, unused)) (omega (arith, small, same_w))) ∙ ap (slice_index j.heap.words) place
+              ap (slice_index i.heap.words) (sym sum) ∙ vi.zero_above r q below unused small
+              ∙ sym (vj.zero_above r q there (omega (arith, tops, unused)) (omega (arith, small, same_w))) ∙ ap (slice_index j.heap.words) place
         ]
 
     words_same : i.heap.words ≡ j.heap.words
@@ -121,9 +126,11 @@ one_image i j good fine e =
     let same_w : i.heap.geometry.w ≡ j.heap.geometry.w = decimal_injective i.heap.geometry.w j.heap.geometry.w (omega (arith, li.w_most)) (omega (arith, lj.w_most)) (ap (word_at 1) head) in
     let same_k : i.heap.geometry.k ≡ j.heap.geometry.k = decimal_injective i.heap.geometry.k j.heap.geometry.k (omega (arith, li.k_most)) (omega (arith, lj.k_most)) (ap (word_at 2) head) in
     let same_n : i.heap.geometry.n ≡ j.heap.geometry.n = decimal_injective i.heap.geometry.n j.heap.geometry.n (omega (arith, li.n_most)) (omega (arith, lj.n_most)) (ap (word_at 3) head) in
-    let roots : length i.heap.roots ≡ length j.heap.roots = decimal_injective (length i.heap.roots) (length j.heap.roots) (omega (arith, vi.root_count)) (omega (arith, vj.root_count)) (ap (word_at 5) head) in
+    let roots : length i.heap.roots ≡ length j.heap.roots = decimal_injective (length i.heap.roots) (length j.heap.roots)
+    (omega (arith, vi.root_count)) (omega (arith, vj.root_count)) (ap (word_at 5) head) in
     let dirty : length i.log ≡ length j.log = decimal_injective (length i.log) (length j.log) (omega (arith, good.log.count)) (omega (arith, fine.log.count)) (ap (word_at 7) head) in
-    let current : i.heap.current ≡ j.heap.current = current_one i.heap.current j.heap.current (current_small i.heap.current i.heap.geometry.n li.n_most vi.current_in) (current_small j.heap.current j.heap.geometry.n lj.n_most vj.current_in) (ap (word_at 9) head) in
+    let current : i.heap.current ≡ j.heap.current = current_one i.heap.current j.heap.current
+    (current_small i.heap.current i.heap.geometry.n li.n_most vi.current_in) (current_small j.heap.current j.heap.geometry.n lj.n_most vj.current_in) (ap (word_at 9) head) in
     let line_i : ℕ → List (List ℕ) = λ m. root_line m (slice_index i.heap.roots m) in
     let line_j : ℕ → List (List ℕ) = λ m. root_line m (slice_index j.heap.roots m) in
     let table_i : List (List (List ℕ)) = flat_map (region_lines i) (range_with_len 0 i.heap.geometry.n) in
@@ -134,7 +141,8 @@ one_image i j good fine e =
     let root_each = ranges_one line_i line_j 0 (length i.heap.roots) (front.0 ∙ ap (λ n. map line_j (range_with_len 0 n)) (sym roots)) in
     let same_roots : i.heap.roots ≡ j.heap.roots = by_index 0 i.heap.roots j.heap.roots roots
     (λ k lt. let z : 0 + k ≡ k = omega arith in
-    ap (slice_index i.heap.roots) (sym z) ∙ reference_one (slice_index i.heap.roots (0 + k)) (slice_index j.heap.roots (0 + k)) (small_at i.heap.roots (0 + k) (roots_small i good)) (small_at j.heap.roots (0 + k) (roots_small j fine)) (ap (word_at 2) (root_each k lt))
+    ap (slice_index i.heap.roots) (sym z) ∙ reference_one (slice_index i.heap.roots (0 + k)) (slice_index j.heap.roots (0 + k))
+    (small_at i.heap.roots (0 + k) (roots_small i good)) (small_at j.heap.roots (0 + k) (roots_small j fine)) (ap (word_at 2) (root_each k lt))
     ∙ ap (slice_index j.heap.roots) z) in
     let logs = log_one i.log j.log table_i table_j dirty (log_small i good) (log_small j fine) front.1 in
     let tables : table_i ≡ flat_map (region_lines j) (range_with_len 0 i.heap.geometry.n) = logs.1 ∙ ap (λ n. flat_map (region_lines j) (range_with_len 0 n)) (sym same_n) in

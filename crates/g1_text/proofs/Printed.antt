@@ -15,7 +15,8 @@ use Rattle.g1_words.proofs.Sound.{has_is, object_in}
 use Rattle.g1_text.specs.Lines.{line_text, further, text_of, reference_word, root_line, root_lines, slot_values, data_values, object_line}
 
 -- one item more
-pub one_more : {X : Type 0} (f : X → List ℕ) (old now after : List ℕ) (xs : List X) (i : ℕ) (d : X) → i < length xs → now ≡ old ++ flat_map f (take i xs) → after ≡ now ++ f (get_or xs i d) → after ≡ old ++ flat_map f (take (i + 1) xs)
+pub one_more : {X : Type 0} (f : X → List ℕ) (old now after : List ℕ) (xs : List X) (i : ℕ) (d : X) → i < length xs →
+    now ≡ old ++ flat_map f (take i xs) → after ≡ now ++ f (get_or xs i d) → after ≡ old ++ flat_map f (take (i + 1) xs)
 one_more {X} f old now after xs i d lt e p =
     p ∙ ap (λ ys. ys ++ f (get_or xs i d)) e ∙ flat_map_more f old (take i xs) (get_or xs i d) ∙ ap (λ ys. old ++ flat_map f ys) (sym (more xs i lt))
   where
@@ -82,7 +83,8 @@ module _ (h : Heap) (r : ℕ) (valid : IsValid h) (lt : r < h.geometry.n) where
       Contains-from_in (objects h) (object_at h (get_or starts i 0))
       (subst (In (objects h)) same (In-flat_map (objects_in h) (regions h) r m.0 (In-range 0 h.geometry.n r (omega arith) (omega (arith, lt))) m.1))
 
-  pub objects_text : (f : Object → List (List ℕ)) (starts : List ℕ) → starts ≡ map (λ o. o.at) (objects_in h r) → flat_map (λ a. line_text (f (object_at h a))) starts ≡ text_of (map f (objects_in h r))
+  pub objects_text : (f : Object → List (List ℕ)) (starts : List ℕ) → starts ≡ map (λ o. o.at) (objects_in h r) →
+      flat_map (λ a. line_text (f (object_at h a))) starts ≡ text_of (map f (objects_in h r))
   objects_text f starts e =
       ap (flat_map (λ a. line_text (f (object_at h a)))) e
       ∙ flat_map-map (λ a. line_text (f (object_at h a))) (λ (o : Object). o.at) (objects_in h r)
@@ -101,7 +103,8 @@ four old first middle now after t a b e p q r s =
     ∙ append_assoc ((old ++ t) ++ a) b e ∙ append_assoc (old ++ t) a (b ++ e) ∙ append_assoc old t (a ++ (b ++ e))
 
 -- a word, the numbers behind it, and the end of the line
-pub numbers_end : (old first now after word numbers : List ℕ) (i : ℕ) → length numbers ≤ i → first ≡ old ++ word → now ≡ first ++ flat_map (λ x. 32 ∷ decimal x) (take i numbers) → after ≡ now ++ 10 ∷ []
+pub numbers_end : (old first now after word numbers : List ℕ) (i : ℕ) → length numbers ≤ i → first ≡ old ++ word →
+    now ≡ first ++ flat_map (λ x. 32 ∷ decimal x) (take i numbers) → after ≡ now ++ 10 ∷ []
     → after ≡ old ++ (word ++ further (map decimal numbers))
 numbers_end old first now after word numbers i le p q r =
     four old first now now after word (flat_map (λ x. 32 ∷ decimal x) (take i numbers)) [] (10 ∷ []) p q (sym (append_none now)) r
@@ -115,8 +118,10 @@ object_end old first middle now after cells others words o es ed p q r s =
     let lead : List ℕ = codes "object " in
     let sizes : List ℕ = decimal o.size ++ 47 ∷ decimal o.refs in
     let behind : List ℕ = flat_map (λ x. 32 ∷ reference_word x) cells ++ (flat_map (λ x. 32 ∷ decimal x) others ++ 10 ∷ []) in
-    let ends : further (map reference_word cells ++ map decimal others) ≡ behind = further_map reference_word cells (map decimal others) ∙ ap (λ xs. flat_map (λ x. 32 ∷ reference_word x) cells ++ xs) (further_words decimal others) in
-    let there : further (map reference_word (slot_values words o) ++ map decimal (data_values words o)) ≡ behind = ap (λ xs. further (map reference_word xs ++ map decimal (data_values words o))) (sym es) ∙ ap (λ xs. further (map reference_word cells ++ map decimal xs)) (sym ed) ∙ ends in
+    let ends : further (map reference_word cells ++ map decimal others) ≡ behind =
+    further_map reference_word cells (map decimal others) ∙ ap (λ xs. flat_map (λ x. 32 ∷ reference_word x) cells ++ xs) (further_words decimal others) in
+    let there : further (map reference_word (slot_values words o) ++ map decimal (data_values words o)) ≡ behind =
+    ap (λ xs. further (map reference_word xs ++ map decimal (data_values words o))) (sym es) ∙ ap (λ xs. further (map reference_word cells ++ map decimal xs)) (sym ed) ∙ ends in
     four old first middle now after (lead ++ (decimal o.at ++ 32 ∷ sizes)) (flat_map (λ x. 32 ∷ reference_word x) cells) (flat_map (λ x. 32 ∷ decimal x) others) (10 ∷ []) p q r s
     ∙ ap (λ xs. old ++ (lead ++ xs)) (append_assoc (decimal o.at) (32 ∷ sizes) behind)
     ∙ ap (λ xs. old ++ (lead ++ (decimal o.at ++ 32 ∷ (sizes ++ xs)))) (sym there)
@@ -129,11 +134,13 @@ object_fits h valid o c =
     subst (λ (q : Object). (q.refs < q.size) × (o.at + q.size ≤ length h.words)) (sym e) p
 
 -- the lines of all roots
-pub roots_end : (old now roots : List ℕ) (n : ℕ) → n ≡ length roots → now ≡ old ++ flat_map (λ m. line_text (root_line m (slice_index roots m))) (range_with_len 0 n) → now ≡ old ++ text_of (root_lines roots)
+pub roots_end : (old now roots : List ℕ) (n : ℕ) → n ≡ length roots → now ≡ old
+    ++ flat_map (λ m. line_text (root_line m (slice_index roots m))) (range_with_len 0 n) → now ≡ old ++ text_of (root_lines roots)
 roots_end old now roots n e p =
     p ∙ ap (λ x. old ++ flat_map (λ m. line_text (root_line m (slice_index roots m))) (range_with_len 0 x)) e
     ∙ ap (λ xs. old ++ xs) (sym (text_map (λ m. root_line m (slice_index roots m)) (range_with_len 0 (length roots))))
 
 -- the lines of all numbers below n
-pub lines_end : (f : ℕ → List (List (List ℕ))) (old now : List ℕ) (n m : ℕ) → n ≡ m → now ≡ old ++ flat_map (λ r. text_of (f r)) (range_with_len 0 n) → now ≡ old ++ text_of (flat_map f (range_with_len 0 m))
+pub lines_end : (f : ℕ → List (List (List ℕ))) (old now : List ℕ) (n m : ℕ) → n ≡ m →
+    now ≡ old ++ flat_map (λ r. text_of (f r)) (range_with_len 0 n) → now ≡ old ++ text_of (flat_map f (range_with_len 0 m))
 lines_end f old now n m e p = p ∙ ap (λ x. old ++ flat_map (λ r. text_of (f r)) (range_with_len 0 x)) e ∙ ap (λ xs. old ++ xs) (sym (text_flat_map f (range_with_len 0 m)))

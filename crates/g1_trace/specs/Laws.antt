@@ -56,11 +56,13 @@ OneRun = (cost : Cost) (g : Geometry) (roots : ℕ) (commands : List Command) (r
 
 -- every list of commands has a run on a heap within the limits
 abbrev pub RunExists : Type 0
-RunExists = (cost : Cost) (g : Geometry) (roots : ℕ) (commands : List Command) → IsWithinLimits g.w g.k g.n → roots ≤ most_roots → AllByRecursion WritesWord commands → (replies : List Reply) × IsRun cost g roots commands replies
+RunExists = (cost : Cost) (g : Geometry) (roots : ℕ) (commands : List Command) → IsWithinLimits g.w g.k g.n → roots ≤ most_roots →
+    AllByRecursion WritesWord commands → (replies : List Reply) × IsRun cost g roots commands replies
 
 -- a text is that of one trace
 abbrev pub OneTrace : Type 0
-OneTrace = (bytes : List ℕ) (g h : Geometry) (roots more : ℕ) (commands others : List Command) → IsText bytes g roots commands → IsText bytes h more others → (g ≡ h) × (roots ≡ more) × (commands ≡ others)
+OneTrace = (bytes : List ℕ) (g h : Geometry) (roots more : ℕ) (commands others : List Command) → IsText bytes g roots commands →
+    IsText bytes h more others → (g ≡ h) × (roots ≡ more) × (commands ≡ others)
 
 -- a trace's text has no bad line
 abbrev pub NoBadLine : Type 0

@@ -1,5 +1,6 @@
 -- The same commands on an image: objects have addresses, a new one needs a place, writes are logged, and a pause is made.
-use Rattle.std.specs.Prelude.{◌≡◌, ◌⊎◌, ℕ, zero, suc, Bool, false, ◌&&◌, ◌||◌, List, [], ◌∷◌, ◌++◌, ◌+◌, ◌-◌, ◌*◌, ◌/◌, ◌^◌, min, map, find, slice_set, Option, Some, None, nat_lt, nat_le, ◌==◌, if◌then◌else◌}
+use Rattle.std.specs.Prelude.{◌≡◌, ◌⊎◌, ℕ, zero, suc, Bool, false, ◌&&◌, ◌||◌, List, [], ◌∷◌, ◌++◌, ◌+◌, ◌-◌, ◌*◌, ◌/◌, ◌^◌, min, map, find, slice_set, Option, Some, None, nat_lt, nat_le}
+use Rattle.std.specs.Prelude.{◌==◌, if◌then◌else◌}
 use Rattle.std.specs.Prelude.{Ok as Done, Err as Refused}
 use Rattle.std.specs.List.{range_with_len, list_all}
 use Rattle.g1_words.specs.declared.fault.Fault.{Fault}

@@ -33,7 +33,8 @@ pub record IsSound (chunks reached : ℕ) (v : Hand) : Type 0 where
   pub floor_seen : v.floor ≤ reached
   pub none_is_end : v.had_none ≡ true → v.floor ≡ chunks
 
--- between any two steps: all hands have all shares, their draws are the numbers below the smaller of the cursor and `chunks`, each once, and their steps are the cursor, which passes `chunks` only by shares of hands that have had None
+-- between any two steps: all hands have all shares, their draws are the numbers below the smaller of the cursor and
+-- `chunks`, each once, and their steps are the cursor, which passes `chunks` only by shares of hands that have had None
 pub record Dealing (chunks cursor : ℕ) (views : List Hand) : Type 0 where
   pub few : chunks < 2 ^ 32
   pub shares : hands_total (λ v. v.shares) views ≡ most_workers

@@ -58,7 +58,8 @@ module _ (h : Heap) (valid : IsValid h) where
   module _ (root : ℕ) (slots : List ℕ) (y : ℕ) (there : LeadsTo h (root ∷ slots) y) (i x : ℕ) (on : IsOn h root slots i x) where
     next : (z : ℕ) → i < length slots → LeadsTo h (root ∷ slots) z
         → (x + get_or slots i 0 < length h.words) × Names h (word h (x + get_or slots i 0)) × Leads h (drop (i + 1) slots) (word h (x + get_or slots i 0)) z
-    next z lt l = step_at (get_or slots i 0) (drop (i + 1) slots) x z on.names (subst (λ ss. Leads h ss x z) (drop-cons slots i 0 lt ∙ ap (λ n. get_or slots i 0 ∷ drop n slots) (next_is i)) (on.leads z l))
+    next z lt l = step_at (get_or slots i 0) (drop (i + 1) slots) x z on.names
+        (subst (λ ss. Leads h ss x z) (drop-cons slots i 0 lt ∙ ap (λ n. get_or slots i 0 ∷ drop n slots) (next_is i)) (on.leads z l))
 
     pub on_within : i < length slots → x + get_or slots i 0 < length h.words
     on_within lt = (next y lt there).0

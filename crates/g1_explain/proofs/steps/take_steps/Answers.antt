@@ -25,7 +25,8 @@ discover-requires-clause-window g c κs within =
 
 pub discover-requires-clause-cards : goal.discover-requires-clause-cards
 discover-requires-clause-cards g c κs within =
-    cards_there c.heap-heap.result.now c.deref-8.result.now c.deref-4.result.now (map (λ s. s.items) c.deref-3.result.now) c.cards_lead_in.ensures.outside (c.deref-8.ensures.value ∙ c.in_ok-cards.ensures.ok)
+    cards_there c.heap-heap.result.now c.deref-8.result.now c.deref-4.result.now (map (λ s. s.items) c.deref-3.result.now)
+    c.cards_lead_in.ensures.outside (c.deref-8.ensures.value ∙ c.in_ok-cards.ensures.ok)
 
 pub discover-requires-clause-outside : goal.discover-requires-clause-outside
 discover-requires-clause-outside g c κs within =
@@ -51,7 +52,8 @@ place-requires g c =
     let i : Image = c.image-image.result.now in
     let tracked : IsTracked i = record { image = c.heap-heap.ensures.valid; covered = subst Covered (sym c.image-image.ensures.same) c.image-image.ensures.covered } in
     set_places c.args.settings.now.cost c.args.settings.now.choice i c.heap-heap.result.now c.heap-heap.ensures.same c.in_ok-set.set.items c.in_ok-set.ensures
-    c.deref-11.result.now c.deref-7.result.now c.deref-12.result.now c.in_ok-survivors.survivors.items tracked c.placeable.ensures c.deref-11.ensures.value c.deref-7.ensures.value c.deref-12.ensures.value
+    c.deref-11.result.now c.deref-7.result.now c.deref-12.result.now c.in_ok-survivors.survivors.items tracked c.placeable.ensures
+    c.deref-11.ensures.value c.deref-7.ensures.value c.deref-12.ensures.value
     c.in_ok-survivors.ensures.ok
 
 pub prepare_on-requires-clause-plan : goal.prepare_on-requires-clause-plan

@@ -8,7 +8,8 @@ use Rattle.g1_frontier.proofs.round.offer_all.Goals as goal
 pub take_in-requires-clause-some : goal.take_in-requires-clause-some
 take_in-requires-clause-some g c =
     let s = c.args.scope.now in
-    let count = count_back c.args.claims.now (place_in s) (pairs_in s) c.chunk-chunk.result c.args.items.now _ (λ s k t o r. r) _ c.args.seat _ _ _ _ c.in_ok-holders.ensures c.in_ok-holders-2.ensures.ok in
+    let count = count_back c.args.claims.now (place_in s) (pairs_in s) c.chunk-chunk.result c.args.items.now _ (λ s k t o r. r) _ c.args.seat _ _ _ _
+    c.in_ok-holders.ensures c.in_ok-holders-2.ensures.ok in
     let most = c.max.ensures in
     omega (arith, count, c.in_ok-holders-2.holders.ok, c.max.ensures)
 
@@ -20,5 +21,6 @@ take_in-requires-clause-seats g c =
 pub returns-clause-ok : goal.returns-clause-ok
 returns-clause-ok g c =
     let s = c.args.scope.now in
-    whole_round c.args.claims.now (place_in s) (pairs_in s) c.chunk-chunk.result c.args.items.now _ (λ s k t o r. r) _ c.args.seat _ _ _ _ _ _ c.in_ok-holders.ensures c.in_ok-holders-2.ensures.ok c.in_ok-take_in.ensures
+    whole_round c.args.claims.now (place_in s) (pairs_in s) c.chunk-chunk.result c.args.items.now _ (λ s k t o r. r) _ c.args.seat _ _ _ _ _ _
+    c.in_ok-holders.ensures c.in_ok-holders-2.ensures.ok c.in_ok-take_in.ensures
     (enough (length c.args.items.now) c.chunk-chunk.result c.chunk-chunk.ensures.range.0) (Ordered-from_pairs RankLess (all_pairs_in s c.args.items.now) c.requires.rise)

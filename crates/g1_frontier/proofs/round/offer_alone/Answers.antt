@@ -7,12 +7,18 @@ pub returns-clause-offered : goal.returns-clause-offered
 returns-clause-offered c =
     let s = c.args.scope.now in
     let tried = c.in_ok-offer_items.ensures in
-    alone_offered c.args.claims.now (place_in s) (all_pairs_in s c.args.items.now) (record { seat = c.args.seat; kept = c.new.result }) c.offer_items.new.holder tried c.new.ensures.items c.requires.seat.1 c.requires.rise
+    alone_offered c.args.claims.now (place_in s) (all_pairs_in s c.args.items.now) (record {
+      seat = c.args.seat;
+      kept = c.new.result;
+    }) c.offer_items.new.holder tried c.new.ensures.items c.requires.seat.1 c.requires.rise
     (tried.table ∙ c.requires.seat.0) (c.settled.ensures.whole (tried.shares ∙ c.requires.seat.1))
 
 pub returns-clause-won : goal.returns-clause-won
 returns-clause-won c =
     let s = c.args.scope.now in
     let tried = c.in_ok-offer_items.ensures in
-    alone_won c.args.claims.now (place_in s) (all_pairs_in s c.args.items.now) (record { seat = c.args.seat; kept = c.new.result }) c.offer_items.new.holder tried c.new.ensures.items c.requires.seat.1 c.requires.rise
+    alone_won c.args.claims.now (place_in s) (all_pairs_in s c.args.items.now) (record {
+      seat = c.args.seat;
+      kept = c.new.result;
+    }) c.offer_items.new.holder tried c.new.ensures.items c.requires.seat.1 c.requires.rise
     (tried.table ∙ c.requires.seat.0) (c.settled.ensures.whole (tried.shares ∙ c.requires.seat.1)) c.requires.above

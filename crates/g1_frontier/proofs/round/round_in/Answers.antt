@@ -20,20 +20,25 @@ still_there-requires-clause-inside g c =
     let window : List ℕ = c.args.scope.now.window.now in
     let ps : List (ℕ × ℕ) = all_pairs h window c.args.items.now in
     let lists = map (λ (v : Vec (ℕ × ℕ) Global). v.items) c.in_ok-seat.lists.items in
-    let perm : IsPermutation (flat_map (λ (l : List (ℕ × ℕ)). l) lists) c.in_ok-kept.kept.items = subst (λ l. IsPermutation l c.in_ok-kept.kept.items) (sym (flat_of_map (λ (l : List (ℕ × ℕ)). l) (λ (v : Vec (ℕ × ℕ) Global). v.items) c.in_ok-seat.lists.items)) c.in_ok-kept.ensures.same in
+    let perm : IsPermutation (flat_map (λ (l : List (ℕ × ℕ)). l) lists) c.in_ok-kept.kept.items =
+    subst (λ l. IsPermutation l c.in_ok-kept.kept.items) (sym (flat_of_map (λ (l : List (ℕ × ℕ)). l) (λ (v : Vec (ℕ × ℕ) Global). v.items) c.in_ok-seat.lists.items)) c.in_ok-kept.ensures.same in
     subst (All (λ q. in_set h window q.1 ≡ true)) (sym c.as_slice.ensures.value)
-    (all_from_in (λ q. in_set h window q.1 ≡ true) c.in_ok-kept.kept.items (λ q i. all_in_window h window c.args.items.now q (merged_from c.args.claims.now (place h window) ps c.args.seat c.in_ok-seat.seat lists c.in_ok-seat.ensures.ok c.in_ok-kept.kept.items perm q i)))
+    (all_from_in (λ q. in_set h window q.1 ≡ true) c.in_ok-kept.kept.items
+    (λ q i. all_in_window h window c.args.items.now q (merged_from c.args.claims.now (place h window) ps c.args.seat c.in_ok-seat.seat lists
+    c.in_ok-seat.ensures.ok c.in_ok-kept.kept.items perm q i)))
 
 pub returns-then-workers-eq1-clause-offers : goal.returns-then-workers-eq1-clause-offers
 returns-then-workers-eq1-clause-offers g c =
     let s = c.args.scope.now in
-    adds c.args.claims.now (place_in s) (all_pairs_in s c.args.items.now) c.args.seat c.in_ok-offer_alone.field-0.0 (c.in_ok-offer_alone.field-0.1.items ∷ []) c.in_ok-offer_alone.ensures.offered c.in_ok-offer_alone.field-0.0.hand.offers refl
+    adds c.args.claims.now (place_in s) (all_pairs_in s c.args.items.now) c.args.seat c.in_ok-offer_alone.field-0.0
+    (c.in_ok-offer_alone.field-0.1.items ∷ []) c.in_ok-offer_alone.ensures.offered c.in_ok-offer_alone.field-0.0.hand.offers refl
 
 pub returns-clause-offers : goal.returns-clause-offers
 returns-clause-offers g c =
     let h = c.args.scope.now.heap.now in
     let window : List ℕ = c.args.scope.now.window.now in
-    adds c.args.claims.now (place h window) (all_pairs h window c.args.items.now) c.args.seat c.in_ok-seat.seat (map (λ (v : Vec (ℕ × ℕ) Global). v.items) c.in_ok-seat.lists.items) c.in_ok-seat.ensures.ok c.still_there.new.seat.hand.offers c.in_ok-won.ensures.seat.2
+    adds c.args.claims.now (place h window) (all_pairs h window c.args.items.now) c.args.seat c.in_ok-seat.seat
+    (map (λ (v : Vec (ℕ × ℕ) Global). v.items) c.in_ok-seat.lists.items) c.in_ok-seat.ensures.ok c.still_there.new.seat.hand.offers c.in_ok-won.ensures.seat.2
 
 pub returns-clause-won : goal.returns-clause-won
 returns-clause-won g c =
@@ -41,8 +46,10 @@ returns-clause-won g c =
     let window : List ℕ = c.args.scope.now.window.now in
     let ps : List (ℕ × ℕ) = all_pairs h window c.args.items.now in
     let lists = map (λ (v : Vec (ℕ × ℕ) Global). v.items) c.in_ok-seat.lists.items in
-    let perm : IsPermutation (flat_map (λ (l : List (ℕ × ℕ)). l) lists) c.in_ok-kept.kept.items = subst (λ l. IsPermutation l c.in_ok-kept.kept.items) (sym (flat_of_map (λ (l : List (ℕ × ℕ)). l) (λ (v : Vec (ℕ × ℕ) Global). v.items) c.in_ok-seat.lists.items)) c.in_ok-kept.ensures.same in
+    let perm : IsPermutation (flat_map (λ (l : List (ℕ × ℕ)). l) lists) c.in_ok-kept.kept.items =
+    subst (λ l. IsPermutation l c.in_ok-kept.kept.items) (sym (flat_of_map (λ (l : List (ℕ × ℕ)). l) (λ (v : Vec (ℕ × ℕ) Global). v.items) c.in_ok-seat.lists.items)) c.in_ok-kept.ensures.same in
     c.in_ok-won.ensures.won
     ∙ ap (winners (place h window) c.in_ok-seat.seat.hand.offers) c.as_slice.ensures.value
-    ∙ round_won c.args.claims.now (place h window) ps c.args.seat c.in_ok-seat.seat lists c.in_ok-seat.ensures.ok c.in_ok-kept.kept.items perm c.requires.rise c.requires.above c.in_ok-kept.ensures.in_order
+    ∙ round_won c.args.claims.now (place h window) ps c.args.seat c.in_ok-seat.seat lists c.in_ok-seat.ensures.ok c.in_ok-kept.kept.items perm
+    c.requires.rise c.requires.above c.in_ok-kept.ensures.in_order
     ∙ ap (λ (os : List Offer). winners (place h window) os ps) (sym c.in_ok-won.ensures.seat.2)

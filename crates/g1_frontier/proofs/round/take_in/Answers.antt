@@ -9,6 +9,7 @@ returns c = record {
   seat = c.in_ok-join_all.ensures.seat;
   shares = c.in_ok-join_all.ensures.shares;
   offers = c.in_ok-join_all.ensures.offers;
-  kept = c.in_ok-join_all.ensures.kept ∙ ap (λ (l : List (Vec (ℕ × ℕ) Global)). map (λ (v : Vec (ℕ × ℕ) Global). v.items) l ++ map (λ h. h.kept.items) c.pop.new.self.items) (c.in_ok-push.ensures.items ∙ ap (λ (l : List (Vec (ℕ × ℕ) Global)). l ++ c.in-Some.last.kept ∷ []) c.new-lists.ensures.items);
+  kept = c.in_ok-join_all.ensures.kept ∙ ap (λ (l : List (Vec (ℕ × ℕ) Global)). map (λ (v : Vec (ℕ × ℕ) Global). v.items) l
+      ++ map (λ h. h.kept.items) c.pop.new.self.items) (c.in_ok-push.ensures.items ∙ ap (λ (l : List (Vec (ℕ × ℕ) Global)). l ++ c.in-Some.last.kept ∷ []) c.new-lists.ensures.items);
   settled = c.settled.ensures.whole;
 }

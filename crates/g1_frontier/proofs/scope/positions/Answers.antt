@@ -21,12 +21,14 @@ loop-index-preserved c =
     let r = get_or c.args.window.now c.loop-index.index 0 in
     let same : length (set c.loop-index.positions.items r (c.loop-index.index + 1)) ≡ length c.loop-index.positions.items = simp length-set in
     record {
-      noted = Noted-step c.args.window.now c.loop-index.index r c.loop-index.positions.items c.requires.regions.rise c.loop-index-test.true refl (omega (arith, below, c.loop-index.invariant.count)) c.loop-index.invariant.noted;
+      noted = Noted-step c.args.window.now c.loop-index.index r c.loop-index.positions.items c.requires.regions.rise c.loop-index-test.true refl
+          (omega (arith, below, c.loop-index.invariant.count)) c.loop-index.invariant.noted;
       count = same ∙ c.loop-index.invariant.count;
     }
 
 pub returns-clause-positions : goal.returns-clause-positions
-returns-clause-positions c = Noted-end c.args.window.now c.loop-index.index c.loop-index.positions.items (omega (arith, c.loop-index-test.false, c.loop-index.auto.index-end)) c.loop-index.invariant.noted
+returns-clause-positions c = Noted-end c.args.window.now c.loop-index.index c.loop-index.positions.items
+    (omega (arith, c.loop-index-test.false, c.loop-index.auto.index-end)) c.loop-index.invariant.noted
 
 pub loop-index-smaller : goal.loop-index-smaller
 loop-index-smaller c = omega (arith, c.loop-index-test.true)

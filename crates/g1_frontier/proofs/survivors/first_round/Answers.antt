@@ -13,32 +13,41 @@ new-requires g c = let few = window_few c.args.scope.now.heap.now c.requires.sco
 pub round_in-requires-clause-items : goal.round_in-requires-clause-items
 round_in-requires-clause-items g c κs within =
     let h = c.args.scope.now.heap.now in
-    let listed : c.as_slice-items.result.now ≡ first_items (length h.roots) c.args.cards.now = c.as_slice-items.ensures.value ∙ c.in_ok-first.ensures ∙ ap (λ (l : List ℕ). first_items (length l) c.args.cards.now) c.roots.ensures in
-    subst (All (IsItem h)) (sym listed) (first_are_items h c.requires.scope.valid c.args.scope.now.window.now c.args.cards.now c.requires.scope.regions c.requires.cards c.requires.outside c.requires.lead_in)
+    let listed : c.as_slice-items.result.now ≡ first_items (length h.roots) c.args.cards.now =
+    c.as_slice-items.ensures.value ∙ c.in_ok-first.ensures ∙ ap (λ (l : List ℕ). first_items (length l) c.args.cards.now) c.roots.ensures in
+    subst (All (IsItem h)) (sym listed) (first_are_items h c.requires.scope.valid c.args.scope.now.window.now c.args.cards.now
+    c.requires.scope.regions c.requires.cards c.requires.outside c.requires.lead_in)
 
 pub round_in-requires-clause-few : goal.round_in-requires-clause-few
 round_in-requires-clause-few g c κs within =
     let h = c.args.scope.now.heap.now in
-    let listed : c.as_slice-items.result.now ≡ first_items (length h.roots) c.args.cards.now = c.as_slice-items.ensures.value ∙ c.in_ok-first.ensures ∙ ap (λ (l : List ℕ). first_items (length l) c.args.cards.now) c.roots.ensures in
-    subst (λ l. length l < 2 ^ 32) (sym listed) (first_few h c.requires.scope.valid c.args.scope.now.window.now c.args.cards.now c.requires.scope.regions c.requires.cards c.requires.outside c.requires.lead_in)
+    let listed : c.as_slice-items.result.now ≡ first_items (length h.roots) c.args.cards.now =
+    c.as_slice-items.ensures.value ∙ c.in_ok-first.ensures ∙ ap (λ (l : List ℕ). first_items (length l) c.args.cards.now) c.roots.ensures in
+    subst (λ l. length l < 2 ^ 32) (sym listed) (first_few h c.requires.scope.valid c.args.scope.now.window.now c.args.cards.now
+    c.requires.scope.regions c.requires.cards c.requires.outside c.requires.lead_in)
 
 pub round_in-requires-clause-rise : goal.round_in-requires-clause-rise
 round_in-requires-clause-rise g c κs within =
     let h = c.args.scope.now.heap.now in
-    let listed : c.as_slice-items.result.now ≡ first_items (length h.roots) c.args.cards.now = c.as_slice-items.ensures.value ∙ c.in_ok-first.ensures ∙ ap (λ (l : List ℕ). first_items (length l) c.args.cards.now) c.roots.ensures in
-    subst (λ l. Rises (all_pairs h c.args.scope.now.window.now l)) (sym listed) (first_rises h c.requires.scope.valid c.args.scope.now.window.now c.args.cards.now c.requires.scope.regions c.requires.cards c.requires.outside c.requires.lead_in)
+    let listed : c.as_slice-items.result.now ≡ first_items (length h.roots) c.args.cards.now =
+    c.as_slice-items.ensures.value ∙ c.in_ok-first.ensures ∙ ap (λ (l : List ℕ). first_items (length l) c.args.cards.now) c.roots.ensures in
+    subst (λ l. Rises (all_pairs h c.args.scope.now.window.now l)) (sym listed)
+    (first_rises h c.requires.scope.valid c.args.scope.now.window.now c.args.cards.now c.requires.scope.regions c.requires.cards c.requires.outside c.requires.lead_in)
 
 pub round_in-requires-clause-ranks : goal.round_in-requires-clause-ranks
 round_in-requires-clause-ranks g c κs within =
     let h = c.args.scope.now.heap.now in
-    let listed : c.as_slice-items.result.now ≡ first_items (length h.roots) c.args.cards.now = c.as_slice-items.ensures.value ∙ c.in_ok-first.ensures ∙ ap (λ (l : List ℕ). first_items (length l) c.args.cards.now) c.roots.ensures in
-    subst (λ l. AreRanks (all_pairs h c.args.scope.now.window.now l)) (sym listed) (first_ranks h c.requires.scope.valid c.args.scope.now.window.now c.args.cards.now c.requires.scope.regions c.requires.cards c.requires.outside c.requires.lead_in)
+    let listed : c.as_slice-items.result.now ≡ first_items (length h.roots) c.args.cards.now =
+    c.as_slice-items.ensures.value ∙ c.in_ok-first.ensures ∙ ap (λ (l : List ℕ). first_items (length l) c.args.cards.now) c.roots.ensures in
+    subst (λ l. AreRanks (all_pairs h c.args.scope.now.window.now l)) (sym listed)
+    (first_ranks h c.requires.scope.valid c.args.scope.now.window.now c.args.cards.now c.requires.scope.regions c.requires.cards c.requires.outside c.requires.lead_in)
 
 pub returns-clause-ok : goal.returns-clause-ok
 returns-clause-ok g c =
     let h = c.args.scope.now.heap.now in
     let window : List ℕ = c.args.scope.now.window.now in
-    let listed : c.as_slice-items.result.now ≡ first_items (length h.roots) c.args.cards.now = c.as_slice-items.ensures.value ∙ c.in_ok-first.ensures ∙ ap (λ (l : List ℕ). first_items (length l) c.args.cards.now) c.roots.ensures in
+    let listed : c.as_slice-items.result.now ≡ first_items (length h.roots) c.args.cards.now =
+    c.as_slice-items.ensures.value ∙ c.in_ok-first.ensures ∙ ap (λ (l : List ℕ). first_items (length l) c.args.cards.now) c.roots.ensures in
     let none : c.in_ok-claims.seat.hand.offers ≡ [] = ap (λ (v : Hand). v.offers) c.in_ok-claims.ensures.hand in
     let r = c.in_ok-seat.ensures in
     first_search h c.requires.scope.valid window c.args.cards.now c.requires.scope.regions c.requires.cards c.requires.outside c.requires.lead_in
@@ -46,7 +55,9 @@ returns-clause-ok g c =
     r.table
     r.whole
     (c.in_ok-claims.ensures.places ∙ c.places.ensures)
-    (subst (λ l. AddsOffers (place h window) (all_pairs h window l) [] c.in_ok-seat.seat.hand.offers) listed (subst (λ (os : List Offer). AddsOffers (place h window) (all_pairs h window c.as_slice-items.result.now) os c.in_ok-seat.seat.hand.offers) none r.offers))
-    (c.in_ok-push_addresses.ensures ∙ (λ i. c.new-found.ensures.items i ++ map (λ (q : ℕ × ℕ). q.1) ((c.as_slice.ensures.value ∙ r.won ∙ ap (λ l. winners (place h window) c.in_ok-seat.seat.hand.offers (all_pairs h window l)) listed) i)))
+    (subst (λ l. AddsOffers (place h window) (all_pairs h window l) [] c.in_ok-seat.seat.hand.offers) listed
+    (subst (λ (os : List Offer). AddsOffers (place h window) (all_pairs h window c.as_slice-items.result.now) os c.in_ok-seat.seat.hand.offers) none r.offers))
+    (c.in_ok-push_addresses.ensures ∙ (λ i. c.new-found.ensures.items i ++ map (λ (q : ℕ × ℕ). q.1)
+    ((c.as_slice.ensures.value ∙ r.won ∙ ap (λ l. winners (place h window) c.in_ok-seat.seat.hand.offers (all_pairs h window l)) listed) i)))
     refl
     (λ i. length (c.roots.ensures i) + length (c.words.ensures i))

@@ -11,21 +11,24 @@ pub object_items-requires-clause-objects : goal.object_items-requires-clause-obj
 object_items-requires-clause-objects g c =
     let h = c.args.scope.now.heap.now in
     let s = c.args.search in
-    let cut : take (length c.deref.result.now - s.from) (drop s.from c.deref.result.now) ≡ drop s.from s.found.items = ap (λ (l : List ℕ). take (length l - s.from) (drop s.from l)) c.deref.ensures.value ∙ rest_is s.found.items s.from in
+    let cut : take (length c.deref.result.now - s.from) (drop s.from c.deref.result.now) ≡ drop s.from s.found.items =
+    ap (λ (l : List ℕ). take (length l - s.from) (drop s.from l)) c.deref.ensures.value ∙ rest_is s.found.items s.from in
     subst (All (λ a. Contains (objects h) (object_at h a))) (sym cut) (rest_objects h c.requires.scope.valid c.args.scope.now.window.now c.requires.scope.regions s c.requires.search)
 
 pub object_items-requires-clause-few : goal.object_items-requires-clause-few
 object_items-requires-clause-few g c =
     let h = c.args.scope.now.heap.now in
     let s = c.args.search in
-    let cut : take (length c.deref.result.now - s.from) (drop s.from c.deref.result.now) ≡ drop s.from s.found.items = ap (λ (l : List ℕ). take (length l - s.from) (drop s.from l)) c.deref.ensures.value ∙ rest_is s.found.items s.from in
+    let cut : take (length c.deref.result.now - s.from) (drop s.from c.deref.result.now) ≡ drop s.from s.found.items =
+    ap (λ (l : List ℕ). take (length l - s.from) (drop s.from l)) c.deref.ensures.value ∙ rest_is s.found.items s.from in
     subst (λ l. s.next + sum_by (slot_count h) l < 2 ^ 32) (sym cut) (ranks_fit h c.requires.scope.valid c.args.scope.now.window.now c.requires.scope.regions s c.requires.search)
 
 pub round_in-requires-clause-items : goal.round_in-requires-clause-items
 round_in-requires-clause-items g c κs within =
     let h = c.args.scope.now.heap.now in
     let s = c.args.search in
-    let cut : take (length c.deref.result.now - s.from) (drop s.from c.deref.result.now) ≡ drop s.from s.found.items = ap (λ (l : List ℕ). take (length l - s.from) (drop s.from l)) c.deref.ensures.value ∙ rest_is s.found.items s.from in
+    let cut : take (length c.deref.result.now - s.from) (drop s.from c.deref.result.now) ≡ drop s.from s.found.items =
+    ap (λ (l : List ℕ). take (length l - s.from) (drop s.from l)) c.deref.ensures.value ∙ rest_is s.found.items s.from in
     let listed : c.as_slice-items.result.now ≡ object_items h s.next (drop s.from s.found.items) = c.as_slice-items.ensures.value ∙ c.in_ok-items.ensures.items ∙ ap (object_items h s.next) cut in
     subst (All (IsItem h)) (sym listed) (rest_are_items h c.requires.scope.valid c.args.scope.now.window.now c.requires.scope.regions s c.requires.search)
 
@@ -33,7 +36,8 @@ pub round_in-requires-clause-few : goal.round_in-requires-clause-few
 round_in-requires-clause-few g c κs within =
     let h = c.args.scope.now.heap.now in
     let s = c.args.search in
-    let cut : take (length c.deref.result.now - s.from) (drop s.from c.deref.result.now) ≡ drop s.from s.found.items = ap (λ (l : List ℕ). take (length l - s.from) (drop s.from l)) c.deref.ensures.value ∙ rest_is s.found.items s.from in
+    let cut : take (length c.deref.result.now - s.from) (drop s.from c.deref.result.now) ≡ drop s.from s.found.items =
+    ap (λ (l : List ℕ). take (length l - s.from) (drop s.from l)) c.deref.ensures.value ∙ rest_is s.found.items s.from in
     let listed : c.as_slice-items.result.now ≡ object_items h s.next (drop s.from s.found.items) = c.as_slice-items.ensures.value ∙ c.in_ok-items.ensures.items ∙ ap (object_items h s.next) cut in
     subst (λ l. length l < 2 ^ 32) (sym listed) (rest_few h c.requires.scope.valid c.args.scope.now.window.now c.requires.scope.regions s c.requires.search)
 
@@ -41,7 +45,8 @@ pub round_in-requires-clause-rise : goal.round_in-requires-clause-rise
 round_in-requires-clause-rise g c κs within =
     let h = c.args.scope.now.heap.now in
     let s = c.args.search in
-    let cut : take (length c.deref.result.now - s.from) (drop s.from c.deref.result.now) ≡ drop s.from s.found.items = ap (λ (l : List ℕ). take (length l - s.from) (drop s.from l)) c.deref.ensures.value ∙ rest_is s.found.items s.from in
+    let cut : take (length c.deref.result.now - s.from) (drop s.from c.deref.result.now) ≡ drop s.from s.found.items =
+    ap (λ (l : List ℕ). take (length l - s.from) (drop s.from l)) c.deref.ensures.value ∙ rest_is s.found.items s.from in
     let listed : c.as_slice-items.result.now ≡ object_items h s.next (drop s.from s.found.items) = c.as_slice-items.ensures.value ∙ c.in_ok-items.ensures.items ∙ ap (object_items h s.next) cut in
     subst (λ l. Rises (all_pairs h c.args.scope.now.window.now l)) (sym listed) (rest_rises h c.requires.scope.valid c.args.scope.now.window.now c.requires.scope.regions s c.requires.search)
 
@@ -49,7 +54,8 @@ pub round_in-requires-clause-ranks : goal.round_in-requires-clause-ranks
 round_in-requires-clause-ranks g c κs within =
     let h = c.args.scope.now.heap.now in
     let s = c.args.search in
-    let cut : take (length c.deref.result.now - s.from) (drop s.from c.deref.result.now) ≡ drop s.from s.found.items = ap (λ (l : List ℕ). take (length l - s.from) (drop s.from l)) c.deref.ensures.value ∙ rest_is s.found.items s.from in
+    let cut : take (length c.deref.result.now - s.from) (drop s.from c.deref.result.now) ≡ drop s.from s.found.items =
+    ap (λ (l : List ℕ). take (length l - s.from) (drop s.from l)) c.deref.ensures.value ∙ rest_is s.found.items s.from in
     let listed : c.as_slice-items.result.now ≡ object_items h s.next (drop s.from s.found.items) = c.as_slice-items.ensures.value ∙ c.in_ok-items.ensures.items ∙ ap (object_items h s.next) cut in
     subst (λ l. AreRanks (all_pairs h c.args.scope.now.window.now l)) (sym listed) (rest_ranks h c.requires.scope.valid c.args.scope.now.window.now c.requires.scope.regions s c.requires.search)
 
@@ -57,16 +63,19 @@ pub round_in-requires-clause-above : goal.round_in-requires-clause-above
 round_in-requires-clause-above g c κs within =
     let h = c.args.scope.now.heap.now in
     let s = c.args.search in
-    let cut : take (length c.deref.result.now - s.from) (drop s.from c.deref.result.now) ≡ drop s.from s.found.items = ap (λ (l : List ℕ). take (length l - s.from) (drop s.from l)) c.deref.ensures.value ∙ rest_is s.found.items s.from in
+    let cut : take (length c.deref.result.now - s.from) (drop s.from c.deref.result.now) ≡ drop s.from s.found.items =
+    ap (λ (l : List ℕ). take (length l - s.from) (drop s.from l)) c.deref.ensures.value ∙ rest_is s.found.items s.from in
     let listed : c.as_slice-items.result.now ≡ object_items h s.next (drop s.from s.found.items) = c.as_slice-items.ensures.value ∙ c.in_ok-items.ensures.items ∙ ap (object_items h s.next) cut in
-    subst (λ l. AreAbove s.seat.hand.offers (all_pairs h c.args.scope.now.window.now l)) (sym listed) (rest_above h c.requires.scope.valid c.args.scope.now.window.now c.requires.scope.regions s c.requires.search)
+    subst (λ l. AreAbove s.seat.hand.offers (all_pairs h c.args.scope.now.window.now l)) (sym listed)
+    (rest_above h c.requires.scope.valid c.args.scope.now.window.now c.requires.scope.regions s c.requires.search)
 
 pub returns-clause-ok : goal.returns-clause-ok
 returns-clause-ok g c =
     let h = c.args.scope.now.heap.now in
     let s = c.args.search in
     let window : List ℕ = c.args.scope.now.window.now in
-    let cut : take (length c.deref.result.now - s.from) (drop s.from c.deref.result.now) ≡ drop s.from s.found.items = ap (λ (l : List ℕ). take (length l - s.from) (drop s.from l)) c.deref.ensures.value ∙ rest_is s.found.items s.from in
+    let cut : take (length c.deref.result.now - s.from) (drop s.from c.deref.result.now) ≡ drop s.from s.found.items =
+    ap (λ (l : List ℕ). take (length l - s.from) (drop s.from l)) c.deref.ensures.value ∙ rest_is s.found.items s.from in
     let listed : c.as_slice-items.result.now ≡ object_items h s.next (drop s.from s.found.items) = c.as_slice-items.ensures.value ∙ c.in_ok-items.ensures.items ∙ ap (object_items h s.next) cut in
     let r = c.in_ok-seat.ensures in
     next_search h c.requires.scope.valid window c.requires.scope.regions s c.requires.search
@@ -75,6 +84,7 @@ returns-clause-ok g c =
     r.whole
     refl
     (subst (λ l. AddsOffers (place h window) (all_pairs h window l) s.seat.hand.offers c.in_ok-seat.seat.hand.offers) listed r.offers)
-    (c.in_ok-push_addresses.ensures ∙ ap (λ (l : List (ℕ × ℕ)). s.found.items ++ map (λ (q : ℕ × ℕ). q.1) l) (c.as_slice.ensures.value ∙ r.won ∙ ap (λ l. winners (place h window) c.in_ok-seat.seat.hand.offers (all_pairs h window l)) listed))
+    (c.in_ok-push_addresses.ensures ∙ ap (λ (l : List (ℕ × ℕ)). s.found.items ++ map (λ (q : ℕ × ℕ). q.1) l) (c.as_slice.ensures.value ∙ r.won
+    ∙ ap (λ l. winners (place h window) c.in_ok-seat.seat.hand.offers (all_pairs h window l)) listed))
     (omega (arith, c.len-from.ensures, s.found.ok))
     (c.in_ok-items.ensures.next ∙ ap (λ l. s.next + sum_by (slot_count h) l) cut)

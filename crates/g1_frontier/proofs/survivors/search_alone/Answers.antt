@@ -9,4 +9,5 @@ new-requires c = let few = window_few c.args.scope.now.heap.now c.requires.scope
 
 pub returns-clause-only : goal.returns-clause-only
 returns-clause-only c l b =
-    breadth_first_unique (seeds c.args.scope.now.heap.now c.args.scope.now.window.now) (children c.args.scope.now.heap.now c.args.scope.now.window.now) l c.in_ok-found.found.items b c.in_ok-found.ensures
+    breadth_first_unique (seeds c.args.scope.now.heap.now c.args.scope.now.window.now)
+    (children c.args.scope.now.heap.now c.args.scope.now.window.now) l c.in_ok-found.found.items b c.in_ok-found.ensures

@@ -9,7 +9,8 @@ is_remembered_set-requires-clause-count c =
     let r = c.loop-r.r in
     let n : c.regions-regions.result ≡ c.args.draft.now.geometry.n = cc in
     let lt : r < length c.args.remembered.now = omega (arith, c.loop-r-test.true, n, c.requires.one_each) in
-    let same : slice_index_or (map (λ s. s.items) c.args.remembered.now) r [] ≡ c.index-remembered-r.result.items = map_at (λ s. s.items) c.args.remembered.now r c.index-remembered-r.result [] lt c.index-remembered-r.is in
+    let same : slice_index_or (map (λ s. s.items) c.args.remembered.now) r [] ≡ c.index-remembered-r.result.items =
+    map_at (λ s. s.items) c.args.remembered.now r c.index-remembered-r.result [] lt c.index-remembered-r.is in
     let fits : length (slice_index_or (map (λ s. s.items) c.args.remembered.now) r []) < 2 ^ 32 = c.requires.counts r [] (omega (arith, lt, length-map c.args.remembered.now (λ s. s.items))) in
     omega (arith, ap length (same ∙ sym c.deref.ensures.value), fits)
 
@@ -19,7 +20,8 @@ returns-then-not-is_remembered_set-clause-err c =
     let r = c.loop-r.r in
     let n : c.regions-regions.result ≡ c.args.draft.now.geometry.n = cc in
     let lt : r < length c.args.remembered.now = omega (arith, c.loop-r-test.true, n, c.requires.one_each) in
-    let same : slice_index_or (map (λ s. s.items) c.args.remembered.now) r [] ≡ c.deref.result.now = map_at (λ s. s.items) c.args.remembered.now r c.index-remembered-r.result [] lt c.index-remembered-r.is ∙ sym c.deref.ensures.value in (
+    let same : slice_index_or (map (λ s. s.items) c.args.remembered.now) r [] ≡ c.deref.result.now =
+    map_at (λ s. s.items) c.args.remembered.now r c.index-remembered-r.result [] lt c.index-remembered-r.is ∙ sym c.deref.ensures.value in (
       r,
       refl,
       record {
@@ -35,7 +37,8 @@ loop-r-preserved c =
     let r = c.loop-r.r in
     let n : c.regions-regions.result ≡ c.args.draft.now.geometry.n = cc in
     let lt : r < length c.args.remembered.now = omega (arith, c.loop-r-test.true, n, c.requires.one_each) in
-    let same : slice_index_or (map (λ s. s.items) c.args.remembered.now) r [] ≡ c.deref.result.now = map_at (λ s. s.items) c.args.remembered.now r c.index-remembered-r.result [] lt c.index-remembered-r.is ∙ sym c.deref.ensures.value in
+    let same : slice_index_or (map (λ s. s.items) c.args.remembered.now) r [] ≡ c.deref.result.now =
+    map_at (λ s. s.items) c.args.remembered.now r c.index-remembered-r.result [] lt c.index-remembered-r.is ∙ sym c.deref.ensures.value in
     below_more _ _ c.loop-r.invariant (subst (λ l. IsRememberedSet h r l) (sym same) (c.if-not-is_remembered_set.ensures.0 refl))
 
 pub loop-r-smaller : goal.loop-r-smaller

@@ -4,7 +4,8 @@ use Rattle.std.proofs.lemmas.List.{get_or_default}
 use Rattle.std.proofs.lemmas.Bool.{cases_lt}
 use Rattle.g1_image.specs.Image.{IsUsedCard, MayHoldCards, region_of_card}
 use Rattle.g1_image.proofs.cards.is_remembered_set.Goals as goal
-use Rattle.g1_image.proofs.cards.is_remembered_set.Goals.{else-cards-gt0-via-then-cards-gt0+else-not-may_hold_cards, else-cards-gt0-via-else-cards-gt0, else-i-gt0-via-then-i-gt0+else-cards-i, else-i-gt0-via-else-i-gt0}
+use Rattle.g1_image.proofs.cards.is_remembered_set.Goals.{else-cards-gt0-via-then-cards-gt0+else-not-may_hold_cards, else-cards-gt0-via-else-cards-gt0}
+use Rattle.g1_image.proofs.cards.is_remembered_set.Goals.{else-i-gt0-via-then-i-gt0+else-cards-i, else-i-gt0-via-else-i-gt0}
 
 pub loop-i-init : goal.loop-i-init
 loop-i-init c = record { rising = λ k lt. absurd (omega arith); elsewhere = λ k lt. absurd (omega arith) }

@@ -23,9 +23,13 @@ returns-then-not-added-clause-err c =
 
 pub loop-i-preserved : goal.loop-i-preserved
 loop-i-preserved c = (
-  put c.args.log.now c.loop-i.cards.keys c.loop-i.i c.in_ok-added.added c.loop-i-test.true c.loop-i.invariant.0 c.in_ok-added.ensures.added c.if-not-added.false c.insert.new.self.keys c.in_ok-added.ensures.keys,
-  below_more _ _ c.loop-i.invariant.1
-      (c.if-not-is_used.ensures.0 refl, is_fresh c.args.log.now c.loop-i.cards.keys c.loop-i.i c.in_ok-added.added c.loop-i-test.true c.loop-i.invariant.0 c.in_ok-added.ensures.added c.if-not-added.false),
+  put c.args.log.now c.loop-i.cards.keys c.loop-i.i c.in_ok-added.added c.loop-i-test.true c.loop-i.invariant.0 c.in_ok-added.ensures.added
+      c.if-not-added.false c.insert.new.self.keys c.in_ok-added.ensures.keys,
+  below_more _ _ c.loop-i.invariant.1 (
+    c.if-not-is_used.ensures.0 refl,
+    is_fresh c.args.log.now c.loop-i.cards.keys c.loop-i.i c.in_ok-added.added c.loop-i-test.true
+        c.loop-i.invariant.0 c.in_ok-added.ensures.added c.if-not-added.false,
+  ),
 )
 
 pub loop-i-smaller : goal.loop-i-smaller

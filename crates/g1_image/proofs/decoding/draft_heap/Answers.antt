@@ -15,7 +15,8 @@ invariant_of-result c =
     let gw : g.w ≡ h.w = c.in_ok-geometry.ensures.ok.0 ∙ c.from.ensures in
     let gk : g.k ≡ h.k = c.in_ok-geometry.ensures.ok.1 ∙ c.from-2.ensures in
     let gn : g.n ≡ h.n = c.in_ok-geometry.ensures.ok.2 ∙ c.from-3.ensures in
-    let limits : IsWithinLimits g.w g.k g.n = subst (λ x. IsWithinLimits x g.k g.n) (sym gw) (subst (λ x. IsWithinLimits h.w x g.n) (sym gk) (subst (λ x. IsWithinLimits h.w h.k x) (sym gn) c.requires.good.sizes)) in
+    let limits : IsWithinLimits g.w g.k g.n = subst (λ x. IsWithinLimits x g.k g.n) (sym gw)
+    (subst (λ x. IsWithinLimits h.w x g.n) (sym gk) (subst (λ x. IsWithinLimits h.w h.k x) (sym gn) c.requires.good.sizes)) in
     record {
       limits = limits;
       word_count = c.requires.words ∙ (λ t. sym gn t * sym gw t);

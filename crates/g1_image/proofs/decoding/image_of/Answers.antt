@@ -71,7 +71,8 @@ returns-in_err-draft-clause-err c =
     let left = err_from_is_err_and c.from_residual.result c.from_residual.ensures.1 in
     rw (left.1, left.2) (λ bytes told. elim c.in_err-draft.ensures.err [
       | inl m ↦ inl m
-      | inr h ↦ table_fault bytes (plain_file f.version f.heading f.table.items f.roots.items f.log.items (map (λ s. s.items) f.remembered.items) told.0) c.in_err-draft.field-0.0 told.1.fits told.1.text
+      | inr h ↦ table_fault bytes (plain_file f.version f.heading f.table.items f.roots.items f.log.items (map (λ s. s.items) f.remembered.items)
+          told.0) c.in_err-draft.field-0.0 told.1.fits told.1.text
           (subst (λ t. TableFault t f.heading.n c.in_err-draft.field-0.0) c.deref.ensures.value h)
     ])
 
@@ -81,7 +82,8 @@ returns-in_err-check_heap-clause-err c =
     let left = err_from_is_err_and c.from_residual-in_err-check_heap.result c.from_residual-in_err-check_heap.ensures.1 in
     rw (left.1, left.2) (λ bytes told. elim c.in_err-check_heap.ensures.err [
       | inl m ↦ inl m
-      | inr h ↦ heap_fault bytes (file_in at told.0) c.in_err-check_heap.field-0.0 told.1.fits told.1.text (known at told.0) (subst (λ x. HeapFault x c.in_err-check_heap.field-0.0) (drafted at told.0 told.2) h)
+      | inr h ↦ heap_fault bytes (file_in at told.0) c.in_err-check_heap.field-0.0 told.1.fits told.1.text (known at told.0)
+          (subst (λ x. HeapFault x c.in_err-check_heap.field-0.0) (drafted at told.0 told.2) h)
     ])
 
 pub returns-in_err-log-clause-err : goal.returns-in_err-log-clause-err
@@ -90,7 +92,8 @@ returns-in_err-log-clause-err c =
     let left = err_from_is_err_and c.from_residual-in_err-log.result c.from_residual-in_err-log.ensures.1 in
     rw (left.1, left.2) (λ bytes told. elim c.in_err-log.ensures.err [
       | inl m ↦ inl m
-      | inr h ↦ log_fault bytes (file_in at told.0) c.in_ok-draft.draft c.deref-2.result.now c.in_err-log.field-0.0 h.0 told.1.fits told.1.text (known at told.0) (drafted at told.0 told.2) c.deref-2.ensures.value
+      | inr h ↦ log_fault bytes (file_in at told.0) c.in_ok-draft.draft c.deref-2.result.now c.in_err-log.field-0.0 h.0 told.1.fits told.1.text
+          (known at told.0) (drafted at told.0 told.2) c.deref-2.ensures.value
           c.in_ok-check_heap.ensures.ok h.1 h.2
     ])
 
@@ -101,7 +104,8 @@ returns-in_err-check_remembered-clause-err c =
     let h = c.in_err-check_remembered.ensures.err in
     rw (left.1, left.2) (λ bytes told.
     let logged : LogsGood (file_in at told.0) = logs_good (file_in at told.0) c.in_ok-draft.draft c.deref-2.result.now (drafted at told.0 told.2) c.deref-2.ensures.value c.in_ok-log.ensures.ok.1 in
-    remembered_fault bytes (file_in at told.0) c.in_ok-draft.draft (map (λ s. s.items) c.deref-3.result.now) c.in_err-check_remembered.field-0.0 h.0 told.1.fits told.1.text (known at told.0) (drafted at told.0 told.2)
+    remembered_fault bytes (file_in at told.0) c.in_ok-draft.draft (map (λ s. s.items) c.deref-3.result.now) c.in_err-check_remembered.field-0.0 h.0
+    told.1.fits told.1.text (known at told.0) (drafted at told.0 told.2)
     (ap (λ l. map (λ s. s.items) l) c.deref-3.ensures.value) c.in_ok-check_heap.ensures.ok logged h.1 h.2)
 
 -- the heap, the log and the remembered sets of the file are good
@@ -131,7 +135,8 @@ invariant_of-result c =
     let same = drafted at.After-check_heap told.0 told.2 in
     let good = checked at.In_ok-check_remembered f same refl refl in
     let h = heap_in c.draft.inside.geometry c.draft.inside.words.items c.draft.inside.regions.items c.draft.inside.roots.items c.draft.inside.current in
-    made_image f h c.in_ok-log.log.keys told.1.fits c.draft.invariant (c.draft.view_is ∙ same) (c.in_ok-log.ensures.ok.0 ∙ c.deref-2.ensures.value) good.0 (known at.After-check_heap told.0) good.1 good.2
+    made_image f h c.in_ok-log.log.keys told.1.fits c.draft.invariant (c.draft.view_is ∙ same) (c.in_ok-log.ensures.ok.0 ∙ c.deref-2.ensures.value)
+    good.0 (known at.After-check_heap told.0) good.1 good.2
 
 pub returns-clause-ok : goal.returns-clause-ok
 returns-clause-ok c = λ bytes told.

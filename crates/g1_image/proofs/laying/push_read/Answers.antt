@@ -15,5 +15,6 @@ returns c =
     let many : length dst ≡ n = search rules in
     let is : dst ≡ words_of n c.args.bytes.now =
     read_words-is n (take (8 * n) c.args.bytes.now) dst many c.read_u64_into.ensures ∙ words_of-take n c.args.bytes.now in
-    tail_grown s n c.args.out.now.len c.resize.new.self.len old c.resize.new.self.items c.deref_mut.result.now dst c.len-start.ensures start c.in_ok-resize.ensures.items c.deref_mut.ensures.value whole len many
+    tail_grown s n c.args.out.now.len c.resize.new.self.len old c.resize.new.self.items c.deref_mut.result.now dst c.len-start.ensures start
+    c.in_ok-resize.ensures.items c.deref_mut.ensures.value whole len many
     ∙ ap (λ l. old ++ l) is

@@ -11,5 +11,6 @@ invariant-loop-e g l = record {
   zeros : l.laid.zeros ≤ l.e-index * l.w;
   taken : l.taken ≡ table_words (take l.e-index l.table);
   within : l.taken ≤ table_words l.table;
-  part : Laid (g.S.Source.failed l.fn.source) (g.S.Source.failed l.source) (to_take l.fn.ahead (g.S.Source.left l.fn.source)) (to_take l.ahead (g.S.Source.left l.source)) l.w l.table l.e-index (laid_words l.laid);
+  part : Laid (g.S.Source.failed l.fn.source) (g.S.Source.failed l.source) (to_take l.fn.ahead (g.S.Source.left l.fn.source))
+      (to_take l.ahead (g.S.Source.left l.source)) l.w l.table l.e-index (laid_words l.laid);
 }

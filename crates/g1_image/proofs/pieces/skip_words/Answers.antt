@@ -21,6 +21,7 @@ loop-left-preserved g c =
     let now = c.words_ahead.new.ahead in
     record {
       known = λ t. c.words_ahead.ensures.known (sym c.pass.ensures.end ∙ t);
-      part = skipped_more _ _ _ _ _ (g.S.Source.left c.words_ahead.new.source) c.args.count c.loop-left.left c.in_ok-here.here (waiting now) (waiting c.pass.new.self) c.loop-left.invariant.part c.in_ok-here.ensures.mark c.in_ok-here.ensures.kept
+      part = skipped_more _ _ _ _ _ (g.S.Source.left c.words_ahead.new.source) c.args.count c.loop-left.left c.in_ok-here.here (waiting now)
+          (waiting c.pass.new.self) c.loop-left.invariant.part c.in_ok-here.ensures.mark c.in_ok-here.ensures.kept
           c.in_ok-here.ensures.are_bytes count.1 count.2 c.pass.ensures.left;
     }

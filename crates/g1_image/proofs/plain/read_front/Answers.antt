@@ -20,8 +20,10 @@ pub returns-in_err-table-clause-err : goal.returns-in_err-table-clause-err
 returns-in_err-table-clause-err c =
     let h = c.in_ok-heading.heading in
     let left = err_from_is_err_and c.from_residual-in_err-table.result c.from_residual-in_err-table.ensures.1 in
-    rw (left.1, left.2) (fails c.args.bytes.now c.in_err-table.field-0.0 (EndsWithin (Are (EntryFits c.in_ok-heading.version) h.n) (table_text c.in_ok-heading.version) c.rest.result.now) c.in_err-table.ensures
-    (short_table c.args.bytes.now c.rest.result.now c.in_ok-heading.version h c.in_ok-heading.ensures.ok.0 c.in_ok-heading.ensures.ok.1 (opened (goal.at.returns-in_err-table-clause-err c).After-rest)))
+    rw (left.1, left.2) (fails c.args.bytes.now c.in_err-table.field-0.0 (EndsWithin (Are (EntryFits c.in_ok-heading.version) h.n)
+    (table_text c.in_ok-heading.version) c.rest.result.now) c.in_err-table.ensures
+    (short_table c.args.bytes.now c.rest.result.now c.in_ok-heading.version h c.in_ok-heading.ensures.ok.0 c.in_ok-heading.ensures.ok.1
+    (opened (goal.at.returns-in_err-table-clause-err c).After-rest)))
 
 pub returns-in_err-roots-clause-err : goal.returns-in_err-roots-clause-err
 returns-in_err-roots-clause-err c =
@@ -45,7 +47,8 @@ returns-in_err-remembered-clause-err c =
     let h = c.in_ok-heading.heading in
     let left = err_from_is_err_and c.from_residual-in_err-remembered.result c.from_residual-in_err-remembered.ensures.1 in
     rw (left.1, left.2) (fails c.args.bytes.now c.in_err-remembered.field-0.0 (EndsWithin (Are RememberedFits h.n) remembered_texts c.in_ok-log.after_log.now) c.in_err-remembered.ensures
-    (short_remembered c.args.bytes.now c.rest.result.now c.in_ok-heading.version h c.in_ok-heading.ensures.ok.0 c.in_ok-heading.ensures.ok.1 (opened (goal.at.returns-in_err-remembered-clause-err c).After-rest)
+    (short_remembered c.args.bytes.now c.rest.result.now c.in_ok-heading.version h c.in_ok-heading.ensures.ok.0 c.in_ok-heading.ensures.ok.1
+    (opened (goal.at.returns-in_err-remembered-clause-err c).After-rest)
     c.in_ok-table.table.items c.in_ok-table.after_table.now c.in_ok-table.ensures.0 c.in_ok-table.ensures.1
     c.in_ok-roots.roots.items c.in_ok-roots.after_roots.now c.in_ok-roots.ensures.0 c.in_ok-roots.ensures.1
     c.in_ok-log.log.items c.in_ok-log.after_log.now c.in_ok-log.ensures.0 c.in_ok-log.ensures.1))

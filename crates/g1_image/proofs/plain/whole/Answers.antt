@@ -7,7 +7,8 @@ use Rattle.g1_image.proofs.plain.whole.Goals.{After-table_words-needed}
 
 -- what the words that are left make of the bytes
 read : (c : After-table_words-needed) → IsBytes c.args.bytes.now →
-    PartsRead c.args.bytes.now c.in_ok-front.front.version c.in_ok-front.front.heading c.in_ok-front.front.table.items c.in_ok-front.front.roots.items c.in_ok-front.front.log.items (map (λ s. s.items) c.in_ok-front.front.remembered.items) c.in_ok-front.words.now
+    PartsRead c.args.bytes.now c.in_ok-front.front.version c.in_ok-front.front.heading c.in_ok-front.front.table.items c.in_ok-front.front.roots.items
+    c.in_ok-front.front.log.items (map (λ s. s.items) c.in_ok-front.front.remembered.items) c.in_ok-front.words.now
 read c b =
     let f = c.in_ok-front.front in
     let sets = map (λ s. s.items) f.remembered.items in

@@ -28,7 +28,8 @@ returns-in_err-top c =
     let bytes = c.args.bytes.now in
     let rest = c.in_ok-kind.rest.now in
     let read = (goal.at.returns-in_err-top c).In_ok-kind in
-    Reads-fails (EntryFits v) (entry_text v) (λ x. (x.0, x.1.now)) bytes c.from_residual-in_err-top.result c.in_err-top.field-0.0 (EndsWithin IsU32 u32 rest) c.from_residual-in_err-top.ensures.1 c.in_err-top.ensures
+    Reads-fails (EntryFits v) (entry_text v) (λ x. (x.0, x.1.now)) bytes c.from_residual-in_err-top.result c.in_err-top.field-0.0
+    (EndsWithin IsU32 u32 rest) c.from_residual-in_err-top.ensures.1 c.in_err-top.ensures
     (λ short y tail fy ey. short y.top (flags_text v y.flags ++ tail) fy.1 (after_kind read y tail fy ey))
 
 pub returns-in_err-flags : goal.returns-in_err-flags
@@ -37,6 +38,7 @@ returns-in_err-flags c =
     let bytes = c.args.bytes.now in
     let rest = c.in_ok-top.rest.now in
     let read = (goal.at.returns-in_err-flags c).In_ok-kind in
-    Reads-fails (EntryFits v) (entry_text v) (λ x. (x.0, x.1.now)) bytes c.from_residual-in_err-flags.result c.in_err-flags.field-0.0 (EndsWithin (FlagsFit v) (flags_text v) rest) c.from_residual-in_err-flags.ensures.1 c.in_err-flags.ensures
+    Reads-fails (EntryFits v) (entry_text v) (λ x. (x.0, x.1.now)) bytes c.from_residual-in_err-flags.result c.in_err-flags.field-0.0
+    (EndsWithin (FlagsFit v) (flags_text v) rest) c.from_residual-in_err-flags.ensures.1 c.in_err-flags.ensures
     (λ short y tail fy ey. short y.flags tail fy.2
     (u32_once c.in_ok-top.top y.top rest (flags_text v y.flags ++ tail) c.in_ok-top.ensures.0 fy.1 (sym c.in_ok-top.ensures.1 ∙ after_kind read y tail fy ey)).1)

@@ -8,7 +8,8 @@ use Rattle.g1_image.proofs.refs.check_slots.Goals as goal
 use Rattle.g1_image.proofs.refs.check_slots.Goals.{After-header-o}
 
 -- a slot that was read among an object's is the heap's
-slot_is : (slots ws words : List ℕ) (q : Object) (at i : ℕ) → ((i : ℕ) → i < q.refs → slice_index slots i ≡ slice_index ws (q.at + 1 + i)) → ws ≡ words → q.at ≡ at → i < q.refs → slice_index slots i ≡ slice_index words (at + 1 + i)
+slot_is : (slots ws words : List ℕ) (q : Object) (at i : ℕ) → ((i : ℕ) → i < q.refs → slice_index slots i ≡ slice_index ws (q.at + 1 + i)) →
+    ws ≡ words → q.at ≡ at → i < q.refs → slice_index slots i ≡ slice_index words (at + 1 + i)
 slot_is slots ws words q at i each e here lt = each i lt ∙ (λ t. slice_index (e t) (here t + 1 + i))
 
 -- what is known of an object whose header was read at a mark
@@ -28,7 +29,14 @@ read c =
     let start : StartsAt h at = c.requires.starts.each.sound at (sym c.is_set.ensures ∙ c.if-is_set.true) in
     let word : slice_index h.words at ≡ q.size * 2 ^ 32 + q.refs = ap (λ ws. slice_index ws at) (sym c.words-words.ensures.same) ∙ c.header-o.ensures.word in
     let fits = object_fits h at q some c.requires.shaped start word c.header-o.ensures.refs c.header-o.ensures.size in
-    record { some = some; start = start; word = word; refs = fits.0; object_end = omega (arith, c.header-o.ensures.at, fits.0, fits.1, c.words-words.ensures.draft.word_count, ap length c.words-words.ensures.same) }
+    record {
+      some = some;
+      start = start;
+      word = word;
+      refs = fits.0;
+      object_end = omega
+          (arith, c.header-o.ensures.at, fits.0, fits.1, c.words-words.ensures.draft.word_count, ap length c.words-words.ensures.same);
+    }
 
 pub slots-requires-clause-refs : goal.slots-requires-clause-refs
 slots-requires-clause-refs c = (read (goal.at.slots-requires-clause-refs c).After-header-o).refs
@@ -50,7 +58,8 @@ returns-in-Some-clause-err c =
       refl,
       slot_breach h at q r.some c.requires.shaped r.start r.word c.header-o.ensures.refs c.header-o.ensures.size c.loop-at.invariant i lt
           (λ r. first.breach (subst (λ x. IsReference h x) (sym (slot_is c.slots.result.now ws h.words q at i c.slots.ensures.each c.words-words.ensures.same c.header-o.ensures.at lt)) r))
-          (λ k less. subst (λ x. IsReference h x) (slot_is c.slots.result.now ws h.words q at k c.slots.ensures.each c.words-words.ensures.same c.header-o.ensures.at (omega (arith, less, lt))) (first.before k less)),
+          (λ k less. subst (λ x. IsReference h x) (slot_is c.slots.result.now ws h.words q at k c.slots.ensures.each c.words-words.ensures.same
+          c.header-o.ensures.at (omega (arith, less, lt))) (first.before k less)),
     )
 
 pub loop-at-smaller-then-is_set : goal.loop-at-smaller-then-is_set
@@ -64,7 +73,8 @@ loop-at-preserved-then-is_set c =
     let q = c.header-o.result in
     let r = read (goal.at.loop-at-preserved-then-is_set c).After-header-o in
     SlotsBelow-object h at q r.some c.requires.shaped r.start r.word c.header-o.ensures.refs c.header-o.ensures.size c.loop-at.invariant
-    (λ i lt. subst (λ x. IsReference h x) (slot_is c.slots.result.now ws h.words q at i c.slots.ensures.each c.words-words.ensures.same c.header-o.ensures.at lt) (c.in_default.ensures.none i (omega (arith, c.slots.ensures.count, lt))))
+    (λ i lt. subst (λ x. IsReference h x) (slot_is c.slots.result.now ws h.words q at i c.slots.ensures.each c.words-words.ensures.same
+    c.header-o.ensures.at lt) (c.in_default.ensures.none i (omega (arith, c.slots.ensures.count, lt))))
 
 pub loop-at-preserved : goal.loop-at-preserved
 loop-at-preserved c =

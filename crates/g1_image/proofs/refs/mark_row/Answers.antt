@@ -14,4 +14,5 @@ loop-at-smaller c =
 pub loop-at-preserved : goal.loop-at-preserved
 loop-at-preserved c =
     Rowed-step c.args.words.now c.args.from c.args.to c.args.marks.now c.loop-at.at c.loop-at.marks c.header-at.result c.loop-at.invariant c.loop-at-test.true
-    c.header-at.ensures.word c.header-at.ensures.refs c.header-at.ensures.size c.requires.as_many c.requires.in_words _ c.set.ensures (ap length c.set.ensures ∙ (let same : length (set c.loop-at.marks c.loop-at.at true) ≡ length c.loop-at.marks = simp length-set in same))
+    c.header-at.ensures.word c.header-at.ensures.refs c.header-at.ensures.size c.requires.as_many c.requires.in_words _ c.set.ensures
+    (ap length c.set.ensures ∙ (let same : length (set c.loop-at.marks c.loop-at.at true) ≡ length c.loop-at.marks = simp length-set in same))

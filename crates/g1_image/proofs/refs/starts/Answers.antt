@@ -44,7 +44,8 @@ returns-in_err-marks c = let left = err_from_is_err_and c.from_residual.result c
 pub loop-r-init : goal.loop-r-init
 loop-r-init c =
     let h = c.args.draft.now in
-    let is : c.in_ok-marks.marks ≡ replicate (h.geometry.n * h.geometry.w) false = c.in_ok-marks.ensures ∙ ap (λ n. replicate n false) c.words.ensures.value ∙ ap (λ g. replicate (g.n * g.w) false) c.geometry-geometry.ensures.same in
+    let is : c.in_ok-marks.marks ≡ replicate (h.geometry.n * h.geometry.w) false =
+    c.in_ok-marks.ensures ∙ ap (λ n. replicate n false) c.words.ensures.value ∙ ap (λ g. replicate (g.n * g.w) false) c.geometry-geometry.ensures.same in
     (subst (λ l. Marks (StartsBelow h 0) l) (sym is) (Marks-start h (h.geometry.n * h.geometry.w)), ap length is ∙ length-replicate (h.geometry.n * h.geometry.w) false)
 
 pub region-region-requires : goal.region-region-requires
@@ -94,7 +95,12 @@ loop-r-preserved c =
           let kind : (region h r).kind ≡ HumongousFirst = ap (λ q. q.kind) (sym c.region-region.ensures) ∙ w.in-HumongousFirst.is in
           let items : new ≡ set marks (start h r) true = w.marks-is ∙ w.set.ensures ∙ (λ t. set marks (place t) true) in
           let some : 16 ≤ h.geometry.w = omega (arith, c.geometry-geometry.ensures.draft.limits.w_least) in
-          let inside : start h r < length marks = omega (arith, start_in h r some (let nn : c.regions-regions.result ≡ h.geometry.n = cc in omega (arith, nn, c.loop-r-test.true)), c.loop-r.invariant.1) in
+          let inside : start h r < length marks = omega (
+            arith,
+            start_in h r some (let nn : c.regions-regions.result ≡ h.geometry.n = cc in
+                omega (arith, nn, c.loop-r-test.true)),
+            c.loop-r.invariant.1,
+          ) in
           let m : Marked (λ a. a ≡ start h r) marks new = marked_one marks new (start h r) inside items in (
             Marks-more h r marks new c.loop-r.invariant.0 (subst (λ k. Marked (StartsIn k h r) marks new) (sym kind) m),
             (let same : length (set marks (start h r) true) ≡ length marks = simp length-set in ap length items ∙ same ∙ c.loop-r.invariant.1),

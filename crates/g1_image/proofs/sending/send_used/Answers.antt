@@ -23,7 +23,8 @@ returns-in_err-send-clause-err g c =
     let i = c.loop-r.r-index in
     let same = err_from_is_err_and c.from_residual.result c.from_residual.ensures.1 in
     rw (same.1, same.2) (sending_fails _ _ _ _ _ _ _ _ _ _ c.loop-r.invariant.part
-    (used_next c.args.width i c.args.regions.now free_region c.split_at.result.1.now c.split_at.result.0.now c.loop-r.rest.now (omega arith) (c.requires.tops i free_region (omega arith)) c.split_at.ensures.front c.split_at.ensures.back)
+    (used_next c.args.width i c.args.regions.now free_region c.split_at.result.1.now c.split_at.result.0.now c.loop-r.rest.now (omega arith)
+    (c.requires.tops i free_region (omega arith)) c.split_at.ensures.front c.split_at.ensures.back)
     c.in_err-send.ensures.err)
 
 pub returns-in_err-send-clause-mark : goal.returns-in_err-send-clause-mark
@@ -40,7 +41,8 @@ loop-r-preserved g c =
     let i = c.loop-r.r-index in
     record {
       part = sending_more _ _ _ _ _ _ _ _ _ _ c.loop-r.invariant.part
-          (used_next c.args.width i c.args.regions.now free_region c.split_at.result.1.now c.split_at.result.0.now c.loop-r.rest.now (omega arith) (c.requires.tops i free_region (omega arith)) c.split_at.ensures.front c.split_at.ensures.back)
+          (used_next c.args.width i c.args.regions.now free_region c.split_at.result.1.now c.split_at.result.0.now c.loop-r.rest.now (omega arith)
+          (c.requires.tops i free_region (omega arith)) c.split_at.ensures.front c.split_at.ensures.back)
           c.in_ok-send.ensures.ok;
       mark = c.in_ok-send.ensures.mark ∙ c.loop-r.invariant.mark;
       rows = rows_left (length c.args.regions.now) i c.args.width (length c.loop-r.rest.now) (length c.split_at.result.1.now) (omega arith) c.split_at.ensures.back_len c.loop-r.invariant.rows;

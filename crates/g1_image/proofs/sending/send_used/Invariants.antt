@@ -7,7 +7,8 @@ use Rattle.g1_image.proofs.sending.send_used.Given as goal
 
 abbrev pub invariant-loop-r : goal.invariant-loop-r
 invariant-loop-r g l = record {
-  part : Sending (g.S.Sink.written l.fn.sink) (g.S.Sink.written l.sink) (unsent l.fn.behind) (words_text (used_words l.width l.regions l.words)) (unsent l.behind) (words_text (used_words l.width (drop l.r-index l.regions) l.rest));
+  part : Sending (g.S.Sink.written l.fn.sink) (g.S.Sink.written l.sink) (unsent l.fn.behind) (words_text (used_words l.width l.regions l.words))
+      (unsent l.behind) (words_text (used_words l.width (drop l.r-index l.regions) l.rest));
   mark : g.S.Sink.failed l.sink ≡ g.S.Sink.failed l.fn.sink;
   rows : length l.rest ≡ (length l.regions - l.r-index) * l.width;
 }

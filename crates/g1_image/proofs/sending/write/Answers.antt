@@ -42,8 +42,10 @@ returns-clause-text g c =
     let front = c.write_front.new.out.items in
     let words = words_text (used_words c.region_words.result c.regions.result.now c.words.result.now) in
     let is : words ≡ words_text (used_words i.heap.geometry.w i.heap.regions i.heap.words) = cc in
-    let sent : Sent old between front words (unsent c.send_used.new.behind) = subst (λ l. Sent old between l words (unsent c.send_used.new.behind)) c.in_ok-behind.ensures c.in_ok-send_used.ensures.ok in (
+    let sent : Sent old between front words (unsent c.send_used.new.behind) =
+    subst (λ l. Sent old between l words (unsent c.send_used.new.behind)) c.in_ok-behind.ensures c.in_ok-send_used.ensures.ok in (
       front ++ words_text (file_of Two i).words,
       c.in_ok-write_front.ensures,
-      subst (λ l. Writes (front ++ l) old new c.flush.result) is (rest_written old between new front words (unsent c.send_used.new.behind) (unsent c.flush.new.self) c.flush.result sent c.flush.ensures.ok c.flush.ensures.none c.flush.ensures.err),
+      subst (λ l. Writes (front ++ l) old new c.flush.result) is (rest_written old between new front words (unsent c.send_used.new.behind)
+          (unsent c.flush.new.self) c.flush.result sent c.flush.ensures.ok c.flush.ensures.none c.flush.ensures.err),
     )

@@ -47,7 +47,8 @@ loop-r-preserved c =
             let l : Latest h (r + 1) r q.size = Latest-first h r q (w.header-size.ensures.at ∙ place) word w.header-size.ensures.refs w.header-size.ensures.size good kind in
             subst (λ x. Latest h (r + 1) x c.if-is_humongous_first.size) (sym w.first-is) (subst (λ x. Latest h (r + 1) r x) (sym w.size-is) l)
         | else-is_humongous_first w ↦
-            let l : Latest h (r + 1) c.loop-r.first c.loop-r.size = Latest-other h r c.loop-r.first c.loop-r.size c.loop-r.invariant.0 (λ k. let e : false ≡ true = sym w.if-is_humongous_first.false ∙ c.is_humongous_first.ensures.1 (ap (λ q. q.kind) c.region.ensures ∙ k) in cc) in
+            let l : Latest h (r + 1) c.loop-r.first c.loop-r.size = Latest-other h r c.loop-r.first c.loop-r.size c.loop-r.invariant.0
+            (λ k. let e : false ≡ true = sym w.if-is_humongous_first.false ∙ c.is_humongous_first.ensures.1 (ap (λ q. q.kind) c.region.ensures ∙ k) in cc) in
             subst (λ x. Latest h (r + 1) x c.if-is_humongous_first.size) (sym w.first-is) (subst (λ x. Latest h (r + 1) c.loop-r.first x) (sym w.size-is) l)
       ],
       below_more _ _ c.loop-r.invariant.1 good,

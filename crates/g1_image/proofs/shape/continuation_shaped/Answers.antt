@@ -19,7 +19,10 @@ returns c =
     let e : c.start-before.result ≡ (c.args.r - c.args.first) * h.geometry.w = c.start-before.ensures.value ∙ ap (λ g. (c.args.r - c.args.first) * g.w) c.geometry-geometry.ensures.same in
     let top : c.from-top.result ≡ (region h c.args.r).top = cc in
     let least : c.if-left-region_words.least ≡ min h.geometry.w (c.args.size - (c.args.r - c.args.first) * h.geometry.w) =
-    elim c.if-left-region_words.branch [ then-left-region_words b ↦ omega (arith, b.least-is, b.if-left-region_words.true, e, w) | else-left-region_words b ↦ omega (arith, b.least-is, b.if-left-region_words.false, e, w) ] in (
+    elim c.if-left-region_words.branch [
+      | then-left-region_words b ↦ omega (arith, b.least-is, b.if-left-region_words.true, e, w)
+      | else-left-region_words b ↦ omega (arith, b.least-is, b.if-left-region_words.false, e, w)
+    ] in (
       (λ t. continued_by h c.args.r c.args.first c.args.size c.requires.latest c.requires.shaped (omega arith) (omega (arith, e, c.if-before-size.false))
           (sym top ∙ eqb-true c.from-top.result c.if-left-region_words.least t ∙ least)),
       (λ s. eq-eqb c.from-top.result c.if-left-region_words.least (top ∙ (continues h c.args.r c.args.first c.args.size c.requires.latest c.requires.shaped (omega arith) s).1 ∙ sym least)),

@@ -27,7 +27,8 @@ returns-in-Ok-clause-marks g c =
     let is = c.in-Ok.ensures.ok in
     mark_stays _ _ is.0 c.image_of.result
     (if_err c.image_of.result
-    (λ e. (bytes : List ℕ) → ArePartsOf bytes f.version f.heading f.table.items f.roots.items f.log.items sets c.in-Ok.words.items → MayFail bytes e) (λ e. MayFail is.0 e) (λ e h. h is.0 is.1) c.image_of.ensures.err)
+    (λ e. (bytes : List ℕ) → ArePartsOf bytes f.version f.heading f.table.items f.roots.items f.log.items sets c.in-Ok.words.items →
+    MayFail bytes e) (λ e. MayFail is.0 e) (λ e h. h is.0 is.1) c.image_of.ensures.err)
     c.in-Ok.ensures.mark
 
 pub returns-in-Ok-clause-no_output : goal.returns-in-Ok-clause-no_output
@@ -36,4 +37,5 @@ returns-in-Ok-clause-no_output g c =
     let sets = map (λ s. s.items) f.remembered.items in
     let is = c.in-Ok.ensures.ok in
     if_err c.image_of.result
-    (λ e. (bytes : List ℕ) → ArePartsOf bytes f.version f.heading f.table.items f.roots.items f.log.items sets c.in-Ok.words.items → MayFail bytes e) (λ e. e ≢ fault.Device device.Output) (λ e h. no_output is.0 e (h is.0 is.1)) c.image_of.ensures.err
+    (λ e. (bytes : List ℕ) → ArePartsOf bytes f.version f.heading f.table.items f.roots.items f.log.items sets c.in-Ok.words.items →
+    MayFail bytes e) (λ e. e ≢ fault.Device device.Output) (λ e h. no_output is.0 e (h is.0 is.1)) c.image_of.ensures.err

@@ -29,7 +29,8 @@ pub returns-in-Ok-clause-taken : goal.returns-in-Ok-clause-taken
 returns-in-Ok-clause-taken g c =
     let f = c.in-Ok.front in
     let sets = map (λ s. s.items) f.remembered.items in
-    front_taken f.version f.heading f.table.items f.roots.items f.log.items sets _ (g.S.Source.left c.reach.new.source) (waiting c.reach.new.self) c.bytes.result.now (waiting c.pass.new.self) c.in-Ok.count
+    front_taken f.version f.heading f.table.items f.roots.items f.log.items sets _ (g.S.Source.left c.reach.new.source) (waiting c.reach.new.self)
+    c.bytes.result.now (waiting c.pass.new.self) c.in-Ok.count
     (Keeps-trans _ _ _ c.loop-more.invariant.kept c.in_ok-more.ensures.ok.kept) c.bytes.ensures.same c.in-Ok.ensures.text c.pass.ensures.left
 
 pub returns-then-not-more-clause-err : goal.returns-then-not-more-clause-err

@@ -31,8 +31,10 @@ returns-in_err-words-clause-err g c =
     let f = c.in_ok-front.front in
     let sets = map (λ s. s.items) f.remembered.items in
     let left = err_from_is_err_and c.from_residual-in_err-words.result c.from_residual-in_err-words.ensures.1 in
-    rw (left.1, left.2) (words_fail f.version f.heading f.table.items f.roots.items f.log.items sets c.in_ok-front.ensures.ok _ _ _ _ _ c.in_err-words.field-0.0 c.in_ok-front.ensures.mark c.in_ok-front.ensures.taken
-    (subst (λ t. TakeFails (g.S.Source.failed c.take_front.new.source) (g.S.Source.failed c.lay_pieces.new.source) (to_take c.take_front.new.ahead (g.S.Source.left c.take_front.new.source)) (8 * table_words t) c.in_err-words.field-0.0) c.deref.ensures.value c.in_err-words.ensures.err))
+    rw (left.1, left.2) (words_fail f.version f.heading f.table.items f.roots.items f.log.items sets c.in_ok-front.ensures.ok _ _ _ _ _
+    c.in_err-words.field-0.0 c.in_ok-front.ensures.mark c.in_ok-front.ensures.taken
+    (subst (λ t. TakeFails (g.S.Source.failed c.take_front.new.source) (g.S.Source.failed c.lay_pieces.new.source)
+    (to_take c.take_front.new.ahead (g.S.Source.left c.take_front.new.source)) (8 * table_words t) c.in_err-words.field-0.0) c.deref.ensures.value c.in_err-words.ensures.err))
 
 pub returns-then-branch-clause-err : goal.returns-then-branch-clause-err
 returns-then-branch-clause-err g c =
@@ -42,7 +44,8 @@ returns-then-branch-clause-err g c =
     let size : length words.0 ≡ 8 * table_words f.table.items = words.2 ∙ ap (λ t. 8 * table_words t) c.deref.ensures.value in
     let reached = c.in_ok-reach.ensures.ok in (
       reached.mark ∙ words.1.mark ∙ c.in_ok-front.ensures.mark,
-      bytes_behind f.version f.heading f.table.items f.roots.items f.log.items sets c.in_ok-front.ensures.ok words.0 words.1.are_bytes size _ _ _ (g.S.Source.left c.reach.new.source) (waiting c.reach.new.self)
+      bytes_behind f.version f.heading f.table.items f.roots.items f.log.items sets c.in_ok-front.ensures.ok words.0 words.1.are_bytes size _ _ _
+          (g.S.Source.left c.reach.new.source) (waiting c.reach.new.self)
           c.in_ok-front.ensures.taken words.1.bytes reached.kept (reached.there c.if-branch.true),
     )
 
@@ -60,6 +63,7 @@ returns-clause-ok g c =
         whole_text f.version f.heading f.table.items f.roots.items f.log.items sets c.in_ok-front.ensures.ok words.0 words.1.are_bytes size,
         words.3 ∙ ap (λ t. all_words f.heading.w t (words_of (table_words t) words.0)) c.deref.ensures.value,
       ),
-      all_taken f.version f.heading f.table.items f.roots.items f.log.items sets c.in_ok-front.ensures.ok words.0 words.1.are_bytes size _ _ _ (g.S.Source.left c.reach.new.source) (waiting c.reach.new.self)
+      all_taken f.version f.heading f.table.items f.roots.items f.log.items sets c.in_ok-front.ensures.ok words.0 words.1.are_bytes size _ _ _
+          (g.S.Source.left c.reach.new.source) (waiting c.reach.new.self)
           c.in_ok-front.ensures.taken words.1.bytes reached.kept ended.0 ended.1,
     )

@@ -13,5 +13,6 @@ returns c =
     let len : c.resize.new.self.len ≡ s + n = search rules in
     let whole : length c.deref_mut.result.now ≡ s + n = search rules in
     let many : length dst ≡ n = search rules in
-    tail_grown s n c.args.out.now.len c.resize.new.self.len old c.resize.new.self.items c.deref_mut.result.now dst c.len-start.ensures start c.in_ok-resize.ensures.items c.deref_mut.ensures.value whole len many
+    tail_grown s n c.args.out.now.len c.resize.new.self.len old c.resize.new.self.items c.deref_mut.result.now dst c.len-start.ensures start
+    c.in_ok-resize.ensures.items c.deref_mut.ensures.value whole len many
     ∙ ap (λ l. old ++ l) (c.write_u64_into.ensures ∙ words_text-is xs)

@@ -32,7 +32,8 @@ compare_pair-requires-clause-b c =
     let lt : i < length starts = omega (arith, c.loop-place-test.true, c.len-place-end.ensures, c.in-Ok.starts.ok) in
     let at : c.index-at.result.now ≡ slice_index starts i = get_or_read starts i c.index-at.result.now lt c.index-at.ensures 0 in
     subst (λ z. Contains (objects h) (object_at h z)) (sym at)
-    (start_stands c.args.set.now g h c.valid.ensures c.valid-2.ensures c.requires.table c.args.region c.requires.region c.requires.outside c.requires.used c.requires.in_use starts c.in-Ok.ensures.ok c.loop-place.pairs i lt c.loop-place.invariant.compared)
+    (start_stands c.args.set.now g h c.valid.ensures c.valid-2.ensures c.requires.table c.args.region c.requires.region c.requires.outside
+    c.requires.used c.requires.in_use starts c.in-Ok.ensures.ok c.loop-place.pairs i lt c.loop-place.invariant.compared)
 
 pub compare_pair-requires-clause-matched : goal.compare_pair-requires-clause-matched
 compare_pair-requires-clause-matched c =
@@ -43,7 +44,8 @@ compare_pair-requires-clause-matched c =
     let lt : i < length starts = omega (arith, c.loop-place-test.true, c.len-place-end.ensures, c.in-Ok.starts.ok) in
     let at : c.index-at.result.now ≡ slice_index starts i = get_or_read starts i c.index-at.result.now lt c.index-at.ensures 0 in
     subst (λ z. Match c.args.set.now g h z z) (sym at)
-    (outside (start_outside c.args.set.now g h c.valid.ensures c.valid-2.ensures c.requires.table c.args.region c.requires.region c.requires.outside c.requires.used c.requires.in_use starts c.in-Ok.ensures.ok i lt))
+    (outside (start_outside c.args.set.now g h c.valid.ensures c.valid-2.ensures c.requires.table c.args.region c.requires.region c.requires.outside
+    c.requires.used c.requires.in_use starts c.in-Ok.ensures.ok i lt))
 
 pub loop-place-preserved : goal.loop-place-preserved
 loop-place-preserved c =
@@ -70,7 +72,8 @@ returns-clause-compared c =
     let g : Heap = c.args.before.now in
     let h : Heap = c.args.after.now in
     let starts : List ℕ = c.in-Ok.starts.items in
-    region_compared c.args.set.now g h c.valid.ensures c.valid-2.ensures c.requires.table c.args.region c.requires.region c.requires.outside c.requires.used c.requires.in_use starts c.in-Ok.ensures.ok c.loop-place.pairs
+    region_compared c.args.set.now g h c.valid.ensures c.valid-2.ensures c.requires.table c.args.region c.requires.region c.requires.outside
+    c.requires.used c.requires.in_use starts c.in-Ok.ensures.ok c.loop-place.pairs
     (λ i p. c.loop-place.invariant.compared i (omega (arith, p, c.loop-place-test.false, c.len-place-end.ensures, c.in-Ok.starts.ok)))
 
 pub loop-place-smaller : goal.loop-place-smaller

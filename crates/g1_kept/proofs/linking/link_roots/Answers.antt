@@ -33,7 +33,8 @@ loop-number-preserved c =
     let l : IsPaired c.args.set.now g v (slice_index c.roots-old.result.now n) (slice_index c.roots-new.result.now n) =
     none_then (IsPaired c.args.set.now g v (slice_index c.roots-old.result.now n) (slice_index c.roots-new.result.now n)) c.in_ok-lost.field-0 c.in_default.not-Some c.in_ok-lost.ensures.paired in
     let l' : IsPaired c.args.set.now g v (slice_index g.roots n) (slice_index h.roots n) =
-    subst (λ q. IsPaired c.args.set.now g v (slice_index q n) (slice_index h.roots n)) c.roots-old.ensures (subst (λ q. IsPaired c.args.set.now g v (slice_index c.roots-old.result.now n) (slice_index q n)) c.roots-new.ensures l) in
+    subst (λ q. IsPaired c.args.set.now g v (slice_index q n) (slice_index h.roots n)) c.roots-old.ensures
+    (subst (λ q. IsPaired c.args.set.now g v (slice_index c.roots-old.result.now n) (slice_index q n)) c.roots-new.ensures l) in
     record {
       walk = c.in_ok-lost.ensures.walk;
       paired = roots_more c.args.set.now g h c.loop-number.pairs v c.in_ok-lost.ensures.grown n c.loop-number.invariant.paired l';

@@ -22,7 +22,8 @@ link-requires-clause-y c =
     let g : Heap = c.args.before.now in
     let h : Heap = c.args.after.now in
     let here = has_slots g c.args.a c.object-old.result c.words.result.now c.slots-here.result.now c.object-old.ensures.value c.words.ensures c.slots-here.ensures.count c.slots-here.ensures.each in
-    let there = has_slots h c.args.b c.object-new.result c.words-2.result.now c.slots-there.result.now c.object-new.ensures.value c.words-2.ensures c.slots-there.ensures.count c.slots-there.ensures.each in
+    let there = has_slots h c.args.b c.object-new.result c.words-2.result.now c.slots-there.result.now c.object-new.ensures.value c.words-2.ensures
+    c.slots-there.ensures.count c.slots-there.ensures.each in
     let refs : (object_at g c.args.a).refs ≡ (object_at h c.args.b).refs = ap (λ q. q % 2 ^ 32) c.requires.alike.header in
     let n : ℕ = c.loop-number.number in
     let lt : n < (object_at h c.args.b).refs = omega (arith, c.loop-number-test.true, here.count, refs) in
@@ -33,7 +34,8 @@ link-requires-clause-found c = λ x y ex ey of_set.
     let g : Heap = c.args.before.now in
     let h : Heap = c.args.after.now in
     let here = has_slots g c.args.a c.object-old.result c.words.result.now c.slots-here.result.now c.object-old.ensures.value c.words.ensures c.slots-here.ensures.count c.slots-here.ensures.each in
-    let there = has_slots h c.args.b c.object-new.result c.words-2.result.now c.slots-there.result.now c.object-new.ensures.value c.words-2.ensures c.slots-there.ensures.count c.slots-there.ensures.each in
+    let there = has_slots h c.args.b c.object-new.result c.words-2.result.now c.slots-there.result.now c.object-new.ensures.value c.words-2.ensures
+    c.slots-there.ensures.count c.slots-there.ensures.each in
     let refs : (object_at g c.args.a).refs ≡ (object_at h c.args.b).refs = ap (λ q. q % 2 ^ 32) c.requires.alike.header in
     let n : ℕ = c.loop-number.number in
     let lt : n < (object_at g c.args.a).refs = omega (arith, c.loop-number-test.true, here.count) in
@@ -48,7 +50,8 @@ loop-number-preserved c =
     let g : Heap = c.args.before.now in
     let h : Heap = c.args.after.now in
     let here = has_slots g c.args.a c.object-old.result c.words.result.now c.slots-here.result.now c.object-old.ensures.value c.words.ensures c.slots-here.ensures.count c.slots-here.ensures.each in
-    let there = has_slots h c.args.b c.object-new.result c.words-2.result.now c.slots-there.result.now c.object-new.ensures.value c.words-2.ensures c.slots-there.ensures.count c.slots-there.ensures.each in
+    let there = has_slots h c.args.b c.object-new.result c.words-2.result.now c.slots-there.result.now c.object-new.ensures.value c.words-2.ensures
+    c.slots-there.ensures.count c.slots-there.ensures.each in
     let refs : (object_at g c.args.a).refs ≡ (object_at h c.args.b).refs = ap (λ q. q % 2 ^ 32) c.requires.alike.header in
     let n : ℕ = c.loop-number.number in
     let v : Pairs = c.link.new.pairs in

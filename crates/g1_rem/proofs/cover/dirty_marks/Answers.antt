@@ -16,14 +16,16 @@ returns c =
     let log : c.as_slice-log.result.now ≡ c.args.image.now.log = c.as_slice-log.ensures.keys ∙ c.log.ensures in
     let below : (x : ℕ) → In c.args.image.now.log x → x < c.if-is_empty.cards =
     elim c.if-is_empty.branch [
-      | then-is_empty w ↦ (λ x k. none_dirty c.args.image.now.log x c.if-is_empty.cards (sym log ∙ no_items c.as_slice-log.result.now (eqb-true (length c.as_slice-log.result.now) 0 (sym c.is_empty.ensures ∙ w.if-is_empty.true))) k)
+      | then-is_empty w ↦ (λ x k. none_dirty c.args.image.now.log x c.if-is_empty.cards (sym log
+          ∙ no_items c.as_slice-log.result.now (eqb-true (length c.as_slice-log.result.now) 0 (sym c.is_empty.ensures ∙ w.if-is_empty.true))) k)
       | else-is_empty w ↦ (λ x k.
           let count : w.cards-cards.result ≡ card_count c.args.image.now.heap =
           w.cards-cards.ensures.value ∙ ap (λ g. g.n * g.w / g.k) w.geometry.ensures.same ∙ ap (λ (h : Heap). h.geometry.n * h.geometry.w / h.geometry.k) w.heap.ensures.same in
           let inside = dirty_inside i x w.heap.ensures.valid k in
           omega (arith, inside, count, w.cards-is))
     ] in
-    let written = lent_back c.in_ok-dirty.dirty.len c.deref_mut.result.now c.mark_each.new.marks c.in_ok-dirty.dirty.items c.deref_mut.ensures.value c.mark_each.ensures.one_each c.deref_mut.ensures.len in
+    let written = lent_back c.in_ok-dirty.dirty.len c.deref_mut.result.now c.mark_each.new.marks c.in_ok-dirty.dirty.items c.deref_mut.ensures.value
+    c.mark_each.ensures.one_each c.deref_mut.ensures.len in
     let marked : AreMarked (has c.args.image.now.log) c.deref_mut.result.now c.mark_each.new.marks =
     subst (λ l. AreMarked (has l) c.deref_mut.result.now c.mark_each.new.marks) log c.mark_each.ensures in
     subst (AreDirty c.args.image.now) (sym written)

@@ -98,7 +98,8 @@ pub objects-preserved : goal.objects-preserved
 objects-preserved c =
     let b = goal.at.objects-preserved c in
     asking_step c.args.image.now c.args.region c.objects.at c.objects_end-end.result c.objects.places c.heap-heap.ensures.valid.heap c.requires.region c.objects.invariant c.objects-test.true
-    c.header-object.result.refs (refs_read b.After-header-object) c.first_between.new.places c.header-object.result.size (size_read b.After-header-object) c.in_default.ensures.first c.first_between.ensures.behind
+    c.header-object.result.refs (refs_read b.After-header-object) c.first_between.new.places c.header-object.result.size
+    (size_read b.After-header-object) c.in_default.ensures.first c.first_between.ensures.behind
 
 pub returns-clause-first : goal.returns-clause-first
 returns-clause-first c =

@@ -16,7 +16,8 @@ led : (c : After-place_of-place) → IsLedInto c.args.image.now.heap c.args.p (S
 led c = subst (λ h. IsLedInto h c.args.p (Some c.in-Some.region)) c.heap-heap.ensures.same c.in-Some.ensures
 
 the_set : (c : After-place_of-place) → c.index-remembered-region.result.items ≡ remembered_of c.args.image.now c.in-Some.region
-the_set c = set_read (λ s. s.items) c.args.image.now c.remembered.result.now c.in-Some.region c.index-remembered-region.result c.heap-heap.ensures.valid c.remembered.ensures (led c).4 c.index-remembered-region.is
+the_set c = set_read (λ s. s.items) c.args.image.now c.remembered.result.now c.in-Some.region c.index-remembered-region.result
+    c.heap-heap.ensures.valid c.remembered.ensures (led c).4 c.index-remembered-region.is
 
 the_card : (c : After-place_of-place) → c.card_of-card.result ≡ card_of c.args.image.now.heap c.args.p
 the_card c = c.card_of-card.ensures ∙ ap (λ g. c.args.p / g.k) c.geometry.ensures.same ∙ ap (λ (h : Heap). c.args.p / h.geometry.k) c.heap-heap.ensures.same
@@ -27,7 +28,8 @@ behind c = subst (λ l. IsBehind l c.place_of-place.result c.card_of-card.result
 moved : (c : After-place_of-place) → AreBehind c.args.image.now (slice_set c.args.places.now c.in-Some.region c.place_of-place.result) c.args.p
 moved c =
     behind_set c.args.image.now c.args.places.now c.args.p c.in-Some.region c.place_of-place.result (led c).4 c.requires.behind
-    (subst (λ l. IsBehind l c.place_of-place.result (card_of c.args.image.now.heap c.args.p)) (the_set c) (subst (λ x. IsBehind c.index-remembered-region.result.items c.place_of-place.result x) (the_card c) (behind c)))
+    (subst (λ l. IsBehind l c.place_of-place.result (card_of c.args.image.now.heap c.args.p)) (the_set c)
+    (subst (λ x. IsBehind c.index-remembered-region.result.items c.place_of-place.result x) (the_card c) (behind c)))
 
 pub returns-then-index-card-clause-behind : goal.returns-then-index-card-clause-behind
 returns-then-index-card-clause-behind c = moved (goal.at.returns-then-index-card-clause-behind c).After-place_of-place
@@ -36,7 +38,8 @@ pub returns-else-place-len-clause-behind : goal.returns-else-place-len-clause-be
 returns-else-place-len-clause-behind c = moved (goal.at.returns-else-place-len-clause-behind c).After-place_of-place
 
 -- whether the set has the card, told of the list that was read
-read_has : (c : After-place_of-place) (b : Bool) → has c.index-remembered-region.result.items c.card_of-card.result ≡ b → has (remembered_of c.args.image.now c.in-Some.region) (card_of c.args.image.now.heap c.args.p) ≡ b
+read_has : (c : After-place_of-place) (b : Bool) → has c.index-remembered-region.result.items c.card_of-card.result ≡ b →
+    has (remembered_of c.args.image.now c.in-Some.region) (card_of c.args.image.now.heap c.args.p) ≡ b
 read_has c b e = ap (λ x. has (remembered_of c.args.image.now c.in-Some.region) x) (sym (the_card c)) ∙ ap (λ l. has l c.card_of-card.result) (sym (the_set c)) ∙ e
 
 pub returns-then-index-card-clause-uncovered : goal.returns-then-index-card-clause-uncovered
@@ -45,7 +48,8 @@ returns-then-index-card-clause-uncovered c =
     let items = c.index-remembered-region.result.items in
     let len : length c.index-remembered-region.result.items ≡ length c.deref.result.now = ap length (sym c.deref.ensures.value) in
     let there : has c.index-remembered-region.result.items c.card_of-card.result ≡ true =
-    subst (λ x. has c.index-remembered-region.result.items x ≡ true) c.if-index-card.true (has_here c.index-remembered-region.result.items c.place_of-place.result c.index.result.now (omega (arith, len, c.if-place-len.true, c.len.ensures, c.deref.ensures.len)) c.index.ensures) in
+    subst (λ x. has c.index-remembered-region.result.items x ≡ true) c.if-index-card.true
+    (has_here c.index-remembered-region.result.items c.place_of-place.result c.index.result.now (omega (arith, len, c.if-place-len.true, c.len.ensures, c.deref.ensures.len)) c.index.ensures) in
     sym (bare_some c.args.image.now c.args.p c.in-Some.region true (has c.args.image.now.log (card_of c.args.image.now.heap c.args.p)) (led b) (read_has b true there) refl)
 
 pub returns-else-place-len-clause-uncovered : goal.returns-else-place-len-clause-uncovered

@@ -19,7 +19,8 @@ below c = let n = count c in omega (arith, c.loop-set-test.true, n)
 -- the list that is read is the region's set
 the_set : (c : After-deref) → c.deref.result.now ≡ remembered_of c.args.image.now c.loop-set.set-index
 the_set c =
-    c.deref.ensures.value ∙ set_read (λ s. s.items) c.args.image.now c.remembered-set-items.result.now c.loop-set.set-index c.set-item.result c.heap.ensures.valid c.remembered-set-items.ensures (below c) c.set-item.is
+    c.deref.ensures.value ∙ set_read (λ s. s.items) c.args.image.now c.remembered-set-items.result.now c.loop-set.set-index c.set-item.result
+    c.heap.ensures.valid c.remembered-set-items.ensures (below c) c.set-item.is
 
 pub loop-set-init : goal.loop-set-init
 loop-set-init c = placed_none c.args.image.now c.card_of-card.result c.in_ok-places.places.items c.in_ok-places.ensures.items
@@ -43,4 +44,5 @@ returns c =
     c.start.ensures.value ∙ ap (λ g. c.args.region * g.w) c.geometry-geometry.ensures.same ∙ ap (λ (h : Heap). c.args.region * h.geometry.w) c.heap.ensures.same in
     let card = c.card_of-card.ensures ∙ ap (λ g. c.start.result / g.k) c.geometry-geometry.ensures.same ∙ ap (λ (h : Heap). c.start.result / h.geometry.k) c.heap.ensures.same
     ∙ ap (λ x. x / c.args.image.now.heap.geometry.k) start in
-    placed_all c.args.image.now c.args.region c.card_of-card.result c.loop-set.set-index c.loop-set.places.items c.heap.ensures.valid.heap c.requires card (omega (arith, c.loop-set-test.false, c.loop-set.auto.set-index-end, n)) c.loop-set.invariant
+    placed_all c.args.image.now c.args.region c.card_of-card.result c.loop-set.set-index c.loop-set.places.items c.heap.ensures.valid.heap c.requires
+    card (omega (arith, c.loop-set-test.false, c.loop-set.auto.set-index-end, n)) c.loop-set.invariant

@@ -13,9 +13,11 @@ returns-clause-ok c =
     let n : c.regions.result ≡ c.args.heap.now.geometry.n = c.regions.ensures.value ∙ ap (λ g. g.n) c.geometry-geometry.ensures.same in
     let count : c.cards.result ≡ card_count c.args.heap.now = c.cards.ensures.value ∙ ap (λ g. g.n * g.w / g.k) c.geometry-geometry.ensures.same in
     let cards : c.deref.result.now ≡ c.mark_remembered.new.marks =
-    c.deref.ensures.value ∙ lent_back c.in_ok-cards.cards.len c.deref_mut.result.now c.mark_remembered.new.marks c.in_ok-cards.cards.items c.deref_mut.ensures.value c.mark_remembered.ensures.one_each c.deref_mut.ensures.len in
+    c.deref.ensures.value ∙ lent_back c.in_ok-cards.cards.len c.deref_mut.result.now c.mark_remembered.new.marks c.in_ok-cards.cards.items
+    c.deref_mut.ensures.value c.mark_remembered.ensures.one_each c.deref_mut.ensures.len in
     let regions : c.deref-2.result.now ≡ c.mark_each.new.marks =
-    c.deref-2.ensures.value ∙ lent_back c.in_ok-regions.regions.len c.deref_mut-2.result.now c.mark_each.new.marks c.in_ok-regions.regions.items c.deref_mut-2.ensures.value c.mark_each.ensures.one_each c.deref_mut-2.ensures.len in
+    c.deref-2.ensures.value ∙ lent_back c.in_ok-regions.regions.len c.deref_mut-2.result.now c.mark_each.new.marks c.in_ok-regions.regions.items
+    c.deref_mut-2.ensures.value c.mark_each.ensures.one_each c.deref_mut-2.ensures.len in
     subst (λ l. c.in_ok-left_over.field-0.items ≡ l)
     (left_is h c.geometry-geometry.ensures.valid remembered c.args.set.now c.cards.result c.regions.result
     c.deref_mut.result.now c.deref.result.now c.deref_mut-2.result.now c.deref-2.result.now count n

@@ -28,10 +28,12 @@ loop-card-preserved c =
       | then-cards-card+then-not-regions-region+in_ok-push v ↦
           ap (λ l. l.items) v.left-is ∙ v.in_ok-push.ensures.items
           ∙ ap (λ l. l ++ c.loop-card.card ∷ []) c.loop-card.invariant
-          ∙ sym (filtered_push (is_left h cards regions) n (left_there h valid cards regions n v.region_of_card-region.result (v.region_of_card-region.ensures.value ∙ ap (λ g. c.loop-card.card * g.k / g.w) c.geometry-geometry.ensures.same) v.if-cards-card.true v.if-not-regions-region.true))
+          ∙ sym (filtered_push (is_left h cards regions) n (left_there h valid cards regions n v.region_of_card-region.result
+          (v.region_of_card-region.ensures.value ∙ ap (λ g. c.loop-card.card * g.k / g.w) c.geometry-geometry.ensures.same) v.if-cards-card.true v.if-not-regions-region.true))
       | then-cards-card+else-not-regions-region v ↦
           ap (λ l. l.items) v.left-is ∙ c.loop-card.invariant
-          ∙ sym (filtered_pass (is_left h cards regions) n (left_inside h valid cards regions n v.region_of_card-region.result (v.region_of_card-region.ensures.value ∙ ap (λ g. c.loop-card.card * g.k / g.w) c.geometry-geometry.ensures.same) v.if-cards-card.true v.if-not-regions-region.false))
+          ∙ sym (filtered_pass (is_left h cards regions) n (left_inside h valid cards regions n v.region_of_card-region.result
+          (v.region_of_card-region.ensures.value ∙ ap (λ g. c.loop-card.card * g.k / g.w) c.geometry-geometry.ensures.same) v.if-cards-card.true v.if-not-regions-region.false))
       | else-cards-card v ↦
           ap (λ l. l.items) v.left-is ∙ c.loop-card.invariant
           ∙ sym (filtered_pass (is_left h cards regions) n (left_unmarked h valid cards regions n (n * h.geometry.k / h.geometry.w) refl v.if-cards-card.false))

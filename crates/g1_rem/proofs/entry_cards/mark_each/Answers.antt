@@ -17,8 +17,10 @@ loop-number-preserved c =
     let n = get_or c.args.numbers.now c.loop-number.number-index 0 in
     let one : AreMarked (λ x. eqb x (get_or c.args.numbers.now c.loop-number.number-index 0)) c.loop-number.marks c.if-place-marks.marks =
     elim c.if-place-marks.branch [
-      | then-place-marks w ↦ subst (AreMarked (λ x. eqb x (get_or c.args.numbers.now c.loop-number.number-index 0)) c.loop-number.marks) (sym w.marks-is) (marked_one c.loop-number.marks n w.if-place-marks.true)
-      | else-place-marks w ↦ subst (AreMarked (λ x. eqb x (get_or c.args.numbers.now c.loop-number.number-index 0)) c.loop-number.marks) (sym w.marks-is) (marked_past c.loop-number.marks n w.if-place-marks.false)
+      | then-place-marks w ↦ subst (AreMarked (λ x. eqb x (get_or c.args.numbers.now c.loop-number.number-index 0)) c.loop-number.marks)
+          (sym w.marks-is) (marked_one c.loop-number.marks n w.if-place-marks.true)
+      | else-place-marks w ↦ subst (AreMarked (λ x. eqb x (get_or c.args.numbers.now c.loop-number.number-index 0)) c.loop-number.marks)
+          (sym w.marks-is) (marked_past c.loop-number.marks n w.if-place-marks.false)
     ] in
     subst (λ l. AreMarked (has l) c.args.marks.now c.if-place-marks.marks) (sym (take_more xs i 0 c.loop-number-test.true))
     (marked_more c.args.marks.now c.loop-number.marks c.if-place-marks.marks (take i xs) n c.loop-number.invariant one)

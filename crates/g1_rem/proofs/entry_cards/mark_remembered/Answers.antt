@@ -22,7 +22,8 @@ loop-region-preserved c =
     (subst (λ l. AreMarked (has l) c.loop-region.marks c.mark_each.new.marks) read c.mark_each.ensures))
 
 pub returns : goal.returns
-returns c = subst (λ l. AreMarked (is_listed (map (λ s. s.items) c.args.remembered.now) l) c.args.marks.now c.loop-region.marks) (take_all c.loop-region.region-index c.args.set.now c.loop-region-test.false) c.loop-region.invariant
+returns c = subst (λ l. AreMarked (is_listed (map (λ s. s.items) c.args.remembered.now) l) c.args.marks.now c.loop-region.marks)
+    (take_all c.loop-region.region-index c.args.set.now c.loop-region-test.false) c.loop-region.invariant
 
 pub loop-region-smaller : goal.loop-region-smaller
 loop-region-smaller c = omega (arith, c.loop-region-test.true)

@@ -6,7 +6,8 @@ use Rattle.g1_rem.proofs.leads.led_into.Goals.{After-region_of-target}
 -- what the slot names
 named : (c : After-region_of-target) → Named c.args.heap.now c.args.p (slice_index c.words.result.now c.args.p) c.region_of-target.result
 named c =
-    named_word c.args.heap.now c.args.p (slice_index c.words.result.now c.args.p) c.region_of-target.result c.words.result.now c.geometry-geometry.ensures.valid c.words.ensures refl c.if-word-eq0.false
+    named_word c.args.heap.now c.args.p (slice_index c.words.result.now c.args.p) c.region_of-target.result c.words.result.now
+    c.geometry-geometry.ensures.valid c.words.ensures refl c.if-word-eq0.false
     (c.region_of-target.ensures ∙ ap (λ g. (slice_index c.words.result.now c.args.p - 1) / g.w) c.geometry-geometry.ensures.same) c.requires.reference
 
 pub overflow_cast-result : goal.overflow_cast-result

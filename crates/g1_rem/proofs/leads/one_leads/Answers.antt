@@ -10,8 +10,14 @@ use Rattle.g1_rem.proofs.leads.one_leads.Goals as goal
 use Rattle.g1_rem.proofs.leads.one_leads.Goals.{In-loop-p, in-Some+else-target-region, in_default}
 
 -- the slot at hand can be read
-good : (c : In-loop-p) → (slice_index c.args.slots.now c.loop-p.p-index < length c.args.heap.now.words) × IsReference c.args.heap.now (slice_index c.args.heap.now.words (slice_index c.args.slots.now c.loop-p.p-index))
-good c = c.requires (slice_index c.args.slots.now c.loop-p.p-index) (c.loop-p.p-index, c.loop-p-test.true, get_or_default c.args.slots.now c.loop-p.p-index (slice_index c.args.slots.now c.loop-p.p-index) 0 c.loop-p-test.true)
+good : (c : In-loop-p) → (slice_index c.args.slots.now c.loop-p.p-index < length c.args.heap.now.words)
+    × IsReference c.args.heap.now (slice_index c.args.heap.now.words (slice_index c.args.slots.now c.loop-p.p-index))
+good c = c.requires (slice_index c.args.slots.now c.loop-p.p-index) (
+  c.loop-p.p-index,
+  c.loop-p-test.true,
+  get_or_default c.args.slots.now
+      c.loop-p.p-index (slice_index c.args.slots.now c.loop-p.p-index) 0 c.loop-p-test.true,
+)
 
 pub led_into-requires-clause-slot : goal.led_into-requires-clause-slot
 led_into-requires-clause-slot c = (good (goal.at.led_into-requires-clause-slot c).In-loop-p).0

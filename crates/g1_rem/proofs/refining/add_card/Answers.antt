@@ -8,8 +8,10 @@ use Rattle.g1_rem.proofs.refining.add_card.Goals as goal
 use Rattle.g1_rem.proofs.refining.add_card.Goals.{In-loop-p, in-Some+in_ok-push_once, in_default}
 
 -- the slot at hand can be read
-good : (c : In-loop-p) → (slice_index c.args.slots.now c.loop-p.p-index < length c.args.heap.now.words) × IsReference c.args.heap.now (slice_index c.args.heap.now.words (slice_index c.args.slots.now c.loop-p.p-index))
-good c = c.requires.slots (slice_index c.args.slots.now c.loop-p.p-index) (c.loop-p.p-index, c.loop-p-test.true, get_or_default c.args.slots.now c.loop-p.p-index (slice_index c.args.slots.now c.loop-p.p-index) 0 c.loop-p-test.true)
+good : (c : In-loop-p) → (slice_index c.args.slots.now c.loop-p.p-index < length c.args.heap.now.words)
+    × IsReference c.args.heap.now (slice_index c.args.heap.now.words (slice_index c.args.slots.now c.loop-p.p-index))
+good c = c.requires.slots (slice_index c.args.slots.now c.loop-p.p-index)
+    (c.loop-p.p-index, c.loop-p-test.true, get_or_default c.args.slots.now c.loop-p.p-index (slice_index c.args.slots.now c.loop-p.p-index) 0 c.loop-p-test.true)
 
 pub led_into-requires-clause-slot : goal.led_into-requires-clause-slot
 led_into-requires-clause-slot c = (good (goal.at.led_into-requires-clause-slot c).In-loop-p).0
@@ -36,10 +38,12 @@ loop-p-preserved c =
           let pushed = w.in_ok-push_once.ensures before (enters h r ps) (c.requires.below r lt) read in
           let same = ap (map (λ s. s.items)) w.entering-is ∙ map-set (λ s. s.items) c.loop-p.entering r w.push_once.new.cards in
           subst (IsGrown c.args.heap.now c.args.card (take c.loop-p.p-index c.args.slots.now ++ slice_index c.args.slots.now c.loop-p.p-index ∷ []) (map (λ s. s.items) c.args.entering.now)) (sym same)
-          (grown_push h c.args.card p r ps w.push_once.new.cards.items (map (λ s. s.items) c.args.entering.now) (map (λ s. s.items) c.loop-p.entering) c.loop-p.invariant w.in-Some.ensures in_old pushed))
+          (grown_push h c.args.card p r ps w.push_once.new.cards.items (map (λ s. s.items) c.args.entering.now) (map (λ s. s.items) c.loop-p.entering)
+          c.loop-p.invariant w.in-Some.ensures in_old pushed))
       | in_default w ↦ (
           let none = subst (IsLedInto c.args.heap.now (slice_index c.args.slots.now c.loop-p.p-index)) w.in_default.is c.led_into.ensures in
-          subst (λ l. IsGrown c.args.heap.now c.args.card (take c.loop-p.p-index c.args.slots.now ++ slice_index c.args.slots.now c.loop-p.p-index ∷ []) (map (λ s. s.items) c.args.entering.now) (map (λ s. s.items) l)) (sym w.entering-is)
+          subst (λ l. IsGrown c.args.heap.now c.args.card (take c.loop-p.p-index c.args.slots.now
+          ++ slice_index c.args.slots.now c.loop-p.p-index ∷ []) (map (λ s. s.items) c.args.entering.now) (map (λ s. s.items) l)) (sym w.entering-is)
           (grown_pass h c.args.card p ps (map (λ s. s.items) c.args.entering.now) (map (λ s. s.items) c.loop-p.entering) c.loop-p.invariant none))
     ])
 

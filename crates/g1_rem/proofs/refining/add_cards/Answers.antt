@@ -6,7 +6,8 @@ use Rattle.g1_rem.proofs.Entering.{entering_start, entering_step, entering_below
 use Rattle.g1_rem.proofs.refining.add_cards.Goals as goal
 
 pub add_card-requires-clause-slots : goal.add_card-requires-clause-slots
-add_card-requires-clause-slots c = λ p k. slot_good c.args.heap.now (slice_index c.args.dirty.now c.loop-card.card-index) p c.requires.heap (subst (λ l. Contains l p) (c.as_slice.ensures ∙ c.slots_on-slots.ensures.items) k)
+add_card-requires-clause-slots c = λ p k. slot_good c.args.heap.now (slice_index c.args.dirty.now c.loop-card.card-index) p c.requires.heap
+    (subst (λ l. Contains l p) (c.as_slice.ensures ∙ c.slots_on-slots.ensures.items) k)
 
 pub add_card-requires-clause-below : goal.add_card-requires-clause-below
 add_card-requires-clause-below c =
@@ -24,9 +25,11 @@ pub loop-card-preserved : goal.loop-card-preserved
 loop-card-preserved c =
     let more = take_more c.args.dirty.now c.loop-card.card-index 0 c.loop-card-test.true in
     subst (λ l. AreEntering c.args.heap.now l (map (λ s. s.items) c.add_card.new.entering)) (sym more)
-    (entering_step c.args.heap.now (take c.loop-card.card-index c.args.dirty.now) (slice_index c.args.dirty.now c.loop-card.card-index) (map (λ s. s.items) c.loop-card.entering) (map (λ s. s.items) c.add_card.new.entering)
+    (entering_step c.args.heap.now (take c.loop-card.card-index c.args.dirty.now) (slice_index c.args.dirty.now c.loop-card.card-index)
+    (map (λ s. s.items) c.loop-card.entering) (map (λ s. s.items) c.add_card.new.entering)
     c.loop-card.invariant
-    (subst (λ l. IsGrown c.args.heap.now (slice_index c.args.dirty.now c.loop-card.card-index) l (map (λ s. s.items) c.loop-card.entering) (map (λ s. s.items) c.add_card.new.entering)) (c.as_slice.ensures ∙ c.slots_on-slots.ensures.items) c.in_ok-add_card.ensures))
+    (subst (λ l. IsGrown c.args.heap.now (slice_index c.args.dirty.now c.loop-card.card-index) l (map (λ s. s.items) c.loop-card.entering)
+    (map (λ s. s.items) c.add_card.new.entering)) (c.as_slice.ensures ∙ c.slots_on-slots.ensures.items) c.in_ok-add_card.ensures))
 
 pub loop-card-smaller : goal.loop-card-smaller
 loop-card-smaller c = omega (arith, c.loop-card-test.true)

@@ -29,4 +29,5 @@ returns-clause-same g c = λ x.
 pub returns-clause-inside : goal.returns-clause-inside
 returns-clause-inside g c =
     let b = (goal.at.returns-clause-inside g c).After-sort in
-    subst (All (λ c'. c' < card_count c.args.image.now.heap)) (sym (sorted g b)) (sorted_inside c.args.image.now.log c.sort.new.cards (moved g b) c.args.image.now.heap c.requires.heap c.requires.log.used)
+    subst (All (λ c'. c' < card_count c.args.image.now.heap)) (sym (sorted g b))
+    (sorted_inside c.args.image.now.log c.sort.new.cards (moved g b) c.args.image.now.heap c.requires.heap c.requires.log.used)

@@ -7,7 +7,8 @@ use Rattle.g1_rem.proofs.refining.refined_one.Goals as goal
 use Rattle.g1_rem.proofs.refining.refined_one.Goals.{After-deref}
 
 the_set : (c : After-deref) → c.deref.result.now ≡ remembered_of c.args.image.now c.args.region
-the_set c = c.deref.ensures.value ∙ set_read (λ s. s.items) c.args.image.now c.remembered.result.now c.args.region c.index-remembered-region.result c.heap-heap.ensures.valid c.remembered.ensures c.requires.region c.index-remembered-region.is
+the_set c = c.deref.ensures.value ∙ set_read (λ s. s.items) c.args.image.now c.remembered.result.now c.args.region c.index-remembered-region.result
+    c.heap-heap.ensures.valid c.remembered.ensures c.requires.region c.index-remembered-region.is
 
 pub merged-requires-clause-left : goal.merged-requires-clause-left
 merged-requires-clause-left c =
@@ -15,5 +16,6 @@ merged-requires-clause-left c =
 
 pub returns : goal.returns
 returns c =
-    refined_answer c.args.image.now c.args.region c.deref.result.now c.args.entering.now c.merged.result c.heap-heap.ensures.valid c.requires.region (the_set (goal.at.returns c).After-deref) c.requires.entering
+    refined_answer c.args.image.now c.args.region c.deref.result.now c.args.entering.now c.merged.result c.heap-heap.ensures.valid c.requires.region
+    (the_set (goal.at.returns c).After-deref) c.requires.entering
     c.merged.ensures.ok c.merged.ensures.memory

@@ -14,7 +14,8 @@ returns-in-None-clause-items c =
     let h = c.args.heap.now in
     let valid = c.geometry-geometry.ensures.valid in
     let over : IsOver c.args.heap.now (c.args.card * c.args.heap.now.geometry.k) None =
-    over_at h (c.args.card * h.geometry.k) (c.args.card * h.geometry.k) (slice_index_or c.args.starts.now c.args.card None) None refl (sym c.in-None.ensures) (c.requires.starts.each c.args.card (omega (arith, c.requires.card, c.requires.starts.one_each))) in
+    over_at h (c.args.card * h.geometry.k) (c.args.card * h.geometry.k) (slice_index_or c.args.starts.now c.args.card None) None refl
+    (sym c.in-None.ensures) (c.requires.starts.each c.args.card (omega (arith, c.requires.card, c.requires.starts.one_each))) in
     c.new.ensures.items ∙ none_on h valid c.args.card (c.args.card * h.geometry.k) (c.args.card * h.geometry.k + h.geometry.k) refl refl over
 
 row : (c : goal.After-card_words) → RowOn c.args.heap.now c.args.card (c.card_start-lo.result) (c.card_start-lo.result + c.card_words.result) c.from-at.result c.match-region.end
@@ -29,7 +30,8 @@ row c =
     let f : c.card_start-lo.result + c.card_words.result ≡ c.card_start-lo.result + c.args.heap.now.geometry.k = ap (λ x. c.card_start-lo.result + x) k2 in
     let same : slice_index_or c.args.starts.now c.args.card None ≡ Some c.from-at.result = sym c.in-Some.ensures ∙ ap (λ x. Some x) (sym c.from-at.ensures) in
     let over : IsOver c.args.heap.now (c.card_start-lo.result) (Some c.from-at.result) =
-    over_at h (c.args.card * h.geometry.k) (c.card_start-lo.result) (slice_index_or c.args.starts.now c.args.card None) (Some a) (sym e) same (c.requires.starts.each c.args.card (omega (arith, c.requires.card, c.requires.starts.one_each))) in
+    over_at h (c.args.card * h.geometry.k) (c.card_start-lo.result) (slice_index_or c.args.starts.now c.args.card None) (Some a) (sym e) same
+    (c.requires.starts.each c.args.card (omega (arith, c.requires.card, c.requires.starts.one_each))) in
     elim c.match-region.branch [
       | in-Ordinary v ↦ (
           let is : kind c.args.heap.now (c.from-at.result / c.args.heap.now.geometry.w) ≡ Ordinary =

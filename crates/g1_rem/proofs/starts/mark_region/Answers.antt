@@ -12,7 +12,8 @@ use Rattle.g1_rem.proofs.starts.mark_region.Goals.{In-objects, After-size_at-siz
 -- the object whose cards are marked
 front : (c : In-objects) → NextOf c.args.heap.now c.args.region c.objects.invariant.0.place c.objects.at
 front c =
-    marking_front c.args.heap.now c.args.from c.args.until c.args.region c.objects.at c.objects_end-end.result (map address_below c.objects.firsts.items) c.geometry-geometry.ensures.valid c.requires.region c.objects.invariant.0 c.objects-test.true
+    marking_front c.args.heap.now c.args.from c.args.until c.args.region c.objects.at c.objects_end-end.result
+    (map address_below c.objects.firsts.items) c.geometry-geometry.ensures.valid c.requires.region c.objects.invariant.0 c.objects-test.true
 
 -- its size, as it was read
 size_read : (c : After-size_at-size) → c.size_at-size.result ≡ (object_at c.args.heap.now c.objects.at).size
@@ -21,8 +22,11 @@ size_read c = c.size_at-size.ensures
 pub objects-init : goal.objects-init
 objects-init c =
     let h = c.args.heap.now in
-    let from : c.start-at.result ≡ start c.args.heap.now c.args.region = c.start-at.ensures.value ∙ ap (λ g. c.args.region * g.w) c.geometry-geometry.ensures.same in
-    (marking_start h c.args.from c.args.until c.args.region c.start-at.result c.objects_end-end.result (map address_below c.args.firsts.now.items) c.geometry-geometry.ensures.valid c.requires.region from c.objects_end-end.ensures c.requires.told, c.requires.room)
+    let from : c.start-at.result ≡ start c.args.heap.now c.args.region = c.start-at.ensures.value ∙ ap (λ g. c.args.region * g.w) c.geometry-geometry.ensures.same in (
+      marking_start h c.args.from c.args.until c.args.region c.start-at.result c.objects_end-end.result (map address_below c.args.firsts.now.items)
+          c.geometry-geometry.ensures.valid c.requires.region from c.objects_end-end.ensures c.requires.told,
+      c.requires.room,
+    )
 
 pub size_at-size-requires : goal.size_at-size-requires
 size_at-size-requires c =
@@ -41,7 +45,8 @@ overflow_add-at-in-objects c =
 
 pub objects-smaller : goal.objects-smaller
 objects-smaller c =
-    let some = marking_some c.args.heap.now c.args.from c.args.until c.args.region c.objects.at c.objects_end-end.result (map address_below c.objects.firsts.items) c.geometry-geometry.ensures.valid c.requires.region c.objects.invariant.0 c.objects-test.true c.size_at-size.result c.size_at-size.ensures in
+    let some = marking_some c.args.heap.now c.args.from c.args.until c.args.region c.objects.at c.objects_end-end.result
+    (map address_below c.objects.firsts.items) c.geometry-geometry.ensures.valid c.requires.region c.objects.invariant.0 c.objects-test.true c.size_at-size.result c.size_at-size.ensures in
     omega (arith, some, c.objects-test.true)
 
 pub objects-preserved : goal.objects-preserved
@@ -53,13 +58,17 @@ objects-preserved c =
     let mid = map address_below c.mark.new.firsts.items in
     let new = map address_below c.mark-in-objects.new.firsts.items in
     let k : c.card_words-k.result ≡ c.args.heap.now.geometry.k = c.card_words-k.ensures.value ∙ ap (λ g. g.k) c.geometry-geometry.ensures.same in
-    let gap = subst (λ k. IsMarkedTo old mid c.args.from k (min at c.args.until) None) k (subst (λ x. IsMarkedTo old mid c.args.from c.card_words-k.result x None) c.min.ensures c.in_ok-mark.ensures.marked) in
+    let gap = subst (λ k. IsMarkedTo old mid c.args.from k (min at c.args.until) None) k
+    (subst (λ x. IsMarkedTo old mid c.args.from c.card_words-k.result x None) c.min.ensures c.in_ok-mark.ensures.marked) in
     let cards = subst (λ v. IsMarkedTo mid new c.args.from c.args.heap.now.geometry.k (min (at + size) c.args.until) v) (below_next at)
-    (subst (λ k. IsMarkedTo mid new c.args.from k (min (at + size) c.args.until) (address_below (at + 1))) k (subst (λ x. IsMarkedTo mid new c.args.from c.card_words-k.result x (address_below (at + 1))) c.min-in-objects.ensures c.in_ok-mark-2.ensures.marked)) in (
-      marking_step c.args.heap.now c.args.from c.args.until c.args.region at c.objects_end-end.result old c.geometry-geometry.ensures.valid c.requires.region c.objects.invariant.0 c.objects-test.true mid new size (size_read b.After-size_at-size) gap cards,
+    (subst (λ k. IsMarkedTo mid new c.args.from k (min (at + size) c.args.until) (address_below (at + 1))) k
+    (subst (λ x. IsMarkedTo mid new c.args.from c.card_words-k.result x (address_below (at + 1))) c.min-in-objects.ensures c.in_ok-mark-2.ensures.marked)) in (
+      marking_step c.args.heap.now c.args.from c.args.until c.args.region at c.objects_end-end.result old c.geometry-geometry.ensures.valid
+          c.requires.region c.objects.invariant.0 c.objects-test.true mid new size (size_read b.After-size_at-size) gap cards,
       subst (λ k. c.args.from + length c.mark-in-objects.new.firsts.items * k ≤ 2 ^ 25) k c.mark-in-objects.ensures.room,
     )
 
 pub returns-clause-told : goal.returns-clause-told
 returns-clause-told c =
-    marking_end c.args.heap.now c.args.from c.args.until c.args.region c.objects.at c.objects_end-end.result (map address_below c.objects.firsts.items) c.objects.invariant.0 (omega (arith, c.objects-test.false))
+    marking_end c.args.heap.now c.args.from c.args.until c.args.region c.objects.at c.objects_end-end.result
+    (map address_below c.objects.firsts.items) c.objects.invariant.0 (omega (arith, c.objects-test.false))

@@ -22,7 +22,8 @@ returns-clause-ok g c =
     let places = chain.1 ∙ (λ i. nat_range (ends.0 i) (ends.1 i)) ∙ ap (range_with_len 0) whole in
     let begins = c.args.cut.now in
     let z = subst (λ l. AllZip (λ j. AreStartsIn c.args.heap.now (slice_index begins j) (slice_index begins (j + 1))) l h.0) places chain.2 in
-    gathered (λ j. AreStartsIn c.args.heap.now (slice_index begins j) (slice_index begins (j + 1))) (λ j v. AreStartsBetween c.args.heap.now (slice_index begins j) (slice_index begins (j + 1)) (map address_below v.items)) (λ j x p. p) (λ j e p. p)
+    gathered (λ j. AreStartsIn c.args.heap.now (slice_index begins j) (slice_index begins (j + 1)))
+    (λ j v. AreStartsBetween c.args.heap.now (slice_index begins j) (slice_index begins (j + 1)) (map address_below v.items)) (λ j x p. p) (λ j e p. p)
     (range_with_len 0 c.args.ranges) h.0 z c.in_ok-collect.field-0 h.2
 
 pub returns-clause-memory : goal.returns-clause-memory
@@ -31,5 +32,6 @@ returns-clause-memory g c =
     let h = c.in_ok-collect.ensures in
     let chain = rw (c.map.ensures.base, c.with_min_len.ensures.base, c.map.ensures.f) at h.1 in
     let begins = c.args.cut.now in
-    gathered_memory (λ j. AreStartsIn c.args.heap.now (slice_index begins j) (slice_index begins (j + 1))) (λ j v. AreStartsBetween c.args.heap.now (slice_index begins j) (slice_index begins (j + 1)) (map address_below v.items)) (λ j x p. p) (λ j e p. p)
+    gathered_memory (λ j. AreStartsIn c.args.heap.now (slice_index begins j) (slice_index begins (j + 1)))
+    (λ j v. AreStartsBetween c.args.heap.now (slice_index begins j) (slice_index begins (j + 1)) (map address_below v.items)) (λ j x p. p) (λ j e p. p)
     chain.0 h.0 chain.2 c.in_ok-collect.field-0 h.2

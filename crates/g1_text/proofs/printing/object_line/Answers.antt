@@ -2,7 +2,9 @@ use Rattle.std.proofs.Common.{◌++◌, ◌∙◌, length, ap, arith, string_byt
 use Rattle.g1_text.specs.Lines.{line_text, object_line}
 use Rattle.g1_text.proofs.Printed.{object_fits}
 use Rattle.g1_text.proofs.printing.object_line.Goals as goal
-use Rattle.g1_text.proofs.printing.object_line.Goals.{then-refs-size+then-size-length+then-at-length+in_ok-push_object, else-refs-size, else-refs-size-via-then-refs-size+then-size-length+else-at-length, else-refs-size-via-then-refs-size+else-size-length, else-refs-size-via-else-refs-size}
+use Rattle.g1_text.proofs.printing.object_line.Goals.{then-refs-size+then-size-length+then-at-length+in_ok-push_object, else-refs-size}
+use Rattle.g1_text.proofs.printing.object_line.Goals.{else-refs-size-via-then-refs-size+then-size-length+else-at-length, else-refs-size-via-then-refs-size+else-size-length}
+use Rattle.g1_text.proofs.printing.object_line.Goals.{else-refs-size-via-else-refs-size}
 
 pub returns-clause-text : goal.returns-clause-text
 returns-clause-text c = λ there.

@@ -7,7 +7,8 @@ use Rattle.g1_text.proofs.printing.push_regions.Goals as goal
 
 pub loop-region-preserved : goal.loop-region-preserved
 loop-region-preserved c =
-    one_number_more (λ r. text_of (region_lines c.args.image.now r)) (string_bytes c.args.text.now) (string_bytes c.loop-region.text) (string_bytes c.push_region.new.text) c.loop-region.region c.loop-region.invariant c.in_ok-push_region.ensures.text
+    one_number_more (λ r. text_of (region_lines c.args.image.now r)) (string_bytes c.args.text.now) (string_bytes c.loop-region.text)
+    (string_bytes c.push_region.new.text) c.loop-region.region c.loop-region.invariant c.in_ok-push_region.ensures.text
 
 pub returns-clause-text : goal.returns-clause-text
 returns-clause-text c =

@@ -18,14 +18,16 @@ pub offset_bounds-words-slot : goal.offset_bounds-words-slot
 offset_bounds-words-slot c =
     let s = c.args.self.now.scope.now in
     let listed = c.as_slice-slot-items.ensures ∙ c.slots_on-slots.ensures.items in
-    let low = slot_in_words s.heap.now c.requires.places.scope.valid c.args.card (get_or c.as_slice-slot-items.result.now c.loop-slot.slot-index 0) (subst (λ l. In l (get_or c.as_slice-slot-items.result.now c.loop-slot.slot-index 0)) listed (In-get c.as_slice-slot-items.result.now c.loop-slot.slot-index 0 c.loop-slot-test.true)) in
+    let low = slot_in_words s.heap.now c.requires.places.scope.valid c.args.card (get_or c.as_slice-slot-items.result.now c.loop-slot.slot-index 0)
+    (subst (λ l. In l (get_or c.as_slice-slot-items.result.now c.loop-slot.slot-index 0)) listed (In-get c.as_slice-slot-items.result.now c.loop-slot.slot-index 0 c.loop-slot-test.true)) in
     omega (arith, low, c.requires.places.scope.valid.word_count, c.requires.places.scope.valid.limits.words_most)
 
 pub bounds-words-slot : goal.bounds-words-slot
 bounds-words-slot c =
     let s = c.args.self.now.scope.now in
     let listed = c.as_slice-slot-items.ensures ∙ c.slots_on-slots.ensures.items in
-    let low = slot_in_words s.heap.now c.requires.places.scope.valid c.args.card (get_or c.as_slice-slot-items.result.now c.loop-slot.slot-index 0) (subst (λ l. In l (get_or c.as_slice-slot-items.result.now c.loop-slot.slot-index 0)) listed (In-get c.as_slice-slot-items.result.now c.loop-slot.slot-index 0 c.loop-slot-test.true)) in
+    let low = slot_in_words s.heap.now c.requires.places.scope.valid c.args.card (get_or c.as_slice-slot-items.result.now c.loop-slot.slot-index 0)
+    (subst (λ l. In l (get_or c.as_slice-slot-items.result.now c.loop-slot.slot-index 0)) listed (In-get c.as_slice-slot-items.result.now c.loop-slot.slot-index 0 c.loop-slot-test.true)) in
     omega (arith, low, ap length c.words-words.ensures)
 
 pub offer_named-requires-clause-ranks : goal.offer_named-requires-clause-ranks
@@ -35,7 +37,8 @@ offer_named-requires-clause-ranks c =
     let p : ℕ = get_or xs c.loop-slot.slot-index 0 in
     let listed = c.as_slice-slot-items.ensures ∙ c.slots_on-slots.ensures.items in
     subst (λ l. AreRanks (aims_in s (c.args.base + p) (get_or l p 0))) (sym c.words-words.ensures)
-    (all_part (λ q. q.0 < 2 ^ 32) (λ p. aims_in s (c.args.base + p) (word s.heap.now p)) (slots_on s.heap.now c.args.card) p c.requires.ranks (subst (λ l. In l p) listed (In-get xs c.loop-slot.slot-index 0 c.loop-slot-test.true)))
+    (all_part (λ q. q.0 < 2 ^ 32) (λ p. aims_in s (c.args.base + p) (word s.heap.now p)) (slots_on s.heap.now c.args.card) p c.requires.ranks
+    (subst (λ l. In l p) listed (In-get xs c.loop-slot.slot-index 0 c.loop-slot-test.true)))
 
 pub loop-slot-preserved : goal.loop-slot-preserved
 loop-slot-preserved c =

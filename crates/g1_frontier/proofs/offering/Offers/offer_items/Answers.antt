@@ -17,7 +17,8 @@ offer_item-requires-clause-ranks c =
 pub loop-item-preserved : goal.loop-item-preserved
 loop-item-preserved c =
     let s = c.args.self.now.scope.now in
-    tried_more (place_in s) (pairs_in s) c.args.items.now c.loop-item.item-index (Root 0) c.args.holder.now c.loop-item.holder c.offer_item.new.holder c.loop-item-test.true c.loop-item.invariant c.in_ok-offer_item.ensures
+    tried_more (place_in s) (pairs_in s) c.args.items.now c.loop-item.item-index (Root 0) c.args.holder.now c.loop-item.holder c.offer_item.new.holder
+    c.loop-item-test.true c.loop-item.invariant c.in_ok-offer_item.ensures
 
 pub loop-item-smaller : goal.loop-item-smaller
 loop-item-smaller c = omega (arith, c.loop-item-test.true)

@@ -10,7 +10,8 @@ use Rattle.g1_frontier.proofs.offering.Offers.offer_named.Goals as goal
 pub overflow_add-rank : goal.overflow_add-rank
 overflow_add-rank c =
     let s = c.args.self.now.scope.now in
-    let low = aims_small s.heap.now s.window.now (c.args.base + c.args.offset) c.args.word (c.args.word - 1) (omega (arith, c.if-word-eq0.false)) c.in-Some.ensures.found.0 c.requires.ranks in omega (arith, low)
+    let low = aims_small s.heap.now s.window.now (c.args.base + c.args.offset) c.args.word (c.args.word - 1) (omega (arith, c.if-word-eq0.false))
+    c.in-Some.ensures.found.0 c.requires.ranks in omega (arith, low)
 
 pub offer-answered_true-requires-clause-rank : goal.offer-answered_true-requires-clause-rank
 offer-answered_true-requires-clause-rank c =
@@ -39,9 +40,11 @@ returns-in-None c =
     let a : ℕ = c.args.word - 1 in
     let rank : ℕ = c.args.base + c.args.offset in
     let e : c.args.word ≡ a + 1 = omega (arith, c.if-word-eq0.false) in
-    subst (λ ps. HasTried (place_in s) ps c.args.holder.now c.args.holder.now) (sym (aims_outside s.heap.now s.window.now rank c.args.word a e c.in-None.ensures.none)) (tried_none (place_in s) c.args.holder.now)
+    subst (λ ps. HasTried (place_in s) ps c.args.holder.now c.args.holder.now)
+    (sym (aims_outside s.heap.now s.window.now rank c.args.word a e c.in-None.ensures.none)) (tried_none (place_in s) c.args.holder.now)
 
 pub returns-then-word-eq0 : goal.returns-then-word-eq0
 returns-then-word-eq0 c =
     let s = c.args.self.now.scope.now in
-    subst (λ ps. HasTried (place_in s) ps c.args.holder.now c.args.holder.now) (sym (aims_null s.heap.now s.window.now (c.args.base + c.args.offset) c.args.word c.if-word-eq0.true)) (tried_none (place_in s) c.args.holder.now)
+    subst (λ ps. HasTried (place_in s) ps c.args.holder.now c.args.holder.now)
+    (sym (aims_null s.heap.now s.window.now (c.args.base + c.args.offset) c.args.word c.if-word-eq0.true)) (tried_none (place_in s) c.args.holder.now)

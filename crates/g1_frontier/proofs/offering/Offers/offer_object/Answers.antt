@@ -52,7 +52,8 @@ loop-slot-preserved c =
     let first : ℕ = c.args.at + 1 in
     let p : ℕ = c.loop-slot.slot in
     let f : ℕ → List (ℕ × ℕ) = λ p. aims_in s (c.args.base + (p - first)) (word s.heap.now p) in
-    let one : HasTried (place_in s) (f p) c.loop-slot.holder c.offer_named.new.holder = subst (λ l. HasTried (place_in s) (aims_in s (c.args.base + (p - first)) (get_or l p 0)) c.loop-slot.holder c.offer_named.new.holder) c.words-words.ensures c.in_ok-offer_named.ensures in
+    let one : HasTried (place_in s) (f p) c.loop-slot.holder c.offer_named.new.holder =
+    subst (λ l. HasTried (place_in s) (aims_in s (c.args.base + (p - first)) (get_or l p 0)) c.loop-slot.holder c.offer_named.new.holder) c.words-words.ensures c.in_ok-offer_named.ensures in
     subst (λ ps. HasTried (place_in s) ps c.args.holder.now c.offer_named.new.holder)
     (flat_map_more f [] (range_with_len first (p - first)) p ∙ ap (flat_map f) (range_more first p c.loop-slot.auto.slot))
     (tried_append (place_in s) (flat_map f (range_with_len first (p - first))) (f p) c.args.holder.now c.loop-slot.holder c.offer_named.new.holder c.loop-slot.invariant one)
@@ -63,7 +64,8 @@ returns c =
     let first : ℕ = c.args.at + 1 in
     let refs : c.object-refs.result.refs ≡ word s.heap.now c.args.at % 2 ^ 32 = ap (λ o. o.refs) c.object-refs.ensures.value in
     let all : c.loop-slot.slot - first ≡ word s.heap.now c.args.at % 2 ^ 32 = let e = c.loop-slot.auto.slot-end (omega arith) in omega (arith, e, refs, c.loop-slot-test.false) in
-    subst (λ n. HasTried (place_in s) (flat_map (λ p. aims_in s (c.args.base + (p - first)) (word s.heap.now p)) (range_with_len first n)) c.args.holder.now c.loop-slot.holder) all c.loop-slot.invariant
+    subst (λ n. HasTried (place_in s) (flat_map (λ p. aims_in s (c.args.base + (p - first)) (word s.heap.now p)) (range_with_len first n))
+    c.args.holder.now c.loop-slot.holder) all c.loop-slot.invariant
 
 pub loop-slot-smaller : goal.loop-slot-smaller
 loop-slot-smaller c = omega (arith, c.loop-slot-test.true)

@@ -6,4 +6,5 @@ use Rattle.g1_frontier.specs.Scope.{place_in, aims_in}
 use Rattle.g1_frontier.proofs.offering.Offers.offer_object.Given as goal
 
 abbrev pub invariant-loop-slot : goal.invariant-loop-slot
-invariant-loop-slot l = HasTried (place_in l.self.scope.now) (flat_map (λ p. aims_in l.self.scope.now (l.base + (p - (l.at + 1))) (word l.self.scope.now.heap.now p)) (range_with_len l.first (l.slot - l.first))) l.initial.holder l.holder
+invariant-loop-slot l = HasTried (place_in l.self.scope.now) (flat_map
+    (λ p. aims_in l.self.scope.now (l.base + (p - (l.at + 1))) (word l.self.scope.now.heap.now p)) (range_with_len l.first (l.slot - l.first))) l.initial.holder l.holder

@@ -12,6 +12,7 @@ loop-target-preserved c =
     let d : Target = record { place = 0; address = 0 } in
     let x : Target = get_or xs i d in record {
       found = c.in_ok-claim.ensures.found;
-      more = noted_more c.args.found.now.items (addresses (take i xs)) (x.address ∷ []) (addresses (take (i + 1) xs)) c.loop-target.found.items c.claim.new.found.items c.loop-target.invariant.more c.in_ok-claim.ensures.more
+      more = noted_more c.args.found.now.items (addresses (take i xs)) (x.address ∷ []) (addresses (take (i + 1) xs)) c.loop-target.found.items
+          c.claim.new.found.items c.loop-target.invariant.more c.in_ok-claim.ensures.more
           (sym (map-append (λ (x : Target). x.address) (take i xs) (x ∷ [])) ∙ ap addresses (sym (take_more xs i d c.loop-target-test.true)));
     }

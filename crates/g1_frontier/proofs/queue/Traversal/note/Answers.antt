@@ -10,7 +10,8 @@ returns-in-None c =
     let s = c.args.self.now.scope.now in
     let t = c.args.self.now.claims.now in
     let e : c.args.word ≡ c.args.word - 1 + 1 = omega (arith, c.if-word-eq0.false) in
-    subst (λ l. HasNoted s t l c.args.queue.now c.args.queue.now) (sym (names_outside s c.args.word (c.args.word - 1) e c.in-None.ensures.none)) (noted_none s c.requires.places.scope t c.args.queue.now c.requires.queue)
+    subst (λ l. HasNoted s t l c.args.queue.now c.args.queue.now) (sym (names_outside s c.args.word (c.args.word - 1) e c.in-None.ensures.none))
+    (noted_none s c.requires.places.scope t c.args.queue.now c.requires.queue)
 
 pub returns-in_ok-push-in-Some : goal.returns-in_ok-push-in-Some
 returns-in_ok-push-in-Some c =

@@ -27,7 +27,8 @@ loop-slot-preserved c =
     let first : ℕ = c.args.at + 1 in
     let p : ℕ = c.loop-slot.slot in
     let f : ℕ → List ℕ = λ p. names_in s (word s.heap.now p) in
-    let one : HasNoted s t (f p) c.loop-slot.queue c.note.new.queue = subst (λ l. HasNoted s t (names_in s (get_or l p 0)) c.loop-slot.queue c.note.new.queue) c.words-words.ensures c.in_ok-note.ensures in
+    let one : HasNoted s t (f p) c.loop-slot.queue c.note.new.queue = subst
+    (λ l. HasNoted s t (names_in s (get_or l p 0)) c.loop-slot.queue c.note.new.queue) c.words-words.ensures c.in_ok-note.ensures in
     subst (λ l. HasNoted s t l c.args.queue.now c.note.new.queue)
     (flat_map_more f [] (range_with_len first (p - first)) p ∙ ap (flat_map f) (range_more first p c.loop-slot.auto.slot))
     (noted_append s c.requires.places.scope t (flat_map f (range_with_len first (p - first))) (f p) c.args.queue.now c.loop-slot.queue c.note.new.queue c.loop-slot.invariant one)

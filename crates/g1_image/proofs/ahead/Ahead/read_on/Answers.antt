@@ -14,7 +14,8 @@ use Rattle.g1_image.proofs.ahead.Ahead.read_on.Goals.{In_ok-count, then-self-gt0
 
 -- what waits after the read: what waited before it, and what was read
 waits : (g : Over) (c : In_ok-count g) →
-    slice_range (with_items c.grow.new.self.room (take c.grow.new.self.end c.deref_mut.result.now ++ (c.read.new.buf ++ post_of c.grow.new.self.end (length c.deref_mut.result.now - c.grow.new.self.end) c.deref_mut.result.now))).items
+    slice_range (with_items c.grow.new.self.room (take c.grow.new.self.end c.deref_mut.result.now
+    ++ (c.read.new.buf ++ post_of c.grow.new.self.end (length c.deref_mut.result.now - c.grow.new.self.end) c.deref_mut.result.now))).items
     c.grow.new.self.start (c.grow.new.self.end + c.in_ok-count.count)
     ≡ waiting c.args.self.now ++ take c.in_ok-count.count c.read.new.buf
 waits g c =
@@ -34,7 +35,8 @@ waits g c =
 
 -- how many wait then
 more_wait : (g : Over) (c : In_ok-count g) →
-    length (slice_range (with_items c.grow.new.self.room (take c.grow.new.self.end c.deref_mut.result.now ++ (c.read.new.buf ++ post_of c.grow.new.self.end (length c.deref_mut.result.now - c.grow.new.self.end) c.deref_mut.result.now))).items
+    length (slice_range (with_items c.grow.new.self.room (take c.grow.new.self.end c.deref_mut.result.now
+    ++ (c.read.new.buf ++ post_of c.grow.new.self.end (length c.deref_mut.result.now - c.grow.new.self.end) c.deref_mut.result.now))).items
     c.grow.new.self.start (c.grow.new.self.end + c.in_ok-count.count))
     ≡ length (waiting c.args.self.now) + c.in_ok-count.count
 more_wait g c =

@@ -16,7 +16,8 @@ returns-in_err-make_room-clause-mark g c =
 pub returns-in_err-make_room-clause-err : goal.returns-in_err-make_room-clause-err
 returns-in_err-make_room-clause-err g c =
     let same = err_from_is_err_and c.from_residual.result c.from_residual.ensures.1 in
-    rw (same.1, same.2) (sending_fails _ _ _ _ _ (words_text c.args.words.now) (words_text c.loop-rest.rest.now) [] (words_text c.loop-rest.rest.now) _ c.loop-rest.invariant.part refl c.in_err-make_room.ensures.err)
+    rw (same.1, same.2) (sending_fails _ _ _ _ _ (words_text c.args.words.now) (words_text c.loop-rest.rest.now) [] (words_text c.loop-rest.rest.now)
+    _ c.loop-rest.invariant.part refl c.in_err-make_room.ensures.err)
 
 pub loop-rest-preserved : goal.loop-rest-preserved
 loop-rest-preserved g c =
@@ -25,6 +26,7 @@ loop-rest-preserved g c =
     let whole : c.loop-rest.rest.now ≡ front ++ after = search in
     let parts : words_text c.loop-rest.rest.now ≡ words_text front ++ words_text after = ap (λ l. words_text l) whole ∙ flat_map-append u64 front after in
     record {
-      part = sending_more _ _ _ _ _ _ (words_text c.args.words.now) _ (words_text front) (words_text after) c.loop-rest.invariant.part parts (sent_more _ _ _ _ _ _ _ _ c.in_ok-make_room.ensures.ok (sent_waits _ _ (words_text front) _ c.put.ensures));
+      part = sending_more _ _ _ _ _ _ (words_text c.args.words.now) _ (words_text front) (words_text after) c.loop-rest.invariant.part parts
+          (sent_more _ _ _ _ _ _ _ _ c.in_ok-make_room.ensures.ok (sent_waits _ _ (words_text front) _ c.put.ensures));
       mark = c.in_ok-make_room.ensures.mark ∙ c.loop-rest.invariant.mark;
     }

@@ -12,4 +12,5 @@ returns-clause-ok g c =
     let joined : c.in_ok-firsts.firsts.items ≡ flat_map (λ v. v.items) c.in_ok-lists.lists.items =
     c.in_ok-firsts.ensures ∙ ap (flat_map (λ v. v.items)) c.deref-2.ensures.value in
     subst (λ l. IsStartsOf c.args.heap.now (map address_below l)) (sym joined)
-    (starts_whole h h.geometry.n (map address_below (flat_map (λ v. v.items) c.in_ok-lists.lists.items)) c.geometry.ensures.valid refl (joined_all h c.args.threads c.in_ok-cut.cut.items c.in_ok-cut.ensures c.in_ok-lists.lists.items lists))
+    (starts_whole h h.geometry.n (map address_below (flat_map (λ v. v.items) c.in_ok-lists.lists.items)) c.geometry.ensures.valid refl
+    (joined_all h c.args.threads c.in_ok-cut.cut.items c.in_ok-cut.ensures c.in_ok-lists.lists.items lists))
