@@ -140,6 +140,14 @@ impl Geometry {
         u64::from(region) * self.w
     }
 
+    /// The number of words of this many regions.
+    pub fn words_of(&self, regions: u64) -> u64
+        requires { regions * self.now.w < 2 ^ 64 }
+        ensures { result ≡ regions * self.now.w }
+    {
+        regions * self.w
+    }
+
     /// The address of the first word of a card, also of one past the heap's last.
     pub fn card_start(&self, card: u32) -> u64
         ensures value { result ≡ card * self.now.k }
