@@ -143,7 +143,8 @@ impl Geometry {
     /// The number of words of this many regions.
     pub fn words_of(&self, regions: u64) -> u64
         requires { regions * self.now.w < 2 ^ 64 }
-        ensures { result ≡ regions * self.now.w }
+        ensures value { result ≡ regions * self.now.w }
+        ensures limits { IsWithinLimits self.now.w self.now.k self.now.n }
     {
         regions * self.w
     }
