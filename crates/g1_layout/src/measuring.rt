@@ -11,7 +11,7 @@ pub(crate) fn next_fit(geometry: &Geometry, from: u64, size: u64) -> u64
     ensures { result ≡ next_fit geometry.now.w from size }
 {
     // This is asked for each survivor, so it divides nothing.
-    let next = (region_of(geometry, from) + 1) * geometry.region_words();
+    let next = geometry.words_of(region_of(geometry, from) + 1);
     if from + size <= next { from } else { next }
 }
 

@@ -49,11 +49,10 @@ fn index_of(geometry: &Geometry, positions: &[Option<u32>], a: u64) -> Option<us
     if region >= positions.len() as u64 {
         return None;
     }
-    let region_words = geometry.region_words();
     // This is asked for each reference, so it divides nothing.
-    let offset = a - region * region_words;
+    let offset = a - geometry.words_of(region);
     match positions[region as usize] {
-        Some(position) => Some((u64::from(position) * region_words + offset) as usize),
+        Some(position) => Some((geometry.words_of(u64::from(position)) + offset) as usize),
         None => None,
     }
 }
@@ -114,8 +113,7 @@ impl Table {
         ensures { IfOk result (λ t. Forwards t survivors.now places.now) }
     {
         let positions = positions(alloc, geometry.regions(), set)?;
-        let region_words = geometry.region_words() as usize;
-        let mut words = vec![in alloc; 0u32; set.len() * region_words]?;
+        let mut words = vec![in alloc; 0u32; geometry.words_of(set.len() as u64) as usize]?;
         write_places(&mut words, geometry, &positions, survivors, places);
         Ok(Table {
             geometry: *geometry,

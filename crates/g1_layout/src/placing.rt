@@ -22,7 +22,6 @@ fn places(
     ensures { IfOk result (λ v. v.items ≡ places_of heap.now survivors.now) }
 {
     let geometry = heap.geometry();
-    let region_words = geometry.region_words();
     let mut places = Vec::with_capacity(alloc, survivors.len())?;
     let mut end: u64 = 0;
     for a in survivors {
@@ -30,7 +29,7 @@ fn places(
         let at = next_fit(&geometry, end, size);
         let number = region_of(&geometry, at);
         let region = to_space[number as usize];
-        places.push(geometry.start(region) + (at - number * region_words))?;
+        places.push(geometry.start(region) + (at - geometry.words_of(number)))?;
         end = at + size;
     }
     Ok(places)

@@ -1,4 +1,4 @@
-use Rattle.std.proofs.Common.{◌/◌, ◌<◌, ◌≤◌, ◌^◌, All, Contains, length, subst, sym, ap, ◌∙◌, arith}
+use Rattle.std.proofs.Common.{◌/◌, ◌<◌, ◌≤◌, All, Contains, length, subst, sym, ap, ◌∙◌, arith}
 use Rattle.g1_words.specs.Geometry.{most_words}
 use Rattle.g1_words.specs.Layout.{free_regions, need}
 use Rattle.g1_layout.proofs.Conditions.{can_lay, set_in_heap}

@@ -6,8 +6,8 @@ use Rattle.g1_layout.proofs.Laying.{Laying-in_need, Placing, Placing-step}
 use Rattle.g1_layout.proofs.placing.places.Goals as goal
 
 -- what is left of an address once its region's words are taken off
-offset : (a w n v : ℕ) → n ≡ a / w → v ≡ w → a - n * v ≡ a % w
-offset a w n v e f = let parts : a / w * w + a % w ≡ a = div-add-mod' a w in let whole : n * v ≡ a / w * w = λ t. e t * f t in omega (arith, parts, whole)
+offset : (a w n v : ℕ) → n ≡ a / w → v ≡ n * w → a - v ≡ a % w
+offset a w n v e f = let parts : a / w * w + a % w ≡ a = div-add-mod' a w in let whole : v ≡ a / w * w = f ∙ ap (λ x. x * w) e in omega (arith, parts, whole)
 
 pub bounds-to_space-number : goal.bounds-to_space-number
 bounds-to_space-number c =
@@ -24,9 +24,8 @@ bounds-to_space-number c =
 
 pub overflow_add-start : goal.overflow_add-start
 overflow_add-start c =
-    let w = c.region_words-region_words.result in
     let r = get_or c.args.to_space.now c.region_of-number.result 0 in
-    let left = offset c.next_fit-at.result c.geometry-geometry.result.w c.region_of-number.result w c.region_of-number.ensures c.region_words-region_words.ensures.value in
+    let left = offset c.next_fit-at.result c.geometry-geometry.result.w c.region_of-number.result c.words_of.result c.region_of-number.ensures c.words_of.ensures.value in
     let most : r * c.geometry-geometry.result.w ≤ (2 ^ 32 - 1) * c.geometry-geometry.result.w =
     mul-le-mul_right c.geometry-geometry.result.w (omega (arith, c.type_inv.to_space c.region_of-number.result)) in
     omega (arith, left, most, c.start.ensures.value, c.start.ensures.limits.w_most, c.start.ensures.limits.w_least)
@@ -44,9 +43,9 @@ loop-a-preserved c =
     let number : c.region_of-number.result ≡ next_fit h.geometry.w c.loop-a.end size / h.geometry.w = c.region_of-number.ensures ∙ (λ t. at t / (same t).w) in
     let region : r ≡ get_or (to_space h l) (next_fit h.geometry.w c.loop-a.end size / h.geometry.w) 0 = (λ t. get_or (c.requires.regions t) (number t) 0) in
     let start : c.start.result ≡ r * h.geometry.w = c.start.ensures.value ∙ ap (λ g. r * g.w) same in
-    let left : c.next_fit-at.result - c.region_of-number.result * c.region_words-region_words.result ≡ next_fit h.geometry.w c.loop-a.end size % h.geometry.w =
-    offset c.next_fit-at.result c.geometry-geometry.result.w c.region_of-number.result c.region_words-region_words.result c.region_of-number.ensures
-    c.region_words-region_words.ensures.value ∙ (λ t. at t % (same t).w) in
+    let left : c.next_fit-at.result - c.words_of.result ≡ next_fit h.geometry.w c.loop-a.end size % h.geometry.w =
+    offset c.next_fit-at.result c.geometry-geometry.result.w c.region_of-number.result c.words_of.result c.region_of-number.ensures
+    c.words_of.ensures.value ∙ (λ t. at t % (same t).w) in
     let items : c.push.new.self.items ≡ ps ++ (r * h.geometry.w + next_fit h.geometry.w c.loop-a.end size % h.geometry.w) ∷ [] = c.in_ok-push.ensures.items ∙ (λ t. ps ++ (start t + left t) ∷ []) in
     let step = Placing-step h l i c.loop-a.end size r ps (omega (arith, c.geometry-geometry.ensures.valid.limits.w_least))
     c.geometry-geometry.ensures.valid.limits.w_most c.requires.fits c.loop-a.invariant c.loop-a-test.true c.size_at-size.ensures region in

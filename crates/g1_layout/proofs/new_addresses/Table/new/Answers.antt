@@ -13,13 +13,12 @@ positions-requires-clause-few c =
     let n = rising_few c.args.set.now c.args.geometry.now.n c.requires.rising c.requires.in_heap in
     omega (arith, n, c.regions.ensures.limits.n_most)
 
-pub overflow_mul-set : goal.overflow_mul-set
-overflow_mul-set c =
-    let w = c.region_words-region_words.result in
+pub words_of-requires : goal.words_of-requires
+words_of-requires c =
+    let w = c.args.geometry.now.w in
     let n = rising_few c.args.set.now c.args.geometry.now.n c.requires.rising c.requires.in_heap in
     let rows : length c.args.set.now * w ≤ c.args.geometry.now.n * w = mul-le-mul_right w n in
-    let is : c.args.geometry.now.n * w ≡ c.args.geometry.now.n * c.args.geometry.now.w = ap (λ x. c.args.geometry.now.n * x) c.region_words-region_words.ensures.value in
-    omega (arith, rows, is, c.region_words-region_words.ensures.limits.words_most)
+    omega (arith, rows, c.regions.ensures.limits.words_most)
 
 -- the list that is lent to be read has the positions, and the one to be written is all 0
 positioned : (c : After-deref) → ArePositions c.args.set.now c.deref.result.now
@@ -27,18 +26,18 @@ positioned c = subst (ArePositions c.args.set.now) (sym c.deref.ensures.value) c
 
 zeros : (c : After-deref) → c.deref_mut.result.now ≡ replicate (length c.args.set.now * c.args.geometry.now.w) 0
 zeros c =
-    c.deref_mut.ensures.value ∙ c.in_ok-words.ensures.items_if_clones_equal (λ y same. same) ∙ ap (λ w. replicate (length c.args.set.now * w) 0) c.region_words-region_words.ensures.value
+    c.deref_mut.ensures.value ∙ c.in_ok-words.ensures.items_if_clones_equal (λ y same. same) ∙ ap (λ n. replicate n 0) c.words_of.ensures.value
 
 pub write_places-requires-clause-table : goal.write_places-requires-clause-table
 write_places-requires-clause-table c =
     let w = c.args.geometry.now.w in
-    let limits = c.region_words-region_words.ensures.limits in
+    let limits = c.words_of.ensures.limits in
     let count = ap length (zeros c) ∙ length-replicate (length c.args.set.now * w) 0 in
     table_of w c.args.set.now c.deref.result.now (omega (arith, limits.w_least)) (positioned c) c.deref_mut.result.now count
 
 pub write_places-requires-clause-in_set : goal.write_places-requires-clause-in_set
 write_places-requires-clause-in_set c =
-    let limits = c.region_words-region_words.ensures.limits in
+    let limits = c.words_of.ensures.limits in
     table_has c.args.geometry.now.w c.args.set.now c.deref.result.now (omega (arith, limits.w_least)) (positioned c) c.args.survivors.now c.requires.in_set
 
 pub write_places-requires-clause-before : goal.write_places-requires-clause-before
