@@ -81,13 +81,13 @@ pub(crate) fn place_for(heap: &Heap, refs: u64, words: u64) -> Option<u32>
 }
 
 /// Region number i of a humongous object's run.
-fn run_region(region_words: u64, size: u64, i: u64) -> Region
-    requires width { (16 ≤ region_words) × (region_words ≤ most_region_words) }
+fn run_region(geometry: &Geometry, size: u64, i: u64) -> Region
     requires size { size ≤ most_words }
-    requires within { i * region_words < size }
-    ensures { result ≡ region_with (if i == 0 then HumongousFirst else Continuation) (min region_words (size - i * region_words)) }
+    requires within { i * geometry.now.w < size }
+    ensures { result ≡ region_with (if i == 0 then HumongousFirst else Continuation) (min geometry.now.w (size - i * geometry.now.w)) }
 {
-    let rest = size - i * region_words;
+    let region_words = geometry.region_words();
+    let rest = size - geometry.words_of(i);
     let kind = if i == 0 {
         Kind::HumongousFirst
     } else {
@@ -115,9 +115,8 @@ fn take_run(regions: &mut Vec<Region>, geometry: &Geometry, first: u32, size: u6
     requires few { length regions.old.items ≤ most_regions }
     ensures { regions.new.items ≡ run_taken geometry.now.w regions.old.items first size ((size + (geometry.now.w - 1)) / geometry.now.w) }
 {
-    let region_words = geometry.region_words();
     for i in 0..geometry.regions_for(size) {
-        regions[first as usize + i as usize] = run_region(region_words, size, i);
+        regions[first as usize + i as usize] = run_region(geometry, size, i);
     }
 }
 

@@ -12,21 +12,20 @@ loop-i-init c = record { taken = none_taken c.args.geometry.now.w c.args.regions
 pub loop-i-preserved : goal.loop-i-preserved
 loop-i-preserved c =
     let w = c.args.geometry.now.w in
-    let limits = c.region_words-region_words.ensures.limits in
+    let limits = c.type_inv.geometry in
     let count : c.regions_for-i-end.result ≡ (c.args.size + (c.args.geometry.now.w - 1)) / c.args.geometry.now.w =
     c.regions_for-i-end.ensures ∙ rounded_up w c.args.size (omega (arith, limits.w_least)) in
     let there : c.args.first + c.loop-i.i < length c.args.regions.now.items = omega (arith, c.loop-i-test.true, count, c.requires.there) in
     record {
       taken = one_taken w c.args.regions.now.items c.args.first c.args.size c.loop-i.i c.loop-i.regions.items c.run_region.result there c.loop-i.invariant.taken
-          (subst (λ x. c.run_region.result ≡ region_with (if c.loop-i.i == 0 then HumongousFirst else Continuation)
-          (min x (c.args.size - c.loop-i.i * x))) c.region_words-region_words.ensures.value c.run_region.ensures);
+          c.run_region.ensures;
       size = length-set c.loop-i.regions.items (c.args.first + c.loop-i.i) c.run_region.result ∙ c.loop-i.invariant.size;
     }
 
 pub returns : goal.returns
 returns c =
     let w = c.args.geometry.now.w in
-    let limits = c.region_words-region_words.ensures.limits in
+    let limits = c.type_inv.geometry in
     let count : c.regions_for-i-end.result ≡ (c.args.size + (c.args.geometry.now.w - 1)) / c.args.geometry.now.w =
     c.regions_for-i-end.ensures ∙ rounded_up w c.args.size (omega (arith, limits.w_least)) in
     let all : c.loop-i.i ≡ (c.args.size + (c.args.geometry.now.w - 1)) / c.args.geometry.now.w = omega (arith, count, c.loop-i-test.false, c.loop-i.auto.i-end) in
