@@ -5,6 +5,7 @@ use Rattle.std.proofs.lemmas.Bool.{cases_lt}
 use Rattle.std.proofs.lemmas.Nat.{le-div}
 use Rattle.std.proofs.lemmas.List.{map-append, take_more, flat_map_more}
 use Rattle.std.proofs.lemmas.List.Elements.{All-append, All-cons, All-nil}
+use Rattle.g1_words.specs.Geometry.{most_words}
 use Rattle.g1_claim.specs.declared.rule.Offer.{Offer}
 use Rattle.g1_claim.specs.Claims.{TableView, SeatView, IsSeatOf, offer, least_rank, empty}
 use Rattle.g1_claim.specs.Rule.{first_hand}
@@ -81,7 +82,7 @@ module _ (s : Scope) (ok : IsScope s) where
     in_window a i = let c = Contains-from_in found a i in subst (λ b. inside s b ≡ true) c.2 (f.within c.0 a c.1)
 
     -- it is no more than the heap's words
-    pub found_small : length found ≤ 2 ^ 24
+    pub found_small : length found ≤ most_words
     found_small =
         let few = distinct_few found (s.heap.now.geometry.n * s.heap.now.geometry.w) (subst Distinct (sym f.once) (Distinct-firsts found)) (λ a i. inside_below a (in_window a i)) in
         omega (arith, few, ok.valid.limits.words_most)

@@ -3,6 +3,7 @@ use Rattle.std.proofs.Common.{◌≡◌, ◌≤◌, ◌<◌, ℕ, zero, suc, ◌
 use Rattle.std.specs.List.{All}
 use Rattle.std.proofs.lemmas.List.Kept.{AllPairs-from_increasing}
 use Rattle.std.proofs.Math.Nat.{mul-le-mul_right}
+use Rattle.g1_words.specs.Geometry.{most_words}
 use Rattle.g1_words.proofs.Members.{In, In-from_contains, Contains-from_in, In-flat_map, flat_map_cases, filter_member}
 use Rattle.g1_words.proofs.Ordered.{Ordered, Ordered-from_pairs}
 use Rattle.g1_frontier.specs.declared.scope.Scope.{Scope}
@@ -73,7 +74,7 @@ rising_few bound xs r =
 
 module _ (s : Scope) (ok : IsScope s) where
   -- the window's words are no more than the heap's
-  pub places_fit : length s.window.now * s.heap.now.geometry.w ≤ 2 ^ 24
+  pub places_fit : length s.window.now * s.heap.now.geometry.w ≤ most_words
   places_fit =
       let few = rising_few s.heap.now.geometry.n s.window.now ok.regions in
       let m : length s.window.now * s.heap.now.geometry.w ≤ s.heap.now.geometry.n * s.heap.now.geometry.w = mul-le-mul_right s.heap.now.geometry.w few in

@@ -9,6 +9,7 @@ use Rattle.std.proofs.lemmas.List.Sums.{sum_by-cons, sum_by-append}
 use Rattle.std.proofs.lemmas.Map.Made.{IsDistinct-from_AllPairs}
 use Rattle.std.proofs.lemmas.Map.Steps.{length-le_from_distinct_below}
 use Rattle.std.proofs.lemmas.List.Elements.{All-append, All-nil}
+use Rattle.g1_words.specs.Geometry.{most_words}
 use Rattle.g1_claim.specs.declared.rule.Offer.{Offer}
 use Rattle.g1_claim.specs.Claims.{TableView, IsSeatOf}
 use Rattle.g1_words.specs.Heap.{Heap, slots, object_at, objects}
@@ -136,7 +137,7 @@ module _ (h : Heap) (valid : IsValid h) where
     object_total = distinct_few all_of (length h.words) distinct (λ q i. (object_in_words h valid q (are q i)).0)
 
   -- the window's words are no more than the heap's
-  pub window_few : (window : List ℕ) → AreRegions h window → length window * h.geometry.w ≤ 2 ^ 24
+  pub window_few : (window : List ℕ) → AreRegions h window → length window * h.geometry.w ≤ most_words
   window_few window regions =
       let few = rising_few h.geometry.n window regions in
       let m : length window * h.geometry.w ≤ h.geometry.n * h.geometry.w = mul-le-mul_right h.geometry.w few in

@@ -2,6 +2,7 @@
 use Rattle.std.proofs.Common.{◌≡◌, ◌≤◌, ◌<◌, ℕ, ◌+◌, ◌-◌, ◌%◌, ◌^◌, min, List, [], ◌∷◌, ◌++◌, drop, filter, flat_map, slice_index, arith, refl, sym, ap, subst, ◌∙◌}
 use Rattle.std.specs.Prelude.{Option, Some, None}
 use Rattle.std.specs.List.{range_with_len}
+use Rattle.g1_words.specs.Geometry.{most_words}
 use Rattle.g1_words.specs.Heap.{Heap, word, start, objects_in, object_at, slots}
 use Rattle.g1_words.specs.Valid.{Tiles, IsValid, IsReference}
 use Rattle.g1_image.specs.Image.{Image}
@@ -102,7 +103,7 @@ module _ (i : Image) (r at to : ℕ) (places : List ℕ) (valid : IsValid i.heap
       subst (λ x. AreBehind i places (x + 1)) (sym n.at_is) (ready_at i places n.object (drop (a.place + 1) (objects_in i.heap r) ++ objects_from i.heap (r + 1)) valid left)
 
   -- it has a word at least, and ends within the words
-  pub asking_fits : (size : ℕ) → size ≡ (object_at i.heap at).size → (0 < size) × (at + size ≤ 2 ^ 24)
+  pub asking_fits : (size : ℕ) → size ≡ (object_at i.heap at).size → (0 < size) × (at + size ≤ most_words)
   asking_fits size e =
       let n = row_front i.heap r valid lt a.place at to a.row more in
       let same = ap (λ o. o.size) n.whole in

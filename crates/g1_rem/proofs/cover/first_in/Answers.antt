@@ -1,4 +1,5 @@
 use Rattle.std.proofs.Common.{arith, ap, subst, ◌≡◌, ◌<◌, ◌≤◌, ◌+◌, ◌*◌, ◌/◌, ◌%◌, ◌^◌, ◌∙◌, length, slice_index, ℕ}
+use Rattle.g1_words.specs.Geometry.{most_words}
 use Rattle.g1_words.specs.Heap.{Heap, word, start, objects_in, object_at}
 use Rattle.g1_words.specs.Valid.{Tiles}
 use Rattle.g1_rem.proofs.Next.{NextOf}
@@ -23,7 +24,7 @@ size_read : (c : After-header-object) → c.header-object.result.size ≡ (objec
 size_read c = ap (λ o. o.size) c.header-object.ensures.value ∙ ap (λ l. slice_index l c.objects.at / 2 ^ 32) (c.words.ensures ∙ ap (λ (h : Heap). h.words) c.heap-heap.ensures.same)
 
 -- the object has a word at least, and ends within the words
-fits : (c : In-objects) (size : ℕ) → size ≡ (object_at c.args.image.now.heap c.objects.at).size → (0 < size) × (c.objects.at + size ≤ 2 ^ 24)
+fits : (c : In-objects) (size : ℕ) → size ≡ (object_at c.args.image.now.heap c.objects.at).size → (0 < size) × (c.objects.at + size ≤ most_words)
 fits c size e =
     asking_fits c.args.image.now c.args.region c.objects.at c.objects_end-end.result c.objects.places c.heap-heap.ensures.valid.heap c.requires.region c.objects.invariant c.objects-test.true size e
 

@@ -1,4 +1,5 @@
 use Rattle.std.proofs.Common.{◌-◌, ◌^◌}
+use Rattle.g1_words.specs.Geometry.{most_words}
 use Rattle.g1_frontier.specs.Queue.{IsUnderWay}
 use Rattle.g1_frontier.proofs.queue.Traversal.search.Given as goal
 
@@ -6,4 +7,4 @@ abbrev pub invariant-loop-from : goal.invariant-loop-from
 invariant-loop-from l = IsUnderWay l.self.scope.now l.self.claims.now l.from l.queue
 
 abbrev pub decreases-loop-from : goal.decreases-loop-from
-decreases-loop-from l = 2 ^ 24 - l.from
+decreases-loop-from l = most_words - l.from
