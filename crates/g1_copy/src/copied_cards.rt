@@ -76,7 +76,7 @@ pub(crate) fn copied_cards(
     let runs = plan.runs();
     let mut lists = no_cards(alloc, geometry.regions())?;
     for number in 0..runs.len() {
-        let first = number * region_words;
+        let first = geometry.words_of(number as u64) as usize;
         let words = &gathered[first..first + region_words];
         add_run(heap, plan, &runs[number], words, &mut lists)?;
     }

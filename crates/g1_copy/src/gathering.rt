@@ -95,9 +95,10 @@ fn fill_alone(heap: &Heap, plan: &Plan, words: &mut [u64])
     requires empty { words.old ≡ replicate (length plan.now.runs * heap.now.geometry.w) 0 }
     ensures { words.new ≡ to_space_words heap.now plan.now.survivors }
 {
-    let region_words = heap.geometry().region_words() as usize;
+    let geometry = heap.geometry();
+    let region_words = geometry.region_words() as usize;
     for number in 0..plan.runs().len() {
-        let start = number * region_words;
+        let start = geometry.words_of(number as u64) as usize;
         fill_at(heap, plan, start, &mut words[start..start + region_words]);
     }
 }
@@ -163,8 +164,8 @@ pub(crate) fn gather_by(
     requires { IsPlanOf heap.now plan.now }
     ensures { IfOk result (λ v. v.items ≡ to_space_words heap.now plan.now.survivors) }
 {
-    let region_words = heap.geometry().region_words() as usize;
-    let mut words = vec![in alloc; 0u64; plan.runs().len() * region_words]?;
+    let to_space = heap.geometry().words_of(plan.runs().len() as u64) as usize;
+    let mut words = vec![in alloc; 0u64; to_space]?;
     fill_all(rt, heap, plan, &mut words, workers);
     Ok(words)
 }
