@@ -8,13 +8,13 @@ ghost use Rattle.g1_rem.specs.Cover.{is_bare, bare_in, bare_between, AreDirty, I
 ghost use Rattle.g1_rem.specs.Places.{IsBehind, AreBehind, AreReadyFor};
 ghost use Rattle.g1_rem.specs.Ranges.{IsCut, IsRange};
 
-use crate::entry_cards::{mark_each, unmarked};
+use crate::entry_cards::mark_each;
 use crate::leads::led_into;
 use crate::ranges::{WORDS_A_THREAD, cut};
 use crate::rows::objects_end;
 use crate::tracked::Tracked;
 use g1_image::Image;
-use g1_words::{Fault, card_of, header};
+use g1_words::{Fault, Marks, card_of, header};
 use g1_work::threads_for;
 use rayon::prelude::*;
 use std::alloc::{AllocError, Global};
@@ -34,18 +34,16 @@ fn place_of(set: &[u32], from: usize, card: u32) -> usize
 }
 
 /// Returns whether a mark is set. One past the last isn't.
-fn is_marked(marks: &[bool], number: u32) -> bool
+fn is_marked(marks: &Marks, number: u32) -> bool
     ensures { result ≡ slice_index_or marks.now number false }
 {
-    match marks.get(number as usize) {
-        Some(marked) => *marked,
-        None => false,
-    }
+    let place = number as usize;
+    place < marks.len() && marks.is_set(place)
 }
 
 /// A mark for each card, set if the card is dirty; none at all if the log is empty.
-fn dirty_marks(alloc: Global, image: &Image) -> Result<Vec<bool>, AllocError>
-    ensures { IfOk result (λ v. AreDirty image.now v.items) }
+fn dirty_marks(alloc: Global, image: &Image) -> Result<Marks, AllocError>
+    ensures { IfOk result (AreDirty image.now) }
 {
     let log = image.log().as_slice();
     let cards = if log.is_empty() {
@@ -53,13 +51,13 @@ fn dirty_marks(alloc: Global, image: &Image) -> Result<Vec<bool>, AllocError>
     } else {
         image.heap().geometry().cards()
     };
-    let mut dirty = unmarked(alloc, cards)?;
+    let mut dirty = Marks::none(alloc, cards as usize)?;
     mark_each(&mut dirty, log);
     Ok(dirty)
 }
 
 /// Returns whether a slot isn't covered. The places in the remembered sets move on with the slots.
-fn is_uncovered(image: &Image, dirty: &[bool], places: &mut [usize], p: u64) -> bool
+fn is_uncovered(image: &Image, dirty: &Marks, places: &mut [usize], p: u64) -> bool
     requires dirty { AreDirty image.now dirty.now }
     requires slot { p < length image.now.heap.words }
     requires reference { IsReference image.now.heap (slice_index image.now.heap.words p) }
@@ -86,7 +84,7 @@ fn is_uncovered(image: &Image, dirty: &[bool], places: &mut [usize], p: u64) -> 
 /// The first slot from one address on and below another that isn't covered.
 fn first_between(
     image: &Image,
-    dirty: &[bool],
+    dirty: &Marks,
     places: &mut [usize],
     from: u64,
     to: u64,
@@ -108,7 +106,7 @@ fn first_between(
 }
 
 /// The first slot of a region's objects that isn't covered.
-fn first_in(image: &Image, dirty: &[bool], places: &mut [usize], region: u32) -> Option<u64>
+fn first_in(image: &Image, dirty: &Marks, places: &mut [usize], region: u32) -> Option<u64>
     requires dirty { AreDirty image.now dirty.now }
     requires region { region < image.now.heap.geometry.n }
     requires ready { AreReadyFor image.now places.old (objects_from image.now.heap region) }
@@ -151,7 +149,7 @@ fn places_at(alloc: Global, image: &Image, region: u32) -> Result<Vec<usize>, Al
 }
 
 /// The first slot that isn't covered, of the objects that start in some regions.
-fn first_of(image: &Image, dirty: &[bool], places: &mut [usize], from: u32, to: u32) -> Option<u64>
+fn first_of(image: &Image, dirty: &Marks, places: &mut [usize], from: u32, to: u32) -> Option<u64>
     requires dirty { AreDirty image.now dirty.now }
     requires order { from ≤ to }
     requires regions { to ≤ image.now.heap.geometry.n }
@@ -171,7 +169,7 @@ fn first_of(image: &Image, dirty: &[bool], places: &mut [usize], from: u32, to: 
 fn first_among(
     alloc: Global,
     image: &Image,
-    dirty: &[bool],
+    dirty: &Marks,
     from: u32,
     to: u32,
 ) -> Result<Option<u64>, Fault>
@@ -189,7 +187,7 @@ fn first_in_each(
     rt: &(impl Threads + Sync),
     alloc: Global,
     image: &Image,
-    dirty: &[bool],
+    dirty: &Marks,
     cut: &[u32],
     ranges: usize,
 ) -> Result<Vec<Option<u64>>, Fault>
@@ -227,7 +225,7 @@ fn first_by_threads(
     rt: &(impl Threads + Sync),
     alloc: Global,
     image: &Image,
-    dirty: &[bool],
+    dirty: &Marks,
     threads: usize,
 ) -> Result<Option<u64>, Fault>
     requires some { 0 < threads }

@@ -1,33 +1,26 @@
-ghost use Rattle.std.specs.Prelude.{◌≡◌, ◌<◌, map, length, replicate, false, All, IfOk, IfErr};
+ghost use Rattle.std.specs.Prelude.{◌≡◌, ◌<◌, map, length, All, IfOk, IfErr};
 ghost use Rattle.g1_words.specs.Lists.{has};
 ghost use Rattle.g1_image.specs.Cards.{cards_where};
 ghost use Rattle.g1_rem.specs.Starts.{card_count};
 ghost use Rattle.g1_rem.specs.EntryCards.{AreMarked, cards_into, is_left, is_listed};
 
-use g1_words::{Fault, Heap};
+use g1_words::{Fault, Heap, Marks};
 use std::alloc::{AllocError, Global};
 
-/// So many marks, none of them set.
-pub(crate) fn unmarked(alloc: Global, count: u64) -> Result<Vec<bool>, AllocError>
-    ensures { IfOk result (λ v. v.items ≡ replicate count false) }
-{
-    Ok(vec![in alloc; false; count as usize]?)
-}
-
 /// Sets the marks of these numbers. One past the last mark has none.
-pub(crate) fn mark_each(marks: &mut [bool], numbers: &[u32])
+pub(crate) fn mark_each(marks: &mut Marks, numbers: &[u32])
     ensures { AreMarked (has numbers.now) marks.old marks.new }
 {
     for number in numbers {
         let place = *number as usize;
         if place < marks.len() {
-            marks[place] = true;
+            marks.set(place);
         }
     }
 }
 
 /// Sets the marks of the cards in the remembered sets of these regions.
-fn mark_remembered(marks: &mut [bool], remembered: &[Vec<u32>], set: &[u32])
+fn mark_remembered(marks: &mut Marks, remembered: &[Vec<u32>], set: &[u32])
     requires { All (λ r. r < length remembered.now) set.now }
     ensures { AreMarked (is_listed (map (λ s. s.items) remembered.now) set.now) marks.old marks.new }
 {
@@ -40,8 +33,8 @@ fn mark_remembered(marks: &mut [bool], remembered: &[Vec<u32>], set: &[u32])
 fn left_over(
     alloc: Global,
     heap: &Heap,
-    cards: &[bool],
-    regions: &[bool],
+    cards: &Marks,
+    regions: &Marks,
 ) -> Result<Vec<u32>, AllocError>
     requires cards { length cards.now ≡ card_count heap.now }
     requires regions { length regions.now ≡ heap.now.geometry.n }
@@ -50,9 +43,9 @@ fn left_over(
     let geometry = heap.geometry();
     let mut left = Vec::new(alloc);
     for card in 0..cards.len() {
-        if cards[card] {
+        if cards.is_set(card) {
             let region = geometry.region_of_card(card as u32);
-            if !regions[region as usize] {
+            if !regions.is_set(region as usize) {
                 left.push(card as u32)?;
             }
         }
@@ -80,9 +73,9 @@ pub fn cards_into(
     ensures memory { IfErr result (λ e. e ≡ Fault.Memory) }
 {
     let geometry = heap.geometry();
-    let mut cards = unmarked(alloc, geometry.cards())?;
+    let mut cards = Marks::none(alloc, geometry.cards() as usize)?;
     mark_remembered(&mut cards, remembered, set);
-    let mut regions = unmarked(alloc, geometry.regions())?;
+    let mut regions = Marks::none(alloc, geometry.regions() as usize)?;
     mark_each(&mut regions, set);
     Ok(left_over(alloc, heap, &cards, &regions)?)
 }

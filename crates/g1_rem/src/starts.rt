@@ -133,7 +133,7 @@ fn starts_in_each(
 }
 
 /// Some lists, one after the other.
-fn joined(alloc: Global, lists: &[Vec<u32>], count: usize) -> Result<Vec<u32>, AllocError>
+fn join(alloc: Global, lists: &[Vec<u32>], count: usize) -> Result<Vec<u32>, AllocError>
     ensures { IfOk result (λ v. v.items ≡ flat_map (λ s. s.items) lists.now) }
 {
     let mut all = Vec::with_capacity(alloc, count)?;
@@ -192,7 +192,7 @@ impl Starts {
     {
         let cut = cut(alloc, heap, threads)?;
         let lists = starts_in_each(rt, alloc, heap, &cut, threads)?;
-        let firsts = joined(alloc, &lists, heap.geometry().cards() as usize)?;
+        let firsts = join(alloc, &lists, heap.geometry().cards() as usize)?;
         Ok(Starts { firsts })
     }
 

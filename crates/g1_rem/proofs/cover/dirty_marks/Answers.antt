@@ -2,11 +2,9 @@ use Rattle.std.proofs.Common.{◌≡◌, ◌<◌, ◌∙◌, ◌*◌, ◌/◌, �
 use Rattle.g1_words.specs.Heap.{Heap}
 use Rattle.g1_words.specs.Lists.{has}
 use Rattle.g1_words.proofs.Members.{In}
-use Rattle.g1_rem.specs.Cover.{AreDirty}
 use Rattle.g1_rem.specs.EntryCards.{AreMarked}
 use Rattle.g1_rem.specs.Starts.{card_count}
 use Rattle.g1_rem.proofs.Dirty.{dirty_told, dirty_inside, none_dirty}
-use Rattle.g1_rem.proofs.Entering.{lent_back}
 use Rattle.g1_rem.proofs.cover.dirty_marks.Goals as goal
 use Rattle.g1_rem.proofs.cover.dirty_marks.Goals.{then-is_empty, else-is_empty}
 
@@ -24,12 +22,9 @@ returns c =
           let inside = dirty_inside i x w.heap.ensures.valid k in
           omega (arith, inside, count, w.cards-is))
     ] in
-    let written = lent_back c.in_ok-dirty.dirty.len c.deref_mut.result.now c.mark_each.new.marks c.in_ok-dirty.dirty.items c.deref_mut.ensures.value
-    c.mark_each.ensures.one_each c.deref_mut.ensures.len in
-    let marked : AreMarked (has c.args.image.now.log) c.deref_mut.result.now c.mark_each.new.marks =
-    subst (λ l. AreMarked (has l) c.deref_mut.result.now c.mark_each.new.marks) log c.mark_each.ensures in
-    subst (AreDirty c.args.image.now) (sym written)
-    (dirty_told i c.if-is_empty.cards c.deref_mut.result.now c.mark_each.new.marks (c.deref_mut.ensures.value ∙ c.in_ok-dirty.ensures) marked below)
+    let marked : AreMarked (has c.args.image.now.log) c.in_ok-dirty.dirty c.mark_each.new.marks =
+    subst (λ l. AreMarked (has l) c.in_ok-dirty.dirty c.mark_each.new.marks) log c.mark_each.ensures in
+    dirty_told i c.if-is_empty.cards c.in_ok-dirty.dirty c.mark_each.new.marks c.in_ok-dirty.ensures marked below
   where
     no_items : (xs : List ℕ) → length xs ≡ 0 → xs ≡ []
     no_items [] e = refl

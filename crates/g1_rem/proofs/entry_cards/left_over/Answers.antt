@@ -4,13 +4,13 @@ use Rattle.g1_rem.specs.Starts.{card_count}
 use Rattle.g1_rem.specs.EntryCards.{is_left}
 use Rattle.g1_rem.proofs.EntryCards.{card_home, filtered_push, filtered_pass, left_there, left_unmarked, left_inside}
 use Rattle.g1_rem.proofs.entry_cards.left_over.Goals as goal
-use Rattle.g1_rem.proofs.entry_cards.left_over.Goals.{then-cards-card+then-not-regions-region+in_ok-push, then-cards-card+else-not-regions-region, else-cards-card}
+use Rattle.g1_rem.proofs.entry_cards.left_over.Goals.{then-is_set+then-not-is_set+in_ok-push, then-is_set+else-not-is_set, else-is_set}
 
 pub loop-card-init : goal.loop-card-init
 loop-card-init c = c.new-left.ensures.items
 
-pub bounds-regions-region : goal.bounds-regions-region
-bounds-regions-region c =
+pub is_set-requires-then-is_set : goal.is_set-requires-then-is_set
+is_set-requires-then-is_set c =
     let h = c.args.heap.now in
     let same : c.region_of_card-region.result ≡ c.loop-card.card * c.args.heap.now.geometry.k / c.args.heap.now.geometry.w =
     c.region_of_card-region.ensures.value ∙ ap (λ g. c.loop-card.card * g.k / g.w) c.geometry-geometry.ensures.same in
@@ -24,19 +24,21 @@ loop-card-preserved c =
     let cards = c.args.cards.now in
     let regions = c.args.regions.now in
     let n = c.loop-card.card in
-    elim c.if-cards-card.branch [
-      | then-cards-card+then-not-regions-region+in_ok-push v ↦
+    elim c.if-is_set.branch [
+      | then-is_set+then-not-is_set+in_ok-push v ↦
           ap (λ l. l.items) v.left-is ∙ v.in_ok-push.ensures.items
           ∙ ap (λ l. l ++ c.loop-card.card ∷ []) c.loop-card.invariant
           ∙ sym (filtered_push (is_left h cards regions) n (left_there h valid cards regions n v.region_of_card-region.result
-          (v.region_of_card-region.ensures.value ∙ ap (λ g. c.loop-card.card * g.k / g.w) c.geometry-geometry.ensures.same) v.if-cards-card.true v.if-not-regions-region.true))
-      | then-cards-card+else-not-regions-region v ↦
+          (v.region_of_card-region.ensures.value ∙ ap (λ g. c.loop-card.card * g.k / g.w) c.geometry-geometry.ensures.same)
+          (sym c.is_set.ensures ∙ v.if-is_set.true) (sym v.is_set-then-is_set.ensures ∙ v.if-not-is_set.true)))
+      | then-is_set+else-not-is_set v ↦
           ap (λ l. l.items) v.left-is ∙ c.loop-card.invariant
           ∙ sym (filtered_pass (is_left h cards regions) n (left_inside h valid cards regions n v.region_of_card-region.result
-          (v.region_of_card-region.ensures.value ∙ ap (λ g. c.loop-card.card * g.k / g.w) c.geometry-geometry.ensures.same) v.if-cards-card.true v.if-not-regions-region.false))
-      | else-cards-card v ↦
+          (v.region_of_card-region.ensures.value ∙ ap (λ g. c.loop-card.card * g.k / g.w) c.geometry-geometry.ensures.same)
+          (sym c.is_set.ensures ∙ v.if-is_set.true) (sym v.is_set-then-is_set.ensures ∙ v.if-not-is_set.false)))
+      | else-is_set v ↦
           ap (λ l. l.items) v.left-is ∙ c.loop-card.invariant
-          ∙ sym (filtered_pass (is_left h cards regions) n (left_unmarked h valid cards regions n (n * h.geometry.k / h.geometry.w) refl v.if-cards-card.false))
+          ∙ sym (filtered_pass (is_left h cards regions) n (left_unmarked h valid cards regions n (n * h.geometry.k / h.geometry.w) refl (sym c.is_set.ensures ∙ v.if-is_set.false)))
     ]
 
 pub returns : goal.returns

@@ -1,11 +1,11 @@
-use Rattle.std.proofs.Common.{sym, subst, refl, get_or, take, eqb, arith}
+use Rattle.std.proofs.Common.{◌∙◌, sym, subst, refl, get_or, take, eqb, arith}
 use Rattle.std.proofs.lemmas.List.{take_more}
 use Rattle.g1_words.specs.Lists.{has}
 use Rattle.g1_rem.specs.EntryCards.{AreMarked}
 use Rattle.g1_rem.proofs.EntryCards.{marked_none, marked_more, marked_one, marked_past}
 use Rattle.std.proofs.lemmas.List.{take_all}
 use Rattle.g1_rem.proofs.entry_cards.mark_each.Goals as goal
-use Rattle.g1_rem.proofs.entry_cards.mark_each.Goals.{then-place-marks, else-place-marks}
+use Rattle.g1_rem.proofs.entry_cards.mark_each.Goals.{then-place-len, else-place-len}
 
 pub loop-number-init : goal.loop-number-init
 loop-number-init c = marked_none c.args.marks.now (has (take 0 c.args.numbers.now)) (λ x. refl)
@@ -15,15 +15,15 @@ loop-number-preserved c =
     let xs = c.args.numbers.now in
     let i = c.loop-number.number-index in
     let n = get_or c.args.numbers.now c.loop-number.number-index 0 in
-    let one : AreMarked (λ x. eqb x (get_or c.args.numbers.now c.loop-number.number-index 0)) c.loop-number.marks c.if-place-marks.marks =
-    elim c.if-place-marks.branch [
-      | then-place-marks w ↦ subst (AreMarked (λ x. eqb x (get_or c.args.numbers.now c.loop-number.number-index 0)) c.loop-number.marks)
-          (sym w.marks-is) (marked_one c.loop-number.marks n w.if-place-marks.true)
-      | else-place-marks w ↦ subst (AreMarked (λ x. eqb x (get_or c.args.numbers.now c.loop-number.number-index 0)) c.loop-number.marks)
-          (sym w.marks-is) (marked_past c.loop-number.marks n w.if-place-marks.false)
+    let one : AreMarked (λ x. eqb x (get_or c.args.numbers.now c.loop-number.number-index 0)) c.loop-number.marks c.if-place-len.marks =
+    elim c.if-place-len.branch [
+      | then-place-len w ↦ subst (AreMarked (λ x. eqb x (get_or c.args.numbers.now c.loop-number.number-index 0)) c.loop-number.marks)
+          (sym (w.marks-is ∙ w.set.ensures)) (marked_one c.loop-number.marks n (omega (arith, w.if-place-len.true, c.len.ensures)))
+      | else-place-len w ↦ subst (AreMarked (λ x. eqb x (get_or c.args.numbers.now c.loop-number.number-index 0)) c.loop-number.marks)
+          (sym w.marks-is) (marked_past c.loop-number.marks n (omega (arith, w.if-place-len.false, c.len.ensures)))
     ] in
-    subst (λ l. AreMarked (has l) c.args.marks.now c.if-place-marks.marks) (sym (take_more xs i 0 c.loop-number-test.true))
-    (marked_more c.args.marks.now c.loop-number.marks c.if-place-marks.marks (take i xs) n c.loop-number.invariant one)
+    subst (λ l. AreMarked (has l) c.args.marks.now c.if-place-len.marks) (sym (take_more xs i 0 c.loop-number-test.true))
+    (marked_more c.args.marks.now c.loop-number.marks c.if-place-len.marks (take i xs) n c.loop-number.invariant one)
 
 pub returns : goal.returns
 returns c = subst (λ l. AreMarked (has l) c.args.marks.now c.loop-number.marks) (take_all c.loop-number.number-index c.args.numbers.now c.loop-number-test.false) c.loop-number.invariant
