@@ -13,17 +13,16 @@ use Rattle.g1_copy.proofs.CopiedWords.{first_copied, region_ends, region_words, 
 use Rattle.g1_copy.proofs.LinkingCards.{linked_none}
 use Rattle.g1_copy.proofs.copied_cards.copied_cards.Goals as goal
 
-pub overflow_mul-first : goal.overflow_mul-first
-overflow_mul-first c =
+pub words_of-first-requires : goal.words_of-first-requires
+words_of-first-requires c =
     let h = c.args.heap.now in
     let p = c.args.plan.now in
     let made = c.requires.plan in
     let t = c.loop-number.number in
-    let width : c.region_words-region_words.result ≡ c.args.heap.now.geometry.w = c.region_words-region_words.ensures.value ∙ ap (λ (g : Geometry). g.w) c.geometry-geometry.ensures.same in
-    let first = ap (λ z. c.loop-number.number * z) width in
-    let lt : c.loop-number.number < need c.args.heap.now c.args.plan.now.survivors = omega (arith, c.loop-number-test.true, ap length c.runs-runs.ensures, runs_count h p made) in
+    let width : t * c.geometry-geometry.result.w ≡ t * h.geometry.w = ap (λ (g : Geometry). t * g.w) c.geometry-geometry.ensures.same in
+    let lt : t < need h p.survivors = omega (arith, c.loop-number-test.true, ap length c.runs-runs.ensures, runs_count h p made) in
     let ends = region_ends h p.set p.survivors c.geometry-geometry.ensures.valid made.placeable made.room t lt in
-    omega (arith, first, ends.1)
+    omega (arith, width, ends.1)
 
 pub overflow_add-words : goal.overflow_add-words
 overflow_add-words c =
@@ -32,7 +31,7 @@ overflow_add-words c =
     let made = c.requires.plan in
     let t = c.loop-number.number in
     let width : c.region_words-region_words.result ≡ c.args.heap.now.geometry.w = c.region_words-region_words.ensures.value ∙ ap (λ (g : Geometry). g.w) c.geometry-geometry.ensures.same in
-    let first = ap (λ z. c.loop-number.number * z) width in
+    let first : c.words_of-first.result ≡ c.loop-number.number * c.args.heap.now.geometry.w = c.words_of-first.ensures.value ∙ ap (λ (g : Geometry). c.loop-number.number * g.w) c.geometry-geometry.ensures.same in
     let lt : c.loop-number.number < need c.args.heap.now c.args.plan.now.survivors = omega (arith, c.loop-number-test.true, ap length c.runs-runs.ensures, runs_count h p made) in
     let ends = region_ends h p.set p.survivors c.geometry-geometry.ensures.valid made.placeable made.room t lt in
     omega (arith, first, width, ends.1)
@@ -44,7 +43,7 @@ offset_bounds-gathered-first c =
     let made = c.requires.plan in
     let t = c.loop-number.number in
     let width : c.region_words-region_words.result ≡ c.args.heap.now.geometry.w = c.region_words-region_words.ensures.value ∙ ap (λ (g : Geometry). g.w) c.geometry-geometry.ensures.same in
-    let first = ap (λ z. c.loop-number.number * z) width in
+    let first : c.words_of-first.result ≡ c.loop-number.number * c.args.heap.now.geometry.w = c.words_of-first.ensures.value ∙ ap (λ (g : Geometry). c.loop-number.number * g.w) c.geometry-geometry.ensures.same in
     let lt : c.loop-number.number < need c.args.heap.now c.args.plan.now.survivors = omega (arith, c.loop-number-test.true, ap length c.runs-runs.ensures, runs_count h p made) in
     let ends = region_ends h p.set p.survivors c.geometry-geometry.ensures.valid made.placeable made.room t lt in
     omega (arith, first, ends.1)
@@ -56,10 +55,10 @@ slice_bounds-words-end c =
     let made = c.requires.plan in
     let t = c.loop-number.number in
     let width : c.region_words-region_words.result ≡ c.args.heap.now.geometry.w = c.region_words-region_words.ensures.value ∙ ap (λ (g : Geometry). g.w) c.geometry-geometry.ensures.same in
-    let first = ap (λ z. c.loop-number.number * z) width in
+    let first : c.words_of-first.result ≡ c.loop-number.number * c.args.heap.now.geometry.w = c.words_of-first.ensures.value ∙ ap (λ (g : Geometry). c.loop-number.number * g.w) c.geometry-geometry.ensures.same in
     let lt : c.loop-number.number < need c.args.heap.now c.args.plan.now.survivors = omega (arith, c.loop-number-test.true, ap length c.runs-runs.ensures, runs_count h p made) in
     let ends = region_ends h p.set p.survivors c.geometry-geometry.ensures.valid made.placeable made.room t lt in
-    let there : c.loop-number.number * c.region_words-region_words.result + c.region_words-region_words.result ≤ length c.args.gathered.now =
+    let there : c.words_of-first.result + c.region_words-region_words.result ≤ length c.args.gathered.now =
     omega (arith, first, width, ends.0, ap length c.requires.gathered) in
     there
 
@@ -71,8 +70,9 @@ add_run-requires-clause-words c =
     let t = c.loop-number.number in
     let d : Run = record { region = 0; from = 0; to = 0; end = 0 } in
     let width : c.region_words-region_words.result ≡ c.args.heap.now.geometry.w = c.region_words-region_words.ensures.value ∙ ap (λ (g : Geometry). g.w) c.geometry-geometry.ensures.same in
+    let first : c.words_of-first.result ≡ c.loop-number.number * c.args.heap.now.geometry.w = c.words_of-first.ensures.value ∙ ap (λ (g : Geometry). c.loop-number.number * g.w) c.geometry-geometry.ensures.same in
     let lt : c.loop-number.number < need c.args.heap.now c.args.plan.now.survivors = omega (arith, c.loop-number-test.true, ap length c.runs-runs.ensures, runs_count h p made) in
-    (λ j. slice_range (c.requires.gathered j) (c.loop-number.number * width j) (c.loop-number.number * width j + width j))
+    (λ j. slice_range (c.requires.gathered j) (first j) (first j + width j))
     ∙ region_words h p.set p.survivors c.geometry-geometry.ensures.valid made.placeable made.room t lt
     ∙ ap (λ (u : Run). placed_words h p.survivors u.region) (sym (ap (λ us. slice_index_or us t d) c.runs-runs.ensures ∙ run_is h p made t d lt))
 

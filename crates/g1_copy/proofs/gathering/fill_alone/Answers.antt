@@ -5,7 +5,7 @@ use Rattle.g1_copy.proofs.GatheringWhole.{FilledTo-start, FilledTo-more, FilledT
 use Rattle.g1_copy.proofs.gathering.fill_alone.Goals as goal
 
 pub loop-number-init : goal.loop-number-init
-loop-number-init c = FilledTo-start c.args.heap.now c.args.plan.now c.geometry.ensures.valid c.requires.plan c.args.words.now c.requires.empty
+loop-number-init c = FilledTo-start c.args.heap.now c.args.plan.now c.geometry-geometry.ensures.valid c.requires.plan c.args.words.now c.requires.empty
 
 pub fill_at-requires-clause-empty : goal.fill_at-requires-clause-empty
 fill_at-requires-clause-empty c =
@@ -13,10 +13,11 @@ fill_at-requires-clause-empty c =
     let p = c.args.plan.now in
     let n = c.loop-number.number in
     let w : c.region_words-region_words.result ≡ h.geometry.w = cc in
-    let lt : c.loop-number.number < need h p.survivors = omega (arith, c.loop-number-test.true, ap length c.runs-number-end.ensures, count_runs h p c.geometry.ensures.valid c.requires.plan) in
-    next_empty h p c.geometry.ensures.valid c.requires.plan n (n * c.region_words-region_words.result)
-    (n * c.region_words-region_words.result + c.region_words-region_words.result - n * c.region_words-region_words.result) c.loop-number.words
-    lt (ap (λ x. n * x) w) (omega (arith, w)) c.loop-number.invariant
+    let start : c.words_of-start.result ≡ n * h.geometry.w = cc in
+    let lt : c.loop-number.number < need h p.survivors = omega (arith, c.loop-number-test.true, ap length c.runs-number-end.ensures, count_runs h p c.geometry-geometry.ensures.valid c.requires.plan) in
+    next_empty h p c.geometry-geometry.ensures.valid c.requires.plan n c.words_of-start.result
+    (c.words_of-start.result + c.region_words-region_words.result - c.words_of-start.result) c.loop-number.words
+    lt start (omega (arith, w)) c.loop-number.invariant
 
 pub loop-number-preserved : goal.loop-number-preserved
 loop-number-preserved c =
@@ -24,17 +25,18 @@ loop-number-preserved c =
     let p = c.args.plan.now in
     let n = c.loop-number.number in
     let w : c.region_words-region_words.result ≡ h.geometry.w = cc in
-    let lt : c.loop-number.number < need h p.survivors = omega (arith, c.loop-number-test.true, ap length c.runs-number-end.ensures, count_runs h p c.geometry.ensures.valid c.requires.plan) in
-    FilledTo-more h p c.geometry.ensures.valid c.requires.plan n (n * c.region_words-region_words.result)
-    (n * c.region_words-region_words.result + c.region_words-region_words.result - n * c.region_words-region_words.result) c.loop-number.words c.fill_at.new.words
-    lt (ap (λ x. n * x) w) (omega (arith, w)) c.loop-number.invariant c.fill_at.ensures
+    let start : c.words_of-start.result ≡ n * h.geometry.w = cc in
+    let lt : c.loop-number.number < need h p.survivors = omega (arith, c.loop-number-test.true, ap length c.runs-number-end.ensures, count_runs h p c.geometry-geometry.ensures.valid c.requires.plan) in
+    FilledTo-more h p c.geometry-geometry.ensures.valid c.requires.plan n c.words_of-start.result
+    (c.words_of-start.result + c.region_words-region_words.result - c.words_of-start.result) c.loop-number.words c.fill_at.new.words
+    lt start (omega (arith, w)) c.loop-number.invariant c.fill_at.ensures
 
 pub returns : goal.returns
 returns c =
     let h = c.args.heap.now in
     let p = c.args.plan.now in
-    FilledTo-all h p c.geometry.ensures.valid c.requires.plan c.loop-number.number c.loop-number.words
-    (omega (arith, c.loop-number-test.false, ap length c.runs-number-end.ensures, count_runs h p c.geometry.ensures.valid c.requires.plan)) c.loop-number.invariant
+    FilledTo-all h p c.geometry-geometry.ensures.valid c.requires.plan c.loop-number.number c.loop-number.words
+    (omega (arith, c.loop-number-test.false, ap length c.runs-number-end.ensures, count_runs h p c.geometry-geometry.ensures.valid c.requires.plan)) c.loop-number.invariant
 
 pub loop-number-smaller : goal.loop-number-smaller
 loop-number-smaller c = omega (arith, c.loop-number-test.true)
