@@ -15,6 +15,7 @@ sys.path.insert(0, str(pathlib.Path(__file__).resolve().parent / "lib"))
 
 from heap_image import NULL, ORDINARY, Image  # noqa: E402
 from print_make import lines_of  # noqa: E402
+from programs import add_program  # noqa: E402
 from refusing import Judge  # noqa: E402
 
 MANY = 1 << 16
@@ -147,10 +148,10 @@ class Limits(Judge):
 
 def main():
     parser = argparse.ArgumentParser(description=__doc__, formatter_class=argparse.RawDescriptionHelpFormatter)
-    parser.add_argument("g1pause", metavar="G1PAUSE", help="the built program, crates/g1pause/out/g1pause")
-    parser.add_argument("g1heap", metavar="G1HEAP", help="the built program, crates/g1heap/out/g1heap")
+    add_program(parser, "g1pause")
+    add_program(parser, "g1heap")
     options = parser.parse_args()
-    limits = Limits(*(str(pathlib.Path(path).resolve()) for path in (options.g1pause, options.g1heap)))
+    limits = Limits(options.g1pause, options.g1heap)
     with tempfile.TemporaryDirectory() as room:
         for made, rows in ROWS:
             limits.image(made.__name__, made(), rows, pathlib.Path(room))
