@@ -128,6 +128,8 @@ def main():
     add_program(parser, "g1heap")
     parser.add_argument("--pictures", metavar="FOLDER", type=pathlib.Path, help="also writes PNG files there")
     options = parser.parse_args()
+    if options.pictures:
+        options.pictures.mkdir(parents=True, exist_ok=True)
     program = browser.find()
     if program is None:
         print("test_pictures: there is no Chromium on the path: install Debian's package chromium", file=sys.stderr)

@@ -287,7 +287,9 @@ fn lines(alloc: Global, image: &Image, name: &str, part: Part) -> Result<String,
         Part::Region(region) if u64::from(region) < heap.geometry().regions() => {
             region_lines(alloc, image, region)
         }
-        Part::Region(region) => return Err(no_region(alloc, name, region)),
+        Part::Region(region) => {
+            return Err(no_region(alloc, name, region, heap.geometry().regions()));
+        }
         Part::Object(address) => match object_at(heap, address) {
             Some(object) => object_line(alloc, heap, &object),
             None => return Err(no_object(alloc, name, address)),

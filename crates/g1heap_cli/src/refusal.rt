@@ -21,7 +21,7 @@ pub fn of_file(alloc: Global, name: &str, fault: Fault) -> Refusal {
 fn hint_for(fault: Fault) -> &'static str {
     match fault {
         Fault::Magic =>
-            "g1heap: it is no image; if it has lines, 'g1heap make' makes an image of them\n",
+            "g1heap: it is no image; 'g1heap make' makes an image of lines, and 'g1heap trace' replies to a trace\n",
         _ => "",
     }
 }
@@ -90,9 +90,12 @@ pub fn no_command(alloc: Global, name: &str, command: u64, commands: u64) -> Ref
     )
 }
 
-/// A region that the image doesn't have.
-pub fn no_region(alloc: Global, name: &str, region: u32) -> Refusal {
-    refusal(2, format!(in alloc; "g1heap: {name}: no region {region}\n"))
+/// A region that the image, which has this many, doesn't have.
+pub fn no_region(alloc: Global, name: &str, region: u32, regions: u64) -> Refusal {
+    refusal(
+        2,
+        format!(in alloc; "g1heap: {name}: no region {region}: the image has {regions}\n"),
+    )
 }
 
 /// An address at which no object starts.
