@@ -1,18 +1,18 @@
 #!/usr/bin/env python3
 """compare.py --program FILE --reference WORDS [what to run] [how]
 
-Runs g1pause beside another program that takes the same commands, on the same inputs, in turn, and tells processor time,
-wall time, peak memory, and whether their answers are equal. It builds nothing. The other program may be a plain one
-that was written to be fast, or an older g1pause: `--reference 'PROGRAM WORD ..'` is how it is called.
+Runs g1pause and another program with the same commands, in turn, on the same inputs. Reports processor time, wall time,
+peak memory, and whether their answers are equal. It builds nothing. The other program may be a plain one that was
+written to be fast, or an older g1pause. --reference says how it is called: `--reference 'PROGRAM WORD ..'`.
 
-What to run (--images and what is made here, where nothing is said):
-  --images FOLDER  every image and trace of a folder. Without it two images and two traces are made from a seed
-  --hostile        inputs that are made to be hard, from a seed (hostile.py), with few and many workers
+What to run (by default --images without a folder):
+  --images FOLDER  every image and trace of a folder. Without a folder two images and two traces are made from a seed
+  --hostile        inputs that were made to be hard, from a seed (hostile.py), with few and many workers
   --growth         pauses on eight images of growing size
 
-All times are the least of the rounds. Peak memory is the greatest, and is not told where it is below that of the Python
+A time is the least of all rounds. A peak of memory is the greatest; it is not reported if it is below that of the Python
 that starts the programs. An answer is the bytes on standard output, the status, and the text of a fault. The last line
-counts the answers that were the same, those that weren't, and those that were not waited for; the status is 0 where all
+counts the answers that were the same, those that were not, and the runs that were cut off. The status is 0 if all answers
 were the same.
 """
 import argparse
@@ -72,12 +72,12 @@ MANY = [Setting(f"{workers} x {chunk}", ("--workers", str(workers), "--chunk", s
 
 
 def own_peak():
-    """What this process has taken at most, and some pages: the system tells a peak of a child that is at least this one."""
+    """The peak of this process, and some pages more: the system reports no lower peak of a child."""
     return 1100 * resource.getrusage(resource.RUSAGE_SELF).ru_maxrss
 
 
 def within(process, seconds):
-    """Whether a process ends within so many seconds; it is ended where it doesn't, or where this script is."""
+    """Whether a process ends within these seconds. It is ended if it doesn't, or if this script is."""
     ended, watched = [], os.pidfd_open(process.pid)
     try:
         ended = select.select([watched], [], [], seconds)[0]
@@ -118,7 +118,7 @@ class Bench:
         return self.run([*self.reference, *command], source, "theirs")
 
     def verdict(self, ours, theirs):
-        """How our last answer differs from the reference's last one; nothing where it is the same."""
+        """How our last answer differs from the reference's last one; nothing if it is the same."""
         if ours.status is None or theirs.status is None:
             return CUT
         if ours.status != theirs.status:
@@ -205,7 +205,7 @@ def mean(values):
 
 
 class Table:
-    """Rows of a page, told as they come."""
+    """Rows of a page, printed as they come."""
 
     def __init__(self, lines, heading, columns):
         self.lines = lines
@@ -278,10 +278,10 @@ def hostile_table(bench, lines, seed, share):
             table.row([*first_cells(row, image), *map(number, rows[-1][1]), number(MS * row.least(ONE).wall, 1),
                        *map(number, rows[-1][2]), row.answers()])
         image.unlink()
-    told_hostile(table, rows)
+    print_hostile(table, rows)
 
 
-def told_hostile(table, rows):
+def print_hostile(table, rows):
     if not rows:
         return
     cpus, peaks = zip(*(both for _row, both, _walls in rows))
@@ -348,7 +348,7 @@ def made_here(room, seed):
 
 
 def is_trace(path):
-    """Whether a file is a trace and not an image; None where it is neither."""
+    """Whether a file is a trace and not an image; None if it is neither."""
     with open(path, "rb") as file:
         head = file.read(8)
     return head.startswith(b"heap ") if head.startswith((b"heap ", MAGIC)) else None
@@ -405,7 +405,7 @@ def options_of(words):
     parser.add_argument("--growth", action="store_true")
     parser.add_argument("--rounds", type=int, default=5, metavar="R", help="how often each is run (5)")
     parser.add_argument("--only", default="", metavar="TEXT", help="only where 'INPUT COMMAND' has this text")
-    parser.add_argument("--cut", type=float, default=60, metavar="S", help="a run is cut off after so many seconds (60)")
+    parser.add_argument("--cut", type=float, default=60, metavar="S", help="a run is cut off after S seconds (default: 60)")
     parser.add_argument("--seed", default="1", metavar="S", help="for the inputs that are made (1)")
     parser.add_argument("--share", type=int, default=1, metavar="N", help="hostile inputs that are N times smaller, to try it out")
     parser.add_argument("--write", metavar="PAGE", help=f"also put the figures into a page, between '{BEGIN}' and '{END}'")

@@ -1,7 +1,7 @@
 #!/usr/bin/env python3
 """Writes an image that is hard on a collector: hostile.py NAME FILE [--seed S] [--share N] [--commands]
 
-NAME is one of those that `hostile.py --list` tells. Each image is legal and covered. --share N makes it about N times
+NAME is one of those that `hostile.py --list` prints. Each image is legal and covered. --share N makes it about N times
 smaller. With --commands it prints the commands that the image is made for, one a line. The same arguments give the same
 bytes.
 """

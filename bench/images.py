@@ -2,10 +2,10 @@
 """Writes a large heap image without the program: images.py W FILE [--card K] [--words COUNT] [--seed S]
 
 The heap has COUNT words (2^24 if not given) in regions of W words and cards of K words (64). About a third of
-the regions is free. The others hold objects mostly of 2 to 10 words, some arrays, and some humongous objects. A
-slot is null, or names an object of its own region, or, more seldom, any object at all; few objects are named by
-the roots, so many are dead. A remembered set has exactly the cards that aren't dirty and hold a slot from outside
-that names one of its region's objects. The same arguments give the same bytes. Sizes that no image has are refused.
+the regions are free. The others hold objects mostly of 2 to 10 words, some arrays, and some humongous objects. A
+slot is null, or references an object of its own region, or, more seldom, any object at all. The roots reference few
+objects, so many are dead. A remembered set has exactly the cards outside its region that aren't dirty and hold a slot
+that references an object of the region. The same arguments give the same bytes. Sizes that no image has are refused.
 """
 import argparse, array, random, struct, sys
 

@@ -24,6 +24,7 @@ sys.path.insert(0, str(pathlib.Path(__file__).resolve().parent / "lib"))
 from heap_image import FREE, NULL, ORDINARY, drawn, from_bytes  # noqa: E402
 from opponent import NoRoom, Opponent  # noqa: E402
 from plant_errors import ERRORS, MORE_ERRORS, Planter  # noqa: E402
+from programs import add_program, program  # noqa: E402
 
 
 def tells(before, after, x, y, forth, back):
@@ -197,12 +198,11 @@ class Judge:
 
 def main():
     parser = argparse.ArgumentParser(description=__doc__, formatter_class=argparse.RawDescriptionHelpFormatter)
-    parser.add_argument("g1heap")
-    parser.add_argument("--g1pause")
+    add_program(parser, "g1heap")
+    parser.add_argument("--g1pause", type=program)
     parser.add_argument("--cases", type=int, default=1000, metavar="N")
     parser.add_argument("--seed", type=int, default=1, metavar="S")
     options = parser.parse_args()
-    options.g1heap = str(pathlib.Path(options.g1heap).resolve())
     rng = random.Random(options.seed)
     cases = 0
     with tempfile.TemporaryDirectory() as folder:

@@ -3,10 +3,12 @@
 
 Asks both programs of images in which a number is at its limit, or one more than what 16 bits hold: roots, dirty cards,
 cards of a set, objects and words of a region, regions, and candidates. What they have to print is written here by hand
-or by the rules of docs/COMMANDS.md and docs/HEAP_TEXT.md. The last line is 'N passed, M failed'.
+or by the rules of docs/COMMANDS.md and docs/HEAP_TEXT.md. `explain` of a pause with 2^18 dirty cards has a line for each,
+and takes at most 20 times the processor time of the pause. The last line is 'N passed, M failed'.
 """
 import argparse
 import pathlib
+import resource
 import subprocess
 import sys
 import tempfile
@@ -15,6 +17,7 @@ sys.path.insert(0, str(pathlib.Path(__file__).resolve().parent / "lib"))
 
 from heap_image import NULL, ORDINARY, Image  # noqa: E402
 from print_make import lines_of  # noqa: E402
+from programs import add_program  # noqa: E402
 from refusing import Judge  # noqa: E402
 
 MANY = 1 << 16
@@ -81,6 +84,18 @@ def current_last():
     return image
 
 
+def many_entering():
+    """A slot on each of 2^18 dirty cards references the one object of region 0."""
+    image = Image(MANY, 4, 18)
+    in_use(image, 0, [1])
+    for region in range(1, 17):
+        in_use(image, region, [4] * (MANY // 4))
+        for at in range(region * MANY, (region + 1) * MANY, 4):
+            image.words[at], image.words[at + 1] = 4 << 32 | 1, 1
+    image.log = list(range(MANY // 4, 17 * MANY // 4))
+    return image
+
+
 def choice(rows, total):
     """The lines of `choose`: regions with their cost and garbage, and whether they are taken."""
     lines = [f"region {region} cost {cost} garbage {garbage} {word}" for region, cost, garbage, word in rows]
@@ -134,6 +149,24 @@ class Limits(Judge):
             answer = "".join(f"{line}\n" for line in lines).encode()
             self.answers(name, self.g1pause, words.split(), data, answer)
 
+    def timed(self, program, words, data):
+        """The answer, and the processor time that it took."""
+        before = resource.getrusage(resource.RUSAGE_CHILDREN)
+        answer = self.run(program, words, data)
+        after = resource.getrusage(resource.RUSAGE_CHILDREN)
+        return answer, after.ru_utime + after.ru_stime - before.ru_utime - before.ru_stime
+
+    def explained(self):
+        """Steps that look at each dirty card."""
+        image = many_entering()
+        data = image.to_bytes()
+        _, pause = self.timed(self.g1pause, ["pause", "0"], data)
+        (text, errors, status), seconds = self.timed(self.g1heap, ["explain", "--set", "0"], data)
+        adds = [f"dirty {card} adds 0".encode() for card in image.log]
+        lines = [line for line in text.splitlines() if line.startswith(b"dirty")]
+        self.judge("explain of dirty cards", (lines, errors, status) == (adds, b"", 0))
+        self.judge(f"explain of dirty cards took {seconds:.2f} s, the pause {pause:.2f} s", seconds < 20 * pause)
+
     def beyond(self):
         """A number more than there may be."""
         lines = b"heap 16 4 4\n" + b"root -\n" * (MANY + 1)
@@ -147,13 +180,14 @@ class Limits(Judge):
 
 def main():
     parser = argparse.ArgumentParser(description=__doc__, formatter_class=argparse.RawDescriptionHelpFormatter)
-    parser.add_argument("g1pause", metavar="G1PAUSE", help="the built program, crates/g1pause/out/g1pause")
-    parser.add_argument("g1heap", metavar="G1HEAP", help="the built program, crates/g1heap/out/g1heap")
+    add_program(parser, "g1pause")
+    add_program(parser, "g1heap")
     options = parser.parse_args()
-    limits = Limits(*(str(pathlib.Path(path).resolve()) for path in (options.g1pause, options.g1heap)))
+    limits = Limits(options.g1pause, options.g1heap)
     with tempfile.TemporaryDirectory() as room:
         for made, rows in ROWS:
             limits.image(made.__name__, made(), rows, pathlib.Path(room))
+    limits.explained()
     limits.beyond()
     return limits.end()
 

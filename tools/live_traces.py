@@ -4,8 +4,8 @@
 Makes random traces with pauses at random places, and compares three replies to each: those of `G1PAUSE run`, those of
 `G1HEAP trace`, and those of `G1HEAP trace --live` over a pipe, where each line is written only when the reply to the line
 before has been read. Comments and empty lines between the lines change nothing, numbers of commands are right, and the image
-after a random command is covered and is the one that the shorter trace ends in. A spoiled line is refused by its number, and
-what was replied before it stays.
+after a random command is covered and is the one that the shorter trace ends in. A spoiled line is refused by its number, no
+image is written then, and what a live trace replied before it stays.
 
 The last line is 'N passed, M failed'.
 """
@@ -16,8 +16,9 @@ import subprocess
 import sys
 import tempfile
 
-sys.path.insert(0, str(pathlib.Path(__file__).resolve().parent))
+sys.path.insert(0, str(pathlib.Path(__file__).resolve().parent / "lib"))
 
+from programs import add_program  # noqa: E402
 from random_traces import Maker  # noqa: E402
 
 SECONDS = 60
@@ -77,7 +78,10 @@ class Tries:
     def spoiled(self, lines, costs, replies, dice):
         at = dice.randrange(1, len(lines))
         text = ("\n".join([*lines[:at], dice.choice(SPOILED), *lines[at:]]) + "\n").encode()
-        status, out, errors = run([self.g1heap, "trace", *costs], text)
+        with tempfile.TemporaryDirectory() as room:
+            status, out, errors = run([self.g1heap, "trace", *costs, "--image", "1", str(pathlib.Path(room) / "image")], text)
+            if list(pathlib.Path(room).iterdir()):
+                return False
         if (status, out) != (3, []) or not errors.startswith(f"g1heap: -: line {at + 1}: expected "):
             return False
         status, out, again = run([self.g1heap, "trace", "--live", *costs], text)
@@ -101,8 +105,8 @@ class Tries:
 
 def main():
     parser = argparse.ArgumentParser(description=__doc__, formatter_class=argparse.RawDescriptionHelpFormatter)
-    parser.add_argument("g1pause", metavar="G1PAUSE", help="the program g1pause")
-    parser.add_argument("g1heap", metavar="G1HEAP", help="the program g1heap")
+    add_program(parser, "g1pause")
+    add_program(parser, "g1heap")
     parser.add_argument("--seed", type=int, default=1)
     parser.add_argument("--count", type=int, default=300, help="how many traces (default: 300)")
     options = parser.parse_args()

@@ -24,6 +24,7 @@ from concurrent.futures import ThreadPoolExecutor
 sys.path.insert(0, str(pathlib.Path(__file__).resolve().parent / "lib"))
 
 from image_text import FIRST, FREE, MAGIC, NEXT, ORDINARY, fault_of, header, in_version_two  # noqa: E402
+from programs import add_program  # noqa: E402
 
 
 # The images. An `Image` may be wrong in any way; `text` writes down what it holds.
@@ -323,7 +324,7 @@ def kind_of(wanted):
 
 def main():
     parser = argparse.ArgumentParser(description=__doc__, formatter_class=argparse.RawDescriptionHelpFormatter)
-    parser.add_argument("binary", metavar="BINARY", help="the built program, out/g1pause")
+    add_program(parser, "binary", "g1pause")
     parser.add_argument("count", nargs="?", type=int, default=50_000, metavar="COUNT")
     parser.add_argument("seed", nargs="?", type=int, default=1, metavar="SEED")
     options = parser.parse_args()

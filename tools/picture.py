@@ -25,6 +25,7 @@ import sys
 sys.path.insert(0, str(pathlib.Path(__file__).resolve().parent / "lib"))
 
 import objects  # noqa: E402 (it is in lib/)
+import programs  # noqa: E402
 import stepping  # noqa: E402
 
 PROGRAM = pathlib.Path(__file__).resolve().parent.parent / "out" / "g1pause"
@@ -461,7 +462,8 @@ def main():
         print(f"picture: {options.image}: {error}", file=sys.stderr)
         return 2
     except OSError as error:
-        print(f"picture: {error.filename or 'input or output'}: {error.strerror or error}", file=sys.stderr)
+        hint = f": {programs.BUILD}" if error.filename in (options.program, options.g1heap) else ""
+        print(f"picture: {error.filename or 'input or output'}: {error.strerror or error}{hint}", file=sys.stderr)
         return 2
     sys.stdout.write(text)
     return 0

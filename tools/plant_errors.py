@@ -17,6 +17,7 @@ sys.path.insert(0, str(pathlib.Path(__file__).resolve().parent / "lib"))
 
 from heap_image import FREE, NULL, ORDINARY, from_bytes  # noqa: E402
 from opponent import NoRoom, Opponent, refused  # noqa: E402
+from programs import add_program  # noqa: E402
 
 EXAMPLES = pathlib.Path(__file__).resolve().parent.parent / "examples"
 
@@ -167,16 +168,14 @@ MORE_ERRORS = ("card_lost", "region_not_freed", "pin_lost", "pin_new", "equal_ob
 
 def main():
     parser = argparse.ArgumentParser(description=__doc__, formatter_class=argparse.RawDescriptionHelpFormatter)
-    parser.add_argument("g1heap")
+    add_program(parser, "g1heap")
     parser.add_argument("--image", default=str(EXAMPLES / "shared_targets.img"))
     parser.add_argument("--set", type=int, nargs="+", default=[1], metavar="R")
     parser.add_argument("--seed", type=int, default=1, metavar="S")
     parser.add_argument("--all", action="store_true")
     options = parser.parse_args()
     rng = random.Random(options.seed)
-    path, program = pathlib.Path(options.image), pathlib.Path(options.g1heap).resolve()
-    if not program.is_file():
-        sys.exit(f"{options.g1heap} is not there")
+    path = pathlib.Path(options.image)
     before = from_bytes(path.read_bytes())
     for region in options.set:
         if refused(before, region):
@@ -193,7 +192,7 @@ def main():
             told = f"{error.replace('_', ' ')}: the image has no place for it"
             if image is not None:
                 (pathlib.Path(folder) / "after.img").write_bytes(image.to_bytes())
-                done = subprocess.run([str(program), "same", str(path.resolve()), "after.img", *asked], cwd=folder,
+                done = subprocess.run([options.g1heap, "same", str(path.resolve()), "after.img", *asked], cwd=folder,
                                       capture_output=True, text=True)
                 line = (done.stdout + done.stderr).strip().replace("\n", "\n    ")
                 told = f"{error.replace('_', ' ')}: status {done.returncode}\n    {line}"

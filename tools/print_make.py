@@ -25,6 +25,7 @@ sys.path.insert(0, str(pathlib.Path(__file__).resolve().parent / "lib"))
 
 from heap_image import CONTINUATION, FIRST, FREE, NULL, ORDINARY, drawn, from_bytes  # noqa: E402
 from image_text import in_version_two  # noqa: E402
+from programs import add_program, program  # noqa: E402
 
 EXAMPLES = pathlib.Path(__file__).resolve().parent.parent / "examples"
 
@@ -140,13 +141,12 @@ class Tries:
 
 def main():
     parser = argparse.ArgumentParser(description=__doc__, formatter_class=argparse.RawDescriptionHelpFormatter)
-    parser.add_argument("g1heap")
-    parser.add_argument("--g1pause")
+    add_program(parser, "g1heap")
+    parser.add_argument("--g1pause", type=program)
     parser.add_argument("--random", type=int, default=1000, metavar="N")
     parser.add_argument("--seed", type=int, default=1, metavar="S")
     parser.add_argument("images", nargs="*", metavar="IMAGE")
     options = parser.parse_intermixed_args()
-    options.g1heap = str(pathlib.Path(options.g1heap).resolve())
     rng = random.Random(options.seed)
     with tempfile.TemporaryDirectory() as folder:
         tries = Tries(options, pathlib.Path(folder))

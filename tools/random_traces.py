@@ -9,9 +9,14 @@ as failed.
 """
 import argparse
 import collections
+import pathlib
 import random
 import subprocess
 import sys
+
+sys.path.insert(0, str(pathlib.Path(__file__).resolve().parent / "lib"))
+
+from programs import add_program  # noqa: E402
 
 EVERYTHING = 2**64 - 1
 
@@ -219,7 +224,7 @@ WANTED = ["new", "get", "put", "set", "say", "same", "copy", "drop", "pause", "o
 
 def main():
     parser = argparse.ArgumentParser(description=__doc__, formatter_class=argparse.RawDescriptionHelpFormatter)
-    parser.add_argument("program", metavar="PROGRAM")
+    add_program(parser, "program", "g1pause")
     parser.add_argument("--seed", type=int, default=1, metavar="N")
     parser.add_argument("--count", type=int, default=2000, metavar="N")
     options = parser.parse_args()

@@ -20,6 +20,7 @@ sys.path.insert(0, str(pathlib.Path(__file__).resolve().parent / "lib"))
 import heap_image  # noqa: E402
 from heap_image import CONTINUATION, FIRST, FREE, NULL, ORDINARY, Image  # noqa: E402
 from image_text import fault_of  # noqa: E402
+from programs import add_program  # noqa: E402
 from refusing import Judge, run  # noqa: E402
 
 WORKERS = ("2", "3", "4", "7", "64")
@@ -153,12 +154,12 @@ class Ranges(Judge):
 
 def main():
     parser = argparse.ArgumentParser(description=__doc__, formatter_class=argparse.RawDescriptionHelpFormatter)
-    parser.add_argument("binary", metavar="BINARY", help="the built program, out/g1pause")
+    add_program(parser, "binary", "g1pause")
     parser.add_argument("--count", type=int, default=2000, metavar="N", help="how many images (default 2000)")
     parser.add_argument("--seed", type=int, default=1, metavar="N", help="of the images (default 1)")
     parser.add_argument("--first", action="store_true", help="end at the first failure")
     options = parser.parse_args()
-    ranges = Ranges(str(pathlib.Path(options.binary).resolve()))
+    ranges = Ranges(options.binary)
     for number in range(options.count):
         ranges.image(random.Random(f"{options.seed} {number}"), number)
     return ranges.end()

@@ -22,6 +22,7 @@ import time
 sys.path.insert(0, str(pathlib.Path(__file__).resolve().parent / "lib"))
 
 from images import ONE_OBJECT, ONE_OBJECT_AFTER, SHARED, SHARED_AFTER  # noqa: E402
+from programs import add_program, program  # noqa: E402
 from refusing import Judge, compiled  # noqa: E402
 
 INPUT = (b"", b"g1pause: fault 14: input\n", 6)
@@ -296,16 +297,16 @@ def no_threads():
 
 def main():
     parser = argparse.ArgumentParser(description=__doc__, formatter_class=argparse.RawDescriptionHelpFormatter)
-    parser.add_argument("binary", metavar="BINARY", help="the built program, out/g1pause")
-    parser.add_argument("--heap", metavar="HEAP", help="the built g1heap, out/g1heap")
+    add_program(parser, "binary", "g1pause")
+    parser.add_argument("--heap", metavar="HEAP", type=program, help="the built program g1heap")
     options = parser.parse_args()
-    machine = Machine(str(pathlib.Path(options.binary).resolve()))
+    machine = Machine(options.binary)
     machine.streams()
     for ignored in (False, True):
         machine.broken_pipe(ignored)
     machine.file_size()
     machine.memory()
-    machine.short_images(options.heap and str(pathlib.Path(options.heap).resolve()))
+    machine.short_images(options.heap)
     machine.threads()
     machine.signals()
     with tempfile.TemporaryDirectory() as room:

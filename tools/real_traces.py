@@ -15,6 +15,7 @@ import sys
 
 sys.path.insert(0, str(pathlib.Path(__file__).resolve().parent / "lib"))
 
+from programs import add_program  # noqa: E402
 import traced  # noqa: E402
 
 PROGRAMS = ["lru_cache", "binary_trees", "json_lists", "scheme"]
@@ -71,14 +72,12 @@ def judged(g1pause, name, seed, folder):
 
 def main():
     parser = argparse.ArgumentParser(description=__doc__, formatter_class=argparse.RawDescriptionHelpFormatter)
-    parser.add_argument("g1pause", metavar="G1PAUSE")
+    add_program(parser, "g1pause")
     parser.add_argument("--seed", type=int, default=1, metavar="N")
     parser.add_argument("--runs", type=int, default=3, metavar="N")
     parser.add_argument("--only", choices=PROGRAMS, metavar="NAME")
     parser.add_argument("--write", metavar="FOLDER")
     options = parser.parse_args()
-    if not os.access(options.g1pause, os.X_OK):
-        sys.exit(f"real_traces.py: no program {options.g1pause}")
     sys.setrecursionlimit(100000)
     names = [options.only] if options.only else PROGRAMS
     answers = [judged(options.g1pause, name, seed, options.write)

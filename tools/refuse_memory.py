@@ -24,6 +24,7 @@ from images import (DIRTY, GAP, GAP_AFTER, HELD, HELD_AFTER, HUMONGOUS, HUMONGOU
                     ONE_OBJECT_AFTER, OUTSIDE_SLOT, OUTSIDE_SLOT_AFTER, OWN_SLOT, OWN_SLOT_AFTER, SHARED, SHARED_AFTER,
                     SHARED_BUT_CARD_0, SHARED_BUT_CARD_1, SHARED_WITHOUT_CARDS, THREE, THREE_AFTER, UNCOVERED,
                     UNNAMED_OWNER, UNNAMED_OWNER_AFTER)
+from programs import add_program  # noqa: E402
 from refusing import Judge, Refusing, run  # noqa: E402
 
 MEMORY = (b"", b"g1pause: fault 13: memory\n", 6)
@@ -114,11 +115,11 @@ def is_usage(answer):
 
 def main():
     parser = argparse.ArgumentParser(description=__doc__, formatter_class=argparse.RawDescriptionHelpFormatter)
-    parser.add_argument("binary", metavar="BINARY", help="the built program, out/g1pause")
+    add_program(parser, "binary", "g1pause")
     parser.add_argument("--first", action="store_true", help="end at the first failure")
     options = parser.parse_args()
     with tempfile.TemporaryDirectory() as room:
-        sweep = Sweep(str(pathlib.Path(options.binary).resolve()), pathlib.Path(room))
+        sweep = Sweep(options.binary, pathlib.Path(room))
         sweep.all()
         return sweep.end()
 

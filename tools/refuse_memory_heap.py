@@ -1,11 +1,15 @@
 #!/usr/bin/env python3
 """refuse_memory_heap.py G1HEAP [IMAGE ..]
 
-Runs the commands of g1heap on each image (default: examples/*.img) while requests for memory are refused, as
-tools/refuse_memory.py does for g1pause: every request from the Nth on, and the Nth alone. Each run has to answer
-what the program answers with ample memory, or `fault 13: memory`, of a file or of none, with status 6 and nothing
-on standard output; and each command has to meet a refusal, and to tell Memory for one. So does a command whose file
-the machine has no memory to open. The last line is 'N passed, M failed'.
+Runs the commands of g1heap on each image (default: examples/*.img), and `trace` on small traces, while requests for
+memory are refused, as tools/refuse_memory.py does for g1pause: every request from the Nth on, and the Nth alone. Each
+run has to answer what the program answers with ample memory, or `fault 13: memory`, of a file or of none, with status 6
+and nothing on standard output; and each command has to meet a refusal, and to report Memory for one. So does a command
+whose file the machine has no memory to open. A file that is asked for is what it is with ample memory, or not there,
+and nothing else is in its folder; it is not there if Memory was reported, except by `trace --live`. What that has on
+standard output then are whole replies, the first of those with ample memory.
+
+The last line is 'N passed, M failed'.
 """
 import argparse
 import os
@@ -16,6 +20,7 @@ import tempfile
 
 sys.path.insert(0, str(pathlib.Path(__file__).resolve().parent / "lib"))
 
+from programs import add_program  # noqa: E402
 from refusing import Judge, Refusing, compiled, run  # noqa: E402
 
 # The system has no memory to open a file.
@@ -29,11 +34,26 @@ int open(const char *path, int flags, ...) {
 }
 """
 MEMORY = re.compile(rb"g1heap: (.*: )?fault 13: memory\n")
+# Replies, and with --explain the replies of --numbered, which no line of an explanation looks like.
+REPLIES = {False: re.compile(rb"((ok|null|range|full|room|\d+)\n)*"), True: re.compile(rb"(([a-z].*\n)*\d+ \w+\n)*")}
+TRACES = {
+    "all commands": b"# sizes\nheap 16 4 4 3\n\nnew 0 1 1\nset 0 0 7\nnew 1 1 9\nput 1 0 0\nget 2 1 0\nsay 2 0\nsame 0 2\n"
+                    b"copy 2 1\ndrop 0\npause 1000\nget 0 1 0\nsay 0 0\nsay 0 9\nnew 0 0 39\n",
+    "humongous": b"heap 16 4 6 2\nnew 0 20 19\nnew 1 0 1\nput 0 16 1\ndrop 1\npause 1000\ndrop 0\npause 1000\nget 1 0 0\n",
+    "no room": b"heap 16 4 2 2\nnew 0 0 8\nnew 1 0 4\nnew 1 0 11\npause 1000\nsay 1 0\n",
+    "a bad line": b"heap 16 4 4 1\nnew 0 0 1\nnew 0 0\n",
+    "an image": b"G1IMAGE2" + bytes(72),
+    "nothing": b"",
+}
 
 
 def is_memory(answer):
     out, errors, status = answer
-    return out == b"" and status == 6 and MEMORY.fullmatch(errors) is not None
+    return out == b"" and is_reported(errors, status)
+
+
+def is_reported(errors, status):
+    return status == 6 and MEMORY.fullmatch(errors) is not None
 
 
 class Sweep(Judge):
@@ -48,12 +68,50 @@ class Sweep(Judge):
             # With no refusal only the ample answer will do.
             self.judge(f"{name}, {what}: {answer}", answer == ample or (met and is_memory(answer)))
             some, memory = some or met, memory or is_memory(answer)
-        self.judge(f"{name}: requests were refused, and it was told", some and memory)
+        self.judge(f"{name}: requests were refused, and it was reported", some and memory)
+
+    def sweep_file(self, name, command, data, folder):
+        """The same of a command that writes a file into the folder, which is empty, or one that is live."""
+        ample = run(command, data)
+        files = taken(folder)
+        live, replies = "--live" in command, REPLIES["--explain" in command]
+        some = memory = False
+        for what, answer, met in self.refusing.sweep(command, data):
+            (out, errors, status), there = answer, taken(folder)
+            begun = live and ample[0].startswith(out) and replies.fullmatch(out) is not None
+            refused = met and is_reported(errors, status) and (begun or (out, there) == (b"", {})) and there in (files, {})
+            self.judge(f"{name}, {what}: {answer}, {sorted(there)}", (answer, there) == (ample, files) or refused)
+            some, memory = some or met, memory or refused
+        self.judge(f"{name}: requests were refused, and it was reported", some and memory)
+
+
+def taken(folder):
+    """The files of a folder, which are then no longer there."""
+    found = {path.name: path.read_bytes() for path in folder.iterdir()}
+    for name in found:
+        (folder / name).unlink()
+    return found
+
+
+def sweep_files(sweep, folder, binary, image, lines):
+    """Commands whose answer goes to a file."""
+    target = str(folder / "answer")
+    for words, data in ((["print"], image), (["make"], lines), (["explain", "--set", "1"], image)):
+        sweep.sweep_file(f"{' '.join(words)} to a file", [binary, *words, "-o", target], data, folder)
+
+
+def sweep_traces(sweep, folder, binary):
+    for name, trace in TRACES.items():
+        source = folder.parent / "trace"
+        source.write_bytes(trace)
+        for words in (["-"], [str(source)], ["--numbered"], ["--explain", "--fixed", "3"], ["--image", "2", str(folder / "image")],
+                      ["--live"], ["--live", "--numbered", "--explain", "--image", "1", str(folder / "image")]):
+            sweep.sweep_file(f"trace of {name}: {' '.join(words)}", [binary, "trace", *words], trace, folder)
 
 
 def unopened(judge, folder, binary, path):
     environment = dict(os.environ, LD_PRELOAD=str(compiled(folder, "unopened.so", UNOPENED, "-shared", "-fPIC")))
-    for words in (["print", path], ["make", path], ["same", path, path], ["explain", path], ["why", path, "16"]):
+    for words in (["print", path], ["make", path], ["same", path, path], ["explain", path], ["why", path, "16"], ["trace", path]):
         answer = run([binary, *words], b"", environment)
         judge.judge(f"no memory to open a file, {words[0]}: {answer}", is_memory(answer))
 
@@ -66,15 +124,20 @@ def shortened(lines):
 
 def main():
     parser = argparse.ArgumentParser(description=__doc__, formatter_class=argparse.RawDescriptionHelpFormatter)
-    parser.add_argument("binary", metavar="G1HEAP", help="the built program, out/g1heap")
+    add_program(parser, "g1heap")
     parser.add_argument("images", metavar="IMAGE", nargs="*", type=pathlib.Path, default=[])
     parser.add_argument("--first", action="store_true", help="end at the first failure")
     options = parser.parse_args()
-    binary = str(pathlib.Path(options.binary).resolve())
+    binary = options.g1heap
     examples = pathlib.Path(__file__).resolve().parent.parent / "examples"
     with tempfile.TemporaryDirectory() as room:
         sweep = Sweep(pathlib.Path(room))
         unopened(sweep, pathlib.Path(room), binary, str(examples / "one_object.img"))
+        folder = pathlib.Path(room) / "answers"
+        folder.mkdir()
+        gap = (examples / "gap.img").read_bytes()
+        sweep_files(sweep, folder, binary, gap, run([binary, "print"], gap)[0])
+        sweep_traces(sweep, folder, binary)
         for image in options.images or sorted(examples.glob("*.img")):
             data, path = image.read_bytes(), str(image.resolve())
             lines = run([binary, "print", "-"], data)[0]

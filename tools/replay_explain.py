@@ -28,6 +28,7 @@ sys.path.insert(0, str(pathlib.Path(__file__).resolve().parent / "lib"))
 from covered import draw_choice, draw_image  # noqa: E402
 from heap_image import CONTINUATION, FIRST, FREE, NULL, ORDINARY, from_bytes  # noqa: E402
 from image_text import in_version_two  # noqa: E402
+from programs import add_program  # noqa: E402
 
 EXAMPLES = pathlib.Path(__file__).resolve().parent.parent / "examples"
 N, LIST = r"(\d+)", r"(-|\d+(?: \d+)*)"
@@ -332,13 +333,12 @@ class Tries:
 
 def main():
     parser = argparse.ArgumentParser(description=__doc__, formatter_class=argparse.RawDescriptionHelpFormatter)
-    parser.add_argument("g1heap")
-    parser.add_argument("g1pause")
+    add_program(parser, "g1heap")
+    add_program(parser, "g1pause")
     parser.add_argument("--random", type=int, default=2000, metavar="N")
     parser.add_argument("--seed", type=int, default=1, metavar="S")
     parser.add_argument("images", nargs="*", metavar="IMAGE")
     options = parser.parse_intermixed_args()
-    options.g1heap, options.g1pause = (str(pathlib.Path(x).resolve()) for x in (options.g1heap, options.g1pause))
     rng = random.Random(options.seed)
     with tempfile.TemporaryDirectory() as folder:
         tries = Tries(options, pathlib.Path(folder))

@@ -23,6 +23,7 @@ import sys
 sys.path.insert(0, str(pathlib.Path(__file__).resolve().parent / "lib"))
 
 from image_text import FIRST, ORDINARY, fault_of, free_regions, graph, named_humongous, read  # noqa: E402
+from programs import add_program  # noqa: E402
 from refusing import Judge, run  # noqa: E402
 
 BUDGETS = ["0", "1000", "1000000", "18446744073709551615"]
@@ -98,11 +99,11 @@ class Tries(Judge):
 
 def main():
     parser = argparse.ArgumentParser(description=__doc__, formatter_class=argparse.RawDescriptionHelpFormatter)
-    parser.add_argument("binary", metavar="BINARY", help="the built program, out/g1pause")
+    add_program(parser, "binary", "g1pause")
     parser.add_argument("images", metavar="IMAGE", nargs="*", type=pathlib.Path, default=[])
     parser.add_argument("--first", action="store_true", help="end at the first failure")
     options = parser.parse_args()
-    binary = str(pathlib.Path(options.binary).resolve())
+    binary = options.binary
     examples = pathlib.Path(__file__).resolve().parent.parent / "examples"
     images = options.images or sorted(examples.glob("*.img"))
     tries = Tries(binary)

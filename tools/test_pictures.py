@@ -19,6 +19,7 @@ TOP = pathlib.Path(__file__).resolve().parent.parent
 sys.path.insert(0, str(TOP / "tools/lib"))
 
 import browser  # noqa: E402 (it is in lib/)
+from programs import add_program  # noqa: E402
 
 # An example and its set; the last one is refused.
 PAUSES = (("shared_targets.img", "1"), ("gap.img", "0"), ("humongous_chain.img", None), ("dirty_card.img", "1"), ("no_room.img", "0"))
@@ -123,10 +124,12 @@ def check_pause(options, page, name, chosen):
 
 def main():
     parser = argparse.ArgumentParser(description=__doc__, formatter_class=argparse.RawDescriptionHelpFormatter)
-    parser.add_argument("g1pause", metavar="G1PAUSE", help="the program g1pause")
-    parser.add_argument("g1heap", metavar="G1HEAP", help="the program g1heap")
+    add_program(parser, "g1pause")
+    add_program(parser, "g1heap")
     parser.add_argument("--pictures", metavar="FOLDER", type=pathlib.Path, help="also writes PNG files there")
     options = parser.parse_args()
+    if options.pictures:
+        options.pictures.mkdir(parents=True, exist_ok=True)
     program = browser.find()
     if program is None:
         print("test_pictures: there is no Chromium on the path: install Debian's package chromium", file=sys.stderr)

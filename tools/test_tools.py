@@ -631,6 +631,24 @@ class Scripts(unittest.TestCase):
                 self.assertIn(path.name, errors)
                 self.assertNotIn("Traceback", errors)
 
+    def test_a_program_that_is_not_built_comes_with_what_builds_it(self):
+        (self.folder / "text").write_text("no program")
+        for path in self.scripts:
+            wanted = len(re.findall(r"^    add_program\(", path.read_text(encoding="utf-8"), re.M))
+            for words in (), ("nowhere",) * wanted, ("text",) * wanted:
+                if wanted:
+                    with self.subTest(f"{path.name} {' '.join(words)}"):
+                        status, out, errors = self.run_script(path, *words)
+                        self.assertEqual((status, out), (2, ""))
+                        self.assertIn("tools/build.py --unproved builds", errors)
+
+    def test_a_picture_without_programs_says_what_builds_them(self):
+        for words in [], ["--objects"], ["--steps"]:
+            with self.subTest(words):
+                status, out, errors = self.run_script(self.folder / "tools/picture.py", *words, "/dev/null")
+                self.assertEqual((status, out), (2, ""))
+                self.assertIn("tools/build.py --unproved builds", errors)
+
 
 if __name__ == "__main__":
     unittest.main()

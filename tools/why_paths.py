@@ -19,6 +19,7 @@ sys.path.insert(0, str(pathlib.Path(__file__).resolve().parent / "lib"))
 from covered import draw_image  # noqa: E402
 from heap_image import FIRST, FREE, NULL, from_bytes  # noqa: E402
 from image_text import in_version_two  # noqa: E402
+from programs import add_program  # noqa: E402
 
 EXAMPLES = pathlib.Path(__file__).resolve().parent.parent / "examples"
 
@@ -150,7 +151,7 @@ def all_objects(heap):
 
 def main():
     parser = argparse.ArgumentParser(description=__doc__, formatter_class=argparse.RawDescriptionHelpFormatter)
-    parser.add_argument("g1heap")
+    add_program(parser, "g1heap")
     parser.add_argument("--random", type=int, default=2000, metavar="N")
     parser.add_argument("--seed", type=int, default=1, metavar="S")
     parser.add_argument("images", nargs="*", metavar="IMAGE")
@@ -162,7 +163,7 @@ def main():
         words = heap.image.region_words * heap.image.regions
         return rng.sample(objects, min(4, len(objects))) + [rng.randrange(words + 4)]
 
-    tries = Tries(str(pathlib.Path(options.g1heap).resolve()))
+    tries = Tries(options.g1heap)
     for path in [pathlib.Path(x) for x in options.images] or sorted(EXAMPLES.glob("*.img")):
         tries.image(path.name, in_version_two(path.read_bytes()), all_objects)
     for number in range(options.random):

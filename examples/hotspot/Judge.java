@@ -14,7 +14,7 @@ import java.util.Random;
  * Builds a heap of about N objects under the static field Judge.root, and dumps it for a judge of the collector.
  *
  * Judge N STEPS OUT full|young|mixed|none: dumps to OUT_before.hprof, lets the collector run, dumps to OUT_after.hprof.
- * Judge N STEPS OUT work: changes the graph in so many steps while the collector runs, and dumps to OUT.hprof. What it
+ * Judge N STEPS OUT work: changes the graph in STEPS steps while the collector runs, and dumps to OUT.hprof. What it
  * does is the same in each run, so that two collectors can be compared.
  */
 public class Judge {

@@ -1,15 +1,15 @@
 #!/usr/bin/env python3
 """Compares a program under two collectors: across.py [--objects N] [--steps N] [--without CLASS.FIELD ..] JAVA ..
 
-Judge.java changes its graph in so many steps, while it allocates and the collector works, and dumps its heap at the end.
-What it does is the same in each run, so its heap at the end has to be the same under each collector. For each JAVA it
-runs once under Serial, and then under each collector that this java has, Serial again among them, and compares each
-heap with the first one: by `g1heap same`, and by a second judge in plain Python. This sees what two dumps around a
-pause can't: a barrier that loses a reference, or a slot that is updated while the program uses it.
+Judge.java changes its graph in N steps while it allocates and the collector works, and dumps its heap at the end. It
+does the same in each run, so its last heap has to be the same under each collector. For each JAVA it runs once under
+Serial, and then under each collector that this java has, Serial again among them. The script compares each heap with
+the first one, by `g1heap same` and by a second judge in plain Python. This finds errors that two dumps around a pause
+can't show: a barrier that loses a reference, or a slot that is updated while the program uses it.
 
-What differs from run to run by the program's own doing has to be left out: --without java.lang.String.hash, since
-somebody else may ask a shared text for its hash, and tables that are ordered by identity hashes. For Judge.java both are
-left out if no --without is given. The last line is 'N passed, M failed'.
+A field that differs from run to run without an error has to be left out. One is java.lang.String.hash, since other code
+of the JVM may ask a shared string for its hash. Others are tables that are ordered by identity hashes. If no --without is
+given, both are left out for Judge.java. The last line is 'N passed, M failed'.
 Statuses: 0 all passed; 1 a run failed; 2 usage, or a program is not there.
 """
 import argparse
@@ -69,8 +69,8 @@ def work(options):
 def main():
     parser = argparse.ArgumentParser(description=__doc__, formatter_class=argparse.RawDescriptionHelpFormatter)
     parser.add_argument("java", nargs="+", metavar="JAVA", help="a java: a command or a path")
-    parser.add_argument("--objects", type=int, default=100_000, metavar="N", help="about so many objects (100000)")
-    parser.add_argument("--steps", type=int, default=300_000, metavar="N", help="so many steps (300000)")
+    parser.add_argument("--objects", type=int, default=100_000, metavar="N", help="about how many objects (default: 100000)")
+    parser.add_argument("--steps", type=int, default=300_000, metavar="N", help="how many steps (default: 300000)")
     parser.add_argument("--without", action="append", metavar="CLASS.FIELD", help="a field that is left out")
     options = parser.parse_args()
     return jvm.ended("across", lambda: work(options))

@@ -1,13 +1,14 @@
 #!/usr/bin/env python3
 """Judges the collectors of Java virtual machines: judge.py [--objects N] [--collections NAME ..] [--only NAME] JAVA ..
 
-For each JAVA, a command as `java` or a path, and each collector that it has, it runs Judge.java three times, with a full
-collection, with young ones, and with six rounds of both. Each run dumps its heap before and after. Both dumps become
-images of what hangs from Judge.root, and `g1heap same` compares them. A second judge in plain Python, which shares
-nothing with these, compares the dumps themselves, and counts the objects that have moved. It prints a line for each run.
+JAVA is a command, such as `java`, or a path. For each JAVA and each collector that it has, the script runs Judge.java
+three times: with a full collection, with young ones, and with six rounds of both. Each run dumps its heap before and
+after. Both dumps become images of what Judge.root leads to, and `g1heap same` compares them. A second judge in plain
+Python, which shares nothing with these, compares the dumps themselves, and counts the objects that have moved. The
+script prints a line for each run.
 
-A run fails if either judge finds a difference, if their numbers of objects or words are not the same, or if the
-collector has not run between the dumps. The last line is 'N passed, M failed'.
+A run fails if one of the judges finds a difference, if their numbers of objects or words differ, or if the collector
+did not run between the dumps. The last line is 'N passed, M failed'.
 Statuses: 0 all passed; 1 a run failed; 2 usage, or a program is not there.
 """
 import argparse
@@ -74,7 +75,7 @@ def work(options):
 def main():
     parser = argparse.ArgumentParser(description=__doc__, formatter_class=argparse.RawDescriptionHelpFormatter)
     parser.add_argument("java", nargs="+", metavar="JAVA", help="a java: a command or a path")
-    parser.add_argument("--objects", type=int, default=200_000, metavar="N", help="about so many objects (200000)")
+    parser.add_argument("--objects", type=int, default=200_000, metavar="N", help="about how many objects (default: 200000)")
     parser.add_argument("--collections", nargs="+", default=HOW, choices=HOW, metavar="NAME", help="full, young, mixed")
     parser.add_argument("--only", choices=jvm.COLLECTORS, metavar="NAME", help="this collector alone")
     options = parser.parse_args()

@@ -1,4 +1,4 @@
-"""What judge.py, across.py and plants.py share: the collectors of a java, a run of Judge, and the verdict on two dumps."""
+"""What judge.py, across.py and plants.py share: the collectors of a java, a run of Judge, the verdict on two dumps."""
 import os
 import pathlib
 import re

@@ -1,9 +1,9 @@
 #!/usr/bin/env python3
 """Sets pauses of HotSpot's G1 beside ours: pause.py [--programs FOLDER] [--objects N] [--only NAME] JAVA
 
-For a young pause, a mixed one, and a young one after large arrays have died, PausePoint.java has G1 make one pause
-between two dumps of its heap. The first dump becomes an image in which each object has its own size and lies in its own
-region at its own address. g1pause then evacuates the collection set that G1 chose. G1's figures are those of its log.
+PausePoint.java makes G1 pause once between two dumps of its heap: for a young pause, for a mixed one, and for a young
+one after large arrays have died. The first dump becomes an image in which each object has its own size, region and
+address. g1pause then evacuates the collection set that G1 chose. G1's figures come from its log.
 
 G1's least region has 131,072 words, and an image's largest has 65,536. So the script copies this repository, raises
 that one constant in the copy, and builds g1pause there without any proof, which takes some minutes. --programs FOLDER
@@ -328,7 +328,7 @@ def main():
     parser = argparse.ArgumentParser(description=__doc__, formatter_class=argparse.RawDescriptionHelpFormatter)
     parser.add_argument("java", metavar="JAVA", help="a java of JDK 25: a command or a path")
     parser.add_argument("--programs", metavar="FOLDER", help="where the copy with the raised limit is, or is made")
-    parser.add_argument("--objects", type=int, default=200_000, metavar="N", help="about so many objects (200000)")
+    parser.add_argument("--objects", type=int, default=200_000, metavar="N", help="about how many objects (default: 200000)")
     parser.add_argument("--only", choices=HOW, metavar="NAME", help="this pause alone")
     options = parser.parse_args()
     return jvm.ended("pause", lambda: work(options))

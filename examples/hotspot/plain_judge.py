@@ -1,13 +1,13 @@
 #!/usr/bin/env python3
-"""A second judge of two heap dumps, as plain as can be: plain_judge.py BEFORE AFTER CLASS.FIELD [--without CLASS.FIELD]
+"""A second and plain judge of two heap dumps: plain_judge.py BEFORE AFTER CLASS.FIELD [--without CLASS.FIELD]
 
-It shares nothing with the converter and with g1heap. It reads both dumps, walks side by side what hangs from the static
-field, and prints
+It shares nothing with the converter and g1heap. It reads both dumps and walks both graphs side by side from the static
+field. It prints
 
   same objects O words W, M of them at another address
 
-where words are counted as an image counts them, or the first difference that it meets, with its path. Classes are known
-by their names; the walk ends at them; weak references are not followed.
+or the first difference that it meets, with its path. Words are counted as in an image. Classes are compared by name, and
+the walk ends at them. Weak references are not followed.
 Statuses: 0 same; 1 they differ; 2 usage; 3 no such dump.
 """
 import struct

@@ -1,8 +1,8 @@
 #!/usr/bin/env python3
-"""Plants errors as broken collectors leave them, and asks whether they are reported: plants.py [--live] [--seeds N] JAVA ..
+"""Plants errors that a broken collector could leave, and checks that each is reported: plants.py [--live] [--seeds N] JAVA ..
 
-For each JAVA it runs Judge.java under Serial with a full collection, plants one error at a time in the second dump,
-where Judge.root reaches it, and lets the converter and `g1heap same` compare it with the first dump:
+For each JAVA it runs Judge.java under Serial with a full collection. In the second dump it plants one error at a time,
+in what Judge.root leads to. Then the converter and `g1heap same` compare this dump with the first one:
 
   null, wrong, swapped   a slot is null, or references another object of its type, or two slots of one object are swapped
   twice                  a slot references a second copy of its object
@@ -11,11 +11,11 @@ where Judge.root reaches it, and lets the converter and `g1heap same` compare it
   lost                   an object is not there
   root                   the static field itself references another object
 
-With --live the error is in the heap of a running JVM instead: after a full collection LiveBug.java writes it there, for
-each JAVA under Serial and Parallel: a stale, a wrong and a null slot, and torn data.
+With --live the error is in the heap of a running JVM instead. After a full collection LiveBug.java writes it there: a
+stale, a wrong or a null slot, or torn data. This is tried for each JAVA under Serial and Parallel.
 
-A report is right if its path leads to the planted slot or object. (A second copy may be reported where another slot
-references the first one. If two slots reference one object after and two objects before, `joined` is reported at the
+A report is right if its path leads to the planted slot or object. (A second copy may be reported at another slot that
+references the first one. If two slots reference one object after, and two objects before, `joined` is reported at the
 slot with the longer path, which need not be the planted one.) The last line is 'N passed, M failed'.
 Statuses: 0 all passed; 1 an error was not reported, or with a wrong path; 2 usage, or a program is not there.
 """
@@ -253,8 +253,8 @@ def main():
     parser = argparse.ArgumentParser(description=__doc__, formatter_class=argparse.RawDescriptionHelpFormatter)
     parser.add_argument("java", nargs="+", metavar="JAVA", help="a java: a command or a path")
     parser.add_argument("--live", action="store_true", help="in the heap of a running JVM")
-    parser.add_argument("--objects", type=int, default=20_000, metavar="N", help="about so many objects (20000)")
-    parser.add_argument("--seeds", type=int, default=2, metavar="N", help="so many places for each kind (2)")
+    parser.add_argument("--objects", type=int, default=20_000, metavar="N", help="about how many objects (default: 20000)")
+    parser.add_argument("--seeds", type=int, default=2, metavar="N", help="how many places for each kind (default: 2)")
     options = parser.parse_args()
     return jvm.ended("plants", lambda: work(options))
 

@@ -1,6 +1,7 @@
 //! Cards: what the dirty ones add, and which slots lead into a set.
 ghost use Rattle.g1_rem.specs.Starts.{IsStartsOf};
 
+use crate::form::Form;
 use g1_image::Image;
 use g1_rem::{Starts, slots_on};
 use g1_words::{Heap, Marks, region_of};
@@ -62,7 +63,8 @@ fn push_dirty_card(text: &mut String, card: u32, gained: &[(u32, u32)]) -> Resul
     write!(text, "dirty {card} adds")?;
     let first = gained.partition_point(|pair| pair.0 < card);
     let mut some = false;
-    for (_, region) in gained.iter().skip(first).take_while(|pair| pair.0 == card) {
+    let after = gained.get(first..).unwrap_or(&[]);
+    for (_, region) in after.iter().take_while(|pair| pair.0 == card) {
         write!(text, " {region}")?;
         some = true;
     }
@@ -120,10 +122,11 @@ pub(crate) fn word_at(heap: &Heap, address: u64) -> u64 {
     heap.words().get(address as usize).copied().unwrap_or(0)
 }
 
-/// Adds a line for the set, and one for each card: its slots that lead into the set.
+/// Adds a line for the set, and one for each card: its slots that lead into the set. A map has none.
 pub(crate) fn push_cards(
     alloc: Global,
     text: &mut String,
+    form: Form,
     heap: &Heap,
     starts: &Starts,
     set: &[u32],
@@ -131,6 +134,9 @@ pub(crate) fn push_cards(
 ) -> Result<(), AllocError>
     requires { IsStartsOf heap.now starts.now }
 {
+    if form == Form::Map {
+        return Ok(());
+    }
     text.push_str("set")?;
     push_numbers(text, set)?;
     let marks = mark_regions(alloc, heap, set)?;

@@ -1,6 +1,7 @@
 //! The lines of a pause.
 use crate::checking::{check_answer, check_refusal};
 use crate::failure::Failure;
+use crate::form::Form;
 use crate::places::push_map;
 use crate::steps::{Steps, push_room, take_steps};
 use g1_image::Image;
@@ -10,15 +11,6 @@ use g1_text::push_heading;
 use g1_words::Fault;
 use std::alloc::{AllocError, Global};
 use std::thread::Threads;
-
-/// Which lines are wanted.
-#[derive(Debug, Clone, Copy, PartialEq, Eq)]
-pub enum Form {
-    /// A line for each fact.
-    Steps,
-    /// A line for each survivor: its address before, its address after, and its words.
-    Map,
-}
 
 /// The lines of a pause, and the fault for which it is refused, if it is.
 #[derive(Debug, Drop)]
@@ -58,7 +50,7 @@ fn explain_tracked<R: Threads + Sync>(
 ) -> Result<Explanation, Failure> {
     let mut text = text;
     text.push_str("covered\n")?;
-    match take_steps(rt, alloc, &mut text, &tracked, settings) {
+    match take_steps(rt, alloc, &mut text, form, &tracked, settings) {
         Ok(steps) => {
             check_answer(rt, alloc, tracked, settings, &steps)?;
             Ok(answer(text, &steps, form)?)

@@ -36,9 +36,10 @@ pub fn why<R: Threads + Sync>(
     image: Image,
     at: u64,
 ) -> Result<String, Failure> {
-    match explain_live(rt, alloc, image.heap(), at)? {
+    let starts = Starts::build(alloc, image.heap())?;
+    match explain_live(rt, alloc, image.heap(), &starts, at)? {
         Some(text) => Ok(text),
-        None => explain_dead(rt, alloc, image, at),
+        None => explain_dead(rt, alloc, image, &starts, at),
     }
 }
 
@@ -47,12 +48,14 @@ fn explain_live<R: Threads + Sync>(
     rt: &R,
     alloc: Global,
     heap: &Heap,
+    starts: &Starts,
     at: u64,
-) -> Result<Option<String>, Failure> {
-    let starts = Starts::build(alloc, heap)?;
+) -> Result<Option<String>, Failure>
+    requires { IsStartsOf heap.now starts.now }
+{
     let team = Team::new(WORKERS, CHUNK);
-    let live = live_objects(rt, alloc, heap, &starts, team, &Open)?;
-    match path_to(alloc, heap, &starts, &[], &live, at)? {
+    let live = live_objects(rt, alloc, heap, starts, team, &Open)?;
+    match path_to(alloc, heap, starts, &[], &live, at)? {
         Some(path) => Ok(Some(live_lines(alloc, heap, &live, at, &path)?)),
         None => Ok(None),
     }
@@ -157,10 +160,13 @@ fn explain_dead<R: Threads + Sync>(
     rt: &R,
     alloc: Global,
     image: Image,
+    starts: &Starts,
     at: u64,
-) -> Result<String, Failure> {
+) -> Result<String, Failure>
+    requires { IsStartsOf image.now.heap starts.now }
+{
     match verify(rt, alloc, image) {
-        Ok(tracked) => explain_tracked(rt, alloc, &tracked, at),
+        Ok(tracked) => explain_tracked(rt, alloc, &tracked, starts, at),
         Err((_, fault)) => Err(Failure::Fault(fault)),
     }
 }
@@ -169,22 +175,24 @@ fn explain_tracked<R: Threads + Sync>(
     rt: &R,
     alloc: Global,
     tracked: &Tracked,
+    starts: &Starts,
     at: u64,
-) -> Result<String, Failure> {
+) -> Result<String, Failure>
+    requires { IsStartsOf tracked.now.heap starts.now }
+{
     let image = image(tracked);
     let heap = image.heap();
-    let starts = Starts::build(alloc, heap)?;
-    let refined = refine_by(rt, alloc, tracked, &starts, WORKERS)?;
+    let refined = refine_by(rt, alloc, tracked, starts, WORKERS)?;
     let number = region_of(&heap.geometry(), at);
     if number >= heap.geometry().regions() {
         return Err(Failure::Contradiction);
     }
     let region = number as u32;
     if heap.region(region).kind.is_humongous_first() {
-        return explain_humongous(alloc, image, &starts, region, &refined, at);
+        return explain_humongous(alloc, image, starts, region, &refined, at);
     }
-    let found = survivors_in(rt, alloc, tracked, &starts, &refined, region)?;
-    explain_ordinary(alloc, image, &starts, region, &refined, &found, at)
+    let found = survivors_in(rt, alloc, tracked, starts, &refined, region)?;
+    explain_ordinary(alloc, image, starts, region, &refined, &found, at)
 }
 
 // The objects that would survive if a region alone were collected.

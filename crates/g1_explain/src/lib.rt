@@ -20,11 +20,13 @@ mod choosing;
 mod explaining;
 mod failure;
 mod finders;
+mod form;
 mod humongous;
 mod keeping;
 mod places;
 mod steps;
 
-pub use explaining::{Explanation, Form, explain};
+pub use explaining::{Explanation, explain};
 pub use failure::Failure;
+pub use form::Form;
 pub use keeping::why;

@@ -3,12 +3,13 @@ ghost use Rattle.g1_rem.specs.Starts.{IsStartsOf};
 
 use crate::failure::Failure;
 use crate::finders::{Finder, finders, object_in, push_finder, size_in};
+use crate::form::Form;
 use g1_layout::Plan;
 use g1_rem::Starts;
 use g1_words::{Heap, Object, region_of};
 use std::alloc::{AllocError, Global};
 
-/// Adds a line for each survivor: its numbers, and what finds it.
+/// Adds a line for each survivor: its numbers, and what finds it. A map has none.
 ///
 /// # Errors
 ///
@@ -16,6 +17,7 @@ use std::alloc::{AllocError, Global};
 pub(crate) fn push_survivors(
     alloc: Global,
     text: &mut String,
+    form: Form,
     heap: &Heap,
     starts: &Starts,
     cards: &[u32],
@@ -23,6 +25,9 @@ pub(crate) fn push_survivors(
 ) -> Result<(), Failure>
     requires { IsStartsOf heap.now starts.now }
 {
+    if form == Form::Map {
+        return Ok(());
+    }
     let finders = finders(alloc, heap, starts, cards, survivors)?;
     if finders.len() < survivors.len() {
         return Err(Failure::Contradiction);

@@ -8,6 +8,7 @@ use crate::changes::{
 };
 use crate::choosing::choose_set;
 use crate::failure::Failure;
+use crate::form::Form;
 use crate::humongous::{keepers, push_humongous};
 use crate::places::{push_places, push_survivors, sizes_of, sum_of};
 use g1_copy::{Prepared, prepare_on};
@@ -31,7 +32,8 @@ pub(crate) struct Steps {
     pub(crate) sizes: Vec<u64>,
 }
 
-/// Makes the calls of a pause, and adds the lines of each to the text. The image stays as it is.
+/// Makes the calls of a pause, and adds the lines of each to the text. The image stays as it is. For a
+/// map the lines that take long are left out: none of them is wanted.
 ///
 /// # Errors
 ///
@@ -40,6 +42,7 @@ pub(crate) fn take_steps<R: Threads + Sync>(
     rt: &R,
     alloc: Global,
     text: &mut String,
+    form: Form,
     tracked: &Tracked,
     settings: &Settings,
 ) -> Result<Steps, Failure>
@@ -53,13 +56,13 @@ pub(crate) fn take_steps<R: Threads + Sync>(
     push_dirty(alloc, text, image, &remembered)?;
     let set = choose_set(rt, alloc, text, image, &starts, &remembered, settings)?;
     let cards = cards_into(alloc, heap, &remembered, &set)?;
-    push_cards(alloc, text, heap, &starts, &set, &cards)?;
+    push_cards(alloc, text, form, heap, &starts, &set, &cards)?;
     g1_copy::laws::cards_lead_in();
     g1_frontier::laws::refined_lead_in();
     let survivors = discover(
         rt, alloc, heap, &starts, &set, &cards, workers, chunk, &Open,
     )?;
-    push_survivors(alloc, text, heap, &starts, &cards, &survivors)?;
+    push_survivors(alloc, text, form, heap, &starts, &cards, &survivors)?;
     g1_layout::laws::placeable();
     let plan = place(alloc, heap, &set, &survivors)?;
     let prepared = prepare_on(
@@ -80,15 +83,16 @@ pub(crate) fn take_steps<R: Threads + Sync>(
         prepared,
         sizes,
     };
-    push_writes(alloc, text, image, &starts, &remembered, &steps)?;
+    push_writes(alloc, text, form, image, &starts, &remembered, &steps)?;
     push_totals(text, heap, &steps, cards.len())?;
     Ok(steps)
 }
 
-// The lines of what the pause writes.
+// The lines of what the pause writes. A map has none.
 fn push_writes(
     alloc: Global,
     text: &mut String,
+    form: Form,
     image: &Image,
     starts: &Starts,
     refined: &[Vec<u32>],
@@ -96,6 +100,9 @@ fn push_writes(
 ) -> Result<(), Failure>
     requires { IsStartsOf image.now.heap starts.now }
 {
+    if form == Form::Map {
+        return Ok(());
+    }
     let heap = image.heap();
     let (plan, prepared) = (&steps.plan, &steps.prepared);
     push_room(text, plan.need(), free_count(heap.regions()) as u64)?;

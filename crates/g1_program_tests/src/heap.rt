@@ -140,7 +140,7 @@ fn prints_an_image(rt: HostRuntime) -> Result<(), AllocError> {
                 "print - --region 4",
                 ONE_OBJECT,
                 2,
-                "g1heap: -: no region 4\n",
+                "g1heap: -: no region 4: the image has 4\n",
             ),
         ],
     )
@@ -630,14 +630,14 @@ fn faults_name_their_file(rt: HostRuntime) -> Result<(), AllocError> {
                 b"H",
                 3,
                 "g1heap: -: fault 1: magic\n\
-                g1heap: it is no image; if it has lines, 'g1heap make' makes an image of them\n",
+                g1heap: it is no image; 'g1heap make' makes an image of lines, and 'g1heap trace' replies to a trace\n",
             ),
             (
                 "print -",
                 b"heap 16 4 4\n",
                 3,
                 "g1heap: -: fault 1: magic\n\
-                g1heap: it is no image; if it has lines, 'g1heap make' makes an image of them\n",
+                g1heap: it is no image; 'g1heap make' makes an image of lines, and 'g1heap trace' replies to a trace\n",
             ),
         ],
     )

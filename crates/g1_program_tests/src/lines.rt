@@ -298,6 +298,20 @@ fn tells_a_wrong_text(rt: HostRuntime) -> Result<(), AllocError> {
                 "g1heap: -: line 3: expected 'heap W K N' before all other lines\n",
             ),
             (b"heap 16 4 4\n\xff", "g1heap: -: line 2: expected text\n"),
+            (
+                b"G1IMAGE2\n",
+                "g1heap: -: line 1: expected 'heap W K N' before all other lines\n\
+                 g1heap: it is an image; 'g1heap print' prints its lines, and 'g1heap explain' those of a pause\n",
+            ),
+            (
+                b"G1IMAGE2\xff",
+                "g1heap: -: line 1: expected text\n\
+                 g1heap: it is an image; 'g1heap print' prints its lines, and 'g1heap explain' those of a pause\n",
+            ),
+            (
+                b"#G1IMAGE2\n",
+                "g1heap: -: line 1: expected 'heap W K N' before all other lines\n",
+            ),
         ],
     )
 }

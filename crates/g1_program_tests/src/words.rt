@@ -63,7 +63,7 @@ Usage: g1pause show [OPTIONS]
 Options:
       --workers <N>  How many workers share the work, 1 to 64 [default: 1]
       --chunk <N>    How many regions a worker draws at once, 1 to 65536 [default: 64]
-      --repack       Writes the image's text in place of the table
+      --repack       Writes the image's text instead of the table
   -h, --help         Print help
 
 Statuses:

@@ -55,7 +55,7 @@ fn perform<T: Threads + Sync + Files, R: Read, W: Write, E: Write>(
     answer(rt, alloc, &request, reader, writer)
 }
 
-// Does what is asked, and gives the status that stands for it.
+// Does what is asked, and returns the status.
 fn answer<T: Threads + Sync + Files, R: Read, W: Write>(
     rt: &T,
     alloc: Global,
@@ -123,7 +123,7 @@ fn hand_over<T: Files, W: Write>(
     Ok(0)
 }
 
-// Tells whether two images show the same. The status is 1 where they differ.
+// Reports whether two images show the same. The status is 1 if they differ.
 fn answer_same<T: Threads + Sync + Files, R: Read, W: Write>(
     rt: &T,
     alloc: Global,
@@ -208,7 +208,7 @@ fn differ_text(
     Ok((1, difference_line(alloc, old, new, difference)?))
 }
 
-// What a pause of the set keeps, where one is asked for. What is lost is told in the place of all else.
+// What a pause of the set keeps, if a set is given. If something is lost, only that is reported.
 fn push_kept(
     alloc: Global,
     same: &Same,
@@ -246,7 +246,7 @@ fn lost(alloc: Global, same: &Same, old: &Heap, new: &Heap) -> Result<Option<Los
     }
 }
 
-// The line of cover, or the refusal where a slot lacks it.
+// The line of cover, or the refusal if a slot lacks it.
 fn with_cover(
     alloc: Global,
     same: &Same,
@@ -287,7 +287,9 @@ fn lines(alloc: Global, image: &Image, name: &str, part: Part) -> Result<String,
         Part::Region(region) if u64::from(region) < heap.geometry().regions() => {
             region_lines(alloc, image, region)
         }
-        Part::Region(region) => return Err(no_region(alloc, name, region)),
+        Part::Region(region) => {
+            return Err(no_region(alloc, name, region, heap.geometry().regions()));
+        }
         Part::Object(address) => match object_at(heap, address) {
             Some(object) => object_line(alloc, heap, &object),
             None => return Err(no_object(alloc, name, address)),
@@ -309,7 +311,9 @@ fn make_from<T: Files, R: Read>(
 fn make_image(alloc: Global, name: &str, lines: &[u8]) -> Result<Vec<u8>, Refusal> {
     match make(alloc, lines) {
         Ok(bytes) => Ok(bytes),
-        Err(Wrong::Line { number, expected }) => Err(wrong_line(alloc, name, number, &expected)),
+        Err(Wrong::Line { number, expected }) => Err(wrong_line(
+            alloc, name, lines, number, &expected,
+        )),
         Err(Wrong::Fault(fault)) => Err(of_file(alloc, name, fault)),
     }
 }

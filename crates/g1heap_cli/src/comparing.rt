@@ -80,7 +80,7 @@ fn push_word(text: &mut String, lead: &str, word: u64) -> Result<(), AllocError>
     }
 }
 
-// How two words that stand at one place disagree.
+// How two words at one place disagree.
 fn push_detail(
     text: &mut String,
     heap: &Heap,
@@ -124,8 +124,8 @@ fn push_numbers(text: &mut String, what: &str, old: u64, new: u64) -> Result<(),
     write!(text, "; {what} {old} before, {new} after")
 }
 
-// The word that a path leads to. The slot of this number of an object stands as many words behind the
-// address that is 1 more than the object's, which is the reference word itself.
+// The word that a path leads to. Slot n of an object is n words behind the address that is 1 more than
+// the object's, and that address is the reference word itself.
 fn word_at_path(heap: &Heap, root: u64, slots: &[u64]) -> u64 {
     let mut word = word_at(heap.roots(), root);
     for slot in slots {

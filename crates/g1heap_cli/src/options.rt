@@ -94,7 +94,7 @@ pub enum Part {
     Summary,
 }
 
-// The options that take numbers, with the ranges that messages tell.
+// The options that take numbers, with the ranges that messages give.
 const REGION_RANGE: &str = "a region's number, below 4294967296";
 
 static SET: Argument = Argument {
@@ -155,7 +155,7 @@ static BYTE: Argument = Argument {
     range: COST_RANGE,
 };
 
-// What stands at the end of each command's help.
+// The end of each command's help.
 const AFTER_SAME: &str = "\
 Statuses:
   0  the images show the same graph, and what else was asked holds
@@ -304,7 +304,7 @@ enum Form {
     ValueWithoutRegion,
     /// By its name and a value, if the option `set` isn't.
     ValueWithoutSet,
-    /// By its name alone, where no part is asked for.
+    /// By its name alone, if no part is asked for.
     FlagWithoutPart,
     /// By its name, or by its first letter, and a value.
     Output,

@@ -21,7 +21,7 @@ pub enum Output {
 }
 
 impl Output {
-    /// The output that a name stands for, if one is given.
+    /// The output of this name, if one is given.
     pub fn of_name(alloc: Global, name: Option<&str>) -> Result<Output, AllocError> {
         match name {
             None => Ok(Output::Default),

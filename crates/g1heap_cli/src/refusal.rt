@@ -21,7 +21,7 @@ pub fn of_file(alloc: Global, name: &str, fault: Fault) -> Refusal {
 fn hint_for(fault: Fault) -> &'static str {
     match fault {
         Fault::Magic =>
-            "g1heap: it is no image; if it has lines, 'g1heap make' makes an image of them\n",
+            "g1heap: it is no image; 'g1heap make' makes an image of lines, and 'g1heap trace' replies to a trace\n",
         _ => "",
     }
 }
@@ -36,13 +36,29 @@ pub fn unwritable(alloc: Global, name: &str) -> Refusal {
     refusal(7, format!(in alloc; "g1heap: {name}: can't be written\n"))
 }
 
-/// A line of a file that is not what is expected there.
-pub fn wrong_line(alloc: Global, name: &str, number: u64, expected: &Expected) -> Refusal {
+/// A line, of these bytes of a file, that is not what is expected there.
+pub fn wrong_line(
+    alloc: Global,
+    name: &str,
+    bytes: &[u8],
+    number: u64,
+    expected: &Expected,
+) -> Refusal {
+    let hint = if is_image(bytes) { IMAGE_HINT } else { "" };
     refusal(
         3,
-        format!(in alloc; "g1heap: {name}: line {number}: expected {expected}\n"),
+        format!(in alloc; "g1heap: {name}: line {number}: expected {expected}\n{hint}"),
     )
 }
+
+/// Whether bytes begin as an image does, in any version.
+pub fn is_image(bytes: &[u8]) -> bool {
+    bytes.starts_with(b"G1IMAGE")
+}
+
+// What to do about an image where lines are read.
+const IMAGE_HINT: &str =
+    "g1heap: it is an image; 'g1heap print' prints its lines, and 'g1heap explain' those of a pause\n";
 
 /// A line of a trace that is not what is expected there.
 pub fn wrong_trace_line(
@@ -57,6 +73,15 @@ pub fn wrong_trace_line(
     )
 }
 
+/// An image where a trace is read.
+pub fn image_for_trace(alloc: Global, name: &str) -> Refusal {
+    let expected = g1_session::Expected::Heap;
+    refusal(
+        3,
+        format!(in alloc; "g1heap: {name}: line 1: expected {expected}\n{IMAGE_HINT}"),
+    )
+}
+
 /// A command that a trace doesn't have.
 pub fn no_command(alloc: Global, name: &str, command: u64, commands: u64) -> Refusal {
     refusal(
@@ -65,9 +90,12 @@ pub fn no_command(alloc: Global, name: &str, command: u64, commands: u64) -> Ref
     )
 }
 
-/// A region that the image doesn't have.
-pub fn no_region(alloc: Global, name: &str, region: u32) -> Refusal {
-    refusal(2, format!(in alloc; "g1heap: {name}: no region {region}\n"))
+/// A region that the image, which has this many, doesn't have.
+pub fn no_region(alloc: Global, name: &str, region: u32, regions: u64) -> Refusal {
+    refusal(
+        2,
+        format!(in alloc; "g1heap: {name}: no region {region}: the image has {regions}\n"),
+    )
 }
 
 /// An address at which no object starts.

@@ -99,7 +99,7 @@ fn push_part(
     Ok(())
 }
 
-// No heap has so many regions.
+// No heap has this many regions.
 const MOST: u32 = 65_536;
 
 fn push_range(first: u32, last: u32, regions: &mut Vec<u32>) -> Result<(), AllocError> {

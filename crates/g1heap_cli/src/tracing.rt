@@ -3,7 +3,7 @@ use crate::explaining::of_failure;
 use crate::files::{STANDARD_STREAM, open_file};
 use crate::options::Trace;
 use crate::output::write_file;
-use crate::refusal::{no_command, of_file, wrong_trace_line};
+use crate::refusal::{image_for_trace, is_image, no_command, of_file, wrong_trace_line};
 use g1_command::{LineReader, Refusal, deliver_text};
 use g1_explain::{Explanation, Form, explain};
 use g1_image::{decode, encode};
@@ -21,7 +21,16 @@ const WORKERS: u64 = 1;
 
 const CHUNK: u64 = 64;
 
-/// Answers the lines of a trace. Replies are written at the end, or each at once if it is live.
+// What is answered and not written yet.
+#[derive(Drop)]
+struct Unwritten {
+    replies: Vec<u8>,
+    /// The image after the command that was asked for.
+    image: Option<Vec<u8>>,
+}
+
+/// Answers the lines of a trace. Replies and the image are written at the end, or each at once if it is
+/// live.
 pub fn answer_trace<T: Threads + Sync + Files, R: Read, W: Write>(
     rt: &T,
     alloc: Global,
@@ -52,7 +61,10 @@ fn answer_lines<T: Threads + Sync + Files, R: Read, W: Write>(
 ) -> Result<u8, Refusal> {
     let mut lines = LineReader::new(alloc, reader)?;
     let mut session = Session::new();
-    let mut replies = Vec::new(alloc);
+    let mut unwritten = Unwritten {
+        replies: Vec::new(alloc),
+        image: None,
+    };
     let mut line = Vec::new(alloc);
     let mut number: u64 = 0;
     for _ in 0..u64::MAX {
@@ -70,18 +82,33 @@ fn answer_lines<T: Threads + Sync + Files, R: Read, W: Write>(
             session,
             bytes,
             number,
-            &mut replies,
+            &mut unwritten,
         )?;
         if trace.live {
-            let status = deliver_text(0, replies.as_slice(), writer)?;
+            let status = write_all(rt, alloc, trace, &mut unwritten, writer)?;
             if status != 0 {
                 return Ok(status);
             }
-            replies.clear();
         }
     }
     check_end(alloc, trace, &session, number)?;
-    Ok(deliver_text(0, replies.as_slice(), writer)?)
+    write_all(rt, alloc, trace, &mut unwritten, writer)
+}
+
+// Writes what is not written yet, the image first, and gives the status.
+fn write_all<T: Files, W: Write>(
+    rt: &T,
+    alloc: Global,
+    trace: &Trace,
+    unwritten: &mut Unwritten,
+    writer: &mut W,
+) -> Result<u8, Refusal> {
+    if let (Some(wanted), Some(bytes)) = (&trace.image, unwritten.image.take()) {
+        write_file(rt, alloc, wanted.file.as_str(), bytes.as_slice())?;
+    }
+    let status = deliver_text(0, unwritten.replies.as_slice(), writer)?;
+    unwritten.replies.clear();
+    Ok(status)
 }
 
 // Reads the next line with its end; there is none at the end of the input.
@@ -97,7 +124,7 @@ fn read_line<R: Read>(
     }
 }
 
-// Does a line, and puts behind the replies what it is answered.
+// Does a line, and adds what it is answered to what is not written yet.
 fn take_line<T: Threads + Sync + Files>(
     rt: &T,
     alloc: Global,
@@ -106,20 +133,23 @@ fn take_line<T: Threads + Sync + Files>(
     session: Session,
     line: &[u8],
     number: u64,
-    replies: &mut Vec<u8>,
+    unwritten: &mut Unwritten,
 ) -> Result<Session, Refusal> {
+    if number == 1 && is_image(line) {
+        return Err(image_for_trace(alloc, trace.name.as_str()));
+    }
     let Some((b'\n', content)) = line.split_last() else {
         return Err(wrong(alloc, trace, number, Expected::End));
     };
     if trace.explain {
-        push_explanation(rt, alloc, trace, &session, content, replies)?;
+        push_explanation(rt, alloc, trace, &session, content, &mut unwritten.replies)?;
     }
     let (session, outcome) = session.take(rt, alloc, content, settings);
     match outcome {
         Ok(Answer::Nothing) => Ok(session),
         Ok(Answer::Reply(reply)) => {
-            push_numbered(alloc, trace, &session, reply, replies)?;
-            write_image(rt, alloc, trace, &session)?;
+            push_numbered(alloc, trace, &session, reply, &mut unwritten.replies)?;
+            keep_image(alloc, trace, &session, unwritten)?;
             Ok(session)
         }
         Err(Wrong::Line(expected)) => Err(wrong(alloc, trace, number, expected)),
@@ -171,20 +201,20 @@ fn push_explanation<T: Threads + Sync>(
     }
 }
 
-// Writes the image after the command that was asked for.
-fn write_image<T: Files>(
-    rt: &T,
+// Keeps the image if it is that after the command that was asked for.
+fn keep_image(
     alloc: Global,
     trace: &Trace,
     session: &Session,
+    unwritten: &mut Unwritten,
 ) -> Result<(), Refusal> {
     let Some(wanted) = &trace.image else {
         return Ok(());
     };
     match session.image() {
         Some(image) if session.commands() == wanted.command => {
-            let bytes = encode(alloc, image)?;
-            write_file(rt, alloc, wanted.file.as_str(), bytes.as_slice())
+            unwritten.image = Some(encode(alloc, image)?);
+            Ok(())
         }
         _ => Ok(()),
     }

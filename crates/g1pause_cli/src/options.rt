@@ -60,7 +60,7 @@ pub struct Sharing {
     pub chunk: u64,
 }
 
-// The options that take numbers, with the ranges that messages tell.
+// The options that take numbers, with the ranges that messages give.
 static WORKERS: Argument = Argument {
     id: "workers",
     shown: "--workers <N>",
@@ -111,7 +111,7 @@ static REGIONS: Argument = Argument {
     range: "a region's number, below 4294967296; the image comes on standard input",
 };
 
-// A command's name, what it does, and what stands at the end of its help.
+// A command's name, what it does, and the end of its help.
 struct Guide {
     name: &'static str,
     about: &'static str,
@@ -133,7 +133,7 @@ Example: g1pause show < IMAGE",
 
 static CHECK: Guide = Guide {
     name: "check",
-    about: "Tells whether every reference into another region is covered",
+    about: "Reports whether every reference into another region is covered",
     after: "\
 Statuses:
   0  covered
@@ -267,7 +267,7 @@ fn repack<'a>(alloc: Global) -> Arg<'a> {
     Arg::new(alloc, "repack")
         .long("repack")
         .action(ArgAction::SetTrue)
-        .help("Writes the image's text in place of the table")
+        .help("Writes the image's text instead of the table")
 }
 
 fn show<'a>(alloc: Global) -> Result<Command<'a>, AllocError> {
@@ -311,7 +311,7 @@ fn regions_argument<'a>(alloc: Global) -> Arg<'a> {
         .value_name("REGION")
         .num_args(0..)
         .action(ArgAction::Append)
-        .help("The regions to collect, where there is no budget")
+        .help("The regions to collect, if there is no budget")
 }
 
 fn pause_command<'a>(alloc: Global) -> Result<Command<'a>, AllocError> {
@@ -433,7 +433,7 @@ pub fn parse(alloc: Global, words: &[String]) -> Result<Request, Refusal> {
     }
 }
 
-// What clap says. A file is the argument that is given most often where there is none.
+// What clap says. A file is what users most often give to a command that takes no such argument.
 fn with_hint(error: &Error, refusal: Refusal) -> Result<Refusal, AllocError> {
     match refusal {
         Refusal::Told { status, text } => {
