@@ -4,12 +4,13 @@ use Rattle.std.proofs.lemmas.List.FromFn.{length-map-range_with_len}
 use Rattle.g1_words.specs.Geometry.{most_words}
 use Rattle.g1_words.specs.Heap.{word, object_at}
 use Rattle.g1_words.proofs.Shapes.{built}
+use Rattle.g1_words.proofs.Standing.{built_is_sound}
 use Rattle.g1_image.specs.Image.{Image}
 use Rattle.g1_image.specs.Cards.{IsTracked}
 use Rattle.g1_trace.specs.Commands.{SetSlot, SetValue}
 use Rattle.g1_trace.specs.Mutator.{heap_view, logged, slot_address, value_address, with_words}
 use Rattle.g1_trace.specs.Views.{Seen, EffectFits}
-use Rattle.g1_trace.proofs.Ready.{built_laid}
+use Rattle.g1_trace.proofs.Ready.{built_laid, seen_object}
 use Rattle.g1_trace.proofs.Told.{IsNamed}
 use Rattle.g1_trace.proofs.KeptTracked.{slot_tracked, value_tracked}
 
@@ -19,7 +20,7 @@ seen_named i t a s =
     let laid = built_laid i.heap (built i.heap t.image.heap) in
     let count = t.image.heap.word_count in
     let most = t.image.heap.limits.words_most in
-    record { refs = laid.slots_fit a s; within = laid.inside a s; small = omega (arith, count, most) }
+    record { there = seen_object i.heap (built_is_sound i.heap (built i.heap t.image.heap)) a s; refs = laid.slots_fit a s; within = laid.inside a s; small = omega (arith, count, most) }
 
 module _ (i : Image) (t : IsTracked i) (a p x : ℕ) where
   module _ (fits : EffectFits (heap_view i.heap) (SetSlot a p x)) where

@@ -1,5 +1,5 @@
 -- Every command has a step, every trace within the limits a run, and any bytes an answer.
-use Rattle.std.proofs.Common.{◌≡◌, ℕ, ◌+◌, ◌^◌, ◌<◌, ◌≤◌, inl, inr, List, [], ◌∷◌, Result, Ok, Err, refl}
+use Rattle.std.proofs.Common.{◌≡◌, ℕ, ◌+◌, ◌≤◌, inl, inr, List, [], ◌∷◌, Result, Ok, Err, refl}
 use Rattle.std.specs.Prelude.{Option, Some, None, All, slice_set}
 use Rattle.std.specs.List.{AllByRecursion}
 use Rattle.std.proofs.lemmas.List.Elements.{All-head, All-tail}
@@ -19,10 +19,10 @@ use Rattle.g1_trace.specs.declared.command.Reply.{Reply}
 use Rattle.g1_trace.specs.declared.command.Reply.TheVariants.{Full, Room}
 use Rattle.g1_trace.specs.Commands.{Effect, Nothing, SetRoot, SetSlot, SetValue, MakeNew, MakePause, answer_of}
 use Rattle.g1_trace.specs.Mutator.{heap_view, heap_with, with_heap, with_roots, with_words, slot_address, value_address, logged, place_for, IsEffect, IsStep}
-use Rattle.g1_trace.specs.Run.{Replies, IsRun, empty_image}
+use Rattle.g1_trace.specs.Run.{Replies, empty_image}
 use Rattle.g1_trace.specs.Running.{IsHeapSize}
 use Rattle.g1_trace.specs.TraceText.{AllFit, numbers_of, IsText}
-use Rattle.g1_trace.specs.Telling.{reply_lines, IsTold, IsOutsideLimits}
+use Rattle.g1_trace.specs.Telling.{reply_lines, IsTold}
 use Rattle.g1_trace.specs.Laws.{WritesWord, StepExists, RunExists, AlwaysTold}
 use Rattle.g1_trace.proofs.Numerals.{fit_head, fit_rest}
 use Rattle.g1_trace.proofs.Deciding.{text_or_bad_line}

@@ -1,5 +1,5 @@
 -- A new humongous object, at the start of a run of free regions, keeps the rules of a heap.
-use Rattle.std.proofs.Common.{◌≡◌, ◌≢◌, ℕ, ◌+◌, ◌-◌, ◌*◌, ◌%◌, ◌^◌, ◌<◌, ◌≤◌, ◌⊎◌, inl, inr, Bool, true, false, cond, ◌&&◌, [], ◌∷◌, ◌++◌, Some, min, refl, sym, ◌∙◌, ap, subst, arith, eqb}
+use Rattle.std.proofs.Common.{◌≡◌, ◌≢◌, ℕ, ◌+◌, ◌-◌, ◌*◌, ◌%◌, ◌<◌, ◌≤◌, ◌⊎◌, inl, inr, Bool, true, false, cond, ◌&&◌, [], ◌∷◌, ◌++◌, Some, min, refl, sym, ◌∙◌, ap, subst, arith, eqb}
 use Rattle.std.proofs.Common.{eq-eqb, ltb, leb, lt-ltb, ltb-true, leb-true, le-leb, div-add-mod'}
 use Rattle.std.proofs.lemmas.Bool.{cases_lt}
 use Rattle.std.proofs.lemmas.Nat.{le-div}

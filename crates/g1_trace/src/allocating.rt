@@ -110,6 +110,7 @@ fn run_region(geometry: &Geometry, size: u64, i: u64) -> Region
 
 /// Takes the regions of a humongous object's run.
 fn take_run(regions: &mut Vec<Region>, geometry: &Geometry, first: u32, size: u64)
+    requires width { 16 ≤ geometry.now.w }
     requires size { (0 < size) × (size ≤ most_words) }
     requires there { first + (size + (geometry.now.w - 1)) / geometry.now.w ≤ length regions.old.items }
     requires few { length regions.old.items ≤ most_regions }

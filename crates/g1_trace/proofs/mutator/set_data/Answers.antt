@@ -12,44 +12,44 @@ pub overflow_add-object-3 : goal.overflow_add-object-3
 overflow_add-object-3 c =
     let i : Image = c.args.tracked in
     let words = c.words.ensures ∙ ap (λ (h : Heap). h.words) (c.heap.ensures.same ∙ ap (λ (x : Image). x.heap) c.image.ensures.same) in
-    let at : c.args.object + 1 + c.header.result.refs + c.args.word ≡ value_address i.heap c.args.object c.args.word =
-    ap (λ (o : Object). c.args.object + 1 + o.refs + c.args.word) (c.header.ensures.value ∙ ap (λ ws. header ws c.args.object) words) in
+    let at : c.args.object + 1 + c.header-refs.result.refs + c.args.word ≡ value_address i.heap c.args.object c.args.word =
+    ap (λ (o : Object). c.args.object + 1 + o.refs + c.args.word) (c.header-refs.ensures.value ∙ ap (λ ws. header ws c.args.object) words) in
     omega (arith, at, value_inside i c.requires.before c.args.object c.args.word c.args.value c.requires.fits, value_small i c.requires.before c.args.object c.args.word c.args.value c.requires.fits)
 
 pub set_value-requires-clause-at : goal.set_value-requires-clause-at
 set_value-requires-clause-at c =
     let i : Image = c.args.tracked in
     let words = c.words.ensures ∙ ap (λ (h : Heap). h.words) (c.heap.ensures.same ∙ ap (λ (x : Image). x.heap) c.image.ensures.same) in
-    let at : c.args.object + 1 + c.header.result.refs + c.args.word ≡ value_address i.heap c.args.object c.args.word =
-    ap (λ (o : Object). c.args.object + 1 + o.refs + c.args.word) (c.header.ensures.value ∙ ap (λ ws. header ws c.args.object) words) in
+    let at : c.args.object + 1 + c.header-refs.result.refs + c.args.word ≡ value_address i.heap c.args.object c.args.word =
+    ap (λ (o : Object). c.args.object + 1 + o.refs + c.args.word) (c.header-refs.ensures.value ∙ ap (λ ws. header ws c.args.object) words) in
     omega (arith, at, value_inside i c.requires.before c.args.object c.args.word c.args.value c.requires.fits)
 
 pub set_value-requires-clause-kept : goal.set_value-requires-clause-kept
 set_value-requires-clause-kept c =
     let i : Image = c.args.tracked in
     let words = c.words.ensures ∙ ap (λ (h : Heap). h.words) (c.heap.ensures.same ∙ ap (λ (x : Image). x.heap) c.image.ensures.same) in
-    let at : c.args.object + 1 + c.header.result.refs + c.args.word ≡ value_address i.heap c.args.object c.args.word =
-    ap (λ (o : Object). c.args.object + 1 + o.refs + c.args.word) (c.header.ensures.value ∙ ap (λ ws. header ws c.args.object) words) in
+    let at : c.args.object + 1 + c.header-refs.result.refs + c.args.word ≡ value_address i.heap c.args.object c.args.word =
+    ap (λ (o : Object). c.args.object + 1 + o.refs + c.args.word) (c.header-refs.ensures.value ∙ ap (λ ws. header ws c.args.object) words) in
     subst (λ p. IsTracked (with_words i (set i.heap.words p c.args.value) i.log)) (sym at) (value_kept i c.requires.before c.args.object c.args.word c.args.value c.requires.fits c.ranges.value.fits)
 
 pub overflow_add-object : goal.overflow_add-object
 overflow_add-object c =
     let i : Image = c.args.tracked in
     let words = c.words.ensures ∙ ap (λ (h : Heap). h.words) (c.heap.ensures.same ∙ ap (λ (x : Image). x.heap) c.image.ensures.same) in
-    let at : c.args.object + 1 + c.header.result.refs + c.args.word ≡ value_address i.heap c.args.object c.args.word =
-    ap (λ (o : Object). c.args.object + 1 + o.refs + c.args.word) (c.header.ensures.value ∙ ap (λ ws. header ws c.args.object) words) in
+    let at : c.args.object + 1 + c.header-refs.result.refs + c.args.word ≡ value_address i.heap c.args.object c.args.word =
+    ap (λ (o : Object). c.args.object + 1 + o.refs + c.args.word) (c.header-refs.ensures.value ∙ ap (λ ws. header ws c.args.object) words) in
     omega (arith, at, value_inside i c.requires.before c.args.object c.args.word c.args.value c.requires.fits, value_small i c.requires.before c.args.object c.args.word c.args.value c.requires.fits)
 
 pub overflow_add-object-2 : goal.overflow_add-object-2
 overflow_add-object-2 c =
     let i : Image = c.args.tracked in
     let words = c.words.ensures ∙ ap (λ (h : Heap). h.words) (c.heap.ensures.same ∙ ap (λ (x : Image). x.heap) c.image.ensures.same) in
-    let at : c.args.object + 1 + c.header.result.refs + c.args.word ≡ value_address i.heap c.args.object c.args.word =
-    ap (λ (o : Object). c.args.object + 1 + o.refs + c.args.word) (c.header.ensures.value ∙ ap (λ ws. header ws c.args.object) words) in
+    let at : c.args.object + 1 + c.header-refs.result.refs + c.args.word ≡ value_address i.heap c.args.object c.args.word =
+    ap (λ (o : Object). c.args.object + 1 + o.refs + c.args.word) (c.header-refs.ensures.value ∙ ap (λ ws. header ws c.args.object) words) in
     omega (arith, at, value_inside i c.requires.before c.args.object c.args.word c.args.value c.requires.fits, value_small i c.requires.before c.args.object c.args.word c.args.value c.requires.fits)
 
-pub header-requires : goal.header-requires
-header-requires c =
+pub header-refs-requires : goal.header-refs-requires
+header-refs-requires c =
     let i : Image = c.args.tracked in
     let words = c.words.ensures ∙ ap (λ (h : Heap). h.words) (c.heap.ensures.same ∙ ap (λ (x : Image). x.heap) c.image.ensures.same) in
     omega (arith, ap length words, value_inside i c.requires.before c.args.object c.args.word c.args.value c.requires.fits)
@@ -58,6 +58,6 @@ pub returns : goal.returns
 returns c =
     let i : Image = c.args.tracked in
     let words = c.words.ensures ∙ ap (λ (h : Heap). h.words) (c.heap.ensures.same ∙ ap (λ (x : Image). x.heap) c.image.ensures.same) in
-    let at : c.args.object + 1 + c.header.result.refs + c.args.word ≡ value_address i.heap c.args.object c.args.word =
-    ap (λ (o : Object). c.args.object + 1 + o.refs + c.args.word) (c.header.ensures.value ∙ ap (λ ws. header ws c.args.object) words) in
+    let at : c.args.object + 1 + c.header-refs.result.refs + c.args.word ≡ value_address i.heap c.args.object c.args.word =
+    ap (λ (o : Object). c.args.object + 1 + o.refs + c.args.word) (c.header-refs.ensures.value ∙ ap (λ ws. header ws c.args.object) words) in
     c.set_value.ensures ∙ ap (λ p. with_words i (set i.heap.words p c.args.value) i.log) at
