@@ -163,7 +163,7 @@ fn explain_dead<R: Threads + Sync>(
     starts: &Starts,
     at: u64,
 ) -> Result<String, Failure>
-    requires { IsStartsOf image.now.heap starts.now }
+    requires { IsStartsOf image.heap starts.now }
 {
     match verify(rt, alloc, image) {
         Ok(tracked) => explain_tracked(rt, alloc, &tracked, starts, at),

@@ -1,3 +1,10 @@
+ghost use Rattle.std.specs.Prelude.{◌≡◌, ◌↔◌, IsTrue, IfOk, IfErr};
+ghost use Rattle.g1_words.specs.Geometry.{Geometry as GeometryOf};
+ghost use Rattle.g1_trace.specs.TraceText.{command_line};
+ghost use Rattle.g1_trace.specs.Run.{empty_image};
+ghost use Rattle.g1_session.specs.declared.session.Session.TheVariants.{Begun, Open as OpenOf};
+ghost use Rattle.g1_session.specs.Session.{IsComment, IsDone};
+
 use crate::expected::Expected;
 use g1_image::Image;
 use g1_pause::Settings;
@@ -35,7 +42,9 @@ pub enum Wrong {
 }
 
 // Whether nothing is to be done for a line.
-fn is_comment(line: &[u8]) -> bool {
+fn is_comment(line: &[u8]) -> bool
+    ensures { IsTrue result ↔ IsComment line.now }
+{
     match line.first() {
         None => true,
         Some(byte) => *byte == b'#',
@@ -79,12 +88,15 @@ impl Session {
         alloc: Global,
         line: &[u8],
         settings: &Settings,
-    ) -> (Session, Result<Answer, Wrong>) {
+    ) -> (Session, Result<Answer, Wrong>)
+        ensures done { IfOk result.1 (λ a. IsDone settings.now.cost self line.now a result.0) }
+        ensures same { IfErr result.1 (λ _. result.0 ≡ self) }
+    {
         if is_comment(line) {
             return (self, Ok(Answer::Nothing));
         }
         match self {
-            Session::Begun => begin(alloc, line),
+            Session::Begun => begin(alloc, line, settings),
             Session::Open { mutator, commands } => match later_line(line) {
                 Some(command) => step(rt, alloc, mutator, commands, &command, settings),
                 None => {
@@ -96,11 +108,15 @@ impl Session {
     }
 }
 
-fn begin(alloc: Global, line: &[u8]) -> (Session, Result<Answer, Wrong>) {
+// Makes the heap of the line with the sizes.
+fn begin(alloc: Global, line: &[u8], settings: &Settings) -> (Session, Result<Answer, Wrong>)
+    ensures done { IfOk result.1 (λ a. IsDone settings.now.cost Begun line.now a result.0) }
+    ensures same { IfErr result.1 (λ _. result.0 ≡ Begun) }
+{
     let Some((w, k, n, roots)) = first_line(line) else {
         return (Session::Begun, Err(Wrong::Line(Expected::Heap)));
     };
-    match make_heap(alloc, (w, k, n), roots) {
+    match make_heap(alloc, w, k, n, roots) {
         Ok(mutator) => {
             let session = Session::Open {
                 mutator,
@@ -112,12 +128,14 @@ fn begin(alloc: Global, line: &[u8]) -> (Session, Result<Answer, Wrong>) {
     }
 }
 
-fn make_heap(alloc: Global, sizes: (u64, u64, u64), roots: u64) -> Result<Mutator, Fault> {
-    let (w, k, n) = sizes;
+fn make_heap(alloc: Global, w: u64, k: u64, n: u64, roots: u64) -> Result<Mutator, Fault>
+    ensures { IfOk result (λ m. (g : GeometryOf) × (g.w ≡ w) × (g.k ≡ k) × (g.n ≡ n) × (m ≡ empty_image g roots)) }
+{
     let geometry = Geometry::new(w, k, n)?;
     Mutator::new(alloc, geometry, roots)
 }
 
+// Does a command.
 fn step<R: Threads + Sync>(
     rt: &R,
     alloc: Global,
@@ -125,7 +143,10 @@ fn step<R: Threads + Sync>(
     commands: u64,
     command: &Command,
     settings: &Settings,
-) -> (Session, Result<Answer, Wrong>) {
+) -> (Session, Result<Answer, Wrong>)
+    ensures done { IfOk result.1 (λ a. IsDone settings.now.cost (OpenOf mutator commands) (command_line command.now) a result.0) }
+    ensures same { IfErr result.1 (λ _. result.0 ≡ OpenOf mutator commands) }
+{
     let (workers, chunk) = (settings.workers(), settings.chunk());
     let cost = settings.cost();
     let (mutator, outcome) = mutator.step(rt, alloc, command, &cost, workers, chunk, &Open);
