@@ -51,7 +51,8 @@ trap 'exit 1' INT TERM
 dump() {
     javac -d "$room/classes" "$here/$1.java"
     mkfifo "$room/hold"
-    java -Xmx1g -XX:+UseSerialGC -XX:-UseTLAB -cp "$room/classes" "$1" "$2" <"$room/hold" >"$room/said" &
+    # The file is opened before the pipe. So it is there when `exec` has opened the pipe's other end.
+    java -Xmx1g -XX:+UseSerialGC -XX:-UseTLAB -cp "$room/classes" "$1" "$2" >"$room/said" <"$room/hold" &
     java_process=$!
     exec 3>"$room/hold"
     until grep -q ready "$room/said"; do
