@@ -1,0 +1,3 @@
+pub mod Chunks
+pub mod TableText
+pub mod Choosing
