@@ -117,7 +117,7 @@ module _ (one : OneImage) (none : NoFaultOfText) where
   cover_status bytes Memory j = inl refl
 
 valid_of : (bytes : List ℕ) (i : Image) → IsTextOf bytes i → IsValid i.heap
-valid_of bytes i (v, image, can, is) = image.heap
+valid_of bytes i (v, text) = text.0.heap
 
 module _ (one : OneImage) (none : NoFaultOfText) (accepted : AcceptedNotBad) where
   -- an image that allows the set is no other one that does not
@@ -129,13 +129,13 @@ module _ (one : OneImage) (none : NoFaultOfText) (accepted : AcceptedNotBad) whe
       never (subst (λ z. Keeps set i.heap z.heap) (one after h j t v) (subst (λ z. Keeps set z.heap h.heap) (one before g i s u) keeps))
 
   pub kept_status : KeptStatus
-  kept_status before after set Good (g, h, s, t, takeable, keeps) =
-      let shows : ShowKept before after set = (g, h, s, t, takeable, keeps) in
+  kept_status before after set Good (g, h, s, t, j) =
+      let shows : ShowKept before after set = (g, h, s, t, j.0, j.1) in
       inr record {
         zero = ((λ e. shows), λ z. refl);
         one = other 0 1 (λ e. omega (arith, e)) (kept_lost before after set shows);
         three = other 0 3 (λ e. omega (arith, e)) (neither one none before after (g, s) (h, t));
-        five = other 0 5 (λ e. omega (arith, e)) (no_set before after set g s takeable);
+        five = other 0 5 (λ e. omega (arith, e)) (no_set before after set g s j.0);
         no_other = inl refl;
       }
   kept_status before after set (Same objects words) (g, h, s, t, j) = absurd j
@@ -150,17 +150,17 @@ module _ (one : OneImage) (none : NoFaultOfText) (accepted : AcceptedNotBad) whe
         no_other = inr (inr (inl refl));
       }
   kept_status before after set (Uncovered slot) (g, h, s, t, j) = absurd j
-  kept_status before after set (Loss l) (g, h, s, t, takeable, loses) =
-      let shows : ShowLost before after set = (g, h, s, t, takeable, loses.never) in
+  kept_status before after set (Loss l) (g, h, s, t, j) =
+      let shows : ShowLost before after set = (g, h, s, t, j.0, j.1.never) in
       inr record {
         zero = other 1 0 (λ e. omega (arith, e)) (λ z. kept_lost before after set z shows);
         one = ((λ e. shows), λ z. refl);
         three = other 1 3 (λ e. omega (arith, e)) (neither one none before after (g, s) (h, t));
-        five = other 1 5 (λ e. omega (arith, e)) (no_set before after set g s takeable);
+        five = other 1 5 (λ e. omega (arith, e)) (no_set before after set g s j.0);
         no_other = inr (inl refl);
       }
-  kept_status before after set (NoSet region) (g, h, s, t, i, bad, is) =
-      let shows : ShowNoSet before after set = (g, h, s, t, λ takeable. accepted g.heap set i (valid_of before g s) takeable bad) in
+  kept_status before after set (NoSet region) (g, h, s, t, j) =
+      let shows : ShowNoSet before after set = (g, h, s, t, λ takeable. accepted g.heap set j.0 (valid_of before g s) takeable j.1) in
       inr record {
         zero = other 5 0 (λ e. omega (arith, e)) (λ z. no_set before after set z.0 z.2 z.4 shows);
         one = other 5 1 (λ e. omega (arith, e)) (λ z. no_set before after set z.0 z.2 z.4 shows);
