@@ -677,7 +677,18 @@ def check_rust(tally, programs, options):
                     "{before} before, {after} after; {first} {second} {third}", 3: "image {image} fault {fault} at {at}"}[wanted[0]]
             wrong += (ran.returncode, ran.stdout) != (wanted[0], line.format(**said) + "\n")
     tally.count("rust", len(files) ** 2, wrong)
-    print(f"rust: {len(files) ** 2} pairs")
+    lost, sets = 0, 0
+    for file in files[:6]:
+        image = from_bytes(file.read_bytes())
+        for region in range(image.regions + 1):
+            wanted = by_rule(image, image, (region,))
+            ran = subprocess.run([programs.room / "target/release/judge-rust", file, file, str(region)], capture_output=True, text=True)
+            said = dict(zip(("", *FIELDS), wanted))
+            line = {0: "kept", 1: "lost {kind}: {first} {second} {third}", 5: "image {image} fault {fault} at {at}"}[wanted[0]]
+            lost += (ran.returncode, ran.stdout.splitlines()[1:]) != (wanted[0], [line.format(**said)])
+            sets += 1
+    tally.count("rust, kept", sets, lost)
+    print(f"rust: {len(files) ** 2} pairs, {sets} sets")
 
 
 def check_page(tally, programs, options):
