@@ -30,9 +30,10 @@ extern "C" {
 
 /* What a call returns: the statuses of g1heap and g1pause. */
 #define G1_GOOD 0u      /* it is so */
-#define G1_DIFFER 1u    /* the images show two graphs */
+#define G1_DIFFER 1u    /* the images show two graphs, or the second does not keep something */
 #define G1_NO_IMAGE 3u  /* bytes that are no image's: a fault */
 #define G1_UNCOVERED 4u /* a slot that is not covered */
+#define G1_NO_SET 5u    /* a set of regions that the first image does not allow: a fault */
 #define G1_MEMORY 6u    /* a request for memory was refused; nothing else is known */
 
 /* answer.kind: how two images differ, with the numbers of each kind in first, second, third. `before` and `after` are
@@ -47,6 +48,20 @@ extern "C" {
 #define G1_SLOTS 7u       /* slots before, after */
 #define G1_DATA 8u        /* which data word, from 0; its value before, after */
 
+/* answer.kind of g1_kept: what the second image does not keep, with its numbers in first, second, third. An object is said
+   by its two addresses, before and after: the two are one object, or the second was found as the copy of the first. */
+#define G1_LOST_SIZES 9u     /* the sizes of the heap: words a region, words a card, regions */
+#define G1_LOST_ROOTS 10u    /* the number of roots */
+#define G1_LOST_SET 11u      /* the region of the set with this number is not free */
+#define G1_LOST_REGION 12u   /* the region outside the set with this number has another kind or top */
+#define G1_LOST_UNPINNED 13u /* this one was pinned, and is not */
+#define G1_LOST_PINNED 14u   /* this one was not pinned, and is */
+#define G1_LOST_ROOT 15u     /* the root with this number references another object, or none */
+#define G1_LOST_COPY 16u     /* object before, after: the second is in a region that was not free */
+#define G1_LOST_HEADER 17u   /* object before, after: another size or number of slots */
+#define G1_LOST_DATA 18u     /* object before, after; the data word, from 0, that has another value */
+#define G1_LOST_SLOT 19u     /* object before, after; the slot, from 0, that references another object, or none */
+
 /* answer.place: what a fault says of `at` */
 #define G1_NOWHERE 0u
 #define G1_REGION 1u /* the number of a region */
@@ -56,9 +71,9 @@ extern "C" {
 
 typedef struct g1_answer {
   uint32_t image;   /* whose fault it is: 1 the first image's, 2 the second's, 0 neither's */
-  uint32_t fault;   /* its number in docs/IMAGE.md; 9 uncovered; 13 memory; 0 none */
+  uint32_t fault;   /* its number in docs/IMAGE.md; 9 uncovered; 10 set; 13 memory; 0 none */
   uint32_t place;   /* G1_NOWHERE .. G1_LOG */
-  uint32_t kind;    /* G1_ROOTS .. G1_DATA, or 0 */
+  uint32_t kind;    /* G1_ROOTS .. G1_DATA, of g1_kept G1_LOST_SIZES .. G1_LOST_SLOT, or 0 */
   uint64_t at;
   uint64_t root;    /* the path to a difference: this root, */
   uint64_t slots;   /* and so many slots, however many the caller's buffer holds */
@@ -105,6 +120,22 @@ uint32_t g1_image(const uint8_t *bytes, size_t length, g1_answer *answer);
    log? G1_GOOD, G1_NO_IMAGE, G1_MEMORY, or G1_UNCOVERED with fault 9, and `at` the lowest address of such a slot.
    It takes time and memory as g1_image does. */
 uint32_t g1_covered(const uint8_t *bytes, size_t length, g1_answer *answer);
+
+/* Does the second image keep what a pause keeps that takes these regions of the first? The regions of the set are free in
+   it. Every other object is at its old address with its data words, even if no root leads to it; the exceptions are
+   humongous objects whose regions are free, too. What led into the set leads to one copy of each object, in a region that
+   was free. Where regions were free, other objects may be, too. Images of heaps with other regions, such as those that
+   g1image.h lays out, have nothing in common that this call could find.
+   set[0 .. set_length) are numbers of regions of the first image, in any order: each ordinary, not pinned, and once.
+   G1_GOOD: it keeps it. Then g1_same finds the images the same, too.
+   G1_DIFFER: it does not. The kind and its numbers say what is lost; of several losses, which one docs/COMPARE.md says.
+   G1_NO_IMAGE: a fault of the first bytes, else of the second.
+   G1_NO_SET: fault 10, and `at` the first region of the set that is not there, not ordinary, pinned, or given before.
+   G1_MEMORY.
+   It takes time in the length of both images, and memory of 4 bytes for each word of both heaps, and 16 for each copy,
+   beside the heaps themselves. */
+uint32_t g1_kept(const uint8_t *before, size_t before_length, const uint8_t *after, size_t after_length, const uint32_t *set,
+                 size_t set_length, g1_answer *answer);
 
 /* Where the calls get their memory. get and resize return NULL if there is none, and else a block that is aligned to 16
    bytes; resize keeps the content, and if it fails the block stays as it was; release takes what they returned. All three are given

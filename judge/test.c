@@ -158,7 +158,47 @@ static void null(const char *name) {
   print_answer(g1_same(f.bytes, f.length, f.bytes, f.length, NULL, 0, &answer), &answer, NULL, 0);
   print_answer(g1_image(none.bytes, 0, &answer), &answer, NULL, 0);
   print_answer(g1_covered(none.bytes, 0, &answer), &answer, NULL, 0);
+  print_answer(g1_kept(none.bytes, 0, none.bytes, 0, NULL, 0, &answer), &answer, NULL, 0);
+  print_answer(g1_kept(f.bytes, f.length, f.bytes, f.length, NULL, 0, &answer), &answer, NULL, 0);
   free(f.bytes);
+}
+
+/* The regions of a set, as words on a line, in a block of their own size. */
+static uint32_t *regions_of(char *words, size_t *count) {
+  uint32_t *set = malloc((strlen(words) / 2 + 1) * sizeof *set);
+  char *end;
+  *count = 0;
+  if (!set) exit(6);
+  for (; *words && *words != '\n'; words = end) {
+    set[*count] = (uint32_t)strtoul(words, &end, 10);
+    if (end == words) break;
+    ++*count;
+  }
+  return realloc(set, *count ? *count * sizeof *set : 1);
+}
+
+/* kept: the pairs and the sets that standard input gives, a line each: two names, and the regions of the set. A set of no
+   region is asked twice, the second time by NULL. */
+static void kept(void) {
+  static char line[4096];
+  while (fgets(line, sizeof line, stdin)) {
+    char before[400], after[400];
+    int used = 0;
+    if (sscanf(line, "%399s %399s%n", before, after, &used) != 2) continue;
+    size_t count;
+    uint32_t *set = regions_of(line + used, &count);
+    file a = read_file(before), b = read_file(after);
+    g1_answer answer, again;
+    memset(&answer, 0xcd, sizeof answer);
+    memset(&again, 0xcd, sizeof again);
+    uint32_t status = g1_kept(a.bytes, a.length, b.bytes, b.length, set, count, &answer);
+    uint32_t other = g1_kept(a.bytes, a.length, b.bytes, b.length, count ? set : NULL, count, &again);
+    print_answer(status, &answer, NULL, 0);
+    if (other != status || memcmp(&again, &answer, sizeof answer)) printf("another answer to the same set\n");
+    free(a.bytes);
+    free(b.bytes);
+    free(set);
+  }
 }
 
 /* ---- threads */
@@ -203,14 +243,17 @@ static void threads(long calls, char **names) {
 
 /* ---- requests for memory refused */
 
-static uint32_t call(int which, file a, file b, g1_answer *answer) {
+enum { CALLS = 4 };
+
+static uint32_t call(int which, file a, file b, uint32_t region, g1_answer *answer) {
   uint64_t path[4];
   if (which == 0) return g1_same(a.bytes, a.length, b.bytes, b.length, path, 4, answer);
+  if (which == 3) return g1_kept(a.bytes, a.length, b.bytes, b.length, &region, 1, answer);
   return which == 1 ? g1_image(a.bytes, a.length, answer) : g1_covered(a.bytes, a.length, answer);
 }
 
 /* One call with a request refused, or all from one on. 1 if the answer is memory's, or if none was refused. */
-static int is_memory(int which, file a, file b, long at, long from) {
+static int is_memory(int which, file a, file b, uint32_t region, long at, long from) {
   g1_answer answer, blank;
   uint32_t status;
   memset(&blank, 0, sizeof blank);
@@ -218,7 +261,7 @@ static int is_memory(int which, file a, file b, long at, long from) {
   of_judge.requests = of_judge.refused = 0;
   of_judge.refuse_at = at;
   of_judge.refuse_from = from;
-  status = call(which, a, b, &answer);
+  status = call(which, a, b, region, &answer);
   if (of_judge.used) printf("%ld blocks are left\n", of_judge.used);
   if (!of_judge.refused) return 1;
   /* a request that is asked again in a smaller size may be refused once and not matter */
@@ -226,25 +269,25 @@ static int is_memory(int which, file a, file b, long at, long from) {
   return status == G1_MEMORY && !memcmp(&answer, &blank, sizeof blank);
 }
 
-/* refuse A B: each request of each call. */
-static void refuse(const char *first, const char *second) {
+/* refuse A B REGION: each request of each call; of g1_kept with a set of this region. */
+static void refuse(const char *first, const char *second, uint32_t region) {
   file a = read_file(first), b = read_file(second);
   const g1_memory memory = {judge_get, judge_resize, judge_release, &of_judge};
-  long tried = 0, wrong = 0, most[3];
+  long tried = 0, wrong = 0, most[CALLS];
   g1_set_memory(&memory);
-  for (int which = 0; which < 3; which++) {
+  for (int which = 0; which < CALLS; which++) {
     g1_answer answer;
     of_judge.requests = 0;
     of_judge.refuse_at = of_judge.refuse_from = -1;
-    call(which, a, b, &answer);
+    call(which, a, b, region, &answer);
     most[which] = of_judge.requests;
     for (long n = 0; n < most[which]; n++) {
-      wrong += !is_memory(which, a, b, n, -1) + !is_memory(which, a, b, -1, n);
+      wrong += !is_memory(which, a, b, region, n, -1) + !is_memory(which, a, b, region, -1, n);
       tried += 2;
     }
   }
   g1_set_memory(NULL);
-  printf("requests %ld %ld %ld tried %ld wrong %ld\n", most[0], most[1], most[2], tried, wrong);
+  printf("requests %ld %ld %ld %ld tried %ld wrong %ld\n", most[0], most[1], most[2], most[3], tried, wrong);
   free(a.bytes);
   free(b.bytes);
 }
@@ -366,10 +409,11 @@ int main(int count, char **words) {
   if (g1_version() != G1_VERSION) return 9;
   if (!strcmp(command, "all")) all(count - 2, words + 2);
   else if (!strcmp(command, "pairs")) pairs();
+  else if (!strcmp(command, "kept")) kept();
   else if (!strcmp(command, "each")) each(count - 2, words + 2);
   else if (!strcmp(command, "null") && count == 3) null(words[2]);
   else if (!strcmp(command, "threads") && count == 11) threads(atol(words[2]), words + 3);
-  else if (!strcmp(command, "refuse") && count == 4) refuse(words[2], words[3]);
+  else if (!strcmp(command, "refuse") && count == 5) refuse(words[2], words[3], (uint32_t)atol(words[4]));
   else if (!strcmp(command, "write")) while (write_one(stdin)) continue;
   else if (!strcmp(command, "many") && count == 4) many(strtoull(words[2], NULL, 10), (uint32_t)atol(words[3]));
   else if (!strcmp(command, "scarce") && count == 3) scarce(strtoull(words[2], NULL, 10));

@@ -7,7 +7,10 @@ tools/build_judge.py makes it; a second time with the sanitizers for addresses a
   headers  both, alone and in either order, as C and as C++
   calls    all pairs of the example images, with room for the path, with none, with too little: status, fault, path and
            numbers are compared with what `g1heap same` prints; each image, and N damaged ones, with image_text.py
-  null     no bytes and no path, by a null pointer
+  kept     all pairs of the example images, with no region, each region, one that is not there, one twice, and two: status,
+           fault, loss and numbers are compared with what `g1heap same --set` prints, and with losses.py; and N / 20 heaps that
+           tools/opponent.py collects, each with an error of each kind of tools/plant_errors.py
+  null     no bytes, no path and no set, by a null pointer
   threads  four threads at once, each on images of its own
   refuse   each request for memory of each call refused, one alone and all from one on
   writer   N random graphs (2000) written by include/g1image.h and laid out by heap_image.py, in another order of objects
@@ -36,7 +39,10 @@ sys.path.insert(0, str(pathlib.Path(__file__).resolve().parent / "lib"))
 
 import check_pages  # noqa: E402
 import image_text  # noqa: E402
+import losses  # noqa: E402
 from heap_image import FIRST, CONTINUATION, FREE, NULL, ORDINARY, Image, drawn, from_bytes  # noqa: E402
+from opponent import NoRoom, Opponent, refused  # noqa: E402
+from plant_errors import ERRORS as COLLECTOR_ERRORS, MORE_ERRORS, Planter  # noqa: E402
 
 TOP = pathlib.Path(__file__).resolve().parent.parent
 KINDS = {"split": 4, "joined": 5, "size": 6, "slots": 7, "data": 8}
@@ -101,6 +107,12 @@ def of_difference(line):
                   second=numbers[1], third=numbers[2]) + path
 
 
+def fault_of(program, named):
+    """The status and the answer of `g1heap: FILE: fault N: TEXT`. None if it said something else."""
+    found = re.match(r"g1heap: (.*): fault (\d+: .*)\n", program.stderr)
+    return [program.returncode] + of_fault(1 if found[1] == str(named) else 2, found[2]) if found else None
+
+
 def by_heap(heap, before, after):
     """What the call has to say of two files: what `g1heap same` prints, as a status and the numbers of an answer."""
     ran = subprocess.run([heap, "same", before, after], capture_output=True, text=True)
@@ -110,8 +122,34 @@ def by_heap(heap, before, after):
         return [0] + answer(objects=int(objects), words=int(words))
     if ran.returncode == 1:
         return [1] + of_difference(line)
-    found = re.fullmatch(r"g1heap: (.*): fault (\d+: .*)", line)
-    return [ran.returncode] + of_fault(1 if found[1] == str(before) else 2, found[2]) if found else [ran.returncode, line]
+    return fault_of(ran, before) or [ran.returncode, line]
+
+
+def of_loss(loss):
+    kind, *three = loss
+    return [1] + answer(kind=kind, first=three[0], second=three[1], third=three[2])
+
+
+def by_rule(before, after, chosen):
+    """What g1_kept has to say of two images and a set, from losses.py."""
+    taken = set()
+    for region in chosen:
+        if refused(before, region) or region in taken:
+            return [5] + answer(image=1, fault=10, place=1, at=region)
+        taken.add(region)
+    loss = losses.first(before, after, taken)
+    return of_loss(loss) if loss else [0] + answer()
+
+
+def agrees(heap, before, after, chosen, wanted):
+    """Whether `g1heap same --set` says so, too. It compares graphs first, and only then looks at the set."""
+    ran = subprocess.run([heap, "same", before, after, "--set", *map(str, chosen)], capture_output=True, text=True)
+    fault, loss = fault_of(ran, before), losses.of_line(ran.stdout.rstrip("\n"))
+    if fault or loss:
+        return (fault or of_loss(loss)) == wanted
+    if ran.returncode == 1:
+        return bool(of_difference(ran.stdout.rstrip("\n"))) and wanted[0] in (1, 5)
+    return ran.returncode == wanted[0] == 0 and ran.stdout.endswith("\nkept\n")
 
 
 def by_text(data, cover):
@@ -245,11 +283,81 @@ def check_each(tally, programs, options):
     shutil.rmtree(each)
 
 
+def sets_of(image, rng):
+    """No region, each one, one that is not there, one twice, and some twos."""
+    regions = range(image.regions)
+    twos = [tuple(rng.sample(regions, 2)) for _ in range(3)] if image.regions > 1 else []
+    one = rng.choice(regions)
+    return [(), *((region,) for region in regions), (image.regions,), (2**32 - 1,), (one, one), *twos]
+
+
+def collection(rng, most_regions=4):
+    """A heap, the collector that has taken a set of its regions, and the heap after."""
+    while True:
+        before = drawn(rng)
+        ordinary = [r for r in range(before.regions) if not refused(before, r)]
+        if not ordinary:
+            continue
+        chosen = rng.sample(ordinary, rng.randint(1, min(most_regions, len(ordinary))))
+        opponent = Opponent(before, chosen, rng, rng.randint(1, 4), rng.choice((4, 12, 48)))
+        try:
+            return before, opponent, opponent.evacuate()
+        except NoRoom:
+            continue
+
+
+def collected(rng, room, count):
+    """Pairs of files with a set: heaps before and after a collection, with one error planted in it, and with two."""
+    for made in range(count):
+        before, opponent, after = collection(rng)
+        planter = Planter(before, opponent, after, rng)
+        planted = [planter.after, *(getattr(planter, error)() for error in COLLECTOR_ERRORS + MORE_ERRORS)]
+        twice = [image and getattr(Planter(before, opponent, image, rng), rng.choice(COLLECTOR_ERRORS))() for image in planted]
+        first = room / f"{made}before"
+        first.write_bytes(before.to_bytes())
+        for number, image in enumerate(planted + twice):
+            if image is not None:
+                second = room / f"{made}after{number}"
+                second.write_bytes(image.to_bytes())
+                yield first, second, opponent.chosen
+
+
+def check_kept(tally, programs, options):
+    rng = random.Random(options.seed + 5)
+    room = programs.room / "kept"
+    room.mkdir()
+    good = {file: from_bytes(file.read_bytes()) for file in examples() if image_text.fault_of(file.read_bytes(), False) is None}
+    cases = [(a, b, set_) for a in examples() for b in examples() for set_ in (sets_of(good[a], rng) if a in good else [(0,)])]
+    from_examples = len(cases)
+    cases += collected(rng, room, options.graphs // 20)
+    listed, expected, disagreeing = [], [], []
+    for a, b, chosen in cases:
+        texts = [file.read_bytes() for file in (a, b)]
+        faults = [image_text.fault_of(text, False) for text in texts]
+        whose = next((which for which, fault in enumerate(faults) if fault), None)
+        wanted = by_rule(*map(from_bytes, texts), chosen) if whose is None else [3] + of_fault(whose + 1, faults[whose])
+        if chosen and not agrees(options.heap, a, b, chosen, wanted):
+            disagreeing.append((a.name, b.name, chosen, wanted))
+        listed.append(" ".join(map(str, (a, b, *chosen))) + "\n")
+        expected.append(wanted)
+    tally.count("g1heap same --set", sum(bool(chosen) for _, _, chosen in cases), len(disagreeing), "".join(f"\n  {case}" for case in disagreeing[:5]))
+    for name in ("test", "test_checked"):
+        lines = programs.lines(tally, name, "kept", text="".join(listed))
+        tally.expect(f"{name}: lines of g1_kept", len(lines), len(expected))
+        tally.count(f"{name}: g1_kept", len(expected), differing(lines, expected))
+    kinds = {wanted[4] for wanted in expected}
+    tally.expect("kinds of losses", kinds, {0, *losses.KINDS})
+    statuses = {s: sum(e[0] == s for e in expected) for s in (0, 1, 3, 5)}
+    print(f"kept: {from_examples} pairs and sets of examples, {len(cases) - from_examples} of collections, by status {statuses}")
+    shutil.rmtree(room)
+
+
 def check_null(tally, programs, options):
     file = TOP / "examples/one_object.img"
     short = answer(image=1, fault=3)
     second = answer(image=2, fault=3)
-    wanted = [[3] + short, [3] + second, [3] + short, by_heap(options.heap, file, file), [3] + short, [3] + short]
+    wanted = [[3] + short, [3] + second, [3] + short, by_heap(options.heap, file, file), [3] + short, [3] + short,
+              [3] + short, [0] + answer()]
     for name in ("test", "test_checked"):
         tally.expect(f"{name}: null", [numbers(line) for line in programs.lines(tally, name, "null", file)], wanted)
 
@@ -273,12 +381,17 @@ def check_threads(tally, programs, options):
 
 def check_refuse(tally, programs, options):
     rng = random.Random(options.seed + 2)
-    for error in ("none", "data"):
-        before, after = pair(rng, 300, error)
+    cases = [(*pair(rng, 300, error), 0) for error in ("none", "data")]
+    copies = {}
+    while len(copies) < 3:
+        before, opponent, after = collection(rng, most_regions=1)
+        copies = opponent.copies
+    cases.append((before.to_bytes(), after.to_bytes(), *opponent.chosen))
+    for before, after, region in cases:
         a, b = programs.room / "refuse_a", programs.room / "refuse_b"
         a.write_bytes(before)
         b.write_bytes(after)
-        lines = programs.lines(tally, "test_checked", "refuse", a, b)
+        lines = programs.lines(tally, "test_checked", "refuse", a, b, region)
         tried, wrong = numbers(lines[-1].split("tried ")[1].replace("wrong", ""))
         tally.count("refused memory", tried, wrong, "".join(lines[:-1]))
         print("refuse:", lines[-1])
@@ -564,7 +677,18 @@ def check_rust(tally, programs, options):
                     "{before} before, {after} after; {first} {second} {third}", 3: "image {image} fault {fault} at {at}"}[wanted[0]]
             wrong += (ran.returncode, ran.stdout) != (wanted[0], line.format(**said) + "\n")
     tally.count("rust", len(files) ** 2, wrong)
-    print(f"rust: {len(files) ** 2} pairs")
+    lost, sets = 0, 0
+    for file in files[:6]:
+        image = from_bytes(file.read_bytes())
+        for region in range(image.regions + 1):
+            wanted = by_rule(image, image, (region,))
+            ran = subprocess.run([programs.room / "target/release/judge-rust", file, file, str(region)], capture_output=True, text=True)
+            said = dict(zip(("", *FIELDS), wanted))
+            line = {0: "kept", 1: "lost {kind}: {first} {second} {third}", 5: "image {image} fault {fault} at {at}"}[wanted[0]]
+            lost += (ran.returncode, ran.stdout.splitlines()[1:]) != (wanted[0], [line.format(**said)])
+            sets += 1
+    tally.count("rust, kept", sets, lost)
+    print(f"rust: {len(files) ** 2} pairs, {sets} sets")
 
 
 def check_page(tally, programs, options):
@@ -585,8 +709,8 @@ def check_page(tally, programs, options):
     print(f"page: {steps} commands")
 
 
-CHECKS = {"headers": check_headers, "calls": check_calls, "null": check_null, "threads": check_threads, "refuse": check_refuse, "writer": check_writer,
-          "vm": check_vm, "rust": check_rust, "page": check_page}
+CHECKS = {"headers": check_headers, "calls": check_calls, "kept": check_kept, "null": check_null, "threads": check_threads,
+          "refuse": check_refuse, "writer": check_writer, "vm": check_vm, "rust": check_rust, "page": check_page}
 
 
 def main():

@@ -1,12 +1,18 @@
 -- The status of a verdict is exactly what the bytes are.
 use Rattle.std.proofs.Common.{◌≡◌, ◌⊎◌, ◌↔◌, ℕ, inl, inr, List, ◌∷◌, [], refl, sym, subst, ◌∙◌, arith}
 use Rattle.g1_words.specs.Graph.{SameGraph}
+use Rattle.g1_words.specs.Valid.{IsValid}
 use Rattle.g1_image.specs.Cards.{Covered, uncovered}
+use Rattle.g1_image.specs.Image.{Image, IsTextOf}
 use Rattle.g1_image.specs.Laws.{OneImage}
 use Rattle.g1_image.specs.Verdict.{NoFaultOfText}
-use Rattle.g1judge.specs.declared.verdict.Verdict.TheVariants.{Good, Same, Differ, NoImage, Uncovered, Memory}
+use Rattle.g1_choose.specs.Laws.{AcceptedNotBad}
+use Rattle.g1_choose.specs.Named.{AreTakeable}
+use Rattle.g1_kept.specs.Keeps.{Keeps}
+use Rattle.g1judge.specs.declared.verdict.Verdict.TheVariants.{Good, Same, Differ, NoImage, Uncovered, Loss, NoSet, Memory}
 use Rattle.g1judge.specs.Judged.{IsText, JudgesCover}
-use Rattle.g1judge.specs.Laws.{ShowOneGraph, ShowTwoGraphs, HasFault, IsCoveredText, IsBareText, PairStatus, ImageStatus, CoverStatus, MemoryStatus}
+use Rattle.g1judge.specs.Laws.{ShowOneGraph, ShowTwoGraphs, HasFault, IsCoveredText, IsBareText, ShowKept, ShowLost, ShowNoSet}
+use Rattle.g1judge.specs.Laws.{PairStatus, ImageStatus, CoverStatus, KeptStatus, MemoryStatus}
 
 other : {A : Type 0} (m n : ℕ) → (m ≡ n → ⊥) → (A → ⊥) → (m ≡ n) ↔ A
 other m n f g = ((λ e. absurd (f e)), λ a. absurd (g a))
@@ -51,6 +57,8 @@ module _ (one : OneImage) (none : NoFaultOfText) where
         no_other = inr (inr refl);
       }
   pair_status before after (Uncovered slot) j = absurd j
+  pair_status before after (Loss l) j = absurd j
+  pair_status before after (NoSet region) j = absurd j
   pair_status before after Memory j = inl refl
 
   pub image_status : ImageStatus
@@ -69,6 +77,8 @@ module _ (one : OneImage) (none : NoFaultOfText) where
         no_other = inr refl;
       }
   image_status bytes (Uncovered slot) j = absurd j
+  image_status bytes (Loss l) j = absurd j
+  image_status bytes (NoSet region) j = absurd j
   image_status bytes Memory j = inl refl
 
   one_cover : (bytes : List ℕ) → IsCoveredText bytes → IsBareText bytes → ⊥
@@ -102,7 +112,63 @@ module _ (one : OneImage) (none : NoFaultOfText) where
         four = ((λ e. bare), λ z. refl);
         no_other = inr (inr refl);
       }
+  cover_status bytes (Loss l) j = absurd j
+  cover_status bytes (NoSet region) j = absurd j
   cover_status bytes Memory j = inl refl
+
+valid_of : (bytes : List ℕ) (i : Image) → IsTextOf bytes i → IsValid i.heap
+valid_of bytes i (v, text) = text.0.heap
+
+module _ (one : OneImage) (none : NoFaultOfText) (accepted : AcceptedNotBad) where
+  -- an image that allows the set is no other one that does not
+  no_set : (before after set : List ℕ) (g : Image) → IsTextOf before g → AreTakeable g.heap set → ShowNoSet before after set → ⊥
+  no_set before after set g s takeable (i, j, u, v, never) = never (subst (λ z. AreTakeable z.heap set) (one before g i s u) takeable)
+
+  kept_lost : (before after set : List ℕ) → ShowKept before after set → ShowLost before after set → ⊥
+  kept_lost before after set (g, h, s, t, takeable, keeps) (i, j, u, v, other, never) =
+      never (subst (λ z. Keeps set i.heap z.heap) (one after h j t v) (subst (λ z. Keeps set z.heap h.heap) (one before g i s u) keeps))
+
+  pub kept_status : KeptStatus
+  kept_status before after set Good (g, h, s, t, j) =
+      let shows : ShowKept before after set = (g, h, s, t, j.0, j.1) in
+      inr record {
+        zero = ((λ e. shows), λ z. refl);
+        one = other 0 1 (λ e. omega (arith, e)) (kept_lost before after set shows);
+        three = other 0 3 (λ e. omega (arith, e)) (neither one none before after (g, s) (h, t));
+        five = other 0 5 (λ e. omega (arith, e)) (no_set before after set g s j.0);
+        no_other = inl refl;
+      }
+  kept_status before after set (Same objects words) (g, h, s, t, j) = absurd j
+  kept_status before after set (Differ d ends) (g, h, s, t, j) = absurd j
+  kept_status before after set (NoImage image e) j =
+      let bad : HasFault before ⊎ HasFault after = elim j [ inl k ↦ inl (e, k.1) | inr k ↦ inr (e, k.2) ] in
+      inr record {
+        zero = other 3 0 (λ e. omega (arith, e)) (λ z. neither one none before after (z.0, z.2) (z.1, z.3) bad);
+        one = other 3 1 (λ e. omega (arith, e)) (λ z. neither one none before after (z.0, z.2) (z.1, z.3) bad);
+        three = ((λ e. bad), λ z. refl);
+        five = other 3 5 (λ e. omega (arith, e)) (λ z. neither one none before after (z.0, z.2) (z.1, z.3) bad);
+        no_other = inr (inr (inl refl));
+      }
+  kept_status before after set (Uncovered slot) (g, h, s, t, j) = absurd j
+  kept_status before after set (Loss l) (g, h, s, t, j) =
+      let shows : ShowLost before after set = (g, h, s, t, j.0, j.1.never) in
+      inr record {
+        zero = other 1 0 (λ e. omega (arith, e)) (λ z. kept_lost before after set z shows);
+        one = ((λ e. shows), λ z. refl);
+        three = other 1 3 (λ e. omega (arith, e)) (neither one none before after (g, s) (h, t));
+        five = other 1 5 (λ e. omega (arith, e)) (no_set before after set g s j.0);
+        no_other = inr (inl refl);
+      }
+  kept_status before after set (NoSet region) (g, h, s, t, j) =
+      let shows : ShowNoSet before after set = (g, h, s, t, λ takeable. accepted g.heap set j.0 (valid_of before g s) takeable j.1) in
+      inr record {
+        zero = other 5 0 (λ e. omega (arith, e)) (λ z. no_set before after set z.0 z.2 z.4 shows);
+        one = other 5 1 (λ e. omega (arith, e)) (λ z. no_set before after set z.0 z.2 z.4 shows);
+        three = other 5 3 (λ e. omega (arith, e)) (neither one none before after (g, s) (h, t));
+        five = ((λ e. shows), λ z. refl);
+        no_other = inr (inr (inr refl));
+      }
+  kept_status before after set Memory j = inl refl
 
 pub memory_status : MemoryStatus
 memory_status Good = ((λ e. absurd (omega (arith, e))), λ e. cc)
@@ -110,4 +176,6 @@ memory_status (Same objects words) = ((λ e. absurd (omega (arith, e))), λ e. c
 memory_status (Differ d ends) = ((λ e. absurd (omega (arith, e))), λ e. cc)
 memory_status (NoImage image e) = ((λ e. absurd (omega (arith, e))), λ e. cc)
 memory_status (Uncovered slot) = ((λ e. absurd (omega (arith, e))), λ e. cc)
+memory_status (Loss l) = ((λ e. absurd (omega (arith, e))), λ e. cc)
+memory_status (NoSet region) = ((λ e. absurd (omega (arith, e))), λ e. cc)
 memory_status Memory = ((λ e. refl), λ e. refl)

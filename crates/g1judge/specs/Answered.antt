@@ -9,10 +9,12 @@ use Rattle.g1_same.specs.declared.difference.How.{How}
 use Rattle.g1_same.specs.declared.difference.How.TheVariants.{NullBefore, NullAfter, Split, Joined, Size, Slots, Data}
 use Rattle.g1_same.specs.declared.difference.Difference.{Difference}
 use Rattle.g1_same.specs.declared.difference.Difference.TheVariants.{Roots, At}
+use Rattle.g1_kept.specs.declared.lost.Lost.{Lost}
+use Rattle.g1_kept.specs.declared.lost.Lost.TheVariants as lost
 use Rattle.g1judge.specs.declared.answer.Answer.{Answer}
 use Rattle.g1judge.specs.declared.verdict.Ends.{Ends}
 use Rattle.g1judge.specs.declared.verdict.Verdict.{Verdict}
-use Rattle.g1judge.specs.declared.verdict.Verdict.TheVariants.{Good, Same, Differ, NoImage, Uncovered, Memory}
+use Rattle.g1judge.specs.declared.verdict.Verdict.TheVariants.{Good, Same, Differ, NoImage, Uncovered, Loss, NoSet, Memory}
 
 -- THE STATUS that a call returns
 abbrev pub status_of : Verdict → ℕ
@@ -21,6 +23,8 @@ status_of (Same objects words) = 0
 status_of (Differ d ends) = 1
 status_of (NoImage image e) = 3
 status_of (Uncovered slot) = 4
+status_of (Loss l) = 1
+status_of (NoSet region) = 5
 status_of Memory = 6
 
 -- what a fault names: 1 a region, 2 a root, 3 a slot, 4 a place of the log, 0 nothing
@@ -33,6 +37,7 @@ place_of (fault.Reference (place.Slot address)) = 3
 place_of (fault.Card (stand.Dirty index)) = 4
 place_of (fault.Card (stand.Region region)) = 1
 place_of (fault.Uncovered address) = 3
+place_of (fault.Set region) = 1
 place_of e = 0
 
 -- its number
@@ -45,6 +50,7 @@ at_of (fault.Reference (place.Slot address)) = address
 at_of (fault.Card (stand.Dirty index)) = index
 at_of (fault.Card (stand.Region region)) = region
 at_of (fault.Uncovered address) = address
+at_of (fault.Set region) = region
 at_of e = 0
 
 -- the answer that says nothing
@@ -74,6 +80,20 @@ abbrev pub answer_difference : Difference → Ends → Answer
 answer_difference (Roots m n) e = numbers 1 m n 0
 answer_difference (At k ss how) e = record (answer_how how e) { root = k; slots = length ss.items; before = e.before; after = e.after }
 
+-- what is lost, and where
+abbrev pub answer_loss : Lost → Answer
+answer_loss lost.Sizes = numbers 9 0 0 0
+answer_loss lost.Roots = numbers 10 0 0 0
+answer_loss (lost.Set r) = numbers 11 r 0 0
+answer_loss (lost.Region r) = numbers 12 r 0 0
+answer_loss (lost.Unpinned r) = numbers 13 r 0 0
+answer_loss (lost.Pinned r) = numbers 14 r 0 0
+answer_loss (lost.Root n) = numbers 15 n 0 0
+answer_loss (lost.Copy a b) = numbers 16 a b 0
+answer_loss (lost.Header a b) = numbers 17 a b 0
+answer_loss (lost.Data a b k) = numbers 18 a b k
+answer_loss (lost.Slot a b n) = numbers 19 a b n
+
 -- THE ANSWER that a call writes
 abbrev pub answer_of : Verdict → Answer
 answer_of Good = nothing
@@ -81,6 +101,8 @@ answer_of (Same objects words) = record nothing { objects = objects; words = wor
 answer_of (Differ d e) = answer_difference d e
 answer_of (NoImage image e) = answer_fault image e
 answer_of (Uncovered slot) = answer_fault 1 (fault.Uncovered slot)
+answer_of (Loss l) = answer_loss l
+answer_of (NoSet region) = answer_fault 1 (fault.Set region)
 answer_of Memory = answer_fault 0 fault.Memory
 
 -- the slots of the path to a difference

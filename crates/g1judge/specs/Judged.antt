@@ -1,5 +1,5 @@
 -- What bytes are found to be.
-use Rattle.std.specs.Prelude.{◌≡◌, ◌≢◌, ◌<◌, ℕ, zero, suc, ◌+◌, ◌⊎◌, List, length, ◌∷◌, sum_by, Contains}
+use Rattle.std.specs.Prelude.{◌≡◌, ◌≢◌, ◌<◌, ℕ, zero, suc, ◌+◌, ◌⊎◌, List, length, slice_index, ◌∷◌, sum_by, Contains}
 use Rattle.g1_words.specs.declared.fault.Fault.{Fault}
 use Rattle.g1_words.specs.declared.fault.Fault.TheVariants as fault
 use Rattle.g1_words.specs.Heap.{Heap, word, object_at, objects}
@@ -7,15 +7,19 @@ use Rattle.g1_words.specs.Graph.{SameGraph}
 use Rattle.g1_image.specs.Image.{Image, IsTextOf}
 use Rattle.g1_image.specs.Faults.{FaultOf}
 use Rattle.g1_image.specs.Cards.{Covered, uncovered}
+use Rattle.g1_choose.specs.Named.{AreTakeable, IsFirstBad}
 use Rattle.g1_same.specs.declared.difference.How.{How}
 use Rattle.g1_same.specs.declared.difference.How.TheVariants.{Data}
 use Rattle.g1_same.specs.declared.difference.Difference.{Difference}
 use Rattle.g1_same.specs.declared.difference.Difference.TheVariants.{Roots, At}
 use Rattle.g1_same.specs.Path.{Together}
 use Rattle.g1_same.specs.Same.{IsFirstDifference, IsRenaming}
+use Rattle.g1_kept.specs.declared.lost.Lost.{Lost}
+use Rattle.g1_kept.specs.Keeps.{Keeps}
+use Rattle.g1_kept.specs.Lost.{IsLoss, IsEarliest}
 use Rattle.g1judge.specs.declared.verdict.Ends.{Ends}
 use Rattle.g1judge.specs.declared.verdict.Verdict.{Verdict}
-use Rattle.g1judge.specs.declared.verdict.Verdict.TheVariants.{Good, Same, Differ, NoImage, Uncovered, Memory}
+use Rattle.g1judge.specs.declared.verdict.Verdict.TheVariants.{Good, Same, Differ, NoImage, Uncovered, Loss, NoSet, Memory}
 
 -- the words of the objects at these addresses, together
 abbrev pub words_of : Heap → List ℕ → ℕ
@@ -67,6 +71,31 @@ JudgesSlots i (Uncovered slot) = (others : List ℕ) × (uncovered i ≡ slot �
 JudgesSlots i Memory = Unit {0}
 JudgesSlots i _ = ⊥
 
+-- a heap does not keep what a pause of the set keeps of another one, and this is lost
+pub record Loses (set : List ℕ) (g h : Heap) (l : Lost) : Type 0 where
+  pub is : IsLoss set g h l
+  pub earliest : IsEarliest set g h l
+  pub never : Keeps set g h → ⊥
+
+-- what a heap keeps of another one
+abbrev pub JudgesLoss : List ℕ → Heap → Heap → Verdict → Type 0
+JudgesLoss set g h Good = Keeps set g h
+JudgesLoss set g h (Loss l) = Loses set g h l
+JudgesLoss set g h Memory = Unit {0}
+JudgesLoss set g h _ = ⊥
+
+-- the first region of a set that the heap does not allow
+abbrev pub IsRefused : Heap → List ℕ → ℕ → Type 0
+IsRefused h set region = (i : ℕ) × IsFirstBad h set i × (region ≡ slice_index set i)
+
+-- the same of two images and a set that the first allows, else the first region of the set that it does not allow
+abbrev pub JudgesSet : Image → Image → List ℕ → Verdict → Type 0
+JudgesSet g h set Good = AreTakeable g.heap set × Keeps set g.heap h.heap
+JudgesSet g h set (Loss l) = AreTakeable g.heap set × Loses set g.heap h.heap l
+JudgesSet g h set (NoSet region) = IsRefused g.heap set region
+JudgesSet g h set Memory = Unit {0}
+JudgesSet g h set _ = ⊥
+
 -- bytes that were not read to an image
 abbrev pub IsUnread : ℕ → Fault → Verdict → Type 0
 IsUnread which e (NoImage image f) = (image ≡ which) × (f ≡ e) × (e ≢ fault.Memory)
@@ -77,14 +106,23 @@ IsUnread which e _ = ⊥
 abbrev pub IsText : List ℕ → Type 0
 IsText bytes = (i : Image) × IsTextOf bytes i
 
+-- the fault is that of the first of two byte strings, or the first is an image's text and the fault is that of the second
+abbrev pub IsPairFault : List ℕ → List ℕ → ℕ → Fault → Type 0
+IsPairFault before after image e = ((image ≡ 1) × FaultOf before e) ⊎ ((image ≡ 2) × IsText before × FaultOf after e)
+
+-- two byte strings that were not read to two images
+abbrev pub AreUnread : List ℕ → List ℕ → Verdict → Type 0
+AreUnread before after (NoImage image e) = IsPairFault before after image e
+AreUnread before after Memory = Unit {0}
+AreUnread before after _ = ⊥
+
 -- THE VERDICT of two byte strings. Memory may be refused at any time.
 abbrev pub JudgesPair : List ℕ → List ℕ → Verdict → Type 0
 JudgesPair before after (Same objects words) =
     (g : Image) × (h : Image) × IsTextOf before g × IsTextOf after h × ShowSame g.heap h.heap objects words
 JudgesPair before after (Differ d e) =
     (g : Image) × (h : Image) × IsTextOf before g × IsTextOf after h × ShowOther g.heap h.heap d e
-JudgesPair before after (NoImage image e) =
-    ((image ≡ 1) × FaultOf before e) ⊎ ((image ≡ 2) × IsText before × FaultOf after e)
+JudgesPair before after (NoImage image e) = IsPairFault before after image e
 JudgesPair before after Memory = Unit {0}
 JudgesPair before after _ = ⊥
 
@@ -102,3 +140,9 @@ JudgesCover bytes (Uncovered slot) = (i : Image) × IsTextOf bytes i × (others 
 JudgesCover bytes (NoImage image e) = (image ≡ 1) × FaultOf bytes e
 JudgesCover bytes Memory = Unit {0}
 JudgesCover bytes _ = ⊥
+
+-- THE VERDICT of two byte strings on what the second keeps of the first
+abbrev pub JudgesKept : List ℕ → List ℕ → List ℕ → Verdict → Type 0
+JudgesKept before after set (NoImage image e) = IsPairFault before after image e
+JudgesKept before after set Memory = Unit {0}
+JudgesKept before after set v = (g : Image) × (h : Image) × IsTextOf before g × IsTextOf after h × JudgesSet g h set v

@@ -5,9 +5,11 @@ use Rattle.g1_words.specs.Graph.{SameGraph}
 use Rattle.g1_image.specs.Image.{Image, IsTextOf}
 use Rattle.g1_image.specs.Faults.{FaultOf}
 use Rattle.g1_image.specs.Cards.{Covered}
+use Rattle.g1_choose.specs.Named.{AreTakeable}
+use Rattle.g1_kept.specs.Keeps.{Keeps}
 use Rattle.g1judge.specs.declared.verdict.Verdict.{Verdict}
 use Rattle.g1judge.specs.declared.verdict.Verdict.TheVariants.{Memory}
-use Rattle.g1judge.specs.Judged.{IsText, JudgesPair, JudgesImage, JudgesCover}
+use Rattle.g1judge.specs.Judged.{IsText, JudgesPair, JudgesImage, JudgesCover, JudgesKept}
 use Rattle.g1judge.specs.Answered.{status_of}
 
 -- the bytes are the texts of two images that show one graph from their roots
@@ -30,6 +32,20 @@ IsCoveredText bytes = (i : Image) × IsTextOf bytes i × Covered i
 abbrev pub IsBareText : List ℕ → Type 0
 IsBareText bytes = (i : Image) × IsTextOf bytes i × (Covered i → ⊥)
 
+-- the bytes are the texts of two images, the first allows the set, and the second keeps what a pause of it keeps
+abbrev pub ShowKept : List ℕ → List ℕ → List ℕ → Type 0
+ShowKept before after set =
+    (g : Image) × (h : Image) × IsTextOf before g × IsTextOf after h × AreTakeable g.heap set × Keeps set g.heap h.heap
+
+-- and the second does not keep it
+abbrev pub ShowLost : List ℕ → List ℕ → List ℕ → Type 0
+ShowLost before after set =
+    (g : Image) × (h : Image) × IsTextOf before g × IsTextOf after h × AreTakeable g.heap set × (Keeps set g.heap h.heap → ⊥)
+
+-- the bytes are the texts of two images, and the first does not allow the set
+abbrev pub ShowNoSet : List ℕ → List ℕ → List ℕ → Type 0
+ShowNoSet before after set = (g : Image) × (h : Image) × IsTextOf before g × IsTextOf after h × (AreTakeable g.heap set → ⊥)
+
 -- what the status of g1_same says, each way round
 pub record SaysOfPair (before after : List ℕ) (status : ℕ) : Type 0 where
   pub zero : (status ≡ 0) ↔ ShowOneGraph before after
@@ -50,6 +66,14 @@ pub record SaysOfCover (bytes : List ℕ) (status : ℕ) : Type 0 where
   pub four : (status ≡ 4) ↔ IsBareText bytes
   pub no_other : (status ≡ 0) ⊎ (status ≡ 3) ⊎ (status ≡ 4)
 
+-- what the status of g1_kept says
+pub record SaysOfKept (before after set : List ℕ) (status : ℕ) : Type 0 where
+  pub zero : (status ≡ 0) ↔ ShowKept before after set
+  pub one : (status ≡ 1) ↔ ShowLost before after set
+  pub three : (status ≡ 3) ↔ (HasFault before ⊎ HasFault after)
+  pub five : (status ≡ 5) ↔ ShowNoSet before after set
+  pub no_other : (status ≡ 0) ⊎ (status ≡ 1) ⊎ (status ≡ 3) ⊎ (status ≡ 5)
+
 -- where memory was not refused, the status of a verdict is exactly what the bytes are
 abbrev pub PairStatus : Type 0
 PairStatus = (before after : List ℕ) (v : Verdict) → JudgesPair before after v → (v ≡ Memory) ⊎ SaysOfPair before after (status_of v)
@@ -59,6 +83,10 @@ ImageStatus = (bytes : List ℕ) (v : Verdict) → JudgesImage bytes v → (v �
 
 abbrev pub CoverStatus : Type 0
 CoverStatus = (bytes : List ℕ) (v : Verdict) → JudgesCover bytes v → (v ≡ Memory) ⊎ SaysOfCover bytes (status_of v)
+
+abbrev pub KeptStatus : Type 0
+KeptStatus = (before after set : List ℕ) (v : Verdict) → JudgesKept before after set v
+    → (v ≡ Memory) ⊎ SaysOfKept before after set (status_of v)
 
 -- 6 is the status of memory alone
 abbrev pub MemoryStatus : Type 0

@@ -1,8 +1,9 @@
 ghost use Rattle.std.specs.Prelude.{◌≡◌};
-ghost use Rattle.g1judge.specs.Answered.{status_of, place_of, at_of, nothing, answer_fault, numbers, answer_how, answer_difference, answer_of, path_of, written};
+ghost use Rattle.g1judge.specs.Answered.{status_of, place_of, at_of, nothing, answer_fault, numbers, answer_how, answer_difference, answer_loss, answer_of, path_of, written};
 
 use crate::answer::Answer;
 use crate::verdict::{Ends, Verdict};
+use g1_kept::Lost;
 use g1_same::{Difference, How};
 use g1_words::{Fault, Place, Stand};
 
@@ -13,8 +14,10 @@ fn status(verdict: &Verdict) -> u32
     match verdict {
         Verdict::Good | Verdict::Same { .. } => 0,
         Verdict::Differ { .. } => 1,
+        Verdict::Loss(_) => 1,
         Verdict::NoImage { .. } => 3,
         Verdict::Uncovered(_) => 4,
+        Verdict::NoSet(_) => 5,
         Verdict::Memory => 6,
     }
 }
@@ -33,6 +36,7 @@ fn place(fault: &Fault) -> (u32, u64)
         Fault::Card(Stand::Dirty(index)) => (4, u64::from(*index)),
         Fault::Card(Stand::Region(region)) => (1, u64::from(*region)),
         Fault::Uncovered(address) => (3, *address),
+        Fault::Set(region) => (1, u64::from(*region)),
         _ => (0, 0),
     }
 }
@@ -120,6 +124,32 @@ fn of_difference(difference: &Difference, ends: &Ends) -> Answer
     }
 }
 
+fn of_loss(loss: &Lost) -> Answer
+    ensures { result ≡ answer_loss loss.now }
+{
+    match loss {
+        Lost::Sizes => of_numbers(9, 0, 0, 0),
+        Lost::Roots => of_numbers(10, 0, 0, 0),
+        Lost::Set(region) => of_numbers(11, u64::from(*region), 0, 0),
+        Lost::Region(region) => of_numbers(12, u64::from(*region), 0, 0),
+        Lost::Unpinned(region) => of_numbers(13, u64::from(*region), 0, 0),
+        Lost::Pinned(region) => of_numbers(14, u64::from(*region), 0, 0),
+        Lost::Root(index) => of_numbers(15, *index, 0, 0),
+        Lost::Copy { before, after } => of_numbers(16, *before, *after, 0),
+        Lost::Header { before, after } => of_numbers(17, *before, *after, 0),
+        Lost::Data {
+            before,
+            after,
+            word,
+        } => of_numbers(18, *before, *after, *word),
+        Lost::Slot {
+            before,
+            after,
+            slot,
+        } => of_numbers(19, *before, *after, *slot),
+    }
+}
+
 fn answer_to(verdict: &Verdict) -> Answer
     ensures { result ≡ answer_of verdict.now }
 {
@@ -133,6 +163,8 @@ fn answer_to(verdict: &Verdict) -> Answer
         Verdict::Differ { difference, ends } => of_difference(difference, ends),
         Verdict::NoImage { image, fault } => of_fault(*image, fault),
         Verdict::Uncovered(slot) => of_fault(1, &Fault::Uncovered(*slot)),
+        Verdict::Loss(loss) => of_loss(loss),
+        Verdict::NoSet(region) => of_fault(1, &Fault::Set(*region)),
         Verdict::Memory => of_fault(0, &Fault::Memory),
     }
 }

@@ -1,12 +1,12 @@
 ghost use Rattle.std.specs.Prelude.{◌≡◌, ◌⊎◌};
 ghost use Rattle.g1judge.specs.declared.verdict.Verdict.{Verdict};
-ghost use Rattle.g1judge.specs.Judged.{JudgesPair, JudgesImage, JudgesCover};
+ghost use Rattle.g1judge.specs.Judged.{JudgesPair, JudgesImage, JudgesCover, JudgesKept};
 ghost use Rattle.g1judge.specs.Answered.{status_of, answer_of, path_of, written};
-ghost use Rattle.g1judge.specs.Laws.{SaysOfPair, SaysOfImage, SaysOfCover};
+ghost use Rattle.g1judge.specs.Laws.{SaysOfPair, SaysOfImage, SaysOfCover, SaysOfKept};
 
 use crate::answer::Answer;
 use crate::answering::say;
-use crate::judging::{judge_cover, judge_image, judge_pair};
+use crate::judging::{judge_cover, judge_image, judge_kept, judge_pair};
 use crate::laws;
 use std::alloc::Global;
 
@@ -54,5 +54,23 @@ pub extern "C" fn g1_covered(alloc: Global, bytes: &[u8], answer: &mut Answer) -
 {
     let verdict = judge_cover(alloc, bytes);
     laws::cover_status();
+    say(&verdict, &mut [], answer)
+}
+
+/// Whether two byte strings are the texts of two images of which the second keeps what a pause of these
+/// regions of the first keeps.
+#[unsafe(no_mangle)]
+pub extern "C" fn g1_kept(
+    alloc: Global,
+    before: &[u8],
+    after: &[u8],
+    set: &[u32],
+    answer: &mut Answer,
+) -> u32
+    ensures said { (v : Verdict) × JudgesKept before.now after.now set.now v × (result ≡ status_of v) × (answer.new ≡ answer_of v) }
+    ensures status { (result ≡ 6) ⊎ SaysOfKept before.now after.now set.now result }
+{
+    let verdict = judge_kept(alloc, before, after, set);
+    laws::kept_status();
     say(&verdict, &mut [], answer)
 }

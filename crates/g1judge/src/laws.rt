@@ -1,4 +1,4 @@
-ghost use Rattle.g1judge.specs.Laws.{PairStatus, ImageStatus, CoverStatus, MemoryStatus};
+ghost use Rattle.g1judge.specs.Laws.{PairStatus, ImageStatus, CoverStatus, KeptStatus, MemoryStatus};
 
 /// Where memory was not refused, `g1_same` returns 0 exactly where both byte strings are images' texts
 /// that show one graph, 1 exactly where they are and show two, and 3 exactly where one has a fault.
@@ -24,6 +24,17 @@ pub fn cover_status()
 {
     g1_image::laws::one_text();
     g1_image::laws::one_fault();
+}
+
+/// The same of `g1_kept`: 0 exactly where both byte strings are images' texts, the first allows the set,
+/// and the second keeps what a pause of it keeps; 1 exactly where it does not keep it; 3 exactly where
+/// one of the byte strings has a fault; and 5 exactly where the first image does not allow the set.
+pub fn kept_status()
+    ensures { KeptStatus }
+{
+    g1_image::laws::one_text();
+    g1_image::laws::one_fault();
+    g1_choose::laws::accepted_or_bad();
 }
 
 /// 6 is returned for memory alone.

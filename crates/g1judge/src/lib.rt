@@ -8,13 +8,16 @@
 //!    the path to it, else the fault of the first image, else that of the second.
 //! 2. `g1_image` says whether bytes are an image's text, else their fault.
 //! 3. `g1_covered` asks beside that whether each slot is covered, and says the lowest that is not.
-//! 4. What a call finds is a `Verdict`. Its status is what the call returns, and is the one with which
+//! 4. `g1_kept` says whether the second of two images keeps what a pause of some regions of the first
+//!    keeps, else what is lost first, else the first region of the set that the first image does not
+//!    allow, else their faults as `g1_same` does.
+//! 5. What a call finds is a `Verdict`. Its status is what the call returns, and is the one with which
 //!    `g1heap` and `g1pause` end; its numbers are an `Answer`; its path goes into the caller's buffer as
 //!    far as there is room, and the answer says how long it is.
 //!
 //! Each call states again the clauses of the call below it: `decode` of g1_image, `first_uncovered` of
-//! g1_rem, `compare` of g1_same. That the three statuses of a sound answer exclude each other, and that
-//! memory alone has its status, are laws.
+//! g1_rem, `compare` of g1_same, `given` of g1_choose and `kept` of g1_kept. That the statuses of a sound
+//! answer exclude each other, and that memory alone has its status, are laws.
 #![tactic(auto)]
 
 mod answer;

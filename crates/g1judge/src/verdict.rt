@@ -1,3 +1,4 @@
+use g1_kept::Lost;
 use g1_same::Difference;
 use g1_words::Fault;
 
@@ -23,6 +24,10 @@ pub enum Verdict {
     NoImage { image: u32, fault: Fault },
     /// The lowest slot of an image that is not covered.
     Uncovered(u64),
+    /// The second image doesn't keep this.
+    Loss(Lost),
+    /// The first region of a set that the first image doesn't allow.
+    NoSet(u32),
     /// A request for memory was refused.
     Memory,
 }
