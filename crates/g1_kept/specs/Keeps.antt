@@ -45,8 +45,8 @@ pub record IsOutside (set : List ℕ) (g h : Heap) (a : ℕ) : Type 0 where
   pub outside : IsFalse (in_set g set a)
   pub in_use : kind h (region_of g a) ≢ Free
 
--- The objects that have to be in the heap after: those outside the set, the objects of the set that roots reference, and
--- those that slots of any of these objects reference.
+-- The objects that have to be in the heap after: those outside the set, and each object of the set that a root references, or a
+-- slot of an object that has to be there.
 pub data Remains (set : List ℕ) (g h : Heap) : ℕ → Type 0 where
   outside : {a : ℕ} → IsOutside set g h a → Remains set g h a
   root : {a : ℕ} → Contains (root_targets g) a → IsTrue (in_set g set a) → Remains set g h a
