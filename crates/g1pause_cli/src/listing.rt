@@ -1,7 +1,9 @@
 //! What the roots reach of each region, and which regions a budget buys, line by line.
-ghost use Rattle.std.specs.Prelude.{◌≡◌, ◌<◌, length, map, All, IfOk};
+ghost use Rattle.std.specs.Prelude.{◌≡◌, ◌<◌, ◌++◌, ℕ, List, length, map, All, string_bytes, OnOk, IfOk};
 ghost use Rattle.g1_choose.specs.Cost.{IsCost};
-ghost use Rattle.g1_choose.specs.Choice.{MayBeLive, cost_of, IsChosen};
+ghost use Rattle.g1_choose.specs.Choice.{MayBeLive, cost_of, pause_cost, IsChosen};
+ghost use Rattle.g1_text.specs.Lines.{text_of};
+ghost use Rattle.g1pause_cli.specs.Tables.{live_lines, candidate_line, candidate_lines, ListsChoice, IsLiveText, IsChoiceText};
 
 use g1_choose::{Candidate, Cost, choose, cost, order, total};
 use g1_mark::live_bytes;
@@ -18,14 +20,18 @@ pub fn live_lines<T: Threads + Sync>(
     alloc: Global,
     settings: &Settings,
     heap: &Heap,
-) -> Result<Vec<u8>, Fault> {
+) -> Result<Vec<u8>, Fault>
+    ensures text { IfOk result (λ v. IsLiveText heap.now v.items) }
+{
     let (workers, chunk) = (settings.workers(), settings.chunk());
     let starts = Starts::build_by(rt, alloc, heap, workers)?;
     let live = live_bytes(rt, alloc, heap, &starts, workers, chunk, &Open)?;
-    live_text(alloc, &live)
+    Ok(live_text(alloc, &live)?)
 }
 
-fn live_text(alloc: Global, live: &[u64]) -> Result<Vec<u8>, Fault> {
+fn live_text(alloc: Global, live: &[u64]) -> Result<Vec<u8>, AllocError>
+    ensures { IfOk result (λ v. v.items ≡ text_of (live_lines live.now)) }
+{
     let mut text = String::new(alloc);
     for (region, bytes) in live.iter().enumerate() {
         writeln!(text, "region {region} live {bytes}")?;
@@ -40,7 +46,9 @@ pub fn candidates<T: Threads + Sync>(
     settings: &Settings,
     budget: u64,
     tracked: &Tracked,
-) -> Result<Vec<u8>, Fault> {
+) -> Result<Vec<u8>, Fault>
+    ensures text { IfOk result (λ v. IsChoiceText settings.now.cost tracked.now budget v.items) }
+{
     let heap = image(tracked).heap();
     let (workers, chunk) = (settings.workers(), settings.chunk());
     let starts = Starts::build_by(rt, alloc, heap, workers)?;
@@ -71,6 +79,7 @@ fn candidate_lines(
     requires parameters { IsCost parameters.now }
     requires remembered { length remembered.now ≡ heap.now.geometry.n }
     requires live_bytes { MayBeLive heap.now live.now }
+    ensures text { IfOk result (λ v. ListsChoice parameters.now heap.now (map (λ s. s.items) remembered.now) live.now dirty budget v.items) }
 {
     let (taken, total) = buy(alloc, heap, dirty, remembered, live, parameters, budget)?;
     let order = order(alloc, heap, remembered, live, parameters)?;
@@ -91,6 +100,7 @@ fn buy(
     requires parameters { IsCost parameters.now }
     requires remembered { length remembered.now ≡ heap.now.geometry.n }
     requires live_bytes { MayBeLive heap.now live.now }
+    ensures bought { IfOk result (λ r. (set : List ℕ) × IsChosen parameters.now heap.now (map (λ s. s.items) remembered.now) live.now dirty budget set × (r.0 ≡ length set) × (r.1 ≡ pause_cost parameters.now heap.now (map (λ s. s.items) remembered.now) live.now dirty set)) }
 {
     let set = choose(alloc, heap, dirty, remembered, live, parameters, budget)?;
     let total = total_of(
@@ -114,6 +124,7 @@ fn total_of(
     requires remembered { length remembered.now ≡ heap.now.geometry.n }
     requires live_bytes { MayBeLive heap.now live.now }
     requires chosen { IsChosen parameters.now heap.now (map (λ s. s.items) remembered.now) live.now dirty budget set.now }
+    ensures { IfOk result (λ t. t ≡ pause_cost parameters.now heap.now (map (λ s. s.items) remembered.now) live.now dirty set.now) }
 {
     g1_choose::laws::bought();
     let costs = costs_of(alloc, heap, remembered, live, parameters, set)?;
@@ -144,22 +155,41 @@ fn costs_of(
 }
 
 /// The lines of candidates in their order, of which the first so many are taken, and of the total.
+///
+/// # Errors
+///
+/// `Fault::Memory` alone.
 pub fn choice_lines(
     alloc: Global,
     order: &[Candidate],
     taken: usize,
     total: u128,
-) -> Result<Vec<u8>, Fault> {
+) -> Result<Vec<u8>, Fault>
+    ensures { IfOk result (λ v. v.items ≡ text_of (candidate_lines order.now taken total)) }
+{
+    let (bought, left) = order.split_at(order.len().min(taken));
     let mut text = String::new(alloc);
-    for (place, candidate) in order.iter().enumerate() {
+    push_candidates(&mut text, bought, "taken")?;
+    push_candidates(&mut text, left, "left")?;
+    writeln!(text, "total {total}")?;
+    Ok(text.into_bytes())
+}
+
+// The lines of candidates, with this word at the end.
+fn push_candidates(
+    text: &mut String,
+    candidates: &[Candidate],
+    word: &str,
+) -> Result<(), AllocError>
+    ensures { OnOk result (string_bytes text.new ≡ string_bytes text.old ++ text_of (map (candidate_line word.now) candidates.now)) }
+{
+    for candidate in candidates {
         let Candidate {
             region,
             cost,
             garbage,
         } = *candidate;
-        let word = if place < taken { "taken" } else { "left" };
         writeln!(text, "region {region} cost {cost} garbage {garbage} {word}")?;
     }
-    writeln!(text, "total {total}")?;
-    Ok(text.into_bytes())
+    Ok(())
 }

@@ -1,9 +1,13 @@
 //! The table of an image: a line with its numbers, and a line for each region.
-ghost use Rattle.std.specs.Prelude.{◌≡◌, ◌≤◌, ◌<◌, ◌*◌, ℕ};
+ghost use Rattle.std.specs.Prelude.{◌≡◌, ◌≤◌, ◌<◌, ◌-◌, ◌*◌, ◌++◌, ℕ, map, flat_map, string_bytes, OnOk, IfOk};
+ghost use Rattle.std.specs.List.{range_with_len};
+ghost use Rattle.g1_text.specs.Lines.{line_text, text_of, heading, region_line, table_lines};
+ghost use Rattle.g1pause_cli.specs.Rows.{AreRows};
 
 use g1_image::Image;
 use g1_pause::Settings;
-use g1_words::{Fault, Region, objects_in};
+use g1_text::{push_heading, push_region_line};
+use g1_words::{Fault, objects_in};
 use g1_work::{Open, Task, each_chunk};
 use std::alloc::{AllocError, Global};
 use std::thread::Threads;
@@ -14,7 +18,9 @@ pub fn table<T: Threads + Sync>(
     alloc: Global,
     settings: &Settings,
     image: &Image,
-) -> Result<Vec<u8>, Fault> {
+) -> Result<Vec<u8>, Fault>
+    ensures text { IfOk result (λ v. v.items ≡ text_of (table_lines image.now)) }
+{
     let regions = image.heap().geometry().regions();
     let rows = Rows {
         image,
@@ -24,12 +30,15 @@ pub fn table<T: Threads + Sync>(
     let workers = vec![in alloc; (); settings.workers() as usize]?;
     let chunks = regions.div_ceil(rows.chunk);
     let (_, outs) = each_chunk(rt, alloc, workers, chunks, &rows, &Open)?;
-    join(alloc, image, &outs)
+    Ok(join(alloc, image, &outs)?)
 }
 
 // The heading, and the regions' lines behind it.
-fn join(alloc: Global, image: &Image, outs: &[String]) -> Result<Vec<u8>, Fault> {
-    let mut text = heading(alloc, image)?;
+fn join(alloc: Global, image: &Image, outs: &[String]) -> Result<Vec<u8>, AllocError>
+    ensures { IfOk result (λ v. v.items ≡ line_text (heading image.now) ++ flat_map string_bytes outs.now) }
+{
+    let mut text = String::new(alloc);
+    push_heading(&mut text, image)?;
     for out in outs {
         text.push_str(out.as_str())?;
     }
@@ -49,12 +58,13 @@ impl<'a> Task for Rows<'a> {
 
     type Out = String;
 
-    ghost use Rattle.std.specs.Prelude.{◌≡◌, ◌≤◌, ◌<◌, ◌*◌, ℕ, ⊤};
+    ghost use Rattle.std.specs.Prelude.{◌≡◌, ◌≤◌, ◌<◌, ◌*◌, ℕ, ⊤, string_bytes};
     ghost use Rattle.g1_work.specs.Team.{most_chunk};
+    ghost use Rattle.g1pause_cli.specs.Rows.{AreRows};
 
     ghost ready = { λ s _ k. (k * s.chunk < s.image.now.heap.geometry.n) × (s.chunk ≤ most_chunk) };
 
-    ghost runs = { λ _ _ _ _ _. ⊤ };
+    ghost runs = { λ s _ k _ out. AreRows s.image.now s.chunk k (string_bytes out) };
 
     ghost may_fail = { λ _ _ _. ⊤ };
 
@@ -66,46 +76,24 @@ impl<'a> Task for Rows<'a> {
     }
 }
 
-fn heading(alloc: Global, image: &Image) -> Result<String, AllocError> {
-    let heap = image.heap();
-    let geometry = heap.geometry();
-    let (w, k, n) = (
-        geometry.region_words(),
-        geometry.card_words(),
-        geometry.regions(),
-    );
-    let roots = heap.roots().len();
-    let dirty = image.log().len();
-    let mut text = format!(in alloc; "heap {w} {k} {n} roots {roots} dirty {dirty} current ")?;
-    match heap.current() {
-        Some(current) => writeln!(text, "{current}")?,
-        None => text.push_str("none\n")?,
-    }
-    Ok(text)
-}
-
 // The lines of the regions from one number up to another.
 fn lines(alloc: Global, image: &Image, from: u32, to: u32) -> Result<String, Fault>
-    requires { to ≤ image.now.heap.geometry.n }
+    requires order { from ≤ to }
+    requires within { to ≤ image.now.heap.geometry.n }
+    ensures { IfOk result (λ s. string_bytes s ≡ text_of (map (region_line image.now) (range_with_len from (to - from)))) }
 {
     let mut text = String::new(alloc);
     for region in from..to {
-        line(alloc, image, region, &mut text)?;
+        push_row(alloc, image, region, &mut text)?;
     }
     Ok(text)
 }
 
-fn line(alloc: Global, image: &Image, region: u32, text: &mut String) -> Result<(), Fault>
+fn push_row(alloc: Global, image: &Image, region: u32, text: &mut String) -> Result<(), Fault>
     requires { region < image.now.heap.geometry.n }
+    ensures { OnOk result (string_bytes text.new ≡ string_bytes text.old ++ line_text (region_line image.now region)) }
 {
-    let heap = image.heap();
-    let Region { kind, top, pinned } = heap.region(region);
-    let pinned = if pinned { " pinned" } else { "" };
-    let objects = objects_in(alloc, heap, region)?.len();
-    let cards = image.remembered()[region as usize].len();
-    writeln!(
-        text,
-        "region {region} {kind} top {top} objects {objects} cards {cards}{pinned}"
-    )?;
+    let objects = objects_in(alloc, image.heap(), region)?.len();
+    push_region_line(text, image, region, objects)?;
     Ok(())
 }
