@@ -1,3 +1,6 @@
+pub mod Numbers
+pub mod Windows
+pub mod Taking
 pub mod Printed
 pub mod Splitting
 pub mod Bounded

@@ -1,15 +1,33 @@
+ghost use Rattle.std.specs.Prelude.{◌≡◌, ◌<◌, ◌^◌, ℕ, ◌∷◌, ◌++◌, Some, decimal};
+
 use crate::expected::Expected;
+use std::marker::Model;
 
 /// The words of a line that are not read yet: those from one place up to another.
-#[derive(Clone, Copy)]
+#[derive(Drop)]
 pub(crate) struct Words<'a> {
     words: &'a [&'a str],
     from: usize,
     to: usize,
 }
 
+impl<'a> Model for Words<'a> {
+    ghost use Rattle.std.specs.Prelude.{◌≤◌, ◌-◌, ℕ, List, map, take, drop, length};
+
+    ghost Value = { List (List ℕ) };
+
+    ghost view = { λ w. map (λ t. t.now) (take (w.to - w.from) (drop w.from w.words.now)) };
+
+    ghost invariant = { λ w. (w.from ≤ w.to) × (w.to ≤ length w.words.now) };
+}
+
 impl<'a> Words<'a> {
-    pub(crate) fn new(words: &'a [&'a str]) -> Words<'a> {
+    ghost use Rattle.std.specs.Prelude.{◌≡◌, ◌≢◌, ◌<◌, ◌^◌, ℕ, List, [], ◌∷◌, ◌++◌, Some, Ok, length, map, decimal, MatchOption, MatchBool, MatchResult};
+    ghost use Rattle.g1_text.specs.Lines.{reference_word};
+
+    pub(crate) fn new(words: &'a [&'a str]) -> Words<'a>
+        ensures { result ≡ map (λ t. t.now) words.now }
+    {
         Words {
             words,
             from: 0,
@@ -17,50 +35,56 @@ impl<'a> Words<'a> {
         }
     }
 
-    pub(crate) fn len(&self) -> usize {
-        self.to.saturating_sub(self.from)
-    }
-
-    fn peek(&self) -> Option<&'a str> {
-        if self.from < self.to {
-            self.words.get(self.from).copied()
-        } else {
-            None
-        }
-    }
-
-    fn pass(&mut self) {
-        self.from = self.from.saturating_add(1);
+    pub(crate) fn len(&self) -> usize
+        ensures { result ≡ length self.now }
+    {
+        self.to - self.from
     }
 
     /// Reads the next word.
-    pub(crate) fn next(&mut self) -> Option<&'a str> {
-        let word = self.peek()?;
-        self.pass();
+    pub(crate) fn next(&mut self) -> Option<&'a str>
+        ensures { MatchOption result ((self.old ≡ []) × (self.new ≡ [])) (λ t. self.old ≡ t.now ∷ self.new) }
+    {
+        if self.from == self.to {
+            return None;
+        }
+        let word = self.words[self.from];
+        self.from += 1;
         Some(word)
     }
 
     /// Reads the next word if it is this one, and returns whether it was.
-    pub(crate) fn take(&mut self, word: &str) -> bool {
-        let found = self.peek() == Some(word);
+    pub(crate) fn take(&mut self, word: &str) -> bool
+        ensures { MatchBool result (self.old ≡ word.now ∷ self.new) ((self.new ≡ self.old) × ((rest : List (List ℕ)) → self.old ≢ word.now ∷ rest)) }
+    {
+        if self.from == self.to {
+            return false;
+        }
+        let found = self.words[self.from] == word;
         if found {
-            self.pass();
+            self.from += 1;
         }
         found
     }
 
     /// Reads the last word if it is this one, and returns whether it was.
-    pub(crate) fn take_last(&mut self, word: &str) -> bool {
-        let last = self.to.saturating_sub(1);
-        let found = self.from < self.to && self.words.get(last).copied() == Some(word);
+    pub(crate) fn take_last(&mut self, word: &str) -> bool
+        ensures { MatchBool result (self.old ≡ self.new ++ word.now ∷ []) ((self.new ≡ self.old) × ((front : List (List ℕ)) → self.old ≢ front ++ word.now ∷ [])) }
+    {
+        if self.from == self.to {
+            return false;
+        }
+        let found = self.words[self.to - 1] == word;
         if found {
-            self.to = last;
+            self.to -= 1;
         }
         found
     }
 
     /// Reads the next word, which has to be this one.
-    pub(crate) fn word(&mut self, word: &'static str) -> Result<(), Expected> {
+    pub(crate) fn word(&mut self, word: &'static str) -> Result<(), Expected>
+        ensures { MatchResult result (λ _. self.old ≡ word.now ∷ self.new) (λ _. (rest : List (List ℕ)) → self.old ≢ word.now ∷ rest) }
+    {
         if self.take(word) {
             Ok(())
         } else {
@@ -69,19 +93,28 @@ impl<'a> Words<'a> {
     }
 
     /// Reads the next word if it is a number.
-    pub(crate) fn take_number(&mut self) -> Option<u64> {
-        let number = whole(self.peek()?)?;
-        self.pass();
+    pub(crate) fn take_number(&mut self) -> Option<u64>
+        ensures { (n : ℕ) (rest : List (List ℕ)) → n < 2 ^ 64 → self.old ≡ decimal n ∷ rest → (result ≡ Some n) × (self.new ≡ rest) }
+    {
+        if self.from == self.to {
+            return None;
+        }
+        let number = whole(self.words[self.from])?;
+        self.from += 1;
         Some(number)
     }
 
     /// Reads a number of this.
-    pub(crate) fn number(&mut self, what: &'static str) -> Result<u64, Expected> {
+    pub(crate) fn number(&mut self, what: &'static str) -> Result<u64, Expected>
+        ensures { (n : ℕ) (rest : List (List ℕ)) → n < 2 ^ 64 → self.old ≡ decimal n ∷ rest → (result ≡ Ok n) × (self.new ≡ rest) }
+    {
         self.take_number().ok_or(Expected::Number(what))
     }
 
     /// Reads the number of a region or of a card.
-    pub(crate) fn short_number(&mut self, what: &'static str) -> Result<u32, Expected> {
+    pub(crate) fn short_number(&mut self, what: &'static str) -> Result<u32, Expected>
+        ensures { (n : ℕ) (rest : List (List ℕ)) → n < 2 ^ 32 → self.old ≡ decimal n ∷ rest → (result ≡ Ok n) × (self.new ≡ rest) }
+    {
         let number = self.number(what)?;
         match u32::try_from(number) {
             Ok(number) => Ok(number),
@@ -90,7 +123,9 @@ impl<'a> Words<'a> {
     }
 
     /// Reads a word and the number behind it, if this word is the next.
-    pub(crate) fn take_named(&mut self, word: &'static str) -> Result<Option<u64>, Expected> {
+    pub(crate) fn take_named(&mut self, word: &'static str) -> Result<Option<u64>, Expected>
+        ensures { (n : ℕ) (rest : List (List ℕ)) → n < 2 ^ 64 → self.old ≡ word.now ∷ decimal n ∷ rest → (result ≡ Ok (Some n)) × (self.new ≡ rest) }
+    {
         if self.take(word) {
             Ok(Some(self.number(word)?))
         } else {
@@ -99,7 +134,9 @@ impl<'a> Words<'a> {
     }
 
     /// Reads a dash or the address of an object, as a reference word.
-    pub(crate) fn reference(&mut self) -> Result<u64, Expected> {
+    pub(crate) fn reference(&mut self) -> Result<u64, Expected>
+        ensures { (x : ℕ) (rest : List (List ℕ)) → x < 2 ^ 64 → self.old ≡ reference_word x ∷ rest → (result ≡ Ok x) × (self.new ≡ rest) }
+    {
         if self.take("-") {
             return Ok(0);
         }
@@ -108,7 +145,9 @@ impl<'a> Words<'a> {
     }
 
     /// Finds that no word is left.
-    pub(crate) fn end(&self) -> Result<(), Expected> {
+    pub(crate) fn end(&self) -> Result<(), Expected>
+        ensures { MatchResult result (λ _. self.now ≡ []) (λ _. self.now ≢ []) }
+    {
         if self.len() == 0 {
             Ok(())
         } else {
@@ -118,7 +157,9 @@ impl<'a> Words<'a> {
 }
 
 // A whole number in decimal digits alone.
-fn whole(text: &str) -> Option<u64> {
+fn whole(text: &str) -> Option<u64>
+    ensures { (n : ℕ) → n < 2 ^ 64 → text.now ≡ decimal n → result ≡ Some n }
+{
     if !text.bytes().all(|b| b.is_ascii_digit()) {
         return None;
     }
@@ -126,7 +167,9 @@ fn whole(text: &str) -> Option<u64> {
 }
 
 /// An object's words and its slots, two numbers with a slash between them.
-pub(crate) fn size_and_slots(text: &str) -> Option<(u64, u64)> {
+pub(crate) fn size_and_slots(text: &str) -> Option<(u64, u64)>
+    ensures { (size slots : ℕ) → size < 2 ^ 64 → slots < 2 ^ 64 → text.now ≡ decimal size ++ 47 ∷ decimal slots → result ≡ Some (size, slots) }
+{
     let (size, slots) = text.split_once('/')?;
     whole(size).zip(whole(slots))
 }

@@ -56,12 +56,12 @@ choice_end order bought left taken total none first second last eb el en p q r =
     ∙ ap (λ xs. xs ++ text_of end) (sym (text_append front back)) ∙ sym (text_append (front ++ back) end)
 
 module _ (c : Cost) (h : Heap) (remembered : List (List ℕ)) (lives : List ℕ) where
-  -- candidates that tell their regions are those of their numbers
-  told : (xs : List Candidate) → All (TellsRegion c h remembered lives) xs → xs ≡ map (candidate_of c h remembered lives) (map (λ x. x.region) xs)
-  told [] tells = refl
-  told (x ∷ xs) tells =
+  -- candidates with their regions' cost and garbage are those of their numbers
+  by_number : (xs : List Candidate) → All (TellsRegion c h remembered lives) xs → xs ≡ map (candidate_of c h remembered lives) (map (λ x. x.region) xs)
+  by_number [] tells = refl
+  by_number (x ∷ xs) tells =
       let here : TellsRegion c h remembered lives x = tells 0 x (omega arith) in
-      let rest = told xs (λ k d lt. tells (suc k) d (omega (arith, lt))) in
+      let rest = by_number xs (λ k d lt. tells (suc k) d (omega (arith, lt))) in
       (λ t. record { region = x.region; cost = here.cost t; garbage = here.garbage t } ∷ rest t)
 
   -- the set has the regions of the beginning, each once
@@ -101,7 +101,7 @@ module _ (c : Cost) (h : Heap) (remembered : List (List ℕ)) (lives : List ℕ)
       let count : taken ≡ a.taken = (let l = length_permutation front set move in let k = length_take a.taken a.order a.longest.within in omega (arith, et, l, k)) in
       let sums = sum_by-IsPermutation (cost_of c h remembered lives) front set move in
       let paid : total ≡ pause_cost c h remembered lives d front = omega (arith, ec, sums, sum-map (cost_of c h remembered lives) front, sum-map (cost_of c h remembered lives) set) in
-      let same : xs ≡ map (candidate_of c h remembered lives) a.order = told xs o.tells ∙ ap (map (candidate_of c h remembered lives)) (one_order c h remembered lives (map (λ x. x.region) xs) a.order o.order a.is_order) in
+      let same : xs ≡ map (candidate_of c h remembered lives) a.order = by_number xs o.tells ∙ ap (map (candidate_of c h remembered lives)) (one_order c h remembered lives (map (λ x. x.region) xs) a.order o.order a.is_order) in
       record {
         order = a.order;
         is_order = a.is_order;

@@ -1,4 +1,4 @@
--- The lines of what the roots reach of each region, and of which regions a budget buys.
+-- What `live` and `choose` print: the live bytes of each region, and which regions a budget buys.
 use Rattle.std.specs.Prelude.{◌≡◌, ℕ, List, [], ◌∷◌, ◌++◌, length, map, take, drop, decimal, codes, slice_index}
 use Rattle.std.specs.List.{range_with_len}
 use Rattle.g1_words.specs.Heap.{Heap, regions}
@@ -18,13 +18,13 @@ live_line r bytes = codes "region" ∷ decimal r ∷ codes "live" ∷ decimal by
 abbrev pub live_lines : List ℕ → List (List (List ℕ))
 live_lines lives = map (λ r. live_line r (slice_index lives r)) (range_with_len 0 (length lives))
 
--- THE TEXT OF `live`: that of the live bytes of each region
+-- THE TEXT OF `live`: a line for each region, with the bytes that the roots reach in it
 pub record IsLiveText (h : Heap) (text : List ℕ) : Type 0 where
   pub lives : List ℕ
   pub counted : IsLiveBytes h lives
   pub text : text ≡ text_of (live_lines lives)
 
--- region R cost V garbage BYTES, and `taken` or `left`
+-- region R cost V garbage BYTES, then `taken` or `left`
 abbrev pub candidate_line : List ℕ → Candidate → List (List ℕ)
 candidate_line word x = codes "region" ∷ decimal x.region ∷ codes "cost" ∷ decimal x.cost ∷ codes "garbage" ∷ decimal x.garbage ∷ word ∷ []
 
@@ -32,9 +32,9 @@ candidate_line word x = codes "region" ∷ decimal x.region ∷ codes "cost" ∷
 abbrev pub total_line : ℕ → List (List ℕ)
 total_line total = codes "total" ∷ decimal total ∷ []
 
--- candidates in their order, of which the first so many are taken, and the total
+-- the lines of candidates in their order, the first n of them taken, and of the total
 abbrev pub candidate_lines : List Candidate → ℕ → ℕ → List (List (List ℕ))
-candidate_lines order taken total = map (candidate_line (codes "taken")) (take taken order) ++ map (candidate_line (codes "left")) (drop taken order) ++ total_line total ∷ []
+candidate_lines order n total = map (candidate_line (codes "taken")) (take n order) ++ map (candidate_line (codes "left")) (drop n order) ++ total_line total ∷ []
 
 -- by the regions' remembered sets and live bytes
 module _ (c : Cost) (h : Heap) (remembered : List (List ℕ)) (lives : List ℕ) where
@@ -42,7 +42,7 @@ module _ (c : Cost) (h : Heap) (remembered : List (List ℕ)) (lives : List ℕ)
   abbrev pub candidate_of : ℕ → Candidate
   candidate_of r = record { region = r; cost = cost_of c h remembered lives r; garbage = garbage c h remembered lives r }
 
-  -- the text tells all candidates in their order, those that the budget buys with d dirty cards, and what a pause of them costs
+  -- the lines of all candidates in their order: those that the budget buys with d dirty cards are taken, and the total is the cost of a pause of them
   pub record ListsChoice (d budget : ℕ) (text : List ℕ) : Type 0 where
     pub order : List ℕ
     pub is_order : IsOrder c h remembered lives order

@@ -154,7 +154,7 @@ fn costs_of(
     Ok(costs)
 }
 
-/// The lines of candidates in their order, of which the first so many are taken, and of the total.
+/// The lines of candidates in their order, of which the first `taken` are taken, and of the total.
 ///
 /// # Errors
 ///

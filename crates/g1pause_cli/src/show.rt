@@ -45,7 +45,7 @@ fn join(alloc: Global, image: &Image, outs: &[String]) -> Result<Vec<u8>, AllocE
     Ok(text.into_bytes())
 }
 
-// The regions' lines, by chunks of so many regions.
+// The regions' lines, by chunks of regions.
 #[derive(Drop)]
 struct Rows<'a> {
     image: &'a Image,

@@ -1,0 +1,39 @@
+-- Decimal numbers that are read back.
+use Rattle.std.proofs.Common.{◌≡◌, ◌≢◌, ◌&&◌, ℕ, zero, suc, ◌+◌, ◌-◌, ◌*◌, ◌<◌, ◌≤◌, ◌^◌, Bool, true, false, List, [], ◌∷◌, ◌++◌, length, get_or, refl, sym, ◌∙◌, ap, subst, arith, rules}
+use Rattle.std.specs.Prelude.{Option, Some, None, MatchOption, Result, Ok, decimal}
+use Rattle.std.specs.Borrow.{Bor}
+use Rattle.std.specs.List.{list_all}
+use Rattle.std.specs.Char.{is_ascii_digit}
+use Rattle.std.specs.Str.{all_ascii_digits}
+use Rattle.std.specs.Str.Parse.{ParsesUnsigned, digits_value}
+use Rattle.std.proofs.lemmas.Str.Parse.{IsNumeralModel, numerals_by_value, tells_all_ascii_digits, parse_gives, not_in_digits}
+use Rattle.std.proofs.lemmas.Str.Pattern.{IsSplitOnceResult, split_after}
+use Rattle.std.proofs.lemmas.Fmt.{digits_decimal, digits_value-decimal, decimal_nonempty}
+
+own : IsNumeralModel (λ ds. all_ascii_digits ds ≡ true) (digits_value 10)
+own = numerals_by_value (λ ds. all_ascii_digits ds ≡ true) tells_all_ascii_digits
+
+all_same : (bs : List ℕ) → list_all is_ascii_digit bs ≡ all_ascii_digits bs
+all_same [] = refl
+all_same (c ∷ cs) = ap (λ r. is_ascii_digit c && r) (all_same cs)
+
+-- a decimal number has digits alone
+pub all_digits : (n : ℕ) (bs : List ℕ) → n < 2 ^ 64 → bs ≡ decimal n → list_all is_ascii_digit bs ≡ true
+all_digits n bs small e = ap (list_all is_ascii_digit) e ∙ all_same (decimal n) ∙ digits_decimal own n small
+
+-- and is read as what it was written from
+pub parsed : {E : Type 0} (n : ℕ) (bs : List ℕ) (r : Result ℕ E) → ParsesUnsigned 64 10 bs r → n < 2 ^ 64 → bs ≡ decimal n → r ≡ Ok n
+parsed n bs r h small e =
+    let there : 0 < length bs = subst (λ x. 0 < length x) (sym e) (decimal_nonempty n small) in
+    let value : digits_value 10 bs ≡ n = ap (digits_value 10) e ∙ digits_value-decimal own n small in
+    parse_gives own 64 bs r h (ap all_ascii_digits e ∙ digits_decimal own n small) there (omega (arith, value, small)) ∙ ap Ok value
+
+-- two numbers with a slash between them are taken apart at the slash
+pub at_slash : (size slots : ℕ) (bs : List ℕ) (r : Option (Bor (List ℕ) × Bor (List ℕ))) → IsSplitOnceResult 47 bs r → size < 2 ^ 64 → bs ≡ decimal size ++ 47 ∷ decimal slots
+    → MatchOption r ⊥ (λ x. (x.0.now ≡ decimal size) × (x.1.now ≡ decimal slots))
+at_slash size slots bs r h small e =
+    split_after 47 bs (decimal size) (decimal slots) r h (omega arith) e (not_in_digits own (decimal size) 47 (digits_decimal own size small) (λ q. let low = q.0 in absurd (omega (arith, low))))
+
+-- a decimal number is no dash
+pub not_dash : (n : ℕ) → n < 2 ^ 64 → decimal n ≢ 45 ∷ []
+not_dash n small e = not_in_digits own (decimal n) 45 (digits_decimal own n small) (λ q. let low = q.0 in absurd (omega (arith, low))) 0 (decimal_nonempty n small) (ap (λ bs. get_or bs 0 0) e)
