@@ -1,3 +1,3 @@
 pub mod Chunks
-pub mod Table
+pub mod TableText
 pub mod Choosing

@@ -22,25 +22,29 @@ live_lines lives = map (λ r. live_line r (slice_index lives r)) (range_with_len
 pub record IsLiveText (h : Heap) (text : List ℕ) : Type 0 where
   pub lives : List ℕ
   pub counted : IsLiveBytes h lives
-  pub text : text ≡ text_of (live_lines lives)
+  pub printed : text ≡ text_of (live_lines lives)
 
 -- region R cost V garbage BYTES, then `taken` or `left`
-abbrev pub candidate_line : List ℕ → Candidate → List (List ℕ)
-candidate_line word x = codes "region" ∷ decimal x.region ∷ codes "cost" ∷ decimal x.cost ∷ codes "garbage" ∷ decimal x.garbage ∷ word ∷ []
+abbrev pub candidate_line : List ℕ → ℕ → ℕ → ℕ → List (List ℕ)
+candidate_line word r cost bytes = codes "region" ∷ decimal r ∷ codes "cost" ∷ decimal cost ∷ codes "garbage" ∷ decimal bytes ∷ word ∷ []
+
+-- that of a candidate with its numbers
+abbrev pub line_of : List ℕ → Candidate → List (List ℕ)
+line_of word x = candidate_line word x.region x.cost x.garbage
 
 -- total V
 abbrev pub total_line : ℕ → List (List ℕ)
 total_line total = codes "total" ∷ decimal total ∷ []
 
--- the lines of candidates in their order, the first n of them taken, and of the total
-abbrev pub candidate_lines : List Candidate → ℕ → ℕ → List (List (List ℕ))
-candidate_lines order n total = map (candidate_line (codes "taken")) (take n order) ++ map (candidate_line (codes "left")) (drop n order) ++ total_line total ∷ []
+-- by the line of each candidate: the lines of candidates in their order, the first n of them taken, and of the total
+abbrev pub choice_lines : {X : Type 0} → (List ℕ → X → List (List ℕ)) → List X → ℕ → ℕ → List (List (List ℕ))
+choice_lines line order n total = map (line (codes "taken")) (take n order) ++ map (line (codes "left")) (drop n order) ++ total_line total ∷ []
 
 -- by the regions' remembered sets and live bytes
 module _ (c : Cost) (h : Heap) (remembered : List (List ℕ)) (lives : List ℕ) where
-  -- a region as a candidate
-  abbrev pub candidate_of : ℕ → Candidate
-  candidate_of r = record { region = r; cost = cost_of c h remembered lives r; garbage = garbage c h remembered lives r }
+  -- the line of region r as a candidate
+  abbrev pub region_line_of : List ℕ → ℕ → List (List ℕ)
+  region_line_of word r = candidate_line word r (cost_of c h remembered lives r) (garbage c h remembered lives r)
 
   -- the lines of all candidates in their order: those that the budget buys with d dirty cards are taken, and the total is the cost of a pause of them
   pub record ListsChoice (d budget : ℕ) (text : List ℕ) : Type 0 where
@@ -48,7 +52,7 @@ module _ (c : Cost) (h : Heap) (remembered : List (List ℕ)) (lives : List ℕ)
     pub is_order : IsOrder c h remembered lives order
     pub taken : ℕ
     pub longest : IsLongest c h remembered lives d budget order taken
-    pub text : text ≡ text_of (candidate_lines (map candidate_of order) taken (pause_cost c h remembered lives d (take taken order)))
+    pub printed : text ≡ text_of (choice_lines region_line_of order taken (pause_cost c h remembered lives d (take taken order)))
 
 -- THE TEXT OF `choose`, by the image's refined remembered sets and its live bytes
 pub record IsChoiceText (c : Cost) (i : Image) (budget : ℕ) (text : List ℕ) : Type 0 where

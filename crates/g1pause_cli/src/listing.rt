@@ -3,7 +3,7 @@ ghost use Rattle.std.specs.Prelude.{◌≡◌, ◌<◌, ◌++◌, ℕ, List, len
 ghost use Rattle.g1_choose.specs.Cost.{IsCost};
 ghost use Rattle.g1_choose.specs.Choice.{MayBeLive, cost_of, pause_cost, IsChosen};
 ghost use Rattle.g1_text.specs.Lines.{text_of};
-ghost use Rattle.g1pause_cli.specs.Tables.{live_lines, candidate_line, candidate_lines, ListsChoice, IsLiveText, IsChoiceText};
+ghost use Rattle.g1pause_cli.specs.Tables.{live_lines, line_of, choice_lines, ListsChoice, IsLiveText, IsChoiceText};
 
 use g1_choose::{Candidate, Cost, choose, cost, order, total};
 use g1_mark::live_bytes;
@@ -165,7 +165,7 @@ pub fn choice_lines(
     taken: usize,
     total: u128,
 ) -> Result<Vec<u8>, Fault>
-    ensures { IfOk result (λ v. v.items ≡ text_of (candidate_lines order.now taken total)) }
+    ensures { IfOk result (λ v. v.items ≡ text_of (choice_lines line_of order.now taken total)) }
 {
     let (bought, left) = order.split_at(order.len().min(taken));
     let mut text = String::new(alloc);
@@ -181,7 +181,7 @@ fn push_candidates(
     candidates: &[Candidate],
     word: &str,
 ) -> Result<(), AllocError>
-    ensures { OnOk result (string_bytes text.new ≡ string_bytes text.old ++ text_of (map (candidate_line word.now) candidates.now)) }
+    ensures { OnOk result (string_bytes text.new ≡ string_bytes text.old ++ text_of (map (line_of word.now) candidates.now)) }
 {
     for candidate in candidates {
         let Candidate {

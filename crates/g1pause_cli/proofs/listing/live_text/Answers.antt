@@ -1,4 +1,4 @@
-use Rattle.std.proofs.Common.{◌≡◌, ◌∙◌, [], ap, sym, arith, string_bytes}
+use Rattle.std.proofs.Common.{ℕ, Vec, Global, ◌≡◌, ◌∙◌, [], ap, sym, arith, string_bytes}
 use Rattle.std.specs.Prelude.{slice_index}
 use Rattle.g1_text.specs.Lines.{line_text, text_of}
 use Rattle.g1_text.proofs.Printed.{one_number_more}
@@ -8,8 +8,8 @@ use Rattle.g1pause_cli.proofs.listing.live_text.Goals as goal
 
 pub loop-region-preserved : goal.loop-region-preserved
 loop-region-preserved c =
-    one_number_more (λ r. line_text (live_line r (slice_index c.args.live.now r))) [] (string_bytes c.loop-region.text) (string_bytes c.writeln.new.self) c.loop-region.region c.loop-region.invariant c.in_ok-writeln.ensures.bytes
+    one_number_more (λ r. line_text (live_line r (slice_index c.args.live.now r))) [] (string_bytes c.loop-region.text) (string_bytes c.writeln.new.self) c.loop-region.region-counter c.loop-region.invariant c.in_ok-writeln.ensures.bytes
 
 pub returns : goal.returns
 returns c =
-    live_end c.args.live.now (string_bytes c.loop-region.text) c.loop-region.region (omega (arith, c.loop-region-test.false, c.loop-region.auto.region-end)) c.loop-region.invariant
+    ap (λ (v : Vec ℕ Global). v.items) c.into_bytes.ensures.value ∙ live_end c.args.live.now (string_bytes c.loop-region.text) c.loop-region.region-counter (omega (arith, c.loop-region-test.false, c.loop-region.auto.region-counter-end)) c.loop-region.invariant

@@ -6,4 +6,4 @@ use Rattle.g1pause_cli.specs.Tables.{live_line}
 use Rattle.g1pause_cli.proofs.listing.live_text.Given as goal
 
 abbrev pub invariant-loop-region : goal.invariant-loop-region
-invariant-loop-region l = string_bytes l.text ≡ flat_map (λ r. line_text (live_line r (slice_index l.live r))) (range_with_len 0 l.region)
+invariant-loop-region l = string_bytes l.text ≡ flat_map (λ r. line_text (live_line r (slice_index l.live r))) (range_with_len 0 l.region-counter)
