@@ -10,11 +10,11 @@ use Rattle.g1pause_cli.proofs.show.table.Goals as goal
 pub returns : goal.returns
 returns g c =
     let i = c.args.image.now in
-    let chunk : ℕ = c.args.chunk in
+    let chunk : ℕ = c.chunk.result in
     let regions : ℕ = c.regions-regions.result in
     let sizes = ap (λ (g : Geometry). g.n) c.geometry.ensures.same in
     let same = ap (λ (h : Heap). h.geometry.n) c.heap.ensures.same in
-    let over = div_ceil_times regions chunk (omega (arith, c.requires.c1)) in
+    let over = div_ceil_times regions chunk (omega (arith, c.chunk.ensures.value, c.chunk.ensures.range.some)) in
     let reached : i.heap.geometry.n ≤ div_ceil regions chunk * chunk = omega (arith, over.0, c.regions-regions.ensures.value, sizes, same) in
     let enough : i.heap.geometry.n ≤ c.div_ceil-chunks.result * chunk = subst (λ x. i.heap.geometry.n ≤ x * chunk) (sym c.div_ceil-chunks.ensures) reached in
     let rows = rows_joined i chunk c.div_ceil-chunks.result c.in_ok-workers.workers.items c.in_ok-outs.field-0-0.items c.in_ok-outs.outs.items c.in_ok-outs.ensures.ok enough in
