@@ -1,5 +1,5 @@
 -- What is written of a choice.
-use Rattle.std.proofs.Common.{◌≡◌, ◌≢◌, ℕ, zero, suc, ◌+◌, ◌<◌, ◌≤◌, ◌⊎◌, inl, inr, List, [], ◌∷◌, ◌++◌, map, flat_map, take, drop, length, All, IsTrue, refl, sym, ◌∙◌, ap, subst, arith, ltb, lt-ltb, ltb-true}
+use Rattle.std.proofs.Common.{◌≡◌, ◌≢◌, ℕ, zero, suc, ◌<◌, ◌≤◌, ◌⊎◌, inl, inr, List, [], ◌∷◌, ◌++◌, map, flat_map, take, drop, length, All, IsTrue, refl, sym, ◌∙◌, ap, subst, arith, ltb, lt-ltb, ltb-true}
 use Rattle.std.proofs.Common.{Vec}
 use Rattle.std.specs.Prelude.{min, codes, slice_index, Result, Ok, Err, IfOk}
 use Rattle.std.specs.List.{range_with_len}

@@ -1,6 +1,4 @@
 use Rattle.std.proofs.Common.{ℕ, List, map, sym, subst}
-use Rattle.std.specs.Prelude.{IfOk}
-use Rattle.g1_text.specs.Lines.{text_of}
 use Rattle.g1_choose.specs.Candidate.{IsCandidateOrder}
 use Rattle.g1pause_cli.proofs.Choosing.{lists_if_ok}
 use Rattle.g1pause_cli.proofs.listing.candidate_lines.Goals as goal

@@ -1,6 +1,6 @@
-use Rattle.std.proofs.Common.{ℕ, Vec, Global, ◌≡◌, ◌∙◌, [], ap, sym, arith, string_bytes}
+use Rattle.std.proofs.Common.{ℕ, Vec, Global, ◌∙◌, [], ap, arith, string_bytes}
 use Rattle.std.specs.Prelude.{slice_index}
-use Rattle.g1_text.specs.Lines.{line_text, text_of}
+use Rattle.g1_text.specs.Lines.{line_text}
 use Rattle.g1_text.proofs.Printed.{one_number_more}
 use Rattle.g1pause_cli.specs.Tables.{live_line}
 use Rattle.g1pause_cli.proofs.Choosing.{live_end}
