@@ -76,7 +76,7 @@ STEPS = {
 }
 # Of THREE with a budget of 42: each of the three regions has one live object. A candidate is its region, its cost and its
 # garbage.
-PRICES = {"live_bytes": lists([16, 16, 8, 0, 0, 0]), "order": lists([0, 16, 16], [1, 16, 16], [2, 8, 8]), "choose": lists([0, 1])}
+PRICES = {"live_bytes": lists([16, 16, 8, 0, 0, 0]), "order": lists([0, 16, 16], [1, 16, 16], [2, 9, 8]), "choose": lists([0, 1])}
 # Calls that take no memory.
 NEVER = (1 << 64) - 1
 FREE = {

@@ -30,14 +30,7 @@ pub fn run(
 }
 
 /// The object over the card's first word, the slots on the card, and whether one leads into the region.
-fn ask(
-    alloc: Global,
-    heap: &Heap,
-    starts: &Starts,
-    region: u32,
-    card: u32,
-    watch: &mut Watch,
-)
+fn ask(alloc: Global, heap: &Heap, starts: &Starts, region: u32, card: u32, watch: &mut Watch)
     requires starts { IsStartsOf heap.now starts.now }
     requires card { card < card_count heap.now }
 {

@@ -86,9 +86,7 @@ fn prepared<R: Threads + Sync>(
 {
     let (starts, remembered) = tables(rt, alloc, subject, tracked, watch)?;
     let remembered = remembered.as_slice();
-    let (cards, survivors) = found(
-        rt, alloc, subject, tracked, &starts, remembered, set, watch,
-    )?;
+    let (cards, survivors) = found(rt, alloc, subject, tracked, &starts, remembered, set, watch)?;
     let plan = placed(alloc, subject, tracked, set, survivors.as_slice(), watch)?;
     written(
         rt,

@@ -29,12 +29,7 @@ struct Laying {
 }
 
 impl Laying {
-    fn push_line(
-        &mut self,
-        alloc: Global,
-        line: &str,
-        pictures: &[Picture],
-    ) -> Result<(), Fault> {
+    fn push_line(&mut self, alloc: Global, line: &str, pictures: &[Picture]) -> Result<(), Fault> {
         let word = first_word(line);
         if word == "heap" || !is_drawn(word) || self.drawing.is_empty() {
             self.finish(alloc)?;

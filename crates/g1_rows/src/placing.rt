@@ -160,12 +160,7 @@ fn can_place(heap: &Heap, set: &[u32], survivors: &[u64]) -> bool
 }
 
 /// What `place` returns if its conditions hold.
-fn placed(
-    alloc: Global,
-    heap: &Heap,
-    set: &[u32],
-    survivors: &[u64],
-) -> Result<Plan, Fault>
+fn placed(alloc: Global, heap: &Heap, set: &[u32], survivors: &[u64]) -> Result<Plan, Fault>
     ensures { IfOk result (λ p. IsPlanOf heap.now p) }
 {
     if !can_place(heap, set, survivors) {

@@ -66,7 +66,16 @@ fn buy<R: Threads + Sync>(
     let prices = settings.cost();
     let dirty = image(tracked).log().len() as u64;
     g1_choose::laws::live_within_used();
-    choose_by(alloc, heap, dirty, &remembered, &live, &prices, budget, watch)
+    choose_by(
+        alloc,
+        heap,
+        dirty,
+        &remembered,
+        &live,
+        &prices,
+        budget,
+        watch,
+    )
 }
 
 /// What the budget buys by live bytes that a row names, and by the remembered sets as they are. No card
@@ -80,14 +89,13 @@ fn buy_named(
 ) -> Result<(), Fault> {
     let heap = image(tracked).heap();
     let remembered = image(tracked).remembered();
-    let live = subject.numbers(alloc, "live")?;
-    if !may_be_live(heap, live.as_slice())
-        || remembered.len() as u64 != heap.geometry().regions()
-    {
+    let named = subject.numbers(alloc, "live")?;
+    let live = named.as_slice();
+    if !may_be_live(heap, live) || remembered.len() as u64 != heap.geometry().regions() {
         return Err(Fault::Geometry);
     }
     let prices = subject.settings.cost();
-    choose_by(alloc, heap, 0, remembered, live.as_slice(), &prices, budget, watch)
+    choose_by(alloc, heap, 0, remembered, live, &prices, budget, watch)
 }
 
 /// Whether these may be the live bytes of the regions.

@@ -142,11 +142,15 @@ fn pins(heap: &Heap, watch: &mut Watch) {
 pub fn merge(alloc: Global, subject: &Subject, watch: &mut Watch) -> Result<(), Fault> {
     let left = subject.short_numbers(alloc, "left")?;
     let right = subject.short_numbers(alloc, "right")?;
-    if !rises(left.as_slice()) || !rises(right.as_slice()) {
+    let (left, right) = (left.as_slice(), right.as_slice());
+    if !rises(left) {
+        return Err(Fault::Settings(0));
+    }
+    if !rises(right) {
         return Err(Fault::Settings(0));
     }
     watch.at("merged");
-    let both = merged(alloc, left.as_slice(), right.as_slice())?;
+    let both = merged(alloc, left, right)?;
     watch.regions(both.as_slice());
     Ok(())
 }

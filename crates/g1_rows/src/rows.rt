@@ -108,11 +108,7 @@ fn judge_block<R: Threads + Sync>(
 }
 
 /// Keeps an image with its name.
-fn draw(
-    alloc: Global,
-    block: &str,
-    pictures: &mut Vec<Picture>,
-) -> Result<Option<String>, Fault> {
+fn draw(alloc: Global, block: &str, pictures: &mut Vec<Picture>) -> Result<Option<String>, Fault> {
     let Some((name, lines)) = block.split_once('\n') else {
         return Err(Fault::Line(0));
     };
@@ -185,7 +181,10 @@ fn miss_text(
     for option in call.options {
         write!(miss, " {option}")?;
     }
-    write!(miss, "\nby {workers} workers in chunks of {chunk} it returned\n")?;
+    write!(
+        miss,
+        "\nby {workers} workers in chunks of {chunk} it returned\n"
+    )?;
     push_shown(&mut miss, found)?;
     miss.push_str("in place of\n")?;
     push_shown(&mut miss, expected)?;
@@ -194,7 +193,9 @@ fn miss_text(
 
 /// Adds bytes as they are if they are lines of text, else as hexadecimal.
 fn push_shown(text: &mut String, bytes: &[u8]) -> Result<(), AllocError> {
-    let is_plain = bytes.iter().all(|byte| *byte == b'\n' || byte.is_ascii_graphic() || *byte == b' ');
+    let is_plain = bytes.iter().all(|byte| *byte == b'\n'
+        || byte.is_ascii_graphic()
+        || *byte == b' ');
     match str::from_utf8(bytes) {
         Ok(lines) if is_plain => text.push_str(lines),
         _ => push_digits(text, bytes),
@@ -296,11 +297,7 @@ fn cases_of(
 }
 
 /// A case whose options are known, and which expects something.
-fn case_of(
-    options: Vec<String>,
-    parts: Vec<Vec<u8>>,
-    expected: Vec<u8>,
-) -> Result<Case, Fault> {
+fn case_of(options: Vec<String>, parts: Vec<Vec<u8>>, expected: Vec<u8>) -> Result<Case, Fault> {
     if expected.is_empty() || !are_options(options.as_slice()) {
         return Err(Fault::Line(0));
     }

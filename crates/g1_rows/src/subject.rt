@@ -77,11 +77,7 @@ pub fn numbers_of(alloc: Global, words: &[String], option: &str) -> Result<Vec<u
     Ok(numbers)
 }
 
-fn short_numbers_of(
-    alloc: Global,
-    words: &[String],
-    option: &str,
-) -> Result<Vec<u32>, AllocError> {
+fn short_numbers_of(alloc: Global, words: &[String], option: &str) -> Result<Vec<u32>, AllocError> {
     let numbers = numbers_of(alloc, words, option)?;
     let mut short = Vec::new(alloc);
     for number in numbers.iter() {
