@@ -10,7 +10,7 @@ pub fn run(alloc: Global, before: &[u8], after: &[u8], watch: &mut Watch) -> Res
     let before = decode(alloc, before)?;
     let after = decode(alloc, after)?;
     watch.at("compare");
-    let line = compared(alloc, before.heap(), after.heap())?;
+    let line = line_of_both(alloc, before.heap(), after.heap())?;
     if watch.is_over() {
         watch.line(line.as_str());
     }
@@ -18,7 +18,7 @@ pub fn run(alloc: Global, before: &[u8], after: &[u8], watch: &mut Watch) -> Res
 }
 
 /// What `compare` returns, as a line.
-fn compared(alloc: Global, before: &Heap, after: &Heap) -> Result<String, Fault> {
+fn line_of_both(alloc: Global, before: &Heap, after: &Heap) -> Result<String, Fault> {
     match compare(alloc, before, after)? {
         Ok(same) => Ok(format!(in alloc; "same {:?} {:?}", same.before, same.after)?),
         Err(difference) => Ok(line_of(alloc, &difference)?),

@@ -73,14 +73,14 @@ fn run<T: Threads + Files + Sync, R: Read, W: Write>(
 ) -> io::Result<bool> {
     match words.split_first() {
         Some((first, names)) if first.as_str() == "rows" => {
-            let verdicts = judged(rt, alloc, names, reader)?;
+            let verdicts = judge_files(rt, alloc, names, reader)?;
             writer.write_all(verdicts.text.as_bytes())?;
             Ok(verdicts.are_good())
         }
         Some((call, options)) => {
             let mut bytes = Vec::new(alloc);
             reader.read_to_end(&mut bytes)?;
-            let text = watched(rt, alloc, call.as_str(), options, bytes.as_slice())?;
+            let text = watch_call(rt, alloc, call.as_str(), options, bytes.as_slice())?;
             writer.write_all(text.as_slice())?;
             Ok(true)
         }
@@ -89,7 +89,7 @@ fn run<T: Threads + Files + Sync, R: Read, W: Write>(
 }
 
 /// The verdicts on the rows of these files, or of the reader if there are none.
-fn judged<T: Threads + Files + Sync, R: Read>(
+fn judge_files<T: Threads + Files + Sync, R: Read>(
     rt: &T,
     alloc: Global,
     names: &[String],
@@ -108,7 +108,7 @@ fn judged<T: Threads + Files + Sync, R: Read>(
 }
 
 /// What the watched call returns, given the bytes.
-fn watched<R: Threads + Sync>(
+fn watch_call<R: Threads + Sync>(
     rt: &R,
     alloc: Global,
     name: &str,

@@ -86,9 +86,9 @@ fn first_word(line: &str) -> &str {
 
 fn part_of(alloc: Global, line: &str, pictures: &[Picture]) -> Result<Vec<u8>, Fault> {
     match line.split_once(' ') {
-        Some(("image", name)) => drawn(alloc, name, pictures),
+        Some(("image", name)) => bytes_of_picture(alloc, name, pictures),
         Some(("hex", digits)) => bytes_of(alloc, digits),
-        Some(("text", text)) => Ok(unescaped(alloc, text)?),
+        Some(("text", text)) => Ok(unescape(alloc, text)?),
         _ => {
             let mut part = Vec::from_slice(alloc, line.as_bytes())?;
             part.push(b'\n')?;
@@ -97,7 +97,7 @@ fn part_of(alloc: Global, line: &str, pictures: &[Picture]) -> Result<Vec<u8>, F
     }
 }
 
-fn drawn(alloc: Global, name: &str, pictures: &[Picture]) -> Result<Vec<u8>, Fault> {
+fn bytes_of_picture(alloc: Global, name: &str, pictures: &[Picture]) -> Result<Vec<u8>, Fault> {
     for picture in pictures {
         if picture.name.as_str() == name {
             return Ok(picture.bytes.to_vec(alloc)?);
@@ -131,7 +131,7 @@ fn bytes_of(alloc: Global, digits: &str) -> Result<Vec<u8>, Fault> {
     }
 }
 
-fn unescaped(alloc: Global, text: &str) -> Result<Vec<u8>, AllocError> {
+fn unescape(alloc: Global, text: &str) -> Result<Vec<u8>, AllocError> {
     let mut bytes = Vec::new(alloc);
     let mut is_escaped = false;
     for byte in text.bytes() {
@@ -151,7 +151,7 @@ fn unescaped(alloc: Global, text: &str) -> Result<Vec<u8>, AllocError> {
 }
 
 /// All parts, one after another.
-pub fn joined(alloc: Global, parts: &[Vec<u8>]) -> Result<Vec<u8>, AllocError> {
+pub fn join(alloc: Global, parts: &[Vec<u8>]) -> Result<Vec<u8>, AllocError> {
     let mut bytes = Vec::new(alloc);
     for part in parts {
         bytes.extend_from_slice(part.as_slice())?;

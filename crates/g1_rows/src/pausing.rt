@@ -88,7 +88,7 @@ fn answered(
     match answer {
         Ok((after, report)) => {
             if watch.is_of(&["report"]) {
-                tell(&report, watch);
+                print(&report, watch);
             } else {
                 watch.image(image(&after));
             }
@@ -101,7 +101,7 @@ fn answered(
     }
 }
 
-fn tell(report: &Report, watch: &mut Watch) {
+fn print(report: &Report, watch: &mut Watch) {
     if watch.is_over() {
         watch.short_named("set", report.set.as_slice());
         watch.short_named("to", report.to.as_slice());

@@ -28,8 +28,8 @@ pub fn run<R: Threads + Sync>(
     let set = subject.short_numbers(alloc, "regions")?;
     let survivors = subject.numbers(alloc, "survivors")?;
     watch.at("plan");
-    let plan = placed(alloc, heap, set.as_slice(), survivors.as_slice())?;
-    tell(&plan, watch);
+    let plan = place_named(alloc, heap, set.as_slice(), survivors.as_slice())?;
+    print(&plan, watch);
     forward(alloc, &plan, subject, watch)?;
     watch.at("gather");
     let gathered = gather(rt, alloc, heap, &plan)?;
@@ -39,7 +39,7 @@ pub fn run<R: Threads + Sync>(
 
 /// Where the survivors go: to-space, and for each region of it the survivors from one number to another,
 /// and where the last of them ends.
-fn tell(plan: &Plan, watch: &mut Watch) {
+fn print(plan: &Plan, watch: &mut Watch) {
     if watch.is_over() {
         watch.named("survivors", plan.survivors());
         watch.named("places", plan.places());
@@ -160,7 +160,7 @@ fn can_place(heap: &Heap, set: &[u32], survivors: &[u64]) -> bool
 }
 
 /// What `place` returns if its conditions hold.
-fn placed(alloc: Global, heap: &Heap, set: &[u32], survivors: &[u64]) -> Result<Plan, Fault>
+fn place_named(alloc: Global, heap: &Heap, set: &[u32], survivors: &[u64]) -> Result<Plan, Fault>
     ensures { IfOk result (λ p. IsPlanOf heap.now p) }
 {
     if !can_place(heap, set, survivors) {

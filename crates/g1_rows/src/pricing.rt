@@ -131,7 +131,7 @@ fn choose_by(
 {
     watch.at("order");
     let order = order(alloc, heap, remembered, live, prices)?;
-    tell(&order, watch);
+    print(&order, watch);
     watch.at("choose");
     let set = choose(alloc, heap, dirty, remembered, live, prices, budget)?;
     watch.regions(set.as_slice());
@@ -139,7 +139,7 @@ fn choose_by(
 }
 
 /// Each candidate: its region, its cost and its garbage in bytes.
-fn tell(order: &[Candidate], watch: &mut Watch) {
+fn print(order: &[Candidate], watch: &mut Watch) {
     if watch.is_over() {
         for candidate in order {
             let cost = u64::try_from(candidate.cost).unwrap_or(u64::MAX);

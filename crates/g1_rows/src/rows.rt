@@ -11,8 +11,8 @@
 //! In a row each further line that begins with `#` is a remark too. `CALL,CALL` stands for two calls that
 //! have to return the same, `workers 1 8` for few and for many workers, and `chunk 1 64` for small and for
 //! large chunks: all of them are tried.
-use crate::parts::{Picture, joined, parts_of, trace_of};
-use crate::subject::{are_options, numbers_of, owned};
+use crate::parts::{Picture, join, parts_of, trace_of};
+use crate::subject::{are_options, copy_words, numbers_of};
 use crate::trying::{Call, answer};
 use g1_words::Fault;
 use std::alloc::{AllocError, Global};
@@ -203,9 +203,10 @@ fn push_shown(text: &mut String, bytes: &[u8]) -> Result<(), AllocError> {
 }
 
 fn push_digits(text: &mut String, bytes: &[u8]) -> Result<(), AllocError> {
-    text.push_str("hex ")?;
-    for byte in bytes {
-        write!(text, "{byte:02x}")?;
+    text.push_str("hex")?;
+    for (place, byte) in bytes.iter().enumerate() {
+        let gap = if place % 4 == 0 { " " } else { "" };
+        write!(text, "{gap}{byte:02x}")?;
     }
     text.push_str("\n")
 }
@@ -319,7 +320,7 @@ fn line_case(
     let Some((left, right)) = line.split_once(" => ") else {
         return Err(Fault::Line(0));
     };
-    let mut own = owned(alloc, options)?;
+    let mut own = copy_words(alloc, options)?;
     let mut given = Vec::new(alloc);
     if left.starts_with("text ") {
         given = parts_of(alloc, left, pictures)?;
@@ -346,7 +347,7 @@ fn expected_of(
             parts.push(part)?;
         }
     }
-    Ok(joined(alloc, parts.as_slice())?)
+    Ok(join(alloc, parts.as_slice())?)
 }
 
 fn push_parts(

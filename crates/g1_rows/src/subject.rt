@@ -1,6 +1,16 @@
 //! What the words behind the call's name say.
 //!
-//! A word that is no number is an option, and the numbers behind it are its own.
+//! A word that is no number is an option, and the numbers behind it are its own:
+//!
+//! - `workers`, `chunk`: who does it; 1 and 64 if they are left out;
+//! - `prices FIXED DIRTY CARD BYTE`: what a pause costs; 0 1 1 1 if they are left out;
+//! - `budget`, or `regions` in any order: what is collected; nothing if both are left out;
+//! - `live`: each region's live bytes, for `order` and `choose`; else they are counted;
+//! - `survivors`: addresses, for `plan`, `forward` and `gather`; else they are searched for;
+//! - `addresses`: for `forward`;
+//! - `cards`: for `first`, `slots_on` and `leads_into`, which asks about the region behind `into`;
+//! - `left`, `right`: two rising lists, for `merged`;
+//! - `command`: the number of the watched command, from 0, for `step`.
 use g1_choose::Cost;
 use g1_pause::{Choice, Settings};
 use g1_words::Fault;
@@ -127,12 +137,12 @@ pub fn subject_of(
     let prices = prices_of(alloc, words)?;
     let choice = choice_of(alloc, words)?;
     let settings = Settings::new(workers, chunk, prices, choice)?;
-    let words = owned(alloc, words)?;
+    let words = copy_words(alloc, words)?;
     Ok(Subject { settings, words })
 }
 
 /// Words of the caller's own.
-pub fn owned(alloc: Global, words: &[String]) -> Result<Vec<String>, AllocError> {
+pub fn copy_words(alloc: Global, words: &[String]) -> Result<Vec<String>, AllocError> {
     let mut own = Vec::new(alloc);
     for word in words {
         own.push(String::from_str(alloc, word.as_str())?)?;

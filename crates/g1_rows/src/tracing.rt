@@ -38,7 +38,7 @@ pub fn run<R: Threads + Sync>(
     stepped(rt, alloc, settings, number, &trace, watch)
 }
 
-/// The trace that the bytes tell.
+/// The trace of the bytes.
 fn parsed(alloc: Global, bytes: &[u8], watch: &mut Watch) -> Result<Trace, Fault> {
     watch.at("parse_trace");
     let trace = parse_trace(alloc, bytes)?;
@@ -78,7 +78,7 @@ fn run_parsed<R: Threads + Sync>(
     let replies = run_trace(rt, alloc, &trace, &prices, workers, chunk, &Open)?;
     if watch.is_over() {
         for reply in &replies {
-            tell(*reply, watch);
+            print(*reply, watch);
         }
     }
     Ok(())
@@ -103,7 +103,7 @@ fn stepped<R: Threads + Sync>(
         let (next, reply) = step(rt, alloc, settings, mutator, command, watch)?;
         mutator = next;
         if watch.is_of(&["mutator_new", "step"]) {
-            tell(reply, watch);
+            print(reply, watch);
         }
     }
     Ok(())
@@ -163,7 +163,7 @@ fn given<R: Threads + Sync>(
     mutator.step(rt, alloc, command, &prices, workers, chunk, &Open)
 }
 
-fn tell(reply: Reply, watch: &mut Watch) {
+fn print(reply: Reply, watch: &mut Watch) {
     match reply {
         Reply::Ok => watch.line("ok"),
         Reply::Full => watch.line("full"),

@@ -40,11 +40,11 @@ fn outcome<R: Threads + Sync>(
 ) -> Result<(), Fault> {
     watch.at("settings");
     let subject = subject_of(alloc, call.options, workers, chunk)?;
-    tell_settings(&subject, watch);
+    print_settings(&subject, watch);
     make(rt, alloc, &subject, call.parts, watch)
 }
 
-fn tell_settings(subject: &Subject, watch: &mut Watch) {
+fn print_settings(subject: &Subject, watch: &mut Watch) {
     let settings = &subject.settings;
     let prices = settings.cost();
     if watch.is_over() {

@@ -1,17 +1,17 @@
-//! Which call is watched, and what is told of it.
+//! Which call is watched, and what is printed of it.
 //!
 //! A list is a line of numbers with a space between them, or `-` if it is empty. An image is its bytes.
 use g1_image::{Image, encode};
 use g1_words::Fault;
 use std::alloc::{AllocError, Global};
 
-/// Requests for memory of these sizes tell the script's library where the watched call begins and
+/// Requests for memory of these sizes show the script's library where the watched call begins and
 /// ends; it refuses neither.
 const BEGIN: usize = 7_000_003;
 
 const END: usize = 7_000_033;
 
-/// The call that is watched, whether it is under way, and what was told of it.
+/// The call that is watched, whether it is under way, and what is printed of it.
 #[derive(Drop)]
 pub struct Watch {
     alloc: Global,
@@ -19,9 +19,9 @@ pub struct Watch {
     on: bool,
     // Whether the beginning and the end of the call are marked, for a script that refuses it memory.
     marked: bool,
-    // Whether the next image tells what the call answered.
+    // Whether the next image is what the call returned.
     owed: bool,
-    // Whether there was no memory for something that was to be told: nothing is told after it.
+    // Whether there was no memory for something that was to be printed: nothing is printed after it.
     lost: bool,
     text: Vec<u8>,
     // What was asked for last as a sign: it is kept, so that no compiler takes the request for idle.
@@ -56,7 +56,7 @@ impl Watch {
         }
     }
 
-    /// The call is over. Tells whether it was the one that is watched.
+    /// The call is over. Returns whether it was the one that is watched.
     pub fn is_over(&mut self) -> bool {
         let on = self.on && !self.lost;
         if on {
@@ -66,7 +66,7 @@ impl Watch {
         on && !self.lost
     }
 
-    /// All that was told, a fault that ended the run included.
+    /// All that is printed, a fault that ended the run included.
     pub fn end(mut self, fault: Option<Fault>) -> Result<Vec<u8>, AllocError> {
         let fault = if self.lost {
             Some(Fault::Memory)
@@ -82,7 +82,7 @@ impl Watch {
 
     fn mark(&mut self) {
         if self.marked {
-            self.tell(b"watched\n");
+            self.print(b"watched\n");
             self.signal(BEGIN);
         }
     }
@@ -109,16 +109,16 @@ impl Watch {
         }
     }
 
-    fn tell(&mut self, bytes: &[u8]) {
+    fn print(&mut self, bytes: &[u8]) {
         if !self.lost && self.text.extend_from_slice(bytes).is_err() {
             self.lost = true;
         }
     }
 
-    // Tells this where there was memory for it.
-    fn tell_made(&mut self, text: Result<String, AllocError>) {
+    // Prints this if there was memory for it.
+    fn print_made(&mut self, text: Result<String, AllocError>) {
         match text {
-            Ok(text) => self.tell(text.as_bytes()),
+            Ok(text) => self.print(text.as_bytes()),
             Err(_) => self.lost = true,
         }
     }
@@ -130,27 +130,27 @@ impl Watch {
 
     pub fn fault(&mut self, fault: &Fault) {
         let line = self.fault_line(fault);
-        self.tell_made(line);
+        self.print_made(line);
     }
 
     // The number at this place of its line.
     fn number(&mut self, place: usize, number: u64) {
         let gap = if place == 0 { "" } else { " " };
         let text = format!(in self.alloc; "{gap}{number}");
-        self.tell_made(text);
+        self.print_made(text);
     }
 
     // Ends a line of this many numbers.
     fn end_list(&mut self, count: usize) {
         if count == 0 {
-            self.tell(b"-");
+            self.print(b"-");
         }
-        self.tell(b"\n");
+        self.print(b"\n");
     }
 
     pub fn line(&mut self, line: &str) {
-        self.tell(line.as_bytes());
-        self.tell(b"\n");
+        self.print(line.as_bytes());
+        self.print(b"\n");
     }
 
     /// A line with this number alone.
@@ -176,26 +176,26 @@ impl Watch {
 
     /// A line of these numbers behind a word.
     pub fn named(&mut self, name: &str, numbers: &[u64]) {
-        self.tell(name.as_bytes());
-        self.tell(b" ");
+        self.print(name.as_bytes());
+        self.print(b" ");
         self.list(numbers);
     }
 
     /// A line of these regions behind a word.
     pub fn short_named(&mut self, name: &str, numbers: &[u32]) {
-        self.tell(name.as_bytes());
-        self.tell(b" ");
+        self.print(name.as_bytes());
+        self.print(b" ");
         self.short_list(numbers);
     }
 
-    /// The call answered these numbers.
+    /// The call returned these numbers.
     pub fn numbers(&mut self, numbers: &[u64]) {
         if self.is_over() {
             self.list(numbers);
         }
     }
 
-    /// The call answered these words of a heap: a header as its size and its slots.
+    /// The call returned these words of a heap: a header as its size and its slots.
     pub fn words(&mut self, words: &[u64]) {
         if self.is_over() {
             for (place, word) in words.iter().enumerate() {
@@ -203,21 +203,21 @@ impl Watch {
                 self.number(place, if size == 0 { slots } else { size });
                 if size != 0 {
                     let text = format!(in self.alloc; "/{slots}");
-                    self.tell_made(text);
+                    self.print_made(text);
                 }
             }
             self.end_list(words.len());
         }
     }
 
-    /// The call answered these regions, or these cards.
+    /// The call returned these regions, or these cards.
     pub fn regions(&mut self, regions: &[u32]) {
         if self.is_over() {
             self.short_list(regions);
         }
     }
 
-    /// The call answered a list for each region.
+    /// The call returned a list for each region.
     pub fn lists(&mut self, lists: &[Vec<u32>]) {
         if self.is_over() {
             for list in lists {
@@ -226,7 +226,7 @@ impl Watch {
         }
     }
 
-    /// The call answered pairs of numbers: a line for each, or `-` if there are none.
+    /// The call returned pairs of numbers: a line for each, or `-` if there are none.
     pub fn pairs(&mut self, pairs: &[(u64, u64)]) {
         if self.is_over() {
             for (slot, word) in pairs {
@@ -238,17 +238,17 @@ impl Watch {
         }
     }
 
-    /// The call answered something that the next image shows.
+    /// The call returned something that the next image shows.
     pub fn done(&mut self) {
         if self.is_over() {
             self.owed = true;
         }
     }
 
-    /// The call answered these bytes.
+    /// The call returned these bytes.
     pub fn bytes(&mut self, bytes: &[u8]) {
         if self.is_over() {
-            self.tell(bytes);
+            self.print(bytes);
         }
     }
 
@@ -260,7 +260,7 @@ impl Watch {
         }
     }
 
-    /// The call answered this image.
+    /// The call returned this image.
     pub fn image(&mut self, image: &Image) {
         if self.is_over() || self.owed {
             self.shown(image);
@@ -269,7 +269,7 @@ impl Watch {
 
     fn shown(&mut self, image: &Image) {
         match text_of(self.alloc, image) {
-            Ok(bytes) => self.tell(bytes.as_slice()),
+            Ok(bytes) => self.print(bytes.as_slice()),
             Err(_) => self.lost = true,
         }
     }

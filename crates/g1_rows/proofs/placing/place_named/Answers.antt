@@ -6,7 +6,7 @@ use Rattle.g1_words.specs.declared.fault.Fault.{Fault}
 use Rattle.g1_layout.specs.Placed.{CanPlace}
 use Rattle.g1_layout.specs.Plan.{Plan, plan_of}
 use Rattle.g1_copy.specs.Plans.{IsPlanOf}
-use Rattle.g1_rows.proofs.placing.placed.Goals as goal
+use Rattle.g1_rows.proofs.placing.place_named.Goals as goal
 
 module _ (h : Heap) (set survivors : List ℕ) where
   -- where there is no room, `place` answers no plan
