@@ -3,7 +3,7 @@
 //! Each line is a part, except that an image takes all its lines:
 //!
 //! - `heap ..` and the lines of docs/HEAP_TEXT.md below it: the bytes of that image;
-//! - `image NAME`: the bytes of an image that a block above has drawn;
+//! - `image NAME`: the bytes of an image that a block has drawn;
 //! - `hex DIGITS`: these bytes, with spaces for the reader's eye;
 //! - `text TEXT`: the bytes of the text, in which `\n` ends a line and `\t` is a tab;
 //! - any other line: itself and its end.

@@ -5,7 +5,7 @@
 //! - a row of many cases: below its `----` each line is `OPTION .. => ANSWER`, for one more option, or
 //!   `text TEXT => ANSWER`, for a text that the call is given;
 //! - a row of a trace: `# WHAT IT SHOWS`, `CALL OPTION ..`, `trace`, and lines `COMMAND [REPLY]`;
-//! - an image that rows below it may name: `image NAME`, and its lines;
+//! - an image that rows may name: `image NAME`, and its lines;
 //! - a remark: all its lines begin with `#`.
 //!
 //! In a row each further line that begins with `#` is a remark too. `CALL,CALL` stands for two calls that
@@ -58,18 +58,18 @@ struct Case {
     expected: Vec<u8>,
 }
 
-/// Tries each row of a text.
+/// Tries each row of a text. The images of all its blocks are drawn first.
 pub fn judge<R: Threads + Sync>(rt: &R, alloc: Global, text: &str) -> Result<Verdicts, AllocError> {
-    let mut pictures = Vec::new(alloc);
     let mut verdicts = Verdicts {
         text: String::new(alloc),
         good: 0,
         bad: 0,
     };
+    let pictures = draw_all(alloc, text, &mut verdicts)?;
     for block in text.split("\n\n") {
         let block = block.trim_matches('\n');
-        if !is_remark(block) {
-            judge_block(rt, alloc, block, &mut pictures, &mut verdicts)?;
+        if !is_remark(block) && !block.starts_with("image ") {
+            judge_row(rt, alloc, block, pictures.as_slice(), &mut verdicts)?;
         }
     }
     let (good, bad) = (verdicts.good, verdicts.bad);
@@ -83,39 +83,62 @@ fn is_remark(block: &str) -> bool {
         .all(|line| line.is_empty() || line.starts_with('#'))
 }
 
-fn judge_block<R: Threads + Sync>(
+/// The images that blocks of a text draw.
+fn draw_all(
+    alloc: Global,
+    text: &str,
+    verdicts: &mut Verdicts,
+) -> Result<Vec<Picture>, AllocError> {
+    let mut pictures = Vec::new(alloc);
+    for block in text.split("\n\n") {
+        let block = block.trim_matches('\n');
+        if let Some(rest) = block.strip_prefix("image ") {
+            match draw(alloc, rest, pictures.as_slice()) {
+                Ok(picture) => pictures.push(picture)?,
+                Err(Fault::Memory) => return Err(AllocError),
+                Err(_) => verdicts.fail(first_line(block), "it draws no image with a new name\n")?,
+            }
+        }
+    }
+    Ok(pictures)
+}
+
+/// The image of a name and its lines. No other has the name.
+fn draw(alloc: Global, block: &str, pictures: &[Picture]) -> Result<Picture, Fault> {
+    let Some((name, lines)) = block.split_once('\n') else {
+        return Err(Fault::Line(0));
+    };
+    for picture in pictures {
+        if picture.name.as_str() == name {
+            return Err(Fault::Line(0));
+        }
+    }
+    let bytes = g1_testing::text(alloc, lines)?;
+    let name = String::from_str(alloc, name)?;
+    Ok(Picture { name, bytes })
+}
+
+fn first_line(block: &str) -> &str {
+    match block.split_once('\n') {
+        Some((first, _)) => first,
+        None => block,
+    }
+}
+
+fn judge_row<R: Threads + Sync>(
     rt: &R,
     alloc: Global,
     block: &str,
-    pictures: &mut Vec<Picture>,
+    pictures: &[Picture],
     verdicts: &mut Verdicts,
 ) -> Result<(), AllocError> {
-    let shows = match block.split_once('\n') {
-        Some((first, _)) => first.trim_start_matches("# "),
-        None => block,
-    };
-    let why = match block.strip_prefix("image ") {
-        Some(rest) => draw(alloc, rest, pictures),
-        None => why_not(rt, alloc, block, pictures.as_slice()),
-    };
-    match why {
-        Ok(None) if block.starts_with("image ") => Ok(()),
+    let shows = first_line(block).trim_start_matches("# ");
+    match why_not(rt, alloc, block, pictures) {
         Ok(None) => verdicts.pass(shows),
         Ok(Some(why)) => verdicts.fail(shows, why.as_str()),
         Err(Fault::Memory) => Err(AllocError),
         Err(_) => verdicts.fail(shows, "it is not understood\n"),
     }
-}
-
-/// Keeps an image with its name.
-fn draw(alloc: Global, block: &str, pictures: &mut Vec<Picture>) -> Result<Option<String>, Fault> {
-    let Some((name, lines)) = block.split_once('\n') else {
-        return Err(Fault::Line(0));
-    };
-    let bytes = g1_testing::text(alloc, lines)?;
-    let name = String::from_str(alloc, name)?;
-    pictures.push(Picture { name, bytes })?;
-    Ok(None)
 }
 
 /// What a call of a row returned, if it is not what the row expects.
