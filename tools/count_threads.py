@@ -2,7 +2,7 @@
 """count_threads.py DRIVER
 
 Counts the threads that calls of the library start which no gate is told of: those that merge remembered sets, sort
-the log and make a pause ready. DRIVER, the built crates/g1_refusals, runs each on an image with more cards than one
+the log and make a pause ready. DRIVER, the built crates/g1_rows, runs each on an image with more cards than one
 thread is given, and tells where the call begins and ends. The call has to start at least one thread, and no more than
 there may be workers; on an image of few cards it has to start none. On a machine of one processor nothing is counted.
 It needs a C compiler. The last line is 'N passed, M failed'.
@@ -55,6 +55,7 @@ int pthread_create(pthread_t *thread, const pthread_attr_t *how, void *(*work)(v
 }
 """
 WORKERS = 64
+TEAM = ["workers", str(WORKERS), "chunk", "1"]
 CALLS = ["refine", "new_rem", "prepare"]
 
 
@@ -77,7 +78,7 @@ def count(library, report, command, image):
 
 def main():
     parser = argparse.ArgumentParser(description=__doc__, formatter_class=argparse.RawDescriptionHelpFormatter)
-    parser.add_argument("driver", metavar="DRIVER", help="the built driver, crates/g1_refusals/out/g1_refusals")
+    parser.add_argument("driver", metavar="DRIVER", help="the built driver, crates/g1_rows/out/g1_rows")
     parser.add_argument("--first", action="store_true", help="end at the first failure")
     options = parser.parse_args()
     if len(os.sched_getaffinity(0)) < 2:
@@ -90,10 +91,10 @@ def main():
         library = compiled(folder, "count.so", LIBRARY, *words)
         large = [(call, all_remembered()) for call in CALLS] + [("refine", all_dirty())]
         for call, image in large:
-            started = count(library, folder / "threads", [driver, call, str(WORKERS), "1", "0"], image)
+            started = count(library, folder / "threads", [driver, call, *TEAM, "regions", "0"], image)
             judge.judge(f"{call} of many cards: {started} threads", started is not None and 1 <= started < WORKERS)
         for call in CALLS:
-            started = count(library, folder / "threads", [driver, call, str(WORKERS), "1", "1"], SHARED)
+            started = count(library, folder / "threads", [driver, call, *TEAM, "regions", "1"], SHARED)
             judge.judge(f"{call} of few cards: {started} threads", started == 0)
     return judge.end()
 

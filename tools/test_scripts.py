@@ -2,7 +2,7 @@
 """test_scripts.py BINARY [DRIVER]
 
 Tests the scripts beside it: each has to fail a program that is broken in one way. BINARY is the built g1pause, DRIVER
-the built g1_refusals, for the script that takes it. The broken programs run the real one, and change what it says; they
+the built g1_rows, for the script that takes it. The broken programs run the real one, and change what it says; they
 are written in C, since they run while memory is refused, and take none. The last line is 'N passed, M failed'.
 """
 import argparse
@@ -88,7 +88,7 @@ BROKEN = {
 DRIVERS = {
     "always_memory": 'say("watched\\nfault 13: memory\\n", 25, "", 0);',
     "room_for_memory": 'real(words); if (memory()) say("watched\\nfault 11: room need 1 free 0\\n", 37, "", 0);',
-    "empty_set_for_memory": 'if (is(words, "choose")) { real(words); if (memory()) say("watched\\n\\n", 9, "", 0); }',
+    "empty_set_for_memory": 'if (is(words, "choose")) { real(words); if (memory()) say("watched\\n-\\n", 10, "", 0); }',
     "another_image_after_memory": "real(words); if (memory()) out[out_size - 1] ^= 1;"
                                   "if (write(1, out, out_size) != out_size) _exit(96); return status;",
 }
@@ -115,7 +115,7 @@ def broken(folder, name, real, body):
 def main():
     parser = argparse.ArgumentParser(description=__doc__, formatter_class=argparse.RawDescriptionHelpFormatter)
     parser.add_argument("binary", metavar="BINARY", help="the built program, out/g1pause")
-    parser.add_argument("driver", nargs="?", metavar="DRIVER", help="the built driver, crates/g1_refusals/out/g1_refusals")
+    parser.add_argument("driver", nargs="?", metavar="DRIVER", help="the built driver, crates/g1_rows/out/g1_rows")
     options = parser.parse_args()
     binary, *drivers = (str(pathlib.Path(x).resolve()) for x in (options.binary, options.driver) if x)
     judge = Judge()

@@ -1,7 +1,7 @@
 """Programs run while memory is refused, for the scripts beside it.
 
 A small C library stands before the allocator. It refuses the requests from one number to another; with `marked` it
-counts only those between an allocation of BEGIN bytes and one of END bytes, which the program crates/g1_refusals makes
+counts only those between an allocation of BEGIN bytes and one of END bytes, which the program crates/g1_rows makes
 before and after the call that it watches. It needs a C compiler.
 """
 import os

@@ -1,12 +1,6 @@
 //! Texts of images, some of them large.
 use std::alloc::{AllocError, Global};
 
-/// The roots name 21 and 16 in region 1, two slots outside name 21, and so do all three slots of 16.
-pub static SHARED: [u32; 50] = [
-    16, 4, 4, 2, 0, 4, 1, 6, 1, 7, 0, 0, 0, 0, 22, 0, 17, 0, 0, 2, 0, 1, 0, 0, 1, 4, 22, 0, 1, 0,
-    2, 0, 1, 2, 22, 0, 3, 5, 22, 0, 22, 0, 22, 0, 1, 0, 0, 2, 8, 0,
-];
-
 /// A text that is written part by part. Want of memory is told at its end.
 #[derive(Drop)]
 pub struct Writing {
@@ -15,20 +9,14 @@ pub struct Writing {
 }
 
 impl Writing {
-    /// A text that begins with these bytes.
-    pub fn of(alloc: Global, bytes: &[u8]) -> Writing {
+    /// The magic and the heading: words a region, words a card, regions, roots, dirty cards; no region
+    /// is current.
+    pub fn new(alloc: Global, sizes: [u32; 5]) -> Writing {
         let mut writing = Writing {
             bytes: Vec::new(alloc),
             lost: false,
         };
-        writing.push(bytes);
-        writing
-    }
-
-    /// The magic and the heading: words a region, words a card, regions, roots, dirty cards; no region
-    /// is current.
-    pub fn new(alloc: Global, sizes: [u32; 5]) -> Writing {
-        let mut writing = Writing::of(alloc, b"G1IMAGE2");
+        writing.push(b"G1IMAGE2");
         writing.numbers(&sizes);
         writing.number(sizes[2]);
         writing

@@ -1,7 +1,6 @@
 //! What no clause can say, shown by tests over the public calls of the crates below.
 //!
 //! - That memory is there: images of some size meet no `Memory` (`tests_sizes`).
-//! - Faults that want of memory could hide (`tests_faults`).
 //! - Which call of a reader or of a writer failed (`tests_devices`).
 //! - Long reads and writes, calls that are interrupted again and again, calls that would block, and what
 //!   is asked of a reader (`tests_streams`).
@@ -15,8 +14,6 @@ mod counting;
 mod images;
 #[cfg(test)]
 mod tests_devices;
-#[cfg(test)]
-mod tests_faults;
 #[cfg(test)]
 mod tests_sizes;
 #[cfg(test)]

@@ -27,34 +27,6 @@ pub fn dirty() -> &'static str {
      object 2/1 -"
 }
 
-/// The same without a current region or a dirty card.
-pub fn clean() -> &'static str {
-    "heap 16 4 4
-     root 0
-     region 0 ordinary
-     object 2/1 -"
-}
-
-/// The roots name 18, then 16.
-pub fn two_roots() -> &'static str {
-    "heap 16 4 4
-     root 18
-     root 16
-     region 1 ordinary
-     object 2/0 5
-     object 4/0 6 7 8"
-}
-
-/// The object that root 0 names comes first.
-pub fn two_roots_after() -> &'static str {
-    "heap 16 4 4
-     root 0
-     root 4
-     region 0 ordinary
-     object 4/0 6 7 8
-     object 2/0 5"
-}
-
 /// The slot at 1 names the object at 16. There are no roots.
 pub fn outside_slot() -> &'static str {
     "heap 16 4 4
@@ -62,16 +34,6 @@ pub fn outside_slot() -> &'static str {
      object 2/1 16
      region 1 ordinary
      remembered 1 cards 0
-     object 3/0 1 2"
-}
-
-/// The slot at 1 names the object at 32, and the remembered set moved with it.
-pub fn outside_slot_after() -> &'static str {
-    "heap 16 4 4
-     region 0 ordinary
-     object 2/1 32
-     region 2 ordinary
-     remembered 2 cards 0
      object 3/0 1 2"
 }
 
@@ -92,19 +54,6 @@ pub fn logged() -> &'static str {
      object 2/1 16
      region 1 ordinary
      object 3/0 1 2"
-}
-
-/// 16 and 18 name one another, and nothing else names them.
-pub fn cycle() -> &'static str {
-    "heap 16 4 4
-     region 1 ordinary
-     object 2/1 18
-     object 2/1 16"
-}
-
-/// All regions are free.
-pub fn cycle_after() -> &'static str {
-    "heap 16 4 4"
 }
 
 /// The roots name 21 and 16, two slots outside name 21, and so do all three slots of 16.
@@ -135,28 +84,6 @@ pub fn shared_after() -> &'static str {
      object 5/3 32 32 32 1"
 }
 
-/// Nothing names the object at 1, whose third slot names 16.
-pub fn dead_outside() -> &'static str {
-    "heap 16 4 4
-     region 0 ordinary
-     object 1/0
-     object 5/3 - - 16 0
-     region 1 ordinary
-     remembered 1 cards 1
-     object 2/0 3"
-}
-
-/// Its third slot names 32.
-pub fn dead_outside_after() -> &'static str {
-    "heap 16 4 4
-     region 0 ordinary
-     object 1/0
-     object 5/3 - - 32 0
-     region 2 ordinary
-     remembered 2 cards 1
-     object 2/0 3"
-}
-
 /// A humongous object over three regions has its slot at 17 name the object at 48.
 pub fn humongous() -> &'static str {
     "heap 16 4 6
@@ -165,17 +92,6 @@ pub fn humongous() -> &'static str {
      object 40/20 - - - - - - - - - - - - - - - - 48 ..
      region 3 ordinary
      remembered 3 cards 4
-     object 2/0 4"
-}
-
-/// Its slot at 17 names 64.
-pub fn humongous_after() -> &'static str {
-    "heap 16 4 6
-     root 0
-     region 0 humongous
-     object 40/20 - - - - - - - - - - - - - - - - 64 ..
-     region 4 ordinary
-     remembered 4 cards 4
      object 2/0 4"
 }
 
@@ -218,31 +134,6 @@ pub fn fitted() -> &'static str {
      object 1/0"
 }
 
-/// Those of 12 and 4 words fill region 2, that of one word is in region 3.
-pub fn fitted_after() -> &'static str {
-    "heap 16 4 4
-     root 32
-     root 44
-     root 48
-     region 2 ordinary
-     object 12/0 ..
-     object 4/0 ..
-     region 3 ordinary
-     object 1/0"
-}
-
-/// The only region holds one object, which nothing names.
-pub fn no_survivor() -> &'static str {
-    "heap 16 4 1
-     region 0 ordinary
-     object 2/0 3"
-}
-
-/// The only region is free.
-pub fn no_survivor_after() -> &'static str {
-    "heap 16 4 1"
-}
-
 /// Objects of 12 and 5 words, each named by a root, a dirty card and one free region.
 pub fn no_room() -> &'static str {
     "heap 16 4 3
@@ -273,35 +164,6 @@ pub fn three_regions() -> &'static str {
      object 1/0"
 }
 
-/// What lived in regions 0 and 1 is in region 3.
-pub fn three_regions_after() -> &'static str {
-    "heap 16 4 6
-     root 48
-     root 50
-     root 32
-     region 2 ordinary
-     object 1/0
-     object 1/0
-     region 3 ordinary
-     object 2/0 1
-     object 2/0 1"
-}
-
-/// What `shared_after` becomes when region 2 is collected: the objects are back in region 1, in the
-/// order in which they were found.
-pub fn shared_back() -> &'static str {
-    "heap 16 4 4
-     root 16
-     root 18
-     region 0 ordinary
-     object 4/1 16 1 2
-     object 2/1 16
-     region 1 ordinary
-     remembered 1 cards 0 1
-     object 2/0 8
-     object 5/3 16 16 16 1"
-}
-
 /// The object at 0 names that at 16, which names it back.
 pub fn mutual() -> &'static str {
     "heap 16 4 4
@@ -311,35 +173,6 @@ pub fn mutual() -> &'static str {
      region 1 ordinary
      remembered 1 cards 0
      object 3/1 0 7"
-}
-
-/// The object at 0 names that at 32, which names it back.
-pub fn mutual_after() -> &'static str {
-    "heap 16 4 4
-     region 0 ordinary
-     remembered 0 cards 8
-     object 2/1 32
-     region 2 ordinary
-     remembered 2 cards 0
-     object 3/1 0 7"
-}
-
-/// The first region's dead object is still there, and the remembered card that is out of date too:
-/// only region 1 was collected.
-pub fn three_regions_later() -> &'static str {
-    "heap 16 4 6
-     root 0
-     root 48
-     root 32
-     region 0 ordinary
-     object 2/0 1
-     object 2/0 1
-     region 2 ordinary
-     remembered 2 cards 0
-     object 1/0
-     object 1/0
-     region 3 ordinary
-     object 2/0 1"
 }
 
 /// Two humongous objects: nothing names that at 0, and it alone names that at 32.
@@ -355,48 +188,12 @@ pub fn chain() -> &'static str {
      object 2/1 -"
 }
 
-/// The first is freed, and the second stays.
-pub fn chain_after() -> &'static str {
-    "heap 16 4 6
-     root 64
-     region 2 humongous
-     object 20/0 ..
-     region 4 ordinary
-     object 2/1 -"
-}
-
-/// Both are freed.
-pub fn chain_after_two() -> &'static str {
-    "heap 16 4 6
-     root 64
-     region 4 ordinary
-     object 2/1 -"
-}
-
 /// A humongous object over three regions that only its slot at 17 names.
 pub fn own_slot() -> &'static str {
     "heap 16 4 3
      region 0 humongous
      remembered 0 cards 4
      object 40/20 - - - - - - - - - - - - - - - - 0 .."
-}
-
-pub fn own_slot_after() -> &'static str {
-    "heap 16 4 3"
-}
-
-/// A humongous object that only a dead object names.
-pub fn named_by_the_dead() -> &'static str {
-    "heap 16 4 5
-     region 0 ordinary
-     object 2/1 16
-     region 1 humongous
-     remembered 1 cards 0
-     object 20/0 .."
-}
-
-pub fn named_by_the_dead_after() -> &'static str {
-    "heap 16 4 5"
 }
 
 /// The object at 48 is named by a humongous object alone, which nothing names.
@@ -406,13 +203,6 @@ pub fn unnamed_owner() -> &'static str {
      object 40/20 - - - - - - - - - - - - - - - - 48 ..
      region 3 ordinary
      remembered 3 cards 4
-     object 2/0 4"
-}
-
-/// It was copied, and its owner freed.
-pub fn unnamed_owner_after() -> &'static str {
-    "heap 16 4 6
-     region 4 ordinary
      object 2/0 4"
 }
 

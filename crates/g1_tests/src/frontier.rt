@@ -10,7 +10,7 @@ use g1_choose::given;
 use g1_claim::{Claims, EMPTY};
 use g1_frontier::{Item, claim_round, discover};
 use g1_rem::{Starts, Tracked, cards_into, image, refine};
-use g1_testing::pictures::{cycle, dead_outside, gap, shared, two_roots};
+use g1_testing::pictures::shared;
 use g1_words::{Fault, Heap, object_at};
 use g1_work::{Gate, Open, Part};
 use std::alloc::{AllocError, Global};
@@ -59,48 +59,6 @@ fn survivors<R: Threads + Sync, G: Gate + Sync>(
     let tracked = tracked(rt, alloc, lines)?;
     let set = given(alloc, image(&tracked).heap(), regions)?;
     found_in(rt, alloc, &tracked, &set, workers, chunk, gate)
-}
-
-/// Sees that these are the survivors, for few and many workers and for small and large chunks.
-fn expect_survivors<T: Threads + Abort + Sync>(
-    rt: &T,
-    alloc: Global,
-    lines: &str,
-    regions: &[u32],
-    expected: &[u64],
-) -> Result<(), Fail> {
-    for (workers, chunk) in [(1, 1), (1, 65_536), (8, 1), (8, 65_536)] {
-        let found = survivors(rt, alloc, lines, regions, workers, chunk, &Open)?;
-        expect_equal(rt, found.as_slice(), expected);
-    }
-    Ok(())
-}
-
-#[test]
-fn targets_of_roots_come_by_root_number(rt: HostRuntime) -> Result<(), Fail> {
-    expect_survivors(&rt, rt.alloc(), two_roots(), &[1], &[18, 16])
-}
-
-#[test]
-fn a_cycle_that_keeps_itself_is_not_found(rt: HostRuntime) -> Result<(), Fail> {
-    expect_survivors(&rt, rt.alloc(), cycle(), &[1], &[])
-}
-
-#[test]
-fn an_object_that_many_name_is_found_once(rt: HostRuntime) -> Result<(), Fail> {
-    expect_survivors(&rt, rt.alloc(), shared(), &[1], &[21, 16])
-}
-
-#[test]
-fn a_dead_outside_slot_keeps_its_target(rt: HostRuntime) -> Result<(), Fail> {
-    expect_survivors(&rt, rt.alloc(), dead_outside(), &[1], &[16])
-}
-
-#[test]
-fn a_window_of_two_regions_is_searched_as_one(rt: HostRuntime) -> Result<(), Fail> {
-    let both = [0, 1];
-    expect_survivors(&rt, rt.alloc(), gap(), &both, &[0, 16, 21])?;
-    expect_survivors(&rt, rt.alloc(), shared(), &both, &[21, 16])
 }
 
 /// A gate whose calls for the chunks 0 and 1 look for one another in a round, counted from 0.

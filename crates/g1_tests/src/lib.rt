@@ -1,24 +1,18 @@
-//! The tests of the libraries' public calls, in one crate: a crate with tests is proved twice, so that
-//! here no library is proved a second time for its tests.
+//! The tests of the libraries' public calls that are no rows of `g1_rows`, in one crate: a crate with
+//! tests is proved twice, so that here no library is proved a second time for its tests. A case of a call
+//! that an image or a trace and an answer say is a row there; here is what more has to be said.
 //!
 //! - `words`: the number and text of each fault and of each kind; sizes at the limits; addresses.
 //! - `work`: a dealer's numbers, drawn by one seat and by four threads; chunks whose outs come in order.
 //! - `regions`: regions that are filled in place, by runs.
 //! - `reading`, `writing`: images in pieces, at the edges of a piece, and with streams that have trouble.
-//! - `rem`: slots on cards, cover, refined sets, merged lists.
 //! - `claim`: words that fall to the least rank, offered by one seat and by four threads.
-//! - `frontier`: survivors of one region and of two, by few and many workers; the words that two rounds
-//!   leave.
-//! - `mark`: live bytes.
-//! - `choose`: costs at the limits, and each parameter in its place; what budgets buy, candidates by
-//!   efficiency, named lists.
-//! - `layout`: the places of survivors, and the regions that they need.
-//! - `copy`: the words of to-space.
-//! - `pause`: settings, the steps of a pause, and whole pauses, image against image, byte for byte, and
+//! - `frontier`: the words that two rounds leave; two workers in a round.
+//! - `mark`: two workers that count live bytes.
+//! - `choose`: costs at the limits, and each parameter in its place; products beyond 64 bits.
+//! - `pause`: many objects that reference one, a run for each worker, two workers in a pause, and pauses
 //!   from stream to stream.
-//! - `trace`: replies of whole traces, and which line of a bad one is told.
-//! - `same`: which difference of two heaps is told.
-//! - `steps`: calls that a pause makes or does without, each by itself.
+//! - `trace`: a mutator step by step, and each line of a trace spoiled.
 //! - `sizes`: calls at sizes at which none may give up for memory.
 //! - `crowds`: up to 64 workers at the same time, in a gate that they leave together (`crowd`).
 //!
@@ -31,8 +25,6 @@ mod choose;
 #[cfg(test)]
 mod claim;
 #[cfg(test)]
-mod copy;
-#[cfg(test)]
 mod crowd;
 #[cfg(test)]
 mod crowds;
@@ -43,8 +35,6 @@ mod frontier;
 #[cfg(test)]
 mod images;
 #[cfg(test)]
-mod layout;
-#[cfg(test)]
 mod mark;
 #[cfg(test)]
 mod pause;
@@ -53,13 +43,7 @@ mod reading;
 #[cfg(test)]
 mod regions;
 #[cfg(test)]
-mod rem;
-#[cfg(test)]
-mod same;
-#[cfg(test)]
 mod sizes;
-#[cfg(test)]
-mod steps;
 #[cfg(test)]
 mod trace;
 #[cfg(test)]

@@ -4,11 +4,10 @@ use crate::expecting::expect_equal;
 use g1_mark::live_bytes;
 use g1_rem::Starts;
 use g1_testing::image;
-use g1_testing::pictures::{humongous, shared};
+use g1_testing::pictures::shared;
 use g1_words::Fault;
-use g1_work::{Gate, Open, Part};
+use g1_work::{Gate, Part};
 use std::alloc::Global;
-use std::process::Abort;
 use std::sync::atomic::{AtomicBool, Ordering};
 use std::test::Fail;
 use std::thread::Threads;
@@ -28,30 +27,6 @@ fn live_bytes_of<R: Threads + Sync, G: Gate + Sync>(
     let image = image(alloc, lines)?;
     let starts = Starts::build(alloc, image.heap())?;
     live_bytes(rt, alloc, image.heap(), &starts, workers, chunk, gate)
-}
-
-/// Sees that these are the live bytes, for few and many workers and for small and large chunks.
-fn expect_live_bytes<T: Threads + Abort + Sync>(
-    rt: &T,
-    alloc: Global,
-    lines: &str,
-    expected: &[u64],
-) -> Result<(), Fail> {
-    for (workers, chunk) in [(1, 1), (1, 65_536), (8, 1), (8, 65_536)] {
-        let found = live_bytes_of(rt, alloc, lines, workers, chunk, &Open)?;
-        expect_equal(rt, found.as_slice(), expected);
-    }
-    Ok(())
-}
-
-#[test]
-fn dead_objects_do_not_count(rt: HostRuntime) -> Result<(), Fail> {
-    expect_live_bytes(&rt, rt.alloc(), shared(), &[0, 56, 0, 0])
-}
-
-#[test]
-fn a_humongous_object_counts_in_its_first_region(rt: HostRuntime) -> Result<(), Fail> {
-    expect_live_bytes(&rt, rt.alloc(), humongous(), &[320, 0, 0, 16, 0, 0])
 }
 
 /// A gate whose calls for the chunks 0 and 1 look for one another.

@@ -1,5 +1,2 @@
 mod pauses;
-mod pieces;
-mod settings;
 mod streams;
-mod vectors;

@@ -4,12 +4,11 @@ ghost use Rattle.g1_frontier.specs.Window.{AreRegions};
 ghost use Rattle.g1_rem.specs.Starts.{IsStartsOf};
 
 use crate::expecting::expect_equal;
-use crate::rem::refined_sets;
 use g1_choose::{Cost, given};
 use g1_claim::{Claims, EMPTY, shares};
 use g1_frontier::claim_round;
 use g1_image::decode;
-use g1_rem::{Starts, verify};
+use g1_rem::{Starts, Tracked, image, refine, verify};
 use g1_same::compare;
 use g1_testing::Sketch;
 use g1_trace::{Mutator, parse_trace, run_text};
@@ -134,6 +133,16 @@ fn all_dirty(alloc: Global) -> Result<Sketch, AllocError> {
     sketch.ordinary(alloc)?;
     sketch.object(&[0], &[])?;
     Ok(sketch)
+}
+
+/// The refined sets of what is tracked.
+fn refined_sets(
+    rt: &(impl Threads + Sync),
+    alloc: Global,
+    tracked: &Tracked,
+) -> Result<Vec<Vec<u32>>, Fault> {
+    let starts = Starts::build(alloc, image(tracked).heap())?;
+    refine(rt, alloc, tracked, &starts)
 }
 
 /// The refined sets of the image that the bytes are.

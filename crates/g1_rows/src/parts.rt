@@ -1,0 +1,178 @@
+//! What a row gives to a call, or expects of it, as bytes.
+//!
+//! Each line is a part, except that an image takes all its lines:
+//!
+//! - `heap ..` and the lines of docs/HEAP_TEXT.md below it: the bytes of that image;
+//! - `image NAME`: the bytes of an image that a block has drawn;
+//! - `hex DIGITS`: these bytes, with spaces for the reader's eye;
+//! - `text TEXT`: the bytes of the text, in which `\n` ends a line and `\t` is a tab;
+//! - any other line: itself and its end.
+use g1_testing::text;
+use g1_words::Fault;
+use std::alloc::{AllocError, Global};
+
+/// The words that a line of an image begins with, below its heading.
+const DRAWN: [&str; 5] = ["root", "dirty", "region", "remembered", "object"];
+
+/// An image that has a name.
+#[derive(Drop)]
+pub struct Picture {
+    pub name: String,
+    pub bytes: Vec<u8>,
+}
+
+/// The parts that the lines say, and the lines of an image that isn't finished.
+#[derive(Drop)]
+struct Laying {
+    parts: Vec<Vec<u8>>,
+    drawing: String,
+}
+
+impl Laying {
+    fn push_line(&mut self, alloc: Global, line: &str, pictures: &[Picture]) -> Result<(), Fault> {
+        let word = first_word(line);
+        if word == "heap" || !is_drawn(word) || self.drawing.is_empty() {
+            self.finish(alloc)?;
+        }
+        if word == "heap" || !self.drawing.is_empty() {
+            self.drawing.push_str(line)?;
+            self.drawing.push_str("\n")?;
+            return Ok(());
+        }
+        let part = part_of(alloc, line, pictures)?;
+        Ok(self.parts.push(part)?)
+    }
+
+    /// Lays the image whose lines end here, if there is one.
+    fn finish(&mut self, alloc: Global) -> Result<(), Fault> {
+        if !self.drawing.is_empty() {
+            self.parts.push(text(alloc, self.drawing.as_str())?)?;
+            self.drawing.clear();
+        }
+        Ok(())
+    }
+}
+
+/// The parts that some lines say; none if there is no line.
+///
+/// # Errors
+///
+/// `Fault::Line` if a line says nothing; `Fault::Memory`.
+pub fn parts_of(alloc: Global, lines: &str, pictures: &[Picture]) -> Result<Vec<Vec<u8>>, Fault> {
+    let mut laying = Laying {
+        parts: Vec::new(alloc),
+        drawing: String::new(alloc),
+    };
+    for line in lines.split('\n') {
+        if !line.is_empty() {
+            laying.push_line(alloc, line, pictures)?;
+        }
+    }
+    laying.finish(alloc)?;
+    let Laying { parts, .. } = laying;
+    Ok(parts)
+}
+
+fn is_drawn(word: &str) -> bool {
+    DRAWN.iter().any(|drawn| *drawn == word)
+}
+
+fn first_word(line: &str) -> &str {
+    match line.split_once(' ') {
+        Some((word, _)) => word,
+        None => line,
+    }
+}
+
+fn part_of(alloc: Global, line: &str, pictures: &[Picture]) -> Result<Vec<u8>, Fault> {
+    match line.split_once(' ') {
+        Some(("image", name)) => bytes_of_picture(alloc, name, pictures),
+        Some(("hex", digits)) => bytes_of(alloc, digits),
+        Some(("text", text)) => Ok(unescape(alloc, text)?),
+        _ => {
+            let mut part = Vec::from_slice(alloc, line.as_bytes())?;
+            part.push(b'\n')?;
+            Ok(part)
+        }
+    }
+}
+
+fn bytes_of_picture(alloc: Global, name: &str, pictures: &[Picture]) -> Result<Vec<u8>, Fault> {
+    for picture in pictures {
+        if picture.name.as_str() == name {
+            return Ok(picture.bytes.to_vec(alloc)?);
+        }
+    }
+    Err(Fault::Line(0))
+}
+
+/// The bytes with these hexadecimal digits, two for each.
+fn bytes_of(alloc: Global, digits: &str) -> Result<Vec<u8>, Fault> {
+    let mut bytes = Vec::new(alloc);
+    let mut high = None;
+    for digit in digits.chars() {
+        if digit == ' ' {
+            continue;
+        }
+        let Some(value) = digit.to_digit(16) else {
+            return Err(Fault::Line(0));
+        };
+        high = match high {
+            None => Some(value),
+            Some(high) => {
+                bytes.push(u8::try_from(high << 4 | value).unwrap_or(0))?;
+                None
+            }
+        };
+    }
+    match high {
+        None => Ok(bytes),
+        Some(_) => Err(Fault::Line(0)),
+    }
+}
+
+fn unescape(alloc: Global, text: &str) -> Result<Vec<u8>, AllocError> {
+    let mut bytes = Vec::new(alloc);
+    let mut is_escaped = false;
+    for byte in text.bytes() {
+        if byte == b'\\' {
+            is_escaped = true;
+            continue;
+        }
+        bytes.push(match byte {
+            b'n' if is_escaped => b'\n',
+            b't' if is_escaped => b'\t',
+            b'r' if is_escaped => b'\r',
+            _ => byte,
+        })?;
+        is_escaped = false;
+    }
+    Ok(bytes)
+}
+
+/// All parts, one after another.
+pub fn join(alloc: Global, parts: &[Vec<u8>]) -> Result<Vec<u8>, AllocError> {
+    let mut bytes = Vec::new(alloc);
+    for part in parts {
+        bytes.extend_from_slice(part.as_slice())?;
+    }
+    Ok(bytes)
+}
+
+/// A trace's text and its replies, of lines `COMMAND [REPLY]`.
+pub fn trace_of(alloc: Global, lines: &str) -> Result<(Vec<u8>, Vec<u8>), AllocError> {
+    let mut commands = Vec::new(alloc);
+    let mut replies = Vec::new(alloc);
+    for line in lines.split('\n') {
+        let (command, reply) = line.split_once(" [").unwrap_or((line, ""));
+        if !line.is_empty() {
+            commands.extend_from_slice(command.as_bytes())?;
+            commands.push(b'\n')?;
+        }
+        if let Some(reply) = reply.strip_suffix("]") {
+            replies.extend_from_slice(reply.as_bytes())?;
+            replies.push(b'\n')?;
+        }
+    }
+    Ok((commands, replies))
+}
