@@ -31,7 +31,8 @@ overflow_add-words c =
     let made = c.requires.plan in
     let t = c.loop-number.number in
     let width : c.region_words-region_words.result ≡ c.args.heap.now.geometry.w = c.region_words-region_words.ensures.value ∙ ap (λ (g : Geometry). g.w) c.geometry-geometry.ensures.same in
-    let first : c.words_of-first.result ≡ c.loop-number.number * c.args.heap.now.geometry.w = c.words_of-first.ensures.value ∙ ap (λ (g : Geometry). c.loop-number.number * g.w) c.geometry-geometry.ensures.same in
+    let first : c.words_of-first.result ≡ c.loop-number.number * c.args.heap.now.geometry.w =
+    c.words_of-first.ensures.value ∙ ap (λ (g : Geometry). c.loop-number.number * g.w) c.geometry-geometry.ensures.same in
     let lt : c.loop-number.number < need c.args.heap.now c.args.plan.now.survivors = omega (arith, c.loop-number-test.true, ap length c.runs-runs.ensures, runs_count h p made) in
     let ends = region_ends h p.set p.survivors c.geometry-geometry.ensures.valid made.placeable made.room t lt in
     omega (arith, first, width, ends.1)
@@ -43,7 +44,8 @@ offset_bounds-gathered-first c =
     let made = c.requires.plan in
     let t = c.loop-number.number in
     let width : c.region_words-region_words.result ≡ c.args.heap.now.geometry.w = c.region_words-region_words.ensures.value ∙ ap (λ (g : Geometry). g.w) c.geometry-geometry.ensures.same in
-    let first : c.words_of-first.result ≡ c.loop-number.number * c.args.heap.now.geometry.w = c.words_of-first.ensures.value ∙ ap (λ (g : Geometry). c.loop-number.number * g.w) c.geometry-geometry.ensures.same in
+    let first : c.words_of-first.result ≡ c.loop-number.number * c.args.heap.now.geometry.w =
+    c.words_of-first.ensures.value ∙ ap (λ (g : Geometry). c.loop-number.number * g.w) c.geometry-geometry.ensures.same in
     let lt : c.loop-number.number < need c.args.heap.now c.args.plan.now.survivors = omega (arith, c.loop-number-test.true, ap length c.runs-runs.ensures, runs_count h p made) in
     let ends = region_ends h p.set p.survivors c.geometry-geometry.ensures.valid made.placeable made.room t lt in
     omega (arith, first, ends.1)
@@ -55,7 +57,8 @@ slice_bounds-words-end c =
     let made = c.requires.plan in
     let t = c.loop-number.number in
     let width : c.region_words-region_words.result ≡ c.args.heap.now.geometry.w = c.region_words-region_words.ensures.value ∙ ap (λ (g : Geometry). g.w) c.geometry-geometry.ensures.same in
-    let first : c.words_of-first.result ≡ c.loop-number.number * c.args.heap.now.geometry.w = c.words_of-first.ensures.value ∙ ap (λ (g : Geometry). c.loop-number.number * g.w) c.geometry-geometry.ensures.same in
+    let first : c.words_of-first.result ≡ c.loop-number.number * c.args.heap.now.geometry.w =
+    c.words_of-first.ensures.value ∙ ap (λ (g : Geometry). c.loop-number.number * g.w) c.geometry-geometry.ensures.same in
     let lt : c.loop-number.number < need c.args.heap.now c.args.plan.now.survivors = omega (arith, c.loop-number-test.true, ap length c.runs-runs.ensures, runs_count h p made) in
     let ends = region_ends h p.set p.survivors c.geometry-geometry.ensures.valid made.placeable made.room t lt in
     let there : c.words_of-first.result + c.region_words-region_words.result ≤ length c.args.gathered.now =
@@ -70,7 +73,8 @@ add_run-requires-clause-words c =
     let t = c.loop-number.number in
     let d : Run = record { region = 0; from = 0; to = 0; end = 0 } in
     let width : c.region_words-region_words.result ≡ c.args.heap.now.geometry.w = c.region_words-region_words.ensures.value ∙ ap (λ (g : Geometry). g.w) c.geometry-geometry.ensures.same in
-    let first : c.words_of-first.result ≡ c.loop-number.number * c.args.heap.now.geometry.w = c.words_of-first.ensures.value ∙ ap (λ (g : Geometry). c.loop-number.number * g.w) c.geometry-geometry.ensures.same in
+    let first : c.words_of-first.result ≡ c.loop-number.number * c.args.heap.now.geometry.w =
+    c.words_of-first.ensures.value ∙ ap (λ (g : Geometry). c.loop-number.number * g.w) c.geometry-geometry.ensures.same in
     let lt : c.loop-number.number < need c.args.heap.now c.args.plan.now.survivors = omega (arith, c.loop-number-test.true, ap length c.runs-runs.ensures, runs_count h p made) in
     (λ j. slice_range (c.requires.gathered j) (first j) (first j + width j))
     ∙ region_words h p.set p.survivors c.geometry-geometry.ensures.valid made.placeable made.room t lt

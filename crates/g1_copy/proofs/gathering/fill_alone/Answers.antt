@@ -14,7 +14,12 @@ fill_at-requires-clause-empty c =
     let n = c.loop-number.number in
     let w : c.region_words-region_words.result ≡ h.geometry.w = cc in
     let start : c.words_of-start.result ≡ n * h.geometry.w = cc in
-    let lt : c.loop-number.number < need h p.survivors = omega (arith, c.loop-number-test.true, ap length c.runs-number-end.ensures, count_runs h p c.geometry-geometry.ensures.valid c.requires.plan) in
+    let lt : c.loop-number.number < need h p.survivors = omega (
+      arith,
+      c.loop-number-test.true,
+      ap length c.runs-number-end.ensures,
+      count_runs h p c.geometry-geometry.ensures.valid c.requires.plan,
+    ) in
     next_empty h p c.geometry-geometry.ensures.valid c.requires.plan n c.words_of-start.result
     (c.words_of-start.result + c.region_words-region_words.result - c.words_of-start.result) c.loop-number.words
     lt start (omega (arith, w)) c.loop-number.invariant
@@ -26,7 +31,12 @@ loop-number-preserved c =
     let n = c.loop-number.number in
     let w : c.region_words-region_words.result ≡ h.geometry.w = cc in
     let start : c.words_of-start.result ≡ n * h.geometry.w = cc in
-    let lt : c.loop-number.number < need h p.survivors = omega (arith, c.loop-number-test.true, ap length c.runs-number-end.ensures, count_runs h p c.geometry-geometry.ensures.valid c.requires.plan) in
+    let lt : c.loop-number.number < need h p.survivors = omega (
+      arith,
+      c.loop-number-test.true,
+      ap length c.runs-number-end.ensures,
+      count_runs h p c.geometry-geometry.ensures.valid c.requires.plan,
+    ) in
     FilledTo-more h p c.geometry-geometry.ensures.valid c.requires.plan n c.words_of-start.result
     (c.words_of-start.result + c.region_words-region_words.result - c.words_of-start.result) c.loop-number.words c.fill_at.new.words
     lt start (omega (arith, w)) c.loop-number.invariant c.fill_at.ensures
