@@ -5,8 +5,8 @@ Draws N small heaps (1000) and sets, evacuates each set as tools/opponent.py doe
 `same --covered --set R ..` finds it the same, kept and covered, with the numbers of objects and words that are
 reached; with --g1pause also that `check` finds it covered, and that the answer of `g1pause pause R ..` to the heap
 with exact remembered sets is found the same, kept and covered too. Then an error of each kind of tools/plant_errors.py is
-planted. What `same` tells of it, line by line, is compared with a judge of this script's own, which walks both
-heaps from the definition; and `same --set` has to find it wherever roots or objects outside the set lead to it, or a
+planted, and in a quarter of the cases words that reference no object beside it. What `same` tells of it, line by line,
+is compared with a judge of this script's own, which walks both heaps from the definition; and `same --set` has to find it wherever roots or objects outside the set lead to it, or a
 region is not as a pause of the set leaves it, and `same --covered` wherever a slot is not covered. Some heaps have more
 than 256 roots, and some have an object outside the set that is equal to one of the set.
 The last line is 'N passed, M failed', after a count for each kind of error.
@@ -25,6 +25,8 @@ from heap_image import FREE, NULL, ORDINARY, drawn, from_bytes  # noqa: E402
 from opponent import NoRoom, Opponent  # noqa: E402
 from plant_errors import ERRORS, MORE_ERRORS, Planter  # noqa: E402
 from programs import add_program, program  # noqa: E402
+
+KINDS = ("free", "ordinary", "humongous", "continuation")
 
 
 def tells(before, after, x, y, forth, back):
@@ -48,16 +50,32 @@ def tells(before, after, x, y, forth, back):
     return None
 
 
+def told_stale(before, after, x, y):
+    """The detail of a word after that is not null and references no object."""
+    region = after.region_of(y - 1)
+    where = "outside the heap"
+    if region < after.regions:
+        found = "the" if x == y else "another"
+        found = f"{found} object was before" if y - 1 in set(before.objects()) else "no object starts"
+        where = f"in region {region}, {KINDS[after.kinds[region]]} after, where {found}"
+    return "stale", f" before; the word {'still is' if x == y else 'is'} {y}, {where}"
+
+
 def judged(before, after, more=()):
-    """The line of `same`: both heaps walked at once from their roots, and from words that are to agree too."""
+    """The line of `same`: both heaps walked at once from their roots, and from words that are to agree too. What
+    differs only in a word that no root leads to, and that references no object, is the line of its fault."""
     if len(before.roots) != len(after.roots):
         return f"differ roots: {len(before.roots)} before, {len(after.roots)} after\n"
     queue = [(f"root {i}", x, y) for i, (x, y) in enumerate(zip(before.roots, after.roots))] + list(more)
-    forth, back = {}, {}
+    forth, back, starts = {}, {}, set(after.objects())
     for path, x, y in queue:
+        old = f"object {x - 1}" if x != NULL else "null"
+        if y != NULL and y - 1 not in starts:
+            kind, detail = told_stale(before, after, x, y)
+            return f"differ {kind} at {path}: {old}{detail}\n"
         how = tells(before, after, x, y, forth, back)
         if how is not None:
-            old, new = (f"object {word - 1}" if word != NULL else "null" for word in (x, y))
+            new = f"object {y - 1}" if y != NULL else "null"
             return f"differ {how[0]} at {path}: {old} before, {new} after{how[1]}\n"
         if x != NULL and x - 1 not in forth:
             forth[x - 1], back[y - 1] = y - 1, x - 1
@@ -80,6 +98,26 @@ def region_line(before, after, chosen):
             how = "before and not after" if before.pinned[region] else "after and not before"
             return f"differ region {region}: outside the set, pinned {how}\n"
     return None
+
+
+def stray(image):
+    """The first root, else the lowest slot, that references no object, as a fault has it. None where there is none."""
+    starts = {NULL, *(address + 1 for address in image.objects())}
+    for number, word in enumerate(image.roots):
+        if word not in starts:
+            return f"root {number}"
+    slots = (slot for address in image.objects() for slot in image.slots(address))
+    return next((f"slot {slot}" for slot in slots if image.words[slot] not in starts), None)
+
+
+def make_stale(rng, before, after):
+    """Gives one to three roots and slots a word that references no object: mostly one of an object before."""
+    starts = set(after.objects())
+    words = [a + 1 for a in before.objects() if a not in starts] or [len(after.words) + 1]
+    holders = [(after.roots, i) for i in range(len(after.roots))]
+    holders += [(after.words, slot) for address in starts for slot in after.slots(address)]
+    for words_of, place in rng.sample(holders, min(len(holders), rng.randint(1, 3))):
+        words_of[place] = rng.choice(words) if rng.random() < 0.9 else len(after.words) + rng.randint(1, 9)
 
 
 def uncovered(image):
@@ -150,7 +188,11 @@ class Judge:
             self.paused(f"{name}: g1pause", before, chosen, expected)
         planter = Planter(before, opponent, after, rng)
         for error in ERRORS + MORE_ERRORS:
-            self.planted(f"{name}: {error}", error, before, getattr(planter, error)(), chosen)
+            image = getattr(planter, error)()
+            self.planted(f"{name}: {error}", error, before, image, chosen)
+            if image is not None and rng.random() < 0.25:
+                make_stale(rng, before, image)
+                self.planted(f"{name}: stale words beside {error}", "stale words beside another error", before, image, chosen)
         return True
 
     def paused(self, name, before, chosen, expected):
@@ -168,16 +210,24 @@ class Judge:
         if after is None:
             return
         self.counts[error] += 1
-        status, out, err = self.same(after)
-        if error == "slot_not_updated":
-            self.judge(name, status == 3 and err.startswith("g1heap: after: fault 7: reference in slot"))
+        expected, fault = judged(before, after), stray(after)
+        if fault is not None:
+            self.stale(name, error, after, fault, expected)
             return
-        expected = judged(before, after)
+        status, out, err = self.same(after)
         self.judge(f"{name}: {expected}", (status, out, err) == (int(expected[:4] != "same"), expected, ""))
         self.counts[f"{error}, and a root leads to it"] += expected[:4] != "same"
         self.with_set(name, error, before, after, chosen, expected)
         if expected[:4] == "same":
             self.with_cover(name, error, after, expected)
+
+    def stale(self, name, error, after, fault, expected):
+        """A word that references no object is reported where a root leads to it, and else the fault of the file."""
+        refused = (3, "", f"g1heap: after: fault 7: reference in {fault}\n")
+        wanted = refused if expected[:4] == "same" else (1, expected, "")
+        self.judge(f"{name}: {wanted}", self.same(after) == wanted)
+        self.counts[f"{error}, and a root leads to it"] += expected[:4] != "same"
+        self.counts[f"{error}, told as stale"] += expected.startswith("differ stale")
 
     def with_set(self, name, error, before, after, chosen, expected):
         status, out, err = self.same(after, "--set", *(str(r) for r in chosen))

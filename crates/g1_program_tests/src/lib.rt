@@ -11,6 +11,7 @@
 //! - `heap`: what g1heap answers.
 //! - `lines`: what g1heap makes of lines.
 //! - `explain`: what g1heap explains.
+//! - `stale`: what g1heap answers where words after a pause reference no object.
 //! - `limits`: numbers of the command line at the ends of their ranges, and a total beyond 64 bits.
 //! - `sizes`: images at their limits, and with more of one thing than 16 bits count.
 //! - `conventions`: where g1heap writes, what it says to a person at a terminal, and where options may be.
@@ -40,6 +41,8 @@ mod pause;
 mod pins;
 #[cfg(test)]
 mod sizes;
+#[cfg(test)]
+mod stale;
 #[cfg(test)]
 mod told;
 #[cfg(test)]

@@ -1,9 +1,10 @@
 //! What the program does with a request.
-use crate::comparing::{difference_line, same_line};
+use crate::comparing::{difference_line, same_line, stale_line};
 use crate::explaining::{explain_object, explain_pause};
-use crate::files::{read_bytes, read_image};
+use crate::files::{After, read_after, read_bytes, read_image};
 use crate::options::{NAME, Part, Request, Same, parse};
 use crate::output::{Output, write_file};
+use crate::reaching::{Path, first_stale};
 use crate::refusal::{no_object, no_region, of_file, wrong_line};
 use crate::summary::summary;
 use crate::terminals::{Terminals, allow, announce};
@@ -152,8 +153,59 @@ fn same_after<T: Threads + Sync + Files, R: Read>(
     before: &Image,
     reader: &mut R,
 ) -> Result<(u8, String), Refusal> {
-    let after = read_image(rt, alloc, same.after.as_str(), reader)?;
-    same_images(rt, alloc, same, before, after)
+    match read_after(rt, alloc, same.after.as_str(), reader)? {
+        After::Image(after) => same_images(rt, alloc, same, before, after),
+        After::Stale {
+            image,
+            stale,
+            fault,
+        } => {
+            let (old, new) = (before.heap(), image.heap());
+            match first_stale(alloc, new, &stale)? {
+                Some(first) => compare_stale(alloc, old, new, &first),
+                None => compare_unreached(alloc, same, old, new, fault),
+            }
+        }
+    }
+}
+
+// The first difference, of those between the graphs and the first stale word that the roots reach.
+fn compare_stale(
+    alloc: Global,
+    old: &Heap,
+    new: &Heap,
+    first: &(Path, u64),
+) -> Result<(u8, String), Refusal> {
+    let (path, word) = first;
+    match &compare(alloc, old, new) {
+        Ok(Err(difference)) if !comes_first(path, difference) => {
+            differ_text(alloc, old, new, difference)
+        }
+        Ok(_) => Ok((1, stale_line(alloc, old, new, path, *word)?)),
+        Err(fault) => Err(Refusal::Fault(*fault)),
+    }
+}
+
+fn comes_first(path: &Path, difference: &Difference) -> bool {
+    match difference {
+        Difference::Roots { .. } => false,
+        Difference::At { root, slots, .. } => path.is_at_most(*root, slots.as_slice()),
+    }
+}
+
+// No path leads to a stale word: the file is refused, if nothing differs.
+fn compare_unreached(
+    alloc: Global,
+    same: &Same,
+    old: &Heap,
+    new: &Heap,
+    fault: Fault,
+) -> Result<(u8, String), Refusal> {
+    match &compare(alloc, old, new) {
+        Ok(Ok(_)) => Err(of_file(alloc, same.after.as_str(), fault)),
+        Ok(Err(difference)) => differ_text(alloc, old, new, difference),
+        Err(fault) => Err(Refusal::Fault(*fault)),
+    }
 }
 
 // An image that shows the same is asked for cover last.

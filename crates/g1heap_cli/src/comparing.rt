@@ -1,6 +1,7 @@
 //! What two heaps show, in one line.
+use crate::reaching::Path;
 use g1_same::{Difference, How, Renaming};
-use g1_words::{Heap, Object, header};
+use g1_words::{Heap, Object, header, object_at, region_of};
 use std::alloc::{AllocError, Global};
 
 /// The line that says how much is reached if two heaps show the same graph.
@@ -25,6 +26,47 @@ pub fn difference_line(
     let mut text = String::new(alloc);
     push_difference(&mut text, before, after, difference)?;
     Ok(text)
+}
+
+/// The line of a path that leads to a stale word, which is null in the heap after.
+pub fn stale_line(
+    alloc: Global,
+    before: &Heap,
+    after: &Heap,
+    path: &Path,
+    word: u64,
+) -> Result<String, AllocError> {
+    let Path { root, slots } = path;
+    let mut text = format!(in alloc; "differ stale at root {root}")?;
+    push_path(&mut text, slots.as_slice())?;
+    let old = word_at_path(before, *root, slots.as_slice());
+    push_word(&mut text, ": ", old)?;
+    push_stale(&mut text, before, after, old, word)?;
+    Ok(text)
+}
+
+// A stale word, and what is where it leads.
+fn push_stale(
+    text: &mut String,
+    before: &Heap,
+    after: &Heap,
+    old: u64,
+    word: u64,
+) -> Result<(), AllocError> {
+    let still = if word == old { "still is" } else { "is" };
+    write!(text, " before; the word {still} {word}, ")?;
+    let address = word.saturating_sub(1);
+    let region = region_of(&after.geometry(), address);
+    let Some(found) = after.regions().get(region as usize) else {
+        return text.push_str("outside the heap\n");
+    };
+    let kind = found.kind;
+    let what = match object_at(before, address) {
+        Some(_) if word == old => "the object was before",
+        Some(_) => "another object was before",
+        None => "no object starts",
+    };
+    write!(text, "in region {region}, {kind} after, where {what}\n")
 }
 
 fn push_difference(
