@@ -6,7 +6,7 @@ Draws N small heaps (1000) and sets, evacuates each set as tools/opponent.py doe
 reached; with --g1pause also that `check` finds it covered, and that the answer of `g1pause pause R ..` to the heap
 with exact remembered sets is found the same, kept and covered too. Then an error of each kind of tools/plant_errors.py is
 planted, and in a quarter of the cases words that reference no object beside it. What `same` tells of it, line by line,
-is compared with a judge of this script's own, which walks both heaps from the definition; and `same --set` has to find it wherever roots or objects outside the set lead to it, or a
+and `same --all`, is compared with a judge of this script's own, which walks both heaps from the definition; and `same --set` has to find it wherever roots or objects outside the set lead to it, or a
 region is not as a pause of the set leaves it, and `same --covered` wherever a slot is not covered. Some heaps have more
 than 256 roots, and some have an object outside the set that is equal to one of the set.
 The last line is 'N passed, M failed', after a count for each kind of error.
@@ -27,6 +27,7 @@ from plant_errors import ERRORS, MORE_ERRORS, Planter  # noqa: E402
 from programs import add_program, program  # noqa: E402
 
 KINDS = ("free", "ordinary", "humongous", "continuation")
+DIFFERENCES = ("roots", "stale", "null", "split", "joined", "size", "slots", "data")
 
 
 def tells(before, after, x, y, forth, back):
@@ -61,27 +62,41 @@ def told_stale(before, after, x, y):
     return "stale", f" before; the word {'still is' if x == y else 'is'} {y}, {where}"
 
 
-def judged(before, after, more=()):
-    """The line of `same`: both heaps walked at once from their roots, and from words that are to agree too. What
-    differs only in a word that no root leads to, and that references no object, is the line of its fault."""
+def walked(before, after, more=()):
+    """Both heaps walked at once from their roots, and from words that are to agree too: the lines of what differs, and
+    the pairs of objects. The walk goes on behind objects whose data alone differ."""
+    lines, forth, back, starts = [], {}, {}, set(after.objects())
     if len(before.roots) != len(after.roots):
-        return f"differ roots: {len(before.roots)} before, {len(after.roots)} after\n"
+        lines.append(f"differ roots: {len(before.roots)} before, {len(after.roots)} after\n")
     queue = [(f"root {i}", x, y) for i, (x, y) in enumerate(zip(before.roots, after.roots))] + list(more)
-    forth, back, starts = {}, {}, set(after.objects())
     for path, x, y in queue:
-        old = f"object {x - 1}" if x != NULL else "null"
+        old, new = (f"object {word - 1}" if word != NULL else "null" for word in (x, y))
+        how = None
         if y != NULL and y - 1 not in starts:
-            kind, detail = told_stale(before, after, x, y)
-            return f"differ {kind} at {path}: {old}{detail}\n"
-        how = tells(before, after, x, y, forth, back)
-        if how is not None:
-            new = f"object {y - 1}" if y != NULL else "null"
-            return f"differ {how[0]} at {path}: {old} before, {new} after{how[1]}\n"
-        if x != NULL and x - 1 not in forth:
+            how, detail = told_stale(before, after, x, y)
+            lines.append(f"differ {how} at {path}: {old}{detail}\n")
+        elif tells(before, after, x, y, forth, back):
+            how, detail = tells(before, after, x, y, forth, back)
+            lines.append(f"differ {how} at {path}: {old} before, {new} after{detail}\n")
+        if x != NULL and x - 1 not in forth and how in (None, "data"):
             forth[x - 1], back[y - 1] = y - 1, x - 1
             queue += [(f"{path} slot {i}", before.words[p], after.words[q])
                       for i, (p, q) in enumerate(zip(before.slots(x - 1), after.slots(y - 1)))]
-    return f"same objects {len(forth)} words {sum(before.size(a) for a in forth)}\n"
+    return lines, forth
+
+
+def judged(before, after, more=()):
+    """The line of `same`."""
+    lines, forth = walked(before, after, more)
+    return lines[0] if lines else f"same objects {len(forth)} words {sum(before.size(a) for a in forth)}\n"
+
+
+def judged_all(before, after, most):
+    """The lines of `same --all`, where something differs."""
+    lines, _ = walked(before, after)
+    kinds = [line.split()[1].rstrip(":") for line in lines]
+    counts = "".join(f" {kind} {kinds.count(kind)}" for kind in DIFFERENCES if kind in kinds)
+    return "".join(lines[:most]) + f"differences {len(lines)}:{counts}\n"
 
 
 def region_line(before, after, chosen):
@@ -147,6 +162,7 @@ def add_twin(rng, image, chosen):
 class Judge:
     def __init__(self, options, folder):
         self.options, self.folder = options, folder
+        self.rng = random.Random(options.seed + 1)
         self.passed = self.failed = 0
         self.counts = collections.Counter({error: 0 for error in ERRORS + MORE_ERRORS})
 
@@ -211,6 +227,11 @@ class Judge:
             return
         self.counts[error] += 1
         expected, fault = judged(before, after), stray(after)
+        if expected[:4] != "same":
+            most = self.rng.randint(1, 4)
+            wanted = 1, judged_all(before, after, most), ""
+            self.judge(f"{name}, all: {wanted}", self.same(after, "--all", str(most)) == wanted)
+            self.counts[f"{error}, and --all counts it"] += 1
         if fault is not None:
             self.stale(name, error, after, fault, expected)
             return

@@ -188,6 +188,8 @@ fn asked(alloc: Global, set: &[u32]) -> Result<Same, AllocError> {
         after: String::from_str(alloc, "after")?,
         covered: false,
         set: Vec::from_slice(alloc, set)?,
+        names: None,
+        all: None,
     })
 }
 

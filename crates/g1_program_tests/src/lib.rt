@@ -11,6 +11,7 @@
 //! - `heap`: what g1heap answers.
 //! - `lines`: what g1heap makes of lines.
 //! - `explain`: what g1heap explains.
+//! - `naming`: what g1heap answers in the names of a program, and what it says of many differences.
 //! - `stale`: what g1heap answers where words after a pause reference no object.
 //! - `limits`: numbers of the command line at the ends of their ranges, and a total beyond 64 bits.
 //! - `sizes`: images at their limits, and with more of one thing than 16 bits count.
@@ -35,6 +36,8 @@ mod limits;
 #[cfg(test)]
 mod lines;
 mod live;
+#[cfg(test)]
+mod naming;
 #[cfg(test)]
 mod pause;
 #[cfg(test)]

@@ -1,13 +1,14 @@
 //! Heaps after a pause with words that reference no object.
 use crate::heap::expect;
 use crate::images::Text;
+use std::alloc::Global;
+use std::fs;
 use std::fs::File;
 use std::io::Write;
 use std::process::Abort;
 use std::rt::Files;
 use std::test::Fail;
 use std::thread::Threads;
-use std::{alloc::Global, fs};
 
 // Two objects that reference each other, at 16 and 20, and a root that is null.
 const PAIR: &str = "16 4 4 2 0 4  0 0 1 7 0 0 0 0  =17 =0  0 0 0 0  4/2 =21 =0 =7 3/1 =17 =5";
@@ -217,7 +218,8 @@ fn slots_of_humongous_objects_may_be_stale(rt: HostRuntime) -> Result<(), Fail> 
 
 const MOVED: &str = "16 4 4 2 1 4  0 0 0 0 1 7 0 0  =33 =0  8  0 0 0 0  4/2 =21 =0 =7 3/1 =33 =5";
 
-const MOVED_TOLD: &str = "differ stale at root 0 slot 0: object 20 before; the word still is 21, in region 1, free after, where the object was before\n";
+const MOVED_TOLD: &str =
+    "differ stale at root 0 slot 0: object 20 before; the word still is 21, in region 1, free after, where the object was before\n";
 
 // A dirty card, remembered sets that are not empty, and what else is asked.
 #[test]
@@ -234,10 +236,26 @@ fn files_and_both_versions_are_read(rt: HostRuntime) -> Result<(), Fail> {
     }
     for image in [Text::First(MOVED), Text::Second(MOVED)] {
         let image = image.bytes(alloc)?;
-        expect(&rt, alloc, "same stale_before.img -", image.as_slice(), told)?;
+        expect(
+            &rt,
+            alloc,
+            "same stale_before.img -",
+            image.as_slice(),
+            told,
+        )?;
     }
-    let refused = (3, b"".as_slice(), "g1heap: stale_after.img: fault 7: reference in slot 33\n".as_bytes());
-    expect(&rt, alloc, "same stale_after.img stale_before.img", b"", refused)?;
+    let refused = (
+        3,
+        b"".as_slice(),
+        "g1heap: stale_after.img: fault 7: reference in slot 33\n".as_bytes(),
+    );
+    expect(
+        &rt,
+        alloc,
+        "same stale_after.img stale_before.img",
+        b"",
+        refused,
+    )?;
     fs::remove_file(&rt, "stale_before.img")?;
     fs::remove_file(&rt, "stale_after.img")?;
     Ok(())

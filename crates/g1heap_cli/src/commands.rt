@@ -1,11 +1,14 @@
 //! What the program does with a request.
-use crate::comparing::{difference_line, same_line, stale_line};
+use crate::comparing::{Sides, difference_line, same_line, stale_line};
 use crate::explaining::{explain_object, explain_pause};
 use crate::files::{After, read_after, read_bytes, read_image};
+use crate::listing::all_lines;
+use crate::names::{Names, Wrong as WrongName};
 use crate::options::{NAME, Part, Request, Same, parse};
 use crate::output::{Output, write_file};
 use crate::reaching::{Path, first_stale};
-use crate::refusal::{no_object, no_region, of_file, wrong_line};
+use crate::refusal::{no_object, no_region, of_file, wrong_line, wrong_name};
+use crate::stale::Stale;
 use crate::summary::summary;
 use crate::terminals::{Terminals, allow, announce};
 use crate::tracing::answer_trace;
@@ -17,9 +20,10 @@ use g1_rem::verify;
 use g1_same::{Difference, Renaming, compare};
 use g1_text::{Wrong, image_lines, make, object_line, region_lines};
 use g1_words::{Fault, Heap, object_at};
-use std::alloc::Global;
+use std::alloc::{AllocError, Global};
 use std::io::{Read, Write};
 use std::rt::Files;
+use std::str;
 use std::thread::Threads;
 
 /// Runs the program on the words after its name, and gives its exit status: 0, 1 if two heaps
@@ -143,68 +147,50 @@ fn same_answer<T: Threads + Sync + Files, R: Read>(
     reader: &mut R,
 ) -> Result<(u8, String), Refusal> {
     let before = read_image(rt, alloc, same.before.as_str(), reader)?;
-    same_after(rt, alloc, same, &before, reader)
+    let after = read_after(rt, alloc, same.after.as_str(), reader)?;
+    match &same.names {
+        None => same_after(rt, alloc, same, None, &before, after),
+        Some(name) => {
+            let text = read_bytes(rt, alloc, name.as_str(), reader)?;
+            let names = names_in(alloc, name.as_str(), text.as_slice())?;
+            same_after(rt, alloc, same, Some(&names), &before, after)
+        }
+    }
 }
 
-fn same_after<T: Threads + Sync + Files, R: Read>(
+fn names_in<'a>(alloc: Global, name: &str, text: &'a [u8]) -> Result<Names<'a>, Refusal> {
+    let Ok(text) = str::from_utf8(text) else {
+        return Err(wrong_name(alloc, name, 1, "text in UTF-8"));
+    };
+    match Names::read(alloc, text) {
+        Ok(names) => Ok(names),
+        Err(WrongName::Line(number, expected)) => Err(wrong_name(alloc, name, number, expected)),
+        Err(WrongName::Memory) => Err(Fault::Memory.into()),
+    }
+}
+
+fn same_after<T: Threads + Sync>(
     rt: &T,
     alloc: Global,
     same: &Same,
+    names: Option<&Names<'_>>,
     before: &Image,
-    reader: &mut R,
+    after: After,
 ) -> Result<(u8, String), Refusal> {
-    match read_after(rt, alloc, same.after.as_str(), reader)? {
-        After::Image(after) => same_images(rt, alloc, same, before, after),
+    match after {
+        After::Image(after) => same_images(rt, alloc, same, names, before, after),
         After::Stale {
             image,
             stale,
             fault,
         } => {
-            let (old, new) = (before.heap(), image.heap());
-            match first_stale(alloc, new, &stale)? {
-                Some(first) => compare_stale(alloc, old, new, &first),
-                None => compare_unreached(alloc, same, old, new, fault),
-            }
+            let sides = Sides {
+                before: before.heap(),
+                after: image.heap(),
+                names,
+            };
+            compare_stale(alloc, same, sides, &stale, fault)
         }
-    }
-}
-
-// The first difference, of those between the graphs and the first stale word that the roots reach.
-fn compare_stale(
-    alloc: Global,
-    old: &Heap,
-    new: &Heap,
-    first: &(Path, u64),
-) -> Result<(u8, String), Refusal> {
-    let (path, word) = first;
-    match &compare(alloc, old, new) {
-        Ok(Err(difference)) if !comes_first(path, difference) => {
-            differ_text(alloc, old, new, difference)
-        }
-        Ok(_) => Ok((1, stale_line(alloc, old, new, path, *word)?)),
-        Err(fault) => Err(Refusal::Fault(*fault)),
-    }
-}
-
-fn comes_first(path: &Path, difference: &Difference) -> bool {
-    match difference {
-        Difference::Roots { .. } => false,
-        Difference::At { root, slots, .. } => path.is_at_most(*root, slots.as_slice()),
-    }
-}
-
-// No path leads to a stale word: the file is refused, if nothing differs.
-fn compare_unreached(
-    alloc: Global,
-    same: &Same,
-    old: &Heap,
-    new: &Heap,
-    fault: Fault,
-) -> Result<(u8, String), Refusal> {
-    match &compare(alloc, old, new) {
-        Ok(Ok(_)) => Err(of_file(alloc, same.after.as_str(), fault)),
-        Ok(Err(difference)) => differ_text(alloc, old, new, difference),
-        Err(fault) => Err(Refusal::Fault(*fault)),
     }
 }
 
@@ -213,10 +199,16 @@ fn same_images<T: Threads + Sync>(
     rt: &T,
     alloc: Global,
     same: &Same,
+    names: Option<&Names<'_>>,
     before: &Image,
     after: Image,
 ) -> Result<(u8, String), Refusal> {
-    let (status, text) = compare_images(alloc, same, before, &after)?;
+    let sides = Sides {
+        before: before.heap(),
+        after: after.heap(),
+        names,
+    };
+    let (status, text) = compare_heaps(alloc, same, sides)?;
     if status == 0 && same.covered {
         with_cover(alloc, same, text, uncovered(rt, alloc, after))
     } else {
@@ -231,11 +223,65 @@ pub fn compare_images(
     before: &Image,
     after: &Image,
 ) -> Result<(u8, String), Refusal> {
-    let (old, new) = (before.heap(), after.heap());
-    match &compare(alloc, old, new) {
-        Ok(Ok(renaming)) => same_text(alloc, same, old, new, renaming),
-        Ok(Err(difference)) => differ_text(alloc, old, new, difference),
+    let sides = Sides {
+        before: before.heap(),
+        after: after.heap(),
+        names: None,
+    };
+    compare_heaps(alloc, same, sides)
+}
+
+fn compare_heaps(alloc: Global, same: &Same, sides: Sides<'_>) -> Result<(u8, String), Refusal> {
+    match &compare(alloc, sides.before, sides.after) {
+        Ok(Ok(renaming)) => same_text(alloc, same, sides.before, sides.after, renaming),
+        Ok(Err(difference)) => {
+            let line = difference_line(alloc, sides, difference)?;
+            Ok((1, with_all(alloc, same, sides, None, line)?))
+        }
         Err(fault) => Err(Refusal::Fault(*fault)),
+    }
+}
+
+// The first difference, of those between the graphs and the first stale word that the roots reach. If there is none,
+// the file after is refused for its fault.
+fn compare_stale(
+    alloc: Global,
+    same: &Same,
+    sides: Sides<'_>,
+    stale: &Stale,
+    fault: Fault,
+) -> Result<(u8, String), Refusal> {
+    let first = first_stale(alloc, sides.after, stale)?;
+    let line = match (&compare(alloc, sides.before, sides.after), &first) {
+        (Err(fault), _) => return Err(Refusal::Fault(*fault)),
+        (Ok(Err(difference)), None) => difference_line(alloc, sides, difference)?,
+        (Ok(Err(difference)), Some((path, _))) if !comes_first(path, difference) => {
+            difference_line(alloc, sides, difference)?
+        }
+        (Ok(_), Some((path, word))) => stale_line(alloc, sides, path, *word)?,
+        (Ok(Ok(_)), None) => return Err(of_file(alloc, same.after.as_str(), fault)),
+    };
+    Ok((1, with_all(alloc, same, sides, Some(stale), line)?))
+}
+
+fn comes_first(path: &Path, difference: &Difference) -> bool {
+    match difference {
+        Difference::Roots { .. } => false,
+        Difference::At { root, slots, .. } => path.is_at_most(*root, slots.as_slice()),
+    }
+}
+
+// The line of the first difference, and those of others and their numbers, if that is asked.
+fn with_all(
+    alloc: Global,
+    same: &Same,
+    sides: Sides<'_>,
+    stale: Option<&Stale>,
+    line: String,
+) -> Result<String, AllocError> {
+    match same.all {
+        Some(most) => all_lines(alloc, sides, stale, most, line),
+        None => Ok(line),
     }
 }
 
@@ -249,15 +295,6 @@ fn same_text(
     let mut text = same_line(alloc, old, renaming)?;
     let status = push_kept(alloc, same, old, new, &mut text)?;
     Ok((status, text))
-}
-
-fn differ_text(
-    alloc: Global,
-    old: &Heap,
-    new: &Heap,
-    difference: &Difference,
-) -> Result<(u8, String), Refusal> {
-    Ok((1, difference_line(alloc, old, new, difference)?))
 }
 
 // What a pause of the set keeps, if a set is given. If something is lost, only that is reported.

@@ -11,6 +11,9 @@ mod comparing;
 mod explaining;
 mod files;
 mod location;
+mod listing;
+mod names;
+mod naming;
 mod options;
 mod output;
 mod reaching;
@@ -20,6 +23,7 @@ mod stale;
 mod summary;
 mod terminals;
 mod tracing;
+mod tour;
 
 pub use commands::{compare_images, program};
 pub use options::{NAME, Same};

@@ -81,6 +81,10 @@ pub struct Same {
     pub covered: bool,
     /// The regions of a pause that is to have kept all others; empty if nothing is asked of it.
     pub set: Vec<u32>,
+    /// The file of the names that the program has for what is in the first one.
+    pub names: Option<String>,
+    /// How many differences are listed and then all counted, if that is asked.
+    pub all: Option<u64>,
 }
 
 /// What is printed of an image.
@@ -101,6 +105,12 @@ static SET: Argument = Argument {
     id: "set",
     shown: "--set <REGION>...",
     range: REGION_RANGE,
+};
+
+static ALL: Argument = Argument {
+    id: "all",
+    shown: "--all <N>",
+    range: "at least 1",
 };
 
 static REGION: Argument = Argument {
@@ -325,7 +335,7 @@ struct Row {
     form: Form,
 }
 
-static SAME_ROWS: [Row; 4] = [
+static SAME_ROWS: [Row; 6] = [
     Row {
         id: "before",
         value: "BEFORE",
@@ -349,6 +359,18 @@ static SAME_ROWS: [Row; 4] = [
         value: "REGION",
         help: "Also asks that AFTER keeps all that a pause of these regions keeps, as in 1,2,5-9",
         form: Form::Values,
+    },
+    Row {
+        id: "names",
+        value: "MAP",
+        help: "Reports a difference in the names of this file, which has lines of BEFORE's objects",
+        form: Form::Value,
+    },
+    Row {
+        id: "all",
+        value: "N",
+        help: "Also lists the first N differences, and counts all that a walk of both heaps finds",
+        form: Form::Value,
     },
 ];
 
@@ -621,16 +643,47 @@ fn output_of(alloc: Global, values: &ArgMatches<'_>) -> Result<Output, AllocErro
     Output::of_name(alloc, values.get_str("output"))
 }
 
-fn same_of(alloc: Global, values: &ArgMatches<'_>) -> Result<Request, Misuse> {
-    if name_in(values, "before") == STANDARD_STREAM && name_in(values, "after") == STANDARD_STREAM {
-        let message = "only one of the images can be standard input";
-        return Err(Misuse::Value(String::from_str(alloc, message)?));
+// Refuses to read standard input for two of the files.
+fn check_streams(alloc: Global, values: &ArgMatches<'_>) -> Result<(), Misuse> {
+    let is_standard = |id: &str| values.get_str(id) == Some(STANDARD_STREAM);
+    let images = is_standard("before") || is_standard("after");
+    let message = if is_standard("before") && is_standard("after") {
+        "only one of the images can be standard input"
+    } else if is_standard("names") && images {
+        "only one of the files can be standard input"
+    } else {
+        return Ok(());
+    };
+    Err(Misuse::Value(String::from_str(alloc, message)?))
+}
+
+fn name_if_given(
+    alloc: Global,
+    values: &ArgMatches<'_>,
+    id: &str,
+) -> Result<Option<String>, AllocError> {
+    match values.get_str(id) {
+        Some(name) => Ok(Some(String::from_str(alloc, name)?)),
+        None => Ok(None),
     }
+}
+
+fn all_of(alloc: Global, values: &ArgMatches<'_>) -> Result<Option<u64>, Misuse> {
+    match number(alloc, values, &ALL)? {
+        Some(0) => Err(ALL.refuse(alloc, "0")),
+        found => Ok(found),
+    }
+}
+
+fn same_of(alloc: Global, values: &ArgMatches<'_>) -> Result<Request, Misuse> {
+    check_streams(alloc, values)?;
     Ok(Request::Same(Same {
         before: name_of(alloc, values, "before")?,
         after: name_of(alloc, values, "after")?,
         covered: values.get_flag("covered"),
         set: regions_in(alloc, &SET, values.get_strs(SET.id).unwrap_or(&[]))?,
+        names: name_if_given(alloc, values, "names")?,
+        all: all_of(alloc, values)?,
     }))
 }
 

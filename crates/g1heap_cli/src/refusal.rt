@@ -67,6 +67,8 @@ pub fn wrong_trace_line(
     number: u64,
     expected: g1_session::Expected,
 ) -> Refusal {
+/// A line of a file of names that is not what is expected there.
+pub fn wrong_name(alloc: Global, name: &str, number: u64, expected: &str) -> Refusal {
     refusal(
         3,
         format!(in alloc; "g1heap: {name}: line {number}: expected {expected}\n"),
