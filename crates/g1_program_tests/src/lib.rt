@@ -13,6 +13,7 @@
 //! - `explain`: what g1heap explains.
 //! - `naming`: what g1heap answers in the names of a program, and what it says of many differences.
 //! - `stale`: what g1heap answers where words after a pause reference no object.
+//! - `young`: young regions, and sets with free regions.
 //! - `limits`: numbers of the command line at the ends of their ranges, and a total beyond 64 bits.
 //! - `sizes`: images at their limits, and with more of one thing than 16 bits count.
 //! - `conventions`: where g1heap writes, what it says to a person at a terminal, and where options may be.
@@ -52,3 +53,5 @@ mod told;
 mod traces;
 #[cfg(test)]
 mod words;
+#[cfg(test)]
+mod young;

@@ -22,16 +22,16 @@ const NAMES: &str = "root 0 main.table\n\
     type data slots data data tail[]\n";
 
 // What is asked of two heaps, and the status, the answer and what is said instead. Standard input has the names.
-struct Case<'a> {
-    file: &'a str,
-    line: &'a str,
-    before: &'a str,
-    after: &'a str,
-    input: &'a str,
-    told: (u8, &'a str, &'a str),
+pub(crate) struct Case<'a> {
+    pub(crate) file: &'a str,
+    pub(crate) line: &'a str,
+    pub(crate) before: &'a str,
+    pub(crate) after: &'a str,
+    pub(crate) input: &'a str,
+    pub(crate) told: (u8, &'a str, &'a str),
 }
 
-fn expect_case<T: Threads + Abort + Sync + Files>(
+pub(crate) fn expect_case<T: Threads + Abort + Sync + Files>(
     rt: &T,
     alloc: Global,
     case: &Case<'_>,

@@ -19,7 +19,8 @@ use g1_kept::{Lost, kept};
 use g1_rem::verify;
 use g1_same::{Difference, Renaming, compare};
 use g1_text::{Wrong, image_lines, make, object_line, region_lines};
-use g1_words::{Fault, Heap, object_at};
+use crate::young::with_dirty;
+use g1_words::{Fault, Heap, Kind, object_at};
 use std::alloc::{AllocError, Global};
 use std::io::{Read, Write};
 use std::rt::Files;
@@ -210,6 +211,7 @@ fn same_images<T: Threads + Sync>(
     };
     let (status, text) = compare_heaps(alloc, same, sides)?;
     if status == 0 && same.covered {
+        let after = with_young(alloc, same, after)?;
         with_cover(alloc, same, text, uncovered(rt, alloc, after))
     } else {
         Ok((status, text))
@@ -321,10 +323,37 @@ fn push_kept(
     }
 }
 
+// The image that is asked for cover: the cards of young regions count as dirty.
+fn with_young(alloc: Global, same: &Same, after: Image) -> Result<Image, Refusal> {
+    if same.young.is_empty() {
+        return Ok(after);
+    }
+    let regions = after.heap().geometry().regions();
+    for region in &same.young {
+        if u64::from(*region) >= regions {
+            return Err(no_region(alloc, same.after.as_str(), *region));
+        }
+    }
+    Ok(with_dirty(alloc, &after, same.young.as_slice())?)
+}
+
+// The regions of the set that are not free in the heap before.
+fn used(alloc: Global, old: &Heap, set: &[u32]) -> Result<Vec<u32>, AllocError> {
+    let mut used = Vec::new(alloc);
+    for region in set {
+        match old.regions().get(*region as usize) {
+            Some(found) if found.kind == Kind::Free => (),
+            _ => used.push(*region)?,
+        }
+    }
+    Ok(used)
+}
+
 // The first thing that a pause of the set would have kept. The regions of the set are looked for in the
 // heap before.
 fn lost(alloc: Global, same: &Same, old: &Heap, new: &Heap) -> Result<Option<Lost>, Refusal> {
-    let set = match given(alloc, old, same.set.as_slice()) {
+    let set = used(alloc, old, same.set.as_slice())?;
+    let set = match given(alloc, old, set.as_slice()) {
         Ok(set) => set,
         Err(fault) => return Err(of_file(alloc, same.before.as_str(), fault)),
     };

@@ -24,6 +24,7 @@ mod summary;
 mod terminals;
 mod tracing;
 mod tour;
+mod young;
 
 pub use commands::{compare_images, program};
 pub use options::{NAME, Same};

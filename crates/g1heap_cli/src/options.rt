@@ -79,7 +79,10 @@ pub struct Same {
     pub after: String,
     /// Whether the references of the second are to be covered.
     pub covered: bool,
-    /// The regions of a pause that is to have kept all others; empty if nothing is asked of it.
+    /// The regions of the second whose slots need no card.
+    pub young: Vec<u32>,
+    /// The regions of a pause that is to have kept all others; empty if nothing is asked of it. Those that
+    /// are free are left out.
     pub set: Vec<u32>,
     /// The file of the names that the program has for what is in the first one.
     pub names: Option<String>,
@@ -104,6 +107,12 @@ const REGION_RANGE: &str = "a region's number, below 4294967296";
 static SET: Argument = Argument {
     id: "set",
     shown: "--set <REGION>...",
+    range: REGION_RANGE,
+};
+
+static YOUNG: Argument = Argument {
+    id: "young",
+    shown: "--young <REGIONS>",
     range: REGION_RANGE,
 };
 
@@ -173,7 +182,7 @@ Statuses:
   2  wrong words
   3  a file is no image
   4  a slot of AFTER is not covered
-  5  a region of the set is not there, not ordinary, pinned, or given twice
+  5  a region of the set is not there, humongous, pinned, or given twice
   6  no memory, or a read or a write that failed
   7  a file that can't be opened
   141  the reader of the answer went away
@@ -247,6 +256,7 @@ Statuses:
   3  a file is no image, or a line is not as it has to be
   4  a slot is not covered
   5  a region of the set is not there, not ordinary, pinned, or given twice, or no room
+  5  a region of the set is not there, humongous, pinned, or given twice
   6  no memory, or a read or a write that failed
   7  a file that can't be opened or written
   8  an explanation contradicts the pause: an error of this program
@@ -335,7 +345,7 @@ struct Row {
     form: Form,
 }
 
-static SAME_ROWS: [Row; 6] = [
+static SAME_ROWS: [Row; 7] = [
     Row {
         id: "before",
         value: "BEFORE",
@@ -359,6 +369,12 @@ static SAME_ROWS: [Row; 6] = [
         value: "REGION",
         help: "Also asks that AFTER keeps all that a pause of these regions keeps, as in 1,2,5-9",
         form: Form::Values,
+    },
+    Row {
+        id: "young",
+        value: "REGIONS",
+        help: "With --covered: slots in these regions need no cover, as in 1,2,5-9",
+        form: Form::Value,
     },
     Row {
         id: "names",
@@ -675,12 +691,24 @@ fn all_of(alloc: Global, values: &ArgMatches<'_>) -> Result<Option<u64>, Misuse>
     }
 }
 
+fn young_of(alloc: Global, values: &ArgMatches<'_>) -> Result<Vec<u32>, Misuse> {
+    match values.get_str(YOUNG.id) {
+        None => Ok(Vec::new(alloc)),
+        Some(_) if !values.get_flag("covered") => {
+            let message = "'--young <REGIONS>' needs '--covered'";
+            Err(Misuse::Value(String::from_str(alloc, message)?))
+        }
+        Some(list) => regions_in(alloc, &YOUNG, &[list]),
+    }
+}
+
 fn same_of(alloc: Global, values: &ArgMatches<'_>) -> Result<Request, Misuse> {
     check_streams(alloc, values)?;
     Ok(Request::Same(Same {
         before: name_of(alloc, values, "before")?,
         after: name_of(alloc, values, "after")?,
         covered: values.get_flag("covered"),
+        young: young_of(alloc, values)?,
         set: regions_in(alloc, &SET, values.get_strs(SET.id).unwrap_or(&[]))?,
         names: name_if_given(alloc, values, "names")?,
         all: all_of(alloc, values)?,

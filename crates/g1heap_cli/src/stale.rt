@@ -36,24 +36,28 @@ pub fn null_stale(alloc: Global, text: &mut Vec<u8>) -> Result<Option<Stale>, Al
     Ok(Some(stale))
 }
 
-// Where the parts of a text begin, in bytes from its start.
+/// Where the parts of an image's text begin, in bytes from its start.
 #[derive(Drop)]
-struct Parts {
+pub struct Parts {
     geometry: Geometry,
     table_at: usize,
     // The bytes of a region's entry.
     entry: usize,
     roots_at: usize,
     roots: usize,
+    pub sets_at: usize,
     words_at: usize,
 }
 
 impl Parts {
-    fn of(text: &[u8]) -> Option<Parts> {
+    /// The place of the number of dirty cards.
+    pub const DIRTY_AT: usize = 24;
+
+    pub fn of(text: &[u8]) -> Option<Parts> {
         let (w, k, n) = (number(text, 8), number(text, 12), number(text, 16));
         let geometry = Geometry::new(w, k, n).ok()?;
         let entry = if text.get(7) == Some(&b'1') { 8 } else { 12 };
-        let (roots, dirty) = (number(text, 20) as usize, number(text, 24) as usize);
+        let (roots, dirty) = (number(text, 20) as usize, number(text, Parts::DIRTY_AT) as usize);
         let table_at = 32usize;
         let roots_at = past(table_at, n as usize, entry);
         let log_at = past(roots_at, roots, 8);
@@ -64,6 +68,7 @@ impl Parts {
             entry,
             roots_at,
             roots,
+            sets_at,
             words_at: past_sets(text, sets_at, n),
         })
     }
@@ -90,8 +95,8 @@ fn past_sets(text: &[u8], at: usize, regions: u64) -> usize {
     at
 }
 
-// The number of 32 bits at a place, or 0 where no bytes are.
-fn number(text: &[u8], at: usize) -> u64 {
+/// The number of 32 bits at a place, or 0 if no bytes are there.
+pub fn number(text: &[u8], at: usize) -> u64 {
     match text.get(at..) {
         Some(rest) if rest.len() >= 4 => u64::from(LittleEndian::read_u32(rest)),
         _ => 0,
