@@ -6,9 +6,10 @@ Draws N small heaps (1000) and sets, evacuates each set as tools/opponent.py doe
 reached; with --g1pause also that `check` finds it covered, and that the answer of `g1pause pause R ..` to the heap
 with exact remembered sets is found the same, kept and covered too. Then an error of each kind of tools/plant_errors.py is
 planted, and in a quarter of the cases words that reference no object beside it. What `same` tells of it, line by line,
-and `same --all`, is compared with a judge of this script's own, which walks both heaps from the definition; and `same --set` has to find it wherever roots or objects outside the set lead to it, or a
-region is not as a pause of the set leaves it, and `same --covered` wherever a slot is not covered. Some heaps have more
-than 256 roots, and some have an object outside the set that is equal to one of the set.
+and `same --all`, is compared with a judge of this script's own, which walks both heaps from the definition; some of the
+heaps are compared as lines of objects by name, too. `same --set` has to find it wherever roots or objects outside the set
+lead to it, or a region is not as a pause of the set leaves it, and `same --covered` wherever a slot is not covered. Some
+heaps have more than 256 roots, and some have an object outside the set that is equal to one of the set.
 The last line is 'N passed, M failed', after a count for each kind of error.
 """
 import argparse
@@ -30,8 +31,10 @@ KINDS = ("free", "ordinary", "humongous", "continuation")
 DIFFERENCES = ("roots", "stale", "null", "split", "joined", "size", "slots", "data")
 
 
-def tells(before, after, x, y, forth, back):
-    """How two reference words differ: the kind and the detail of the line. None where they don't."""
+def tells(before, after, x, y, forth, back, called=(str, str)):
+    """How two reference words differ: the kind and the detail of the line. None where they don't. `called` are what the
+    files before and after call an object."""
+    old, new = called
     a, b = x - 1, y - 1
     if NULL in (x, y):
         return ("null", "") if x != y else None
@@ -39,20 +42,23 @@ def tells(before, after, x, y, forth, back):
         if forth.get(a) == b:
             return None
         if a in forth:
-            return "split", f"; {a} before is {forth[a]} after on an earlier path"
-        return "joined", f"; {b} after is {back[b]} before on an earlier path"
+            return "split", f"; {old(a)} before is {new(forth[a])} after on an earlier path"
+        return "joined", f"; {new(b)} after is {old(back[b])} before on an earlier path"
     for kind, length in (("size", lambda i, o: i.size(o)), ("slots", lambda i, o: len(i.slots(o)))):
-        old, new = length(before, a), length(after, b)
-        if old != new:
-            return kind, f"; {kind} {old} before, {new} after"
+        was, now = length(before, a), length(after, b)
+        if was != now:
+            return kind, f"; {kind} {was} before, {now} after"
     for number, (p, q) in enumerate(zip(before.content(a), after.content(b))):
         if before.words[p] != after.words[q]:
             return "data", f"; data word {number} is {before.words[p]} before, {after.words[q]} after"
     return None
 
 
-def told_stale(before, after, x, y):
+def told_stale(before, after, x, y, by_name=False):
     """The detail of a word after that is not null and references no object."""
+    if by_name:
+        still = "still is" if x == y else "is"
+        return "stale", f" before; the word {still} {stray_name(before, y)}, which no object after has"
     region = after.region_of(y - 1)
     where = "outside the heap"
     if region < after.regions:
@@ -62,21 +68,27 @@ def told_stale(before, after, x, y):
     return "stale", f" before; the word {'still is' if x == y else 'is'} {y}, {where}"
 
 
-def walked(before, after, more=()):
+def stray_name(before, word):
+    """The name of a word that references no object after: that of the object which was there before, if one was."""
+    return f"b{word - 1}" if word - 1 in set(before.objects()) else f"x{word}"
+
+
+def walked(before, after, more=(), called=None):
     """Both heaps walked at once from their roots, and from words that are to agree too: the lines of what differs, and
     the pairs of objects. The walk goes on behind objects whose data alone differ."""
     lines, forth, back, starts = [], {}, {}, set(after.objects())
+    names = called or (str, str)
     if len(before.roots) != len(after.roots):
         lines.append(f"differ roots: {len(before.roots)} before, {len(after.roots)} after\n")
     queue = [(f"root {i}", x, y) for i, (x, y) in enumerate(zip(before.roots, after.roots))] + list(more)
     for path, x, y in queue:
-        old, new = (f"object {word - 1}" if word != NULL else "null" for word in (x, y))
+        old, new = (f"object {name(word - 1)}" if word != NULL else "null" for name, word in zip(names, (x, y)))
         how = None
         if y != NULL and y - 1 not in starts:
-            how, detail = told_stale(before, after, x, y)
+            how, detail = told_stale(before, after, x, y, called is not None)
             lines.append(f"differ {how} at {path}: {old}{detail}\n")
-        elif tells(before, after, x, y, forth, back):
-            how, detail = tells(before, after, x, y, forth, back)
+        elif tells(before, after, x, y, forth, back, names):
+            how, detail = tells(before, after, x, y, forth, back, names)
             lines.append(f"differ {how} at {path}: {old} before, {new} after{detail}\n")
         if x != NULL and x - 1 not in forth and how in (None, "data"):
             forth[x - 1], back[y - 1] = y - 1, x - 1
@@ -85,9 +97,9 @@ def walked(before, after, more=()):
     return lines, forth
 
 
-def judged(before, after, more=()):
+def judged(before, after, more=(), called=None):
     """The line of `same`."""
-    lines, forth = walked(before, after, more)
+    lines, forth = walked(before, after, more, called)
     return lines[0] if lines else f"same objects {len(forth)} words {sum(before.size(a) for a in forth)}\n"
 
 
@@ -97,6 +109,24 @@ def judged_all(before, after, most):
     kinds = [line.split()[1].rstrip(":") for line in lines]
     counts = "".join(f" {kind} {kinds.count(kind)}" for kind in DIFFERENCES if kind in kinds)
     return "".join(lines[:most]) + f"differences {len(lines)}:{counts}\n"
+
+
+def graph_lines(rng, image, letter, stray):
+    """The objects by name, in a random order: a letter and the address. `stray` names a word that references no object."""
+    starts = set(image.objects())
+
+    def name(word):
+        return "-" if word == NULL else f"{letter}{word - 1}" if word - 1 in starts else stray(word)
+
+    lines = []
+    for address in starts:
+        slots = image.slots(address)
+        content = [name(image.words[slot]) for slot in slots] + [str(image.words[place]) for place in image.content(address)]
+        lines.append(" ".join(["object", name(address + 1), f"{image.size(address)}/{len(slots)}", *content]))
+    rng.shuffle(lines)
+    for word in reversed(image.roots):  # the roots keep their order
+        lines.insert(0, f"root {name(word)}")
+    return "\n".join(["graph", *lines, ""])
 
 
 def region_line(before, after, chosen):
@@ -232,6 +262,8 @@ class Judge:
             wanted = 1, judged_all(before, after, most), ""
             self.judge(f"{name}, all: {wanted}", self.same(after, "--all", str(most)) == wanted)
             self.counts[f"{error}, and --all counts it"] += 1
+        if self.rng.random() < 0.3:
+            self.graphs(name, before, after, fault)
         if fault is not None:
             self.stale(name, error, after, fault, expected)
             return
@@ -241,6 +273,20 @@ class Judge:
         self.with_set(name, error, before, after, chosen, expected)
         if expected[:4] == "same":
             self.with_cover(name, error, after, expected)
+
+    def graphs(self, name, before, after, fault):
+        """The same heaps as lines of objects by name."""
+        for file, image, letter in (("before.txt", before, "b"), ("after.txt", after, "a")):
+            (self.folder / file).write_text(graph_lines(self.rng, image, letter, lambda word: stray_name(before, word)))
+        command = [self.options.g1heap, "same", "before.txt", "after.txt"]
+        done = subprocess.run(command, cwd=self.folder, capture_output=True, text=True, timeout=60)
+        expected = judged(before, after, (), ("b{}".format, "a{}".format))
+        if fault is not None and expected[:4] == "same":
+            good = done.returncode == 3 and not done.stdout and "expected '-' or the name of an object" in done.stderr
+        else:
+            good = (done.returncode, done.stdout, done.stderr) == (int(expected[:4] != "same"), expected, "")
+        self.counts["heaps as lines by name"] += 1
+        self.judge(f"{name}, by name: {expected}", good)
 
     def stale(self, name, error, after, fault, expected):
         """A word that references no object is reported where a root leads to it, and else the fault of the file."""

@@ -14,6 +14,7 @@
 //! - `naming`: what g1heap answers in the names of a program, and what it says of many differences.
 //! - `stale`: what g1heap answers where words after a pause reference no object.
 //! - `young`: young regions, and sets with free regions.
+//! - `graphs`: lines of objects by name.
 //! - `limits`: numbers of the command line at the ends of their ranges, and a total beyond 64 bits.
 //! - `sizes`: images at their limits, and with more of one thing than 16 bits count.
 //! - `conventions`: where g1heap writes, what it says to a person at a terminal, and where options may be.
@@ -28,6 +29,8 @@ mod command;
 mod conventions;
 #[cfg(test)]
 mod explain;
+#[cfg(test)]
+mod graphs;
 #[cfg(test)]
 mod heap;
 #[cfg(test)]

@@ -1,25 +1,26 @@
 //! What the program does with a request.
 use crate::comparing::{Sides, difference_line, same_line, stale_line};
 use crate::explaining::{explain_object, explain_pause};
-use crate::files::{After, read_after, read_bytes, read_image};
+use crate::files::{read_bytes, read_image, read_side};
 use crate::listing::all_lines;
 use crate::names::{Names, Wrong as WrongName};
 use crate::options::{NAME, Part, Request, Same, parse};
 use crate::output::{Output, write_file};
 use crate::reaching::{Path, first_stale};
-use crate::refusal::{no_object, no_region, of_file, wrong_line, wrong_name};
+use crate::refusal::{no_object, no_region, not_for_lines, of_file, wrong_name};
+use crate::sides::{Side, Strays, open, refuse_lines, without_strays};
 use crate::stale::Stale;
 use crate::summary::summary;
 use crate::terminals::{Terminals, allow, announce};
 use crate::tracing::answer_trace;
+use crate::young::with_dirty;
 use g1_choose::given;
 use g1_command::{Refusal, deliver, deliver_text, refuse};
 use g1_image::Image;
 use g1_kept::{Lost, kept};
 use g1_rem::verify;
 use g1_same::{Difference, Renaming, compare};
-use g1_text::{Wrong, image_lines, make, object_line, region_lines};
-use crate::young::with_dirty;
+use g1_text::{image_lines, is_graph, make, make_graph, object_line, region_lines};
 use g1_words::{Fault, Heap, Kind, object_at};
 use std::alloc::{AllocError, Global};
 use std::io::{Read, Write};
@@ -147,16 +148,40 @@ fn same_answer<T: Threads + Sync + Files, R: Read>(
     same: &Same,
     reader: &mut R,
 ) -> Result<(u8, String), Refusal> {
-    let before = read_image(rt, alloc, same.before.as_str(), reader)?;
-    let after = read_after(rt, alloc, same.after.as_str(), reader)?;
+    let (found, lines) = read_side(rt, alloc, same.before.as_str(), reader)?;
+    let before = open(alloc, same.before.as_str(), found, lines.as_slice())?;
+    let before = without_strays(alloc, same.before.as_str(), before)?;
+    let (found, lines) = read_side(rt, alloc, same.after.as_str(), reader)?;
+    let after = open(alloc, same.after.as_str(), found, lines.as_slice())?;
+    check_asked(alloc, same, &before, &after)?;
     match &same.names {
-        None => same_after(rt, alloc, same, None, &before, after),
+        None => same_sides(rt, alloc, same, None, &before, after),
         Some(name) => {
             let text = read_bytes(rt, alloc, name.as_str(), reader)?;
             let names = names_in(alloc, name.as_str(), text.as_slice())?;
-            same_after(rt, alloc, same, Some(&names), &before, after)
+            same_sides(rt, alloc, same, Some(&names), &before, after)
         }
     }
+}
+
+// Lines of objects by name have no regions of the program's own, and no addresses.
+fn check_asked(
+    alloc: Global,
+    same: &Same,
+    before: &Side<'_>,
+    after: &Side<'_>,
+) -> Result<(), Refusal> {
+    if before.labels.is_some() && same.names.is_some() {
+        return Err(not_for_lines(alloc, same.before.as_str(), "--names"));
+    }
+    if before.labels.is_some() && !same.set.is_empty() {
+        return Err(not_for_lines(alloc, same.before.as_str(), "--set"));
+    }
+    if after.labels.is_some() && (same.covered || !same.set.is_empty()) {
+        let option = if same.covered { "--covered" } else { "--set" };
+        return Err(not_for_lines(alloc, same.after.as_str(), option));
+    }
+    Ok(())
 }
 
 fn names_in<'a>(alloc: Global, name: &str, text: &'a [u8]) -> Result<Names<'a>, Refusal> {
@@ -170,51 +195,62 @@ fn names_in<'a>(alloc: Global, name: &str, text: &'a [u8]) -> Result<Names<'a>, 
     }
 }
 
-fn same_after<T: Threads + Sync>(
+fn same_sides<T: Threads + Sync>(
     rt: &T,
     alloc: Global,
     same: &Same,
     names: Option<&Names<'_>>,
-    before: &Image,
-    after: After,
+    before: &Side<'_>,
+    after: Side<'_>,
 ) -> Result<(u8, String), Refusal> {
-    match after {
-        After::Image(after) => same_images(rt, alloc, same, names, before, after),
-        After::Stale {
-            image,
-            stale,
-            fault,
-        } => {
-            let sides = Sides {
-                before: before.heap(),
-                after: image.heap(),
+    let (status, text) = compare_sides(alloc, same, names, before, &after)?;
+    if status == 0 && same.covered {
+        let Side { image, .. } = after;
+        let image = with_young(alloc, same, image)?;
+        with_cover(alloc, same, text, uncovered(rt, alloc, image))
+    } else {
+        Ok((status, text))
+    }
+}
+
+fn compare_sides(
+    alloc: Global,
+    same: &Same,
+    names: Option<&Names<'_>>,
+    before: &Side<'_>,
+    after: &Side<'_>,
+) -> Result<(u8, String), Refusal> {
+    let labels = [labels_of(before), labels_of(after)];
+    let (old, new) = (before.image.heap(), after.image.heap());
+    match &after.stale {
+        None => compare_heaps(
+            alloc,
+            same,
+            Sides {
+                before: old,
+                after: new,
                 names,
+                labels,
+                stale_names: &[],
+            },
+        ),
+        Some(strays) => {
+            let sides = Sides {
+                before: old,
+                after: new,
+                names,
+                labels,
+                stale_names: strays.names.as_slice(),
             };
-            compare_stale(alloc, same, sides, &stale, fault)
+            compare_stale(alloc, same, sides, strays)
         }
     }
 }
 
-// An image that shows the same is asked for cover last.
-fn same_images<T: Threads + Sync>(
-    rt: &T,
-    alloc: Global,
-    same: &Same,
-    names: Option<&Names<'_>>,
-    before: &Image,
-    after: Image,
-) -> Result<(u8, String), Refusal> {
-    let sides = Sides {
-        before: before.heap(),
-        after: after.heap(),
-        names,
-    };
-    let (status, text) = compare_heaps(alloc, same, sides)?;
-    if status == 0 && same.covered {
-        let after = with_young(alloc, same, after)?;
-        with_cover(alloc, same, text, uncovered(rt, alloc, after))
-    } else {
-        Ok((status, text))
+fn labels_of<'a>(side: &'a Side<'_>) -> Option<&'a [(u64, &'a str)]> {
+    match &side.labels {
+        Some(labels) => Some(labels.as_slice()),
+        None => None,
     }
 }
 
@@ -229,6 +265,8 @@ pub fn compare_images(
         before: before.heap(),
         after: after.heap(),
         names: None,
+        labels: [None, None],
+        stale_names: &[],
     };
     compare_heaps(alloc, same, sides)
 }
@@ -250,9 +288,9 @@ fn compare_stale(
     alloc: Global,
     same: &Same,
     sides: Sides<'_>,
-    stale: &Stale,
-    fault: Fault,
+    strays: &Strays<'_>,
 ) -> Result<(u8, String), Refusal> {
+    let stale = &strays.words;
     let first = first_stale(alloc, sides.after, stale)?;
     let line = match (&compare(alloc, sides.before, sides.after), &first) {
         (Err(fault), _) => return Err(Refusal::Fault(*fault)),
@@ -261,7 +299,9 @@ fn compare_stale(
             difference_line(alloc, sides, difference)?
         }
         (Ok(_), Some((path, word))) => stale_line(alloc, sides, path, *word)?,
-        (Ok(Ok(_)), None) => return Err(of_file(alloc, same.after.as_str(), fault)),
+        (Ok(Ok(_)), None) => {
+            return Err(refuse_lines(alloc, same.after.as_str(), &[], strays.wrong));
+        }
     };
     Ok((1, with_all(alloc, same, sides, Some(stale), line)?))
 }
@@ -331,7 +371,7 @@ fn with_young(alloc: Global, same: &Same, after: Image) -> Result<Image, Refusal
     let regions = after.heap().geometry().regions();
     for region in &same.young {
         if u64::from(*region) >= regions {
-            return Err(no_region(alloc, same.after.as_str(), *region));
+            return Err(no_region(alloc, same.after.as_str(), *region, regions));
         }
     }
     Ok(with_dirty(alloc, &after, same.young.as_slice())?)
@@ -426,12 +466,15 @@ fn make_from<T: Files, R: Read>(
     make_image(alloc, name, lines.as_slice())
 }
 
+// Lines of objects by name begin with another word.
 fn make_image(alloc: Global, name: &str, lines: &[u8]) -> Result<Vec<u8>, Refusal> {
-    match make(alloc, lines) {
+    let made = if is_graph(lines) {
+        make_graph(alloc, lines)
+    } else {
+        make(alloc, lines)
+    };
+    match made {
         Ok(bytes) => Ok(bytes),
-        Err(Wrong::Line { number, expected }) => Err(wrong_line(
-            alloc, name, lines, number, &expected,
-        )),
-        Err(Wrong::Fault(fault)) => Err(of_file(alloc, name, fault)),
+        Err(wrong) => Err(refuse_lines(alloc, name, lines, wrong)),
     }
 }

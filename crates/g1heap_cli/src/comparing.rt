@@ -6,12 +6,17 @@ use g1_same::{Difference, How, Renaming};
 use g1_words::{Heap, Object, header, object_at, region_of};
 use std::alloc::{AllocError, Global};
 
-/// Two heaps that are compared, and what the program calls the words of the first one, if that is known.
+/// Two heaps that are compared, and what is known of them.
 #[derive(Clone, Copy)]
 pub struct Sides<'a> {
     pub before: &'a Heap,
     pub after: &'a Heap,
+    /// What the program calls the words of the first one.
     pub names: Option<&'a Names<'a>>,
+    /// The names of the objects of each, if they have names in place of addresses.
+    pub labels: [Option<&'a [(u64, &'a str)]>; 2],
+    /// The names that stale words of the second stand for, then.
+    pub stale_names: &'a [&'a str],
 }
 
 /// The line that says how much is reached if two heaps show the same graph.
@@ -80,6 +85,26 @@ pub fn stale_line(
 
 // A stale word, and what is where it leads.
 fn push_stale(text: &mut String, sides: Sides<'_>, old: u64, word: u64) -> Result<(), AllocError> {
+    let [before, after] = sides.labels;
+    if after.is_some() {
+        let name = sides
+            .stale_names
+            .get(word.saturating_sub(1) as usize)
+            .copied();
+        let was = old
+            .checked_sub(1)
+            .and_then(|address| label(before, address));
+        let still = if was.is_some() && was == name {
+            "still is"
+        } else {
+            "is"
+        };
+        let name = name.unwrap_or("-");
+        return write!(
+            text,
+            "; the word {still} {name}, which no object after has\n"
+        );
+    }
     let still = if word == old { "still is" } else { "is" };
     write!(text, "; the word {still} {word}, ")?;
     let address = word.saturating_sub(1);
@@ -127,7 +152,7 @@ fn push_path(
 }
 
 fn push_before(text: &mut String, sides: Sides<'_>, word: u64) -> Result<(), AllocError> {
-    push_word(text, ": ", word)?;
+    push_word(text, ": ", sides.labels[0], word)?;
     if let (Some(names), Some(address)) = (sides.names, word.checked_sub(1)) {
         push_named_object(text, names, address)?;
     }
@@ -135,7 +160,7 @@ fn push_before(text: &mut String, sides: Sides<'_>, word: u64) -> Result<(), All
 }
 
 fn push_after(text: &mut String, sides: Sides<'_>, word: u64) -> Result<(), AllocError> {
-    push_word(text, ", ", word)?;
+    push_word(text, ", ", sides.labels[1], word)?;
     if let Some(names) = sides.names {
         if let Some(name) = first_data(sides.after, word).and_then(|label| names.label(label)) {
             write!(text, " ({name})")?;
@@ -144,11 +169,38 @@ fn push_after(text: &mut String, sides: Sides<'_>, word: u64) -> Result<(), Allo
     text.push_str(" after")
 }
 
-fn push_word(text: &mut String, lead: &str, word: u64) -> Result<(), AllocError> {
+type Labels<'a> = Option<&'a [(u64, &'a str)]>;
+
+fn push_word(
+    text: &mut String,
+    lead: &str,
+    labels: Labels<'_>,
+    word: u64,
+) -> Result<(), AllocError> {
     text.push_str(lead)?;
     match word.checked_sub(1) {
-        Some(address) => write!(text, "object {address}"),
-        None => write!(text, "null"),
+        Some(address) => {
+            text.push_str("object ")?;
+            push_object(text, labels, address)
+        }
+        None => text.push_str("null"),
+    }
+}
+
+// An object's address, or its name if it has one in its place.
+fn push_object(text: &mut String, labels: Labels<'_>, address: u64) -> Result<(), AllocError> {
+    match label(labels, address) {
+        Some(name) => text.push_str(name),
+        None => write!(text, "{address}"),
+    }
+}
+
+fn label<'a>(labels: Labels<'a>, address: u64) -> Option<&'a str> {
+    let labels = labels?;
+    let below = labels.partition_point(|(at, _)| *at < address);
+    match labels.get(below) {
+        Some((at, name)) if *at == address => Some(*name),
+        _ => None,
     }
 }
 
@@ -167,25 +219,43 @@ fn push_detail(
             object,
             first,
             second: _,
-        } => push_met(text, (*object, "before"), (*first, "after")),
+        } => push_met(text, sides, (*object, 0), (*first, 1)),
         How::Joined {
             first,
             second: _,
             object,
-        } => push_met(text, (*object, "after"), (*first, "before")),
+        } => push_met(text, sides, (*object, 1), (*first, 0)),
         How::Size { before, after } => push_numbers(text, "size", *before, *after),
         How::Slots { before, after } => push_numbers(text, "slots", *before, *after),
         How::Data { word } => push_data(text, sides, *word, old, new),
     }
 }
 
-// An object that an earlier path leads to, each with the heap that it is of.
-fn push_met(text: &mut String, object: (u64, &str), first: (u64, &str)) -> Result<(), AllocError> {
-    let ((object, here), (first, there)) = (object, first);
-    write!(
-        text,
-        "; {object} {here} is {first} {there} on an earlier path"
-    )
+const WHEN: [&str; 2] = ["before", "after"];
+
+// An object that an earlier path leads to, each with the side that it is of.
+fn push_met(
+    text: &mut String,
+    sides: Sides<'_>,
+    object: (u64, usize),
+    first: (u64, usize),
+) -> Result<(), AllocError> {
+    text.push_str("; ")?;
+    push_of_side(text, sides, object)?;
+    text.push_str(" is ")?;
+    push_of_side(text, sides, first)?;
+    text.push_str(" on an earlier path")
+}
+
+fn push_of_side(
+    text: &mut String,
+    sides: Sides<'_>,
+    object: (u64, usize),
+) -> Result<(), AllocError> {
+    let (address, side) = object;
+    push_object(text, sides.labels.get(side).copied().flatten(), address)?;
+    let when = WHEN.get(side).copied().unwrap_or("");
+    write!(text, " {when}")
 }
 
 fn push_numbers(text: &mut String, what: &str, old: u64, new: u64) -> Result<(), AllocError> {

@@ -188,7 +188,7 @@ fn numbered<'a>(names: &[&'a str], number: u64) -> Option<Word<'a>> {
     match last.strip_suffix("[]") {
         Some(name) if number >= count => Some(Word {
             name,
-            number: Some(number - count),
+            number: Some(number.saturating_sub(count)),
         }),
         _ => Some(Word {
             name: names.get(number as usize).copied()?,

@@ -256,7 +256,6 @@ Statuses:
   3  a file is no image, or a line is not as it has to be
   4  a slot is not covered
   5  a region of the set is not there, not ordinary, pinned, or given twice, or no room
-  5  a region of the set is not there, humongous, pinned, or given twice
   6  no memory, or a read or a write that failed
   7  a file that can't be opened or written
   8  an explanation contradicts the pause: an error of this program

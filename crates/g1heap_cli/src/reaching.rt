@@ -99,7 +99,7 @@ impl Search {
         if address >= words.len() as u64 {
             return Ok(None);
         }
-        let from = place as u64 + 1;
+        let from = (place as u64).saturating_add(1);
         for number in 0..header(words, address).refs {
             let at = address.saturating_add(1).saturating_add(number);
             if let Some(word) = word_of(stale.slots.as_slice(), at) {

@@ -57,7 +57,10 @@ impl Parts {
         let (w, k, n) = (number(text, 8), number(text, 12), number(text, 16));
         let geometry = Geometry::new(w, k, n).ok()?;
         let entry = if text.get(7) == Some(&b'1') { 8 } else { 12 };
-        let (roots, dirty) = (number(text, 20) as usize, number(text, Parts::DIRTY_AT) as usize);
+        let (roots, dirty) = (
+            number(text, 20) as usize,
+            number(text, Parts::DIRTY_AT) as usize,
+        );
         let table_at = 32usize;
         let roots_at = past(table_at, n as usize, entry);
         let log_at = past(roots_at, roots, 8);
@@ -76,7 +79,9 @@ impl Parts {
     // The kind and the used words of a region.
     fn region(&self, text: &[u8], region: u32) -> (Option<Kind>, u64) {
         let at = past(self.table_at, region as usize, self.entry);
-        let kind = Kind::of_number(number(text, at) as u32);
+        let kind = u32::try_from(number(text, at))
+            .ok()
+            .and_then(Kind::of_number);
         (kind, number(text, at.saturating_add(4)))
     }
 }

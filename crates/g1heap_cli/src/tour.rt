@@ -189,7 +189,7 @@ impl Tour {
         let (a, b) = pair;
         self.pairs.push(pair)?;
         self.steps.push(step)?;
-        let place = self.pairs.len() as u32;
+        let place = u32::try_from(self.pairs.len()).unwrap_or(u32::MAX);
         set_entry(&mut self.new_of, a, place);
         set_entry(&mut self.old_of, b, place);
         Ok(())

@@ -17,15 +17,22 @@ pub fn with_dirty(alloc: Global, image: &Image, young: &[u32]) -> Result<Image, 
 // The cards of these regions that are not dirty, each once.
 fn cards_of(alloc: Global, image: &Image, young: &[u32]) -> Result<Vec<u32>, AllocError> {
     let geometry = image.heap().geometry();
-    let in_region = geometry.region_words().checked_div(geometry.card_words()).unwrap_or(0);
+    let in_region = geometry
+        .region_words()
+        .checked_div(geometry.card_words())
+        .unwrap_or(0);
     let mut cards = Vec::new(alloc);
     for (region, found) in image.heap().regions().iter().enumerate() {
-        if found.kind != Kind::Free && young.contains(&(region as u32)) {
+        if found.kind != Kind::Free && is_among(young, region) {
             let first = (region as u64).saturating_mul(in_region);
             push_clean(image, first, in_region, &mut cards)?;
         }
     }
     Ok(cards)
+}
+
+fn is_among(regions: &[u32], region: usize) -> bool {
+    regions.iter().any(|among| *among as usize == region)
 }
 
 // Adds those of so many cards, from the first on, that are not dirty.
@@ -53,9 +60,14 @@ fn text_with(alloc: Global, text: &[u8], cards: &[u32]) -> Result<Option<Vec<u8>
     let (Some(log), Some(sets)) = (text.get(..parts.sets_at), text.get(parts.sets_at..)) else {
         return Ok(None);
     };
-    let dirty = number(text, Parts::DIRTY_AT).saturating_add(cards.len() as u64) as u32;
+    let dirty = number(text, Parts::DIRTY_AT).saturating_add(cards.len() as u64);
+    let dirty = u32::try_from(dirty).unwrap_or(u32::MAX);
     let mut changed = Vec::from_slice(alloc, log)?;
-    for (byte, new) in changed.iter_mut().skip(Parts::DIRTY_AT).zip(dirty.to_le_bytes().iter()) {
+    for (byte, new) in changed
+        .iter_mut()
+        .skip(Parts::DIRTY_AT)
+        .zip(dirty.to_le_bytes().iter())
+    {
         *byte = *new;
     }
     for card in cards {
