@@ -5,7 +5,7 @@ Draws N small heaps (1000) and sets, evacuates each set as tools/opponent.py doe
 `same --covered --set R ..` finds it the same, kept and covered, with the numbers of objects and words that are
 reached; with --g1pause also that `check` finds it covered, and that the answer of `g1pause pause R ..` to the heap
 with exact remembered sets is found the same, kept and covered too. Then an error of each kind of tools/plant_errors.py is
-planted, and in a quarter of the cases words that reference no object beside it. What `same` tells of it, line by line,
+planted, and in a quarter of the cases words that reference no object beside it. What `same` reports of it, line by line,
 and `same --all`, is compared with a judge of this script's own, which walks both heaps from the definition; some of the
 heaps are compared as lines of objects by name, too. `same --set` has to find it wherever roots or objects outside the set
 lead to it, or a region is not as a pause of the set leaves it, and `same --covered` wherever a slot is not covered. Some
@@ -54,7 +54,7 @@ def tells(before, after, x, y, forth, back, called=(str, str)):
     return None
 
 
-def told_stale(before, after, x, y, by_name=False):
+def stale_detail(before, after, x, y, by_name=False):
     """The detail of a word after that is not null and references no object."""
     if by_name:
         still = "still is" if x == y else "is"
@@ -85,7 +85,7 @@ def walked(before, after, more=(), called=None):
         old, new = (f"object {name(word - 1)}" if word != NULL else "null" for name, word in zip(names, (x, y)))
         how = None
         if y != NULL and y - 1 not in starts:
-            how, detail = told_stale(before, after, x, y, called is not None)
+            how, detail = stale_detail(before, after, x, y, called is not None)
             lines.append(f"differ {how} at {path}: {old}{detail}\n")
         elif tells(before, after, x, y, forth, back, names):
             how, detail = tells(before, after, x, y, forth, back, names)
@@ -294,7 +294,7 @@ class Judge:
         wanted = refused if expected[:4] == "same" else (1, expected, "")
         self.judge(f"{name}: {wanted}", self.same(after) == wanted)
         self.counts[f"{error}, and a root leads to it"] += expected[:4] != "same"
-        self.counts[f"{error}, told as stale"] += expected.startswith("differ stale")
+        self.counts[f"{error}, reported as stale"] += expected.startswith("differ stale")
 
     def with_set(self, name, error, before, after, chosen, expected):
         status, out, err = self.same(after, "--set", *(str(r) for r in chosen))

@@ -77,12 +77,12 @@ class Planter:
         return holder and self.planted(holder, self.origins[self.word(self.after, holder)])
 
     def root_not_updated(self):
-        """A root still names the place that its object had before."""
+        """A root still references the place that its object had before."""
         holder = self.pick(h for h in self.named_copies() if h[0] == "root")
         return holder and self.planted(holder, self.origins[self.word(self.after, holder)])
 
     def stray_word(self):
-        """A slot that was null or named a copy has a word between two objects, or one outside the heap."""
+        """A slot that was null or referenced a copy has a word between two objects, or one outside the heap."""
         starts = set(self.objects)
         words = [w for w in range(1, len(self.after.words) + 9) if w - 1 not in starts]
         slots = [("slot", s) for a in self.objects for s in self.after.slots(a)]

@@ -1,5 +1,6 @@
 //! Lines of objects by name: what g1heap makes of them, and how it compares them.
 use crate::heap::expect;
+use crate::images::Text;
 use std::alloc::Global;
 use std::fs;
 use std::fs::File;
@@ -30,7 +31,7 @@ const AFTER: &str = "graph 16 4 8\n\
     object 16 4/2 20 - 7\n\
     root -\n";
 
-// Both files, what is asked of them, and the status, the answer and what is said instead.
+// Both files, what is asked of them, the status, and the answer or the refusal.
 fn expect_same<T: Threads + Abort + Sync + Files>(
     rt: &T,
     alloc: Global,
@@ -91,7 +92,6 @@ fn graphs_are_compared_by_name(rt: HostRuntime) -> Result<(), Fail> {
                 1,
                 "differ joined at root 1: object b before, object c after; c after is a before on an earlier path\n",
             ),
-            // Lines and an image.
             (
                 "graph\nroot a\nroot -\nobject b 3/1 a 5\nobject a 4/2 b - 7",
                 "graph\nroot a\nroot -\nobject b 3/1 a 5\nobject a 4/2 b - 7",
@@ -101,6 +101,60 @@ fn graphs_are_compared_by_name(rt: HostRuntime) -> Result<(), Fail> {
             ),
         ],
     )
+}
+
+// An image, what `same` answers of it behind `BEFORE`, and before it.
+#[test]
+fn lines_and_an_image_are_compared(rt: HostRuntime) -> Result<(), Fail> {
+    let alloc = rt.alloc();
+    let mut file = File::create(&rt, "lines_before.txt")?;
+    file.write_all(BEFORE.as_bytes())?;
+    for (image, behind, ahead) in [
+        (
+            "16 4 4 2 0 4  0 0 1 7 0 0 0 0  =17 =0  0 0 0 0  4/2 =21 =0 =7 3/1 =17 =6",
+            (
+                1,
+                "differ data at root 0 slot 0: object pair#12 before, object 20 after; data word 0 is 5 before, 6 after\n",
+                "",
+            ),
+            (
+                1,
+                "differ data at root 0 slot 0: object 20 before, object pair#12 after; data word 0 is 6 before, 5 after\n",
+                "",
+            ),
+        ),
+        // An object that has a name has no address that a word is compared with.
+        (
+            "16 4 4 2 0 4  0 0 0 0 1 7 0 0  =33 =0  0 0 0 0  4/2 =5 =0 =7 3/1 =33 =5",
+            (
+                1,
+                "differ stale at root 0 slot 0: object pair#12 before; the word is 5, in region 0, free after\n",
+                "",
+            ),
+            (3, "", "g1heap: -: fault 7: reference in slot 33\n"),
+        ),
+        (
+            "16 4 4 2 0 4  0 0 0 0 1 7 0 0  =33 =65  0 0 0 0  4/2 =37 =0 =7 3/1 =33 =5",
+            (
+                1,
+                "differ stale at root 1: null before; the word is 65, outside the heap\n",
+                "",
+            ),
+            (3, "", "g1heap: -: fault 7: reference in root 1\n"),
+        ),
+    ] {
+        let image = Text::Second(image).bytes(alloc)?;
+        for (line, told) in [
+            ("same lines_before.txt -", behind),
+            ("same - lines_before.txt", ahead),
+        ] {
+            let (status, answer, error) = told;
+            let told = (status, answer.as_bytes(), error.as_bytes());
+            expect(&rt, alloc, line, image.as_slice(), told)?;
+        }
+    }
+    fs::remove_file(&rt, "lines_before.txt")?;
+    Ok(())
 }
 
 #[test]
@@ -127,13 +181,6 @@ fn a_name_that_no_object_has_is_stale(rt: HostRuntime) -> Result<(), Fail> {
                  differences 2: stale 2\n",
             ),
             (
-                BEFORE,
-                "graph\nroot a\nroot -\nobject a 4/2 b - 7\nobject b 3/1 a 5\nobject dead 3/2 - c",
-                "",
-                3,
-                "g1heap: -: line 6: expected '-' or the name of an object in slot 1\n",
-            ),
-            (
                 "graph\nroot a\nobject a 3/2 - b",
                 BEFORE,
                 "",
@@ -146,6 +193,110 @@ fn a_name_that_no_object_has_is_stale(rt: HostRuntime) -> Result<(), Fail> {
                 "",
                 3,
                 "g1heap: stale_graphs_before.txt: line 3: expected '-' or the name of an object\n",
+            ),
+        ],
+    )
+}
+
+#[test]
+fn a_stale_name_behind_a_difference_is_not_reported(rt: HostRuntime) -> Result<(), Fail> {
+    let data =
+        "differ data at root 0: object 0x7f10 before, object a after; data word 0 is 7 before, 8 after\n";
+    expect_same(
+        &rt,
+        rt.alloc(),
+        "stale_behind",
+        &[
+            (
+                BEFORE,
+                "graph\nroot a\nroot -\nobject a 4/2 b - 8\nobject b 3/1 gone 5",
+                "",
+                1,
+                data,
+            ),
+            // As many steps from the roots, with a higher number.
+            (
+                BEFORE,
+                "graph\nroot a\nroot gone\nobject a 4/2 b - 8\nobject b 3/1 a 5",
+                "",
+                1,
+                data,
+            ),
+            // And with a lower number, which comes first.
+            (
+                "graph\nroot a\nroot b\nobject a 1/0\nobject b 2/0 5",
+                "graph\nroot gone\nroot c\nobject c 2/0 6",
+                "",
+                1,
+                "differ stale at root 0: object a before; the word is gone, which no object after has\n",
+            ),
+            (BEFORE, "graph\nroot gone", "", 1, "differ roots: 2 before, 1 after\n"),
+        ],
+    )
+}
+
+// The first one in the file is not the first one on the walk.
+#[test]
+fn of_two_stale_names_the_first_on_the_walk_is_reported(rt: HostRuntime) -> Result<(), Fail> {
+    expect_same(
+        &rt,
+        rt.alloc(),
+        "stale_twice",
+        &[
+            (
+                BEFORE,
+                "graph\nroot a\nroot -\nobject b 3/1 lost 5\nobject a 4/2 b gone 7",
+                "",
+                1,
+                "differ stale at root 0 slot 1: null before; the word is gone, which no object after has\n",
+            ),
+            (
+                BEFORE,
+                "graph\nobject a 4/2 gone lost 7\nroot a\nroot -",
+                "",
+                1,
+                "differ stale at root 0 slot 0: object pair#12 before; the word is gone, which no object after has\n",
+            ),
+            (
+                BEFORE,
+                "graph\nobject a 4/2 gone - 7\nroot a\nroot lost",
+                "",
+                1,
+                "differ stale at root 1: null before; the word is lost, which no object after has\n",
+            ),
+        ],
+    )
+}
+
+#[test]
+fn a_stale_name_that_no_root_reaches_is_a_wrong_line(rt: HostRuntime) -> Result<(), Fail> {
+    expect_same(
+        &rt,
+        rt.alloc(),
+        "stale_unreached",
+        &[
+            (
+                BEFORE,
+                "graph\nroot a\nroot -\nobject a 4/2 b - 7\nobject b 3/1 a 5\nobject dead 3/2 - c",
+                "",
+                3,
+                "g1heap: -: line 6: expected '-' or the name of an object in slot 1\n",
+            ),
+            // Of two, the line of the first.
+            (
+                BEFORE,
+                "graph\nobject dead 2/1 c\nroot a\nroot -\nobject a 4/2 b - 7\nobject b 3/1 a 5\nobject other 3/2 - c",
+                "",
+                3,
+                "g1heap: -: line 2: expected '-' or the name of an object in slot 0\n",
+            ),
+            // A difference is reported all the same.
+            (
+                BEFORE,
+                "graph\nroot a\nroot -\nobject a 4/2 b - 7\nobject b 3/1 a 6\nobject dead 3/2 - c",
+                "",
+                1,
+                "differ data at root 0 slot 0: object pair#12 before, object b after; data word 0 is 5 before, 6 after\n",
             ),
         ],
     )
@@ -168,7 +319,7 @@ fn graphs_have_no_regions(rt: HostRuntime) -> Result<(), Fail> {
 
 // Lines, and what `make` says of them.
 #[test]
-fn a_wrong_line_is_told(rt: HostRuntime) -> Result<(), Fail> {
+fn a_wrong_line_is_reported(rt: HostRuntime) -> Result<(), Fail> {
     for (lines, error) in [
         ("graph 16 4\n", "line 1: expected a whole number as N"),
         ("graph 16 4 8 8\n", "line 1: expected the end of the line"),

@@ -11,8 +11,8 @@
 //! - `heap`: what g1heap answers.
 //! - `lines`: what g1heap makes of lines.
 //! - `explain`: what g1heap explains.
-//! - `naming`: what g1heap answers in the names of a program, and what it says of many differences.
-//! - `stale`: what g1heap answers where words after a pause reference no object.
+//! - `naming`: what g1heap answers in the names of a program, and what it answers if much differs.
+//! - `stale`: what g1heap answers if words after a pause reference no object.
 //! - `young`: young regions, and sets with free regions.
 //! - `graphs`: lines of objects by name.
 //! - `limits`: numbers of the command line at the ends of their ranges, and a total beyond 64 bits.

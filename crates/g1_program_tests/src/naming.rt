@@ -21,7 +21,8 @@ const NAMES: &str = "root 0 main.table\n\
     object 16 Table\n\
     type data slots data data tail[]\n";
 
-// What is asked of two heaps, and the status, the answer and what is said instead. Standard input has the names.
+// What is asked of two heaps, and the status, the answer and the refusal. Standard input has the names.
+#[derive(Clone, Copy)]
 pub(crate) struct Case<'a> {
     pub(crate) file: &'a str,
     pub(crate) line: &'a str,
@@ -60,7 +61,7 @@ fn write_image<T: Files>(rt: &T, alloc: Global, name: &str, lines: &str) -> Resu
     Ok(())
 }
 
-// Heaps after `BEFORE`, and what is told of them in its names.
+// Heaps after `BEFORE`, and what is reported of them in its names.
 fn expect_named<T: Threads + Abort + Sync + Files>(
     rt: &T,
     alloc: Global,
@@ -150,7 +151,7 @@ fn what_has_no_name_has_a_number(rt: HostRuntime) -> Result<(), Fail> {
 }
 
 #[test]
-fn a_wrong_line_of_names_is_told(rt: HostRuntime) -> Result<(), Fail> {
+fn a_wrong_line_of_names_is_reported(rt: HostRuntime) -> Result<(), Fail> {
     for (input, error) in [
         ("root 0\n", "line 1: expected 'root NUMBER NAME'"),
         (

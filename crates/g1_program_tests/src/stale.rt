@@ -16,7 +16,7 @@ const PAIR: &str = "16 4 4 2 0 4  0 0 1 7 0 0 0 0  =17 =0  0 0 0 0  4/2 =21 =0 =
 // The object of two regions, and of 18 slots.
 const LARGE: &str = "16 4 4 1 0 4  2 16 3 4 0 0 0 0  =1  0 0 0 0  20/18 =1 0*18";
 
-// A heap after a pause of `PAIR`'s region, what `same` answers, and what it says instead.
+// A heap after a pause of `PAIR`'s region, what `same` answers, and how it refuses it instead.
 type Row = (&'static str, &'static str, &'static str);
 
 // What was before stands in a file, and what is after comes on standard input.
@@ -126,7 +126,7 @@ fn any_word_that_references_no_object_is_stale(rt: HostRuntime) -> Result<(), Fa
 }
 
 #[test]
-fn the_first_difference_is_told(rt: HostRuntime) -> Result<(), Fail> {
+fn the_first_difference_is_reported(rt: HostRuntime) -> Result<(), Fail> {
     expect_rows(
         &rt,
         rt.alloc(),
@@ -218,7 +218,7 @@ fn slots_of_humongous_objects_may_be_stale(rt: HostRuntime) -> Result<(), Fail> 
 
 const MOVED: &str = "16 4 4 2 1 4  0 0 0 0 1 7 0 0  =33 =0  8  0 0 0 0  4/2 =21 =0 =7 3/1 =33 =5";
 
-const MOVED_TOLD: &str =
+const MOVED_ANSWER: &str =
     "differ stale at root 0 slot 0: object 20 before; the word still is 21, in region 1, free after, where the object was before\n";
 
 // A dirty card, remembered sets that are not empty, and what else is asked.
@@ -227,7 +227,7 @@ fn files_and_both_versions_are_read(rt: HostRuntime) -> Result<(), Fail> {
     let alloc = rt.alloc();
     write_image(&rt, alloc, "stale_before.img", PAIR)?;
     write_image(&rt, alloc, "stale_after.img", MOVED)?;
-    let told = (1, MOVED_TOLD.as_bytes(), b"".as_slice());
+    let told = (1, MOVED_ANSWER.as_bytes(), b"".as_slice());
     for line in [
         "same stale_before.img stale_after.img",
         "same stale_before.img stale_after.img --covered --set 1",

@@ -19,7 +19,7 @@ const PAIR: &str = "heap 16 4 4\nroot 16\nregion 1 ordinary\nobject 4/2 20 - 7\n
 const PAIR_MOVED: &str =
     "heap 16 4 4\nroot 35\nregion 2 ordinary\nobject 3/1 35 5\nobject 4/2 32 - 7";
 
-// What is asked of two heaps, the status, and the answer, or what is said instead.
+// What is asked of two heaps, the status, and the answer or the refusal.
 fn expect_rows<T: Threads + Abort + Sync + Files>(
     rt: &T,
     alloc: Global,
@@ -81,7 +81,7 @@ fn slots_of_young_regions_need_no_card(rt: HostRuntime) -> Result<(), Fail> {
                 UNCOVERED,
                 UNCOVERED,
                 2,
-                "g1heap: young_after.img: no region 4\n",
+                "g1heap: young_after.img: no region 4: the image has 4\n",
             ),
             (
                 "--covered --young 0",

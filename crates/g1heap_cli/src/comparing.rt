@@ -83,29 +83,52 @@ pub fn stale_line(
     Ok(text)
 }
 
-// A stale word, and what is where it leads.
+// A stale word, by name if the file after has names.
 fn push_stale(text: &mut String, sides: Sides<'_>, old: u64, word: u64) -> Result<(), AllocError> {
     let [before, after] = sides.labels;
     if after.is_some() {
-        let name = sides
-            .stale_names
-            .get(word.saturating_sub(1) as usize)
-            .copied();
-        let was = old
-            .checked_sub(1)
-            .and_then(|address| label(before, address));
-        let still = if was.is_some() && was == name {
-            "still is"
-        } else {
-            "is"
-        };
-        let name = name.unwrap_or("-");
-        return write!(
-            text,
-            "; the word {still} {name}, which no object after has\n"
-        );
+        return push_stale_name(text, sides, old, word);
     }
-    let still = if word == old { "still is" } else { "is" };
+    // The places of objects that have names are not the program's own: no word after is compared with them.
+    let old = if before.is_some() { None } else { Some(old) };
+    push_stale_word(text, sides, old, word)
+}
+
+fn push_stale_name(
+    text: &mut String,
+    sides: Sides<'_>,
+    old: u64,
+    word: u64,
+) -> Result<(), AllocError> {
+    let place = word.saturating_sub(1) as usize;
+    let name = sides.stale_names.get(place).copied();
+    let was = old
+        .checked_sub(1)
+        .and_then(|address| label(sides.labels[0], address));
+    let still = if was.is_some() && was == name {
+        "still is"
+    } else {
+        "is"
+    };
+    let name = name.unwrap_or("-");
+    write!(
+        text,
+        "; the word {still} {name}, which no object after has\n"
+    )
+}
+
+// A stale word, the region that it leads to, and what was there before, if the word before is known.
+fn push_stale_word(
+    text: &mut String,
+    sides: Sides<'_>,
+    old: Option<u64>,
+    word: u64,
+) -> Result<(), AllocError> {
+    let still = if old == Some(word) {
+        "still is"
+    } else {
+        "is"
+    };
     write!(text, "; the word {still} {word}, ")?;
     let address = word.saturating_sub(1);
     let region = region_of(&sides.after.geometry(), address);
@@ -113,12 +136,16 @@ fn push_stale(text: &mut String, sides: Sides<'_>, old: u64, word: u64) -> Resul
         return text.push_str("outside the heap\n");
     };
     let kind = found.kind;
-    let what = match object_at(sides.before, address) {
-        Some(_) if word == old => "the object was before",
-        Some(_) => "another object was before",
-        None => "no object starts",
-    };
-    write!(text, "in region {region}, {kind} after, where {what}\n")
+    write!(text, "in region {region}, {kind} after")?;
+    if let Some(old) = old {
+        let what = match object_at(sides.before, address) {
+            Some(_) if word == old => "the object was before",
+            Some(_) => "another object was before",
+            None => "no object starts",
+        };
+        write!(text, ", where {what}")?;
+    }
+    text.push('\n')
 }
 
 /// What `differ` says of a kind of difference.

@@ -25,6 +25,7 @@ mod summary;
 mod terminals;
 mod tour;
 mod tracing;
+mod usage;
 mod young;
 
 pub use commands::{compare_images, program};

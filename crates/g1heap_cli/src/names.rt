@@ -137,13 +137,13 @@ impl<'a> Names<'a> {
         }
     }
 
-    /// The name of a slot of the object at an address, which has so many.
+    /// The name of a slot of the object at an address, which has `slots` of them.
     pub fn slot(&self, address: u64, slots: u64, slot: u64) -> Option<Word<'a>> {
         let words = self.type_at(address)?;
         numbered(words.get(..border(words, slots))?, slot)
     }
 
-    /// The name of a data word of the object at an address, which has so many slots.
+    /// The name of a data word of the object at an address, which has this many slots.
     pub fn data(&self, address: u64, slots: u64, word: u64) -> Option<Word<'a>> {
         let words = self.type_at(address)?;
         numbered(words.get(border(words, slots).saturating_add(1)..)?, word)

@@ -86,7 +86,7 @@ impl Parts {
     }
 }
 
-// The place behind this many parts of so many bytes each.
+// The place behind `count` parts of `bytes` bytes each.
 fn past(at: usize, count: usize, bytes: usize) -> usize {
     at.saturating_add(count.saturating_mul(bytes))
 }
@@ -157,7 +157,7 @@ impl Objects {
         Ok(objects)
     }
 
-    // Adds the objects that start within so many words.
+    // Adds the objects that start within the `top` words from `start` on.
     fn add_row(
         &mut self,
         words: &[u64],
@@ -241,7 +241,7 @@ fn null_slots(
     Ok(stale)
 }
 
-// The word of 64 bits at a place, or 0 where no bytes are.
+// The word of 64 bits at a place, or 0 if no bytes are there.
 fn word(text: &[u8], at: usize) -> u64 {
     match text.get(at..) {
         Some(rest) if rest.len() >= 8 => LittleEndian::read_u64(rest),

@@ -35,7 +35,7 @@ fn is_among(regions: &[u32], region: usize) -> bool {
     regions.iter().any(|among| *among as usize == region)
 }
 
-// Adds those of so many cards, from the first on, that are not dirty.
+// Adds those of `count` cards, from the first on, that are not dirty.
 fn push_clean(
     image: &Image,
     first: u64,
