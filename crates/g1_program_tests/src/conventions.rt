@@ -169,6 +169,8 @@ fn a_summary_is_of_a_whole_heap(rt: HostRuntime) -> Result<(), Fail> {
 #[test]
 fn a_set_may_be_before_the_files(rt: HostRuntime) -> Result<(), Fail> {
     let missing = "g1heap: no/such: can't be opened\n";
+    let names =
+        "g1heap: waiting for lines of names on standard input, which Ctrl-D ends\ng1heap: no/such: can't be opened\n";
     expect_refused(
         &rt,
         rt.alloc(),
@@ -372,6 +374,7 @@ fn a_terminal_is_told_what_is_waited_for(rt: HostRuntime) -> Result<(), Fail> {
         ("print no/such", 7, missing),
         ("make", 2, bytes),
         ("make -o /dev/null", 0, types),
+        ("same no/such no/such --names -", 7, names),
     ] {
         expect(
             &rt,
