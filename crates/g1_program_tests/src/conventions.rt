@@ -169,8 +169,6 @@ fn a_summary_is_of_a_whole_heap(rt: HostRuntime) -> Result<(), Fail> {
 #[test]
 fn a_set_may_be_before_the_files(rt: HostRuntime) -> Result<(), Fail> {
     let missing = "g1heap: no/such: can't be opened\n";
-    let names =
-        "g1heap: waiting for lines of names on standard input, which Ctrl-D ends\ng1heap: no/such: can't be opened\n";
     expect_refused(
         &rt,
         rt.alloc(),
@@ -366,6 +364,8 @@ fn a_terminal_is_told_what_is_waited_for(rt: HostRuntime) -> Result<(), Fail> {
     let bytes =
         "g1heap: an image is not written to a terminal: name a file, as in '-o FILE', or write '-o -'\n";
     let missing = "g1heap: no/such: can't be opened\n";
+    let names =
+        "g1heap: waiting for lines of names on standard input, which Ctrl-D ends\ng1heap: no/such: can't be opened\n";
     let print = Run::on_screen("print", &image);
     expect(&rt, alloc, print, (0, picture, waits))?;
     let make = Run::on_screen("make -o -", lines);

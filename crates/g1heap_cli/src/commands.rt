@@ -213,37 +213,32 @@ fn same_sides<T: Threads + Sync>(
     }
 }
 
-fn compare_sides(
+fn compare_sides<'x>(
     alloc: Global,
     same: &Same,
-    names: Option<&Names<'_>>,
-    before: &Side<'_>,
-    after: &Side<'_>,
+    names: Option<&'x Names<'x>>,
+    before: &'x Side<'x>,
+    after: &'x Side<'x>,
 ) -> Result<(u8, String), Refusal> {
     let labels = [labels_of(before), labels_of(after)];
-    let (old, new) = (before.image.heap(), after.image.heap());
+    let stale_names = stale_names_of(after);
+    let sides = Sides {
+        before: before.image.heap(),
+        after: after.image.heap(),
+        names,
+        labels,
+        stale_names,
+    };
     match &after.stale {
-        None => compare_heaps(
-            alloc,
-            same,
-            Sides {
-                before: old,
-                after: new,
-                names,
-                labels,
-                stale_names: &[],
-            },
-        ),
-        Some(strays) => {
-            let sides = Sides {
-                before: old,
-                after: new,
-                names,
-                labels,
-                stale_names: strays.names.as_slice(),
-            };
-            compare_stale(alloc, same, sides, strays)
-        }
+        None => compare_heaps(alloc, same, sides),
+        Some(strays) => compare_stale(alloc, same, sides, strays),
+    }
+}
+
+fn stale_names_of<'a>(side: &'a Side<'_>) -> Option<&'a [&'a str]> {
+    match &side.stale {
+        Some(strays) => Some(strays.names.as_slice()),
+        None => None,
     }
 }
 
@@ -255,18 +250,18 @@ fn labels_of<'a>(side: &'a Side<'_>) -> Option<&'a [(u64, &'a str)]> {
 }
 
 /// The status and the line for two images.
-pub fn compare_images(
+pub fn compare_images<'x>(
     alloc: Global,
     same: &Same,
-    before: &Image,
-    after: &Image,
+    before: &'x Image,
+    after: &'x Image,
 ) -> Result<(u8, String), Refusal> {
     let sides = Sides {
         before: before.heap(),
         after: after.heap(),
         names: None,
         labels: [None, None],
-        stale_names: &[],
+        stale_names: None,
     };
     compare_heaps(alloc, same, sides)
 }

@@ -16,7 +16,7 @@ pub struct Sides<'a> {
     /// The names of the objects of each, if they have names in place of addresses.
     pub labels: [Option<&'a [(u64, &'a str)]>; 2],
     /// The names that stale words of the second stand for, then.
-    pub stale_names: &'a [&'a str],
+    pub stale_names: Option<&'a [&'a str]>,
 }
 
 /// The line that says how much is reached if two heaps show the same graph.
@@ -101,7 +101,10 @@ fn push_stale_name(
     word: u64,
 ) -> Result<(), AllocError> {
     let place = word.saturating_sub(1) as usize;
-    let name = sides.stale_names.get(place).copied();
+    let name = match sides.stale_names {
+        Some(names) => names.get(place).copied(),
+        None => None,
+    };
     let was = old
         .checked_sub(1)
         .and_then(|address| label(sides.labels[0], address));

@@ -80,29 +80,24 @@ fn strays_in<'a>(alloc: Global, graph: &Graph<'a>) -> Result<Option<Strays<'a>>,
     let Some((number, expected)) = graph.first_stale else {
         return Ok(None);
     };
-    let mut strays = Strays {
-        words: Stale {
-            roots: Vec::new(alloc),
-            slots: Vec::new(alloc),
-        },
-        names: Vec::new(alloc),
-        wrong: Wrong::Line { number, expected },
+    let mut names = Vec::new(alloc);
+    let mut words = Stale {
+        roots: Vec::new(alloc),
+        slots: Vec::new(alloc),
     };
     for (place, name) in &graph.stale_roots {
-        strays.names.push(*name)?;
-        strays
-            .words
-            .roots
-            .push((*place, strays.names.len() as u64))?;
+        names.push(*name)?;
+        words.roots.push((*place, names.len() as u64))?;
     }
     for (place, name) in &graph.stale_slots {
-        strays.names.push(*name)?;
-        strays
-            .words
-            .slots
-            .push((*place, strays.names.len() as u64))?;
+        names.push(*name)?;
+        words.slots.push((*place, names.len() as u64))?;
     }
-    Ok(Some(strays))
+    Ok(Some(Strays {
+        words,
+        names,
+        wrong: Wrong::Line { number, expected },
+    }))
 }
 
 /// The refusal of a file for its words that reference no object, or for its lines, which are in these bytes.
