@@ -230,7 +230,13 @@ fn a_stale_name_behind_a_difference_is_not_reported(rt: HostRuntime) -> Result<(
                 1,
                 "differ stale at root 0: object a before; the word is gone, which no object after has\n",
             ),
-            (BEFORE, "graph\nroot gone", "", 1, "differ roots: 2 before, 1 after\n"),
+            (
+                BEFORE,
+                "graph\nroot gone",
+                "",
+                1,
+                "differ roots: 2 before, 1 after\n",
+            ),
         ],
     )
 }

@@ -127,11 +127,7 @@ fn push_stale_word(
     old: Option<u64>,
     word: u64,
 ) -> Result<(), AllocError> {
-    let still = if old == Some(word) {
-        "still is"
-    } else {
-        "is"
-    };
+    let still = if old == Some(word) { "still is" } else { "is" };
     write!(text, "; the word {still} {word}, ")?;
     let address = word.saturating_sub(1);
     let region = region_of(&sides.after.geometry(), address);
