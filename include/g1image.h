@@ -14,8 +14,7 @@
    the roots among themselves: root I before a collection is compared with root I after it. A pointer is any number of
    64 bits but 0, which is null; two objects have two pointers.
 
-   A call after a fault does nothing and returns the fault again, so it is enough to look at what
-   g1w_end returns. The
+   A call after a fault does nothing and returns the fault again, so it is enough to look at what g1w_end returns. The
    bytes belong to the writer, which keeps which pointer each object had, until g1w_free.
 
    It takes less than 3 times the bytes of the image, by one block for the words and a small one for each object, and
@@ -108,8 +107,8 @@ static inline int g1w_begin(g1_writer *w, uint32_t region_words) {
   return G1W_GOOD;
 }
 
-/* Has a pointer that is no object's written as a stale word, which the judge reports as a fault of that root or slot.
-   Without this it is a fault of the writer. */
+/* Has a pointer that is no object's written as a stale word, which g1_same reports as a fault of that root or slot, and
+   `g1heap same` as a difference with its path. Without this it is a fault of the writer. */
 static inline void g1w_keep_stale(g1_writer *w) { w->keeps_stale = 1; }
 
 /* Gives back all memory of the writer, the bytes of the image too. */

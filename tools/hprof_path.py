@@ -43,8 +43,7 @@ class Names:
         if word == "object" and len(rest) >= 2:
             self.objects[int(rest[0])] = rest[1:]
         elif word == "type" and "slots" in rest and "data" in rest:
-            data = rest.index("data", 2)
-            self.types[rest[0]] = rest[2:data], rest[data + 1:]
+            self.types[rest[0]] = rest[2:]
         elif word == "root" and len(rest) == 2:
             self.roots[int(rest[0])] = rest[1]
         elif word != "label":
@@ -58,6 +57,13 @@ def numbered(names, index):
     if names and names[-1].endswith("[]"):
         return names[-1][:-2], index - len(names) + 1
     return str(index), None
+
+
+def parted(words, slots):
+    """The names of slots and those of data. A field may be called `data`, too: so the word between them is the one behind
+    as many names as the object has slots, if it is `data`, and else the first `data`."""
+    border = slots if words[slots:slots + 1] == ["data"] else words.index("data")
+    return words[:border], words[border + 1:]
 
 
 class Heap:
@@ -101,8 +107,12 @@ class Heap:
             raise Refusal(3, f"{self.path}: its names have no object {address}")
         return self.names.objects[address][0]
 
+    def parts(self, address):
+        """The names of an object's slots, and those of its data words."""
+        return parted(self.names.types[self.type_of(address)], len(self.slots(address)))
+
     def step(self, address, slot):
-        name, number = numbered(self.names.types[self.type_of(address)][0], slot)
+        name, number = numbered(self.parts(address)[0], slot)
         return (f".{name}" if name else "") + (f"[{number}]" if number is not None else "")
 
     def follow(self, root, path):
@@ -122,7 +132,7 @@ class Heap:
         slots = self.slots(address)
         if kind in WIDTHS:
             kind += f" of {self.length(address)}"
-        elif self.names.types[kind][0] == ["[]"]:
+        elif self.parts(address)[0] == ["[]"]:
             kind += f" of {len(slots)}"
         elif kind == "java.lang.String":
             kind += self.string(slots)
@@ -143,7 +153,7 @@ class Heap:
     def data_name(self, address, word):
         """The fields in a data word, or the elements of an array."""
         kind = self.type_of(address)
-        name, number = numbered(self.names.types[kind][1], word)
+        name, number = numbered(self.parts(address)[1], word)
         if number is None:
             return name
         if kind in WIDTHS:

@@ -5,10 +5,11 @@ Draws N small heaps (1000) and sets, evacuates each set as tools/opponent.py doe
 `same --covered --set R ..` finds it the same, kept and covered, with the numbers of objects and words that are
 reached; with --g1pause also that `check` finds it covered, and that the answer of `g1pause pause R ..` to the heap
 with exact remembered sets is found the same, kept and covered too. Then an error of each kind of tools/plant_errors.py is
-planted. What `same` tells of it, line by line, is compared with a judge of this script's own, which walks both
-heaps from the definition; and `same --set` has to find it wherever roots or objects outside the set lead to it, or a
-region is not as a pause of the set leaves it, and `same --covered` wherever a slot is not covered. Some heaps have more
-than 256 roots, and some have an object outside the set that is equal to one of the set.
+planted, and in a quarter of the cases words that reference no object beside it. What `same` reports of it, line by line,
+and `same --all`, is compared with a judge of this script's own, which walks both heaps from the definition; some of the
+heaps are compared as lines of objects by name, too. `same --set` has to find it wherever roots or objects outside the set
+lead to it, or a region is not as a pause of the set leaves it, and `same --covered` wherever a slot is not covered. Some
+heaps have more than 256 roots, and some have an object outside the set that is equal to one of the set.
 The last line is 'N passed, M failed', after a count for each kind of error.
 """
 import argparse
@@ -26,9 +27,14 @@ from opponent import NoRoom, Opponent  # noqa: E402
 from plant_errors import ERRORS, MORE_ERRORS, Planter  # noqa: E402
 from programs import add_program, program  # noqa: E402
 
+KINDS = ("free", "ordinary", "humongous", "continuation")
+DIFFERENCES = ("roots", "stale", "null", "split", "joined", "size", "slots", "data")
 
-def tells(before, after, x, y, forth, back):
-    """How two reference words differ: the kind and the detail of the line. None where they don't."""
+
+def tells(before, after, x, y, forth, back, called=(str, str)):
+    """How two reference words differ: the kind and the detail of the line. None where they don't. `called` are what the
+    files before and after call an object."""
+    old, new = called
     a, b = x - 1, y - 1
     if NULL in (x, y):
         return ("null", "") if x != y else None
@@ -36,34 +42,91 @@ def tells(before, after, x, y, forth, back):
         if forth.get(a) == b:
             return None
         if a in forth:
-            return "split", f"; {a} before is {forth[a]} after on an earlier path"
-        return "joined", f"; {b} after is {back[b]} before on an earlier path"
+            return "split", f"; {old(a)} before is {new(forth[a])} after on an earlier path"
+        return "joined", f"; {new(b)} after is {old(back[b])} before on an earlier path"
     for kind, length in (("size", lambda i, o: i.size(o)), ("slots", lambda i, o: len(i.slots(o)))):
-        old, new = length(before, a), length(after, b)
-        if old != new:
-            return kind, f"; {kind} {old} before, {new} after"
+        was, now = length(before, a), length(after, b)
+        if was != now:
+            return kind, f"; {kind} {was} before, {now} after"
     for number, (p, q) in enumerate(zip(before.content(a), after.content(b))):
         if before.words[p] != after.words[q]:
             return "data", f"; data word {number} is {before.words[p]} before, {after.words[q]} after"
     return None
 
 
-def judged(before, after, more=()):
-    """The line of `same`: both heaps walked at once from their roots, and from words that are to agree too."""
+def stale_detail(before, after, x, y, by_name=False):
+    """The detail of a word after that is not null and references no object."""
+    if by_name:
+        still = "still is" if x == y else "is"
+        return "stale", f" before; the word {still} {stray_name(before, y)}, which no object after has"
+    region = after.region_of(y - 1)
+    where = "outside the heap"
+    if region < after.regions:
+        found = "the" if x == y else "another"
+        found = f"{found} object was before" if y - 1 in set(before.objects()) else "no object starts"
+        where = f"in region {region}, {KINDS[after.kinds[region]]} after, where {found}"
+    return "stale", f" before; the word {'still is' if x == y else 'is'} {y}, {where}"
+
+
+def stray_name(before, word):
+    """The name of a word that references no object after: that of the object which was there before, if one was."""
+    return f"b{word - 1}" if word - 1 in set(before.objects()) else f"x{word}"
+
+
+def walked(before, after, more=(), called=None):
+    """Both heaps walked at once from their roots, and from words that are to agree too: the lines of what differs, and
+    the pairs of objects. The walk goes on behind objects whose data alone differ."""
+    lines, forth, back, starts = [], {}, {}, set(after.objects())
+    names = called or (str, str)
     if len(before.roots) != len(after.roots):
-        return f"differ roots: {len(before.roots)} before, {len(after.roots)} after\n"
+        lines.append(f"differ roots: {len(before.roots)} before, {len(after.roots)} after\n")
     queue = [(f"root {i}", x, y) for i, (x, y) in enumerate(zip(before.roots, after.roots))] + list(more)
-    forth, back = {}, {}
     for path, x, y in queue:
-        how = tells(before, after, x, y, forth, back)
-        if how is not None:
-            old, new = (f"object {word - 1}" if word != NULL else "null" for word in (x, y))
-            return f"differ {how[0]} at {path}: {old} before, {new} after{how[1]}\n"
-        if x != NULL and x - 1 not in forth:
+        old, new = (f"object {name(word - 1)}" if word != NULL else "null" for name, word in zip(names, (x, y)))
+        how = None
+        if y != NULL and y - 1 not in starts:
+            how, detail = stale_detail(before, after, x, y, called is not None)
+            lines.append(f"differ {how} at {path}: {old}{detail}\n")
+        elif tells(before, after, x, y, forth, back, names):
+            how, detail = tells(before, after, x, y, forth, back, names)
+            lines.append(f"differ {how} at {path}: {old} before, {new} after{detail}\n")
+        if x != NULL and x - 1 not in forth and how in (None, "data"):
             forth[x - 1], back[y - 1] = y - 1, x - 1
             queue += [(f"{path} slot {i}", before.words[p], after.words[q])
                       for i, (p, q) in enumerate(zip(before.slots(x - 1), after.slots(y - 1)))]
-    return f"same objects {len(forth)} words {sum(before.size(a) for a in forth)}\n"
+    return lines, forth
+
+
+def judged(before, after, more=(), called=None):
+    """The line of `same`."""
+    lines, forth = walked(before, after, more, called)
+    return lines[0] if lines else f"same objects {len(forth)} words {sum(before.size(a) for a in forth)}\n"
+
+
+def judged_all(before, after, most):
+    """The lines of `same --all`, where something differs."""
+    lines, _ = walked(before, after)
+    kinds = [line.split()[1].rstrip(":") for line in lines]
+    counts = "".join(f" {kind} {kinds.count(kind)}" for kind in DIFFERENCES if kind in kinds)
+    return "".join(lines[:most]) + f"differences {len(lines)}:{counts}\n"
+
+
+def graph_lines(rng, image, letter, stray):
+    """The objects by name, in a random order: a letter and the address. `stray` names a word that references no object."""
+    starts = set(image.objects())
+
+    def name(word):
+        return "-" if word == NULL else f"{letter}{word - 1}" if word - 1 in starts else stray(word)
+
+    lines = []
+    for address in starts:
+        slots = image.slots(address)
+        content = [name(image.words[slot]) for slot in slots] + [str(image.words[place]) for place in image.content(address)]
+        lines.append(" ".join(["object", name(address + 1), f"{image.size(address)}/{len(slots)}", *content]))
+    rng.shuffle(lines)
+    for word in reversed(image.roots):  # the roots keep their order
+        lines.insert(0, f"root {name(word)}")
+    return "\n".join(["graph", *lines, ""])
 
 
 def region_line(before, after, chosen):
@@ -80,6 +143,26 @@ def region_line(before, after, chosen):
             how = "before and not after" if before.pinned[region] else "after and not before"
             return f"differ region {region}: outside the set, pinned {how}\n"
     return None
+
+
+def stray(image):
+    """The first root, else the lowest slot, that references no object, as a fault has it. None where there is none."""
+    starts = {NULL, *(address + 1 for address in image.objects())}
+    for number, word in enumerate(image.roots):
+        if word not in starts:
+            return f"root {number}"
+    slots = (slot for address in image.objects() for slot in image.slots(address))
+    return next((f"slot {slot}" for slot in slots if image.words[slot] not in starts), None)
+
+
+def make_stale(rng, before, after):
+    """Gives one to three roots and slots a word that references no object: mostly one of an object before."""
+    starts = set(after.objects())
+    words = [a + 1 for a in before.objects() if a not in starts] or [len(after.words) + 1]
+    holders = [(after.roots, i) for i in range(len(after.roots))]
+    holders += [(after.words, slot) for address in starts for slot in after.slots(address)]
+    for words_of, place in rng.sample(holders, min(len(holders), rng.randint(1, 3))):
+        words_of[place] = rng.choice(words) if rng.random() < 0.9 else len(after.words) + rng.randint(1, 9)
 
 
 def uncovered(image):
@@ -109,6 +192,7 @@ def add_twin(rng, image, chosen):
 class Judge:
     def __init__(self, options, folder):
         self.options, self.folder = options, folder
+        self.rng = random.Random(options.seed + 1)
         self.passed = self.failed = 0
         self.counts = collections.Counter({error: 0 for error in ERRORS + MORE_ERRORS})
 
@@ -150,7 +234,11 @@ class Judge:
             self.paused(f"{name}: g1pause", before, chosen, expected)
         planter = Planter(before, opponent, after, rng)
         for error in ERRORS + MORE_ERRORS:
-            self.planted(f"{name}: {error}", error, before, getattr(planter, error)(), chosen)
+            image = getattr(planter, error)()
+            self.planted(f"{name}: {error}", error, before, image, chosen)
+            if image is not None and rng.random() < 0.25:
+                make_stale(rng, before, image)
+                self.planted(f"{name}: stale words beside {error}", "stale words beside another error", before, image, chosen)
         return True
 
     def paused(self, name, before, chosen, expected):
@@ -168,16 +256,45 @@ class Judge:
         if after is None:
             return
         self.counts[error] += 1
-        status, out, err = self.same(after)
-        if error == "slot_not_updated":
-            self.judge(name, status == 3 and err.startswith("g1heap: after: fault 7: reference in slot"))
+        expected, fault = judged(before, after), stray(after)
+        if expected[:4] != "same":
+            most = self.rng.randint(1, 4)
+            wanted = 1, judged_all(before, after, most), ""
+            self.judge(f"{name}, all: {wanted}", self.same(after, "--all", str(most)) == wanted)
+            self.counts[f"{error}, and --all counts it"] += 1
+        if self.rng.random() < 0.3:
+            self.graphs(name, before, after, fault)
+        if fault is not None:
+            self.stale(name, error, after, fault, expected)
             return
-        expected = judged(before, after)
+        status, out, err = self.same(after)
         self.judge(f"{name}: {expected}", (status, out, err) == (int(expected[:4] != "same"), expected, ""))
         self.counts[f"{error}, and a root leads to it"] += expected[:4] != "same"
         self.with_set(name, error, before, after, chosen, expected)
         if expected[:4] == "same":
             self.with_cover(name, error, after, expected)
+
+    def graphs(self, name, before, after, fault):
+        """The same heaps as lines of objects by name."""
+        for file, image, letter in (("before.txt", before, "b"), ("after.txt", after, "a")):
+            (self.folder / file).write_text(graph_lines(self.rng, image, letter, lambda word: stray_name(before, word)))
+        command = [self.options.g1heap, "same", "before.txt", "after.txt"]
+        done = subprocess.run(command, cwd=self.folder, capture_output=True, text=True, timeout=60)
+        expected = judged(before, after, (), ("b{}".format, "a{}".format))
+        if fault is not None and expected[:4] == "same":
+            good = done.returncode == 3 and not done.stdout and "expected '-' or the name of an object" in done.stderr
+        else:
+            good = (done.returncode, done.stdout, done.stderr) == (int(expected[:4] != "same"), expected, "")
+        self.counts["heaps as lines by name"] += 1
+        self.judge(f"{name}, by name: {expected}", good)
+
+    def stale(self, name, error, after, fault, expected):
+        """A word that references no object is reported where a root leads to it, and else the fault of the file."""
+        refused = (3, "", f"g1heap: after: fault 7: reference in {fault}\n")
+        wanted = refused if expected[:4] == "same" else (1, expected, "")
+        self.judge(f"{name}: {wanted}", self.same(after) == wanted)
+        self.counts[f"{error}, and a root leads to it"] += expected[:4] != "same"
+        self.counts[f"{error}, reported as stale"] += expected.startswith("differ stale")
 
     def with_set(self, name, error, before, after, chosen, expected):
         status, out, err = self.same(after, "--set", *(str(r) for r in chosen))

@@ -76,6 +76,19 @@ class Planter:
         holder = self.pick(h for h in self.named_copies() if h[0] == "slot")
         return holder and self.planted(holder, self.origins[self.word(self.after, holder)])
 
+    def root_not_updated(self):
+        """A root still references the place that its object had before."""
+        holder = self.pick(h for h in self.named_copies() if h[0] == "root")
+        return holder and self.planted(holder, self.origins[self.word(self.after, holder)])
+
+    def stray_word(self):
+        """A slot that was null or referenced a copy has a word between two objects, or one outside the heap."""
+        starts = set(self.objects)
+        words = [w for w in range(1, len(self.after.words) + 9) if w - 1 not in starts]
+        slots = [("slot", s) for a in self.objects for s in self.after.slots(a)]
+        holder = self.pick(h for h in slots if self.word(self.after, h) in (NULL, *self.origins))
+        return holder and self.planted(holder, self.rng.choice(words + [2**64 - 1]))
+
     def slot_to_a_wrong_copy(self):
         """A slot names the copy of another object."""
         holder = self.pick(h for h in self.named_copies() if h[0] == "slot")
@@ -161,7 +174,8 @@ class Planter:
         return image
 
 
-ERRORS = ("copied_twice", "slot_not_updated", "slot_to_a_wrong_copy", "data_torn", "lost_root", "root_left_out")
+ERRORS = ("copied_twice", "slot_not_updated", "slot_to_a_wrong_copy", "data_torn", "lost_root", "root_left_out",
+          "root_not_updated", "stray_word")
 # Those that `same` finds with --covered or --set alone.
 MORE_ERRORS = ("card_lost", "region_not_freed", "pin_lost", "pin_new", "equal_object_in_use")
 

@@ -122,6 +122,33 @@ def shortened(lines):
     return re.sub(rb"( roots| top).*", b"", kept).replace(b"\n", b"\ncovered\n", 1)
 
 
+NAMES = """root 1 main.table
+type Table slots first rest[] data count
+label 8 Name
+object 16 Table
+object 21 Name here
+"""
+GRAPH = b"graph\nroot a\nroot b\nobject a 2/0 8\nobject b 5/3 a a a 1\n"
+
+
+def differing(sweep, room, binary, path):
+    """Heaps that differ, words that reference no object, young regions, and lines of objects by name."""
+    data, names, graph = path.read_bytes(), room / "names", room / "graph.txt"
+    names.write_text(NAMES)
+    graph.write_bytes(GRAPH)
+    torn, stale = data[:-1] + b"\1", data[:80] + b"\x63" + data[81:]  # the last data word, and the first root
+    for words, source in (
+        (["same", path, "-", "--names", names, "--all", "2"], torn),
+        (["same", path, "-", "--all", "2"], stale),
+        (["same", path, "-", "--covered", "--young", "1"], data),
+        (["same", graph, "-"], data),
+        (["same", graph, "-"], GRAPH.replace(b"a a a", b"a c a")),
+        (["make"], GRAPH),
+    ):
+        words = [str(word) for word in words]
+        sweep.sweep(f"{path.name}: {' '.join(words)}", [binary, *words], source)
+
+
 def main():
     parser = argparse.ArgumentParser(description=__doc__, formatter_class=argparse.RawDescriptionHelpFormatter)
     add_program(parser, "g1heap")
@@ -138,6 +165,7 @@ def main():
         gap = (examples / "gap.img").read_bytes()
         sweep_files(sweep, folder, binary, gap, run([binary, "print"], gap)[0])
         sweep_traces(sweep, folder, binary)
+        differing(sweep, pathlib.Path(room), binary, examples / "shared_targets.img")
         for image in options.images or sorted(examples.glob("*.img")):
             data, path = image.read_bytes(), str(image.resolve())
             lines = run([binary, "print", "-"], data)[0]

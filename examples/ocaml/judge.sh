@@ -25,21 +25,22 @@ cp "$here/walk_stubs.c" "$here/judge.ml" "$room"
 cd "$room"
 ocamlopt -ccopt -O2 -o judge walk_stubs.c judge.ml
 ./judge "$depth"
-for name in before minor major compact changed; do
-    g1heap make < "$name.txt" > "$name.img"
-done
 
-# The walk writes the objects in the same order each time, so line N of both lists is the same object.
+# The walk writes the objects in the same order each time, so line N of both files is the same object. Its name is its
+# address.
 moved() {
-    paste -d ' ' before.txt.addresses "$1.txt.addresses" | awk '$2 != $4' | wc -l
+    paste -d ' ' before.names "$1.names" | awk '$1 != $2' | wc -l
 }
+for name in before minor major compact changed; do
+    awk '$1 == "object" { print $2 }' "$name.txt" > "$name.names"
+done
 
 status=0
 for name in minor major compact; do
-    verdict=$(g1heap same before.img "$name.img") || status=1
+    verdict=$(g1heap same before.txt "$name.txt") || status=1
     echo "$name: $(moved "$name") objects moved: $verdict"
 done
-if verdict=$(g1heap same before.img changed.img); then
+if verdict=$(g1heap same before.txt changed.txt); then
     status=1
 fi
 echo "changed: $verdict"

@@ -1,6 +1,6 @@
-/* g1_walk(path, value) writes what an OCaml value references, as lines for `g1heap make`, and returns how many objects it
- * has. It allocates nothing in OCaml's heap, so no object moves while it walks. PATH.addresses gets a line for each object:
- * its address in the image, and its address in the process.
+/* g1_walk(path, value) writes what an OCaml value references, as lines of objects by name for `g1heap same`, and returns how
+ * many objects it has. The name of an object is its address. It allocates nothing in OCaml's heap, so no object moves
+ * while it walks.
  *
  * A field of OCaml is an immediate or a pointer, and only its lowest bit says which. So each field is written twice: as a
  * slot, which is null for an immediate, and as a data word, which is 0 for a pointer. The header's tag is a data word, too.
@@ -13,8 +13,6 @@
 #include <stdio.h>
 #include <stdlib.h>
 #include <string.h>
-
-enum { REGION_WORDS = 65536 };
 
 /* The objects in the order in which they were found, and a table of their numbers by address (number + 1; 0 is empty). */
 struct found {
@@ -47,15 +45,14 @@ static void grow(struct found *found) {
     for (size_t i = 0; i < found->count; i++) found->table[entry_of(found, found->objects[i])] = i + 1;
 }
 
-/* The number of an object, which is added if it is new. */
-static size_t number_of(struct found *found, value object) {
+/* Adds an object if it is new. */
+static void add(struct found *found, value object) {
     if (found->count == found->room) grow(found);
     size_t at = entry_of(found, object);
     if (!found->table[at]) {
         found->objects[found->count++] = object;
         found->table[at] = found->count;
     }
-    return found->table[at] - 1;
 }
 
 /* The block that a pointer leads into: a closure may be referenced at one of its later functions. */
@@ -85,37 +82,19 @@ static size_t words_of(value object) {
     return 1 + slots_of(object) + 1 + Wosize_val(object);
 }
 
-static int is_humongous(size_t words) {
-    return 4 * words > 3 * (size_t)REGION_WORDS;
-}
-
 static void find_all(struct found *found, value root) {
-    number_of(found, block_of(root));
+    add(found, block_of(root));
     for (size_t i = 0; i < found->count; i++) {
         value object = found->objects[i];
         for (mlsize_t field = 0; field < slots_of(object); field++)
-            if (is_pointer(object, field)) number_of(found, block_of(Field(object, field)));
+            if (is_pointer(object, field)) add(found, block_of(Field(object, field)));
     }
 }
 
-/* The address of each object: end to end, in the next region if it does not fit, a humongous one in regions of its own. */
-static size_t *places_of(const struct found *found, size_t *regions) {
-    size_t *places = checked(malloc(found->count * sizeof *places)), at = 0;
-    for (size_t i = 0; i < found->count; i++) {
-        size_t words = words_of(found->objects[i]), left = REGION_WORDS - at % REGION_WORDS;
-        if (is_humongous(words) || words > left) at += left % REGION_WORDS;
-        places[i] = at;
-        at += words;
-        if (is_humongous(words)) at += (REGION_WORDS - at % REGION_WORDS) % REGION_WORDS;
-    }
-    *regions = (at + REGION_WORDS - 1) / REGION_WORDS;
-    return places;
-}
-
-static void write_object(FILE *lines, struct found *found, const size_t *places, value object) {
-    fprintf(lines, "object %zu/%zu", words_of(object), (size_t)slots_of(object));
+static void write_object(FILE *lines, value object) {
+    fprintf(lines, "object %zu %zu/%zu", (size_t)object, words_of(object), (size_t)slots_of(object));
     for (mlsize_t field = 0; field < slots_of(object); field++) {
-        if (is_pointer(object, field)) fprintf(lines, " %zu", places[number_of(found, block_of(Field(object, field)))]);
+        if (is_pointer(object, field)) fprintf(lines, " %zu", (size_t)block_of(Field(object, field)));
         else fputs(" -", lines);
     }
     fprintf(lines, " %d", Tag_val(object));
@@ -124,35 +103,18 @@ static void write_object(FILE *lines, struct found *found, const size_t *places,
     fputc('\n', lines);
 }
 
-static void write_all(FILE *lines, FILE *addresses, struct found *found) {
-    size_t regions, *places = places_of(found, &regions), region = (size_t)-1;
-    fprintf(lines, "heap %d 64 %zu\nroot %zu\ncovered\n", REGION_WORDS, regions, places[0]);
-    for (size_t i = 0; i < found->count; i++) {
-        value object = found->objects[i];
-        if (places[i] / REGION_WORDS != region) {
-            region = places[i] / REGION_WORDS;
-            fprintf(lines, "region %zu %s\n", region, is_humongous(words_of(object)) ? "humongous" : "ordinary");
-        }
-        write_object(lines, found, places, object);
-        fprintf(addresses, "%zu %p\n", places[i], (void *)object);
-    }
-    free(places);
-}
-
-static FILE *opened(const char *path, const char *ending) {
-    char name[4096];
-    snprintf(name, sizeof name, "%s%s", path, ending);
-    FILE *file = fopen(name, "w");
-    if (!file) caml_failwith("g1_walk: cannot write the file");
-    return file;
+static void write_all(FILE *lines, const struct found *found) {
+    fprintf(lines, "graph\nroot %zu\n", (size_t)found->objects[0]);
+    for (size_t i = 0; i < found->count; i++) write_object(lines, found->objects[i]);
 }
 
 CAMLprim value g1_walk(value path, value root) {
     struct found found = {0};
-    FILE *lines = opened(String_val(path), ""), *addresses = opened(String_val(path), ".addresses");
+    FILE *lines = fopen(String_val(path), "w");
+    if (!lines) caml_failwith("g1_walk: cannot write the file");
     find_all(&found, root);
-    write_all(lines, addresses, &found);
-    int failed = fclose(lines) | fclose(addresses);
+    write_all(lines, &found);
+    int failed = fclose(lines);
     size_t count = found.count;
     free(found.objects);
     free(found.table);

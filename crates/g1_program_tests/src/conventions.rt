@@ -364,6 +364,8 @@ fn a_terminal_is_told_what_is_waited_for(rt: HostRuntime) -> Result<(), Fail> {
     let bytes =
         "g1heap: an image is not written to a terminal: name a file, as in '-o FILE', or write '-o -'\n";
     let missing = "g1heap: no/such: can't be opened\n";
+    let names =
+        "g1heap: waiting for lines of names on standard input, which Ctrl-D ends\ng1heap: no/such: can't be opened\n";
     let print = Run::on_screen("print", &image);
     expect(&rt, alloc, print, (0, picture, waits))?;
     let make = Run::on_screen("make -o -", lines);
@@ -372,6 +374,7 @@ fn a_terminal_is_told_what_is_waited_for(rt: HostRuntime) -> Result<(), Fail> {
         ("print no/such", 7, missing),
         ("make", 2, bytes),
         ("make -o /dev/null", 0, types),
+        ("same no/such no/such --names -", 7, names),
     ] {
         expect(
             &rt,

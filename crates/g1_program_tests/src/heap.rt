@@ -187,7 +187,10 @@ fn asked(alloc: Global, set: &[u32]) -> Result<Same, AllocError> {
         before: String::from_str(alloc, "before")?,
         after: String::from_str(alloc, "after")?,
         covered: false,
+        young: Vec::new(alloc),
         set: Vec::from_slice(alloc, set)?,
+        names: None,
+        all: None,
     })
 }
 
@@ -403,12 +406,12 @@ fn a_wrong_set_is_of_the_file_before(rt: HostRuntime) -> Result<(), Fail> {
     let alloc = rt.alloc();
     let (old, new) = (image_of(alloc, PAIR)?, image_of(alloc, PAIR_MOVED)?);
     let mut errors = Vec::new(alloc);
-    let status = match compare_images(alloc, &asked(alloc, &[2])?, &old, &new) {
+    let status = match compare_images(alloc, &asked(alloc, &[4])?, &old, &new) {
         Ok(_) => 0,
         Err(refusal) => refuse("g1heap", &refusal, &mut errors),
     };
     let found = (status, b"".as_slice(), errors.as_slice());
-    let told = b"g1heap: before: fault 10: set region 2\n".as_slice();
+    let told = b"g1heap: before: fault 10: set region 4\n".as_slice();
     expect_told(&rt, "same", b"", found, (5, b"", told));
     Ok(())
 }

@@ -11,6 +11,10 @@
 //! - `heap`: what g1heap answers.
 //! - `lines`: what g1heap makes of lines.
 //! - `explain`: what g1heap explains.
+//! - `naming`: what g1heap answers in the names of a program, and what it answers if much differs.
+//! - `stale`: what g1heap answers if words after a pause reference no object.
+//! - `young`: young regions, and sets with free regions.
+//! - `graphs`: lines of objects by name.
 //! - `limits`: numbers of the command line at the ends of their ranges, and a total beyond 64 bits.
 //! - `sizes`: images at their limits, and with more of one thing than 16 bits count.
 //! - `conventions`: where g1heap writes, what it says to a person at a terminal, and where options may be.
@@ -26,6 +30,8 @@ mod conventions;
 #[cfg(test)]
 mod explain;
 #[cfg(test)]
+mod graphs;
+#[cfg(test)]
 mod heap;
 #[cfg(test)]
 mod images;
@@ -35,14 +41,20 @@ mod limits;
 mod lines;
 mod live;
 #[cfg(test)]
+mod naming;
+#[cfg(test)]
 mod pause;
 #[cfg(test)]
 mod pins;
 #[cfg(test)]
 mod sizes;
 #[cfg(test)]
+mod stale;
+#[cfg(test)]
 mod told;
 #[cfg(test)]
 mod traces;
 #[cfg(test)]
 mod words;
+#[cfg(test)]
+mod young;

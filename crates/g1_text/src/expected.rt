@@ -40,6 +40,17 @@ pub enum Expected {
     Dirty,
     Cards,
     NoCards,
+    Graph,
+    GraphLine,
+    /// A name of an object.
+    Name,
+    NewName,
+    NamedRoot,
+    /// A slot, counted from 0, that is null or has an object's name.
+    NamedSlot(u64),
+    /// At least this many regions.
+    Regions(u64),
+    Smaller,
 }
 
 impl Expected {
@@ -63,6 +74,12 @@ impl Expected {
             Expected::Dirty => "cards of regions in use, each once",
             Expected::Cards => "rising cards of other regions in use",
             Expected::NoCards => "no remembered cards beside 'covered'",
+            Expected::Graph => "'graph' or 'graph W K N' before all other lines",
+            Expected::GraphLine => "'root' or 'object'",
+            Expected::Name => "a name, which is neither '-' nor '..'",
+            Expected::NewName => "a name that no object above has",
+            Expected::NamedRoot => "'-' or the name of an object",
+            Expected::Smaller => "objects that fit into a heap of 16777216 words",
             _ => "",
         }
     }
@@ -78,6 +95,10 @@ impl fmt::Display for Expected {
             Expected::Slot(slot) => {
                 write_around(f, "'-' or the address of an object in slot ", *slot, "")
             }
+            Expected::NamedSlot(slot) => {
+                write_around(f, "'-' or the name of an object in slot ", *slot, "")
+            }
+            Expected::Regions(least) => write_around(f, "at least ", *least, " regions"),
             Expected::Region(first, last) => write!(f, "a region from {first} to {last}"),
             Expected::AtMost(most) => write_around(f, "an object of at most ", *most, " words"),
             Expected::AtLeast(least) => write_around(f, "an object of at least ", *least, " words"),

@@ -6,6 +6,7 @@
 //! 2. `make` reads lines and gives the image's bytes. Each line's numbers are compared with what
 //!    follows from the lines above it, so whatever follows may be left out: addresses, tops, counts,
 //!    free and continuation regions, and, by the word `covered`, remembered sets.
+//!    `make_graph` reads lines of objects by name, and finds a place for each.
 //! 3. What was read is written as bytes, and `decode` judges these: `make` has no rules of its own for
 //!    references and cards. A fault of `decode` is reported for the line that it comes from.
 #![tactic(auto)]
@@ -15,7 +16,9 @@ mod draft;
 mod expected;
 pub mod laws;
 mod making;
+mod named;
 mod packing;
+mod placing;
 mod printing;
 mod reading;
 mod settling;
@@ -23,4 +26,5 @@ mod words;
 
 pub use expected::{Expected, Wrong};
 pub use making::make;
+pub use named::{Graph, is_graph, make_graph, read_graph};
 pub use printing::{image_lines, object_line, push_heading, push_region_line, region_lines};

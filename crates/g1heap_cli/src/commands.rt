@@ -1,24 +1,31 @@
 //! What the program does with a request.
-use crate::comparing::{difference_line, same_line};
+use crate::comparing::{Sides, difference_line, same_line, stale_line};
 use crate::explaining::{explain_object, explain_pause};
-use crate::files::{read_bytes, read_image};
+use crate::files::{read_bytes, read_image, read_side};
+use crate::listing::all_lines;
+use crate::names::{Names, Wrong as WrongName};
 use crate::options::{NAME, Part, Request, Same, parse};
 use crate::output::{Output, write_file};
-use crate::refusal::{no_object, no_region, of_file, wrong_line};
+use crate::reaching::{Path, first_stale};
+use crate::refusal::{no_object, no_region, not_for_lines, of_file, wrong_name};
+use crate::sides::{Side, Strays, open, refuse_lines, without_strays};
+use crate::stale::Stale;
 use crate::summary::summary;
 use crate::terminals::{Terminals, allow, announce};
 use crate::tracing::answer_trace;
+use crate::young::with_dirty;
 use g1_choose::given;
 use g1_command::{Refusal, deliver, deliver_text, refuse};
 use g1_image::Image;
 use g1_kept::{Lost, kept};
 use g1_rem::verify;
 use g1_same::{Difference, Renaming, compare};
-use g1_text::{Wrong, image_lines, make, object_line, region_lines};
-use g1_words::{Fault, Heap, object_at};
-use std::alloc::Global;
+use g1_text::{image_lines, is_graph, make, make_graph, object_line, region_lines};
+use g1_words::{Fault, Heap, Kind, object_at};
+use std::alloc::{AllocError, Global};
 use std::io::{Read, Write};
 use std::rt::Files;
+use std::str;
 use std::thread::Threads;
 
 /// Runs the program on the words after its name, and gives its exit status: 0, 1 if two heaps
@@ -141,49 +148,177 @@ fn same_answer<T: Threads + Sync + Files, R: Read>(
     same: &Same,
     reader: &mut R,
 ) -> Result<(u8, String), Refusal> {
-    let before = read_image(rt, alloc, same.before.as_str(), reader)?;
-    same_after(rt, alloc, same, &before, reader)
+    let (found, lines) = read_side(rt, alloc, same.before.as_str(), reader)?;
+    let before = open(alloc, same.before.as_str(), found, lines.as_slice())?;
+    let before = without_strays(alloc, same.before.as_str(), before)?;
+    let (found, lines) = read_side(rt, alloc, same.after.as_str(), reader)?;
+    let after = open(alloc, same.after.as_str(), found, lines.as_slice())?;
+    check_asked(alloc, same, &before, &after)?;
+    match &same.names {
+        None => same_sides(rt, alloc, same, None, &before, after),
+        Some(name) => {
+            let text = read_bytes(rt, alloc, name.as_str(), reader)?;
+            let names = names_in(alloc, name.as_str(), text.as_slice())?;
+            same_sides(rt, alloc, same, Some(&names), &before, after)
+        }
+    }
 }
 
-fn same_after<T: Threads + Sync + Files, R: Read>(
+// Lines of objects by name have no regions of the program's own, and no addresses.
+fn check_asked(
+    alloc: Global,
+    same: &Same,
+    before: &Side<'_>,
+    after: &Side<'_>,
+) -> Result<(), Refusal> {
+    if before.labels.is_some() && same.names.is_some() {
+        return Err(not_for_lines(alloc, same.before.as_str(), "--names"));
+    }
+    if before.labels.is_some() && !same.set.is_empty() {
+        return Err(not_for_lines(alloc, same.before.as_str(), "--set"));
+    }
+    if after.labels.is_some() && (same.covered || !same.set.is_empty()) {
+        let option = if same.covered { "--covered" } else { "--set" };
+        return Err(not_for_lines(alloc, same.after.as_str(), option));
+    }
+    Ok(())
+}
+
+fn names_in<'a>(alloc: Global, name: &str, text: &'a [u8]) -> Result<Names<'a>, Refusal> {
+    let Ok(text) = str::from_utf8(text) else {
+        return Err(wrong_name(alloc, name, 1, "text in UTF-8"));
+    };
+    match Names::read(alloc, text) {
+        Ok(names) => Ok(names),
+        Err(WrongName::Line(number, expected)) => Err(wrong_name(alloc, name, number, expected)),
+        Err(WrongName::Memory) => Err(Fault::Memory.into()),
+    }
+}
+
+fn same_sides<T: Threads + Sync>(
     rt: &T,
     alloc: Global,
     same: &Same,
-    before: &Image,
-    reader: &mut R,
+    names: Option<&Names<'_>>,
+    before: &Side<'_>,
+    after: Side<'_>,
 ) -> Result<(u8, String), Refusal> {
-    let after = read_image(rt, alloc, same.after.as_str(), reader)?;
-    same_images(rt, alloc, same, before, after)
-}
-
-// An image that shows the same is asked for cover last.
-fn same_images<T: Threads + Sync>(
-    rt: &T,
-    alloc: Global,
-    same: &Same,
-    before: &Image,
-    after: Image,
-) -> Result<(u8, String), Refusal> {
-    let (status, text) = compare_images(alloc, same, before, &after)?;
+    let (status, text) = compare_sides(alloc, same, names, before, &after)?;
     if status == 0 && same.covered {
-        with_cover(alloc, same, text, uncovered(rt, alloc, after))
+        let Side { image, .. } = after;
+        let image = with_young(alloc, same, image)?;
+        with_cover(alloc, same, text, uncovered(rt, alloc, image))
     } else {
         Ok((status, text))
     }
 }
 
-/// The status and the line for two images.
-pub fn compare_images(
+fn compare_sides<'x>(
     alloc: Global,
     same: &Same,
-    before: &Image,
-    after: &Image,
+    names: Option<&'x Names<'x>>,
+    before: &'x Side<'x>,
+    after: &'x Side<'x>,
 ) -> Result<(u8, String), Refusal> {
-    let (old, new) = (before.heap(), after.heap());
-    match &compare(alloc, old, new) {
-        Ok(Ok(renaming)) => same_text(alloc, same, old, new, renaming),
-        Ok(Err(difference)) => differ_text(alloc, old, new, difference),
+    let labels = [labels_of(before), labels_of(after)];
+    let stale_names = stale_names_of(after);
+    let sides = Sides {
+        before: before.image.heap(),
+        after: after.image.heap(),
+        names,
+        labels,
+        stale_names,
+    };
+    match &after.stale {
+        None => compare_heaps(alloc, same, sides),
+        Some(strays) => compare_stale(alloc, same, sides, strays),
+    }
+}
+
+fn stale_names_of<'a>(side: &'a Side<'_>) -> Option<&'a [&'a str]> {
+    match &side.stale {
+        Some(strays) => Some(strays.names.as_slice()),
+        None => None,
+    }
+}
+
+fn labels_of<'a>(side: &'a Side<'_>) -> Option<&'a [(u64, &'a str)]> {
+    match &side.labels {
+        Some(labels) => Some(labels.as_slice()),
+        None => None,
+    }
+}
+
+/// The status and the line for two images.
+pub fn compare_images<'x>(
+    alloc: Global,
+    same: &Same,
+    before: &'x Image,
+    after: &'x Image,
+) -> Result<(u8, String), Refusal> {
+    let sides = Sides {
+        before: before.heap(),
+        after: after.heap(),
+        names: None,
+        labels: [None, None],
+        stale_names: None,
+    };
+    compare_heaps(alloc, same, sides)
+}
+
+fn compare_heaps(alloc: Global, same: &Same, sides: Sides<'_>) -> Result<(u8, String), Refusal> {
+    match &compare(alloc, sides.before, sides.after) {
+        Ok(Ok(renaming)) => same_text(alloc, same, sides.before, sides.after, renaming),
+        Ok(Err(difference)) => {
+            let line = difference_line(alloc, sides, difference)?;
+            Ok((1, with_all(alloc, same, sides, None, line)?))
+        }
         Err(fault) => Err(Refusal::Fault(*fault)),
+    }
+}
+
+// The first difference, of those between the graphs and the first stale word that the roots reach. If there is none,
+// the file after is refused for its fault.
+fn compare_stale(
+    alloc: Global,
+    same: &Same,
+    sides: Sides<'_>,
+    strays: &Strays<'_>,
+) -> Result<(u8, String), Refusal> {
+    let stale = &strays.words;
+    let first = first_stale(alloc, sides.after, stale)?;
+    let line = match (&compare(alloc, sides.before, sides.after), &first) {
+        (Err(fault), _) => return Err(Refusal::Fault(*fault)),
+        (Ok(Err(difference)), None) => difference_line(alloc, sides, difference)?,
+        (Ok(Err(difference)), Some((path, _))) if !comes_first(path, difference) => {
+            difference_line(alloc, sides, difference)?
+        }
+        (Ok(_), Some((path, word))) => stale_line(alloc, sides, path, *word)?,
+        (Ok(Ok(_)), None) => {
+            return Err(refuse_lines(alloc, same.after.as_str(), &[], strays.wrong));
+        }
+    };
+    Ok((1, with_all(alloc, same, sides, Some(stale), line)?))
+}
+
+fn comes_first(path: &Path, difference: &Difference) -> bool {
+    match difference {
+        Difference::Roots { .. } => false,
+        Difference::At { root, slots, .. } => path.is_at_most(*root, slots.as_slice()),
+    }
+}
+
+// The line of the first difference, and those of others and their numbers, if that is asked.
+fn with_all(
+    alloc: Global,
+    same: &Same,
+    sides: Sides<'_>,
+    stale: Option<&Stale>,
+    line: String,
+) -> Result<String, AllocError> {
+    match same.all {
+        Some(most) => all_lines(alloc, sides, stale, most, line),
+        None => Ok(line),
     }
 }
 
@@ -197,15 +332,6 @@ fn same_text(
     let mut text = same_line(alloc, old, renaming)?;
     let status = push_kept(alloc, same, old, new, &mut text)?;
     Ok((status, text))
-}
-
-fn differ_text(
-    alloc: Global,
-    old: &Heap,
-    new: &Heap,
-    difference: &Difference,
-) -> Result<(u8, String), Refusal> {
-    Ok((1, difference_line(alloc, old, new, difference)?))
 }
 
 // What a pause of the set keeps, if a set is given. If something is lost, only that is reported.
@@ -232,10 +358,37 @@ fn push_kept(
     }
 }
 
+// The image that is asked for cover: the cards of young regions count as dirty.
+fn with_young(alloc: Global, same: &Same, after: Image) -> Result<Image, Refusal> {
+    if same.young.is_empty() {
+        return Ok(after);
+    }
+    let regions = after.heap().geometry().regions();
+    for region in &same.young {
+        if u64::from(*region) >= regions {
+            return Err(no_region(alloc, same.after.as_str(), *region, regions));
+        }
+    }
+    Ok(with_dirty(alloc, &after, same.young.as_slice())?)
+}
+
+// The regions of the set that are not free in the heap before.
+fn used(alloc: Global, old: &Heap, set: &[u32]) -> Result<Vec<u32>, AllocError> {
+    let mut used = Vec::new(alloc);
+    for region in set {
+        match old.regions().get(*region as usize) {
+            Some(found) if found.kind == Kind::Free => (),
+            _ => used.push(*region)?,
+        }
+    }
+    Ok(used)
+}
+
 // The first thing that a pause of the set would have kept. The regions of the set are looked for in the
 // heap before.
 fn lost(alloc: Global, same: &Same, old: &Heap, new: &Heap) -> Result<Option<Lost>, Refusal> {
-    let set = match given(alloc, old, same.set.as_slice()) {
+    let set = used(alloc, old, same.set.as_slice())?;
+    let set = match given(alloc, old, set.as_slice()) {
         Ok(set) => set,
         Err(fault) => return Err(of_file(alloc, same.before.as_str(), fault)),
     };
@@ -308,12 +461,15 @@ fn make_from<T: Files, R: Read>(
     make_image(alloc, name, lines.as_slice())
 }
 
+// Lines of objects by name begin with another word.
 fn make_image(alloc: Global, name: &str, lines: &[u8]) -> Result<Vec<u8>, Refusal> {
-    match make(alloc, lines) {
+    let made = if is_graph(lines) {
+        make_graph(alloc, lines)
+    } else {
+        make(alloc, lines)
+    };
+    match made {
         Ok(bytes) => Ok(bytes),
-        Err(Wrong::Line { number, expected }) => Err(wrong_line(
-            alloc, name, lines, number, &expected,
-        )),
-        Err(Wrong::Fault(fault)) => Err(of_file(alloc, name, fault)),
+        Err(wrong) => Err(refuse_lines(alloc, name, lines, wrong)),
     }
 }

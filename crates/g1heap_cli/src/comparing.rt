@@ -1,7 +1,23 @@
 //! What two heaps show, in one line.
+use crate::names::Names;
+use crate::naming::{push_named_data, push_named_object, push_named_path};
+use crate::reaching::Path;
 use g1_same::{Difference, How, Renaming};
-use g1_words::{Heap, Object, header};
+use g1_words::{Heap, Object, header, object_at, region_of};
 use std::alloc::{AllocError, Global};
+
+/// Two heaps that are compared, and what is known of them.
+#[derive(Clone, Copy)]
+pub struct Sides<'a> {
+    pub before: &'a Heap,
+    pub after: &'a Heap,
+    /// What the program calls the words of the first one.
+    pub names: Option<&'a Names<'a>>,
+    /// The names of the objects of each, if they have names in place of addresses.
+    pub labels: [Option<&'a [(u64, &'a str)]>; 2],
+    /// The names that stale words of the second stand for, then.
+    pub stale_names: Option<&'a [&'a str]>,
+}
 
 /// The line that says how much is reached if two heaps show the same graph.
 pub fn same_line(alloc: Global, before: &Heap, renaming: &Renaming) -> Result<String, AllocError> {
@@ -18,42 +34,121 @@ pub fn same_line(alloc: Global, before: &Heap, renaming: &Renaming) -> Result<St
 /// differs.
 pub fn difference_line(
     alloc: Global,
-    before: &Heap,
-    after: &Heap,
+    sides: Sides<'_>,
     difference: &Difference,
 ) -> Result<String, AllocError> {
-    let mut text = String::new(alloc);
-    push_difference(&mut text, before, after, difference)?;
-    Ok(text)
-}
-
-fn push_difference(
-    text: &mut String,
-    before: &Heap,
-    after: &Heap,
-    difference: &Difference,
-) -> Result<(), AllocError> {
     match difference {
-        Difference::Roots {
-            before: old,
-            after: new,
-        } => write!(text, "differ roots: {old} before, {new} after\n"),
+        Difference::Roots { before, after } => {
+            format!(in alloc; "differ roots: {before} before, {after} after\n")
+        }
         Difference::At { root, slots, how } => {
-            let kind = kind_word(how);
-            write!(text, "differ {kind} at root {root}")?;
-            push_path(text, slots.as_slice())?;
-            let old = word_at_path(before, *root, slots.as_slice());
-            let new = word_at_path(after, *root, slots.as_slice());
-            push_word(text, ": ", old)?;
-            push_word(text, " before, ", new)?;
-            text.push_str(" after")?;
-            push_detail(text, before, after, how, old, new)?;
-            text.push('\n')
+            how_line(alloc, sides, *root, slots.as_slice(), how)
         }
     }
 }
 
-fn kind_word(how: &How) -> &'static str {
+/// The line of a path that leads to words which disagree like this.
+pub fn how_line(
+    alloc: Global,
+    sides: Sides<'_>,
+    root: u64,
+    slots: &[u64],
+    how: &How,
+) -> Result<String, AllocError> {
+    let kind = kind_word(how);
+    let mut text = format!(in alloc; "differ {kind} at ")?;
+    push_path(alloc, &mut text, sides, root, slots)?;
+    let old = word_at_path(sides.before, root, slots);
+    let new = word_at_path(sides.after, root, slots);
+    push_before(&mut text, sides, old)?;
+    push_after(&mut text, sides, new)?;
+    push_detail(&mut text, sides, how, old, new)?;
+    text.push('\n')?;
+    Ok(text)
+}
+
+/// The line of a path that leads to a stale word, which is null in the heap after.
+pub fn stale_line(
+    alloc: Global,
+    sides: Sides<'_>,
+    path: &Path,
+    word: u64,
+) -> Result<String, AllocError> {
+    let Path { root, slots } = path;
+    let mut text = String::from_str(alloc, "differ stale at ")?;
+    push_path(alloc, &mut text, sides, *root, slots.as_slice())?;
+    let old = word_at_path(sides.before, *root, slots.as_slice());
+    push_before(&mut text, sides, old)?;
+    push_stale(&mut text, sides, old, word)?;
+    Ok(text)
+}
+
+// A stale word, by name if the file after has names.
+fn push_stale(text: &mut String, sides: Sides<'_>, old: u64, word: u64) -> Result<(), AllocError> {
+    let [before, after] = sides.labels;
+    if after.is_some() {
+        return push_stale_name(text, sides, old, word);
+    }
+    // The places of objects that have names are not the program's own: no word after is compared with them.
+    let old = if before.is_some() { None } else { Some(old) };
+    push_stale_word(text, sides, old, word)
+}
+
+fn push_stale_name(
+    text: &mut String,
+    sides: Sides<'_>,
+    old: u64,
+    word: u64,
+) -> Result<(), AllocError> {
+    let place = word.saturating_sub(1) as usize;
+    let name = match sides.stale_names {
+        Some(names) => names.get(place).copied(),
+        None => None,
+    };
+    let was = old
+        .checked_sub(1)
+        .and_then(|address| label(sides.labels[0], address));
+    let still = if was.is_some() && was == name {
+        "still is"
+    } else {
+        "is"
+    };
+    let name = name.unwrap_or("-");
+    write!(
+        text,
+        "; the word {still} {name}, which no object after has\n"
+    )
+}
+
+// A stale word, the region that it leads to, and what was there before, if the word before is known.
+fn push_stale_word(
+    text: &mut String,
+    sides: Sides<'_>,
+    old: Option<u64>,
+    word: u64,
+) -> Result<(), AllocError> {
+    let still = if old == Some(word) { "still is" } else { "is" };
+    write!(text, "; the word {still} {word}, ")?;
+    let address = word.saturating_sub(1);
+    let region = region_of(&sides.after.geometry(), address);
+    let Some(found) = sides.after.regions().get(region as usize) else {
+        return text.push_str("outside the heap\n");
+    };
+    let kind = found.kind;
+    write!(text, "in region {region}, {kind} after")?;
+    if let Some(old) = old {
+        let what = match object_at(sides.before, address) {
+            Some(_) if word == old => "the object was before",
+            Some(_) => "another object was before",
+            None => "no object starts",
+        };
+        write!(text, ", where {what}")?;
+    }
+    text.push('\n')
+}
+
+/// What `differ` says of a kind of difference.
+pub fn kind_word(how: &How) -> &'static str {
     match how {
         How::NullBefore => "null",
         How::NullAfter => "null",
@@ -65,26 +160,80 @@ fn kind_word(how: &How) -> &'static str {
     }
 }
 
-fn push_path(text: &mut String, slots: &[u64]) -> Result<(), AllocError> {
+fn push_path(
+    alloc: Global,
+    text: &mut String,
+    sides: Sides<'_>,
+    root: u64,
+    slots: &[u64],
+) -> Result<(), AllocError> {
+    if let Some(names) = sides.names {
+        return push_named_path(alloc, text, sides.before, names, root, slots);
+    }
+    write!(text, "root {root}")?;
     for slot in slots {
         write!(text, " slot {slot}")?;
     }
     Ok(())
 }
 
-fn push_word(text: &mut String, lead: &str, word: u64) -> Result<(), AllocError> {
+fn push_before(text: &mut String, sides: Sides<'_>, word: u64) -> Result<(), AllocError> {
+    push_word(text, ": ", sides.labels[0], word)?;
+    if let (Some(names), Some(address)) = (sides.names, word.checked_sub(1)) {
+        push_named_object(text, names, address)?;
+    }
+    text.push_str(" before")
+}
+
+fn push_after(text: &mut String, sides: Sides<'_>, word: u64) -> Result<(), AllocError> {
+    push_word(text, ", ", sides.labels[1], word)?;
+    if let Some(names) = sides.names {
+        if let Some(name) = first_data(sides.after, word).and_then(|label| names.label(label)) {
+            write!(text, " ({name})")?;
+        }
+    }
+    text.push_str(" after")
+}
+
+type Labels<'a> = Option<&'a [(u64, &'a str)]>;
+
+fn push_word(
+    text: &mut String,
+    lead: &str,
+    labels: Labels<'_>,
+    word: u64,
+) -> Result<(), AllocError> {
     text.push_str(lead)?;
     match word.checked_sub(1) {
-        Some(address) => write!(text, "object {address}"),
-        None => write!(text, "null"),
+        Some(address) => {
+            text.push_str("object ")?;
+            push_object(text, labels, address)
+        }
+        None => text.push_str("null"),
+    }
+}
+
+// An object's address, or its name if it has one in its place.
+fn push_object(text: &mut String, labels: Labels<'_>, address: u64) -> Result<(), AllocError> {
+    match label(labels, address) {
+        Some(name) => text.push_str(name),
+        None => write!(text, "{address}"),
+    }
+}
+
+fn label<'a>(labels: Labels<'a>, address: u64) -> Option<&'a str> {
+    let labels = labels?;
+    let below = labels.partition_point(|(at, _)| *at < address);
+    match labels.get(below) {
+        Some((at, name)) if *at == address => Some(*name),
+        _ => None,
     }
 }
 
 // How two words at one place disagree.
 fn push_detail(
     text: &mut String,
-    heap: &Heap,
-    other: &Heap,
+    sides: Sides<'_>,
     how: &How,
     old: u64,
     new: u64,
@@ -96,32 +245,66 @@ fn push_detail(
             object,
             first,
             second: _,
-        } => push_met(text, (*object, "before"), (*first, "after")),
+        } => push_met(text, sides, (*object, 0), (*first, 1)),
         How::Joined {
             first,
             second: _,
             object,
-        } => push_met(text, (*object, "after"), (*first, "before")),
+        } => push_met(text, sides, (*object, 1), (*first, 0)),
         How::Size { before, after } => push_numbers(text, "size", *before, *after),
         How::Slots { before, after } => push_numbers(text, "slots", *before, *after),
-        How::Data { word } => {
-            let (was, is) = (data_word(heap, old, *word), data_word(other, new, *word));
-            write!(text, "; data word {word} is {was} before, {is} after")
-        }
+        How::Data { word } => push_data(text, sides, *word, old, new),
     }
 }
 
-// An object that an earlier path leads to, each with the heap that it is of.
-fn push_met(text: &mut String, object: (u64, &str), first: (u64, &str)) -> Result<(), AllocError> {
-    let ((object, here), (first, there)) = (object, first);
-    write!(
-        text,
-        "; {object} {here} is {first} {there} on an earlier path"
-    )
+const WHEN: [&str; 2] = ["before", "after"];
+
+// An object that an earlier path leads to, each with the side that it is of.
+fn push_met(
+    text: &mut String,
+    sides: Sides<'_>,
+    object: (u64, usize),
+    first: (u64, usize),
+) -> Result<(), AllocError> {
+    text.push_str("; ")?;
+    push_of_side(text, sides, object)?;
+    text.push_str(" is ")?;
+    push_of_side(text, sides, first)?;
+    text.push_str(" on an earlier path")
+}
+
+fn push_of_side(
+    text: &mut String,
+    sides: Sides<'_>,
+    object: (u64, usize),
+) -> Result<(), AllocError> {
+    let (address, side) = object;
+    push_object(text, sides.labels.get(side).copied().flatten(), address)?;
+    let when = WHEN.get(side).copied().unwrap_or("");
+    write!(text, " {when}")
 }
 
 fn push_numbers(text: &mut String, what: &str, old: u64, new: u64) -> Result<(), AllocError> {
     write!(text, "; {what} {old} before, {new} after")
+}
+
+fn push_data(
+    text: &mut String,
+    sides: Sides<'_>,
+    word: u64,
+    old: u64,
+    new: u64,
+) -> Result<(), AllocError> {
+    let was = data_word(sides.before, old, word);
+    let is = data_word(sides.after, new, word);
+    write!(text, "; data word {word}")?;
+    match sides.names {
+        None => write!(text, " is {was} before, {is} after"),
+        Some(names) => {
+            push_named_data(text, sides.before, names, old.saturating_sub(1), word)?;
+            write!(text, " is {was} ({was:#x}) before, {is} ({is:#x}) after")
+        }
+    }
 }
 
 // The word that a path leads to. Slot n of an object is n words behind the address that is 1 more than
@@ -134,7 +317,16 @@ fn word_at_path(heap: &Heap, root: u64, slots: &[u64]) -> u64 {
     word
 }
 
-// The data word of this number of the object that a reference word names.
+fn first_data(heap: &Heap, reference: u64) -> Option<u64> {
+    let object = object_in(heap, reference.checked_sub(1)?)?;
+    if object.size > object.refs.saturating_add(1) {
+        Some(data_word(heap, reference, 0))
+    } else {
+        None
+    }
+}
+
+// The data word of this number of the object that a reference word references.
 fn data_word(heap: &Heap, reference: u64, number: u64) -> u64 {
     match object_in(heap, reference.saturating_sub(1)) {
         Some(object) => {
@@ -145,8 +337,8 @@ fn data_word(heap: &Heap, reference: u64, number: u64) -> u64 {
     }
 }
 
-// The word at an address, read as the header of the object that starts there.
-fn object_in(heap: &Heap, address: u64) -> Option<Object> {
+/// The word at an address, read as the header of the object that starts there.
+pub fn object_in(heap: &Heap, address: u64) -> Option<Object> {
     let words = heap.words();
     if address < words.len() as u64 {
         Some(header(words, address))
@@ -155,6 +347,7 @@ fn object_in(heap: &Heap, address: u64) -> Option<Object> {
     }
 }
 
-fn word_at(words: &[u64], place: u64) -> u64 {
+/// The word at a place, or 0 if there is none.
+pub fn word_at(words: &[u64], place: u64) -> u64 {
     words.get(place as usize).copied().unwrap_or(0)
 }

@@ -1,7 +1,9 @@
 //! Files on the command line.
 use crate::refusal::{of_file, unopenable};
+use crate::stale::{Stale, null_stale};
 use g1_command::{Refusal, read_all};
-use g1_image::{FromReader, Image, read};
+use g1_image::{FromReader, Image, decode, read};
+use g1_text::is_graph;
 use g1_words::Fault;
 use std::alloc::Global;
 use std::fs;
@@ -37,6 +39,99 @@ pub fn read_image<T: Files, R: Read>(
     }
     let file = open_file(rt, alloc, name)?;
     with_name(alloc, name, read(alloc, &mut FromReader::new(file)))
+}
+
+/// An image after a pause.
+#[derive(Drop)]
+pub enum After {
+    Image(Image),
+    /// What is no image only because words reference no object: with these words null it is one.
+    Stale {
+        image: Image,
+        stale: Stale,
+        /// The fault of what was read.
+        fault: Fault,
+    },
+}
+
+/// What a file that is compared has.
+#[derive(Drop)]
+pub enum Found {
+    /// Lines of objects by name.
+    Lines,
+    Image(After),
+}
+
+/// What is in a file, or what the reader gives, with the bytes if they are lines. A file whose fault is a reference
+/// is read once more, and what can be read only once is kept as bytes, so that its stale words are found.
+pub fn read_side<T: Files, R: Read>(
+    rt: &T,
+    alloc: Global,
+    name: &str,
+    reader: &mut R,
+) -> Result<(Found, Vec<u8>), Refusal> {
+    if name != STANDARD_STREAM && is_file(rt, name) && !has_lines(rt, alloc, name)? {
+        let file = open_file(rt, alloc, name)?;
+        match read(alloc, &mut FromReader::new(file)) {
+            Ok(image) => return Ok((Found::Image(After::Image(image)), Vec::new(alloc))),
+            Err(Fault::Reference(_)) => (),
+            Err(fault) => return Err(of_file(alloc, name, fault)),
+        }
+    }
+    let bytes = read_bytes(rt, alloc, name, reader)?;
+    if is_graph(bytes.as_slice()) {
+        return Ok((Found::Lines, bytes));
+    }
+    Ok((Found::Image(after_of(alloc, name, bytes)?), Vec::new(alloc)))
+}
+
+// How many bytes of a file are looked at for the first word of lines.
+const HEAD: u64 = 4096;
+
+// Whether a file begins as lines of objects by name do.
+fn has_lines<T: Files>(rt: &T, alloc: Global, name: &str) -> Result<bool, Refusal> {
+    let file = open_file(rt, alloc, name)?;
+    let head = with_name(alloc, name, read_all(alloc, &mut file.take(HEAD)))?;
+    Ok(is_graph(head.as_slice()))
+}
+
+fn is_file<T: Files>(rt: &T, name: &str) -> bool {
+    match fs::metadata(rt, name) {
+        Ok(found) => found.is_file(),
+        Err(_) => false,
+    }
+}
+
+fn after_of(alloc: Global, name: &str, bytes: Vec<u8>) -> Result<After, Refusal> {
+    match decode(alloc, bytes.as_slice()) {
+        Ok(image) => Ok(After::Image(image)),
+        Err(fault) => match fault {
+            Fault::Reference(_) => without_stale(alloc, name, bytes, fault),
+            _ => Err(of_file(alloc, name, fault)),
+        },
+    }
+}
+
+// What has another fault, too, is refused for its first one.
+fn without_stale(
+    alloc: Global,
+    name: &str,
+    bytes: Vec<u8>,
+    fault: Fault,
+) -> Result<After, Refusal> {
+    let mut bytes = bytes;
+    let Some(stale) = null_stale(alloc, &mut bytes)? else {
+        return Err(of_file(alloc, name, fault));
+    };
+    match decode(alloc, bytes.as_slice()) {
+        Ok(image) => Ok(After::Stale {
+            image,
+            stale,
+            fault,
+        }),
+        Err(Fault::Memory) => Err(Fault::Memory.into()),
+        Err(_) => Err(of_file(alloc, name, fault)),
+    }
 }
 
 // What was read, or its fault with the name of its file.

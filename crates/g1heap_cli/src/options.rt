@@ -2,6 +2,10 @@
 use crate::files::STANDARD_STREAM;
 use crate::output::Output;
 use crate::regions::{regions_in, tie};
+use crate::usage::{
+    AFTER_ALL, EXPLAIN_ROWS, EXPLAIN_USAGE, Form, MAKE_ROWS, MAKE_USAGE, PAIR, PRINT_ROWS,
+    PRINT_USAGE, Row, SAME_ROWS, SAME_USAGE, TRACE_ROWS, TRACE_USAGE, Usage, WHY_ROWS, WHY_USAGE,
+};
 use clap::{Arg, ArgAction, ArgMatches, Command, Error};
 use g1_choose::Cost;
 use g1_command::{Argument, Misuse, Refusal, explain, number, number_in, region};
@@ -79,8 +83,15 @@ pub struct Same {
     pub after: String,
     /// Whether the references of the second are to be covered.
     pub covered: bool,
-    /// The regions of a pause that is to have kept all others; empty if nothing is asked of it.
+    /// The regions of the second whose slots need no card.
+    pub young: Vec<u32>,
+    /// The regions of a pause that is to have kept all others; empty if nothing is asked of it. Those that
+    /// are free are left out.
     pub set: Vec<u32>,
+    /// The file of the names that the program has for what is in the first one.
+    pub names: Option<String>,
+    /// How many differences are listed and then all counted, if that is asked.
+    pub all: Option<u64>,
 }
 
 /// What is printed of an image.
@@ -101,6 +112,18 @@ static SET: Argument = Argument {
     id: "set",
     shown: "--set <REGION>...",
     range: REGION_RANGE,
+};
+
+static YOUNG: Argument = Argument {
+    id: "young",
+    shown: "--young <REGIONS>",
+    range: REGION_RANGE,
+};
+
+static ALL: Argument = Argument {
+    id: "all",
+    shown: "--all <N>",
+    range: "at least 1",
 };
 
 static REGION: Argument = Argument {
@@ -153,360 +176,6 @@ static BYTE: Argument = Argument {
     id: "byte",
     shown: "--byte <N>",
     range: COST_RANGE,
-};
-
-// The end of each command's help.
-const AFTER_SAME: &str = "\
-Statuses:
-  0  the images show the same graph, and what else was asked holds
-  1  they differ
-  2  wrong words
-  3  a file is no image
-  4  a slot of AFTER is not covered
-  5  a region of the set is not there, not ordinary, pinned, or given twice
-  6  no memory, or a read or a write that failed
-  7  a file that can't be opened
-  141  the reader of the answer went away
-
-Example: g1heap same BEFORE - < IMAGE";
-
-const AFTER_PRINT: &str = "\
-Statuses:
-  0  done
-  2  wrong words, or a region or an object that the image doesn't have
-  3  the file is no image
-  6  no memory, or a read or a write that failed
-  7  a file that can't be opened or written
-  141  the reader of the answer went away
-
-Example: g1heap print < IMAGE";
-
-const AFTER_MAKE: &str = "\
-Statuses:
-  0  done
-  2  wrong words
-  3  a line is not as it has to be
-  6  no memory, or a read or a write that failed
-  7  a file that can't be opened or written
-
-Example: g1heap make -o IMAGE < LINES";
-
-const AFTER_EXPLAIN: &str = "\
-Statuses:
-  0  done
-  2  wrong words, or a number out of its range
-  3  the file is no image
-  4  a slot of the image is not covered
-  5  a region that cannot be collected, or no room for the survivors
-  6  no memory, or a read or a write that failed
-  7  a file that can't be opened or written
-  8  the pause answers another thing than its steps: an error of this program
-  141  the reader of the answer went away
-
-Example: g1heap explain --budget 1000 < IMAGE";
-
-const AFTER_WHY: &str = "\
-Statuses:
-  0  done
-  2  wrong words, or no object starts there
-  3  the file is no image
-  4  a slot of the image is not covered, and no root leads to the object
-  6  no memory, or a read or a write that failed
-  7  a file that can't be opened
-  8  what was found contradicts itself: an error of this program
-  141  the reader of the answer went away
-
-Example: g1heap why IMAGE 16";
-
-const AFTER_TRACE: &str = "\
-Statuses:
-  0  done
-  2  wrong words, or a command that the trace doesn't have
-  3  a line is not as it has to be, or a size is out of its range
-  6  no memory, or a read or a write that failed
-  7  a file that can't be opened or written
-  141  the reader of the answer went away
-
-Example: g1heap trace --live < TRACE";
-
-const AFTER_ALL: &str = "\
-Statuses:
-  0  done
-  1  two images differ
-  2  wrong words, or a region or an object that the image doesn't have
-  3  a file is no image, or a line is not as it has to be
-  4  a slot is not covered
-  5  a region of the set is not there, not ordinary, pinned, or given twice, or no room
-  6  no memory, or a read or a write that failed
-  7  a file that can't be opened or written
-  8  an explanation contradicts the pause: an error of this program
-  141  the reader of the answer went away
-
-Example: g1heap print < IMAGE";
-
-// A command: its name, and what its help says before and after its arguments.
-struct Usage {
-    name: &'static str,
-    about: &'static str,
-    after_help: &'static str,
-}
-
-static SAME_USAGE: Usage = Usage {
-    name: "same",
-    about: "Reports whether two images show the same graph from their roots, or where they differ",
-    after_help: AFTER_SAME,
-};
-
-static PRINT_USAGE: Usage = Usage {
-    name: "print",
-    about: "Prints an image as lines",
-    after_help: AFTER_PRINT,
-};
-
-static MAKE_USAGE: Usage = Usage {
-    name: "make",
-    about: "Writes the image that lines describe",
-    after_help: AFTER_MAKE,
-};
-
-static EXPLAIN_USAGE: Usage = Usage {
-    name: "explain",
-    about: "Reports what a pause of an image does, one fact a line",
-    after_help: AFTER_EXPLAIN,
-};
-
-static WHY_USAGE: Usage = Usage {
-    name: "why",
-    about: "Reports what keeps an object: the shortest path from a root, or a card",
-    after_help: AFTER_WHY,
-};
-
-static TRACE_USAGE: Usage = Usage {
-    name: "trace",
-    about: "Answers a trace, each line at once if asked to",
-    after_help: AFTER_TRACE,
-};
-
-// How an argument is given.
-#[derive(Clone, Copy)]
-enum Form {
-    /// By its place.
-    File,
-    /// By its place, or not at all, which means standard input.
-    FileOrNone,
-    /// By its name alone.
-    Flag,
-    /// By its name and a value.
-    Value,
-    /// By its name and a value, or not at all, which means this value.
-    ValueOrDefault(&'static str),
-    /// By its name and a value, if the option `region` isn't.
-    ValueWithoutRegion,
-    /// By its name and a value, if the option `set` isn't.
-    ValueWithoutSet,
-    /// By its name alone, if no part is asked for.
-    FlagWithoutPart,
-    /// By its name, or by its first letter, and a value.
-    Output,
-    /// By its name and one value or more.
-    Values,
-    /// By its name and two values.
-    Pair,
-}
-
-// What help calls the two values of a pair.
-static PAIR: [&str; 2] = ["N", "FILE"];
-
-// An argument of a command: its name, what help calls its value, and what help says of it.
-struct Row {
-    id: &'static str,
-    value: &'static str,
-    help: &'static str,
-    form: Form,
-}
-
-static SAME_ROWS: [Row; 4] = [
-    Row {
-        id: "before",
-        value: "BEFORE",
-        help: "An image, or - for standard input",
-        form: Form::File,
-    },
-    Row {
-        id: "after",
-        value: "AFTER",
-        help: "Another image, or -",
-        form: Form::File,
-    },
-    Row {
-        id: "covered",
-        value: "",
-        help: "Also asks that every reference of AFTER into another region is covered",
-        form: Form::Flag,
-    },
-    Row {
-        id: "set",
-        value: "REGION",
-        help: "Also asks that AFTER keeps all that a pause of these regions keeps, as in 1,2,5-9",
-        form: Form::Values,
-    },
-];
-
-static PRINT_ROWS: [Row; 5] = [
-    Row {
-        id: "image",
-        value: "IMAGE",
-        help: "An image, or - for standard input",
-        form: Form::FileOrNone,
-    },
-    Row {
-        id: "region",
-        value: "R",
-        help: "Only the lines of this region",
-        form: Form::Value,
-    },
-    Row {
-        id: "object",
-        value: "A",
-        help: "Only the line of the object at this address",
-        form: Form::ValueWithoutRegion,
-    },
-    Row {
-        id: "summary",
-        value: "",
-        help: "Only how many regions, words, cards and roots there are",
-        form: Form::FlagWithoutPart,
-    },
-    OUTPUT_ROW,
-];
-
-static MAKE_ROWS: [Row; 2] = [
-    Row {
-        id: "lines",
-        value: "LINES",
-        help: "The lines, or - for standard input",
-        form: Form::FileOrNone,
-    },
-    OUTPUT_ROW,
-];
-
-static EXPLAIN_ROWS: [Row; 9] = [
-    Row {
-        id: "image",
-        value: "IMAGE",
-        help: "An image, or - for standard input",
-        form: Form::FileOrNone,
-    },
-    Row {
-        id: "budget",
-        value: "N",
-        help: "What the pause may cost in all",
-        form: Form::ValueWithoutSet,
-    },
-    Row {
-        id: "set",
-        value: "REGION",
-        help: "The regions to collect, as in 1,2,5-9",
-        form: Form::Values,
-    },
-    FIXED_ROW,
-    DIRTY_ROW,
-    CARD_ROW,
-    BYTE_ROW,
-    Row {
-        id: "map",
-        value: "",
-        help: "Only a line OLD NEW SIZE for each survivor",
-        form: Form::Flag,
-    },
-    OUTPUT_ROW,
-];
-
-static TRACE_ROWS: [Row; 9] = [
-    Row {
-        id: "trace",
-        value: "TRACE",
-        help: "A trace, or - for standard input",
-        form: Form::FileOrNone,
-    },
-    Row {
-        id: "live",
-        value: "",
-        help: "Writes each reply as soon as its line is there",
-        form: Form::Flag,
-    },
-    Row {
-        id: "numbered",
-        value: "",
-        help: "Puts the number of its command before each reply",
-        form: Form::Flag,
-    },
-    Row {
-        id: "explain",
-        value: "",
-        help: "Puts the lines of each pause before its reply",
-        form: Form::Flag,
-    },
-    Row {
-        id: "image",
-        value: "",
-        help: "Also writes the image after command N to this file",
-        form: Form::Pair,
-    },
-    FIXED_ROW,
-    DIRTY_ROW,
-    CARD_ROW,
-    BYTE_ROW,
-];
-
-static WHY_ROWS: [Row; 2] = [
-    Row {
-        id: "image",
-        value: "IMAGE",
-        help: "An image, or - for standard input",
-        form: Form::File,
-    },
-    Row {
-        id: "address",
-        value: "A",
-        help: "The address of an object",
-        form: Form::File,
-    },
-];
-
-const FIXED_ROW: Row = Row {
-    id: "fixed",
-    value: "N",
-    help: "What a pause costs in any case",
-    form: Form::ValueOrDefault("0"),
-};
-
-const DIRTY_ROW: Row = Row {
-    id: "dirty",
-    value: "N",
-    help: "What a dirty card costs",
-    form: Form::ValueOrDefault("1"),
-};
-
-const CARD_ROW: Row = Row {
-    id: "card",
-    value: "N",
-    help: "What a remembered card costs",
-    form: Form::ValueOrDefault("1"),
-};
-
-const BYTE_ROW: Row = Row {
-    id: "byte",
-    value: "N",
-    help: "What a live byte costs",
-    form: Form::ValueOrDefault("1"),
-};
-
-const OUTPUT_ROW: Row = Row {
-    id: "output",
-    value: "FILE",
-    help: "Writes this file, once the answer is whole, or - for standard output",
-    form: Form::Output,
 };
 
 fn argument<'a>(alloc: Global, row: &Row) -> Result<Arg<'a>, AllocError> {
@@ -621,16 +290,59 @@ fn output_of(alloc: Global, values: &ArgMatches<'_>) -> Result<Output, AllocErro
     Output::of_name(alloc, values.get_str("output"))
 }
 
-fn same_of(alloc: Global, values: &ArgMatches<'_>) -> Result<Request, Misuse> {
-    if name_in(values, "before") == STANDARD_STREAM && name_in(values, "after") == STANDARD_STREAM {
-        let message = "only one of the images can be standard input";
-        return Err(Misuse::Value(String::from_str(alloc, message)?));
+// Refuses to read standard input for two of the files.
+fn check_streams(alloc: Global, values: &ArgMatches<'_>) -> Result<(), Misuse> {
+    let is_standard = |id: &str| values.get_str(id) == Some(STANDARD_STREAM);
+    let images = is_standard("before") || is_standard("after");
+    let message = if is_standard("before") && is_standard("after") {
+        "only one of the images can be standard input"
+    } else if is_standard("names") && images {
+        "only one of the files can be standard input"
+    } else {
+        return Ok(());
+    };
+    Err(Misuse::Value(String::from_str(alloc, message)?))
+}
+
+fn name_if_given(
+    alloc: Global,
+    values: &ArgMatches<'_>,
+    id: &str,
+) -> Result<Option<String>, AllocError> {
+    match values.get_str(id) {
+        Some(name) => Ok(Some(String::from_str(alloc, name)?)),
+        None => Ok(None),
     }
+}
+
+fn all_of(alloc: Global, values: &ArgMatches<'_>) -> Result<Option<u64>, Misuse> {
+    match number(alloc, values, &ALL)? {
+        Some(0) => Err(ALL.refuse(alloc, "0")),
+        found => Ok(found),
+    }
+}
+
+fn young_of(alloc: Global, values: &ArgMatches<'_>) -> Result<Vec<u32>, Misuse> {
+    match values.get_str(YOUNG.id) {
+        None => Ok(Vec::new(alloc)),
+        Some(_) if !values.get_flag("covered") => {
+            let message = "'--young <REGIONS>' needs '--covered'";
+            Err(Misuse::Value(String::from_str(alloc, message)?))
+        }
+        Some(list) => regions_in(alloc, &YOUNG, &[list]),
+    }
+}
+
+fn same_of(alloc: Global, values: &ArgMatches<'_>) -> Result<Request, Misuse> {
+    check_streams(alloc, values)?;
     Ok(Request::Same(Same {
         before: name_of(alloc, values, "before")?,
         after: name_of(alloc, values, "after")?,
         covered: values.get_flag("covered"),
+        young: young_of(alloc, values)?,
         set: regions_in(alloc, &SET, values.get_strs(SET.id).unwrap_or(&[]))?,
+        names: name_if_given(alloc, values, "names")?,
+        all: all_of(alloc, values)?,
     }))
 }
 

@@ -90,6 +90,24 @@ pub fn no_command(alloc: Global, name: &str, command: u64, commands: u64) -> Ref
     )
 }
 
+/// A line of a file of names that is not what is expected there.
+pub fn wrong_name(alloc: Global, name: &str, number: u64, expected: &str) -> Refusal {
+    refusal(
+        3,
+        format!(in alloc; "g1heap: {name}: line {number}: expected {expected}\n"),
+    )
+}
+
+/// An option that is not for lines of objects by name.
+pub fn not_for_lines(alloc: Global, name: &str, option: &str) -> Refusal {
+    refusal(
+        2,
+        format!(in alloc;
+            "g1heap: {name}: {option} is for images, and these are lines: leave it out, or compare images\n"
+        ),
+    )
+}
+
 /// A region that the image, which has this many, doesn't have.
 pub fn no_region(alloc: Global, name: &str, region: u32, regions: u64) -> Refusal {
     refusal(

@@ -26,6 +26,8 @@ pub fn announce<E: Write>(terminals: Terminals, request: &Request, errors: &mut 
 
 const IMAGE: &str = "g1heap: waiting for an image on standard input\n";
 
+const NAMES: &str = "g1heap: waiting for lines of names on standard input, which Ctrl-D ends\n";
+
 const LINES: &str = "g1heap: waiting for lines on standard input, which Ctrl-D ends\n";
 
 const TRACE: &str = "g1heap: waiting for a trace on standard input, which Ctrl-D ends\n";
@@ -35,7 +37,10 @@ fn waiting_text(request: &Request) -> Option<&'static str> {
     match request {
         Request::Help(_) => None,
         Request::Same(same) if is_standard(&same.before) || is_standard(&same.after) => Some(IMAGE),
-        Request::Same(_) => None,
+        Request::Same(same) => same
+            .names
+            .as_ref()
+            .and_then(|names| is_standard(names).then_some(NAMES)),
         Request::Print { image, .. } => is_standard(image).then_some(IMAGE),
         Request::Make { lines, .. } => is_standard(lines).then_some(LINES),
         Request::Explain(explain) => is_standard(&explain.image).then_some(IMAGE),

@@ -1,0 +1,359 @@
+//! Lines of objects by name, without regions and addresses.
+ghost use Rattle.std.specs.Prelude.{IfOk};
+ghost use Rattle.g1_text.specs.Made.{IsImageText};
+
+use crate::covering::cover;
+use crate::draft::{Draft, Heading};
+use crate::expected::{Expected, Refusal, Wrong};
+use crate::packing::pack;
+use crate::placing::{Entry, Places, choose_sizes, place, regions_needed};
+use crate::words::{Words, size_and_slots};
+use g1_image::decode;
+use g1_words::{Geometry, MOST_ROOTS, header_word};
+use std::alloc::{AllocError, Global};
+use std::collections::HashMap;
+use std::str;
+
+/// A heap whose objects have names: the text of its image, and what that doesn't say.
+#[derive(Drop)]
+pub struct Graph<'a> {
+    /// The text of an image in which each name that no object has is null.
+    pub text: Vec<u8>,
+    /// The address and the name of each object, rising.
+    pub names: Vec<(u64, &'a str)>,
+    /// The number of each root with a name that no object has, rising, and the name.
+    pub stale_roots: Vec<(u64, &'a str)>,
+    /// The address of each slot with a name that no object has, rising, and the name.
+    pub stale_slots: Vec<(u64, &'a str)>,
+    /// The first line with such a name, and what is expected there.
+    pub first_stale: Option<(u64, Expected)>,
+}
+
+/// Whether a text has lines of objects by name: the first word that is no comment is `graph`.
+pub fn is_graph(text: &[u8]) -> bool {
+    for line in text.split(|byte| *byte == b'\n') {
+        let Ok(line) = str::from_utf8(line) else {
+            return false;
+        };
+        match line.split_ascii_whitespace().next() {
+            Some(first) if !first.starts_with('#') => return first == "graph",
+            _ => (),
+        }
+    }
+    false
+}
+
+/// Reads lines of objects by name, and finds a place for each object.
+///
+/// # Errors
+///
+/// The first line that is not what is expected there, by its number, and what is expected. `Fault::Memory` else.
+pub fn read_graph<'a>(alloc: Global, text: &'a [u8]) -> Result<Graph<'a>, Wrong> {
+    let lines = read_lines(alloc, text)?;
+    let mut draft = begin(alloc, &lines)?;
+    let places = match place(alloc, &mut draft, lines.entries.as_slice()) {
+        Ok(places) => places,
+        Err(refusal) => return Err(refusal.at(lines.heading)),
+    };
+    let mut graph = Graph {
+        text: Vec::new(alloc),
+        names: Vec::new(alloc),
+        stale_roots: Vec::new(alloc),
+        stale_slots: Vec::new(alloc),
+        first_stale: None,
+    };
+    fill_roots(&mut graph, &mut draft, &lines, &places)?;
+    fill_objects(alloc, &mut graph, &mut draft, &lines, &places)?;
+    cover(&mut draft)?;
+    graph.text = pack(alloc, &draft)?;
+    Ok(graph)
+}
+
+/// The bytes of the image that lines of objects by name describe.
+///
+/// # Errors
+///
+/// As of `read_graph`. A name that no object has is not expected.
+pub fn make_graph(alloc: Global, text: &[u8]) -> Result<Vec<u8>, Wrong>
+    ensures image { IfOk result (λ v. IsImageText v.items) }
+{
+    let Graph {
+        text: bytes,
+        first_stale,
+        ..
+    } = read_graph(alloc, text)?;
+    if let Some((number, expected)) = first_stale {
+        return Err(Wrong::Line { number, expected });
+    }
+    match decode(alloc, bytes.as_slice()) {
+        Ok(_) => Ok(bytes),
+        Err(fault) => Err(Wrong::Fault(fault)),
+    }
+}
+
+// What lines say, before any object has an address.
+#[derive(Drop)]
+struct Lines<'a> {
+    heading: u64,
+    sizes: Option<(u64, u64, u64)>,
+    roots: Vec<(u64, &'a str)>,
+    entries: Vec<Entry<'a>>,
+    // The place of each name's entry.
+    places: HashMap<&'a str, u64>,
+}
+
+fn read_lines<'a>(alloc: Global, text: &'a [u8]) -> Result<Lines<'a>, Wrong> {
+    let mut lines = Lines {
+        heading: 0,
+        sizes: None,
+        roots: Vec::new(alloc),
+        entries: Vec::new(alloc),
+        places: HashMap::new(alloc),
+    };
+    let mut number = 0u64;
+    for line in text.split(|byte| *byte == b'\n') {
+        number = number.saturating_add(1);
+        if let Err(refusal) = lines.read(alloc, number, line) {
+            return Err(refusal.at(number));
+        }
+    }
+    Ok(lines)
+}
+
+impl<'a> Lines<'a> {
+    fn read(&mut self, alloc: Global, number: u64, line: &'a [u8]) -> Result<(), Refusal> {
+        let Ok(line) = str::from_utf8(line) else {
+            return Err(Expected::Text.into());
+        };
+        let words = line
+            .split_ascii_whitespace()
+            .collect::<Vec<&'a str>>(alloc)?;
+        match words.as_slice() {
+            [] => Ok(()),
+            [first, ..] if first.starts_with('#') => Ok(()),
+            [first, sizes @ ..] if self.heading == 0 => self.begin(number, first, sizes),
+            ["root", name] => self.add_root(number, name),
+            ["root", ..] => Err(Expected::NamedRoot.into()),
+            ["object", name, size, ..] => self.add_object(number, line, name, size),
+            ["object", _] => Err(Expected::Size.into()),
+            ["object"] => Err(Expected::Name.into()),
+            _ => Err(Expected::GraphLine.into()),
+        }
+    }
+
+    // graph [W K N]
+    fn begin(&mut self, number: u64, first: &str, sizes: &[&str]) -> Result<(), Refusal> {
+        if first != "graph" {
+            return Err(Expected::Graph.into());
+        }
+        self.heading = number;
+        if !sizes.is_empty() {
+            let mut words = Words::new(sizes);
+            let (w, k) = (words.number("W")?, words.number("K")?);
+            self.sizes = Some((w, k, words.number("N")?));
+            words.end()?;
+        }
+        Ok(())
+    }
+
+    // root NAME
+    fn add_root(&mut self, number: u64, name: &'a str) -> Result<(), Refusal> {
+        let most = u64::from(MOST_ROOTS);
+        if self.roots.len() as u64 >= most {
+            return Err(Expected::Roots(most).into());
+        }
+        self.roots.push((number, name))?;
+        Ok(())
+    }
+
+    // object NAME SIZE/SLOTS NAME .. WORD .. [..]
+    fn add_object(
+        &mut self,
+        number: u64,
+        line: &'a str,
+        name: &'a str,
+        size: &str,
+    ) -> Result<(), Refusal> {
+        if name == "-" || name == ".." {
+            return Err(Expected::Name.into());
+        }
+        let Some((size, slots)) = size_and_slots(size).filter(|(size, slots)| slots < size) else {
+            return Err(Expected::Size.into());
+        };
+        let (Ok(size), Ok(slots)) = (u32::try_from(size), u32::try_from(slots)) else {
+            return Err(Expected::Smaller.into());
+        };
+        let place = self.entries.len() as u64;
+        if self.places.insert(name, place)?.is_some() {
+            return Err(Expected::NewName.into());
+        }
+        self.entries.push(Entry {
+            name,
+            size,
+            slots,
+            number,
+            line,
+        })?;
+        Ok(())
+    }
+
+    // The reference word that a name stands for, if it is null's or an object's.
+    fn reference(&self, places: &Places, name: &str) -> Option<u64> {
+        if name == "-" {
+            return Some(0);
+        }
+        let place = *self.places.get(&name)?;
+        let address = places.addresses.get(place as usize)?;
+        Some(address.saturating_add(1))
+    }
+}
+
+// A heap of the sizes that the first line has, or of chosen ones, with nothing in it.
+fn begin(alloc: Global, lines: &Lines<'_>) -> Result<Draft, Wrong> {
+    let number = lines.heading;
+    let geometry = match sizes_of(lines) {
+        Ok(geometry) => geometry,
+        Err(expected) => return Err(Wrong::Line { number, expected }),
+    };
+    let heading = Heading {
+        line: number,
+        roots: None,
+        dirty: None,
+    };
+    Ok(Draft::new(alloc, geometry, None, heading)?)
+}
+
+fn sizes_of(lines: &Lines<'_>) -> Result<Geometry, Expected> {
+    if lines.heading == 0 {
+        return Err(Expected::Graph);
+    }
+    let entries = lines.entries.as_slice();
+    let Some((w, k, n)) = lines.sizes else {
+        return choose_sizes(entries);
+    };
+    let Ok(geometry) = Geometry::new(w, k, n) else {
+        return Err(Expected::Sizes);
+    };
+    let needed = regions_needed(&geometry, entries);
+    if needed > geometry.regions() {
+        return Err(Expected::Regions(needed));
+    }
+    Ok(geometry)
+}
+
+fn fill_roots<'a>(
+    graph: &mut Graph<'a>,
+    draft: &mut Draft,
+    lines: &Lines<'a>,
+    places: &Places,
+) -> Result<(), AllocError> {
+    for (number, (line, name)) in lines.roots.iter().enumerate() {
+        let word = match lines.reference(places, name) {
+            Some(word) => word,
+            None => {
+                graph.stale_roots.push((number as u64, *name))?;
+                graph.expect(*line, Expected::NamedRoot);
+                0
+            }
+        };
+        draft.roots.push(word)?;
+    }
+    Ok(())
+}
+
+// The words of the objects, in the order of their addresses.
+fn fill_objects<'a>(
+    alloc: Global,
+    graph: &mut Graph<'a>,
+    draft: &mut Draft,
+    lines: &Lines<'a>,
+    places: &Places,
+) -> Result<(), Wrong> {
+    for place in &places.order {
+        let Some(entry) = lines.entries.get(*place as usize) else {
+            continue;
+        };
+        let at = places.addresses.get(*place as usize).copied().unwrap_or(0);
+        if let Err(refusal) = fill_object(
+            alloc,
+            graph,
+            &mut draft.words,
+            lines,
+            places,
+            entry,
+            at,
+        ) {
+            return Err(refusal.at(entry.number));
+        }
+    }
+    Ok(())
+}
+
+fn fill_object<'a>(
+    alloc: Global,
+    graph: &mut Graph<'a>,
+    out: &mut Vec<u64>,
+    lines: &Lines<'a>,
+    places: &Places,
+    entry: &Entry<'a>,
+    at: u64,
+) -> Result<(), Refusal> {
+    graph.names.push((at, entry.name))?;
+    let content = entry
+        .line
+        .split_ascii_whitespace()
+        .skip(3)
+        .collect::<Vec<&'a str>>(alloc)?;
+    let mut words = Words::new(content.as_slice());
+    let (size, slots) = (u64::from(entry.size), u64::from(entry.slots));
+    let count = size.saturating_sub(1);
+    let data = count.saturating_sub(slots);
+    let open = words.take_last("..");
+    let given = words.len() as u64;
+    if given > count || (given < count && !open) {
+        return Err(Expected::Content(slots, data).into());
+    }
+    out.push(header_word(size, slots))?;
+    for place in 0..given {
+        let word = if place < slots {
+            let _ = words.next();
+            let name = content.get(place as usize).copied().unwrap_or("-");
+            slot_word(graph, lines, places, entry, at, place, name)?
+        } else {
+            words.number("data word")?
+        };
+        out.push(word)?;
+    }
+    for _ in given..count {
+        out.push(0)?;
+    }
+    Ok(())
+}
+
+fn slot_word<'a>(
+    graph: &mut Graph<'a>,
+    lines: &Lines<'a>,
+    places: &Places,
+    entry: &Entry<'a>,
+    at: u64,
+    slot: u64,
+    name: &'a str,
+) -> Result<u64, Refusal> {
+    if let Some(word) = lines.reference(places, name) {
+        return Ok(word);
+    }
+    let address = at.saturating_add(1).saturating_add(slot);
+    graph.stale_slots.push((address, name))?;
+    graph.expect(entry.number, Expected::NamedSlot(slot));
+    Ok(0)
+}
+
+impl<'a> Graph<'a> {
+    // Keeps what is expected in the first of the lines.
+    fn expect(&mut self, number: u64, expected: Expected) {
+        match self.first_stale {
+            Some((first, _)) if first <= number => (),
+            _ => self.first_stale = Some((number, expected)),
+        }
+    }
+}

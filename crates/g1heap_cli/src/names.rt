@@ -1,0 +1,208 @@
+//! What a program calls its roots, its objects and the words in them.
+use g1_command::whole;
+use std::alloc::{AllocError, AllocFailed, Global};
+
+/// The names in a text of lines:
+///
+///     root NUMBER NAME
+///     type TYPE slots NAME .. data NAME ..
+///     label WORD TYPE
+///     object ADDRESS TYPE [NOTE]
+///
+/// A last name that ends with `[]` is that of its word and of all behind it.
+#[derive(Drop)]
+pub struct Names<'a> {
+    roots: Vec<(u64, &'a str)>,
+    types: Vec<(&'a str, Vec<&'a str>)>,
+    // Each type with the first data word that its objects have.
+    labels: Vec<(u64, &'a str)>,
+    // Addresses, rising, each with the place of its object's kind.
+    objects: Vec<(u64, u64)>,
+    kinds: Vec<Kind<'a>>,
+}
+
+/// The type of an object, and what else its line says of it.
+#[derive(Clone, Copy)]
+pub struct Kind<'a> {
+    pub name: &'a str,
+    pub note: &'a str,
+}
+
+/// The name of a word, and its number among the words that have this name, if there may be several.
+#[derive(Clone, Copy)]
+pub struct Word<'a> {
+    pub name: &'a str,
+    pub number: Option<u64>,
+}
+
+/// Why a text has no names.
+#[derive(Clone, Copy)]
+pub enum Wrong {
+    /// What is expected in the line of this number, from 1.
+    Line(u64, &'static str),
+    Memory,
+}
+
+impl From<AllocError> for Wrong {
+    fn from(_error: AllocError) -> Wrong {
+        Wrong::Memory
+    }
+}
+
+impl<T: Drop> From<AllocFailed<T>> for Wrong {
+    fn from(_error: AllocFailed<T>) -> Wrong {
+        Wrong::Memory
+    }
+}
+
+impl<'a> Names<'a> {
+    pub fn read(alloc: Global, text: &'a str) -> Result<Names<'a>, Wrong> {
+        let mut names = Names {
+            roots: Vec::new(alloc),
+            types: Vec::new(alloc),
+            labels: Vec::new(alloc),
+            objects: Vec::new(alloc),
+            kinds: Vec::new(alloc),
+        };
+        let mut number = 0u64;
+        for line in text.split('\n') {
+            number = number.saturating_add(1);
+            let words = line
+                .split_ascii_whitespace()
+                .collect::<Vec<&'a str>>(alloc)?;
+            if let Some(expected) = names.add(alloc, words.as_slice())? {
+                return Err(Wrong::Line(number, expected));
+            }
+        }
+        names.objects.sort_unstable();
+        Ok(names)
+    }
+
+    // What is expected instead of these words, if they are no line of names.
+    fn add(
+        &mut self,
+        alloc: Global,
+        words: &[&'a str],
+    ) -> Result<Option<&'static str>, AllocError> {
+        match words {
+            [] => return Ok(None),
+            ["root", number, name] => match whole(number) {
+                Some(number) => self.roots.push((number, *name))?,
+                None => return Ok(Some("a whole number behind 'root'")),
+            },
+            ["label", word, name] => match whole(word) {
+                Some(word) => self.labels.push((word, *name))?,
+                None => return Ok(Some("a whole number behind 'label'")),
+            },
+            ["type", name, "slots", rest @ ..] if rest.contains(&"data") => {
+                self.types.push((*name, Vec::from_slice(alloc, rest)?))?;
+            }
+            ["object", address, name] => return self.add_object(address, name, ""),
+            ["object", address, name, note] => return self.add_object(address, name, note),
+            [first, ..] => return Ok(Some(expected_of(first))),
+        }
+        Ok(None)
+    }
+
+    fn add_object(
+        &mut self,
+        address: &str,
+        name: &'a str,
+        note: &'a str,
+    ) -> Result<Option<&'static str>, AllocError> {
+        let Some(address) = whole(address) else {
+            return Ok(Some("an address behind 'object'"));
+        };
+        self.objects.push((address, self.kinds.len() as u64))?;
+        self.kinds.push(Kind { name, note })?;
+        Ok(None)
+    }
+
+    /// The name of a root.
+    pub fn root(&self, number: u64) -> Option<&'a str> {
+        found(&self.roots, number)
+    }
+
+    /// The type whose objects have this first data word.
+    pub fn label(&self, word: u64) -> Option<&'a str> {
+        found(&self.labels, word)
+    }
+
+    /// The kind of the object at an address.
+    pub fn object(&self, address: u64) -> Option<Kind<'a>> {
+        let below = self.objects.partition_point(|(at, _)| *at < address);
+        match self.objects.get(below) {
+            Some((at, place)) if *at == address => self.kinds.get(*place as usize).copied(),
+            _ => None,
+        }
+    }
+
+    /// The name of a slot of the object at an address, which has `slots` of them.
+    pub fn slot(&self, address: u64, slots: u64, slot: u64) -> Option<Word<'a>> {
+        let words = self.type_at(address)?;
+        numbered(words.get(..border(words, slots))?, slot)
+    }
+
+    /// The name of a data word of the object at an address, which has this many slots.
+    pub fn data(&self, address: u64, slots: u64, word: u64) -> Option<Word<'a>> {
+        let words = self.type_at(address)?;
+        numbered(words.get(border(words, slots).saturating_add(1)..)?, word)
+    }
+
+    fn type_at(&self, address: u64) -> Option<&[&'a str]> {
+        let kind = self.object(address)?;
+        for (name, words) in &self.types {
+            if *name == kind.name {
+                return Some(words.as_slice());
+            }
+        }
+        None
+    }
+}
+
+// The place of the word between the names of slots and those of data. A slot may be called `data`, too: so it is the
+// word behind as many names as there are slots, if that is the one.
+fn border(words: &[&str], slots: u64) -> usize {
+    if words.get(slots as usize) == Some(&"data") {
+        return slots as usize;
+    }
+    words
+        .iter()
+        .position(|word| *word == "data")
+        .unwrap_or(words.len())
+}
+
+fn found<'a>(list: &[(u64, &'a str)], key: u64) -> Option<&'a str> {
+    for (number, name) in list {
+        if *number == key {
+            return Some(*name);
+        }
+    }
+    None
+}
+
+// The name of the word of this number.
+fn numbered<'a>(names: &[&'a str], number: u64) -> Option<Word<'a>> {
+    let (last, before) = names.split_last()?;
+    let count = before.len() as u64;
+    match last.strip_suffix("[]") {
+        Some(name) if number >= count => Some(Word {
+            name,
+            number: Some(number.saturating_sub(count)),
+        }),
+        _ => Some(Word {
+            name: names.get(number as usize).copied()?,
+            number: None,
+        }),
+    }
+}
+
+fn expected_of(first: &str) -> &'static str {
+    match first {
+        "root" => "'root NUMBER NAME'",
+        "type" => "'type TYPE slots NAME .. data NAME ..'",
+        "label" => "'label WORD TYPE'",
+        "object" => "'object ADDRESS TYPE', and at most one word more",
+        _ => "'root', 'type', 'label' or 'object'",
+    }
+}

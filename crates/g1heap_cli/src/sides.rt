@@ -1,0 +1,117 @@
+//! The two files that are compared: images, or lines of objects by name.
+use crate::files::{After, Found};
+use crate::refusal::{of_file, wrong_line};
+use crate::stale::Stale;
+use g1_command::Refusal;
+use g1_image::{Image, decode};
+use g1_text::{Graph, Wrong, read_graph};
+use std::alloc::Global;
+
+/// A heap that is compared, and what its file calls its objects.
+#[derive(Drop)]
+pub struct Side<'a> {
+    pub image: Image,
+    /// The address and the name of each object, rising, if the objects have names.
+    pub labels: Option<Vec<(u64, &'a str)>>,
+    pub stale: Option<Strays<'a>>,
+}
+
+/// The words that reference no object, and what the file is refused for if they are not reported.
+#[derive(Drop)]
+pub struct Strays<'a> {
+    pub words: Stale,
+    /// The names that stale words stand for: the word is 1 more than the place of its name.
+    pub names: Vec<&'a str>,
+    pub wrong: Wrong,
+}
+
+/// Opens what a file has, whose lines these are if it has lines.
+pub fn open<'a>(
+    alloc: Global,
+    name: &str,
+    found: Found,
+    lines: &'a [u8],
+) -> Result<Side<'a>, Refusal> {
+    match found {
+        Found::Lines => open_lines(alloc, name, lines),
+        Found::Image(After::Image(image)) => Ok(Side {
+            image,
+            labels: None,
+            stale: None,
+        }),
+        Found::Image(
+            After::Stale {
+                image,
+                stale,
+                fault,
+            },
+        ) => Ok(Side {
+            image,
+            labels: None,
+            stale: Some(Strays {
+                words: stale,
+                names: Vec::new(alloc),
+                wrong: Wrong::Fault(fault),
+            }),
+        }),
+    }
+}
+
+// Lines with names that no object has are an image once these names are null.
+fn open_lines<'a>(alloc: Global, name: &str, lines: &'a [u8]) -> Result<Side<'a>, Refusal> {
+    let graph = match read_graph(alloc, lines) {
+        Ok(graph) => graph,
+        Err(wrong) => return Err(refuse_lines(alloc, name, lines, wrong)),
+    };
+    let image = match decode(alloc, graph.text.as_slice()) {
+        Ok(image) => image,
+        Err(fault) => return Err(of_file(alloc, name, fault)),
+    };
+    let stale = strays_in(alloc, &graph)?;
+    let Graph { names, .. } = graph;
+    Ok(Side {
+        image,
+        labels: Some(names),
+        stale,
+    })
+}
+
+fn strays_in<'a>(alloc: Global, graph: &Graph<'a>) -> Result<Option<Strays<'a>>, Refusal> {
+    let Some((number, expected)) = graph.first_stale else {
+        return Ok(None);
+    };
+    let mut names = Vec::new(alloc);
+    let mut words = Stale {
+        roots: Vec::new(alloc),
+        slots: Vec::new(alloc),
+    };
+    for (place, name) in &graph.stale_roots {
+        names.push(*name)?;
+        words.roots.push((*place, names.len() as u64))?;
+    }
+    for (place, name) in &graph.stale_slots {
+        names.push(*name)?;
+        words.slots.push((*place, names.len() as u64))?;
+    }
+    Ok(Some(Strays {
+        words,
+        names,
+        wrong: Wrong::Line { number, expected },
+    }))
+}
+
+/// The refusal of a file for its words that reference no object, or for its lines, which are in these bytes.
+pub fn refuse_lines(alloc: Global, name: &str, bytes: &[u8], wrong: Wrong) -> Refusal {
+    match wrong {
+        Wrong::Line { number, expected } => wrong_line(alloc, name, bytes, number, &expected),
+        Wrong::Fault(fault) => of_file(alloc, name, fault),
+    }
+}
+
+/// The same side, which is refused if words reference no object.
+pub fn without_strays<'a>(alloc: Global, name: &str, side: Side<'a>) -> Result<Side<'a>, Refusal> {
+    if let Some(strays) = &side.stale {
+        return Err(refuse_lines(alloc, name, &[], strays.wrong));
+    }
+    Ok(side)
+}

@@ -1,0 +1,287 @@
+//! All differences of two heaps, as far as a walk behind the first one finds them.
+use crate::comparing::{Sides, object_in, word_at};
+use crate::reaching::Path;
+use crate::stale::{Stale, word_of};
+use g1_same::How;
+use g1_words::{Heap, Object};
+use std::alloc::{AllocError, Global};
+
+/// A difference, and the path to it.
+#[derive(Drop)]
+pub struct Found {
+    pub path: Path,
+    pub what: What,
+}
+
+/// How two words differ.
+#[derive(Clone, Copy)]
+pub enum What {
+    /// The word after is this one, which references no object.
+    Stale(u64),
+    How(How),
+}
+
+/// The kinds of differences, as lines have them.
+pub const KINDS: [&str; 7] = ["stale", "null", "split", "joined", "size", "slots", "data"];
+
+/// The first differences of the walk, and how many there are of each of `KINDS`.
+#[derive(Drop)]
+pub struct Differences {
+    pub first: Vec<Found>,
+    pub counts: [u64; 7],
+}
+
+/// Walks both heaps at once from as many roots as both have, in the order in which they are compared. The walk
+/// goes on behind objects whose data words alone differ. It does not go on behind any other difference.
+pub fn walk(
+    alloc: Global,
+    sides: Sides<'_>,
+    stale: Option<&Stale>,
+    most: u64,
+) -> Result<Differences, AllocError> {
+    let mut tour = Tour::new(alloc, sides, most)?;
+    for (number, (old, new)) in sides
+        .before
+        .roots()
+        .iter()
+        .zip(sides.after.roots().iter())
+        .enumerate()
+    {
+        let number = number as u64;
+        let word = stale.and_then(|stale| word_of(stale.roots.as_slice(), number));
+        tour.meet(alloc, sides, Step { from: 0, number }, (*old, *new), word)?;
+    }
+    for place in 0..sides.before.words().len() {
+        let Some(pair) = tour.pairs.get(place).copied() else {
+            break;
+        };
+        tour.visit(alloc, sides, stale, place as u64, pair)?;
+    }
+    Ok(tour.differences)
+}
+
+// How a pair is found: 0 and a root's number, or 1 more than the place of a pair, and a slot's number.
+#[derive(Clone, Copy)]
+struct Step {
+    from: u64,
+    number: u64,
+}
+
+#[derive(Drop)]
+struct Tour {
+    // The address before and the address after of each pair of objects, and the step to it.
+    pairs: Vec<(u64, u64)>,
+    steps: Vec<Step>,
+    // By address before, and by address after, 1 more than the place of a pair.
+    new_of: Vec<u32>,
+    old_of: Vec<u32>,
+    most: u64,
+    differences: Differences,
+}
+
+impl Tour {
+    fn new(alloc: Global, sides: Sides<'_>, most: u64) -> Result<Tour, AllocError> {
+        Ok(Tour {
+            pairs: Vec::new(alloc),
+            steps: Vec::new(alloc),
+            new_of: vec![in alloc; 0u32; sides.before.words().len()]?,
+            old_of: vec![in alloc; 0u32; sides.after.words().len()]?,
+            most,
+            differences: Differences {
+                first: Vec::new(alloc),
+                counts: [0; 7],
+            },
+        })
+    }
+
+    // Meets what the slots of two objects reference.
+    fn visit(
+        &mut self,
+        alloc: Global,
+        sides: Sides<'_>,
+        stale: Option<&Stale>,
+        place: u64,
+        pair: (u64, u64),
+    ) -> Result<(), AllocError> {
+        let (a, b) = pair;
+        let from = place.saturating_add(1);
+        for number in 0..object_in(sides.before, a).map_or(0, |object| object.refs) {
+            let old = word_at(sides.before.words(), slot_at(a, number));
+            let new = word_at(sides.after.words(), slot_at(b, number));
+            let word = stale.and_then(|stale| word_of(stale.slots.as_slice(), slot_at(b, number)));
+            self.meet(alloc, sides, Step { from, number }, (old, new), word)?;
+        }
+        Ok(())
+    }
+
+    // Meets two words, of which the one after may be stale.
+    fn meet(
+        &mut self,
+        alloc: Global,
+        sides: Sides<'_>,
+        step: Step,
+        words: (u64, u64),
+        stale: Option<u64>,
+    ) -> Result<(), AllocError> {
+        if let Some(word) = stale {
+            return self.report(alloc, step, What::Stale(word));
+        }
+        let (a, b) = match words {
+            (0, 0) => return Ok(()),
+            (0, _) => return self.report(alloc, step, What::How(How::NullBefore)),
+            (_, 0) => return self.report(alloc, step, What::How(How::NullAfter)),
+            (old, new) => (old.saturating_sub(1), new.saturating_sub(1)),
+        };
+        match self.clash(a, b) {
+            Some(how) => self.report(alloc, step, What::How(how)),
+            None if entry(&self.new_of, a) != 0 => Ok(()),
+            None => self.meet_new(alloc, sides, step, (a, b)),
+        }
+    }
+
+    // Meets two objects that are both new.
+    fn meet_new(
+        &mut self,
+        alloc: Global,
+        sides: Sides<'_>,
+        step: Step,
+        pair: (u64, u64),
+    ) -> Result<(), AllocError> {
+        let how = first_difference(sides, pair);
+        if let Some(how) = how {
+            self.report(alloc, step, What::How(how))?;
+        }
+        if matches!(how, None | Some(How::Data { .. })) {
+            self.add(step, pair)?;
+        }
+        Ok(())
+    }
+
+    // How two objects disagree with the pairs that were found.
+    fn clash(&self, a: u64, b: u64) -> Option<How> {
+        let (i, j) = (entry(&self.new_of, a), entry(&self.old_of, b));
+        if i == j {
+            return None;
+        }
+        let (_, first) = self.pair(i);
+        if i != 0 {
+            return Some(How::Split {
+                object: a,
+                first,
+                second: b,
+            });
+        }
+        let (first, _) = self.pair(j);
+        Some(How::Joined {
+            first,
+            second: a,
+            object: b,
+        })
+    }
+
+    // The pair of an entry.
+    fn pair(&self, entry: u32) -> (u64, u64) {
+        let place = entry.saturating_sub(1) as usize;
+        self.pairs.get(place).copied().unwrap_or((0, 0))
+    }
+
+    fn add(&mut self, step: Step, pair: (u64, u64)) -> Result<(), AllocError> {
+        let (a, b) = pair;
+        self.pairs.push(pair)?;
+        self.steps.push(step)?;
+        let place = u32::try_from(self.pairs.len()).unwrap_or(u32::MAX);
+        set_entry(&mut self.new_of, a, place);
+        set_entry(&mut self.old_of, b, place);
+        Ok(())
+    }
+
+    fn report(&mut self, alloc: Global, step: Step, what: What) -> Result<(), AllocError> {
+        if (self.differences.first.len() as u64) < self.most {
+            let path = self.path(alloc, step)?;
+            self.differences.first.push(Found { path, what })?;
+        }
+        if let Some(count) = self.differences.counts.get_mut(kind_of(&what)) {
+            *count = count.saturating_add(1);
+        }
+        Ok(())
+    }
+
+    // The path whose last step is this one.
+    fn path(&self, alloc: Global, step: Step) -> Result<Path, AllocError> {
+        let mut slots = Vec::new(alloc);
+        let mut step = step;
+        for _ in 0..self.steps.len() {
+            let Some(place) = step.from.checked_sub(1) else {
+                break;
+            };
+            slots.push(step.number)?;
+            let first = Step { from: 0, number: 0 };
+            step = self.steps.get(place as usize).copied().unwrap_or(first);
+        }
+        slots.reverse();
+        Ok(Path {
+            root: step.number,
+            slots,
+        })
+    }
+}
+
+fn slot_at(address: u64, number: u64) -> u64 {
+    address.saturating_add(1).saturating_add(number)
+}
+
+fn entry(table: &[u32], address: u64) -> u32 {
+    table.get(address as usize).copied().unwrap_or(0)
+}
+
+fn set_entry(table: &mut [u32], address: u64, place: u32) {
+    if let Some(entry) = table.get_mut(address as usize) {
+        *entry = place;
+    }
+}
+
+// The place among `KINDS`.
+fn kind_of(what: &What) -> usize {
+    match what {
+        What::Stale(_) => 0,
+        What::How(How::NullBefore) => 1,
+        What::How(How::NullAfter) => 1,
+        What::How(How::Split { .. }) => 2,
+        What::How(How::Joined { .. }) => 3,
+        What::How(How::Size { .. }) => 4,
+        What::How(How::Slots { .. }) => 5,
+        What::How(How::Data { .. }) => 6,
+    }
+}
+
+// How two objects differ, apart from what their slots reference.
+fn first_difference(sides: Sides<'_>, pair: (u64, u64)) -> Option<How> {
+    let (a, b) = pair;
+    let (old, new) = (object_in(sides.before, a)?, object_in(sides.after, b)?);
+    if old.size != new.size {
+        return Some(How::Size {
+            before: old.size,
+            after: new.size,
+        });
+    }
+    if old.refs != new.refs {
+        return Some(How::Slots {
+            before: old.refs,
+            after: new.refs,
+        });
+    }
+    let (here, there) = (data_of(sides.before, &old), data_of(sides.after, &new));
+    let word = here
+        .iter()
+        .zip(there.iter())
+        .position(|(old, new)| old != new)?;
+    Some(How::Data { word: word as u64 })
+}
+
+fn data_of<'a>(heap: &'a Heap, object: &Object) -> &'a [u64] {
+    let first = slot_at(object.at, object.refs);
+    let end = object.at.saturating_add(object.size);
+    heap.words()
+        .get(first as usize..end as usize)
+        .unwrap_or(&[])
+}

@@ -1,0 +1,78 @@
+//! Regions whose slots need no card, since a collector looks at all of them.
+use crate::stale::{Parts, number};
+use g1_image::{Image, decode, encode};
+use g1_words::{Fault, Kind};
+use std::alloc::{AllocError, Global};
+
+/// A copy of an image in which all cards of these regions are dirty. Regions that are free, or not there, have none.
+pub fn with_dirty(alloc: Global, image: &Image, young: &[u32]) -> Result<Image, Fault> {
+    let text = encode(alloc, image)?;
+    let cards = cards_of(alloc, image, young)?;
+    match text_with(alloc, text.as_slice(), cards.as_slice())? {
+        Some(text) => decode(alloc, text.as_slice()),
+        None => decode(alloc, text.as_slice()),
+    }
+}
+
+// The cards of these regions that are not dirty, each once.
+fn cards_of(alloc: Global, image: &Image, young: &[u32]) -> Result<Vec<u32>, AllocError> {
+    let geometry = image.heap().geometry();
+    let in_region = geometry
+        .region_words()
+        .checked_div(geometry.card_words())
+        .unwrap_or(0);
+    let mut cards = Vec::new(alloc);
+    for (region, found) in image.heap().regions().iter().enumerate() {
+        if found.kind != Kind::Free && is_among(young, region) {
+            let first = (region as u64).saturating_mul(in_region);
+            push_clean(image, first, in_region, &mut cards)?;
+        }
+    }
+    Ok(cards)
+}
+
+fn is_among(regions: &[u32], region: usize) -> bool {
+    regions.iter().any(|among| *among as usize == region)
+}
+
+// Adds those of `count` cards, from the first on, that are not dirty.
+fn push_clean(
+    image: &Image,
+    first: u64,
+    count: u64,
+    cards: &mut Vec<u32>,
+) -> Result<(), AllocError> {
+    for place in 0..count {
+        if let Ok(card) = u32::try_from(first.saturating_add(place)) {
+            if !image.log().contains(&card) {
+                cards.push(card)?;
+            }
+        }
+    }
+    Ok(())
+}
+
+// The text with these cards behind those of its log.
+fn text_with(alloc: Global, text: &[u8], cards: &[u32]) -> Result<Option<Vec<u8>>, AllocError> {
+    let Some(parts) = Parts::of(text) else {
+        return Ok(None);
+    };
+    let (Some(log), Some(sets)) = (text.get(..parts.sets_at), text.get(parts.sets_at..)) else {
+        return Ok(None);
+    };
+    let dirty = number(text, Parts::DIRTY_AT).saturating_add(cards.len() as u64);
+    let dirty = u32::try_from(dirty).unwrap_or(u32::MAX);
+    let mut changed = Vec::from_slice(alloc, log)?;
+    for (byte, new) in changed
+        .iter_mut()
+        .skip(Parts::DIRTY_AT)
+        .zip(dirty.to_le_bytes().iter())
+    {
+        *byte = *new;
+    }
+    for card in cards {
+        changed.extend_from_slice(&card.to_le_bytes())?;
+    }
+    changed.extend_from_slice(sets)?;
+    Ok(Some(changed))
+}
