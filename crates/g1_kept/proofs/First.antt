@@ -1,4 +1,4 @@
--- The first loss, and that there is one of the heaps' tables at most.
+-- The first loss, and that there is one at most.
 use Rattle.std.proofs.Common.{◌≡◌, ◌≢◌, ℕ, ◌<◌, ◌⊎◌, inl, inr, List, length, IsTrue, IsFalse, refl, sym, subst, ◌∙◌, arith}
 use Rattle.std.proofs.lemmas.Bool.{cases_lt, false≢true}
 use native.Mathlib.Decide.{ℕ_discrete}
@@ -8,8 +8,10 @@ use Rattle.g1_words.specs.Valid.{IsValid}
 use Rattle.g1_kept.specs.declared.lost.Lost.{Lost}
 use Rattle.g1_kept.specs.declared.lost.Lost.TheVariants as lost
 use Rattle.g1_kept.specs.Keeps.{IsAsItWas, KeepsRegion, KeepsTable}
-use Rattle.g1_kept.specs.Lost.{IsUsedOutside, IsLoss, KeepsBefore, IsEarliest}
-use Rattle.g1_kept.specs.Laws.{IsOfTables, OneOfTables}
+use Rattle.g1_kept.specs.Lost.{IsUsedOutside, IsLoss}
+use Rattle.g1_kept.specs.Order.{KeepsBefore, IsEarliest, IsMetFirst}
+use Rattle.g1_kept.specs.Laws.{OneLoss}
+use Rattle.g1_kept.proofs.OneLoss.{one_met}
 use Rattle.g1_kept.proofs.Regions.{same_top}
 
 -- what is lost of a region
@@ -68,26 +70,26 @@ module _ (set : List ℕ) (g h : Heap) (left : IsValid g) (right : IsValid h) wh
   not_pinned : (r : ℕ) → IsLoss set g h (lost.Pinned r) → KeepsRegion set g h r → ⊥
   not_pinned r c k = let was = as_it_was r c.0 c.1 k in false≢true (sym c.3 ∙ sym was.same_pin ∙ c.4)
 
-  -- what is lost when the tables and the number of roots are as they have to be is the first of its kind
-  pub later : (l : Lost) → KeepsTable set g h → length h.roots ≡ length g.roots → IsLoss set g h l → IsEarliest set g h l
-  later lost.Sizes t n c = tt
-  later lost.Roots t n c = t
-  later (lost.Set r) t n c = absurd (not_set r c (t.regions r c.0))
-  later (lost.Region r) t n c = absurd (not_region r t.geometry c (t.regions r c.0.in_heap))
-  later (lost.Unpinned r) t n c = absurd (not_unpinned r c (t.regions r c.0.in_heap))
-  later (lost.Pinned r) t n c = absurd (not_pinned r c (t.regions r c.0.in_heap))
-  later (lost.Copy a b) t n c = (t, n)
-  later (lost.Header a b) t n c = (t, n)
-  later (lost.Data a b k) t n c = (t, n)
-  later (lost.Slot a b k) t n c = (t, n)
-  later (lost.Root k) t n c = (t, n)
+  -- what is met first when the tables and the number of roots are as they have to be is the first loss
+  pub later : (l : Lost) → KeepsTable set g h → length h.roots ≡ length g.roots → IsLoss set g h l → IsMetFirst set g h l → IsEarliest set g h l
+  later lost.Sizes t n c m = tt
+  later lost.Roots t n c m = t
+  later (lost.Set r) t n c m = absurd (not_set r c (t.regions r c.0))
+  later (lost.Region r) t n c m = absurd (not_region r t.geometry c (t.regions r c.0.in_heap))
+  later (lost.Unpinned r) t n c m = absurd (not_unpinned r c (t.regions r c.0.in_heap))
+  later (lost.Pinned r) t n c m = absurd (not_pinned r c (t.regions r c.0.in_heap))
+  later (lost.Copy a b) t n c m = (t, n, m)
+  later (lost.Header a b) t n c m = (t, n, m)
+  later (lost.Data a b k) t n c m = (t, n, m)
+  later (lost.Slot a b k) t n c m = (t, n, m)
+  later (lost.Root k) t n c m = (t, n, m)
 
   -- where the first loss is
   data Stage (l : Lost) : Type 0 where
     sizes : l ≡ lost.Sizes → h.geometry ≢ g.geometry → Stage l
     region : (r : ℕ) → r < g.geometry.n → AtRegion set g h l r → KeepsBefore set g h r → (KeepsRegion set g h r → ⊥) → Stage l
     roots : l ≡ lost.Roots → KeepsTable set g h → length h.roots ≢ length g.roots → Stage l
-    words : (IsOfTables l → ⊥) → KeepsTable set g h → length h.roots ≡ length g.roots → Stage l
+    words : KeepsTable set g h → length h.roots ≡ length g.roots → IsMetFirst set g h l → Stage l
 
   stage : (l : Lost) → IsLoss set g h l → IsEarliest set g h l → Stage l
   stage lost.Sizes c e = sizes refl c
@@ -96,32 +98,35 @@ module _ (set : List ℕ) (g h : Heap) (left : IsValid g) (right : IsValid h) wh
   stage (lost.Region r) c e = region r c.0.in_heap (for_table refl c.0.outside c.2) e (not_region r e.0 c)
   stage (lost.Unpinned r) c e = region r c.0.in_heap (for_unpinned refl c.0.outside c.1 c.2 c.3) e (not_unpinned r c)
   stage (lost.Pinned r) c e = region r c.0.in_heap (for_pinned refl c.0.outside c.1 c.2 c.3) e (not_pinned r c)
-  stage (lost.Copy a b) c e = words (λ x. x) e.0 e.1
-  stage (lost.Header a b) c e = words (λ x. x) e.0 e.1
-  stage (lost.Data a b k) c e = words (λ x. x) e.0 e.1
-  stage (lost.Slot a b k) c e = words (λ x. x) e.0 e.1
-  stage (lost.Root k) c e = words (λ x. x) e.0 e.1
+  stage (lost.Copy a b) c e = words e.0 e.1 e.2
+  stage (lost.Header a b) c e = words e.0 e.1 e.2
+  stage (lost.Data a b k) c e = words e.0 e.1 e.2
+  stage (lost.Slot a b k) c e = words e.0 e.1 e.2
+  stage (lost.Root k) c e = words e.0 e.1 e.2
 
-  one : (l m : Lost) → IsOfTables l → Stage l → Stage m → l ≡ m
-  one l m of (words not t n) s = absurd (not of)
-  one l m of (sizes e d) (sizes f d') = e ∙ sym f
-  one l m of (sizes e d) (region r lt at b not) = absurd (d b.0)
-  one l m of (sizes e d) (roots f t n) = absurd (d t.geometry)
-  one l m of (sizes e d) (words not t n) = absurd (d t.geometry)
-  one l m of (region r lt at b not) (sizes f d) = absurd (d b.0)
-  one l m of (region r lt at b not) (roots f t n) = absurd (not (t.regions r lt))
-  one l m of (region r lt at b not) (words not' t n) = absurd (not (t.regions r lt))
-  one l m of (region r lt at b not) (region q lt' at' b' not') = elim (cases_lt r q) [
+  one : (l m : Lost) → Stage l → Stage m → l ≡ m
+  one l m (words t n a) (sizes f d) = absurd (d t.geometry)
+  one l m (words t n a) (region r lt at b not) = absurd (not (t.regions r lt))
+  one l m (words t n a) (roots f t' n') = absurd (n' n)
+  one l m (words t n a) (words t' n' b) = one_met set g h l m a b
+  one l m (sizes e d) (sizes f d') = e ∙ sym f
+  one l m (sizes e d) (region r lt at b not) = absurd (d b.0)
+  one l m (sizes e d) (roots f t n) = absurd (d t.geometry)
+  one l m (sizes e d) (words t n a) = absurd (d t.geometry)
+  one l m (region r lt at b not) (sizes f d) = absurd (d b.0)
+  one l m (region r lt at b not) (roots f t n) = absurd (not (t.regions r lt))
+  one l m (region r lt at b not) (words t n a) = absurd (not (t.regions r lt))
+  one l m (region r lt at b not) (region q lt' at' b' not') = elim (cases_lt r q) [
     | inl below ↦ absurd (not (b'.1 r below))
     | inr le ↦ elim (ℕ_discrete r q) [
       | yes e ↦ same_region l m q (subst (AtRegion set g h l) e at) at'
       | no d ↦ absurd (not' (b.1 q (omega (arith, le, d))))
     ]
   ]
-  one l m of (roots e t n) (sizes f d) = absurd (d t.geometry)
-  one l m of (roots e t n) (region r lt at b not) = absurd (not (t.regions r lt))
-  one l m of (roots e t n) (roots f t' n') = e ∙ sym f
-  one l m of (roots e t n) (words not t' n') = absurd (n n')
+  one l m (roots e t n) (sizes f d) = absurd (d t.geometry)
+  one l m (roots e t n) (region r lt at b not) = absurd (not (t.regions r lt))
+  one l m (roots e t n) (roots f t' n') = e ∙ sym f
+  one l m (roots e t n) (words t' n' a) = absurd (n n')
 
-pub one_of_tables : OneOfTables
-one_of_tables set g h l m left right of lost first lost' first' = one set g h left right l m of (stage set g h left right l lost first) (stage set g h left right m lost' first')
+pub one_loss : OneLoss
+one_loss set g h l m left right lost first lost' first' = one set g h left right l m (stage set g h left right l lost first) (stage set g h left right m lost' first')

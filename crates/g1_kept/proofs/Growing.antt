@@ -18,10 +18,21 @@ ok_none_then P Q W G (Ok None) p w g then = then w g p
 ok_none_then P Q W G (Ok (Some x)) p w g then = tt
 ok_none_then P Q W G (Err e) p w g then = tt
 
-pub ok_some_then : {X E : Type 0} (P Q : X → Type 0) (r : Result (Option X) E) → IfOk r (λ o. IfSome o P) → ((x : X) → P x → Q x) → IfOk r (λ o. IfSome o Q)
-ok_some_then P Q (Ok None) p then = tt
-ok_some_then P Q (Ok (Some x)) p then = then x p
-ok_some_then P Q (Err e) p then = tt
+pub ok_none_map : {X E : Type 0} (P Q : Type 0) (r : Result (Option X) E) → IfOk r (λ o. IfNone o P) → (P → Q) → IfOk r (λ o. IfNone o Q)
+ok_none_map P Q (Ok None) p then = then p
+ok_none_map P Q (Ok (Some x)) p then = tt
+ok_none_map P Q (Err e) p then = tt
+
+pub ok_some_map : {X E : Type 0} (P Q : X → Type 0) (r : Result (Option X) E) → IfOk r (λ o. IfSome o P) → ((x : X) → P x → Q x) → IfOk r (λ o. IfSome o Q)
+ok_some_map P Q (Ok None) p then = tt
+ok_some_map P Q (Ok (Some x)) p then = then x p
+ok_some_map P Q (Err e) p then = tt
+
+pub ok_some_both : {X E : Type 0} (P R Q : X → Type 0) (r : Result (Option X) E) → IfOk r (λ o. IfSome o P) → IfOk r (λ o. IfSome o R)
+    → ((x : X) → P x → R x → Q x) → IfOk r (λ o. IfSome o Q)
+ok_some_both P R Q (Ok None) p q then = tt
+ok_some_both P R Q (Ok (Some x)) p q then = then x p q
+ok_some_both P R Q (Err e) p q then = tt
 
 pub grown_same : (w : Pairs) → HasGrown w w
 grown_same w = record { more = omega arith; olds = λ i p. refl; news = λ i p. refl }

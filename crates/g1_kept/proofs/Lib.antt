@@ -1,8 +1,13 @@
 mod Growing
 mod Adding
 mod Steps
+mod Places
+mod OneLoss
+mod Search
+mod Walking
 mod Words
 mod Regions
+mod Outside
 mod Remaining
 mod Renamed
 mod Excludes

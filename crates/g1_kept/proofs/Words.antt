@@ -5,10 +5,12 @@ use Rattle.g1_words.specs.Heap.{Heap}
 use Rattle.g1_words.specs.Survivors.{in_set}
 use Rattle.g1_words.specs.Valid.{IsValid}
 use Rattle.g1_words.proofs.Sound.{object_in}
-use Rattle.g1_same.specs.Walk.{Names}
+use Rattle.g1_same.specs.Walk.{Names, IsNew}
 use Rattle.g1_same.proofs.Tables.{index_some}
 use Rattle.g1_kept.specs.declared.pairs.Pairs.{Pairs}
 use Rattle.g1_kept.specs.Lost.{Match, Disagree, split, joined}
+use Rattle.g1_kept.specs.Order.{Clash}
+use Rattle.g1_kept.specs.Order as order
 use Rattle.g1_kept.specs.Walk.{IsWalk, IsPaired}
 
 pub some : (n : ℕ) → n ≢ 0 → n ≡ suc (n - 1)
@@ -53,3 +55,25 @@ module _ (set : List ℕ) (g h : Heap) (w : Pairs) (walk : IsWalk set g h w) (a 
 
   pub differ_here : IsTrue (in_set g set a) → i ≢ j → Disagree set g h (suc a) (suc b)
   differ_here of_set other = elim (ℕ_discrete i 0) [ yes e ↦ joined_here of_set other e | no d ↦ split_here of_set other d ]
+
+  -- the same by what was found
+  clash_split : IsTrue (in_set g set a) → i ≢ j → i ≢ 0 → Clash set g w.before.items w.after.items (suc a) (suc b)
+  clash_split of_set other some =
+      let p = in_before some in
+      order.split (i - 1) of_set p.0 p.1 (λ e. let k = (walk.index_after b (i - 1) b_lt).1 (omega (arith, p.0, walk.pairs), e) in other (omega (arith, k, is_j, some)))
+
+  clash_joined : IsTrue (in_set g set a) → i ≢ j → i ≡ 0 → Clash set g w.before.items w.after.items (suc a) (suc b)
+  clash_joined of_set other none =
+      let q = in_after (λ z. other (none ∙ sym z)) in
+      let p : j - 1 < length w.before.items = omega (arith, q.0, walk.pairs) in
+      order.joined (j - 1) of_set p q.1 (λ e. let k = (walk.index_before a (j - 1) a_lt).1 (p, e) in omega (arith, k, is_i, none))
+
+  pub clash_here : IsTrue (in_set g set a) → i ≢ j → Clash set g w.before.items w.after.items (suc a) (suc b)
+  clash_here of_set other = elim (ℕ_discrete i 0) [ yes e ↦ clash_joined of_set other e | no d ↦ clash_split of_set other d ]
+
+  -- an entry of 0 says that the object is new
+  pub new_before : i ≡ 0 → IsNew w.before.items a
+  new_before none k lt e = let q = (walk.index_before a k a_lt).1 (lt, e) in omega (arith, q, is_i, none)
+
+  pub new_after : j ≡ 0 → IsNew w.after.items b
+  new_after none k lt e = let q = (walk.index_after b k b_lt).1 (lt, e) in omega (arith, q, is_j, none)

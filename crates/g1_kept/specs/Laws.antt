@@ -9,9 +9,9 @@ use Rattle.g1_words.specs.Graph.{SameGraph}
 use Rattle.g1_image.specs.Image.{Image}
 use Rattle.g1_after.specs.Paused.{IsPaused}
 use Rattle.g1_kept.specs.declared.lost.Lost.{Lost}
-use Rattle.g1_kept.specs.declared.lost.Lost.TheVariants as lost
 use Rattle.g1_kept.specs.Keeps.{Keeps}
-use Rattle.g1_kept.specs.Lost.{IsLoss, IsEarliest}
+use Rattle.g1_kept.specs.Lost.{IsLoss}
+use Rattle.g1_kept.specs.Order.{IsEarliest}
 
 -- the image after a pause of a set keeps what a pause of the set keeps
 abbrev pub PauseKeeps : Type 0
@@ -31,17 +31,7 @@ FreesRuns = (set : List ℕ) (g h : Heap) (r i : ℕ) → IsValid g → IsValid 
     → r < g.geometry.n → kind g r ≡ HumongousFirst → i * g.geometry.w < (object_at g (start g r)).size
     → (kind h (r + i) ≡ Free) ↔ (kind h r ≡ Free)
 
--- what is reported of the heaps' tables, and not of what roots and objects hold
-abbrev pub IsOfTables : Lost → Type 0
-IsOfTables lost.Sizes = Unit {0}
-IsOfTables (lost.Set r) = Unit {0}
-IsOfTables (lost.Region r) = Unit {0}
-IsOfTables (lost.Unpinned r) = Unit {0}
-IsOfTables (lost.Pinned r) = Unit {0}
-IsOfTables lost.Roots = Unit {0}
-IsOfTables _ = ⊥
-
--- two heaps have one first loss where it is one of their tables
-abbrev pub OneOfTables : Type 0
-OneOfTables = (set : List ℕ) (g h : Heap) (l m : Lost) → IsValid g → IsValid h → IsOfTables l
+-- two heaps have one first loss
+abbrev pub OneLoss : Type 0
+OneLoss = (set : List ℕ) (g h : Heap) (l m : Lost) → IsValid g → IsValid h
     → IsLoss set g h l → IsEarliest set g h l → IsLoss set g h m → IsEarliest set g h m → l ≡ m

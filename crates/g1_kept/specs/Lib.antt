@@ -1,5 +1,6 @@
 pub mod Keeps
 pub mod Lost
+pub mod Order
 pub mod Walk
 pub mod RegionSet
 pub mod Laws

@@ -6,7 +6,7 @@ use Rattle.g1_words.specs.Heap.{Heap, kind, top, pinned, word, object_at}
 use Rattle.g1_words.specs.Survivors.{in_set}
 use Rattle.g1_kept.specs.declared.lost.Lost.{Lost}
 use Rattle.g1_kept.specs.declared.lost.Lost.TheVariants as lost
-use Rattle.g1_kept.specs.Keeps.{MayHoldCopy, IsFreed, KeepsRegion, KeepsTable, IsOutside}
+use Rattle.g1_kept.specs.Keeps.{MayHoldCopy, IsFreed, IsOutside}
 
 -- The object before and the one after have to be the same: an object outside the set and itself; and what one root, or one slot
 -- of two such objects, references, in the set before and anywhere after.
@@ -55,18 +55,3 @@ IsLoss set g h (lost.Slot a b n) =
     Match set g h a b × (word h b ≡ word g a) × (n < (object_at g a).refs) × Disagree set g h (word g (a + 1 + n)) (word h (b + 1 + n))
 IsLoss set g h (lost.Root n) =
     (n < length g.roots) × (n < length h.roots) × Disagree set g h (slice_index g.roots n) (slice_index h.roots n)
-
--- the heaps have the same sizes, and each region before this one is as it has to be
-abbrev pub KeepsBefore : List ℕ → Heap → Heap → ℕ → Type 0
-KeepsBefore set g h r = (h.geometry ≡ g.geometry) × ((q : ℕ) → q < r → KeepsRegion set g h q)
-
--- Nothing that comes before it is lost. First come the sizes, then the regions by number, then the number of roots, and then what
--- roots and objects hold. (Which of the last is the first is not said here.)
-abbrev pub IsEarliest : List ℕ → Heap → Heap → Lost → Type 0
-IsEarliest set g h lost.Sizes = Unit {0}
-IsEarliest set g h (lost.Set r) = KeepsBefore set g h r
-IsEarliest set g h (lost.Region r) = KeepsBefore set g h r
-IsEarliest set g h (lost.Unpinned r) = KeepsBefore set g h r
-IsEarliest set g h (lost.Pinned r) = KeepsBefore set g h r
-IsEarliest set g h lost.Roots = KeepsTable set g h
-IsEarliest set g h _ = KeepsTable set g h × (length h.roots ≡ length g.roots)

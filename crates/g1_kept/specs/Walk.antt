@@ -4,12 +4,15 @@ use Rattle.g1_words.specs.Lists.{has}
 use Rattle.g1_words.specs.declared.region.Kind.TheVariants.{Free}
 use Rattle.g1_words.specs.Heap.{Heap, kind, word, object_at, objects, objects_in}
 use Rattle.g1_words.specs.Survivors.{in_set}
-use Rattle.g1_same.specs.Walk.{IsIndex, AreAlike}
+use Rattle.g1_same.specs.Walk.{IsIndex, IsNew, AreAlike}
+use Rattle.g1_kept.specs.declared.lost.Lost.{Lost}
+use Rattle.g1_kept.specs.declared.lost.Lost.TheVariants as lost
 use Rattle.g1_kept.specs.declared.pairs.Pairs.{Pairs}
 use Rattle.g1_kept.specs.declared.linking.Met.{Met}
 use Rattle.g1_kept.specs.declared.linking.Met.TheVariants.{Agree, Differ, Occupied, New}
 use Rattle.g1_kept.specs.Keeps.{MayHoldCopy}
 use Rattle.g1_kept.specs.Lost.{Match, LeadsOut, Disagree}
+use Rattle.g1_kept.specs.Order.{IsTurn, AreWords, IsSearch, Clash, IsLostAt, IsMetFirst}
 
 -- The pairs are objects of the set and of the heap after that match, found by the tables, each where a copy may be.
 pub record IsWalk (set : List ℕ) (g h : Heap) (w : Pairs) : Type 0 where
@@ -39,8 +42,9 @@ IsPaired set g w x y =
 -- what two words are to the walk
 abbrev pub IsMet : List ℕ → Heap → Heap → Pairs → ℕ → ℕ → Met → Type 0
 IsMet set g h w x y Agree = IsPaired set g w x y
-IsMet set g h w x y Differ = Disagree set g h x y
-IsMet set g h w x y (Occupied a b) = (x ≡ suc a) × (y ≡ suc b) × IsTrue (in_set g set a) × (MayHoldCopy g b → ⊥)
+IsMet set g h w x y Differ = Disagree set g h x y × Clash set g w.before.items w.after.items x y
+IsMet set g h w x y (Occupied a b) =
+    (x ≡ suc a) × (y ≡ suc b) × IsTrue (in_set g set a) × (MayHoldCopy g b → ⊥) × IsNew w.before.items a × IsNew w.after.items b
 IsMet set g h w x y (New a b) =
     (x ≡ suc a) × (y ≡ suc b) × IsTrue (in_set g set a) × MayHoldCopy g b × (slice_index w.new_of.items a ≡ 0) × (slice_index w.old_of.items b ≡ 0)
 
@@ -75,3 +79,42 @@ ComparesOutside set g h w k =
 abbrev pub ComparesPairs : List ℕ → Heap → Heap → Pairs → ℕ → Type 0
 ComparesPairs set g h w k =
     (i : ℕ) → i < k → IsCompared set g h w (slice_index w.before.items i) (slice_index w.after.items i)
+
+-- the walk has found what a search has before a place
+abbrev pub Searches : List ℕ → Heap → Heap → Pairs → ℕ → ℕ → Type 0
+Searches set g h w f n = IsSearch set g h w.before.items w.after.items f n
+
+-- the objects of a turn of the walk
+abbrev pub HasTurn : List ℕ → Heap → Heap → Pairs → ℕ → ℕ → ℕ → Type 0
+HasTurn set g h w t a b = IsTurn set g h w.before.items w.after.items t a b
+
+-- the words of a place of the walk
+abbrev pub HasWords : List ℕ → Heap → Heap → Pairs → ℕ → ℕ → ℕ → ℕ → Type 0
+HasWords set g h w f n x y = AreWords set g h w.before.items w.after.items f n x y
+
+-- the search goes on past any place that has these two words
+abbrev pub PassesWords : List ℕ → Heap → Heap → Pairs → Pairs → ℕ → ℕ → Type 0
+PassesWords set g h w v x y = (f n : ℕ) → Searches set g h w f n → HasWords set g h w f n x y → Searches set g h v f (n + 1)
+
+-- this loss is met first at any place that has these two words, and the other one if they disagree
+abbrev pub StopsAtWords : List ℕ → Heap → Heap → Pairs → ℕ → ℕ → Lost → Lost → Type 0
+StopsAtWords set g h w x y other l =
+    (f n : ℕ) → Searches set g h w f n → HasWords set g h w f n x y
+    → (Clash set g w.before.items w.after.items x y → IsLostAt set g h w.before.items w.after.items f n other) → IsMetFirst set g h l
+
+-- the search goes on from this number of the row of two objects to the next row
+abbrev pub PassesObjects : List ℕ → Heap → Heap → Pairs → Pairs → ℕ → ℕ → ℕ → Type 0
+PassesObjects set g h w v a b n = (t : ℕ) → Searches set g h w (suc t) n → HasTurn set g h w t a b → Searches set g h v (suc (suc t)) 0
+
+-- this loss is met first from this number of the row of two objects on
+abbrev pub StopsAtObjects : List ℕ → Heap → Heap → Pairs → ℕ → ℕ → ℕ → Lost → Type 0
+StopsAtObjects set g h w a b n l = (t : ℕ) → Searches set g h w (suc t) n → HasTurn set g h w t a b → IsMetFirst set g h l
+
+-- What is lost of the headers or the data words of two objects: the headers differ, or this is the first data word that does. (The data
+-- words begin behind the slots, and these are as many as the header says.)
+abbrev pub IsFirstOfObjects : Heap → Heap → ℕ → ℕ → Lost → Type 0
+IsFirstOfObjects g h a b (lost.Header c d) = (c ≡ a) × (d ≡ b)
+IsFirstOfObjects g h a b (lost.Data c d k) =
+    (c ≡ a) × (d ≡ b)
+    × ((j : ℕ) → j < k → word h (d + 1 + (object_at g c).refs + j) ≡ word g (c + 1 + (object_at g c).refs + j))
+IsFirstOfObjects g h a b _ = ⊥

@@ -1,12 +1,13 @@
-ghost use Rattle.std.specs.Prelude.{◌≡◌, ◌≢◌, ◌<◌, ◌≤◌, ◌+◌, ◌↔◌, ℕ, List, length, slice_index, Contains, IfSome, IfNone, IfOk, IfErr, OnOk, IsTrue, IsFalse};
+ghost use Rattle.std.specs.Prelude.{◌≡◌, ◌≢◌, ◌<◌, ◌≤◌, ◌+◌, ◌↔◌, ℕ, suc, List, length, slice_index, Contains, IfSome, IfNone, IfOk, IfErr, OnOk, IsTrue, IsFalse};
 ghost use Rattle.g1_words.specs.declared.fault.Fault.TheVariants.{Memory};
 ghost use Rattle.g1_words.specs.declared.region.Kind.TheVariants.{Free};
 ghost use Rattle.g1_words.specs.Lists.{has};
-ghost use Rattle.g1_words.specs.Heap.{kind, object_at, objects};
+ghost use Rattle.g1_words.specs.Heap.{kind, start, object_at, objects};
 ghost use Rattle.g1_same.specs.Walk.{AreAlike};
 ghost use Rattle.g1_kept.specs.Keeps.{Keeps, KeepsTable};
-ghost use Rattle.g1_kept.specs.Lost.{IsEarliest, IsLoss, Match};
-ghost use Rattle.g1_kept.specs.Walk.{IsWalk, HasGrown, PairsRoots, IsCompared, ComparesRegion, ComparesOutside, ComparesPairs};
+ghost use Rattle.g1_kept.specs.Lost.{IsLoss, Match};
+ghost use Rattle.g1_kept.specs.Order.{IsEarliest, IsMetFirst};
+ghost use Rattle.g1_kept.specs.Walk.{IsWalk, HasGrown, PairsRoots, IsCompared, ComparesRegion, ComparesOutside, ComparesPairs, Searches, PassesObjects, StopsAtObjects, IsFirstOfObjects};
 
 use crate::linking::{link_roots, link_slots};
 use crate::lost::Lost;
@@ -21,6 +22,7 @@ fn first_other(old: &[u64], new: &[u64]) -> Option<usize>
     requires { length new.now ≡ length old.now }
     ensures some { IfSome result (λ k. k < length old.now) }
     ensures other { IfSome result (λ k. slice_index new.now k ≢ slice_index old.now k) }
+    ensures before { IfSome result (λ k. (i : ℕ) → i < k → slice_index old.now i ≡ slice_index new.now i) }
     ensures none { IfNone result ((i : ℕ) → i < length old.now → slice_index old.now i ≡ slice_index new.now i) }
 {
     for place in 0..old.len() {
@@ -44,6 +46,7 @@ fn compare_contents(
     requires matched { Match set.now before.now after.now a b }
     ensures none { IfNone result (AreAlike before.now after.now a b) }
     ensures some { IfSome result (λ l. IsLoss set.now before.now after.now l) }
+    ensures first { IfSome result (λ l. IsFirstOfObjects before.now after.now a b l) }
 {
     let old = before.object(a);
     let new = after.object(b);
@@ -83,6 +86,8 @@ fn compare_pair(
     ensures grown { OnOk result (HasGrown pairs.old pairs.new) }
     ensures compared { IfOk result (λ o. IfNone o (IsCompared set.now before.now after.now pairs.new a b)) }
     ensures lost { IfOk result (λ o. IfSome o (λ l. IsLoss set.now before.now after.now l)) }
+    ensures passed { IfOk result (λ o. IfNone o (PassesObjects set.now before.now after.now pairs.old pairs.new a b 0)) }
+    ensures first { IfOk result (λ o. IfSome o (λ l. StopsAtObjects set.now before.now after.now pairs.old a b 0 l)) }
 {
     if let Some(lost) = compare_contents(before, after, set, a, b) {
         return Ok(Some(lost));
@@ -105,10 +110,13 @@ fn compare_region(
     requires outside { IsFalse (has set.now region) }
     requires used { kind before.now region ≢ Free }
     requires in_use { kind after.now region ≢ Free }
+    requires search { Searches set.now before.now after.now pairs.old (suc (start before.now region)) 0 }
     ensures walk { OnOk result (IsWalk set.now before.now after.now pairs.new) }
     ensures grown { OnOk result (HasGrown pairs.old pairs.new) }
     ensures compared { IfOk result (λ o. IfNone o (ComparesRegion set.now before.now after.now pairs.new region)) }
     ensures lost { IfOk result (λ o. IfSome o (λ l. IsLoss set.now before.now after.now l)) }
+    ensures searched { IfOk result (λ o. IfNone o (Searches set.now before.now after.now pairs.new (suc (start before.now (region + 1))) 0)) }
+    ensures first { IfOk result (λ o. IfSome o (λ l. IsMetFirst set.now before.now after.now l)) }
 {
     g1_words::laws::valid(before);
     g1_words::laws::valid(after);
@@ -146,11 +154,16 @@ fn compare_outside(
 ) -> Result<Option<Lost>, AllocError>
     requires walk { IsWalk set.now before.now after.now pairs.old }
     requires table { KeepsTable set.now before.now after.now }
+    requires search { Searches set.now before.now after.now pairs.old 1 0 }
     ensures walk { OnOk result (IsWalk set.now before.now after.now pairs.new) }
     ensures grown { OnOk result (HasGrown pairs.old pairs.new) }
     ensures compared { IfOk result (λ o. IfNone o (ComparesOutside set.now before.now after.now pairs.new before.now.geometry.n)) }
     ensures lost { IfOk result (λ o. IfSome o (λ l. IsLoss set.now before.now after.now l)) }
+    ensures searched { IfOk result (λ o. IfNone o (Searches set.now before.now after.now pairs.new (suc (length before.now.words)) 0)) }
+    ensures first { IfOk result (λ o. IfSome o (λ l. IsMetFirst set.now before.now after.now l)) }
 {
+    g1_words::laws::valid(before);
+    g1_words::laws::valid(after);
     for region in 0..before.geometry().regions() as u32 {
         if is_compared(before, after, set, region) {
             if let Some(lost) = compare_region(alloc, before, after, set, pairs, region)? {
@@ -170,10 +183,12 @@ fn compare_pairs(
 ) -> Result<Option<Lost>, AllocError>
     requires walk { IsWalk set.now before.now after.now pairs.old }
     requires table { KeepsTable set.now before.now after.now }
+    requires search { Searches set.now before.now after.now pairs.old (suc (length before.now.words)) 0 }
     ensures walk { OnOk result (IsWalk set.now before.now after.now pairs.new) }
     ensures grown { OnOk result (HasGrown pairs.old pairs.new) }
     ensures compared { IfOk result (λ o. IfNone o (ComparesPairs set.now before.now after.now pairs.new (length pairs.new.before.items))) }
     ensures lost { IfOk result (λ o. IfSome o (λ l. IsLoss set.now before.now after.now l)) }
+    ensures first { IfOk result (λ o. IfSome o (λ l. IsMetFirst set.now before.now after.now l)) }
 {
     g1_words::laws::valid(before);
     g1_words::laws::valid(after);
@@ -200,6 +215,7 @@ fn compare_words(
     requires roots { length after.now.roots ≡ length before.now.roots }
     ensures none { IfOk result (λ o. IfNone o (Keeps set.now before.now after.now)) }
     ensures some { IfOk result (λ o. IfSome o (λ l. IsLoss set.now before.now after.now l)) }
+    ensures first { IfOk result (λ o. IfSome o (λ l. IsMetFirst set.now before.now after.now l)) }
 {
     let mut pairs = start(alloc, before, after, set)?;
     if let Some(lost) = link_roots(before, after, set, &mut pairs)? {

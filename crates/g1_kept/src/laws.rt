@@ -1,4 +1,4 @@
-ghost use Rattle.g1_kept.specs.Laws.{FreesRuns, KeepsGraph, NothingLost, OneOfTables, PauseKeeps};
+ghost use Rattle.g1_kept.specs.Laws.{FreesRuns, KeepsGraph, NothingLost, OneLoss, PauseKeeps};
 
 /// The image after a pause of a set keeps what a pause of the set keeps.
 pub fn pause_keeps()
@@ -16,7 +16,7 @@ pub fn whole_runs()
     ensures { FreesRuns }
 {}
 
-/// Of the heaps' tables there is one first loss at most.
-pub fn one_of_tables()
-    ensures { OneOfTables }
+/// Two heaps have one first loss at most.
+pub fn one_loss()
+    ensures { OneLoss }
 {}

@@ -11,7 +11,8 @@
 //! The order of the copies and their regions are free, and other objects may be in regions that were
 //! free. What is found first to differ is reported: sizes, regions by number, the number of roots, the
 //! roots by number, the objects outside the set by address, and then the copies, in the order in which
-//! they were found. `specs/Keeps.antt` defines what is kept, `specs/Lost.antt` what each report says.
+//! they were found. `specs/Keeps.antt` defines what is kept, `specs/Lost.antt` what each report
+//! says, and `specs/Order.antt` which of several comes first.
 //!
 //! Two tables find the copy of an object and the object of a copy, with 4 bytes for each word of their
 //! heap; the list of copies has 16 bytes for each. Each object, slot and data word is looked at once.

@@ -1,10 +1,11 @@
-ghost use Rattle.std.specs.Prelude.{◌≡◌, ◌≢◌, ◌<◌, ◌+◌, ◌-◌, ◌↔◌, ℕ, suc, length, slice_index, Contains, IfSome, IfNone, IfOk, OnOk, IsTrue, IsFalse};
+ghost use Rattle.std.specs.Prelude.{◌≡◌, ◌≢◌, ◌<◌, ◌+◌, ◌-◌, ◌↔◌, ℕ, suc, [], length, slice_index, Contains, IfSome, IfNone, IfOk, OnOk, IsTrue, IsFalse};
 ghost use Rattle.g1_words.specs.Heap.{word, object_at, objects};
 ghost use Rattle.g1_words.specs.Survivors.{in_set};
 ghost use Rattle.g1_same.specs.Walk.{AreAlike, Names};
 ghost use Rattle.g1_kept.specs.Keeps.{MayHoldCopy};
 ghost use Rattle.g1_kept.specs.Lost.{Match, LeadsOut, Disagree, IsLoss};
-ghost use Rattle.g1_kept.specs.Walk.{IsWalk, HasGrown, IsPaired, IsMet, PairsRoots, PairsSlots};
+ghost use Rattle.g1_kept.specs.Order.{IsMetFirst};
+ghost use Rattle.g1_kept.specs.Walk.{IsWalk, HasGrown, IsPaired, IsMet, PairsRoots, PairsSlots, Searches, PassesWords, StopsAtWords, PassesObjects, StopsAtObjects};
 
 use crate::lost::Lost;
 use crate::pairs::Pairs;
@@ -97,6 +98,8 @@ fn link(
     ensures grown { OnOk result (HasGrown pairs.old pairs.new) }
     ensures paired { IfOk result (λ o. IfNone o (IsPaired set.now before.now pairs.new x y)) }
     ensures lost { IfOk result (λ o. IfSome o (λ l. IsLoss set.now before.now after.now l)) }
+    ensures passed { IfOk result (λ o. IfNone o (PassesWords set.now before.now after.now pairs.old pairs.new x y)) }
+    ensures first { IfOk result (λ o. IfSome o (λ l. StopsAtWords set.now before.now after.now pairs.old x y other l)) }
 {
     g1_words::laws::valid(before);
     g1_words::laws::valid(after);
@@ -124,9 +127,12 @@ pub(crate) fn link_roots(
     requires walk { IsWalk set.now before.now after.now pairs.old }
     requires sizes { length after.now.words ≡ length before.now.words }
     requires roots { length after.now.roots ≡ length before.now.roots }
+    requires none { pairs.old.before.items ≡ [] }
     ensures walk { OnOk result (IsWalk set.now before.now after.now pairs.new) }
     ensures paired { IfOk result (λ o. IfNone o (PairsRoots set.now before.now after.now pairs.new (length before.now.roots))) }
     ensures lost { IfOk result (λ o. IfSome o (λ l. IsLoss set.now before.now after.now l)) }
+    ensures searched { IfOk result (λ o. IfNone o (Searches set.now before.now after.now pairs.new 1 0)) }
+    ensures first { IfOk result (λ o. IfSome o (λ l. IsMetFirst set.now before.now after.now l)) }
 {
     g1_words::laws::valid(before);
     g1_words::laws::valid(after);
@@ -162,6 +168,8 @@ pub(crate) fn link_slots(
     ensures grown { OnOk result (HasGrown pairs.old pairs.new) }
     ensures paired { IfOk result (λ o. IfNone o (PairsSlots set.now before.now after.now pairs.new a b (object_at before.now a).refs)) }
     ensures lost { IfOk result (λ o. IfSome o (λ l. IsLoss set.now before.now after.now l)) }
+    ensures passed { IfOk result (λ o. IfNone o (PassesObjects set.now before.now after.now pairs.old pairs.new a b 1)) }
+    ensures first { IfOk result (λ o. IfSome o (λ l. StopsAtObjects set.now before.now after.now pairs.old a b 1 l)) }
 {
     g1_words::laws::valid(before);
     g1_words::laws::valid(after);

@@ -1,6 +1,7 @@
 ghost use Rattle.std.specs.Prelude.{◌≡◌, ◌<◌, ◌↔◌, IfSome, IfNone, IsTrue};
 ghost use Rattle.g1_kept.specs.Keeps.{IsFreed, KeepsRegion, KeepsTable};
-ghost use Rattle.g1_kept.specs.Lost.{IsEarliest, IsLoss, KeepsBefore};
+ghost use Rattle.g1_kept.specs.Lost.{IsLoss};
+ghost use Rattle.g1_kept.specs.Order.{IsEarliest, KeepsBefore};
 
 use crate::lost::Lost;
 use crate::region_set::RegionSet;

@@ -16,7 +16,8 @@ use Rattle.g1_same.specs.Path.{Together}
 use Rattle.g1_same.specs.Same.{IsFirstDifference, IsRenaming}
 use Rattle.g1_kept.specs.declared.lost.Lost.{Lost}
 use Rattle.g1_kept.specs.Keeps.{Keeps}
-use Rattle.g1_kept.specs.Lost.{IsLoss, IsEarliest}
+use Rattle.g1_kept.specs.Lost.{IsLoss}
+use Rattle.g1_kept.specs.Order.{IsEarliest}
 use Rattle.g1judge.specs.declared.verdict.Ends.{Ends}
 use Rattle.g1judge.specs.declared.verdict.Verdict.{Verdict}
 use Rattle.g1judge.specs.declared.verdict.Verdict.TheVariants.{Good, Same, Differ, NoImage, Uncovered, Loss, NoSet, Memory}

@@ -1,10 +1,11 @@
-use Rattle.std.proofs.Common.{arith, sym, ℕ, ◌≡◌, ◌<◌, ◌+◌, ◌-◌, length, slice_index}
+use Rattle.std.proofs.Common.{arith, inr, refl, subst, sym, suc, ℕ, ◌≡◌, ◌<◌, ◌+◌, ◌-◌, length, slice_index}
 use Rattle.std.proofs.lemmas.List.{get_or_read}
 use Rattle.g1_words.specs.Heap.{Heap}
 use Rattle.g1_kept.specs.declared.pairs.Pairs.{Pairs}
-use Rattle.g1_kept.specs.Walk.{IsCompared, HasGrown}
+use Rattle.g1_kept.specs.declared.lost.Lost.{Lost}
+use Rattle.g1_kept.specs.Walk.{IsCompared, HasGrown, HasTurn, Searches, PassesObjects, StopsAtObjects}
 use Rattle.g1_kept.proofs.Adding.{few_pairs}
-use Rattle.g1_kept.proofs.Growing.{none_then, grown_more, pairs_more}
+use Rattle.g1_kept.proofs.Growing.{none_then, some_then, grown_same, grown_more, pairs_more}
 use Rattle.g1_kept.proofs.Steps.{as_many_words, pair_read}
 use Rattle.g1_kept.proofs.keeping.compare_pairs.Goals as goal
 
@@ -52,8 +53,12 @@ loop-place-preserved c =
     let b_is : b ≡ slice_index w.after.items i = get_or_read w.after.items i b (omega (arith, lt, c.loop-place.invariant.walk.pairs)) c.index-b.ensures 0 in
     let grown : HasGrown w v = c.in_ok-lost.ensures.grown in
     let one : IsCompared c.args.set.now g h v a b = none_then (IsCompared c.args.set.now g h v a b) c.in_ok-lost.field-0 c.in_default.not-Some c.in_ok-lost.ensures.compared in
+    let turn : HasTurn c.args.set.now g h w (length g.words + i) a b = inr (i, lt, refl, a_is, b_is) in
+    let passed = none_then (PassesObjects c.args.set.now g h w v a b 0) c.in_ok-lost.field-0 c.in_default.not-Some c.in_ok-lost.ensures.passed in
+    let next : suc (suc (length g.words + i)) ≡ suc (length g.words + (i + 1)) = omega arith in
     record {
       walk = c.in_ok-lost.ensures.walk;
+      search = subst (λ z. Searches c.args.set.now g h v z 0) next (passed (length g.words + i) c.loop-place.invariant.search turn);
       grown = grown_more c.args.pairs.now w v c.loop-place.invariant.grown grown;
       compared = pairs_more c.args.set.now g h w v grown i a b lt (sym a_is) (sym b_is) c.loop-place.invariant.compared one;
       within = omega (arith, lt, grown.more);
@@ -69,3 +74,29 @@ loop-place-smaller c =
     let n : ℕ = length c.args.before.now.words in
     let e : n - (c.loop-place.place + 1) < n - c.loop-place.place = omega (arith, few, lt) in
     e
+
+pub loop-place-init : goal.loop-place-init
+loop-place-init c =
+    let first : suc (length c.args.before.now.words) ≡ suc (length c.args.before.now.words + 0) = omega arith in
+    record {
+      walk = c.requires.walk;
+      grown = grown_same c.args.pairs.now;
+      compared = λ i lt. absurd (omega (arith, lt));
+      within = omega arith;
+      search = subst (λ z. Searches c.args.set.now c.args.before.now c.args.after.now c.args.pairs.now z 0) first c.requires.search;
+    }
+
+pub returns-in-Some-clause-first : goal.returns-in-Some-clause-first
+returns-in-Some-clause-first c =
+    let g : Heap = c.args.before.now in
+    let h : Heap = c.args.after.now in
+    let w : Pairs = c.loop-place.pairs in
+    let i : ℕ = c.loop-place.place in
+    let a : ℕ = c.index-a.result.now in
+    let b : ℕ = c.index-b.result.now in
+    let lt : i < length w.before.items = omega (arith, c.loop-place-test.true, c.len.ensures, w.before.ok) in
+    let a_is : a ≡ slice_index w.before.items i = get_or_read w.before.items i a lt c.index-a.ensures 0 in
+    let b_is : b ≡ slice_index w.after.items i = get_or_read w.after.items i b (omega (arith, lt, c.loop-place.invariant.walk.pairs)) c.index-b.ensures 0 in
+    let turn : HasTurn c.args.set.now g h w (length g.words + i) a b = inr (i, lt, refl, a_is, b_is) in
+    let stops = some_then (λ (l : Lost). StopsAtObjects c.args.set.now g h w a b 0 l) c.in_ok-lost.field-0 c.in-Some.lost c.in-Some.is c.in_ok-lost.ensures.first in
+    stops (length g.words + i) c.loop-place.invariant.search turn

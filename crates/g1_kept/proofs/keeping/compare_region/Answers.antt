@@ -1,10 +1,12 @@
-use Rattle.std.proofs.Common.{arith, subst, sym, ℕ, List, ◌≡◌, ◌<◌, length, slice_index, Contains}
+use Rattle.std.proofs.Common.{arith, inl, refl, subst, sym, suc, ℕ, List, ◌≡◌, ◌<◌, ◌≤◌, length, slice_index, Contains}
 use Rattle.std.proofs.lemmas.List.{get_or_read}
 use Rattle.g1_words.specs.Heap.{Heap, object_at, objects}
 use Rattle.g1_kept.specs.declared.pairs.Pairs.{Pairs}
 use Rattle.g1_kept.specs.Lost.{Match, outside}
-use Rattle.g1_kept.specs.Walk.{IsCompared}
-use Rattle.g1_kept.proofs.Growing.{none_then, grown_more, first_more}
+use Rattle.g1_kept.specs.declared.lost.Lost.{Lost}
+use Rattle.g1_kept.specs.Walk.{IsCompared, PassesObjects, StopsAtObjects, Searches}
+use Rattle.g1_kept.proofs.Growing.{none_then, some_then, grown_same, grown_more, first_more}
+use Rattle.g1_kept.proofs.Outside.{along_start, along_next, along_end, at_start, start_turn}
 use Rattle.g1_kept.proofs.Regions.{start_in, start_outside, start_stands, region_compared}
 use Rattle.g1_kept.proofs.Steps.{as_many_words}
 use Rattle.g1_kept.proofs.keeping.compare_region.Goals as goal
@@ -58,8 +60,17 @@ loop-place-preserved c =
     let lt : i < length starts = omega (arith, c.loop-place-test.true, c.len-place-end.ensures, c.in-Ok.starts.ok) in
     let at : a ≡ slice_index starts i = get_or_read starts i a lt c.index-at.ensures 0 in
     let one : IsCompared c.args.set.now g h v a a = none_then (IsCompared c.args.set.now g h v a a) c.in_ok-lost.field-0 c.in_default.not-Some c.in_ok-lost.ensures.compared in
+    let w : Pairs = c.loop-place.pairs in
+    let passed = none_then (PassesObjects c.args.set.now g h w v a a 0) c.in_ok-lost.field-0 c.in_default.not-Some c.in_ok-lost.ensures.passed in
+    let s = at_start c.args.set.now g h c.valid.ensures c.valid-2.ensures c.requires.table c.args.region c.requires.region c.requires.outside
+    c.requires.used c.requires.in_use starts c.in-Ok.ensures.ok w i c.loop-place.invariant.along lt a at in
+    let turn = start_turn c.args.set.now g h c.valid.ensures c.valid-2.ensures c.requires.table c.args.region c.requires.region c.requires.outside
+    c.requires.used c.requires.in_use starts c.in-Ok.ensures.ok w i lt a at in
     record {
       walk = c.in_ok-lost.ensures.walk;
+      along = along_next c.args.set.now g h c.valid.ensures c.valid-2.ensures c.requires.table c.args.region c.requires.region c.requires.outside
+          c.requires.used c.requires.in_use starts c.in-Ok.ensures.ok w i c.loop-place.invariant.along v lt
+          (subst (λ z. Searches c.args.set.now g h v (suc (suc z)) 0) at (passed a s turn));
       grown = grown_more c.args.pairs.now c.loop-place.pairs v c.loop-place.invariant.grown c.in_ok-lost.ensures.grown;
       compared = first_more c.args.set.now g h c.loop-place.pairs v c.in_ok-lost.ensures.grown starts i c.loop-place.invariant.compared (subst (λ z. IsCompared c.args.set.now g h v z z) at one);
     }
@@ -78,3 +89,41 @@ returns-clause-compared c =
 
 pub loop-place-smaller : goal.loop-place-smaller
 loop-place-smaller c = omega (arith, c.loop-place-test.true)
+
+pub loop-place-init : goal.loop-place-init
+loop-place-init c =
+    let g : Heap = c.args.before.now in
+    let h : Heap = c.args.after.now in
+    let starts : List ℕ = c.in-Ok.starts.items in
+    record {
+      walk = c.requires.walk;
+      grown = grown_same c.args.pairs.now;
+      compared = λ i lt. absurd (omega (arith, lt));
+      along = along_start c.args.set.now g h c.valid.ensures c.valid-2.ensures c.requires.table c.args.region c.requires.region c.requires.outside
+          c.requires.used c.requires.in_use starts c.in-Ok.ensures.ok c.args.pairs.now c.requires.search;
+    }
+
+pub returns-in-Some-clause-first : goal.returns-in-Some-clause-first
+returns-in-Some-clause-first c =
+    let g : Heap = c.args.before.now in
+    let h : Heap = c.args.after.now in
+    let starts : List ℕ = c.in-Ok.starts.items in
+    let i : ℕ = c.loop-place.place in
+    let w : Pairs = c.loop-place.pairs in
+    let a : ℕ = c.index-at.result.now in
+    let lt : i < length starts = omega (arith, c.loop-place-test.true, c.len-place-end.ensures, c.in-Ok.starts.ok) in
+    let at : a ≡ slice_index starts i = get_or_read starts i a lt c.index-at.ensures 0 in
+    let stops = some_then (λ (l : Lost). StopsAtObjects c.args.set.now g h w a a 0 l) c.in_ok-lost.field-0 c.in-Some.lost c.in-Some.is c.in_ok-lost.ensures.first in
+    let s = at_start c.args.set.now g h c.valid.ensures c.valid-2.ensures c.requires.table c.args.region c.requires.region c.requires.outside
+    c.requires.used c.requires.in_use starts c.in-Ok.ensures.ok w i c.loop-place.invariant.along lt a at in
+    stops a s (start_turn c.args.set.now g h c.valid.ensures c.valid-2.ensures c.requires.table c.args.region c.requires.region c.requires.outside
+    c.requires.used c.requires.in_use starts c.in-Ok.ensures.ok w i lt a at)
+
+pub returns-clause-searched : goal.returns-clause-searched
+returns-clause-searched c =
+    let g : Heap = c.args.before.now in
+    let h : Heap = c.args.after.now in
+    let starts : List ℕ = c.in-Ok.starts.items in
+    let all : length starts ≤ c.loop-place.place = omega (arith, c.loop-place-test.false, c.len-place-end.ensures, c.in-Ok.starts.ok) in
+    along_end c.args.set.now g h c.valid.ensures c.valid-2.ensures c.requires.table c.args.region c.requires.region c.requires.outside
+    c.requires.used c.requires.in_use starts c.in-Ok.ensures.ok c.loop-place.pairs c.loop-place.place c.loop-place.invariant.along all

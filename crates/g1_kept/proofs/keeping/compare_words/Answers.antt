@@ -1,8 +1,8 @@
-use Rattle.std.proofs.Common.{length}
+use Rattle.std.proofs.Common.{suc, length}
 use Rattle.g1_words.specs.Heap.{Heap}
 use Rattle.g1_kept.specs.declared.pairs.Pairs.{Pairs}
 use Rattle.g1_kept.specs.Keeps.{Keeps}
-use Rattle.g1_kept.specs.Walk.{IsWalk, HasGrown, PairsRoots, ComparesOutside, ComparesPairs}
+use Rattle.g1_kept.specs.Walk.{IsWalk, HasGrown, Searches, PairsRoots, ComparesOutside, ComparesPairs}
 use Rattle.g1_kept.proofs.Growing.{none_then, ok_none_then, roots_kept, outside_kept, grown_more}
 use Rattle.g1_kept.proofs.Renamed.{keeps}
 use Rattle.g1_kept.proofs.keeping.compare_words.Goals as goal
@@ -22,3 +22,12 @@ returns-clause-none c =
     (λ walk grown pairs. keeps set g h c.in_ok-pairs.ensures.before c.in_ok-pairs.ensures.after v walk c.requires.table c.requires.roots
     (roots_kept set g h u v (grown_more u w v c.in_ok-lost-2.ensures.grown grown) (length g.roots) roots)
     (outside_kept set g h w v grown g.geometry.n others) pairs)
+
+pub compare_outside-requires-clause-search : goal.compare_outside-requires-clause-search
+compare_outside-requires-clause-search c =
+    none_then (Searches c.args.set.now c.args.before.now c.args.after.now c.link_roots.new.pairs 1 0) c.in_ok-lost.field-0 c.in_default.not-Some c.in_ok-lost.ensures.searched
+
+pub compare_pairs-requires-clause-search : goal.compare_pairs-requires-clause-search
+compare_pairs-requires-clause-search c =
+    none_then (Searches c.args.set.now c.args.before.now c.args.after.now c.compare_outside.new.pairs (suc (length c.args.before.now.words)) 0)
+    c.in_ok-lost-2.field-0 c.in_default-2.not-Some c.in_ok-lost-2.ensures.searched

@@ -1,7 +1,10 @@
-use Rattle.std.proofs.Common.{arith, subst, sym, suc, ℕ, ◌<◌, length}
-use Rattle.g1_kept.specs.Walk.{IsPaired}
+use Rattle.std.proofs.Common.{arith, refl, subst, sym, suc, ℕ, ◌≡◌, ◌<◌, length, slice_index}
+use Rattle.g1_same.specs.Walk.{IsNew}
+use Rattle.g1_kept.specs.Walk.{IsPaired, PassesWords}
 use Rattle.g1_words.proofs.Sound.{object_in}
 use Rattle.g1_kept.proofs.Adding.{IsAdded, added_walk, added_paired, pairs_fit}
+use Rattle.g1_kept.proofs.Walking.{passes_same, passes_new}
+use Rattle.g1_kept.proofs.Words.{new_before, new_after}
 use Rattle.g1_kept.proofs.linking.link.Goals as goal
 
 pub add-requires-clause-a : goal.add-requires-clause-a
@@ -54,3 +57,31 @@ returns-in_ok-add-in-New-clause-paired c =
       old_of = c.in_ok-add-in-New.ensures.old_of;
     } in
     subst (λ z. IsPaired c.args.set.now g v z c.args.y) (sym met.0) (subst (λ z. IsPaired c.args.set.now g v (suc a) z) (sym met.1) (added_paired c.args.set.now g h w v a b c.requires.walk e))
+
+pub returns-in-Agree-clause-passed : goal.returns-in-Agree-clause-passed
+returns-in-Agree-clause-passed c = passes_same c.args.set.now c.args.before.now c.args.after.now c.args.pairs.now c.args.x c.args.y c.in-Agree.ensures
+
+pub returns-in_ok-add-in-New-clause-passed : goal.returns-in_ok-add-in-New-clause-passed
+returns-in_ok-add-in-New-clause-passed c =
+    let set = c.args.set.now in
+    let g = c.args.before.now in
+    let h = c.args.after.now in
+    let w = c.args.pairs.now in
+    let v = c.add.new.self in
+    let met = c.in-New.ensures in
+    let a : ℕ = c.in-New.a in
+    let b : ℕ = c.in-New.b in
+    let x_lt : a < length w.new_of.items = let o = object_in g a c.valid.ensures (c.requires.x a met.0) in omega (arith, o.0, o.1, c.requires.walk.table_before) in
+    let y_lt : b < length w.old_of.items = let o = object_in h b c.valid-2.ensures (c.requires.y b met.1) in omega (arith, o.0, o.1, c.requires.walk.table_after) in
+    let e : IsAdded w v a b = record {
+      before = c.in_ok-add-in-New.ensures.before;
+      after = c.in_ok-add-in-New.ensures.after;
+      new_of = c.in_ok-add-in-New.ensures.new_of;
+      old_of = c.in_ok-add-in-New.ensures.old_of;
+    } in
+    let i : ℕ = slice_index w.new_of.items a in
+    let j : ℕ = slice_index w.old_of.items b in
+    let old : IsNew w.before.items a = new_before set g h w c.requires.walk a b i j x_lt y_lt refl refl met.4 in
+    let new : IsNew w.after.items b = new_after set g h w c.requires.walk a b i j x_lt y_lt refl refl met.5 in
+    subst (λ z. PassesWords set g h w v z c.args.y) (sym met.0)
+    (subst (λ z. PassesWords set g h w v (suc a) z) (sym met.1) (passes_new set g h w v a b e met.2 met.3 old new))

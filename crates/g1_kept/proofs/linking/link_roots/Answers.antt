@@ -1,11 +1,14 @@
-use Rattle.std.proofs.Common.{arith, ap, subst, sym, ℕ, ◌<◌, ◌∙◌, length, slice_index}
+use Rattle.std.proofs.Common.{arith, ap, refl, subst, sym, ℕ, ◌≤◌, ◌<◌, ◌∙◌, length, slice_index}
 use Rattle.g1_words.specs.Heap.{Heap}
 use Rattle.g1_same.specs.Walk.{Names}
 use Rattle.g1_same.proofs.Heaps.{root_names}
 use Rattle.g1_kept.specs.declared.pairs.Pairs.{Pairs}
 use Rattle.g1_kept.specs.Lost.{root}
-use Rattle.g1_kept.specs.Walk.{IsPaired}
-use Rattle.g1_kept.proofs.Growing.{none_then, roots_more}
+use Rattle.g1_kept.specs.declared.lost.Lost.{Lost}
+use Rattle.g1_kept.specs.declared.lost.Lost.TheVariants as lost
+use Rattle.g1_kept.specs.Walk.{IsPaired, HasWords, PassesWords, StopsAtWords}
+use Rattle.g1_kept.proofs.Growing.{none_then, some_then, roots_more}
+use Rattle.g1_kept.proofs.Search.{search_none, roots_on}
 use Rattle.g1_kept.proofs.linking.link_roots.Goals as goal
 
 pub link-requires-clause-x : goal.link-requires-clause-x
@@ -35,10 +38,54 @@ loop-number-preserved c =
     let l' : IsPaired c.args.set.now g v (slice_index g.roots n) (slice_index h.roots n) =
     subst (λ q. IsPaired c.args.set.now g v (slice_index q n) (slice_index h.roots n)) c.roots-old.ensures
     (subst (λ q. IsPaired c.args.set.now g v (slice_index c.roots-old.result.now n) (slice_index q n)) c.roots-new.ensures l) in
+    let w : Pairs = c.loop-number.pairs in
+    let x : ℕ = slice_index c.roots-old.result.now n in
+    let y : ℕ = slice_index c.roots-new.result.now n in
+    let lt : n < length g.roots = let k = ap length c.roots-old.ensures in omega (arith, k, c.loop-number-test.true) in
+    let at : HasWords c.args.set.now g h w 0 n x y = (
+      lt,
+      omega (arith, lt, c.requires.roots),
+      ap (λ l. slice_index l n) (sym c.roots-old.ensures),
+      ap (λ l. slice_index l n) (sym c.roots-new.ensures),
+    ) in
+    let passed = none_then (PassesWords c.args.set.now g h w v x y) c.in_ok-lost.field-0 c.in_default.not-Some c.in_ok-lost.ensures.passed in
     record {
       walk = c.in_ok-lost.ensures.walk;
+      search = passed 0 n c.loop-number.invariant.search at;
       paired = roots_more c.args.set.now g h c.loop-number.pairs v c.in_ok-lost.ensures.grown n c.loop-number.invariant.paired l';
     }
 
 pub loop-number-smaller : goal.loop-number-smaller
 loop-number-smaller c = omega (arith, c.loop-number-test.true)
+
+pub loop-number-init : goal.loop-number-init
+loop-number-init c = record {
+  walk = c.requires.walk;
+  paired = λ n lt. absurd (omega (arith, lt));
+  search = search_none c.args.set.now c.args.before.now c.args.after.now c.args.pairs.now.before.items c.args.pairs.now.after.items (ap length c.requires.none) c.requires.walk.pairs;
+}
+
+pub returns-in-Some-clause-first : goal.returns-in-Some-clause-first
+returns-in-Some-clause-first c =
+    let set = c.args.set.now in
+    let g : Heap = c.args.before.now in
+    let h : Heap = c.args.after.now in
+    let w : Pairs = c.loop-number.pairs in
+    let n : ℕ = c.loop-number.number in
+    let x : ℕ = slice_index c.roots-old.result.now n in
+    let y : ℕ = slice_index c.roots-new.result.now n in
+    let lt : n < length g.roots = let k = ap length c.roots-old.ensures in omega (arith, k, c.loop-number-test.true) in
+    let at : HasWords set g h w 0 n x y = (
+      lt,
+      omega (arith, lt, c.requires.roots),
+      ap (λ l. slice_index l n) (sym c.roots-old.ensures),
+      ap (λ l. slice_index l n) (sym c.roots-new.ensures),
+    ) in
+    let stops = some_then (λ (l : Lost). StopsAtWords set g h w x y (lost.Root n) l) c.in_ok-lost.field-0 c.in-Some.lost c.in-Some.is c.in_ok-lost.ensures.first in
+    stops 0 n c.loop-number.invariant.search at (λ clash. (refl, refl, x, y, at, clash))
+
+pub returns-clause-searched : goal.returns-clause-searched
+returns-clause-searched c =
+    let w : Pairs = c.loop-number.pairs in
+    let all : length c.args.before.now.roots ≤ c.loop-number.number = let k = ap length c.roots-old.ensures in omega (arith, k, c.loop-number-test.false) in
+    roots_on c.args.set.now c.args.before.now c.args.after.now w.before.items w.after.items c.loop-number.number all c.loop-number.invariant.search

@@ -1,12 +1,16 @@
-use Rattle.std.proofs.Common.{arith, ap, subst, sym, ℕ, ◌≡◌, ◌<◌, ◌+◌, ◌∙◌, ◌%◌, ◌^◌, slice_index}
+use Rattle.std.proofs.Common.{arith, ap, refl, subst, sym, suc, ℕ, ◌≡◌, ◌≤◌, ◌<◌, ◌+◌, ◌∙◌, ◌%◌, ◌^◌, slice_index}
 use Rattle.g1_words.specs.Heap.{Heap, word, object_at}
 use Rattle.g1_same.specs.Walk.{Names}
 use Rattle.g1_same.proofs.Heaps.{slot_names}
 use Rattle.g1_same.proofs.Steps.{has_slots}
 use Rattle.g1_kept.specs.declared.pairs.Pairs.{Pairs}
 use Rattle.g1_kept.specs.Lost.{slot}
-use Rattle.g1_kept.specs.Walk.{IsPaired}
-use Rattle.g1_kept.proofs.Growing.{none_then, grown_more, slots_more}
+use Rattle.g1_kept.specs.declared.lost.Lost.{Lost}
+use Rattle.g1_kept.specs.declared.lost.Lost.TheVariants as lost
+use Rattle.g1_kept.specs.Walk.{IsPaired, HasTurn, HasWords, PassesWords, StopsAtWords}
+use Rattle.g1_kept.proofs.Growing.{none_then, some_then, grown_same, grown_more, slots_more}
+use Rattle.g1_kept.proofs.Search.{slots_on}
+use Rattle.g1_kept.proofs.Walking.{turn_more, words_at}
 use Rattle.g1_kept.proofs.linking.link_slots.Goals as goal
 
 pub link-requires-clause-x : goal.link-requires-clause-x
@@ -62,11 +66,59 @@ loop-number-preserved c =
     let y_is = there.each n (omega (arith, c.loop-number-test.true, here.count, refs, there.count)) in
     let l' : IsPaired c.args.set.now g v (word g (c.args.a + 1 + n)) (word h (c.args.b + 1 + n)) =
     subst (λ z. IsPaired c.args.set.now g v z (word h (c.args.b + 1 + n))) x_is (subst (λ z. IsPaired c.args.set.now g v x z) y_is l) in
+    let w : Pairs = c.loop-number.pairs in
+    let passed = none_then (PassesWords c.args.set.now g h w v x y) c.in_ok-lost.field-0 c.in_default.not-Some c.in_ok-lost.ensures.passed in
     record {
       walk = c.in_ok-lost.ensures.walk;
       grown = grown_more c.args.pairs.now c.loop-number.pairs v c.loop-number.invariant.grown c.in_ok-lost.ensures.grown;
+      search = λ t s turn. passed (suc t) (n + 1) (c.loop-number.invariant.search t s turn)
+          (words_at c.args.set.now g h w t c.args.a c.args.b n x y (turn_more c.args.set.now g h c.args.pairs.now w t c.args.a c.args.b c.loop-number.invariant.grown turn)
+          (omega (arith, c.loop-number-test.true, here.count)) (omega (arith, c.loop-number-test.true, here.count, refs)) (sym x_is) (sym y_is));
       paired = slots_more c.args.set.now g h c.loop-number.pairs v c.in_ok-lost.ensures.grown c.args.a c.args.b n c.loop-number.invariant.paired l';
     }
 
 pub loop-number-smaller : goal.loop-number-smaller
 loop-number-smaller c = omega (arith, c.loop-number-test.true)
+
+pub loop-number-init : goal.loop-number-init
+loop-number-init c = record {
+  walk = c.requires.walk;
+  grown = grown_same c.args.pairs.now;
+  paired = λ n lt. absurd (omega (arith, lt));
+  search = λ t s turn. s;
+}
+
+pub returns-in-Some-clause-first : goal.returns-in-Some-clause-first
+returns-in-Some-clause-first c = λ t s turn.
+    let set = c.args.set.now in
+    let g : Heap = c.args.before.now in
+    let h : Heap = c.args.after.now in
+    let here = has_slots g c.args.a c.object-old.result c.words.result.now c.slots-here.result.now c.object-old.ensures.value c.words.ensures c.slots-here.ensures.count c.slots-here.ensures.each in
+    let there = has_slots h c.args.b c.object-new.result c.words-2.result.now c.slots-there.result.now c.object-new.ensures.value c.words-2.ensures
+    c.slots-there.ensures.count c.slots-there.ensures.each in
+    let refs : (object_at g c.args.a).refs ≡ (object_at h c.args.b).refs = ap (λ q. q % 2 ^ 32) c.requires.alike.header in
+    let w : Pairs = c.loop-number.pairs in
+    let n : ℕ = c.loop-number.number in
+    let a : ℕ = c.args.a in
+    let b : ℕ = c.args.b in
+    let x : ℕ = slice_index c.slots-here.result.now n in
+    let y : ℕ = slice_index c.slots-there.result.now n in
+    let lt : n < (object_at g a).refs = omega (arith, c.loop-number-test.true, here.count) in
+    let lt' : n < (object_at h b).refs = omega (arith, lt, refs) in
+    let now : HasTurn set g h w t a b = turn_more set g h c.args.pairs.now w t a b c.loop-number.invariant.grown turn in
+    let at : HasWords set g h w (suc t) (n + 1) x y =
+    words_at set g h w t a b n x y now lt lt' (sym (here.each n c.loop-number-test.true)) (sym (there.each n (omega (arith, lt', there.count)))) in
+    let one : n + 1 ≡ suc n = omega arith in
+    let stops = some_then (λ (l : Lost). StopsAtWords set g h w x y (lost.Slot a b n) l) c.in_ok-lost.field-0 c.in-Some.lost c.in-Some.is c.in_ok-lost.ensures.first in
+    stops (suc t) (n + 1) (c.loop-number.invariant.search t s turn) at (λ clash. (t, refl, one, now, x, y, at, clash))
+
+pub returns-clause-passed : goal.returns-clause-passed
+returns-clause-passed c = λ t s turn.
+    let set = c.args.set.now in
+    let g : Heap = c.args.before.now in
+    let h : Heap = c.args.after.now in
+    let here = has_slots g c.args.a c.object-old.result c.words.result.now c.slots-here.result.now c.object-old.ensures.value c.words.ensures c.slots-here.ensures.count c.slots-here.ensures.each in
+    let w : Pairs = c.loop-number.pairs in
+    let few : (object_at g c.args.a).refs ≤ c.loop-number.number = omega (arith, here.count, c.loop-number-test.false) in
+    slots_on set g h w.before.items w.after.items t c.args.a c.args.b c.loop-number.number (c.loop-number.invariant.search t s turn)
+    (turn_more set g h c.args.pairs.now w t c.args.a c.args.b c.loop-number.invariant.grown turn) few

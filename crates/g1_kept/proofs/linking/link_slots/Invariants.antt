@@ -1,4 +1,5 @@
-use Rattle.g1_kept.specs.Walk.{IsWalk, HasGrown, PairsSlots}
+use Rattle.std.proofs.Common.{ℕ, suc, ◌+◌}
+use Rattle.g1_kept.specs.Walk.{IsWalk, HasGrown, PairsSlots, Searches, HasTurn}
 use Rattle.g1_kept.proofs.linking.link_slots.Given as goal
 
 abbrev pub invariant-loop-number : goal.invariant-loop-number
@@ -6,4 +7,6 @@ invariant-loop-number l = record {
   walk : IsWalk l.set l.before l.after l.pairs;
   grown : HasGrown l.initial.pairs l.pairs;
   paired : PairsSlots l.set l.before l.after l.pairs l.a l.b l.number;
+  search : (t : ℕ) → Searches l.set l.before l.after l.initial.pairs (suc t) 1 → HasTurn l.set l.before l.after l.initial.pairs t l.a l.b
+      → Searches l.set l.before l.after l.pairs (suc t) (l.number + 1);
 }
