@@ -2,7 +2,7 @@
 use Rattle.std.proofs.Common.{ℕ, zero, suc, ◌+◌, ◌-◌, ◌*◌, ◌/◌, ◌<◌, ◌≤◌, ◌^◌, inl, inr, Bool, true, false, List, [], ◌∷◌, ◌++◌, length, get_or, drop, map, flat_map, refl, arith}
 use Rattle.std.specs.Prelude.{Option, Some, None, IfSome, decimal, codes, slice_index, nat_lt}
 use Rattle.std.proofs.Math.Nat.{mul-le-mul_left}
-use Rattle.g1_words.specs.Heap.{Heap, kind, top, pinned, regions, objects_in, objects_by, objects, object_at, tiles, start, end}
+use Rattle.g1_words.specs.Heap.{Heap, kind, top, pinned, regions, objects_in, objects_by, object_at, tiles, start, end}
 use Rattle.g1_words.specs.Kind.{kind_word}
 use Rattle.g1_words.specs.Valid.{IsObject, IsReference, IsValid}
 use Rattle.g1_words.specs.declared.object.Object.{Object}

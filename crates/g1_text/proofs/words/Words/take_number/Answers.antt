@@ -1,4 +1,4 @@
-use Rattle.std.proofs.Common.{◌≡◌, ◌∙◌, [], ◌∷◌, get_or, drop, sym, ap, arith}
+use Rattle.std.proofs.Common.{◌∙◌, [], get_or, drop, sym, ap, arith}
 use Rattle.std.specs.Option.{is_some}
 use Rattle.std.proofs.lemmas.Bool.{false≢true}
 use Rattle.g1_text.proofs.Taking.{first}
