@@ -1,5 +1,6 @@
 -- What is written of a choice.
-use Rattle.std.proofs.Common.{◌≡◌, ◌≢◌, ℕ, zero, suc, ◌<◌, ◌≤◌, ◌⊎◌, inl, inr, List, [], ◌∷◌, ◌++◌, map, flat_map, take, drop, length, All, IsTrue, refl, sym, ◌∙◌, ap, subst, arith, ltb, lt-ltb, ltb-true}
+use Rattle.std.proofs.Common.{◌≡◌, ◌≢◌, ℕ, zero, suc, ◌<◌, ◌≤◌, ◌⊎◌, inl, inr, List, [], ◌∷◌, ◌++◌, map, flat_map, take, drop, length, All, IsTrue, refl, sym, ◌∙◌, ap, subst, arith, ltb}
+use Rattle.std.proofs.Common.{lt-ltb, ltb-true}
 use Rattle.std.proofs.Common.{Vec}
 use Rattle.std.specs.Prelude.{min, codes, slice_index, Result, Ok, Err, IfOk}
 use Rattle.std.specs.List.{range_with_len}
@@ -43,7 +44,8 @@ append_none [] = refl
 append_none (x ∷ xs) = ap (λ ys. x ∷ ys) (append_none xs)
 
 -- the lines of the candidates that are taken, of those that are left, and of the total
-pub choice_end : (order bought left : List Candidate) (taken total : ℕ) (none first second last : List ℕ) → bought ≡ take (min (length order) taken) order → left ≡ drop (min (length order) taken) order → none ≡ []
+pub choice_end : (order bought left : List Candidate) (taken total : ℕ) (none first second last : List ℕ) →
+    bought ≡ take (min (length order) taken) order → left ≡ drop (min (length order) taken) order → none ≡ []
     → first ≡ none ++ text_of (map (line_of (codes "taken")) bought) → second ≡ first ++ text_of (map (line_of (codes "left")) left) → last ≡ second ++ line_text (total_line total)
     → last ≡ text_of (choice_lines line_of order taken total)
 choice_end order bought left taken total none first second last eb el en p q r =
@@ -134,8 +136,10 @@ module _ (c : Cost) (h : Heap) (remembered : List (List ℕ)) (lives : List ℕ)
       }
 
   -- the same of an answer that may be out of memory
-  pub lists_if_ok : {Z E : Type 0} (d budget : ℕ) (xs : List Candidate) (set : List ℕ) (taken total : ℕ) (r : Result (Vec ℕ Z) E) → IsCandidateOrder c h remembered lives xs → IsChosen c h remembered lives d budget set
-      → taken ≡ length set → total ≡ pause_cost c h remembered lives d set → IfOk r (λ v. v.items ≡ text_of (choice_lines line_of xs taken total)) → IfOk r (λ v. ListsChoice c h remembered lives d budget v.items)
+  pub lists_if_ok : {Z E : Type 0} (d budget : ℕ) (xs : List Candidate) (set : List ℕ) (taken total : ℕ) (r : Result (Vec ℕ Z) E) →
+      IsCandidateOrder c h remembered lives xs → IsChosen c h remembered lives d budget set
+      → taken ≡ length set → total ≡ pause_cost c h remembered lives d set → IfOk r (λ v. v.items ≡ text_of (choice_lines line_of xs taken total)) →
+      IfOk r (λ v. ListsChoice c h remembered lives d budget v.items)
   lists_if_ok d budget xs set taken total (Ok v) o a et ec e = lists_choice d budget xs set taken total v.items o a et ec e
   lists_if_ok d budget xs set taken total (Err f) o a et ec e = tt
 

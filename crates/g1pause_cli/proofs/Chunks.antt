@@ -41,7 +41,8 @@ range_split a (suc m) l =
     ap (range_with_len a) e ∙ ap (λ xs. a ∷ xs) (range_split (a + 1) m l ∙ ap (λ x. range_with_len (a + 1) m ++ range_with_len x l) f)
 
 -- one number more, counted from another
-pub one_row_more : (f : ℕ → List ℕ) (now after : List ℕ) (from r : ℕ) → from ≤ r → now ≡ flat_map f (range_with_len from (r - from)) → after ≡ now ++ f r → after ≡ flat_map f (range_with_len from (r + 1 - from))
+pub one_row_more : (f : ℕ → List ℕ) (now after : List ℕ) (from r : ℕ) → from ≤ r → now ≡ flat_map f (range_with_len from (r - from)) →
+    after ≡ now ++ f r → after ≡ flat_map f (range_with_len from (r + 1 - from))
 one_row_more f now after from r le e p =
     let next : r + 1 - from ≡ r - from + 1 = omega (arith, le) in
     let here : from + (r - from) ≡ r = omega (arith, le) in
@@ -72,7 +73,8 @@ module _ {O : Type 0} (text : O → List ℕ) (f : ℕ → List ℕ) (n size : �
             ∙ sym (range_split (k * size) size (n - suc k * size)) ∙ ap (range_with_len (k * size)) rest
       ]
 
-  pub chunks_join : (outs : List O) (k : ℕ) (d : O) → n ≤ (k + length outs) * size → ((j : ℕ) → j < length outs → text (get_or outs j d) ≡ flat_map f (piece (k + j))) → flat_map text outs ≡ flat_map f (range_with_len (k * size) (n - k * size))
+  pub chunks_join : (outs : List O) (k : ℕ) (d : O) → n ≤ (k + length outs) * size →
+      ((j : ℕ) → j < length outs → text (get_or outs j d) ≡ flat_map f (piece (k + j))) → flat_map text outs ≡ flat_map f (range_with_len (k * size) (n - k * size))
   chunks_join [] k d le each =
       let same : k + 0 ≡ k = omega arith in
       let all : (k + 0) * size ≡ k * size = ap (λ x. x * size) same in

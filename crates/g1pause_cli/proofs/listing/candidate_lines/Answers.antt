@@ -12,5 +12,6 @@ returns c =
     let bought = c.in_ok-taken.ensures.bought in
     let order = subst (λ xs. IsCandidateOrder p h remembered lives xs) (sym c.deref.ensures.value) c.in_ok-order.ensures.ok in
     record {
-      text = lists_if_ok p h remembered lives c.args.dirty c.args.budget c.deref.result.now bought.0 c.in_ok-taken.taken c.in_ok-taken.total c.choice_lines.result order bought.1 bought.2 bought.3 c.choice_lines.ensures;
+      text = lists_if_ok p h remembered lives c.args.dirty c.args.budget c.deref.result.now bought.0 c.in_ok-taken.taken c.in_ok-taken.total
+          c.choice_lines.result order bought.1 bought.2 bought.3 c.choice_lines.ensures;
     }

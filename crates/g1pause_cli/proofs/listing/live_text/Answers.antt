@@ -8,8 +8,10 @@ use Rattle.g1pause_cli.proofs.listing.live_text.Goals as goal
 
 pub loop-region-preserved : goal.loop-region-preserved
 loop-region-preserved c =
-    one_number_more (λ r. line_text (live_line r (slice_index c.args.live.now r))) [] (string_bytes c.loop-region.text) (string_bytes c.writeln.new.self) c.loop-region.region-counter c.loop-region.invariant c.in_ok-writeln.ensures.bytes
+    one_number_more (λ r. line_text (live_line r (slice_index c.args.live.now r))) [] (string_bytes c.loop-region.text)
+    (string_bytes c.writeln.new.self) c.loop-region.region-counter c.loop-region.invariant c.in_ok-writeln.ensures.bytes
 
 pub returns : goal.returns
 returns c =
-    ap (λ (v : Vec ℕ Global). v.items) c.into_bytes.ensures.value ∙ live_end c.args.live.now (string_bytes c.loop-region.text) c.loop-region.region-counter (omega (arith, c.loop-region-test.false, c.loop-region.auto.region-counter-end)) c.loop-region.invariant
+    ap (λ (v : Vec ℕ Global). v.items) c.into_bytes.ensures.value ∙ live_end c.args.live.now (string_bytes c.loop-region.text)
+    c.loop-region.region-counter (omega (arith, c.loop-region-test.false, c.loop-region.auto.region-counter-end)) c.loop-region.invariant

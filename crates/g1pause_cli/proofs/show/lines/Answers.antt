@@ -6,7 +6,8 @@ use Rattle.g1pause_cli.proofs.show.lines.Goals as goal
 
 pub loop-region-preserved : goal.loop-region-preserved
 loop-region-preserved c =
-    one_row_more (λ r. line_text (region_line c.args.image.now r)) (string_bytes c.loop-region.text) (string_bytes c.push_row.new.text) c.args.from c.loop-region.region c.loop-region.auto.region c.loop-region.invariant c.in_ok-push_row.ensures
+    one_row_more (λ r. line_text (region_line c.args.image.now r)) (string_bytes c.loop-region.text) (string_bytes c.push_row.new.text) c.args.from
+    c.loop-region.region c.loop-region.auto.region c.loop-region.invariant c.in_ok-push_row.ensures
 
 pub returns : goal.returns
 returns c =
