@@ -39,6 +39,7 @@ mod images;
 mod limits;
 #[cfg(test)]
 mod lines;
+#[cfg(test)]
 mod live;
 #[cfg(test)]
 mod naming;
