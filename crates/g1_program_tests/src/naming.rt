@@ -37,18 +37,29 @@ pub(crate) fn expect_case<T: Threads + Abort + Sync + Files>(
     alloc: Global,
     case: &Case<'_>,
 ) -> Result<(), Fail> {
-    let file = case.file;
-    let (before, after) = (
-        format!(in alloc; "{file}_before.img")?,
-        format!(in alloc; "{file}_after.img")?,
-    );
-    write_image(rt, alloc, before.as_str(), case.before)?;
-    write_image(rt, alloc, after.as_str(), case.after)?;
-    let asked = case.line;
+    let lines = (case.before, case.after);
+    expect_same(
+        rt, alloc, case.file, case.line, lines, case.input, case.told,
+    )
+}
+
+// What `same` reports of two heaps, in files whose names begin with this word.
+fn expect_same<T: Threads + Abort + Sync + Files>(
+    rt: &T,
+    alloc: Global,
+    file: &str,
+    asked: &str,
+    lines: (&str, &str),
+    input: &str,
+    told: (u8, &str, &str),
+) -> Result<(), Fail> {
+    let before = format!(in alloc; "{file}_before.img")?;
+    let after = format!(in alloc; "{file}_after.img")?;
+    write_image(rt, alloc, before.as_str(), lines.0)?;
+    write_image(rt, alloc, after.as_str(), lines.1)?;
     let line = format!(in alloc; "same {before} {after} {asked}")?;
-    let (status, answer, error) = case.told;
-    let told = (status, answer.as_bytes(), error.as_bytes());
-    expect(rt, alloc, line.as_str(), case.input.as_bytes(), told)?;
+    let told = (told.0, told.1.as_bytes(), told.2.as_bytes());
+    expect(rt, alloc, line.as_str(), input.as_bytes(), told)?;
     fs::remove_file(rt, before.as_str())?;
     fs::remove_file(rt, after.as_str())?;
     Ok(())
@@ -71,15 +82,8 @@ fn expect_named<T: Threads + Abort + Sync + Files>(
 ) -> Result<(), Fail> {
     for (after, answer) in rows {
         let status = u8::from(!answer.starts_with("same"));
-        let case = Case {
-            file,
-            line: "--names -",
-            before: BEFORE,
-            after,
-            input: names,
-            told: (status, answer, ""),
-        };
-        expect_case(rt, alloc, &case)?;
+        let told = (status, *answer, "");
+        expect_same(rt, alloc, file, "--names -", (BEFORE, *after), names, told)?;
     }
     Ok(())
 }
@@ -217,69 +221,86 @@ fn names_of_list(alloc: Global, kinds: [&str; 2]) -> Result<String, Fail> {
     Ok(text)
 }
 
+// Two lists with names for types like these, in turn, differ in the last data word.
+fn expect_list<T: Threads + Abort + Sync + Files>(
+    rt: &T,
+    alloc: Global,
+    kinds: [&str; 2],
+    answer: &str,
+) -> Result<(), Fail> {
+    let (before, after) = (list(alloc, 1)?, list(alloc, 2)?);
+    let names = names_of_list(alloc, kinds)?;
+    let lines = (before.as_str(), after.as_str());
+    let told = (1, answer, "");
+    expect_same(rt, alloc, "long", "--names -", lines, names.as_str(), told)
+}
+
 #[test]
 fn a_long_path_is_cut(rt: HostRuntime) -> Result<(), Fail> {
     let alloc = rt.alloc();
-    let (before, after) = (list(alloc, 1)?, list(alloc, 2)?);
-    for (kinds, answer) in [
-        (
-            ["A", "A"],
-            "differ data at root 0.a x 59: object 177 (A) before, object 177 after; data word 0, n, is 1 (0x1) before, 2 (0x2) after\n",
-        ),
-        (
-            ["C", "C"],
-            "differ data at root 0 slot 0 x 59: object 177 (C) before, object 177 after; data word 0 is 1 (0x1) before, 2 (0x2) after\n",
-        ),
-        (
-            ["A", "B"],
-            "differ data at root 0.a.b.a.b.a.b.a.b.a.b.a.b.a.b.a.b.a.b.a.b .. 19 steps .. .b.a.b.a.b.a.b.a.b.a.b.a.b.a.b.a.b.a.b.a: object 177 (B) before, object 177 after; data word 0, n, is 1 (0x1) before, 2 (0x2) after\n",
-        ),
-    ] {
-        let names = names_of_list(alloc, kinds)?;
-        let case = Case {
-            file: "long",
-            line: "--names -",
-            before: before.as_str(),
-            after: after.as_str(),
-            input: names.as_str(),
-            told: (1, answer, ""),
-        };
-        expect_case(&rt, alloc, &case)?;
-    }
-    Ok(())
+    expect_list(
+        &rt,
+        alloc,
+        ["A", "A"],
+        "differ data at root 0.a x 59: object 177 (A) before, object 177 after; data word 0, n, is 1 (0x1) before, 2 (0x2) after\n",
+    )?;
+    expect_list(
+        &rt,
+        alloc,
+        ["C", "C"],
+        "differ data at root 0 slot 0 x 59: object 177 (C) before, object 177 after; data word 0 is 1 (0x1) before, 2 (0x2) after\n",
+    )?;
+    expect_list(
+        &rt,
+        alloc,
+        ["A", "B"],
+        "differ data at root 0.a.b.a.b.a.b.a.b.a.b.a.b.a.b.a.b.a.b.a.b .. 19 steps .. .b.a.b.a.b.a.b.a.b.a.b.a.b.a.b.a.b.a.b.a: object 177 (B) before, object 177 after; data word 0, n, is 1 (0x1) before, 2 (0x2) after\n",
+    )
 }
 
 // Two roots, of which the first leads to a list of two.
 const MANY: &str =
     "heap 16 4 4\nroot 0\nroot 8\nroot 8\nregion ordinary\nobject 3/1 3 1\nobject 3/1 - 2\nobject 2/0 5\nobject 3/0 6 7";
 
+const MANY_AFTER: &str =
+    "heap 16 4 4\nroot 0\nroot 8\nroot 11\nroot -\nregion ordinary\nobject 3/1 3 9\nobject 3/1 6 2\nobject 2/0 5\nobject 3/0 8 8\nobject 3/0 6 7";
+
+const MANY_LINES: [&str; 5] = [
+    "differ roots: 3 before, 4 after\n",
+    "differ data at root 0: object 0 before, object 0 after; data word 0 is 1 before, 9 after\n",
+    "differ data at root 1: object 8 before, object 8 after; data word 0 is 6 before, 8 after\n",
+    "differ split at root 2: object 8 before, object 11 after; 8 before is 8 after on an earlier path\n",
+    "differ null at root 0 slot 0 slot 0: null before, object 6 after\n",
+];
+
+// The first of all differences, and how many there are.
+fn expect_many<T: Threads + Abort + Sync + Files>(
+    rt: &T,
+    alloc: Global,
+    most: usize,
+) -> Result<(), Fail> {
+    let mut answer = String::new(alloc);
+    for line in MANY_LINES.iter().take(most) {
+        answer.push_str(line)?;
+    }
+    answer.push_str("differences 5: roots 1 null 1 split 1 data 2\n")?;
+    let asked = format!(in alloc; "--all {most}")?;
+    let told = (1, answer.as_str(), "");
+    expect_same(
+        rt,
+        alloc,
+        "many",
+        asked.as_str(),
+        (MANY, MANY_AFTER),
+        "",
+        told,
+    )
+}
+
 #[test]
 fn many_differences_are_listed_and_counted(rt: HostRuntime) -> Result<(), Fail> {
-    let other =
-        "heap 16 4 4\nroot 0\nroot 8\nroot 11\nroot -\nregion ordinary\nobject 3/1 3 9\nobject 3/1 6 2\nobject 2/0 5\nobject 3/0 8 8\nobject 3/0 6 7";
-    let lines = [
-        "differ roots: 3 before, 4 after\n",
-        "differ data at root 0: object 0 before, object 0 after; data word 0 is 1 before, 9 after\n",
-        "differ data at root 1: object 8 before, object 8 after; data word 0 is 6 before, 8 after\n",
-        "differ split at root 2: object 8 before, object 11 after; 8 before is 8 after on an earlier path\n",
-        "differ null at root 0 slot 0 slot 0: null before, object 6 after\n",
-    ];
     for most in 1..7usize {
-        let mut answer = String::new(rt.alloc());
-        for line in lines.iter().take(most) {
-            answer.push_str(line)?;
-        }
-        answer.push_str("differences 5: roots 1 null 1 split 1 data 2\n")?;
-        let asked = format!(in rt.alloc(); "--all {most}")?;
-        let case = Case {
-            file: "many",
-            line: asked.as_str(),
-            before: MANY,
-            after: other,
-            input: "",
-            told: (1, answer.as_str(), ""),
-        };
-        expect_case(&rt, rt.alloc(), &case)?;
+        expect_many(&rt, rt.alloc(), most)?;
     }
     let case = Case {
         file: "many",
