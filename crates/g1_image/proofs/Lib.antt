@@ -32,3 +32,4 @@ pub mod Taken
 pub mod Laid
 pub mod Told
 pub mod Sent
+pub mod StraySlots

@@ -138,7 +138,7 @@ starts_object Ordinary h r a lt kind s t =
 starts_object HumongousFirst h r a lt kind s t = (s.0, first_has h r s.0 lt s.1, s.1.at ∙ sym t)
 starts_object Continuation h r a lt kind s t = absurd t
 
-stands_starts : (k : Kind) (h : Heap) (r : ℕ) (o : Object) → StandsIn k h r o → StartsIn k h r o.at
+pub stands_starts : (k : Kind) (h : Heap) (r : ℕ) (o : Object) → StandsIn k h r o → StartsIn k h r o.at
 stands_starts Free h r o t = absurd t
 stands_starts Ordinary h r o t = (t.before, omega (arith, Tiles-le h.words (o.at + o.size) t.after.0 (end h r) t.after.1, t.object.refs_fit))
 stands_starts HumongousFirst h r o t = t.0

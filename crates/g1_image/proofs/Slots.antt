@@ -11,24 +11,18 @@ use Rattle.g1_words.proofs.Tiling.{Tiles-le, same_object}
 use Rattle.g1_words.proofs.Objects.{StandsIn}
 use Rattle.g1_image.specs.Draft.{ShapedBelow}
 use Rattle.g1_image.specs.Marks.{StartsAt}
-use Rattle.g1_image.specs.Faults.{IsFirstBreach, IsGoodSlot}
+use Rattle.g1_image.specs.Faults.{IsFirstBreach}
+use Rattle.g1_image.specs.Strays.{SlotsBetween, IsGoodFrom}
 use Rattle.g1_image.proofs.Tiled.{header_is}
 use Rattle.g1_image.proofs.Rows.{apart, has_header, in_place}
 
--- the slots of every object that starts below the address are good
-abbrev pub SlotsBelow : Heap → ℕ → Type 0
-SlotsBelow h at = (o : Object) (p : ℕ) → HasObject h o → o.at < at → IsSlotOf o p → IsReference h (slice_index h.words p)
-
-pub SlotsBelow-start : (h : Heap) → SlotsBelow h 0
-SlotsBelow-start h = λ o p has lt. absurd (omega (arith, lt))
-
-pub SlotsBelow-end : (h : Heap) (at p : ℕ) → SlotsBelow h at → p < at → IsGoodSlot h p
-SlotsBelow-end h at p below lt = λ o has slot. below o p has (omega (arith, lt, slot.0)) slot
+pub SlotsBetween-start : (h : Heap) (from : ℕ) → SlotsBetween h from from
+SlotsBetween-start h from = λ o p has ge lt. absurd (omega (arith, ge, lt))
 
 -- no object starts at the address
-pub SlotsBelow-none : (h : Heap) (at : ℕ) → SlotsBelow h at → (StartsAt h at → ⊥) → SlotsBelow h (at + 1)
-SlotsBelow-none h at below none = λ o p has lt slot. elim (cases_lt o.at at) [
-  | inl before ↦ below o p has before slot
+pub SlotsBetween-none : (h : Heap) (from at : ℕ) → SlotsBetween h from at → (StartsAt h at → ⊥) → SlotsBetween h from (at + 1)
+SlotsBetween-none h from at below none = λ o p has from_on lt slot. elim (cases_lt o.at at) [
+  | inl before ↦ below o p has from_on before slot
   | inr ge ↦ absurd (none (o, has, (let e : o.at ≡ at = omega (arith, ge, lt) in e)))
 ]
 
@@ -62,10 +56,10 @@ module _ (h : Heap) (at : ℕ) (q : Object) (some : 0 < h.geometry.w) (shaped : 
       (omega (arith, e.0, e.1, (has_header h start.0 start.1).refs_fit), omega (arith, e.0, start.2, ends_within h shaped start.0 start.1))
 
   -- a slot of an object that starts below the end of this one, where the first m slots of this one are good
-  seen : SlotsBelow h at → (m : ℕ) → ((i : ℕ) → i < m → IsReference h (slice_index h.words (at + 1 + i))) →
-      (o : Object) (p : ℕ) → HasObject h o → o.at < at + q.size → IsSlotOf o p → (o.at ≡ at → p < at + 1 + m) → IsReference h (slice_index h.words p)
-  seen below m good o p has lt slot first = elim (cases_lt o.at at) [
-    | inl before ↦ below o p has before slot
+  seen : (from : ℕ) → SlotsBetween h from at → (m : ℕ) → ((i : ℕ) → i < m → IsReference h (slice_index h.words (at + 1 + i))) →
+      (o : Object) (p : ℕ) → HasObject h o → from ≤ o.at → o.at < at + q.size → IsSlotOf o p → (o.at ≡ at → p < at + 1 + m) → IsReference h (slice_index h.words p)
+  seen from below m good o p has from_on lt slot first = elim (cases_lt o.at at) [
+    | inl before ↦ below o p has from_on before slot
     | inr ge ↦ elim (cases_lt at o.at) [
       | inl past ↦ absurd (omega (arith, apart h start.0 o some shaped start.1 has (omega (arith, start.2, past)), start.2, (same start.0 start.1 start.2).0, lt))
       | inr le ↦
@@ -75,14 +69,14 @@ module _ (h : Heap) (at : ℕ) (q : Object) (some : 0 < h.geometry.w) (shaped : 
     ]
   ]
 
-  pub SlotsBelow-object : SlotsBelow h at → ((i : ℕ) → i < q.refs → IsReference h (slice_index h.words (at + 1 + i))) → SlotsBelow h (at + q.size)
-  SlotsBelow-object below good = λ o p has lt slot. seen below q.refs good o p has lt slot (λ here. omega (arith, slot.1, here, (same o has here).1))
+  pub SlotsBetween-object : (from : ℕ) → SlotsBetween h from at → ((i : ℕ) → i < q.refs → IsReference h (slice_index h.words (at + 1 + i))) → SlotsBetween h from (at + q.size)
+  SlotsBetween-object from below good = λ o p has from_on lt slot. seen from below q.refs good o p has from_on lt slot (λ here. omega (arith, slot.1, here, (same o has here).1))
 
-  -- the first bad slot of this object is the heap's first
-  pub slot_breach : SlotsBelow h at → (i : ℕ) → i < q.refs → (IsReference h (slice_index h.words (at + 1 + i)) → ⊥) →
-      ((k : ℕ) → k < i → IsReference h (slice_index h.words (at + 1 + k))) → IsFirstBreach (IsGoodSlot h) (h.geometry.n * h.geometry.w) (at + 1 + i)
-  slot_breach below i lt bad good = record {
+  -- the first bad slot of this object is the first of all from an address on
+  pub slot_breach : (from : ℕ) → from ≤ at → SlotsBetween h from at → (i : ℕ) → i < q.refs → (IsReference h (slice_index h.words (at + 1 + i)) → ⊥) →
+      ((k : ℕ) → k < i → IsReference h (slice_index h.words (at + 1 + k))) → IsFirstBreach (IsGoodFrom h from) (h.geometry.n * h.geometry.w) (at + 1 + i)
+  slot_breach from order below i lt bad good = record {
     within = omega (arith, lt, object_fits.0, object_fits.1);
-    breach = λ g. bad (g start.0 start.1 (omega (arith, start.2), omega (arith, start.2, lt, (same start.0 start.1 start.2).1)));
-    before = λ p less o has slot. seen below i good o p has (omega (arith, slot.0, less, lt, object_fits.0)) slot (λ here. less);
+    breach = λ g. bad (g start.0 start.1 (omega (arith, start.2, order)) (omega (arith, start.2), omega (arith, start.2, lt, (same start.0 start.1 start.2).1)));
+    before = λ p less o has from_on slot. seen from below i good o p has from_on (omega (arith, slot.0, less, lt, object_fits.0)) slot (λ here. less);
   }

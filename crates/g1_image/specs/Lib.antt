@@ -7,6 +7,7 @@ pub mod Front
 pub mod Growing
 pub mod Draft
 pub mod Marks
+pub mod Strays
 pub mod Judged
 pub mod Cards
 pub mod Laws

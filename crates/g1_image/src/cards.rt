@@ -44,7 +44,9 @@ pub(crate) fn check_log(alloc: Global, draft: &Draft, log: &[u32]) -> Result<Ind
     ensures ok { IfOk result (λ s. (s.keys ≡ log.now) × ((i : ℕ) → i < length log.now → IsGoodLogged draft.now log.now i)) }
     ensures err { IfErr result (λ e. (e ≡ Fault.Memory) ⊎ ((i : ℕ) × (e ≡ Fault.Card (Stand.Dirty i)) × IsFirstBreach (IsGoodLogged draft.now log.now) (length log.now) i)) }
 {
-    let mut cards = IndexSet::new(alloc);
+    // A log with more cards than the heap has one of them twice.
+    let most = draft.geometry().cards() as usize;
+    let mut cards = IndexSet::with_capacity(alloc, log.len().min(most))?;
     put_log(draft, log, &mut cards)?;
     Ok(cards)
 }

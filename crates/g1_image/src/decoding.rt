@@ -3,31 +3,19 @@ ghost use Rattle.g1_image.specs.Image.{IsTextOf};
 ghost use Rattle.g1_image.specs.Faults.{MayFail, IsGoodHeading, AreKnown};
 ghost use Rattle.g1_image.specs.Plain.{heap_of_parts};
 ghost use Rattle.g1_image.specs.Front.{IsLaidOut};
-ghost use Rattle.g1_image.specs.Judged.{TableFault, IsGoodHeap, HeapFault};
+ghost use Rattle.g1_image.specs.Judged.{TableFault};
 
 use crate::cards::{check_log, check_remembered};
+use crate::checks::{check_heap, check_heap_by};
 use crate::cursor::{Entry, Heading};
 use crate::draft::Draft;
 use crate::image::Image;
 use crate::laying::lay_words;
 use crate::plain::{Front, whole};
-use crate::refs::{check_roots, check_slots, starts};
-use crate::shape::check_shapes;
 use crate::table::{check_flags, regions};
 use g1_words::{Fault, Geometry, Heap};
 use std::alloc::Global;
-
-/// Returns the first fault of a heap's regions and references.
-fn check_heap(alloc: Global, draft: &Draft) -> Result<(), Fault>
-    ensures ok { OnOk result (IsGoodHeap draft.now) }
-    ensures err { IfErr result (λ e. (e ≡ Fault.Memory) ⊎ HeapFault draft.now e) }
-{
-    check_shapes(draft)?;
-    let marks = starts(alloc, draft)?;
-    check_roots(draft, &marks)?;
-    check_slots(draft, &marks)?;
-    Ok(())
-}
+use std::thread::Threads;
 
 /// The heap in a file, before it is checked.
 fn draft_heap(
@@ -79,6 +67,44 @@ pub(crate) fn image_of(alloc: Global, front: Front, words: Vec<u64>) -> Result<I
     } = front;
     let draft = draft_heap(alloc, &heading, &table, roots, words)?;
     check_heap(alloc, &draft)?;
+    let log = check_log(alloc, &draft, &cards)?;
+    check_remembered(&draft, &remembered)?;
+    let heap = Heap {
+        geometry: draft.geometry,
+        words: draft.words,
+        regions: draft.regions,
+        roots: draft.roots,
+        current: draft.current,
+    };
+    Ok(Image {
+        heap,
+        remembered,
+        log,
+    })
+}
+
+/// As `image_of`, with this many workers at most. One if it is 0.
+pub(crate) fn image_of_by(
+    rt: &(impl Threads + Sync),
+    alloc: Global,
+    front: Front,
+    words: Vec<u64>,
+    workers: u64,
+) -> Result<Image, Fault>
+    requires { (bytes : List ℕ) × IsLaidOut bytes front words.items }
+    ensures ok { IfOk result (λ i. (bytes : List ℕ) → IsLaidOut bytes front words.items → IsTextOf bytes i) }
+    ensures err { IfErr result (λ e. (bytes : List ℕ) → IsLaidOut bytes front words.items → MayFail bytes e) }
+{
+    let Front {
+        version: _,
+        heading,
+        table,
+        roots,
+        log: cards,
+        remembered,
+    } = front;
+    let draft = draft_heap(alloc, &heading, &table, roots, words)?;
+    check_heap_by(rt, alloc, &draft, workers)?;
     let log = check_log(alloc, &draft, &cards)?;
     check_remembered(&draft, &remembered)?;
     let heap = Heap {

@@ -6,13 +6,16 @@
 //! references and the cards, and returns the fault of the first of these stages that finds one.
 //! `read` does so with the bytes that a source gives piece by piece: what precedes the words is
 //! looked for in twice as many bytes until it is there whole, the words go straight to their
-//! places, and the source is read to its end whatever fault its bytes have. `write` sends the text
-//! of an image to a sink the same way: what precedes the words whole, and the words in pieces.
+//! places, and the source is read to its end whatever fault its bytes have. `read_by` shares the
+//! slots among this many workers at most: each has a range of the regions, and the first range with
+//! a slot that references no object has the lowest. `write` sends the text of an image to a sink
+//! the same way: what precedes the words whole, and the words in pieces.
 #![tactic(auto)]
 
 mod ahead;
 mod behind;
 mod cards;
+mod checks;
 mod cursor;
 mod decoding;
 mod draft;
@@ -29,6 +32,7 @@ mod shape;
 mod sink;
 mod source;
 mod std_streams;
+mod strays;
 mod streaming;
 mod table;
 mod writing;
@@ -40,4 +44,4 @@ pub use sending::write;
 pub use sink::Sink;
 pub use source::Source;
 pub use std_streams::{FromReader, ToWriter};
-pub use streaming::read;
+pub use streaming::{read, read_by};

@@ -4,10 +4,10 @@ ghost use Rattle.g1_words.specs.Valid.{IsShaped, IsReference};
 ghost use Rattle.g1_words.specs.Walk.{Reaches};
 ghost use Rattle.g1_image.specs.Draft.{ShapedBelow};
 ghost use Rattle.g1_image.specs.Marks.{InRow, Marked, StartsAre};
-ghost use Rattle.g1_image.specs.Faults.{IsFirstBreach, IsGoodSlot};
+ghost use Rattle.g1_image.specs.Faults.{IsFirstBreach};
 
 use crate::draft::Draft;
-use g1_words::{Fault, Kind, Marks, Place, header, slots};
+use g1_words::{Fault, Kind, Marks, Place, header};
 use std::alloc::{AllocError, Global};
 
 /// Marks the objects that fill the words between two addresses.
@@ -80,7 +80,7 @@ pub(crate) fn check_roots(draft: &Draft, marks: &Marks) -> Result<(), Fault>
 }
 
 /// Returns the first of some words that references no object.
-fn first_stray(draft: &Draft, marks: &Marks, words: &[u64]) -> Option<usize>
+pub(crate) fn first_stray(draft: &Draft, marks: &Marks, words: &[u64]) -> Option<usize>
     requires { StartsAre draft.now marks.now }
     ensures found { IfSome result (λ i. IsFirstBreach (λ i. IsReference draft.now (slice_index words.now i)) (length words.now) i) }
     ensures none { IfNone result ((i : ℕ) → i < length words.now → IsReference draft.now (slice_index words.now i)) }
@@ -91,27 +91,4 @@ fn first_stray(draft: &Draft, marks: &Marks, words: &[u64]) -> Option<usize>
         }
     }
     None
-}
-
-/// Returns the first slot that references no object.
-pub(crate) fn check_slots(draft: &Draft, marks: &Marks) -> Result<(), Fault>
-    requires starts { StartsAre draft.now marks.now }
-    requires shaped { ShapedBelow draft.now draft.now.geometry.n }
-    ensures ok { OnOk result ((p : ℕ) → p < draft.now.geometry.n * draft.now.geometry.w → IsGoodSlot draft.now p) }
-    ensures err { IfErr result (λ e. (p : ℕ) × (e ≡ Fault.Reference (Place.Slot p)) × IsFirstBreach (IsGoodSlot draft.now) (draft.now.geometry.n * draft.now.geometry.w) p) }
-{
-    let words = draft.words();
-    let mut at = 0;
-    while at < words.len() {
-        if marks.is_set(at) {
-            let o = header(words, at as u64);
-            if let Some(i) = first_stray(draft, marks, slots(words, &o)) {
-                return Err(Fault::Reference(Place::Slot((at + 1 + i) as u64)));
-            }
-            at += o.size as usize;
-        } else {
-            at += 1;
-        }
-    }
-    Ok(())
 }

@@ -8,13 +8,14 @@ ghost use Rattle.g1_image.specs.Front.{IsGoodFront, text_of, IsLaidOut};
 ghost use Rattle.g1_image.specs.Ahead.{to_take, KnowsEnd, TextFails};
 
 use crate::ahead::{Ahead, PIECE};
-use crate::decoding::image_of;
+use crate::decoding::{image_of, image_of_by};
 use crate::image::Image;
 use crate::pieces::lay_pieces;
 use crate::plain::{Front, read_front};
 use crate::source::Source;
 use g1_words::{Device, Fault};
 use std::alloc::Global;
+use std::thread::Threads;
 
 /// Returns whether a fault of some bytes is one of all bytes that begin with them, too.
 fn is_final(fault: &Fault) -> bool
@@ -112,6 +113,39 @@ pub fn read<S: Source>(alloc: Global, source: &mut S) -> Result<Image, Fault>
     let mut ahead = Ahead::new(alloc);
     match take_parts(alloc, source, &mut ahead) {
         Ok((front, words)) => image_of(alloc, front, words),
+        Err(fault) => {
+            // The rest is read too, so that a read that fails there is told.
+            if is_of_bytes(&fault) {
+                ahead.drain(source)?;
+            }
+            Err(fault)
+        }
+    }
+}
+
+/// As `read`, with this many workers at most. One if it is 0.
+///
+/// The words are read and laid by the calling thread. The workers share the search for the first slot
+/// that references no object: each has a range of the regions.
+///
+/// # Errors
+///
+/// Those of `read`.
+pub fn read_by<S: Source>(
+    rt: &(impl Threads + Sync),
+    alloc: Global,
+    source: &mut S,
+    workers: u64,
+) -> Result<Image, Fault>
+    ensures ok { IfOk result (λ i. IfSome (S.left source.old) (λ xs. IsTextOf xs i)) }
+    ensures err { IfErr result (λ e. (e ≡ Fault.Device Device.Input) ⊎ IfSome (S.left source.old) (λ xs. MayFail xs e)) }
+    ensures no_output { IfErr result (λ e. e ≢ Fault.Device Device.Output) }
+    ensures end { IsReadOut (S.left source.new) result }
+    ensures marks { S.failed source.new ≡ input_mark (S.failed source.old) result }
+{
+    let mut ahead = Ahead::new(alloc);
+    match take_parts(alloc, source, &mut ahead) {
+        Ok((front, words)) => image_of_by(rt, alloc, front, words, workers),
         Err(fault) => {
             // The rest is read too, so that a read that fails there is told.
             if is_of_bytes(&fault) {

@@ -8,3 +8,5 @@ pub mod Merging
 pub mod Gathering
 pub mod Whole
 pub mod Slices
+pub mod Cutting
+pub mod Gathered

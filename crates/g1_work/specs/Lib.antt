@@ -5,3 +5,4 @@ pub mod Worker
 pub mod Merge
 pub mod Regions
 pub mod Team
+pub mod Ranges

@@ -20,7 +20,8 @@
 //! Work that is not drawn goes by its size: `threads_for` says how many threads its items feed.
 //!
 //! Words that are written in place are not drawn: `each_region_mut` cuts them into runs of regions,
-//! and lends each run to one thread alone.
+//! and lends each run to one thread alone. Words that are only read are not drawn either if what is
+//! wanted is the first of something: `cut_regions` cuts the regions into ranges, one a thread.
 //!
 //! What holds of the cursor between any two steps is one definition, `Dealing` of `specs/Rule`.
 //! What a seat has drawn is in the proofs alone: the list takes no bytes.
@@ -32,6 +33,7 @@ mod fill;
 mod gate;
 mod gather;
 mod merge;
+mod ranges;
 mod regions;
 mod rule;
 mod task;
@@ -42,6 +44,7 @@ pub use dealer::{DealSeat, Dealer, shares};
 pub use each::each_chunk;
 pub use fill::Fill;
 pub use gate::{Gate, Open, Part};
+pub use ranges::{WORDS_A_THREAD, cut_regions};
 pub use regions::each_region_mut;
 pub use task::Task;
 pub use team::{MOST_CHUNK, MOST_WORKERS, Team, threads_for};

@@ -3,9 +3,9 @@ use Rattle.g1_words.specs.Heap.{Heap}
 use Rattle.g1_words.specs.Valid.{IsReference}
 use Rattle.g1_words.specs.declared.object.Object.{Object}
 use Rattle.g1_image.specs.Marks.{StartsAt}
-use Rattle.g1_image.proofs.Slots.{SlotsBelow-end, SlotsBelow-none, SlotsBelow-object, object_fits, slot_breach}
-use Rattle.g1_image.proofs.refs.check_slots.Goals as goal
-use Rattle.g1_image.proofs.refs.check_slots.Goals.{After-header-o}
+use Rattle.g1_image.proofs.Slots.{SlotsBetween-none, SlotsBetween-object, object_fits, slot_breach}
+use Rattle.g1_image.proofs.strays.first_between.Goals as goal
+use Rattle.g1_image.proofs.strays.first_between.Goals.{After-header-o}
 
 -- a slot that was read among an object's is the heap's
 slot_is : (slots ws words : List ℕ) (q : Object) (at i : ℕ) → ((i : ℕ) → i < q.refs → slice_index slots i ≡ slice_index ws (q.at + 1 + i)) →
@@ -44,23 +44,20 @@ slots-requires-clause-refs c = (read (goal.at.slots-requires-clause-refs c).Afte
 pub slots-requires-clause-within : goal.slots-requires-clause-within
 slots-requires-clause-within c = (read (goal.at.slots-requires-clause-within c).After-header-o).object_end
 
-pub returns-in-Some-clause-err : goal.returns-in-Some-clause-err
-returns-in-Some-clause-err c =
+pub returns-in-Some : goal.returns-in-Some
+returns-in-Some c =
     let h = c.args.draft.now in
     let ws = c.words-words.result.now in
     let at = c.loop-at.at in
     let q = c.header-o.result in
     let i = c.in-Some.i in
-    let r = read (goal.at.returns-in-Some-clause-err c).After-header-o in
+    let r = read (goal.at.returns-in-Some c).After-header-o in
     let first = c.in-Some.ensures.found in
-    let lt : i < q.refs = omega (arith, first.within, c.slots.ensures.count) in (
-      at + 1 + i,
-      refl,
-      slot_breach h at q r.some c.requires.shaped r.start r.word c.header-o.ensures.refs c.header-o.ensures.size c.loop-at.invariant i lt
-          (λ r. first.breach (subst (λ x. IsReference h x) (sym (slot_is c.slots.result.now ws h.words q at i c.slots.ensures.each c.words-words.ensures.same c.header-o.ensures.at lt)) r))
-          (λ k less. subst (λ x. IsReference h x) (slot_is c.slots.result.now ws h.words q at k c.slots.ensures.each c.words-words.ensures.same
-          c.header-o.ensures.at (omega (arith, less, lt))) (first.before k less)),
-    )
+    let lt : i < q.refs = omega (arith, first.within, c.slots.ensures.count) in
+    slot_breach h at q r.some c.requires.shaped r.start r.word c.header-o.ensures.refs c.header-o.ensures.size c.args.from c.loop-at.invariant.1 c.loop-at.invariant.0 i lt
+    (λ r. first.breach (subst (λ x. IsReference h x) (sym (slot_is c.slots.result.now ws h.words q at i c.slots.ensures.each c.words-words.ensures.same c.header-o.ensures.at lt)) r))
+    (λ k less. subst (λ x. IsReference h x) (slot_is c.slots.result.now ws h.words q at k c.slots.ensures.each c.words-words.ensures.same
+    c.header-o.ensures.at (omega (arith, less, lt))) (first.before k less))
 
 pub loop-at-smaller-then-is_set : goal.loop-at-smaller-then-is_set
 loop-at-smaller-then-is_set c = omega (arith, (read (goal.at.loop-at-smaller-then-is_set c).After-header-o).refs, c.loop-at-test.true)
@@ -71,19 +68,20 @@ loop-at-preserved-then-is_set c =
     let ws = c.words-words.result.now in
     let at = c.loop-at.at in
     let q = c.header-o.result in
-    let r = read (goal.at.loop-at-preserved-then-is_set c).After-header-o in
-    SlotsBelow-object h at q r.some c.requires.shaped r.start r.word c.header-o.ensures.refs c.header-o.ensures.size c.loop-at.invariant
-    (λ i lt. subst (λ x. IsReference h x) (slot_is c.slots.result.now ws h.words q at i c.slots.ensures.each c.words-words.ensures.same
-    c.header-o.ensures.at lt) (c.in_default.ensures.none i (omega (arith, c.slots.ensures.count, lt))))
+    let r = read (goal.at.loop-at-preserved-then-is_set c).After-header-o in (
+      SlotsBetween-object h at q r.some c.requires.shaped r.start r.word c.header-o.ensures.refs c.header-o.ensures.size c.args.from c.loop-at.invariant.0
+          (λ i lt. subst (λ x. IsReference h x) (slot_is c.slots.result.now ws h.words q at i c.slots.ensures.each c.words-words.ensures.same
+          c.header-o.ensures.at lt) (c.in_default.ensures.none i (omega (arith, c.slots.ensures.count, lt)))),
+      omega (arith, c.loop-at.invariant.1),
+    )
 
 pub loop-at-preserved : goal.loop-at-preserved
 loop-at-preserved c =
     let none : StartsAt c.args.draft.now c.loop-at.at → ⊥ = λ s. let e : false ≡ true = sym c.if-is_set.false ∙ c.is_set.ensures ∙ c.requires.starts.each.whole c.loop-at.at s in cc in
-    SlotsBelow-none c.args.draft.now c.loop-at.at c.loop-at.invariant none
+    (SlotsBetween-none c.args.draft.now c.args.from c.loop-at.at c.loop-at.invariant.0 none, omega (arith, c.loop-at.invariant.1))
 
-pub returns-clause-ok : goal.returns-clause-ok
-returns-clause-ok c = λ p lt.
-    SlotsBelow-end c.args.draft.now c.loop-at.at p c.loop-at.invariant (omega (arith, c.loop-at-test.false, c.words-words.ensures.draft.word_count, ap length c.words-words.ensures.same, lt))
+pub returns : goal.returns
+returns c = λ o p has from_on lt. c.loop-at.invariant.0 o p has from_on (omega (arith, lt, c.loop-at-test.false))
 
 pub loop-at-smaller : goal.loop-at-smaller
 loop-at-smaller c = omega (arith, c.loop-at-test.true)

@@ -1,7 +1,7 @@
-use Rattle.std.proofs.Common.{rules, inr, sym, subst}
+use Rattle.std.proofs.Common.{inr, sym, subst}
 use Rattle.std.proofs.lemmas.Result.{err_from_is_err_and}
-use Rattle.g1_image.specs.Judged.{HeapFault, RootsAreGood}
-use Rattle.g1_image.proofs.decoding.check_heap.Goals as goal
+use Rattle.g1_image.specs.Judged.{HeapFault}
+use Rattle.g1_image.proofs.checks.checked_starts.Goals as goal
 
 pub returns-in_err-check_shapes-clause-err : goal.returns-in_err-check_shapes-clause-err
 returns-in_err-check_shapes-clause-err c =
@@ -14,10 +14,3 @@ returns-in_err-check_roots-clause-err c =
     let p = err_from_is_err_and c.from_residual-in_err-check_roots.result c.from_residual-in_err-check_roots.ensures.1 in
     let h = c.in_err-check_roots.ensures.err in
     rw (p.1, p.2) (inr (subst (HeapFault c.args.draft.now) (sym h.1) (c.in_ok-check_shapes.ensures.ok, h.2)))
-
-pub returns-in_err-check_slots-clause-err : goal.returns-in_err-check_slots-clause-err
-returns-in_err-check_slots-clause-err c =
-    let p = err_from_is_err_and c.from_residual-in_err-check_slots.result c.from_residual-in_err-check_slots.ensures.1 in
-    let h = c.in_err-check_slots.ensures.err in
-    let roots : RootsAreGood c.args.draft.now = search rules in
-    rw (p.1, p.2) (inr (subst (HeapFault c.args.draft.now) (sym h.1) (c.in_ok-check_shapes.ensures.ok, roots, h.2)))

@@ -1,0 +1,50 @@
+ghost use Rattle.std.specs.Prelude.{◌≡◌, ◌⊎◌, OnOk, IfOk, IfErr};
+ghost use Rattle.g1_image.specs.Draft.{ShapedBelow};
+ghost use Rattle.g1_image.specs.Marks.{StartsAre};
+ghost use Rattle.g1_image.specs.Judged.{IsGoodHeap, HeapFault, RootsAreGood};
+
+use crate::draft::Draft;
+use crate::refs::{check_roots, starts};
+use crate::shape::check_shapes;
+use crate::strays::{check_slots, check_slots_by};
+use g1_words::{Fault, Marks};
+use std::alloc::Global;
+use std::thread::Threads;
+
+/// The addresses where objects start, or the first fault of a heap's regions and roots.
+fn checked_starts(alloc: Global, draft: &Draft) -> Result<Marks, Fault>
+    ensures starts { IfOk result (λ m. StartsAre draft.now m) }
+    ensures shaped { OnOk result (ShapedBelow draft.now draft.now.geometry.n) }
+    ensures roots { OnOk result (RootsAreGood draft.now) }
+    ensures err { IfErr result (λ e. (e ≡ Fault.Memory) ⊎ HeapFault draft.now e) }
+{
+    check_shapes(draft)?;
+    let marks = starts(alloc, draft)?;
+    check_roots(draft, &marks)?;
+    Ok(marks)
+}
+
+/// Returns the first fault of a heap's regions and references.
+pub(crate) fn check_heap(alloc: Global, draft: &Draft) -> Result<(), Fault>
+    ensures ok { OnOk result (IsGoodHeap draft.now) }
+    ensures err { IfErr result (λ e. (e ≡ Fault.Memory) ⊎ HeapFault draft.now e) }
+{
+    let marks = checked_starts(alloc, draft)?;
+    check_slots(draft, &marks)?;
+    Ok(())
+}
+
+/// As `check_heap`, with this many workers at most. One if it is 0.
+pub(crate) fn check_heap_by(
+    rt: &(impl Threads + Sync),
+    alloc: Global,
+    draft: &Draft,
+    workers: u64,
+) -> Result<(), Fault>
+    ensures ok { OnOk result (IsGoodHeap draft.now) }
+    ensures err { IfErr result (λ e. (e ≡ Fault.Memory) ⊎ HeapFault draft.now e) }
+{
+    let marks = checked_starts(alloc, draft)?;
+    check_slots_by(rt, alloc, draft, &marks, workers)?;
+    Ok(())
+}

@@ -1,0 +1,207 @@
+//! The slots of a heap, shared by threads in ranges of regions.
+ghost use Rattle.std.specs.Prelude.{◌≡◌, ◌≤◌, ◌<◌, ◌⊎◌, ◌+◌, ◌*◌, ℕ, List, Option, slice_index, OnOk, IfOk, IfErr};
+ghost use Rattle.g1_words.specs.Heap.{start};
+ghost use Rattle.g1_work.specs.Ranges.{IsCut, IsRange};
+ghost use Rattle.g1_image.specs.Draft.{ShapedBelow};
+ghost use Rattle.g1_image.specs.Marks.{StartsAre};
+ghost use Rattle.g1_image.specs.Faults.{IsFirstBreach, IsGoodSlot};
+ghost use Rattle.g1_image.specs.Strays.{IsFirstStray, IsFirstStrayIn, AreFirstStrays, StartBefore, first_some as the_first};
+
+use crate::draft::Draft;
+use crate::refs::first_stray;
+use g1_words::{Fault, Kind, Marks, Place, Region, header, slots};
+use g1_work::{WORDS_A_THREAD, cut_regions, threads_for};
+use rayon::prelude::*;
+use std::alloc::{AllocError, Global};
+use std::thread::Threads;
+
+/// The address after the last at which an object of a region starts; the region's own start if none
+/// does.
+fn starts_end(draft: &Draft, r: u32) -> u64
+    requires shaped { ShapedBelow draft.now draft.now.geometry.n }
+    requires there { r < draft.now.geometry.n }
+    ensures all { StartBefore draft.now r result }
+    ensures within { result ≤ draft.now.geometry.n * draft.now.geometry.w }
+{
+    let start = draft.geometry().start(r);
+    let Region { kind, top, .. } = draft.region(r);
+    match kind {
+        Kind::Ordinary => start + u64::from(top),
+        Kind::HumongousFirst => start + 1,
+        Kind::Free => start,
+        Kind::Continuation => start,
+    }
+}
+
+/// The first slot that references no object, of the objects that start between two addresses.
+fn first_between(draft: &Draft, marks: &Marks, from: usize, to: usize) -> Option<u64>
+    requires starts { StartsAre draft.now marks.now }
+    requires shaped { ShapedBelow draft.now draft.now.geometry.n }
+    requires within { to ≤ draft.now.geometry.n * draft.now.geometry.w }
+    ensures { IsFirstStray draft.now from to result }
+{
+    let words = draft.words();
+    let mut at = from;
+    while at < to {
+        if marks.is_set(at) {
+            let o = header(words, at as u64);
+            if let Some(i) = first_stray(draft, marks, slots(words, &o)) {
+                return Some((at + 1 + i) as u64);
+            }
+            at += o.size as usize;
+        } else {
+            at += 1;
+        }
+    }
+    None
+}
+
+/// The first slot that references no object, of the objects that start in a region.
+fn first_in(draft: &Draft, marks: &Marks, r: u32) -> Option<u64>
+    requires starts { StartsAre draft.now marks.now }
+    requires shaped { ShapedBelow draft.now draft.now.geometry.n }
+    requires there { r < draft.now.geometry.n }
+    ensures { IsFirstStray draft.now (start draft.now r) (start draft.now (r + 1)) result }
+{
+    let from = draft.geometry().start(r);
+    let to = starts_end(draft, r);
+    first_between(draft, marks, from as usize, to as usize)
+}
+
+/// The first slot that references no object, of the objects that start in some regions.
+fn first_of(draft: &Draft, marks: &Marks, from: u32, to: u32) -> Option<u64>
+    requires starts { StartsAre draft.now marks.now }
+    requires shaped { ShapedBelow draft.now draft.now.geometry.n }
+    requires order { from ≤ to }
+    requires regions { to ≤ draft.now.geometry.n }
+    ensures { IsFirstStray draft.now (start draft.now from) (start draft.now to) result }
+{
+    for r in from..to {
+        if let Some(p) = first_in(draft, marks, r) {
+            return Some(p);
+        }
+    }
+    None
+}
+
+/// For each range of regions the first slot that references no object, a thread a range.
+fn first_in_each(
+    rt: &(impl Threads + Sync),
+    alloc: Global,
+    draft: &Draft,
+    marks: &Marks,
+    cut: &[u32],
+    ranges: usize,
+) -> Result<Vec<Option<u64>>, AllocError>
+    requires starts { StartsAre draft.now marks.now }
+    requires shaped { ShapedBelow draft.now draft.now.geometry.n }
+    requires cut { IsCut draft.now.geometry.n ranges cut.now }
+    ensures { IfOk result (λ v. AreFirstStrays draft.now cut.now ranges v.items) }
+{
+    (0..ranges)
+        .into_par_iter()
+        .with_min_len(1)
+        .map(
+            |range: usize| -> Option<u64>
+                requires { StartsAre draft.now marks.now × ShapedBelow draft.now draft.now.geometry.n × IsRange draft.now.geometry.n cut.now range }
+                ensures { IsFirstStrayIn draft.entry.now cut.entry.now range result }
+            { first_of(draft, marks, cut[range], cut[range + 1]) },
+        )
+        .collect::<Vec<Option<u64>>>(rt, alloc)
+}
+
+/// The first slot that was found in ranges that follow one another.
+fn first_some(found: &[Option<u64>]) -> Option<u64>
+    ensures { result ≡ the_first found.now }
+{
+    for slot in found {
+        if let Some(p) = slot {
+            return Some(*p);
+        }
+    }
+    None
+}
+
+/// The first slot that references no object, by this many threads.
+fn first_by_threads(
+    rt: &(impl Threads + Sync),
+    alloc: Global,
+    draft: &Draft,
+    marks: &Marks,
+    threads: usize,
+) -> Result<Option<u64>, AllocError>
+    requires some { 0 < threads }
+    requires starts { StartsAre draft.now marks.now }
+    requires shaped { ShapedBelow draft.now draft.now.geometry.n }
+    ensures { IfOk result (IsFirstStray draft.now 0 (draft.now.geometry.n * draft.now.geometry.w)) }
+{
+    let cut = cut_regions(alloc, draft.regions(), threads)?;
+    let found = first_in_each(rt, alloc, draft, marks, &cut, threads)?;
+    Ok(first_some(&found))
+}
+
+/// The first slot that references no object.
+fn first_alone(draft: &Draft, marks: &Marks) -> Option<u64>
+    requires starts { StartsAre draft.now marks.now }
+    requires shaped { ShapedBelow draft.now draft.now.geometry.n }
+    ensures { IsFirstStray draft.now 0 (draft.now.geometry.n * draft.now.geometry.w) result }
+{
+    first_of(draft, marks, 0, draft.geometry().regions() as u32)
+}
+
+/// The fault of the first slot that references no object, if there is one.
+fn fault_of(draft: &Draft, found: Option<u64>) -> Result<(), Fault>
+    requires { IsFirstStray draft.now 0 (draft.now.geometry.n * draft.now.geometry.w) found }
+    ensures ok { OnOk result ((p : ℕ) → p < draft.now.geometry.n * draft.now.geometry.w → IsGoodSlot draft.now p) }
+    ensures err { IfErr result (λ e. (p : ℕ) × (e ≡ Fault.Reference (Place.Slot p)) × IsFirstBreach (IsGoodSlot draft.now) (draft.now.geometry.n * draft.now.geometry.w) p) }
+{
+    match found {
+        Some(p) => Err(Fault::Reference(Place::Slot(p))),
+        None => Ok(()),
+    }
+}
+
+/// Returns the first slot that references no object.
+pub(crate) fn check_slots(draft: &Draft, marks: &Marks) -> Result<(), Fault>
+    requires starts { StartsAre draft.now marks.now }
+    requires shaped { ShapedBelow draft.now draft.now.geometry.n }
+    ensures ok { OnOk result ((p : ℕ) → p < draft.now.geometry.n * draft.now.geometry.w → IsGoodSlot draft.now p) }
+    ensures err { IfErr result (λ e. (p : ℕ) × (e ≡ Fault.Reference (Place.Slot p)) × IsFirstBreach (IsGoodSlot draft.now) (draft.now.geometry.n * draft.now.geometry.w) p) }
+{
+    fault_of(draft, first_alone(draft, marks))
+}
+
+/// The first slot that references no object, by as many threads as the words feed.
+fn first_by(
+    rt: &(impl Threads + Sync),
+    alloc: Global,
+    draft: &Draft,
+    marks: &Marks,
+    workers: u64,
+) -> Result<Option<u64>, AllocError>
+    requires starts { StartsAre draft.now marks.now }
+    requires shaped { ShapedBelow draft.now draft.now.geometry.n }
+    ensures { IfOk result (IsFirstStray draft.now 0 (draft.now.geometry.n * draft.now.geometry.w)) }
+{
+    match threads_for(workers, draft.words().len(), WORDS_A_THREAD) {
+        1 => Ok(first_alone(draft, marks)),
+        threads => first_by_threads(rt, alloc, draft, marks, threads),
+    }
+}
+
+/// As `check_slots`, with this many workers at most. One if it is 0.
+pub(crate) fn check_slots_by(
+    rt: &(impl Threads + Sync),
+    alloc: Global,
+    draft: &Draft,
+    marks: &Marks,
+    workers: u64,
+) -> Result<(), Fault>
+    requires starts { StartsAre draft.now marks.now }
+    requires shaped { ShapedBelow draft.now draft.now.geometry.n }
+    ensures ok { OnOk result ((p : ℕ) → p < draft.now.geometry.n * draft.now.geometry.w → IsGoodSlot draft.now p) }
+    ensures err { IfErr result (λ e. (e ≡ Fault.Memory) ⊎ ((p : ℕ) × (e ≡ Fault.Reference (Place.Slot p)) × IsFirstBreach (IsGoodSlot draft.now) (draft.now.geometry.n * draft.now.geometry.w) p)) }
+{
+    let found = first_by(rt, alloc, draft, marks, workers)?;
+    fault_of(draft, found)
+}
