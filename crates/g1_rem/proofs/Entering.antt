@@ -4,7 +4,7 @@ use Rattle.std.proofs.Common.{get_or, replicate, map, take, drop, filter, All, A
 use Rattle.std.proofs.Common.{get_or-set_other}
 use Rattle.std.specs.Prelude.{Some, None, Result, Ok, Err, IfOk, IfErr, MatchResult}
 use Rattle.std.specs.Global.{Vec}
-use Rattle.std.proofs.lemmas.List.Kept.{IsStrictlyIncreasing-filter}
+use Rattle.std.proofs.lemmas.List.Kept.{IsStrictlyIncreasing-filter, AllPairs-filter}
 use Rattle.g1_words.specs.declared.fault.Fault.{Fault}
 use Rattle.g1_words.specs.declared.fault.Fault.TheVariants.{Memory}
 use Rattle.std.specs.List.{list_any, range_with_len, AllZip}
@@ -279,6 +279,20 @@ module _ (log sorted : List ℕ) (moved : IsPermutation log sorted) where
   pub sorted_inside : (h : Heap) → IsValid h → All (IsUsedCard h) log → All (λ c. c < card_count h) sorted
   sorted_inside h valid used = all_in (λ c. c < card_count h) sorted (λ c i. card_inside h c valid (in_all (IsUsedCard h) log c used
       (In-from_contains log c (Contains-permutation sorted log c (IsPermutation-sym log sorted moved) (Contains-from_in sorted c i)))))
+
+-- all dirty cards are the heap's
+pub log_inside : (i : Image) → IsImage i → All (λ c. c < card_count i.heap) i.log
+log_inside i valid = all_in (λ c. c < card_count i.heap) i.log (λ c k. card_inside i.heap c valid.heap (in_all (IsUsedCard i.heap) i.log c valid.log.used k))
+
+-- ---- one region
+
+-- the dirty cards that lead into it, sorted
+pub refining_one : (i : Image) (r : ℕ) (leading sorted : List ℕ) → IsImage i → leading ≡ filter (is_exact i.heap r) i.log → IsPermutation leading sorted → IsSorted nat_cmp sorted
+    → IsRefining i r sorted
+refining_one i r leading sorted valid e moved s = record {
+  rising = sorted_rising leading sorted moved (subst (AllPairs (λ c d. c ≢ d)) (sym e) (AllPairs-filter (λ c d. c ≢ d) (is_exact i.heap r) i.log valid.log.distinct)) s;
+  members = λ c. sorted_same leading sorted moved c ∙ ap (λ l. has l c) e ∙ has_filter (is_exact i.heap r) i.log c;
+}
 
 -- ---- all regions
 

@@ -1,23 +1,12 @@
--- The regions cut into ranges that follow one another.
+-- The starts of the cards in a range of regions.
 use Rattle.std.specs.Prelude.{◌≡◌, ◌≤◌, ◌<◌, ℕ, ◌+◌, ◌*◌, Option, None, Result, Ok, Err, List, length, map, slice_index, slice_index_or}
 use Rattle.std.specs.List.{range_with_len, AllZip}
 use Rattle.std.specs.Global.{Vec}
 use Rattle.g1_words.specs.declared.fault.Fault.{Fault}
 use Rattle.g1_words.specs.declared.fault.Fault.TheVariants.{Memory}
 use Rattle.g1_words.specs.Heap.{Heap, start}
+pub use Rattle.g1_work.specs.Ranges.{IsRange, IsCut}
 use Rattle.g1_rem.specs.Starts.{IsOver, address_below}
-
--- range j of the regions below n, by where each range begins
-pub record IsRange (n : ℕ) (begins : List ℕ) (j : ℕ) : Type 0 where
-  pub there : j + 1 < length begins
-  pub order : slice_index begins j ≤ slice_index begins (j + 1)
-  pub within : slice_index begins (j + 1) ≤ n
-
--- the list tells where each range of the regions below n begins, and at last where the last one ends
-pub record IsCut (n ranges : ℕ) (begins : List ℕ) : Type 0 where
-  pub first : slice_index begins 0 ≡ 0
-  pub last : slice_index begins ranges ≡ n
-  pub each : (j : ℕ) → j < ranges → IsRange n begins j
 
 -- for each card of the regions from one on and before another, the object over its first word
 pub record AreStartsBetween (h : Heap) (a b : ℕ) (starts : List (Option ℕ)) : Type 0 where

@@ -10,12 +10,12 @@ ghost use Rattle.g1_rem.specs.Ranges.{IsCut, IsRange};
 
 use crate::entry_cards::mark_each;
 use crate::leads::led_into;
-use crate::ranges::{WORDS_A_THREAD, cut};
+use crate::ranges::cut;
 use crate::rows::objects_end;
 use crate::tracked::Tracked;
 use g1_image::Image;
 use g1_words::{Fault, Marks, card_of, header};
-use g1_work::threads_for;
+use g1_work::{WORDS_A_THREAD, threads_for};
 use rayon::prelude::*;
 use std::alloc::{AllocError, Global};
 use std::thread::Threads;

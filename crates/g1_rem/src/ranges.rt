@@ -1,38 +1,9 @@
-ghost use Rattle.std.specs.Prelude.{◌≤◌, ◌<◌, IfOk};
-ghost use Rattle.g1_rem.specs.Ranges.{IsCut};
+ghost use Rattle.std.specs.Prelude.{◌<◌, IfOk};
+ghost use Rattle.g1_work.specs.Ranges.{IsCut};
 
-use g1_words::{Heap, Region};
+use g1_words::Heap;
+use g1_work::cut_regions;
 use std::alloc::{AllocError, Global};
-
-/// A thread is worth starting for this many words: to walk over their objects takes some 100
-/// microseconds, and a thread takes tens of microseconds to start.
-pub const WORDS_A_THREAD: usize = 65_536;
-
-/// How many words of all regions are used.
-fn used_words(regions: &[Region]) -> u64 {
-    let mut words: u64 = 0;
-    for region in regions {
-        words = words.saturating_add(u64::from(region.top));
-    }
-    words
-}
-
-/// The first region, from one on, before which this many words are used; the end of the heap if no
-/// region is.
-fn next_begin(heap: &Heap, from: u32, words: u64) -> u32
-    requires { from ≤ heap.now.geometry.n }
-    ensures order { from ≤ result }
-    ensures within { result ≤ heap.now.geometry.n }
-{
-    let end = heap.geometry().regions() as u32;
-    let mut region = from;
-    let mut left = words;
-    'regions: while region < end && 0 < left {
-        left = left.saturating_sub(u64::from(heap.region(region).top));
-        region += 1;
-    }
-    region
-}
 
 /// Cuts the regions into ranges with about as many used words each: the region at which each range
 /// begins, and at last the end of the heap.
@@ -40,13 +11,6 @@ pub(crate) fn cut(alloc: Global, heap: &Heap, ranges: usize) -> Result<Vec<u32>,
     requires { 0 < ranges }
     ensures { IfOk result (λ v. IsCut heap.now.geometry.n ranges v.items) }
 {
-    let words = used_words(heap.regions()).div_ceil(ranges as u64);
-    let mut begins: Vec<u32> = Vec::new(alloc);
-    let mut begin = 0;
-    for _range in 0..ranges {
-        begins.push(begin)?;
-        begin = next_begin(heap, begin, words);
-    }
-    begins.push(heap.geometry().regions() as u32)?;
-    Ok(begins)
+    g1_words::laws::valid(heap);
+    cut_regions(alloc, heap.regions(), ranges)
 }

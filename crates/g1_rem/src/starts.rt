@@ -6,10 +6,10 @@ ghost use Rattle.g1_rem.specs.Starts.{IsStartsOf, address_below};
 ghost use Rattle.g1_rem.specs.Marks.{IsMarkedTo, Told, objects_from};
 ghost use Rattle.g1_rem.specs.Ranges.{IsCut, IsRange, AreStartsIn, AreStartsInEach};
 
-use crate::ranges::{WORDS_A_THREAD, cut};
+use crate::ranges::cut;
 use crate::rows::objects_end;
 use g1_words::{Fault, Heap, card_of, size_at};
-use g1_work::threads_for;
+use g1_work::{WORDS_A_THREAD, threads_for};
 use rayon::prelude::*;
 use std::alloc::{AllocError, Global};
 use std::marker::Model;

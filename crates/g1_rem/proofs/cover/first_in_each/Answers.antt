@@ -6,7 +6,7 @@ use Rattle.rayon.specs.Numbers.{nat_range}
 use Rattle.rayon.proofs.ToStd.{nat_range-All}
 use Rattle.g1_rem.specs.Cover.{IsFirstOf, IsFirstAmong, bare_in_range}
 use Rattle.g1_rem.specs.Ranges.{IsRange}
-use Rattle.g1_rem.proofs.Gathered.{gathered, gathered_memory}
+use Rattle.g1_work.proofs.Gathered.{gathered, gathered_memory}
 use Rattle.g1_rem.proofs.cover.first_in_each.Goals as goal
 
 pub collect-requires-clause-ready : goal.collect-requires-clause-ready
