@@ -1,6 +1,6 @@
 -- What one round of claims gives.
 use Rattle.std.proofs.Common.{◌≡◌, ◌≢◌, ℕ, ◌+◌, ◌-◌, ◌<◌, ◌≤◌, Bool, true, false, cond, eqb, eq-eqb, eqb-true, List, [], ◌∷◌, map, filter, sym, refl, ap, ◌∙◌, subst, inl, inr, arith}
-use Rattle.std.proofs.Common.{IsPermutation, All, AllPairs, Vec, Global}
+use Rattle.std.proofs.Common.{Contains, IsPermutation, All, AllPairs, Vec, Global}
 use Rattle.std.specs.List.{flat_map}
 use Rattle.std.proofs.lemmas.List.Sorted.{IsPermutation-sym, IsPermutation-map}
 use Rattle.std.proofs.lemmas.Map.Keys.{IsDistinct-IsPermutation}
@@ -8,7 +8,9 @@ use Rattle.std.proofs.lemmas.Map.Made.{AllPairs-from_IsDistinct, IsDistinct-from
 use Rattle.std.proofs.lemmas.Bool.Decides.{Decides-eqb}
 use Rattle.g1_claim.specs.declared.rule.Offer.{Offer}
 use Rattle.g1_claim.specs.Claims.{TableView, SeatView}
-use Rattle.g1_words.specs.Heap.{Heap, word, slots, object_at}
+use Rattle.g1_words.specs.Heap.{Heap, word, slots, object_at, objects}
+use Rattle.g1_words.specs.Valid.{IsValid, IsReference}
+use Rattle.g1_words.proofs.Sound.{reference_named}
 use Rattle.g1_words.specs.References.{named}
 use Rattle.g1_words.specs.Survivors.{in_set}
 use Rattle.g1_words.proofs.Members.{In, In-map, map_cases, flat_map_cases, filter_member}
@@ -17,7 +19,9 @@ use Rattle.g1_words.proofs.Rising.{Ordered-map}
 use Rattle.g1_rem.specs.Slots.{slots_on}
 use Rattle.g1_frontier.specs.declared.item.Item.{Item}
 use Rattle.g1_frontier.specs.declared.item.Item.TheVariants.{Root, Card, Object}
-use Rattle.g1_frontier.specs.Items.{aims, pairs, all_pairs}
+use Rattle.g1_frontier.specs.Items.{IsItem, aims, pairs, all_pairs}
+use Rattle.g1_frontier.specs.Numbers.{BeginsIn}
+use Rattle.g1_frontier.proofs.Names.{root_reference, card_reference, object_reference}
 use Rattle.g1_frontier.specs.Offering.{Try, pair_of, answered_true, offer_of}
 use Rattle.g1_frontier.specs.Round.{Rises, AreAbove, bid_of, bid, AddsOffers, winners, HasOffered, IsByRank}
 use Rattle.g1_frontier.proofs.Assembly.{RankLess}
@@ -44,6 +48,28 @@ pairs_in_window h window (Object a b) q i =
 
 pub all_in_window : (h : Heap) (window : List ℕ) (items : List Item) (q : ℕ × ℕ) → In (all_pairs h window items) q → in_set h window q.1 ≡ true
 all_in_window h window items q i = let m = flat_map_cases (pairs h window) items q i in pairs_in_window h window m.0 q m.2
+
+-- ---- and names objects
+
+aims_object : (h : Heap) (window : List ℕ) (rank x : ℕ) (q : ℕ × ℕ) → IsValid h → IsReference h x → In (aims h window rank x) q → Contains (objects h) (object_at h q.1)
+aims_object h window rank x q valid r i =
+    let m = map_cases (λ a. (rank, a)) (filter (in_set h window) (named x)) q i in
+    subst (λ (r : ℕ × ℕ). Contains (objects h) (object_at h r.1)) m.2 (reference_named h x m.0 valid r (filter_member (in_set h window) (named x) m.0 m.1).0)
+
+pairs_object : (h : Heap) (window : List ℕ) (i : Item) (q : ℕ × ℕ) → IsValid h → IsItem h i → In (pairs h window i) q → Contains (objects h) (object_at h q.1)
+pairs_object h window (Root n) q valid ok i = aims_object h window n _ q valid (root_reference h valid n ok) i
+pairs_object h window (Card c b) q valid ok i =
+    let m = flat_map_cases (λ p. aims h window (b + p) (word h p)) (slots_on h c) q i in
+    aims_object h window (b + m.0) (word h m.0) q valid (card_reference h valid c m.0 m.1) m.2
+pairs_object h window (Object a b) q valid ok i =
+    let m = flat_map_cases (λ p. aims h window (b + (p - (a + 1))) (word h p)) (slots (object_at h a)) q i in
+    aims_object h window (b + (m.0 - (a + 1))) (word h m.0) q valid (object_reference h valid a m.0 ok m.1) m.2
+
+-- what is offered are objects of the window
+pub all_begin : (h : Heap) (window : List ℕ) (items : List Item) (q : ℕ × ℕ) → IsValid h → All (IsItem h) items → In (all_pairs h window items) q → BeginsIn h window q.1
+all_begin h window items q valid ok i =
+    let m = flat_map_cases (pairs h window) items q i in
+    (all_in_window h window items q i, pairs_object h window m.0 q valid (all_in (IsItem h) items m.0 ok m.1) m.2)
 
 -- ---- ranks that differ
 

@@ -37,8 +37,8 @@ map_map : {A B C : Type 0} (f : B → C) (g : A → B) (xs : List A) → map f (
 map_map f g [] = refl
 map_map f g (x ∷ xs) = ap (λ l. f (g x) ∷ l) (map_map f g xs)
 
-module _ (place : ℕ → ℕ) (inside : ℕ → Bool) (apart : (a b : ℕ) → inside a ≡ true → inside b ≡ true → place b ≡ place a → b ≡ a) where
-  pub same_test : (a b : ℕ) → inside a ≡ true → inside b ≡ true → eqb (place a) (place b) ≡ eqb a b
+module _ (place : ℕ → ℕ) (Inside : ℕ → Type 0) (apart : (a b : ℕ) → Inside a → Inside b → place b ≡ place a → b ≡ a) where
+  pub same_test : (a b : ℕ) → Inside a → Inside b → eqb (place a) (place b) ≡ eqb a b
   same_test a b s t = at (eqb a b) refl
     where
       at : (c : Bool) → eqb a b ≡ c → eqb (place a) (place b) ≡ c
@@ -46,7 +46,7 @@ module _ (place : ℕ → ℕ) (inside : ℕ → Bool) (apart : (a b : ℕ) → 
       at false e = same_bool (eqb (place a) (place b)) (λ u. true≢false (sym (eq-eqb a b (sym (apart a b s t (sym (eqb-true (place a) (place b) u))))) ∙ e))
 
   -- first occurrences of places are those of addresses
-  firsts_places : (xs : List ℕ) → ((a : ℕ) → In xs a → inside a ≡ true) → firsts (map place xs) ≡ map place (firsts xs)
+  firsts_places : (xs : List ℕ) → ((a : ℕ) → In xs a → Inside a) → firsts (map place xs) ≡ map place (firsts xs)
   firsts_places [] h = refl
   firsts_places (x ∷ xs) h =
       ap (λ l. place x ∷ l)
@@ -54,7 +54,7 @@ module _ (place : ℕ → ℕ) (inside : ℕ → Bool) (apart : (a b : ℕ) → 
       ∙ filter_map (λ y. not (eqb (place x) y)) place (firsts xs)
       ∙ ap (map place) (filter_members (λ y. not (eqb (place x) (place y))) (λ y. not (eqb x y)) (firsts xs) (λ y i. ap not (same_test x y (h x (inl refl)) (h y (inr (firsts_member xs y i)))))))
 
-  map_apart : (xs ys : List ℕ) → ((a : ℕ) → In xs a → inside a ≡ true) → ((a : ℕ) → In ys a → inside a ≡ true) → map place xs ≡ map place ys → xs ≡ ys
+  map_apart : (xs ys : List ℕ) → ((a : ℕ) → In xs a → Inside a) → ((a : ℕ) → In ys a → Inside a) → map place xs ≡ map place ys → xs ≡ ys
   map_apart [] [] h k e = refl
   map_apart [] (y ∷ ys) h k e = let n : ◌≡◌ {A = ℕ} 0 (suc (length (map place ys))) = ap length e in absurd (omega (arith, n))
   map_apart (x ∷ xs) [] h k e = let n : ◌≡◌ {A = ℕ} (suc (length (map place xs))) 0 = ap length e in absurd (omega (arith, n))
@@ -71,8 +71,8 @@ module _ (place : ℕ → ℕ) (inside : ℕ → Bool) (apart : (a b : ℕ) → 
       tail (z ∷ zs) = zs
 
   module _ (ps : List (ℕ × ℕ)) (found : List ℕ) (before after : List Offer) (next : ℕ) (adds : AddsOffers place ps before after)
-      (rise : Ordered RankLess ps) (low : (q : ℕ × ℕ) → In ps q → q.0 < empty) (within : (q : ℕ × ℕ) → In ps q → inside q.1 ≡ true)
-      (below : All (λ o. o.rank < next) before) (above : (q : ℕ × ℕ) → In ps q → next ≤ q.0) (claimed : (a : ℕ) → inside a ≡ true → has (places_of before) (place a) ≡ has found a) where
+      (rise : Ordered RankLess ps) (low : (q : ℕ × ℕ) → In ps q → q.0 < empty) (within : (q : ℕ × ℕ) → In ps q → Inside q.1)
+      (below : All (λ o. o.rank < next) before) (above : (q : ℕ × ℕ) → In ps q → next ≤ q.0) (claimed : (a : ℕ) → Inside a → has (places_of before) (place a) ≡ has found a) where
     abbrev bids : List (ℕ × ℕ)
     bids = map (bid place) ps
 
@@ -87,8 +87,8 @@ module _ (place : ℕ → ℕ) (inside : ℕ → Bool) (apart : (a b : ℕ) → 
     places_bids : (os : List Offer) → map place_of (map bid_of os) ≡ places_of os
     places_bids os = map_map place_of bid_of os
 
-    in_addresses : (a : ℕ) → In (map (λ (q : ℕ × ℕ). q.1) ps) a → inside a ≡ true
-    in_addresses a i = let m = map_cases (λ (q : ℕ × ℕ). q.1) ps a i in subst (λ b. inside b ≡ true) m.2 (within m.0 m.1)
+    in_addresses : (a : ℕ) → In (map (λ (q : ℕ × ℕ). q.1) ps) a → Inside a
+    in_addresses a i = let m = map_cases (λ (q : ℕ × ℕ). q.1) ps a i in subst Inside m.2 (within m.0 m.1)
 
     -- what won are the first occurrences of what was not found before
     pub new_found : map (λ (q : ℕ × ℕ). q.1) (winners place after ps) ≡ filter (λ a. not (has found a)) (firsts (map (λ (q : ℕ × ℕ). q.1) ps))
@@ -116,7 +116,7 @@ module _ (place : ℕ → ℕ) (inside : ℕ → Bool) (apart : (a b : ℕ) → 
         ∙ filter_map (λ p. not (has (places_of before) p)) place (firsts xs)
         ∙ ap (map place) (filter_members (λ a. not (has (places_of before) (place a))) (λ a. not (has found a)) (firsts xs) (λ a i. ap not (claimed a (in_addresses a (firsts_member xs a i))))) in
         map_apart (map (λ (q : ℕ × ℕ). q.1) (winners place after ps)) (filter (λ a. not (has found a)) (firsts xs))
-        (λ a i. let m = map_cases (λ (q : ℕ × ℕ). q.1) (winners place after ps) a i in subst (λ b. inside b ≡ true) m.2 (within m.0 (filter_member (is_least place after) ps m.0 m.1).0))
+        (λ a i. let m = map_cases (λ (q : ℕ × ℕ). q.1) (winners place after ps) a i in subst Inside m.2 (within m.0 (filter_member (is_least place after) ps m.0 m.1).0))
         (λ a i. in_addresses a (firsts_member xs a (filter_member (λ a. not (has found a)) (firsts xs) a i).0))
         (sym left ∙ link ∙ right)
 
@@ -124,7 +124,7 @@ module _ (place : ℕ → ℕ) (inside : ℕ → Bool) (apart : (a b : ℕ) → 
     found_on once = (λ i. once i ++ new_found i) ∙ sym (firsts-append found (map (λ (q : ℕ × ℕ). q.1) ps))
 
     -- the places that are offered are again those of what was found
-    pub claimed_on : (more : List ℕ) → more ≡ firsts (found ++ map (λ (q : ℕ × ℕ). q.1) ps) → (a : ℕ) → inside a ≡ true → has (places_of after) (place a) ≡ has more a
+    pub claimed_on : (more : List ℕ) → more ≡ firsts (found ++ map (λ (q : ℕ × ℕ). q.1) ps) → (a : ℕ) → Inside a → has (places_of after) (place a) ≡ has more a
     claimed_on more e a t =
         let xs : List ℕ = map (λ (q : ℕ × ℕ). q.1) ps in
         let made : List Offer = adds.0 in

@@ -2,9 +2,12 @@ pub mod Marks
 pub mod Turns
 pub mod Places
 pub mod Positions
+pub mod Counts
+pub mod Begins
 pub mod Seeds
 pub mod Names
 pub mod Scopes
+pub mod Numberings
 pub mod Offerings
 pub mod Pieces
 pub mod Assembly

@@ -3,10 +3,11 @@ use Rattle.std.proofs.Common.{◌≡◌, ◌≤◌, ◌<◌, ℕ, zero, suc, ◌
 use Rattle.std.proofs.Common.{arith, refl, sym, ap, subst, ◌∙◌, append_assoc, append-nil}
 use Rattle.std.specs.List.{range_with_len}
 use Rattle.g1_words.specs.Heap.{Heap, word, objects, object_at, slots}
-use Rattle.g1_words.specs.Valid.{IsValid}
+use Rattle.g1_words.specs.Valid.{IsValid, IsReference}
+use Rattle.g1_words.specs.declared.object.Object.{Object}
 use Rattle.g1_words.proofs.Bounds.{object_within}
-use Rattle.g1_words.proofs.Computed.{contains_has, range_below}
-use Rattle.g1_words.proofs.Members.{In, Contains-from_in, filter_member, flat_map_cases}
+use Rattle.g1_words.proofs.Computed.{contains_has, range_above, range_below}
+use Rattle.g1_words.proofs.Members.{In, In-from_contains, Contains-from_in, filter_member, flat_map_cases}
 use Rattle.g1_words.proofs.Sound.{sound}
 use Rattle.g1_rem.specs.Slots.{all_slots, slots_on}
 
@@ -38,3 +39,21 @@ module _ (h : Heap) (valid : IsValid h) where
       let fit = (sound h valid).slots_fit q.0 o in
       let end = object_within h valid q.0 (contains_has h q.0 valid.shaped o) in
       omega (arith, range_below (q.0.at + 1) q.0.refs p q.2, fit, end, valid.word_count)
+
+  -- a root is a reference
+  pub root_reference : (i : ℕ) → i < length h.roots → IsReference h (get_or h.roots i 0)
+  root_reference i lt = valid.roots i 0 lt
+
+  slot_reference : (o : Object) (p : ℕ) → In (objects h) o → In (slots o) p → IsReference h (word h p)
+  slot_reference o p i j =
+      valid.slots o p (contains_has h o valid.shaped (Contains-from_in (objects h) o i)) (omega (arith, range_above (o.at + 1) o.refs p j), omega (arith, range_below (o.at + 1) o.refs p j))
+
+  -- so is a slot of an object
+  pub object_reference : (a p : ℕ) → Contains (objects h) (object_at h a) → In (slots (object_at h a)) p → IsReference h (word h p)
+  object_reference a p c i = slot_reference (object_at h a) p (In-from_contains (objects h) (object_at h a) c) i
+
+  -- and a slot on a card
+  pub card_reference : (c p : ℕ) → In (slots_on h c) p → IsReference h (word h p)
+  card_reference c p i =
+      let q = flat_map_cases slots (objects h) p (filter_member (λ p. Rattle.std.proofs.Common.eqb (Rattle.g1_words.specs.Heap.card_of h p) c) (all_slots h) p i).0 in
+      slot_reference q.0 p q.1 q.2

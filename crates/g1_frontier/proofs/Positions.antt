@@ -17,7 +17,7 @@ pub record Noted (window : List ℕ) (n : ℕ) (positions : List ℕ) : Type 0 w
   pub other : (r : ℕ) → ((p : ℕ) → p < n → get_or window p 0 ≢ r) → get_or positions r 0 ≡ 0
 
 -- a list of one value has it everywhere, and past its end
-same_there : {A : Type 0} (d : A) (n r : ℕ) → get_or (replicate n d) r d ≡ d
+pub same_there : {A : Type 0} (d : A) (n r : ℕ) → get_or (replicate n d) r d ≡ d
 same_there d zero r = refl
 same_there d (suc n) zero = refl
 same_there d (suc n) (suc r) = same_there d n r

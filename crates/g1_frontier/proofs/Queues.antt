@@ -1,5 +1,5 @@
 -- What one worker finds.
-use Rattle.std.proofs.Common.{◌≡◌, ◌≢◌, ◌≤◌, ◌<◌, ℕ, suc, ◌^◌, ◌+◌, ◌*◌, ◌/◌, inl, inr, ◌⊎◌, Bool, true, false, cond, not, ◌||◌, min, eqb, eq-eqb, ne_eqb, List, [], ◌∷◌, ◌++◌, map, filter}
+use Rattle.std.proofs.Common.{◌≡◌, ◌≢◌, ◌≤◌, ◌<◌, ℕ, suc, ◌^◌, ◌+◌, ◌*◌, ◌/◌, inl, inr, ◌⊎◌, Bool, true, false, cond, not, ◌||◌, eqb, eq-eqb, ne_eqb, List, [], ◌∷◌, ◌++◌, filter}
 use Rattle.std.proofs.Common.{flat_map, length, take, get_or, Contains, refl, sym, ap, subst, ◌∙◌, arith, All, append_assoc, append-nil, length-append, true≢false}
 use Rattle.std.proofs.lemmas.Bool.{cases_lt}
 use Rattle.std.proofs.lemmas.Nat.{le-div}
@@ -12,7 +12,7 @@ use Rattle.g1_claim.specs.Rule.{first_hand}
 use Rattle.g1_words.specs.Heap.{word, object_at, objects, slots}
 use Rattle.g1_words.specs.Lists.{has}
 use Rattle.g1_words.specs.Live.{Reached, seed, child}
-use Rattle.g1_words.specs.References.{named, targets}
+use Rattle.g1_words.specs.References.{named}
 use Rattle.g1_words.specs.Survivors.{Survivors, firsts, seeds, children}
 use Rattle.g1_words.proofs.Firsts.{Distinct, Distinct-firsts, In-firsts, firsts_member, firsts-append}
 use Rattle.g1_words.proofs.Members.{In, In-from_contains, Contains-from_in, In-append_left, In-append_cases, has_from_in, in_from_has}
@@ -23,17 +23,18 @@ use Rattle.g1_frontier.specs.declared.queue.Queue.{Queue}
 use Rattle.g1_frontier.specs.declared.queue.Target.{Target}
 use Rattle.g1_frontier.specs.declared.scope.Scope.{Scope}
 use Rattle.g1_frontier.specs.Window.{AreCards, AreOutside, LeadIn}
+use Rattle.g1_frontier.specs.Numbers.{BeginsIn}
 use Rattle.g1_frontier.specs.Scope.{IsScope, inside, place_in}
 use Rattle.g1_frontier.specs.Search.{places_of}
 use Rattle.g1_frontier.specs.Queue.{names_in, card_names, object_names, HasFound, IsTarget, addresses, IsQueue, noted, HasNoted, IsUnderWay}
 use Rattle.g1_frontier.proofs.Finding.{same_test}
 use Rattle.g1_frontier.proofs.Links.{has_snoc}
-use Rattle.g1_frontier.proofs.Marks.{firsts_again, firsts_more}
+use Rattle.g1_frontier.proofs.Marks.{firsts_more}
 use Rattle.g1_frontier.proofs.Places.{past_regions, same_bool}
 use Rattle.g1_frontier.proofs.Scopes.{apart, some_words, In-get}
 use Rattle.g1_frontier.proofs.Searching.{distinct_few}
 use Rattle.g1_frontier.proofs.Seeds.{filter_flat, flat_same, seeds_named}
-use Rattle.g1_frontier.proofs.Turns.{take_all, take_longer, ends}
+use Rattle.g1_frontier.proofs.Turns.{take_longer, ends}
 
 -- ---- the word of a place
 
@@ -87,7 +88,7 @@ module _ (s : Scope) (ok : IsScope s) where
         let few = distinct_few found (s.heap.now.geometry.n * s.heap.now.geometry.w) (subst Distinct (sym f.once) (Distinct-firsts found)) (λ a i. inside_below a (in_window a i)) in
         omega (arith, few, ok.valid.limits.words_most)
 
-    claimed_place : (a w : ℕ) → inside s a ≡ true → w ≡ least_rank (place_in s a) seat.hand.offers → (b : Bool) → has found a ≡ b → (b ≡ true → w < 2 ^ 25) × (b ≡ false → w ≡ empty)
+    claimed_place : (a w : ℕ) → BeginsIn s.heap.now s.window.now a → w ≡ least_rank (place_in s a) seat.hand.offers → (b : Bool) → has found a ≡ b → (b ≡ true → w < 2 ^ 25) × (b ≡ false → w ≡ empty)
     claimed_place a w i e true h =
         let l = least_there (place_in s a) (length found) seat.hand.offers f.ranks (in_from_has (places_of seat.hand.offers) (place_in s a) (f.claimed a i ∙ h)) in
         let small = found_small in ((λ y. omega (arith, l, small, e)), (λ n. absurd (true≢false n)))
@@ -96,7 +97,7 @@ module _ (s : Scope) (ok : IsScope s) where
         ((λ y. absurd (true≢false (sym y))), (λ n. e ∙ l))
 
     -- a place whose word isn't empty is one of what was found
-    pub old_place : (a w : ℕ) → inside s a ≡ true → w ≡ least_rank (place_in s a) seat.hand.offers → w ≢ empty → has found a ≡ true
+    pub old_place : (a w : ℕ) → BeginsIn s.heap.now s.window.now a → w ≡ least_rank (place_in s a) seat.hand.offers → w ≢ empty → has found a ≡ true
     old_place a w i e some = at (has found a) refl
       where
         at : (b : Bool) → has found a ≡ b → b ≡ true
@@ -104,7 +105,7 @@ module _ (s : Scope) (ok : IsScope s) where
         at false h = absurd (some ((claimed_place a w i e false h).1 refl))
 
     -- one whose word is empty isn't
-    pub new_place : (a w : ℕ) → inside s a ≡ true → w ≡ least_rank (place_in s a) seat.hand.offers → w ≡ empty → has found a ≡ false
+    pub new_place : (a w : ℕ) → BeginsIn s.heap.now s.window.now a → w ≡ least_rank (place_in s a) seat.hand.offers → w ≡ empty → has found a ≡ false
     new_place a w i e none = same_bool (has found a) (λ h. let low = (claimed_place a w i e true h).0 refl in omega (arith, low, none))
 
     -- a seat that offered no more
@@ -119,7 +120,7 @@ module _ (s : Scope) (ok : IsScope s) where
     }
 
     -- a seat that offered at the place of one more
-    pub more_found : (after : SeatView) (a r : ℕ) (b : Bool) → inside s a ≡ true → has found a ≡ false → r ≡ length found → IsSeatOf t after →
+    pub more_found : (after : SeatView) (a r : ℕ) (b : Bool) → BeginsIn s.heap.now s.window.now a → has found a ≡ false → r ≡ length found → IsSeatOf t after →
         after.hand.shares ≡ seat.hand.shares → after.hand.offers ≡ seat.hand.offers ++ offer (place_in s a) r b ∷ [] → HasFound s t after (found ++ a ∷ [])
     more_found after a r b i new rank is shares offers =
         let o : Offer = offer (place_in s a) r b in
@@ -131,14 +132,14 @@ module _ (s : Scope) (ok : IsScope s) where
           claimed = λ c j.
               ap (λ l. has l (place_in s c)) all_places
               ∙ has_snoc (places_of os) (place_in s a) (place_in s c)
-              ∙ (λ k. f.claimed c j k || same_test (place_in s) (inside s) (λ x y u v e. apart s ok x u y v e) c a j i k)
+              ∙ (λ k. f.claimed c j k || same_test (place_in s) (BeginsIn s.heap.now s.window.now) (λ x y u v e. apart s ok x u y v e) c a j i k)
               ∙ sym (has_snoc found a c);
           ranks =
               subst (All (λ o. o.rank < length (found ++ a ∷ []))) (sym offers)
               (All-append (λ (o : Offer). o.rank < length (found ++ a ∷ [])) os (o ∷ []) (λ k d lt. let l = f.ranks k d lt in omega (arith, l, long))
               (All-cons (λ (o : Offer). o.rank < length (found ++ a ∷ [])) o [] (omega (arith, rank, long)) (All-nil (λ (o : Offer). o.rank < length (found ++ a ∷ [])))));
           once = firsts_new found a f.once new;
-          within = All-append (λ a. inside s a ≡ true) found (a ∷ []) f.within (All-cons (λ a. inside s a ≡ true) a [] i (All-nil (λ a. inside s a ≡ true)));
+          within = All-append (λ a. inside s a ≡ true) found (a ∷ []) f.within (All-cons (λ a. inside s a ≡ true) a [] i.0 (All-nil (λ a. inside s a ≡ true)));
         }
 
   -- ---- what waits

@@ -1,15 +1,22 @@
 -- What belongs together in a search, and what is read from it.
-use Rattle.std.proofs.Common.{◌≡◌, ◌≤◌, ◌<◌, ℕ, zero, suc, ◌+◌, ◌*◌, ◌^◌, inl, inr, true, List, [], ◌∷◌, length, get_or, take, drop, map, flat_map, arith, refl, sym, ap, subst, ◌∙◌}
+use Rattle.std.proofs.Common.{◌≡◌, ◌≤◌, ◌<◌, ℕ, zero, suc, ◌+◌, ◌*◌, inl, inr, Bool, true, List, [], ◌∷◌, length, get_or, take, drop, map, flat_map, arith, refl, sym, ap, subst, ◌∙◌}
 use Rattle.std.specs.List.{All}
 use Rattle.std.proofs.lemmas.List.Kept.{AllPairs-from_increasing}
+use Rattle.std.proofs.lemmas.List.{take_all}
+use Rattle.std.proofs.lemmas.List.Sums.{count_by-le-length}
 use Rattle.std.proofs.Math.Nat.{mul-le-mul_right}
 use Rattle.g1_words.specs.Geometry.{most_words}
+use Rattle.g1_words.specs.References.{named}
+use Rattle.g1_words.specs.Valid.{IsReference}
+use Rattle.g1_words.proofs.Sound.{reference_named}
 use Rattle.g1_words.proofs.Members.{In, In-from_contains, Contains-from_in, In-flat_map, flat_map_cases, filter_member}
 use Rattle.g1_words.proofs.Ordered.{Ordered, Ordered-from_pairs}
 use Rattle.g1_frontier.specs.declared.scope.Scope.{Scope}
-use Rattle.g1_frontier.specs.Scope.{IsScope, inside, place_in}
+use Rattle.g1_frontier.specs.declared.scope.Numbering.{Numbering}
+use Rattle.g1_frontier.specs.declared.scope.Numbering.TheVariants.{Words, Objects}
+use Rattle.g1_frontier.specs.Numbers.{BeginsIn}
+use Rattle.g1_frontier.specs.Scope.{IsScope, Covers, count_by_numbering, inside, place_in, place_count}
 use Rattle.g1_frontier.specs.Window.{AreRising}
-use Rattle.g1_frontier.proofs.Places.{place_below, place_apart}
 
 -- ---- reading lists
 
@@ -72,19 +79,36 @@ rising_few bound xs r =
     let k = rising_from 0 bound xs (Ordered-from_pairs (λ x y. x < y) xs (AllPairs-from_increasing xs r.rise)) (λ x i. omega arith) (λ x i. all_in (λ y. y < bound) xs x r.below i) (omega arith) in
     omega (arith, k)
 
+count_fits : (n : Numbering) (words : ℕ) → words ≤ most_words → Covers n words → count_by_numbering n words ≤ most_words
+count_fits Words words le c = le
+count_fits (Objects starts) words le c =
+    let few = count_by-le-length (λ (b : Bool). b) (take (length starts) starts) in
+    let same : take (length starts) starts ≡ starts = take_all (length starts) starts (omega arith) in
+    let long = ap length same in omega (arith, few, long, c.1)
+
 module _ (s : Scope) (ok : IsScope s) where
   -- the window's words are no more than the heap's
-  pub places_fit : length s.window.now * s.heap.now.geometry.w ≤ most_words
-  places_fit =
+  pub words_fit : length s.window.now * s.heap.now.geometry.w ≤ most_words
+  words_fit =
       let few = rising_few s.heap.now.geometry.n s.window.now ok.regions in
       let m : length s.window.now * s.heap.now.geometry.w ≤ s.heap.now.geometry.n * s.heap.now.geometry.w = mul-le-mul_right s.heap.now.geometry.w few in
       omega (arith, m, ok.valid.limits.words_most)
 
+  -- nor are the places
+  pub places_fit : place_count s ≤ most_words
+  places_fit = count_fits s.numbering.now (length s.window.now * s.heap.now.geometry.w) words_fit ok.covers
+
   pub some_words : 0 < s.heap.now.geometry.w
   some_words = omega (arith, ok.valid.limits.w_least)
 
-  pub below : (a : ℕ) → inside s a ≡ true → place_in s a < length s.window.now * s.heap.now.geometry.w
-  below a t = place_below s.heap.now s.window.now some_words a t
+  pub below : (a : ℕ) → BeginsIn s.heap.now s.window.now a → place_in s a < place_count s
+  below a b = ok.numbers.below a b
 
-  pub apart : (a : ℕ) → inside s a ≡ true → (b : ℕ) → inside s b ≡ true → place_in s b ≡ place_in s a → b ≡ a
-  apart a t b u e = place_apart s.heap.now s.window.now some_words a b t u e
+  pub apart : (a : ℕ) → BeginsIn s.heap.now s.window.now a → (b : ℕ) → BeginsIn s.heap.now s.window.now b → place_in s b ≡ place_in s a → b ≡ a
+  apart a c b d e = ok.numbers.apart a b c d e
+
+  -- a reference that leads into the window names an object there
+  pub begins : (x a : ℕ) → IsReference s.heap.now x → x ≡ a + 1 → inside s a ≡ true → BeginsIn s.heap.now s.window.now a
+  begins x a r e i =
+      let f : suc a ≡ x = omega (arith, e) in
+      (i, reference_named s.heap.now x a ok.valid r (subst (λ y. In (named y) a) f (inl refl)))

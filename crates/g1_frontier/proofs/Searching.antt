@@ -1,5 +1,5 @@
 -- A search from round to round.
-use Rattle.std.proofs.Common.{◌≡◌, ◌≢◌, ℕ, zero, suc, ◌+◌, ◌*◌, ◌<◌, ◌≤◌, ◌^◌, inl, inr, ◌⊎◌, true, List, [], ◌∷◌, ◌++◌, map, flat_map, length, take, drop, sum_by, refl, sym, ap, subst, ◌∙◌}
+use Rattle.std.proofs.Common.{◌≡◌, ◌≢◌, ℕ, zero, suc, ◌+◌, ◌*◌, ◌<◌, ◌≤◌, ◌^◌, inl, inr, ◌⊎◌, List, [], ◌∷◌, ◌++◌, map, flat_map, length, take, drop, sum_by, refl, sym, ap, subst, ◌∙◌}
 use Rattle.std.proofs.Common.{arith, All, Contains, length-append, get_or}
 use Rattle.std.specs.List.{range_with_len}
 use Rattle.std.proofs.Math.Nat.{div-le_self, mul-le-mul_right}
@@ -14,7 +14,7 @@ use Rattle.g1_claim.specs.declared.rule.Offer.{Offer}
 use Rattle.g1_claim.specs.Claims.{TableView, IsSeatOf}
 use Rattle.g1_words.specs.Heap.{Heap, slots, object_at, objects}
 use Rattle.g1_words.specs.declared.object.Object.{Object}
-use Rattle.g1_words.specs.Survivors.{in_set, seeds, children, firsts}
+use Rattle.g1_words.specs.Survivors.{seeds, children, firsts}
 use Rattle.g1_words.specs.Valid.{IsValid}
 use Rattle.g1_words.proofs.Computed.{range_above, range_below}
 use Rattle.g1_words.proofs.Firsts.{Distinct, Distinct-firsts}
@@ -27,16 +27,16 @@ use Rattle.g1_rem.specs.Starts.{card_count}
 use Rattle.g1_frontier.specs.declared.item.Item.{Item}
 use Rattle.g1_frontier.specs.declared.item.Item.TheVariants.{Root, Card, Object as ObjectItem}
 use Rattle.g1_frontier.specs.declared.survivors.Search.{Search}
-use Rattle.g1_frontier.specs.Window.{AreRegions, AreCards, AreOutside, LeadIn, place}
+use Rattle.g1_frontier.specs.Window.{AreRegions, AreCards, AreOutside, LeadIn}
 use Rattle.g1_frontier.specs.Items.{IsItem, AreRanks, all_pairs, root_items, first_items, object_items, slot_count}
 use Rattle.g1_frontier.specs.Round.{Rises, AreAbove, AddsOffers, winners}
-use Rattle.g1_frontier.specs.Search.{IsSearching}
+use Rattle.g1_frontier.specs.Search.{IsSearchBy}
 use Rattle.g1_frontier.proofs.Assembly.{RankLess}
 use Rattle.g1_frontier.proofs.Finding.{found_on, claimed_on, ranks_on}
 use Rattle.g1_frontier.proofs.Marks.{firsts_again}
 use Rattle.g1_frontier.proofs.Names.{object_in_words, range_push}
-use Rattle.g1_frontier.proofs.Claimed.{all_in_window}
-use Rattle.g1_frontier.proofs.Places.{place_apart}
+use Rattle.g1_frontier.proofs.Claimed.{all_begin}
+use Rattle.g1_frontier.specs.Numbers.{BeginsIn, IsNumbering}
 use Rattle.g1_frontier.proofs.Ranks.{objects_range, objects_rise, objects_name, objects_some, objects_count, first_rise, first_range, first_name}
 use Rattle.g1_frontier.proofs.Scopes.{all_in, all_from_in, all_map, rising_few}
 use Rattle.g1_frontier.proofs.Turns.{length_rest, take_front, take_drop, in_rest, begins, begins_reached, turn, turn_reached}
@@ -183,28 +183,25 @@ module _ (h : Heap) (valid : IsValid h) where
     first_ranks = all_from_in (λ q. q.0 < 2 ^ 32) (all_pairs h window (first_items (length h.roots) cards)) (λ q i. let k = small q i in
         omega (arith, k, valid.root_count, valid.word_count, valid.limits.words_most))
 
-    some : 0 < h.geometry.w
-    some = omega (arith, valid.limits.w_least)
-
-    pub first_search : (s : Search) → IsSeatOf s.claims s.seat → s.seat.hand.shares ≡ 64 → s.claims.places ≡ length window * h.geometry.w →
-        AddsOffers (place h window) (all_pairs h window (first_items (length h.roots) cards)) [] s.seat.hand.offers
-        → s.found.items ≡ map (λ q. q.1) (winners (place h window) s.seat.hand.offers (all_pairs h window (first_items (length h.roots) cards))) →
-        s.from ≡ 0 → s.next ≡ length h.roots + length h.words → IsSearching h window s
-    first_search s seat whole places adds found from next =
-        let apart : (a b : ℕ) → in_set h window a ≡ true → in_set h window b ≡ true → place h window b ≡ place h window a → b ≡ a = λ a b t u e. place_apart h window some a b t u e in
+    pub first_search : (count : ℕ) (number : ℕ → ℕ) → IsNumbering h window count number → (s : Search) → IsSeatOf s.claims s.seat → s.seat.hand.shares ≡ 64 → s.claims.places ≡ count →
+        AddsOffers number (all_pairs h window (first_items (length h.roots) cards)) [] s.seat.hand.offers
+        → s.found.items ≡ map (λ q. q.1) (winners number s.seat.hand.offers (all_pairs h window (first_items (length h.roots) cards))) →
+        s.from ≡ 0 → s.next ≡ length h.roots + length h.words → IsSearchBy h window count number s
+    first_search count number numbers s seat whole places adds found from next =
+        let apart : (a b : ℕ) → BeginsIn h window a → BeginsIn h window b → number b ≡ number a → b ≡ a = λ a b t u e. numbers.apart a b t u e in
         let rise : Ordered RankLess ps = first_rise h window valid cards rising outside lead_in in
-        let within : (q : ℕ × ℕ) → In ps q → in_set h window q.1 ≡ true = λ q i. all_in_window h window (first_items (length h.roots) cards) q i in
+        let within : (q : ℕ × ℕ) → In ps q → BeginsIn h window q.1 = λ q i. all_begin h window (first_items (length h.roots) cards) q valid first_are_items i in
         let low : (q : ℕ × ℕ) → In ps q → q.0 < 18446744073709551615 = λ q i. let k = small q i in omega (arith, k, valid.root_count, valid.word_count, valid.limits.words_most) in
-        let on = found_on (place h window) (in_set h window) apart ps [] [] s.seat.hand.offers 0 adds rise low within (All-nil (λ (o : Offer). o.rank < 0)) (λ q i. omega arith) (λ a t. refl) refl in
+        let on = found_on number (BeginsIn h window) apart ps [] [] s.seat.hand.offers 0 adds rise low within (All-nil (λ (o : Offer). o.rank < 0)) (λ q i. omega arith) (λ a t. refl) refl in
         let named : map (λ (q : ℕ × ℕ). q.1) ps ≡ seeds h window = first_name h window valid cards rising outside lead_in in
         let e : s.found.items ≡ firsts ([] ++ seeds h window) = found ∙ on ∙ ap (λ l. firsts ([] ++ l)) named in
         let none : take s.from s.found.items ≡ [] = ap (λ n. take n s.found.items) from in record {
           seat = seat;
           whole = whole;
           places = places;
-          claimed = claimed_on (place h window) (in_set h window) apart ps [] [] s.seat.hand.offers 0 adds rise low within
+          claimed = claimed_on number (BeginsIn h window) apart ps [] [] s.seat.hand.offers 0 adds rise low within
               (All-nil (λ (o : Offer). o.rank < 0)) (λ q i. omega arith) (λ a t. refl) s.found.items (found ∙ on);
-          ranks = ranks_on (place h window) (in_set h window) apart ps [] [] s.seat.hand.offers 0 adds rise low within
+          ranks = ranks_on number (BeginsIn h window) apart ps [] [] s.seat.hand.offers 0 adds rise low within
               (All-nil (λ (o : Offer). o.rank < 0)) (λ q i. omega arith) (λ a t. refl) s.next (omega arith) (λ q i. let k = small q i in omega (arith, k, next));
           next = let z : sum_by (slot_count h) (take s.from s.found.items) ≡ 0 = ap (sum_by (slot_count h)) none in omega (arith, next, z);
           from = omega (arith, from);
@@ -214,7 +211,7 @@ module _ (h : Heap) (valid : IsValid h) where
 
   -- ---- a further round
 
-  module _ (window : List ℕ) (regions : AreRegions h window) (s : Search) (r : IsSearching h window s) where
+  module _ (window : List ℕ) (regions : AreRegions h window) {count : ℕ} {number : ℕ → ℕ} (s : Search) (r : IsSearchBy h window count number s) where
     abbrev found : List ℕ
     found = s.found.items
 
@@ -274,29 +271,28 @@ module _ (h : Heap) (valid : IsValid h) where
         all_from_in (λ (o : Offer). All (λ (q : ℕ × ℕ). o.rank < q.0) qs) s.seat.hand.offers
         (λ o i. all_from_in (λ (q : ℕ × ℕ). o.rank < q.0) qs (λ q j. let a = all_in (λ (o : Offer). o.rank < s.next) s.seat.hand.offers o r.ranks i in let b = (range_of q j).0 in omega (arith, a, b)))
 
-    pub next_search : (t : Search) → IsSeatOf t.claims t.seat → t.seat.hand.shares ≡ 64 → t.claims ≡ s.claims →
-        AddsOffers (place h window) (all_pairs h window (object_items h s.next (drop s.from s.found.items))) s.seat.hand.offers t.seat.hand.offers
-        → t.found.items ≡ s.found.items ++ map (λ q. q.1) (winners (place h window) t.seat.hand.offers
+    pub next_search : IsNumbering h window count number → (t : Search) → IsSeatOf t.claims t.seat → t.seat.hand.shares ≡ 64 → t.claims ≡ s.claims →
+        AddsOffers number (all_pairs h window (object_items h s.next (drop s.from s.found.items))) s.seat.hand.offers t.seat.hand.offers
+        → t.found.items ≡ s.found.items ++ map (λ q. q.1) (winners number t.seat.hand.offers
         (all_pairs h window (object_items h s.next (drop s.from s.found.items)))) → t.from ≡ length s.found.items
-        → t.next ≡ s.next + sum_by (slot_count h) (drop s.from s.found.items) → IsSearching h window t
-    next_search t seat whole same adds more from next =
-        let some_words : 0 < h.geometry.w = omega (arith, valid.limits.w_least) in
-        let apart : (a b : ℕ) → in_set h window a ≡ true → in_set h window b ≡ true → place h window b ≡ place h window a → b ≡ a = λ a b t u e. place_apart h window some_words a b t u e in
+        → t.next ≡ s.next + sum_by (slot_count h) (drop s.from s.found.items) → IsSearchBy h window count number t
+    next_search numbers t seat whole same adds more from next =
+        let apart : (a b : ℕ) → BeginsIn h window a → BeginsIn h window b → number b ≡ number a → b ≡ a = λ a b t u e. numbers.apart a b t u e in
         let rise : Ordered RankLess qs = objects_rise h window s.next rest in
-        let within : (q : ℕ × ℕ) → In qs q → in_set h window q.1 ≡ true = λ q i. all_in_window h window (object_items h s.next rest) q i in
+        let within : (q : ℕ × ℕ) → In qs q → BeginsIn h window q.1 = λ q i. all_begin h window (object_items h s.next rest) q valid rest_are_items i in
         let low : (q : ℕ × ℕ) → In qs q → q.0 < 18446744073709551615 = λ q i. let k = (range_of q i).1 in let f = ranks_fit in omega (arith, k, f) in
         let above : (q : ℕ × ℕ) → In qs q → s.next ≤ q.0 = λ q i. (range_of q i).0 in
-        let on = found_on (place h window) (in_set h window) apart qs found s.seat.hand.offers t.seat.hand.offers s.next adds rise low within r.ranks above r.claimed once in
+        let on = found_on number (BeginsIn h window) apart qs found s.seat.hand.offers t.seat.hand.offers s.next adds rise low within r.ranks above r.claimed once in
         let named : map (λ (q : ℕ × ℕ). q.1) qs ≡ flat_map (children h window) rest = objects_name h window s.next rest in
         let e : t.found.items ≡ firsts (found ++ flat_map (children h window) rest) = more ∙ on ∙ ap (λ l. firsts (found ++ l)) named in
-        let front : take (length found) t.found.items ≡ found = ap (take (length found)) more ∙ take_front found (map (λ q. q.1) (winners (place h window) t.seat.hand.offers qs)) in
-        let long : length t.found.items ≡ length found + length (map (λ (q : ℕ × ℕ). q.1) (winners (place h window) t.seat.hand.offers qs)) =
-        ap length more ∙ length-append found (map (λ q. q.1) (winners (place h window) t.seat.hand.offers qs)) in record {
+        let front : take (length found) t.found.items ≡ found = ap (take (length found)) more ∙ take_front found (map (λ q. q.1) (winners number t.seat.hand.offers qs)) in
+        let long : length t.found.items ≡ length found + length (map (λ (q : ℕ × ℕ). q.1) (winners number t.seat.hand.offers qs)) =
+        ap length more ∙ length-append found (map (λ q. q.1) (winners number t.seat.hand.offers qs)) in record {
           seat = seat;
           whole = whole;
           places = ap (λ (c : TableView). c.places) same ∙ r.places;
-          claimed = claimed_on (place h window) (in_set h window) apart qs found s.seat.hand.offers t.seat.hand.offers s.next adds rise low within r.ranks above r.claimed t.found.items (more ∙ on);
-          ranks = ranks_on (place h window) (in_set h window) apart qs found s.seat.hand.offers t.seat.hand.offers s.next adds rise low within r.ranks
+          claimed = claimed_on number (BeginsIn h window) apart qs found s.seat.hand.offers t.seat.hand.offers s.next adds rise low within r.ranks above r.claimed t.found.items (more ∙ on);
+          ranks = ranks_on number (BeginsIn h window) apart qs found s.seat.hand.offers t.seat.hand.offers s.next adds rise low within r.ranks
               above r.claimed t.next (omega (arith, next)) (λ q i. let k = (range_of q i).1 in omega (arith, k, next));
           next =
               let z : sum_by (slot_count h) (take t.from t.found.items) ≡ sum_by (slot_count h) found =

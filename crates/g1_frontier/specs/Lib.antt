@@ -1,5 +1,6 @@
 pub mod Window
 pub mod Items
+pub mod Numbers
 pub mod Scope
 pub mod Offering
 pub mod Round

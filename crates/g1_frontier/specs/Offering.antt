@@ -1,10 +1,10 @@
 -- What a worker's offers leave in its seat, and what it keeps.
-use Rattle.std.specs.Prelude.{◌≡◌, ℕ, ◌<◌, ◌≤◌, ◌*◌, Bool, true, List, [], ◌∷◌, ◌++◌, map, filter, length}
+use Rattle.std.specs.Prelude.{◌≡◌, ℕ, ◌<◌, ◌≤◌, Bool, true, List, [], ◌∷◌, ◌++◌, map, filter}
 use Rattle.g1_claim.specs.declared.rule.Offer.{Offer}
 use Rattle.g1_claim.specs.Claims.{all_shares, TableView, offer, least_rank}
 use Rattle.g1_frontier.specs.declared.offering.Holder.{Holder}
 use Rattle.g1_frontier.specs.declared.scope.Scope.{Scope}
-use Rattle.g1_frontier.specs.Scope.{IsScope}
+use Rattle.g1_frontier.specs.Scope.{IsScope, place_count}
 
 -- a rank and an address, and whether the offer answered true
 abbrev pub Try : Type 0
@@ -37,7 +37,7 @@ pub record HasTried (place : ℕ → ℕ) (ps : List (ℕ × ℕ)) (before after
   pub shares : after.seat.hand.shares ≡ before.seat.hand.shares
   pub lowers : before.seat.hand.shares ≡ all_shares → Lowers place before.seat.hand.offers made
 
--- the table has a place for each word of the window
+-- the table has all places
 pub record HasPlaces (s : Scope) (t : TableView) : Type 0 where
   pub scope : IsScope s
-  pub places : length s.window.now * s.heap.now.geometry.w ≤ t.places
+  pub places : place_count s ≤ t.places

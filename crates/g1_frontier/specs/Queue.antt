@@ -11,6 +11,7 @@ use Rattle.g1_rem.specs.Slots.{slots_on}
 use Rattle.g1_frontier.specs.declared.queue.Queue.{Queue}
 use Rattle.g1_frontier.specs.declared.queue.Target.{Target}
 use Rattle.g1_frontier.specs.declared.scope.Scope.{Scope}
+use Rattle.g1_frontier.specs.Numbers.{BeginsIn}
 use Rattle.g1_frontier.specs.Scope.{inside, place_in}
 use Rattle.g1_frontier.specs.Search.{places_of}
 
@@ -30,14 +31,14 @@ object_names s a = flat_map (λ p. names_in s (word s.heap.now p)) (slots (objec
 pub record HasFound (s : Scope) (t : TableView) (v : SeatView) (found : List ℕ) : Type 0 where
   pub seat : IsSeatOf t v
   pub whole : v.hand.shares ≡ all_shares
-  pub claimed : (a : ℕ) → inside s a ≡ true → has (places_of v.hand.offers) (place_in s a) ≡ has found a
+  pub claimed : (a : ℕ) → BeginsIn s.heap.now s.window.now a → has (places_of v.hand.offers) (place_in s a) ≡ has found a
   pub ranks : All (λ o. o.rank < length found) v.hand.offers
   pub once : found ≡ firsts found
   pub within : All (λ a. inside s a ≡ true) found
 
--- an address in the window, and its place
+-- where an object of the window begins, and its place
 abbrev pub IsTarget : Scope → Target → Type 0
-IsTarget s x = (inside s x.address ≡ true) × (x.place ≡ place_in s x.address)
+IsTarget s x = BeginsIn s.heap.now s.window.now x.address × (x.place ≡ place_in s x.address)
 
 -- the addresses of targets
 abbrev pub addresses : List Target → List ℕ

@@ -1,12 +1,39 @@
 -- What a search goes over.
-use Rattle.std.specs.Prelude.{◌≡◌, ℕ, List, Bool, length}
+use Rattle.std.specs.Prelude.{◌≡◌, ◌≤◌, ℕ, ◌*◌, List, Bool, length}
+use Rattle.g1_words.specs.Geometry.{most_words}
 use Rattle.g1_words.specs.Valid.{IsValid}
 use Rattle.g1_words.specs.Survivors.{in_set}
 use Rattle.g1_rem.specs.Starts.{IsStartsOf}
 use Rattle.g1_frontier.specs.Window.{AreRegions, AreWindowPositions, place}
 use Rattle.g1_frontier.specs.Items.{aims, pairs, all_pairs}
 use Rattle.g1_frontier.specs.declared.item.Item.{Item}
+use Rattle.g1_frontier.specs.Numbers.{IsNumbering, number_at}
+use Rattle.g1_frontier.specs.declared.scope.Numbering.{Numbering}
+use Rattle.g1_frontier.specs.declared.scope.Numbering.TheVariants.{Words, Objects}
 use Rattle.g1_frontier.specs.declared.scope.Scope.{Scope}
+
+-- the place of the object whose first word stands somewhere among the window's words
+abbrev pub place_by : Numbering → ℕ → ℕ
+place_by Words p = p
+place_by (Objects starts) p = number_at starts p
+
+-- how many places there are, where the window has so many words
+abbrev pub count_by_numbering : Numbering → ℕ → ℕ
+count_by_numbering Words words = words
+count_by_numbering (Objects starts) words = number_at starts (length starts)
+
+-- each of so many words has a number, and there are no more numbers than words of the heap
+abbrev pub Covers : Numbering → ℕ → Type 0
+Covers Words words = Unit {0}
+Covers (Objects starts) words = (words ≤ length starts) × (length starts ≤ most_words)
+
+-- THE NUMBERING, stated once: the place of the object at an address in the claim table
+abbrev pub place_in : Scope → ℕ → ℕ
+place_in s a = place_by s.numbering.now (place s.heap.now s.window.now a)
+
+-- how many places the claim table has
+abbrev pub place_count : Scope → ℕ
+place_count s = count_by_numbering s.numbering.now (length s.window.now * s.heap.now.geometry.w)
 
 -- the parts belong together
 pub record IsScope (s : Scope) : Type 0 where
@@ -15,14 +42,12 @@ pub record IsScope (s : Scope) : Type 0 where
   pub regions : AreRegions s.heap.now s.window.now
   pub positions : AreWindowPositions s.window.now s.positions.now
   pub count : length s.positions.now ≡ s.heap.now.geometry.n
+  pub covers : Covers s.numbering.now (length s.window.now * s.heap.now.geometry.w)
+  pub numbers : IsNumbering s.heap.now s.window.now (place_count s) (place_in s)
 
 -- whether an address lies in the window
 abbrev pub inside : Scope → ℕ → Bool
 inside s a = in_set s.heap.now s.window.now a
-
--- where an address stands among the window's words
-abbrev pub place_in : Scope → ℕ → ℕ
-place_in s a = place s.heap.now s.window.now a
 
 -- what a reference word names in the window, with a rank
 abbrev pub aims_in : Scope → ℕ → ℕ → List (ℕ × ℕ)

@@ -7,7 +7,9 @@
 //! of the least rank (Blelloch, Fineman, Gibbons, Shun, "Internally Deterministic Parallel Algorithms
 //! Can Be Fast", 2012):
 //!
-//! 1. One claim table serves the whole call. It has a word for each word of the window.
+//! 1. One claim table serves the whole call. `discover` numbers the objects of the window by one walk
+//!    over their headers, and its table has a word for each of them. A table of `claim_round` has a
+//!    word for each word of the window.
 //! 2. The items of the first round are the roots, then the cards that lead into the window. Every
 //!    slot of an item has a rank: root i has i; a slot on a card the number of roots plus its
 //!    address; slots of objects follow, numbered on in the order in which the objects were found.
@@ -21,11 +23,13 @@
 //!
 //! So the answer is the same for all workers and chunk sizes. A round takes memory in proportion to
 //! what it looks at and finds. A region's place in the window is in a table of four bytes
-//! for each region of the heap: `discover` makes one for all its rounds, `claim_round` one a call.
+//! for each region of the heap: `discover` makes one for all its rounds, `claim_round` one a call. The
+//! numbers of the objects take 16 bytes for each 64 words of the window.
 #![tactic(auto)]
 
 mod item;
 pub mod laws;
+mod numbers;
 mod offering;
 mod queue;
 mod round;

@@ -2,6 +2,7 @@ ghost use Rattle.std.specs.Prelude.{◌≡◌, ◌<◌, ◌≤◌, ◌+◌, ◌*
 ghost use Rattle.std.specs.List.{All};
 ghost use Rattle.g1_words.specs.declared.fault.Fault.TheVariants.{Memory};
 ghost use Rattle.g1_words.specs.Heap.{object_at, objects, word, slots};
+ghost use Rattle.g1_words.specs.Valid.{IsReference};
 ghost use Rattle.g1_rem.specs.Starts.{card_count};
 ghost use Rattle.g1_rem.specs.Slots.{slots_on};
 ghost use Rattle.g1_claim.specs.Claims.{IsSeatOf};
@@ -50,6 +51,7 @@ impl<'a> Offers<'a> {
     ghost use Rattle.std.specs.Prelude.{◌≡◌, ◌<◌, ◌≤◌, ◌+◌, ◌-◌, ◌*◌, ◌^◌, ◌++◌, ◌∷◌, [], ℕ, List, OnOk, IfErr, length, flat_map, slice_index, Contains};
     ghost use Rattle.std.specs.List.{All};
     ghost use Rattle.g1_words.specs.Heap.{object_at, objects, word, slots};
+    ghost use Rattle.g1_words.specs.Valid.{IsReference};
     ghost use Rattle.g1_rem.specs.Starts.{card_count};
     ghost use Rattle.g1_rem.specs.Slots.{slots_on};
     ghost use Rattle.g1_claim.specs.Claims.{IsSeatOf};
@@ -68,6 +70,7 @@ impl<'a> Offers<'a> {
     ) -> Result<(), AllocError>
         requires places { HasPlaces self.now.scope.now self.now.claims.now }
         requires seat { IsSeatOf self.now.claims.now holder.old.seat }
+        requires reference { IsReference self.now.scope.now.heap.now word }
         requires ranks { AreRanks (aims_in self.now.scope.now (base + offset) word) }
         ensures { OnOk result (HasTried (place_in self.now.scope.now) (aims_in self.now.scope.now (base + offset) word) holder.old holder.new) }
     {

@@ -2,6 +2,7 @@ ghost use Rattle.std.specs.Prelude.{◌≡◌, ◌<◌, ◌+◌, ◌++◌, ◌�
 ghost use Rattle.std.specs.List.{All};
 ghost use Rattle.g1_words.specs.Heap.{object_at, objects};
 ghost use Rattle.g1_words.specs.Survivors.{Survivors, firsts};
+ghost use Rattle.g1_words.specs.Valid.{IsReference};
 ghost use Rattle.g1_rem.specs.Starts.{card_count};
 ghost use Rattle.g1_claim.specs.Claims.{IsSeatOf};
 ghost use Rattle.g1_claim.specs.Rule.{first_hand};
@@ -15,7 +16,7 @@ use g1_rem::slots_on;
 use g1_words::Fault;
 use std::alloc::{AllocError, Global};
 
-/// An address in the window that a slot references, and its place in the claim table.
+/// Where an object of the window begins that a slot references, and its place in the claim table.
 #[derive(Debug, Clone, Copy, PartialEq, Eq, Drop)]
 pub struct Target {
     pub place: u64,
@@ -46,6 +47,7 @@ impl<'a> Traversal<'a> {
     ghost use Rattle.std.specs.List.{All};
     ghost use Rattle.g1_words.specs.Heap.{object_at, objects};
     ghost use Rattle.g1_words.specs.Survivors.{Survivors, firsts};
+    ghost use Rattle.g1_words.specs.Valid.{IsReference};
     ghost use Rattle.g1_rem.specs.Starts.{card_count};
     ghost use Rattle.g1_claim.specs.Claims.{IsSeatOf};
     ghost use Rattle.g1_claim.specs.Rule.{first_hand};
@@ -136,6 +138,7 @@ impl<'a> Traversal<'a> {
     // Notes what a reference word names in the window.
     fn note(&self, queue: &mut Queue, word: u64) -> Result<(), AllocError>
         requires places { HasPlaces self.now.scope.now self.now.claims.now }
+        requires reference { IsReference self.now.scope.now.heap.now word }
         requires queue { IsQueue self.now.scope.now self.now.claims.now queue.old }
         ensures { OnOk result (HasNoted self.now.scope.now self.now.claims.now (names_in self.now.scope.now word) queue.old queue.new) }
     {

@@ -6,13 +6,14 @@ ghost use Rattle.g1_rem.specs.Starts.{IsStartsOf};
 ghost use Rattle.g1_claim.specs.Claims.{all_shares, IsSeatOf, IsSettled};
 ghost use Rattle.g1_frontier.specs.Window.{AreRegions, place};
 ghost use Rattle.g1_frontier.specs.Items.{IsItem, IsOutside, all_pairs, AreRanks};
-ghost use Rattle.g1_frontier.specs.Scope.{IsScope, inside, place_in, all_pairs_in};
+ghost use Rattle.g1_frontier.specs.Numbers.{BeginsIn};
+ghost use Rattle.g1_frontier.specs.Scope.{IsScope, place_in, place_count, all_pairs_in};
 ghost use Rattle.g1_frontier.specs.Offering.{HasPlaces};
 ghost use Rattle.g1_frontier.specs.Round.{Rises, AreAbove, AddsOffers, winners, IsGivenOut, HasTaken, HasOffered, IsByRank};
 
 use crate::item::Item;
 use crate::offering::{Holder, Offers, Round, keep_if};
-use crate::scope::{Scope, positions};
+use crate::scope::{Numbering, Scope, positions};
 use g1_claim::{ClaimSeat, Claims};
 use g1_rem::Starts;
 use g1_words::{Fault, Heap};
@@ -175,7 +176,7 @@ fn still_there(
 ) -> Result<Vec<(u64, u64)>, AllocError>
     requires places { HasPlaces scope.now claims.now }
     requires seat { IsSeatOf claims.now seat.old × (seat.old.hand.shares ≡ all_shares) }
-    requires inside { All (λ q. inside scope.now q.1 ≡ true) pairs.now }
+    requires inside { All (λ q. BeginsIn scope.now.heap.now scope.now.window.now q.1) pairs.now }
     ensures seat { IsSeatOf claims.now seat.new × (seat.new.hand.shares ≡ all_shares) × (seat.new.hand.offers ≡ seat.old.hand.offers) }
     ensures won { IfOk result (λ v. v.items ≡ winners (place_in scope.now) seat.old.hand.offers pairs.now) }
 {
@@ -206,7 +207,7 @@ pub(crate) fn round_in<R: Threads + Sync, G: Gate + Sync>(
     requires few { length items.now < 2 ^ 32 }
     requires table { IsSeatOf claims.now seat }
     requires whole { seat.hand.shares ≡ all_shares }
-    requires places { length scope.now.window.now * scope.now.heap.now.geometry.w ≤ claims.now.places }
+    requires places { place_count scope.now ≤ claims.now.places }
     requires rise { Rises (all_pairs_in scope.now items.now) }
     requires ranks { AreRanks (all_pairs_in scope.now items.now) }
     requires above { AreAbove seat.hand.offers (all_pairs_in scope.now items.now) }
@@ -280,6 +281,7 @@ pub fn claim_round<R: Threads + Sync, G: Gate + Sync>(
         starts,
         window,
         positions: positions.as_slice(),
+        numbering: &Numbering::Words,
     };
     let team = Team::new(workers, chunk);
     let (seat, won) = round_in(rt, alloc, &scope, &claims, seat, items, team, gate)?;

@@ -2,6 +2,7 @@ ghost use Rattle.std.specs.Prelude.{◌≡◌, ◌≤◌, vec_len, IfOk};
 ghost use Rattle.g1_words.specs.Geometry.{most_regions};
 ghost use Rattle.g1_frontier.specs.Window.{AreRising, AreWindowPositions};
 
+use crate::numbers::Numbers;
 use g1_rem::Starts;
 use g1_words::{Heap, region_of};
 use std::alloc::{AllocError, Global};
@@ -14,6 +15,16 @@ pub struct Scope<'a> {
     pub window: &'a [u32],
     /// By region number, one more than where the region stands in the window, or 0.
     pub positions: &'a [u32],
+    pub numbering: &'a Numbering,
+}
+
+/// Which place of a claim table an object of the window has.
+#[derive(Drop)]
+pub enum Numbering {
+    /// Where its first word stands among the window's words.
+    Words,
+    /// Its number among the window's objects.
+    Objects(Numbers),
 }
 
 /// By region number, one more than where the region stands in the window, or 0.
@@ -35,20 +46,24 @@ pub(crate) fn positions(alloc: Global, regions: u64, window: &[u32]) -> Result<V
 
 impl<'a> Scope<'a> {
     ghost use Rattle.std.specs.Prelude.{◌≡◌, ◌<◌, ◌*◌, true, false, length, IfSome, IfNone};
-    ghost use Rattle.g1_frontier.specs.Scope.{IsScope, inside, place_in};
+    ghost use Rattle.g1_frontier.specs.Window.{place};
+    ghost use Rattle.g1_frontier.specs.Scope.{IsScope, inside, place_in, place_count};
 
-    /// How many words the window has.
+    /// How many places a claim table needs.
     pub fn places(&self) -> u64
         requires scope { IsScope self.now }
-        ensures { result ≡ length self.now.window.now * self.now.heap.now.geometry.w }
+        ensures { result ≡ place_count self.now }
     {
-        self.window.len() as u64 * self.heap.geometry().region_words()
+        match self.numbering {
+            Numbering::Words => self.window.len() as u64 * self.heap.geometry().region_words(),
+            Numbering::Objects(numbers) => numbers.count(),
+        }
     }
 
-    /// The place of an address of the window among its words.
-    pub fn place(&self, address: u64) -> Option<u64>
+    /// Where an address of the window stands among its words.
+    fn window_word(&self, address: u64) -> Option<u64>
         requires scope { IsScope self.now }
-        ensures found { IfSome result (λ p. (inside self.now address ≡ true) × (p ≡ place_in self.now address) × (p < length self.now.window.now * self.now.heap.now.geometry.w)) }
+        ensures found { IfSome result (λ p. (inside self.now address ≡ true) × (p ≡ place self.now.heap.now self.now.window.now address) × (p < length self.now.window.now * self.now.heap.now.geometry.w)) }
         ensures none { IfNone result (inside self.now address ≡ false) }
     {
         let geometry = self.heap.geometry();
@@ -64,5 +79,18 @@ impl<'a> Scope<'a> {
         // This is asked for each reference, so it divides nothing.
         let offset = address - geometry.start(region as u32);
         Some(u64::from(position - 1) * width + offset)
+    }
+
+    /// The place of the object at an address of the window.
+    pub fn place(&self, address: u64) -> Option<u64>
+        requires scope { IsScope self.now }
+        ensures found { IfSome result (λ p. (inside self.now address ≡ true) × (p ≡ place_in self.now address)) }
+        ensures none { IfNone result (inside self.now address ≡ false) }
+    {
+        let word = self.window_word(address)?;
+        match self.numbering {
+            Numbering::Words => Some(word),
+            Numbering::Objects(numbers) => Some(numbers.number(word)),
+        }
     }
 }

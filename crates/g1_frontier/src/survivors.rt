@@ -11,9 +11,10 @@ ghost use Rattle.g1_frontier.specs.Scope.{IsScope};
 ghost use Rattle.g1_frontier.specs.Search.{IsSearching};
 
 use crate::item::Item;
+use crate::numbers::Numbers;
 use crate::queue::Traversal;
 use crate::round::round_in;
-use crate::scope::{Scope, positions};
+use crate::scope::{Numbering, Scope, positions};
 use g1_claim::{ClaimSeat, Claims};
 use g1_rem::Starts;
 use g1_words::{Fault, Heap};
@@ -110,7 +111,7 @@ pub(crate) fn first_round<R: Threads + Sync, G: Gate + Sync>(
     requires cards { AreCards scope.now.heap.now cards.now }
     requires outside { AreOutside scope.now.heap.now scope.now.window.now cards.now }
     requires lead_in { LeadIn scope.now.heap.now scope.now.window.now cards.now }
-    ensures ok { IfOk result (IsSearching scope.now.heap.now scope.now.window.now) }
+    ensures ok { IfOk result (IsSearching scope.now) }
     ensures memory { IfErr result (λ e. e ≡ Memory) }
 {
     let roots = scope.heap.roots().len() as u64;
@@ -140,8 +141,8 @@ pub(crate) fn next_round<R: Threads + Sync, G: Gate + Sync>(
     gate: &G,
 ) -> Result<Search, Fault>
     requires scope { IsScope scope.now }
-    requires search { IsSearching scope.now.heap.now scope.now.window.now search }
-    ensures ok { IfOk result (IsSearching scope.now.heap.now scope.now.window.now) }
+    requires search { IsSearching scope.now search }
+    ensures ok { IfOk result (IsSearching scope.now) }
     ensures from { IfOk result (λ s. s.from ≡ vec_len search.found) }
     ensures memory { IfErr result (λ e. e ≡ Memory) }
 {
@@ -221,11 +222,13 @@ pub fn discover<R: Threads + Sync, G: Gate + Sync>(
 {
     let regions = heap.geometry().regions();
     let positions = positions(alloc, regions, window)?;
+    let numbering = Numbering::Objects(Numbers::new(alloc, heap, window)?);
     let scope = Scope {
         heap,
         starts,
         window,
         positions: positions.as_slice(),
+        numbering: &numbering,
     };
     if workers == 1 {
         return search_alone(alloc, &scope, cards);

@@ -1,10 +1,48 @@
-use Rattle.std.proofs.Common.{arith}
+use Rattle.std.proofs.Common.{arith, ap, sym, subst, refl, length, ◌∙◌}
 use Rattle.g1_words.specs.Survivors.{seeds, children}
 use Rattle.g1_words.proofs.Members.{Contains-from_in}
 use Rattle.g1_words.proofs.Unique.{breadth_first_unique}
+use Rattle.g1_frontier.specs.Window.{AreWindowPositions}
+use Rattle.g1_frontier.proofs.Numberings.{scope_by_object}
 use Rattle.g1_frontier.proofs.Searching.{found_few}
 use Rattle.g1_frontier.proofs.Turns.{ends}
 use Rattle.g1_frontier.proofs.survivors.discover.Goals as goal
+
+pub search_alone-requires-clause-scope : goal.search_alone-requires-clause-scope
+search_alone-requires-clause-scope g c =
+    scope_by_object _ c.in_ok-new.field-0 refl c.in_ok-new.ensures.starts c.in_ok-new.ensures.few (record {
+      valid = c.geometry.ensures.valid;
+      starts = c.requires.starts;
+      regions = c.requires.window;
+      positions = subst (AreWindowPositions c.args.window.now) (sym c.as_slice.ensures.value) c.in_ok-positions.ensures.positions;
+      count =
+          let regions = c.regions-regions.ensures.value ∙ ap (λ g. g.n) c.geometry.ensures.same in
+          omega (arith, ap length c.as_slice.ensures.value, c.in_ok-positions.positions.ok, c.in_ok-positions.ensures.count, regions);
+    })
+
+pub first_round-requires-clause-scope : goal.first_round-requires-clause-scope
+first_round-requires-clause-scope g c κs within =
+    scope_by_object _ c.in_ok-new.field-0 refl c.in_ok-new.ensures.starts c.in_ok-new.ensures.few (record {
+      valid = c.geometry.ensures.valid;
+      starts = c.requires.starts;
+      regions = c.requires.window;
+      positions = subst (AreWindowPositions c.args.window.now) (sym c.as_slice.ensures.value) c.in_ok-positions.ensures.positions;
+      count =
+          let regions = c.regions-regions.ensures.value ∙ ap (λ g. g.n) c.geometry.ensures.same in
+          omega (arith, ap length c.as_slice.ensures.value, c.in_ok-positions.positions.ok, c.in_ok-positions.ensures.count, regions);
+    })
+
+pub next_round-requires-clause-scope : goal.next_round-requires-clause-scope
+next_round-requires-clause-scope g c κs within =
+    scope_by_object _ c.in_ok-new.field-0 refl c.in_ok-new.ensures.starts c.in_ok-new.ensures.few (record {
+      valid = c.geometry.ensures.valid;
+      starts = c.requires.starts;
+      regions = c.requires.window;
+      positions = subst (AreWindowPositions c.args.window.now) (sym c.as_slice.ensures.value) c.in_ok-positions.ensures.positions;
+      count =
+          let regions = c.regions-regions.ensures.value ∙ ap (λ g. g.n) c.geometry.ensures.same in
+          omega (arith, ap length c.as_slice.ensures.value, c.in_ok-positions.positions.ok, c.in_ok-positions.ensures.count, regions);
+    })
 
 pub loop-search-smaller : goal.loop-search-smaller
 loop-search-smaller g c =

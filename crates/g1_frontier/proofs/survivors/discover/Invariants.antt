@@ -3,7 +3,7 @@ use Rattle.g1_frontier.specs.Search.{IsSearching}
 use Rattle.g1_frontier.proofs.survivors.discover.Given as goal
 
 abbrev pub invariant-loop-search : goal.invariant-loop-search
-invariant-loop-search g l = IsSearching l.heap l.window l.search
+invariant-loop-search g l = IsSearching l.scope l.search
 
 abbrev pub decreases-loop-search : goal.decreases-loop-search
 decreases-loop-search g l = length l.heap.words - l.search.from

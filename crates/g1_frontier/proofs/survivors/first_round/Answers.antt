@@ -1,14 +1,15 @@
 use Rattle.std.proofs.Common.{arith, refl, ap, sym, subst, ◌≡◌, ◌+◌, ◌<◌, ◌^◌, ◌∙◌, ◌++◌, ℕ, List, [], length, map, All}
 use Rattle.g1_claim.specs.declared.rule.Offer.{Offer}
 use Rattle.g1_claim.specs.declared.rule.Hand.{Hand}
-use Rattle.g1_frontier.specs.Window.{place}
+use Rattle.g1_frontier.specs.Scope.{place_in, place_count}
+use Rattle.g1_frontier.proofs.Scopes.{places_fit}
 use Rattle.g1_frontier.specs.Items.{IsItem, AreRanks, all_pairs, first_items}
 use Rattle.g1_frontier.specs.Round.{Rises, AddsOffers, winners}
-use Rattle.g1_frontier.proofs.Searching.{window_few, first_are_items, first_few, first_rises, first_ranks, first_search}
+use Rattle.g1_frontier.proofs.Searching.{first_are_items, first_few, first_rises, first_ranks, first_search}
 use Rattle.g1_frontier.proofs.survivors.first_round.Goals as goal
 
 pub new-requires : goal.new-requires
-new-requires g c = let few = window_few c.args.scope.now.heap.now c.requires.scope.valid c.args.scope.now.window.now c.requires.scope.regions in omega (arith, few, c.places.ensures)
+new-requires g c = let few = places_fit c.args.scope.now c.requires.scope in omega (arith, few, c.places.ensures)
 
 pub round_in-requires-clause-items : goal.round_in-requires-clause-items
 round_in-requires-clause-items g c κs within =
@@ -51,13 +52,14 @@ returns-clause-ok g c =
     let none : c.in_ok-claims.seat.hand.offers ≡ [] = ap (λ (v : Hand). v.offers) c.in_ok-claims.ensures.hand in
     let r = c.in_ok-seat.ensures in
     first_search h c.requires.scope.valid window c.args.cards.now c.requires.scope.regions c.requires.cards c.requires.outside c.requires.lead_in
+    (place_count c.args.scope.now) (place_in c.args.scope.now) c.requires.scope.numbers
     (record { claims = c.in_ok-claims.claims; seat = c.in_ok-seat.seat; found = c.push_addresses.new.found; from = 0; next = length c.roots.result.now + length c.words.result.now })
     r.table
     r.whole
     (c.in_ok-claims.ensures.places ∙ c.places.ensures)
-    (subst (λ l. AddsOffers (place h window) (all_pairs h window l) [] c.in_ok-seat.seat.hand.offers) listed
-    (subst (λ (os : List Offer). AddsOffers (place h window) (all_pairs h window c.as_slice-items.result.now) os c.in_ok-seat.seat.hand.offers) none r.offers))
+    (subst (λ l. AddsOffers (place_in c.args.scope.now) (all_pairs h window l) [] c.in_ok-seat.seat.hand.offers) listed
+    (subst (λ (os : List Offer). AddsOffers (place_in c.args.scope.now) (all_pairs h window c.as_slice-items.result.now) os c.in_ok-seat.seat.hand.offers) none r.offers))
     (c.in_ok-push_addresses.ensures ∙ (λ i. c.new-found.ensures.items i ++ map (λ (q : ℕ × ℕ). q.1)
-    ((c.as_slice.ensures.value ∙ r.won ∙ ap (λ l. winners (place h window) c.in_ok-seat.seat.hand.offers (all_pairs h window l)) listed) i)))
+    ((c.as_slice.ensures.value ∙ r.won ∙ ap (λ l. winners (place_in c.args.scope.now) c.in_ok-seat.seat.hand.offers (all_pairs h window l)) listed) i)))
     refl
     (λ i. length (c.roots.ensures i) + length (c.words.ensures i))

@@ -1,6 +1,6 @@
 use Rattle.std.proofs.Common.{arith, refl, ap, sym, subst, ◌≡◌, ◌+◌, ◌-◌, ◌<◌, ◌^◌, ◌∙◌, ◌++◌, ℕ, List, length, map, take, drop, sum_by, All, Contains}
 use Rattle.g1_words.specs.Heap.{objects, object_at}
-use Rattle.g1_frontier.specs.Window.{place}
+use Rattle.g1_frontier.specs.Scope.{place_in}
 use Rattle.g1_frontier.specs.Items.{IsItem, AreRanks, all_pairs, object_items, slot_count}
 use Rattle.g1_frontier.specs.Round.{Rises, AreAbove, AddsOffers, winners}
 use Rattle.g1_frontier.proofs.Searching.{rest_objects, ranks_fit, rest_are_items, rest_few, rest_rises, rest_ranks, rest_above, next_search}
@@ -78,13 +78,13 @@ returns-clause-ok g c =
     ap (λ (l : List ℕ). take (length l - s.from) (drop s.from l)) c.deref.ensures.value ∙ rest_is s.found.items s.from in
     let listed : c.as_slice-items.result.now ≡ object_items h s.next (drop s.from s.found.items) = c.as_slice-items.ensures.value ∙ c.in_ok-items.ensures.items ∙ ap (object_items h s.next) cut in
     let r = c.in_ok-seat.ensures in
-    next_search h c.requires.scope.valid window c.requires.scope.regions s c.requires.search
+    next_search h c.requires.scope.valid window c.requires.scope.regions s c.requires.search c.requires.scope.numbers
     (record { claims = s.claims; seat = c.in_ok-seat.seat; found = c.push_addresses.new.found; from = c.len-from.result; next = c.in_ok-items.next })
     r.table
     r.whole
     refl
-    (subst (λ l. AddsOffers (place h window) (all_pairs h window l) s.seat.hand.offers c.in_ok-seat.seat.hand.offers) listed r.offers)
+    (subst (λ l. AddsOffers (place_in c.args.scope.now) (all_pairs h window l) s.seat.hand.offers c.in_ok-seat.seat.hand.offers) listed r.offers)
     (c.in_ok-push_addresses.ensures ∙ ap (λ (l : List (ℕ × ℕ)). s.found.items ++ map (λ (q : ℕ × ℕ). q.1) l) (c.as_slice.ensures.value ∙ r.won
-    ∙ ap (λ l. winners (place h window) c.in_ok-seat.seat.hand.offers (all_pairs h window l)) listed))
+    ∙ ap (λ l. winners (place_in c.args.scope.now) c.in_ok-seat.seat.hand.offers (all_pairs h window l)) listed))
     (omega (arith, c.len-from.ensures, s.found.ok))
     (c.in_ok-items.ensures.next ∙ ap (λ l. s.next + sum_by (slot_count h) l) cut)

@@ -1,11 +1,12 @@
 use Rattle.std.proofs.Common.{arith, ◌+◌, ◌<◌, ◌∙◌, ◌^◌, ap, sym, subst, ℕ, length, get_or, flat_map}
 use Rattle.g1_words.specs.Heap.{word}
+use Rattle.g1_words.specs.Valid.{IsReference}
 use Rattle.g1_words.proofs.Members.{In}
 use Rattle.g1_rem.specs.Slots.{slots_on}
 use Rattle.g1_frontier.specs.Items.{AreRanks}
 use Rattle.g1_frontier.specs.Scope.{place_in, aims_in}
 use Rattle.g1_frontier.specs.Offering.{HasTried}
-use Rattle.g1_frontier.proofs.Names.{slot_in_words}
+use Rattle.g1_frontier.proofs.Names.{slot_in_words, card_reference}
 use Rattle.g1_frontier.proofs.Offerings.{tried_none, tried_more}
 use Rattle.g1_frontier.proofs.Scopes.{In-get, all_part}
 use Rattle.g1_frontier.proofs.Turns.{take_all}
@@ -29,6 +30,15 @@ bounds-words-slot c =
     let low = slot_in_words s.heap.now c.requires.places.scope.valid c.args.card (get_or c.as_slice-slot-items.result.now c.loop-slot.slot-index 0)
     (subst (λ l. In l (get_or c.as_slice-slot-items.result.now c.loop-slot.slot-index 0)) listed (In-get c.as_slice-slot-items.result.now c.loop-slot.slot-index 0 c.loop-slot-test.true)) in
     omega (arith, low, ap length c.words-words.ensures)
+
+pub offer_named-requires-clause-reference : goal.offer_named-requires-clause-reference
+offer_named-requires-clause-reference c =
+    let s = c.args.self.now.scope.now in
+    let xs = c.as_slice-slot-items.result.now in
+    let p : ℕ = get_or xs c.loop-slot.slot-index 0 in
+    let listed = c.as_slice-slot-items.ensures ∙ c.slots_on-slots.ensures.items in
+    subst (λ l. IsReference s.heap.now (get_or l p 0)) (sym c.words-words.ensures)
+    (card_reference s.heap.now c.requires.places.scope.valid c.args.card p (subst (λ l. In l p) listed (In-get xs c.loop-slot.slot-index 0 c.loop-slot-test.true)))
 
 pub offer_named-requires-clause-ranks : goal.offer_named-requires-clause-ranks
 offer_named-requires-clause-ranks c =

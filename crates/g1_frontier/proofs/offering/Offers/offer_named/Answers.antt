@@ -5,6 +5,7 @@ use Rattle.g1_frontier.specs.declared.offering.Holder.{Holder}
 use Rattle.g1_frontier.specs.Offering.{HasTried}
 use Rattle.g1_frontier.specs.Scope.{place_in}
 use Rattle.g1_frontier.proofs.Offerings.{tried_none, tried_one, aims_null, aims_outside, aims_inside, aims_small}
+use Rattle.g1_frontier.proofs.Scopes.{below, begins}
 use Rattle.g1_frontier.proofs.offering.Offers.offer_named.Goals as goal
 
 pub overflow_add-rank : goal.overflow_add-rank
@@ -12,6 +13,14 @@ overflow_add-rank c =
     let s = c.args.self.now.scope.now in
     let low = aims_small s.heap.now s.window.now (c.args.base + c.args.offset) c.args.word (c.args.word - 1) (omega (arith, c.if-word-eq0.false))
     c.in-Some.ensures.found.0 c.requires.ranks in omega (arith, low)
+
+pub offer-answered_true-requires-clause-place : goal.offer-answered_true-requires-clause-place
+offer-answered_true-requires-clause-place c =
+    let s = c.args.self.now.scope.now in
+    let f = c.in-Some.ensures.found in
+    let a : ℕ = c.args.word - 1 in
+    let low = below s c.requires.places.scope a (begins s c.requires.places.scope c.args.word a c.requires.reference (omega (arith, c.if-word-eq0.false)) f.0) in
+    omega (arith, low, f.1, c.requires.places.places)
 
 pub offer-answered_true-requires-clause-rank : goal.offer-answered_true-requires-clause-rank
 offer-answered_true-requires-clause-rank c =

@@ -2,12 +2,13 @@ use Rattle.std.proofs.Common.{arith, ℕ, List, [], ◌≡◌, ◌+◌, ◌-◌,
 use Rattle.std.specs.List.{range_with_len}
 use Rattle.std.proofs.lemmas.List.{flat_map_more}
 use Rattle.g1_words.specs.Heap.{word, object_at, slots}
+use Rattle.g1_words.specs.Valid.{IsReference}
 use Rattle.g1_words.proofs.Computed.{In-range}
 use Rattle.g1_words.proofs.Members.{In}
 use Rattle.g1_frontier.specs.Items.{AreRanks}
 use Rattle.g1_frontier.specs.Scope.{place_in, aims_in}
 use Rattle.g1_frontier.specs.Offering.{HasTried}
-use Rattle.g1_frontier.proofs.Names.{object_in_words, range_more}
+use Rattle.g1_frontier.proofs.Names.{object_in_words, object_reference, range_more}
 use Rattle.g1_frontier.proofs.Offerings.{tried_none, tried_append}
 use Rattle.g1_frontier.proofs.Scopes.{all_part}
 use Rattle.g1_frontier.proofs.offering.Offers.offer_object.Goals as goal
@@ -35,6 +36,14 @@ bounds-words-slot c =
     let b = object_in_words c.args.self.now.scope.now.heap.now c.requires.places.scope.valid c.args.at c.requires.object in
     let refs : c.object-refs.result.refs ≡ word c.args.self.now.scope.now.heap.now c.args.at % 2 ^ 32 = ap (λ o. o.refs) c.object-refs.ensures.value in
     omega (arith, b.1, refs, c.loop-slot-test.true, ap length c.words-words.ensures)
+
+pub offer_named-requires-clause-reference : goal.offer_named-requires-clause-reference
+offer_named-requires-clause-reference c =
+    let s = c.args.self.now.scope.now in
+    let p : ℕ = c.loop-slot.slot in
+    let refs : c.object-refs.result.refs ≡ word s.heap.now c.args.at % 2 ^ 32 = ap (λ o. o.refs) c.object-refs.ensures.value in
+    let there : In (slots (object_at s.heap.now c.args.at)) p = In-range (c.args.at + 1) (word s.heap.now c.args.at % 2 ^ 32) p c.loop-slot.auto.slot (omega (arith, refs, c.loop-slot-test.true)) in
+    subst (λ l. IsReference s.heap.now (get_or l p 0)) (sym c.words-words.ensures) (object_reference s.heap.now c.requires.places.scope.valid c.args.at p c.requires.object there)
 
 pub offer_named-requires-clause-ranks : goal.offer_named-requires-clause-ranks
 offer_named-requires-clause-ranks c =

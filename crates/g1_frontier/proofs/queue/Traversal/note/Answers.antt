@@ -3,6 +3,7 @@ use Rattle.g1_frontier.specs.declared.queue.Queue.{Queue}
 use Rattle.g1_frontier.specs.declared.queue.Target.{Target}
 use Rattle.g1_frontier.specs.Queue.{HasNoted}
 use Rattle.g1_frontier.proofs.Queues.{noted_none, noted_append, noted_waits, names_outside, names_inside}
+use Rattle.g1_frontier.proofs.Scopes.{begins}
 use Rattle.g1_frontier.proofs.queue.Traversal.note.Goals as goal
 
 pub returns-in-None : goal.returns-in-None
@@ -24,6 +25,7 @@ returns-in_ok-push-in-Some c =
     let x : Target = record { place = c.in-Some.place; address = a } in
     let q : Queue = c.make_room.new.queue in
     let r : Queue = record { seat = c.make_room.new.queue.seat; found = c.make_room.new.queue.found; waiting = c.push.new.self } in
+    let there = begins s ok c.args.word a c.requires.reference e f.0 in
     let room : HasNoted s t [] c.args.queue.now q = c.in_ok-make_room-in-Some.ensures in
     subst (λ l. HasNoted s t l c.args.queue.now r) (sym (names_inside s c.args.word a e f.0))
-    (noted_append s ok t [] (a ∷ []) c.args.queue.now q r room (noted_waits s ok t q r x room.queue (f.0, f.1) refl refl c.in_ok-push-in-Some.ensures.items))
+    (noted_append s ok t [] (a ∷ []) c.args.queue.now q r room (noted_waits s ok t q r x room.queue (there, f.1) refl refl c.in_ok-push-in-Some.ensures.items))

@@ -1,8 +1,9 @@
-use Rattle.std.proofs.Common.{arith, ◌∙◌, ap, subst, ℕ, length, get_or}
+use Rattle.std.proofs.Common.{arith, ◌∙◌, ap, sym, subst, ℕ, length, get_or}
 use Rattle.g1_words.specs.Heap.{word}
+use Rattle.g1_words.specs.Valid.{IsReference}
 use Rattle.g1_words.proofs.Members.{In}
 use Rattle.g1_frontier.specs.Queue.{names_in, HasNoted}
-use Rattle.g1_frontier.proofs.Names.{slot_in_words}
+use Rattle.g1_frontier.proofs.Names.{slot_in_words, card_reference}
 use Rattle.g1_frontier.proofs.Queues.{noted_more}
 use Rattle.g1_frontier.proofs.Scopes.{In-get}
 use Rattle.g1_frontier.proofs.queue.Traversal.note_card.Goals as goal
@@ -24,6 +25,15 @@ bounds-words-slot c =
     let listed = c.as_slice-slot-items.ensures ∙ c.slots_on-slots.ensures.items in
     let low = slot_in_words s.heap.now c.requires.places.scope.valid c.args.card p (subst (λ l. In l p) listed (In-get xs c.loop-slot.slot-index 0 c.loop-slot-test.true)) in
     omega (arith, low, ap length c.words-words.ensures)
+
+pub note-requires-clause-reference : goal.note-requires-clause-reference
+note-requires-clause-reference c =
+    let s = c.args.self.now.scope.now in
+    let xs = c.as_slice-slot-items.result.now in
+    let p : ℕ = get_or xs c.loop-slot.slot-index 0 in
+    let listed = c.as_slice-slot-items.ensures ∙ c.slots_on-slots.ensures.items in
+    subst (λ l. IsReference s.heap.now (get_or l p 0)) (sym c.words-words.ensures)
+    (card_reference s.heap.now c.requires.places.scope.valid c.args.card p (subst (λ l. In l p) listed (In-get xs c.loop-slot.slot-index 0 c.loop-slot-test.true)))
 
 pub loop-slot-preserved : goal.loop-slot-preserved
 loop-slot-preserved c =

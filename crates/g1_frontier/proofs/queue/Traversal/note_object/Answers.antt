@@ -1,9 +1,12 @@
-use Rattle.std.proofs.Common.{arith, ℕ, List, [], ◌≡◌, ◌+◌, ◌-◌, ◌∙◌, ap, subst, get_or, flat_map}
+use Rattle.std.proofs.Common.{arith, ℕ, List, [], ◌≡◌, ◌+◌, ◌-◌, ◌%◌, ◌^◌, ◌∙◌, ap, sym, subst, get_or, flat_map}
 use Rattle.std.specs.List.{range_with_len}
 use Rattle.std.proofs.lemmas.List.{flat_map_more}
-use Rattle.g1_words.specs.Heap.{word}
+use Rattle.g1_words.specs.Heap.{word, object_at, slots}
+use Rattle.g1_words.specs.Valid.{IsReference}
+use Rattle.g1_words.proofs.Computed.{In-range}
+use Rattle.g1_words.proofs.Members.{In}
 use Rattle.g1_frontier.specs.Queue.{names_in, HasNoted}
-use Rattle.g1_frontier.proofs.Names.{object_in_words, range_more}
+use Rattle.g1_frontier.proofs.Names.{object_in_words, object_reference, range_more}
 use Rattle.g1_frontier.proofs.Queues.{noted_none, noted_append}
 use Rattle.g1_frontier.proofs.queue.Traversal.note_object.Goals as goal
 
@@ -19,6 +22,14 @@ loop-slot-init c =
     let q = c.args.queue.now in
     let none : 0 ≡ (c.args.at + 1) - (c.args.at + 1) = omega arith in
     subst (λ n. HasNoted s t (flat_map (λ p. names_in s (word s.heap.now p)) (range_with_len (c.args.at + 1) n)) q q) none (noted_none s c.requires.places.scope t q c.requires.queue)
+
+pub note-requires-clause-reference : goal.note-requires-clause-reference
+note-requires-clause-reference c =
+    let s = c.args.self.now.scope.now in
+    let p : ℕ = c.loop-slot.slot in
+    let refs : c.object-refs.result.refs ≡ word s.heap.now c.args.at % 2 ^ 32 = ap (λ o. o.refs) c.object-refs.ensures.value in
+    let there : In (slots (object_at s.heap.now c.args.at)) p = In-range (c.args.at + 1) (word s.heap.now c.args.at % 2 ^ 32) p c.loop-slot.auto.slot (omega (arith, refs, c.loop-slot-test.true)) in
+    subst (λ l. IsReference s.heap.now (get_or l p 0)) (sym c.words-words.ensures) (object_reference s.heap.now c.requires.places.scope.valid c.args.at p c.requires.object there)
 
 pub loop-slot-preserved : goal.loop-slot-preserved
 loop-slot-preserved c =

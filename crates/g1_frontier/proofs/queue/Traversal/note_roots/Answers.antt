@@ -1,6 +1,16 @@
+use Rattle.std.proofs.Common.{arith, ap, sym, subst, ℕ, get_or, length}
+use Rattle.g1_words.specs.Valid.{IsReference}
 use Rattle.g1_frontier.specs.Queue.{names_in}
+use Rattle.g1_frontier.proofs.Names.{root_reference}
 use Rattle.g1_frontier.proofs.Queues.{noted_more}
 use Rattle.g1_frontier.proofs.queue.Traversal.note_roots.Goals as goal
+
+pub note-requires-clause-reference : goal.note-requires-clause-reference
+note-requires-clause-reference c =
+    let s = c.args.self.now.scope.now in
+    let i : ℕ = c.loop-word.word-index in
+    subst (λ l. IsReference s.heap.now (get_or l i 0)) (sym c.roots-word-items.ensures)
+    (root_reference s.heap.now c.requires.places.scope.valid i (omega (arith, c.loop-word-test.true, ap length c.roots-word-items.ensures)))
 
 pub loop-word-preserved : goal.loop-word-preserved
 loop-word-preserved c =

@@ -1,4 +1,4 @@
-use Rattle.std.proofs.Common.{◌-◌, ◌^◌}
+use Rattle.std.proofs.Common.{◌-◌}
 use Rattle.g1_words.specs.Geometry.{most_words}
 use Rattle.g1_frontier.specs.Queue.{IsUnderWay}
 use Rattle.g1_frontier.proofs.queue.Traversal.search.Given as goal

@@ -1,10 +1,9 @@
 use Rattle.std.proofs.Common.{arith, ◌≡◌, ◌<◌, ◌+◌, ◌-◌, ◌*◌, ◌/◌, ◌%◌, ◌∙◌, ap, sym, subst, length, get_or, ℕ}
-use Rattle.g1_frontier.specs.Window.{position}
-use Rattle.g1_frontier.specs.Scope.{place_in}
-use Rattle.g1_frontier.proofs.Places.{past_regions}
+use Rattle.g1_frontier.specs.Window.{position, place}
+use Rattle.g1_frontier.proofs.Places.{past_regions, place_below}
 use Rattle.g1_frontier.proofs.Positions.{some_noted, offset_is}
-use Rattle.g1_frontier.proofs.Scopes.{below}
-use Rattle.g1_frontier.proofs.scope.Scope.place.Goals as goal
+use Rattle.g1_frontier.proofs.Scopes.{some_words}
+use Rattle.g1_frontier.proofs.scope.Scope.window_word.Goals as goal
 
 pub returns-then-region-regions-clause-none : goal.returns-then-region-regions-clause-none
 returns-then-region-regions-clause-none c =
@@ -27,5 +26,5 @@ returns-clause-found c =
     let stands : c.from.result ≡ position s.window.now (a / w) = omega (arith, c.from.ensures, f.1) in
     let start : c.start.result ≡ a / w * w = c.start.ensures.value ∙ (λ i. region i * (same i).w) in
     let offset : a - c.start.result ≡ a % w = (λ i. a - start i) ∙ (offset_is w a).1 in
-    let there : c.from.result * c.region_words-width.result + (a - c.start.result) ≡ place_in s a = λ i. stands i * width i + offset i in
-    (f.0, there, subst (λ x. x < length s.window.now * w) (sym there) (below s c.requires.scope a f.0))
+    let there : c.from.result * c.region_words-width.result + (a - c.start.result) ≡ place s.heap.now s.window.now a = λ i. stands i * width i + offset i in
+    (f.0, there, subst (λ x. x < length s.window.now * w) (sym there) (place_below s.heap.now s.window.now (some_words s c.requires.scope) a f.0))

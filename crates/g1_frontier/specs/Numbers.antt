@@ -1,0 +1,54 @@
+-- The number of each object of a window, and what any numbering has to be.
+use Rattle.std.specs.Prelude.{◌≡◌, ◌<◌, ◌≤◌, ℕ, Bool, true, false, List, [], ◌∷◌, ◌+◌, ◌-◌, ◌*◌, ◌^◌, map, take, set, length, slice_index_or, Contains, flat_map, count_ones}
+use Rattle.std.specs.List.{count_by, range_with_len}
+use Rattle.g1_words.specs.Heap.{Heap, object_at, objects, objects_in, start}
+use Rattle.g1_words.specs.Marks.{marks_of}
+use Rattle.g1_words.specs.Survivors.{in_set}
+use Rattle.g1_frontier.specs.declared.numbers.Block.{Block}
+use Rattle.g1_frontier.specs.Window.{place}
+
+-- an object of the window begins at the address
+abbrev pub BeginsIn : Heap → List ℕ → ℕ → Type 0
+BeginsIn h window a = (in_set h window a ≡ true) × Contains (objects h) (object_at h a)
+
+-- WHAT ANY NUMBERING HAS TO BE: each object of the window has a number below the count, and no two have the same
+pub record IsNumbering (h : Heap) (window : List ℕ) (count : ℕ) (number : ℕ → ℕ) : Type 0 where
+  pub below : (a : ℕ) → BeginsIn h window a → number a < count
+  pub apart : (a b : ℕ) → BeginsIn h window a → BeginsIn h window b → number b ≡ number a → b ≡ a
+
+-- the window's words at which objects begin are marked, and no others
+pub record AreStarts (h : Heap) (window : List ℕ) (starts : List Bool) : Type 0 where
+  pub words : length window * h.geometry.w ≤ length starts
+  pub each : (a : ℕ) → BeginsIn h window a → slice_index_or starts (place h window a) false ≡ true
+  pub only : (p : ℕ) → slice_index_or starts p false ≡ true → (a : ℕ) × BeginsIn h window a × (place h window a ≡ p)
+
+-- how many of the words before one are marked
+abbrev pub number_at : List Bool → ℕ → ℕ
+number_at starts p = count_by (λ b. b) (take p starts)
+
+-- the marks of the blocks' words, one bit each
+abbrev pub starts_of : List Block → List Bool
+starts_of blocks = marks_of (64 * length blocks) (map (λ b. b.starts) blocks)
+
+-- each block has the number of marks in the blocks before it, counted on from one
+abbrev pub AreCounted : ℕ → List Block → Type 0
+AreCounted n [] = Unit {0}
+AreCounted n (b ∷ bs) = (b.before ≡ n) × (b.starts < 2 ^ 64) × AreCounted (n + count_ones b.starts) bs
+
+-- the number after the blocks' marks, counted on from one
+abbrev pub counted_on : ℕ → List Block → ℕ
+counted_on n [] = n
+counted_on n (b ∷ bs) = counted_on (n + count_ones b.starts) bs
+
+-- the marks, and those at some words beside them
+abbrev pub and_marked : List Bool → List ℕ → List Bool
+and_marked starts [] = starts
+and_marked starts (p ∷ ps) = and_marked (set starts p true) ps
+
+-- where the objects of a region begin among words that the region starts at one of
+abbrev pub places_from : Heap → ℕ → ℕ → List ℕ
+places_from h first r = map (λ o. first + (o.at - start h r)) (objects_in h r)
+
+-- where the objects of the window begin among its words, for the first so many of its regions
+abbrev pub places_to : Heap → List ℕ → ℕ → List ℕ
+places_to h window n = flat_map (λ i. places_from h (i * h.geometry.w) (slice_index_or window i 0)) (range_with_len 0 n)

@@ -1,0 +1,151 @@
+ghost use Rattle.std.specs.Prelude.{◌≡◌, ◌<◌, ◌≤◌, ◌+◌, ◌*◌, length, set, replicate, true, false, IfOk, sum_by, count_ones};
+ghost use Rattle.g1_words.specs.Geometry.{most_words};
+ghost use Rattle.g1_words.specs.Heap.{start, objects_in};
+ghost use Rattle.g1_words.specs.Marks.{marks_of};
+ghost use Rattle.g1_words.specs.Valid.{Tiles};
+ghost use Rattle.g1_frontier.specs.Window.{AreRegions};
+ghost use Rattle.g1_frontier.specs.Numbers.{AreStarts, and_marked, places_from};
+
+use g1_words::{Heap, Kind, Region, size_at};
+use std::alloc::{AllocError, Global};
+use std::marker::Model;
+
+/// 64 words of a window.
+#[derive(Debug, Clone, Copy, PartialEq, Eq, Drop)]
+pub struct Block {
+    /// A bit for each of the words, set if an object begins there.
+    pub starts: u64,
+    /// How many objects begin in the blocks before.
+    pub before: u64,
+}
+
+/// The number of each object of a window: how many objects begin at earlier words of the window.
+#[derive(Drop)]
+pub struct Numbers {
+    blocks: Vec<Block>,
+    /// How many objects begin in the window.
+    count: u64,
+}
+
+impl Model for Numbers {
+    ghost use Rattle.std.specs.Prelude.{◌≡◌, ◌≤◌, ◌*◌, List, Bool, length};
+    ghost use Rattle.g1_words.specs.Geometry.{most_words};
+    ghost use Rattle.g1_frontier.specs.Numbers.{starts_of, AreCounted, counted_on};
+
+    ghost Value = { List Bool };
+
+    ghost view = { λ n. starts_of n.blocks.items };
+
+    ghost invariant = { λ n. AreCounted 0 n.blocks.items × (64 * length n.blocks.items ≤ most_words) × (n.count ≡ counted_on 0 n.blocks.items) };
+}
+
+/// The address after the last object that begins in a region; the region's own start if none does.
+fn objects_end(heap: &Heap, region: u32) -> u64
+    requires { region < heap.now.geometry.n }
+    ensures { Tiles heap.now.words (start heap.now region) (objects_in heap.now region) result }
+{
+    let start = heap.geometry().start(region);
+    let Region { kind, top, .. } = heap.region(region);
+    match kind {
+        Kind::Ordinary => start + u64::from(top),
+        Kind::HumongousFirst => start + size_at(heap, start),
+        Kind::Free => start,
+        Kind::Continuation => start,
+    }
+}
+
+/// Sets the bit of a word.
+fn mark(starts: &mut Vec<u64>, word: u64)
+    requires { word < 64 * length starts.old.items }
+    ensures marked { marks_of (64 * length starts.old.items) starts.new.items ≡ set (marks_of (64 * length starts.old.items) starts.old.items) word true }
+    ensures same { length starts.new.items ≡ length starts.old.items }
+{
+    starts[(word / 64) as usize] |= 1 << (word % 64);
+}
+
+/// Sets the bits of the words at which a region's objects begin. The region's first word is the word
+/// `first` of the window.
+fn mark_region(heap: &Heap, region: u32, first: u64, starts: &mut Vec<u64>)
+    requires region { region < heap.now.geometry.n }
+    requires room { first + heap.now.geometry.w ≤ 64 * length starts.old.items }
+    requires few { 64 * length starts.old.items ≤ most_words }
+    ensures marked { marks_of (64 * length starts.old.items) starts.new.items ≡ and_marked (marks_of (64 * length starts.old.items) starts.old.items) (places_from heap.now first region) }
+    ensures same { length starts.new.items ≡ length starts.old.items }
+{
+    let from = heap.geometry().start(region);
+    let end = objects_end(heap, region);
+    let mut at = from;
+    'objects: while at < end {
+        mark(starts, first + (at - from));
+        at += size_at(heap, at);
+    }
+}
+
+/// A bit for each word of the window, set if an object begins there.
+fn mark_window(alloc: Global, heap: &Heap, window: &[u32]) -> Result<Vec<u64>, AllocError>
+    requires { AreRegions heap.now window.now }
+    ensures few { IfOk result (λ v. 64 * length v.items ≤ most_words) }
+    ensures starts { IfOk result (λ v. AreStarts heap.now window.now (marks_of (64 * length v.items) v.items)) }
+{
+    let width = heap.geometry().region_words();
+    let words = window.len() as u64 * width;
+    let mut starts = vec![in alloc; 0u64; words.div_ceil(64) as usize]?;
+    for (index, region) in window.iter().enumerate() {
+        mark_region(heap, *region, index as u64 * width, &mut starts);
+    }
+    Ok(starts)
+}
+
+/// Counts the bits that are set.
+fn count_starts(alloc: Global, starts: &[u64]) -> Result<Numbers, AllocError>
+    requires { 64 * length starts.now ≤ most_words }
+    ensures { IfOk result (λ n. n ≡ marks_of (64 * length starts.now) starts.now) }
+{
+    let mut blocks = Vec::with_capacity(alloc, starts.len())?;
+    let mut count = 0;
+    for bits in starts {
+        blocks.push(Block {
+            starts: *bits,
+            before: count,
+        })?;
+        count += u64::from(bits.count_ones());
+    }
+    Ok(Numbers { blocks, count })
+}
+
+impl Numbers {
+    ghost use Rattle.std.specs.Prelude.{◌≡◌, ◌<◌, ◌≤◌, length, IfOk};
+    ghost use Rattle.g1_words.specs.Geometry.{most_words};
+    ghost use Rattle.g1_frontier.specs.Window.{AreRegions};
+    ghost use Rattle.g1_frontier.specs.Numbers.{AreStarts, number_at};
+
+    /// Numbers the objects of a window, by their headers.
+    ///
+    /// # Errors
+    /// `AllocError`.
+    pub(crate) fn new(alloc: Global, heap: &Heap, window: &[u32]) -> Result<Numbers, AllocError>
+        requires { AreRegions heap.now window.now }
+        ensures few { IfOk result (λ n. length n ≤ most_words) }
+        ensures starts { IfOk result (AreStarts heap.now window.now) }
+    {
+        let starts = mark_window(alloc, heap, window)?;
+        Ok(count_starts(alloc, starts.as_slice())?)
+    }
+
+    /// How many objects begin in the window.
+    pub fn count(&self) -> u64
+        ensures { result ≡ number_at self.now (length self.now) }
+    {
+        self.count
+    }
+
+    /// How many objects begin before a word of the window.
+    pub fn number(&self, word: u64) -> u64
+        requires { word < length self.now }
+        ensures { result ≡ number_at self.now word }
+    {
+        let block = self.blocks[(word / 64) as usize];
+        let below = block.starts & ((1 << (word % 64)) - 1);
+        block.before + u64::from(below.count_ones())
+    }
+}
