@@ -1,5 +1,6 @@
 pub mod Lists
 pub mod Laying
+pub mod Counted
 pub mod Forwarding
 pub mod Positions
 pub mod Running

@@ -1,17 +1,18 @@
 -- A plan: where the survivors of a set of regions go.
-use Rattle.std.specs.Prelude.{ℕ, List, ◌+◌, ◌/◌, map, count_by, slice_index, nat_lt}
+use Rattle.std.specs.Prelude.{ℕ, List, ◌+◌, ◌/◌, map, count_by, slice_index, sum, nat_lt}
 use Rattle.std.specs.List.{range_with_len}
 use Rattle.g1_words.specs.Heap.{Heap}
 use Rattle.g1_words.specs.Layout.{laid, sizes_of, need, free_regions, places, to_space, end_in}
 use Rattle.g1_layout.specs.declared.plan.Run.{Run}
 
--- the set, its survivors and their new addresses, the regions that these lie in and which survivors stand in each
+-- the set, its survivors and their new addresses, the regions that these lie in, which survivors stand in each, and how many words all have
 pub record Plan : Type 0 where
   pub set : List ℕ
   pub survivors : List ℕ
   pub places : List ℕ
   pub to_space : List ℕ
   pub runs : List Run
+  pub words : ℕ
 
 -- how many survivors are laid into the row before its region t
 abbrev pub laid_before : Heap → List ℕ → ℕ → ℕ
@@ -32,4 +33,4 @@ runs h l = map (run_at h l) (range_with_len 0 (need h l))
 
 -- the plan for a set and its survivors
 abbrev pub plan_of : Heap → List ℕ → List ℕ → Plan
-plan_of h set l = record { set = set; survivors = l; places = places h l; to_space = to_space h l; runs = runs h l }
+plan_of h set l = record { set = set; survivors = l; places = places h l; to_space = to_space h l; runs = runs h l; words = sum (sizes_of h l) }

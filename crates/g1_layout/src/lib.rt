@@ -4,9 +4,9 @@
 //! the start of the lowest one; each next one directly after the last if it ends within the region,
 //! else at the start of the next free region (next fit). `place` goes by these steps:
 //!
-//! 1. It counts the regions that the survivors need, on beyond the free ones, and refuses if they
-//!    need more than are free. No memory was taken until then.
-//! 2. It lists to-space, and each survivor's new address.
+//! 1. It reads the survivors' sizes, and counts the regions that they need, on beyond the free ones. It
+//!    refuses if they need more than are free, even if memory is refused.
+//! 2. It lists to-space, and by the sizes each survivor's new address.
 //! 3. It lists the runs: which stretch of the survivors is in each region of to-space, and where
 //!    the region's last object ends.
 //! 4. It writes the new addresses into a table over the words of the collection set, from which

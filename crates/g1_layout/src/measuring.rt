@@ -1,5 +1,5 @@
-ghost use Rattle.std.specs.Prelude.{◌≡◌, ◌≤◌, ◌<◌, ◌+◌, ◌*◌, ◌^◌, length, IfOk};
-ghost use Rattle.g1_words.specs.Layout.{next_fit, need, free_regions, to_space};
+ghost use Rattle.std.specs.Prelude.{◌≡◌, ◌≤◌, ◌<◌, ◌+◌, ◌*◌, ◌^◌, length, sum, IfOk, IfSome};
+ghost use Rattle.g1_words.specs.Layout.{next_fit, need, free_regions, sizes_of};
 ghost use Rattle.g1_layout.specs.Placed.{CanLay};
 
 use g1_words::{Geometry, Heap, region_of, size_at};
@@ -15,18 +15,40 @@ pub(crate) fn next_fit(geometry: &Geometry, from: u64, size: u64) -> u64
     if from + size <= next { from } else { next }
 }
 
-/// The number of regions that survivors take, whether or not as many are free.
-pub(crate) fn need(heap: &Heap, survivors: &[u64]) -> u64
+/// Survivors, measured.
+#[derive(Drop)]
+pub(crate) struct Measured {
+    /// The number of regions that they take, whether or not as many are free.
+    pub(crate) need: u64,
+    /// The number of their words, headers included.
+    pub(crate) words: u64,
+    /// The size of each, or none if memory was refused.
+    pub(crate) sizes: Option<Vec<u32>>,
+}
+
+/// Measures the survivors. Each header is read once.
+pub(crate) fn measure(alloc: Global, heap: &Heap, survivors: &[u64]) -> Measured
     requires { CanLay heap.now survivors.now }
-    ensures { result ≡ need heap.now survivors.now }
+    ensures need { result.need ≡ need heap.now survivors.now }
+    ensures words { result.words ≡ sum (sizes_of heap.now survivors.now) }
+    ensures sizes { IfSome result.sizes (λ v. v.items ≡ sizes_of heap.now survivors.now) }
 {
     let geometry = heap.geometry();
     let mut end: u64 = 0;
+    let mut words: u64 = 0;
+    let mut sizes = Vec::new(alloc);
+    let mut kept = true;
     for a in survivors {
         let size = size_at(heap, *a);
         end = next_fit(&geometry, end, size) + size;
+        words += size;
+        kept = kept && sizes.push(size as u32).is_ok();
     }
-    region_of(&geometry, end + (geometry.region_words() - 1))
+    Measured {
+        need: region_of(&geometry, end + (geometry.region_words() - 1)),
+        words,
+        sizes: if kept { Some(sizes) } else { None },
+    }
 }
 
 /// The number of free regions.

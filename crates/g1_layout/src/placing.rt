@@ -1,12 +1,12 @@
 ghost use Rattle.std.specs.Prelude.{◌≡◌, ◌≤◌, ◌<◌, ◌+◌, ◌*◌, ◌^◌, ℕ, length, slice_index, IfOk, IfErr};
-ghost use Rattle.g1_words.specs.Layout.{need, free_regions, to_space as to_space_of, places as places_of};
+ghost use Rattle.g1_words.specs.Layout.{need, free_regions, sizes_of, to_space as to_space_of, places as places_of};
 ghost use Rattle.g1_layout.specs.Placed.{CanLay, CanPlace};
 ghost use Rattle.g1_layout.specs.Plan.{laid_before, run_at, runs, plan_of};
 
-use crate::measuring::{free_count, free_regions, need, next_fit};
+use crate::measuring::{Measured, free_count, free_regions, measure, next_fit};
 use crate::new_addresses::Table;
 use crate::plan::{Plan, Run};
-use g1_words::{Fault, Heap, region_of, size_at};
+use g1_words::{Fault, Heap, region_of};
 use std::alloc::{AllocError, Global};
 
 /// The survivors' new addresses.
@@ -15,8 +15,10 @@ fn places(
     heap: &Heap,
     to_space: &[u32],
     survivors: &[u64],
+    sizes: &[u32],
 ) -> Result<Vec<u64>, AllocError>
     requires fits { CanLay heap.now survivors.now }
+    requires sizes { sizes.now ≡ sizes_of heap.now survivors.now }
     requires regions { to_space.now ≡ to_space_of heap.now survivors.now }
     requires room { need heap.now survivors.now ≤ length (free_regions heap.now) }
     ensures { IfOk result (λ v. v.items ≡ places_of heap.now survivors.now) }
@@ -24,8 +26,8 @@ fn places(
     let geometry = heap.geometry();
     let mut places = Vec::with_capacity(alloc, survivors.len())?;
     let mut end: u64 = 0;
-    for a in survivors {
-        let size = size_at(heap, *a);
+    for i in 0..survivors.len() {
+        let size = u64::from(sizes[i]);
         let at = next_fit(&geometry, end, size);
         let number = region_of(&geometry, at);
         let region = to_space[number as usize];
@@ -36,8 +38,16 @@ fn places(
 }
 
 /// The run of a region of to-space, whose first survivor has this index.
-fn run_from(heap: &Heap, survivors: &[u64], places: &[u64], region: u32, from: usize) -> Run
+fn run_from(
+    heap: &Heap,
+    survivors: &[u64],
+    sizes: &[u32],
+    places: &[u64],
+    region: u32,
+    from: usize,
+) -> Run
     requires fits { CanLay heap.now survivors.now }
+    requires sizes { sizes.now ≡ sizes_of heap.now survivors.now }
     requires placed { places.now ≡ places_of heap.now survivors.now }
     requires room { need heap.now survivors.now ≤ length (free_regions heap.now) }
     ensures { (t : ℕ) → t < need heap.now survivors.now → region ≡ slice_index (free_regions heap.now) t → from ≡ laid_before heap.now survivors.now t → result ≡ run_at heap.now survivors.now t }
@@ -45,11 +55,11 @@ fn run_from(heap: &Heap, survivors: &[u64], places: &[u64], region: u32, from: u
     let geometry = heap.geometry();
     let start = geometry.start(region);
     let mut to = from;
-    while to < places.len() && region_of(&geometry, places[to]) == u64::from(region) {
+    while to < survivors.len() && region_of(&geometry, places[to]) == u64::from(region) {
         to += 1;
     }
     let end = if from < to {
-        places[to - 1] + size_at(heap, survivors[to - 1]) - start
+        places[to - 1] + u64::from(sizes[to - 1]) - start
     } else {
         0
     };
@@ -67,9 +77,11 @@ fn runs(
     heap: &Heap,
     to_space: &[u32],
     survivors: &[u64],
+    sizes: &[u32],
     places: &[u64],
 ) -> Result<Vec<Run>, AllocError>
     requires fits { CanLay heap.now survivors.now }
+    requires sizes { sizes.now ≡ sizes_of heap.now survivors.now }
     requires regions { to_space.now ≡ to_space_of heap.now survivors.now }
     requires placed { places.now ≡ places_of heap.now survivors.now }
     requires room { need heap.now survivors.now ≤ length (free_regions heap.now) }
@@ -78,7 +90,7 @@ fn runs(
     let mut runs = Vec::with_capacity(alloc, to_space.len())?;
     let mut from: usize = 0;
     for region in to_space {
-        let run = run_from(heap, survivors, places, *region, from);
+        let run = run_from(heap, survivors, sizes, places, *region, from);
         from = run.to;
         runs.push(run)?;
     }
@@ -90,8 +102,8 @@ fn runs(
 ///
 /// # Errors
 ///
-/// `Fault::Room` if the survivors need more regions than are free, with both numbers and before
-/// any memory was taken; `Fault::Memory` if a growth was refused.
+/// `Fault::Room` if the survivors need more regions than are free, with both numbers, also if memory is
+/// refused; `Fault::Memory` if it is refused and there is room.
 pub fn place(alloc: Global, heap: &Heap, set: &[u32], survivors: &[u64]) -> Result<Plan, Fault>
     requires { CanPlace heap.now set.now survivors.now }
     ensures plan { IfOk result (λ p. p ≡ plan_of heap.now set.now survivors.now) }
@@ -99,15 +111,18 @@ pub fn place(alloc: Global, heap: &Heap, set: &[u32], survivors: &[u64]) -> Resu
     ensures memory { need heap.now survivors.now ≤ length (free_regions heap.now) → IfErr result (λ e. e ≡ Fault.Memory) }
 {
     let geometry = heap.geometry();
-    let need = need(heap, survivors);
+    let Measured { need, words, sizes } = measure(alloc, heap, survivors);
     let free = free_count(heap);
     if need > free {
         return Err(Fault::Room { need, free });
     }
+    let Some(sizes) = sizes else {
+        return Err(Fault::Memory);
+    };
     let mut to_space = free_regions(alloc, heap)?;
     to_space.truncate(need as usize);
-    let places = places(alloc, heap, &to_space, survivors)?;
-    let runs = runs(alloc, heap, &to_space, survivors, &places)?;
+    let places = places(alloc, heap, &to_space, survivors, &sizes)?;
+    let runs = runs(alloc, heap, &to_space, survivors, &sizes, &places)?;
     let table = Table::new(alloc, &geometry, set, survivors, &places)?;
     Ok(Plan {
         set: set.to_vec(alloc)?,
@@ -115,6 +130,7 @@ pub fn place(alloc: Global, heap: &Heap, set: &[u32], survivors: &[u64]) -> Resu
         places,
         to_space,
         runs,
+        words,
         table,
     })
 }

@@ -25,6 +25,7 @@ pub struct Plan {
     pub(crate) places: Vec<u64>,
     pub(crate) to_space: Vec<u32>,
     pub(crate) runs: Vec<Run>,
+    pub(crate) words: u64,
     pub(crate) table: Table,
 }
 
@@ -34,7 +35,7 @@ impl Model for Plan {
 
     ghost Value = { PlanOf };
 
-    ghost view = { λ p. record { set = p.set.items; survivors = p.survivors.items; places = p.places.items; to_space = p.to_space.items; runs = p.runs.items } };
+    ghost view = { λ p. record { set = p.set.items; survivors = p.survivors.items; places = p.places.items; to_space = p.to_space.items; runs = p.runs.items; words = p.words } };
 
     ghost invariant = { λ p. Forwards p.table p.survivors.items p.places.items };
 }
@@ -73,6 +74,13 @@ impl Plan {
         ensures { result.now ≡ self.now.runs }
     {
         &self.runs
+    }
+
+    /// The number of the survivors' words, headers included.
+    pub fn words(&self) -> u64
+        ensures { result ≡ self.now.words }
+    {
+        self.words
     }
 
     /// The number of regions of to-space.

@@ -5,8 +5,8 @@ use Rattle.g1_layout.proofs.Conditions.{can_lay, set_in_heap}
 use Rattle.g1_layout.proofs.Running.{count_places, places_low}
 use Rattle.g1_layout.proofs.placing.place.Goals as goal
 
-pub need-need-requires : goal.need-need-requires
-need-need-requires c = can_lay c.args.heap.now c.args.set.now c.args.survivors.now c.geometry-geometry.ensures.valid c.requires
+pub measure-need-requires : goal.measure-need-requires
+measure-need-requires c = can_lay c.args.heap.now c.args.set.now c.args.survivors.now c.geometry-geometry.ensures.valid c.requires
 
 pub places-requires-clause-fits : goal.places-requires-clause-fits
 places-requires-clause-fits c = can_lay c.args.heap.now c.args.set.now c.args.survivors.now c.geometry-geometry.ensures.valid c.requires
@@ -27,14 +27,14 @@ new-requires-clause-one_each c =
     let h = c.args.heap.now in
     let l = c.args.survivors.now in
     let valid = c.geometry-geometry.ensures.valid in
-    let room : need h l ≤ length (free_regions h) = omega (arith, c.if-need-free.false, c.need-need.ensures, c.free_count-free.ensures) in
-    ap length (c.deref-4.ensures.value ∙ c.in_ok-places.ensures) ∙ count_places h l (omega (arith, valid.limits.w_least)) (can_lay h c.args.set.now l valid c.requires) room
+    let room : need h l ≤ length (free_regions h) = omega (arith, c.if-need-free.false, c.measure-need.ensures.need, c.free_count-free.ensures) in
+    ap length (c.deref-6.ensures.value ∙ c.in_ok-places.ensures) ∙ count_places h l (omega (arith, valid.limits.w_least)) (can_lay h c.args.set.now l valid c.requires) room
 
 pub new-requires-clause-low : goal.new-requires-clause-low
 new-requires-clause-low c =
     let h = c.args.heap.now in
     let l = c.args.survivors.now in
     let valid = c.geometry-geometry.ensures.valid in
-    let room : need h l ≤ length (free_regions h) = omega (arith, c.if-need-free.false, c.need-need.ensures, c.free_count-free.ensures) in
-    subst (All (λ p. p < most_words)) (sym (c.deref-4.ensures.value ∙ c.in_ok-places.ensures))
+    let room : need h l ≤ length (free_regions h) = omega (arith, c.if-need-free.false, c.measure-need.ensures.need, c.free_count-free.ensures) in
+    subst (All (λ p. p < most_words)) (sym (c.deref-6.ensures.value ∙ c.in_ok-places.ensures))
     (places_low h l (omega (arith, valid.limits.w_least)) (can_lay h c.args.set.now l valid c.requires) room valid.limits.words_most)

@@ -6,4 +6,4 @@ abbrev pub invariant-loop-to : goal.invariant-loop-to
 invariant-loop-to l = Running l.heap l.places l.region l.from l.to
 
 abbrev pub decreases-loop-to : goal.decreases-loop-to
-decreases-loop-to l = length l.places - l.to
+decreases-loop-to l = length l.survivors - l.to
