@@ -1,5 +1,5 @@
 -- The gathered words, region by region.
-use Rattle.std.proofs.Common.{◌≡◌, ℕ, ◌+◌, ◌-◌, ◌*◌, ◌/◌, ◌%◌, ◌^◌, ◌<◌, ◌≤◌, inl, inr, List, length, get_or, take, drop, replicate, sym, ◌∙◌, ap, arith, div-add-mod', length-drop}
+use Rattle.std.proofs.Common.{◌≡◌, ℕ, ◌+◌, ◌-◌, ◌*◌, ◌/◌, ◌%◌, ◌<◌, ◌≤◌, inl, inr, List, length, get_or, take, drop, replicate, sym, ◌∙◌, ap, arith, div-add-mod', length-drop}
 use Rattle.std.proofs.lemmas.Bool.{cases_lt}
 use Rattle.std.specs.Fork.{IsChunk}
 use Rattle.std.proofs.Math.Nat.{mul-div_left, mul-mod_left, mul-le-mul_right}

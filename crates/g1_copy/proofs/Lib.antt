@@ -10,6 +10,7 @@ pub mod InPlaceCovers
 pub mod InPlace
 pub mod FatesMade
 pub mod PatchesBefore
+pub mod PatchesShared
 pub mod RememberedJoined
 pub mod RememberedPaused
 pub mod UnnamedMarks

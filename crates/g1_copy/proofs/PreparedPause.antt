@@ -1,5 +1,5 @@
 -- What is made ready for a pause is what its commit needs.
-use Rattle.std.proofs.Common.{◌≡◌, ℕ, ◌*◌, ◌<◌, inl, inr, false, not, ◌&&◌, List, [], ◌++◌, All, length, map, flat_map, get_or, refl, sym, ◌∙◌, ap, subst, arith}
+use Rattle.std.proofs.Common.{◌≡◌, ℕ, ◌*◌, ◌<◌, inl, inr, not, ◌&&◌, List, [], ◌++◌, All, length, map, flat_map, get_or, refl, sym, ◌∙◌, ap, subst, arith}
 use Rattle.std.proofs.lemmas.Bool.{cases_lt}
 use Rattle.std.specs.List.{list_any, range_with_len}
 use Rattle.std.specs.List.Sorted.{IsStrictlyIncreasing}
@@ -18,7 +18,7 @@ use Rattle.g1_layout.specs.declared.plan.Run.{Run}
 use Rattle.g1_rem.specs.Starts.{card_count}
 use Rattle.g1_words.proofs.Computed.{range_below}
 use Rattle.g1_words.proofs.Indices.{get_or-In}
-use Rattle.g1_words.proofs.Members.{In, and_true, filter_member}
+use Rattle.g1_words.proofs.Members.{In, filter_member}
 use Rattle.g1_words.specs.Heap.{Heap, region, region_of, regions}
 use Rattle.g1_words.specs.Layout.{HasRoom, forward, to_space}
 use Rattle.g1_words.specs.Lists.{has}
@@ -36,7 +36,6 @@ use Rattle.g1_copy.specs.Unnamed.{humongous_regions}
 use Rattle.g1_copy.specs.declared.fates.Fate.{Fate}
 use Rattle.g1_copy.specs.declared.fates.Fate.TheVariants.{Freed}
 use Rattle.g1_copy.proofs.FatesMade.{freed_beside}
-use Rattle.g1_copy.proofs.InPlace.{not_true}
 use Rattle.g1_copy.proofs.PreparedRegions.{regions_by_fates}
 use Rattle.g1_copy.proofs.RememberedLeft.{sets_left, sets_stay}
 use Rattle.g1_copy.proofs.RememberedPaused.{outer_rise}
@@ -56,13 +55,6 @@ module _ (h : Heap) (remembered : List (List ℕ)) (set cards : List ℕ) (is : 
       (range_with_len 0 (card_count h)) (get_or cards k d) (card_is k d lt) in
       let b = range_below 0 (card_count h) (get_or cards k d) f.0 in
       omega arith
-
-  pub into_outside : (chosen : List ℕ) → chosen ≡ set → All (λ c. in_set h chosen (c * h.geometry.k) ≡ false) cards
-  into_outside chosen e k d lt =
-      let c : ℕ = get_or cards k d in
-      let f = filter_member (λ c. list_any (λ r. has (slice_index_or remembered r []) c) set && not (in_set h set (c * h.geometry.k))) (range_with_len 0 (card_count h)) c (card_is k d lt) in
-      ap (λ xs. in_set h xs (c * h.geometry.k)) e ∙ not_true (in_set h set (c * h.geometry.k))
-      (and_true (list_any (λ r. has (slice_index_or remembered r []) c) set) (not (in_set h set (c * h.geometry.k))) f.1).1
 
 module _ (i : Image) (set : List ℕ) (p : Plan) (pause : IsPauseOf i.heap set p) where
   ordinary : AllOrdinary i.heap set

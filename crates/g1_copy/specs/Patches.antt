@@ -5,6 +5,7 @@ use Rattle.g1_words.specs.Lists.{has}
 use Rattle.g1_words.specs.References.{Ref, refs, refs_at}
 use Rattle.g1_words.specs.Survivors.{in_set}
 use Rattle.g1_words.specs.Layout.{forward}
+use Rattle.g1_rem.specs.Slots.{slots_on}
 
 -- a reference's slot with the slot's word after its target moved
 abbrev pub patch : Heap → List ℕ → Ref → ℕ × ℕ
@@ -25,6 +26,10 @@ patch_at h l p = map (patch h l) (filter (λ e. has l e.target) (refs_at h p))
 -- the patches of slots, in the slots' order
 abbrev pub patches_at : Heap → List ℕ → List ℕ → List (ℕ × ℕ)
 patches_at h l ps = flat_map (patch_at h l) ps
+
+-- the patches of the slots on these cards, card by card
+abbrev pub patches_by_card : Heap → List ℕ → List ℕ → List (ℕ × ℕ)
+patches_by_card h l cards = flat_map (λ c. patches_at h l (slots_on h c)) cards
 
 -- so many of the patches, which are by address, lie before an address
 pub record AreBefore (patches : List (ℕ × ℕ)) (end count : ℕ) : Type 0 where

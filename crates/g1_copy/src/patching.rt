@@ -5,13 +5,19 @@ ghost use Rattle.g1_words.specs.Valid.{IsValid};
 ghost use Rattle.g1_rem.specs.Slots.{slots_on};
 ghost use Rattle.g1_rem.specs.Starts.{IsStartsOf, card_count};
 ghost use Rattle.g1_copy.specs.Plans.{IsPlanOf};
-ghost use Rattle.g1_copy.specs.Patches.{patch_at, patches_at, patches_on, AreBefore, AreFirsts};
+ghost use Rattle.g1_copy.specs.Patches.{patch_at, patches_at, patches_by_card, patches_on, AreBefore, AreFirsts};
 
 use g1_layout::Plan;
 use g1_rem::{Starts, slots_on};
 use g1_words::{Fault, Heap};
+use g1_work::{MOST_WORKERS, threads_for};
 use std::alloc::{AllocError, Global};
+use std::thread;
 use std::thread::Threads;
+
+/// A thread is worth starting for the slots on this many cards: to look at them takes about a
+/// millisecond, and a thread takes tens of microseconds to start.
+const SCANNED_CARDS_A_THREAD: usize = 4096;
 
 /// Adds a slot with its new word, if it references a survivor.
 fn push_patch(
@@ -38,7 +44,7 @@ fn push_patch(
     Ok(())
 }
 
-/// Adds the slots on a card that name a survivor, each with its new word.
+/// Adds the slots on a card that reference a survivor, each with its new word.
 fn push_card(
     alloc: Global,
     heap: &Heap,
@@ -60,7 +66,66 @@ fn push_card(
     Ok(())
 }
 
-/// The slots on some cards that name a survivor, each with its new word, by slot address. The cards
+/// The slots on some cards that reference a survivor, card by card, each with its new word.
+fn patches_alone(
+    alloc: Global,
+    heap: &Heap,
+    starts: &Starts,
+    plan: &Plan,
+    cards: &[u32],
+) -> Result<Vec<(u64, u64)>, AllocError>
+    requires heap { IsValid heap.now }
+    requires starts { IsStartsOf heap.now starts.now }
+    requires plan { IsPlanOf heap.now plan.now }
+    requires there { All (λ c. c < card_count heap.now) cards.now }
+    ensures { IfOk result (λ v. v.items ≡ patches_by_card heap.now plan.now.survivors cards.now) }
+{
+    let mut patches = Vec::new(alloc);
+    for card in cards {
+        push_card(alloc, heap, starts, plan, *card, &mut patches)?;
+    }
+    Ok(patches)
+}
+
+/// As `patches_alone`, by this many threads, each with a chunk of the cards.
+fn patches_by_threads(
+    rt: &(impl Threads + Sync),
+    alloc: Global,
+    heap: &Heap,
+    starts: &Starts,
+    plan: &Plan,
+    cards: &[u32],
+    threads: usize,
+) -> Result<Vec<(u64, u64)>, AllocError>
+    requires some { 0 < threads }
+    requires heap { IsValid heap.now }
+    requires starts { IsStartsOf heap.now starts.now }
+    requires plan { IsPlanOf heap.now plan.now }
+    requires there { All (λ c. c < card_count heap.now) cards.now }
+    ensures { IfOk result (λ v. v.items ≡ patches_by_card heap.now plan.now.survivors cards.now) }
+{
+    let size = cards.len().div_ceil(threads).max(1);
+    let parts = thread::map_chunks(
+        rt,
+        alloc,
+        cards,
+        size,
+        &|_start: usize, part: &[u32]| -> Result<Vec<(u64, u64)>, AllocError>
+            requires { IsValid heap.now × IsStartsOf heap.now starts.now × IsPlanOf heap.now plan.now × All (λ c. c < card_count heap.now) part.now }
+            ensures { IfOk result (λ v. v.items ≡ patches_by_card heap.entry.now plan.entry.now.survivors part.now) }
+        { patches_alone(alloc, heap, starts, plan, part) },
+    )?;
+    let mut patches = Vec::new(alloc);
+    for part in &parts {
+        match part {
+            Ok(part) => patches.extend_from_slice(part)?,
+            Err(_) => return Err(AllocError),
+        }
+    }
+    Ok(patches)
+}
+
+/// The slots on some cards that reference a survivor, each with its new word, by slot address. The cards
 /// rise, and none of them lies in a region of the set. Linear in the slots on the cards.
 ///
 /// # Errors
@@ -82,12 +147,30 @@ pub fn patches(
     ensures ok { IfOk result (λ v. v.items ≡ patches_on heap.now plan.now.survivors cards.now) }
     ensures memory { IfErr result (λ e. e ≡ Fault.Memory) }
 {
+    Ok(patches_by(rt, alloc, heap, starts, plan, cards, MOST_WORKERS)?)
+}
+
+/// As `patches`, with this many workers at most. One if it is 0.
+pub(crate) fn patches_by(
+    rt: &(impl Threads + Sync),
+    alloc: Global,
+    heap: &Heap,
+    starts: &Starts,
+    plan: &Plan,
+    cards: &[u32],
+    workers: u64,
+) -> Result<Vec<(u64, u64)>, AllocError>
+    requires starts { IsStartsOf heap.now starts.now }
+    requires plan { IsPlanOf heap.now plan.now }
+    requires rising { IsStrictlyIncreasing cards.now }
+    requires there { All (λ c. c < card_count heap.now) cards.now }
+    ensures { IfOk result (λ v. v.items ≡ patches_on heap.now plan.now.survivors cards.now) }
+{
     g1_words::laws::valid(heap);
-    let mut patches = Vec::new(alloc);
-    for card in cards {
-        push_card(alloc, heap, starts, plan, *card, &mut patches)?;
+    match threads_for(workers, cards.len(), SCANNED_CARDS_A_THREAD) {
+        1 => patches_alone(alloc, heap, starts, plan, cards),
+        threads => patches_by_threads(rt, alloc, heap, starts, plan, cards, threads),
     }
-    Ok(patches)
 }
 
 /// How many patches lie before an address.

@@ -14,7 +14,7 @@ ghost use Rattle.g1_copy.specs.declared.fates.Fate.TheVariants.{Filled};
 use crate::fates::{Fate, fates, free};
 use crate::gathering::{gather_by, rename_reference};
 use crate::laws;
-use crate::patching::{firsts, patches};
+use crate::patching::{firsts, patches_by};
 use crate::remembering::remembered_by_fate;
 use crate::unnamed::{humongous_regions, leave_all, unnamed};
 use g1_layout::{Plan, Run};
@@ -218,7 +218,7 @@ pub fn prepare_on(
 {
     laws::all_patches();
     let heap = image(tracked).heap();
-    let patches = patches(rt, alloc, heap, starts, plan, cards)?;
+    let patches = patches_by(rt, alloc, heap, starts, plan, cards, workers)?;
     let gathered = gather_by(rt, alloc, heap, plan, workers)?;
     let mut fates = fates(alloc, heap, set, plan)?;
     let mut sets = remembered_by_fate(

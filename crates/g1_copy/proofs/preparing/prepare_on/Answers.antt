@@ -15,29 +15,23 @@ use Rattle.g1_copy.specs.Fates.{AreFates}
 use Rattle.g1_copy.specs.Gathered.{to_space_words}
 use Rattle.g1_copy.specs.Plans.{IsPauseOf}
 use Rattle.g1_copy.specs.Patches.{AreFirsts}
-use Rattle.g1_copy.proofs.PreparedPause.{all_found, fates_after, firsts_there, found_rise, into_outside, into_rise, into_there, made_for, own_patches, remembered_left, regions_freed}
+use Rattle.g1_copy.proofs.PreparedPause.{all_found, fates_after, firsts_there, found_rise, into_rise, into_there, made_for, own_patches, remembered_left, regions_freed}
 use Rattle.g1_copy.proofs.PreparedPause.{runs_there, table_after}
 use Rattle.g1_copy.proofs.preparing.prepare_on.Given.{Over}
 use Rattle.g1_copy.proofs.preparing.prepare_on.Goals as goal
 use Rattle.g1_copy.proofs.preparing.prepare_on.Goals.{After-heap-heap, After-free, In_ok-freed}
 
-pub patches-requires-clause-rising : goal.patches-requires-clause-rising
-patches-requires-clause-rising g c κs within =
+pub patches_by-requires-clause-rising : goal.patches_by-requires-clause-rising
+patches_by-requires-clause-rising g c κs within =
     let he = c.heap-heap.ensures.same ∙ ap (λ (x : Image). x.heap) c.image.ensures.same in
     let here = c.requires.cards ∙ ap (λ h. cards_into h (map (λ s. s.items) c.args.remembered.now) c.args.set.now) (sym he) in
     into_rise c.heap-heap.result.now (map (λ s. s.items) c.args.remembered.now) c.args.set.now c.args.cards.now here
 
-pub patches-requires-clause-there : goal.patches-requires-clause-there
-patches-requires-clause-there g c κs within =
+pub patches_by-requires-clause-there : goal.patches_by-requires-clause-there
+patches_by-requires-clause-there g c κs within =
     let he = c.heap-heap.ensures.same ∙ ap (λ (x : Image). x.heap) c.image.ensures.same in
     let here = c.requires.cards ∙ ap (λ h. cards_into h (map (λ s. s.items) c.args.remembered.now) c.args.set.now) (sym he) in
     into_there c.heap-heap.result.now (map (λ s. s.items) c.args.remembered.now) c.args.set.now c.args.cards.now here
-
-pub patches-requires-clause-outside : goal.patches-requires-clause-outside
-patches-requires-clause-outside g c κs within =
-    let he = c.heap-heap.ensures.same ∙ ap (λ (x : Image). x.heap) c.image.ensures.same in
-    let here = c.requires.cards ∙ ap (λ h. cards_into h (map (λ s. s.items) c.args.remembered.now) c.args.set.now) (sym he) in
-    into_outside c.heap-heap.result.now (map (λ s. s.items) c.args.remembered.now) c.args.set.now c.args.cards.now here c.args.plan.now.set c.requires.plan.same
 
 pub remembered_by_fate-requires-clause-patches : goal.remembered_by_fate-requires-clause-patches
 remembered_by_fate-requires-clause-patches g c κs within =
@@ -47,7 +41,7 @@ remembered_by_fate-requires-clause-patches g c κs within =
     let image : IsImage i = subst IsImage c.image.ensures.same c.heap-heap.ensures.valid in
     let here = c.requires.cards ∙ ap (λ h. cards_into h (map (λ s. s.items) c.args.remembered.now) c.args.set.now) (sym he) in
     let found = all_found i c.args.set.now p c.requires.plan c.heap-heap.result.now (map (λ s. s.items) c.args.remembered.now) c.args.cards.now
-    c.deref-2.result.now c.all_patches.ensures image c.image.ensures.covered he c.requires.remembered here (c.deref-2.ensures.value ∙ c.in_ok-patches.ensures.ok) in
+    c.deref-2.result.now c.all_patches.ensures image c.image.ensures.covered he c.requires.remembered here (c.deref-2.ensures.value ∙ c.in_ok-patches.ensures) in
     own_patches i c.args.set.now p c.requires.plan c.deref-2.result.now found
 
 -- ---- the humongous objects that are freed
@@ -157,7 +151,7 @@ firsts-requires g c =
     let image : IsImage i = subst IsImage c.image.ensures.same c.heap-heap.ensures.valid in
     let here = c.requires.cards ∙ ap (λ h. cards_into h (map (λ s. s.items) c.args.remembered.now) c.args.set.now) (sym he) in
     let found = all_found i c.args.set.now p c.requires.plan c.heap-heap.result.now (map (λ s. s.items) c.args.remembered.now) c.args.cards.now
-    c.deref-10.result.now c.all_patches.ensures image c.image.ensures.covered he c.requires.remembered here (c.deref-10.ensures.value ∙ c.in_ok-patches.ensures.ok) in
+    c.deref-10.result.now c.all_patches.ensures image c.image.ensures.covered he c.requires.remembered here (c.deref-10.ensures.value ∙ c.in_ok-patches.ensures) in
     found_rise i c.args.set.now p c.requires.plan c.deref-10.result.now image found
 
 pub new_regions-requires-clause-fates : goal.new_regions-requires-clause-fates
@@ -191,7 +185,7 @@ returns-clause-ok g c =
     let image : IsImage i = tracked.image in
     let here = c.requires.cards ∙ ap (λ h. cards_into h (map (λ s. s.items) c.args.remembered.now) c.args.set.now) (sym he) in
     let found = all_found i set p pause h (map (λ s. s.items) c.args.remembered.now) c.args.cards.now ps c.all_patches.ensures image
-    c.image.ensures.covered he c.requires.remembered here c.in_ok-patches.ensures.ok in
+    c.image.ensures.covered he c.requires.remembered here c.in_ok-patches.ensures in
     let firsts = subst (λ xs. AreFirsts h.geometry.w h.geometry.n xs c.in_ok-firsts.field-0.items) c.deref-10.ensures.value c.in_ok-firsts.ensures in
     let back : take c.in_ok-fates.fates.len (c.free.new.fates ++ drop (length c.free.new.fates) c.in_ok-fates.fates.items) ≡ c.free.new.fates = fates_back g b in
     let table = table_after i set p pause tracked h c.in_ok-new_regions.field-0.items c.deref-11.result.now he

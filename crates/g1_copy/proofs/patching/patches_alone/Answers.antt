@@ -1,26 +1,25 @@
 use Rattle.std.proofs.Common.{◌∙◌, [], flat_map, ap, sym, get_or, take, arith}
 use Rattle.std.proofs.lemmas.List.{take_more}
 use Rattle.g1_rem.specs.Slots.{slots_on}
-use Rattle.g1_copy.specs.Patches.{patches_at}
-use Rattle.g1_copy.proofs.OnCards.{patches_by_cards, pushed_more, take_whole}
-use Rattle.g1_copy.proofs.patching.patches.Goals as goal
+use Rattle.g1_copy.specs.Patches.{patches_at, patches_by_card}
+use Rattle.g1_copy.proofs.OnCards.{pushed_more, take_whole}
+use Rattle.g1_copy.proofs.patching.patches_alone.Goals as goal
 
 pub loop-card-init : goal.loop-card-init
-loop-card-init g c = c.new-patches.ensures.items
+loop-card-init c = c.new-patches.ensures.items
 
 pub loop-card-preserved : goal.loop-card-preserved
-loop-card-preserved g c =
+loop-card-preserved c =
     let xs = c.args.cards.now in
     let i = c.loop-card.card-index in
     pushed_more (λ c'. patches_at c.args.heap.now c.args.plan.now.survivors (slots_on c.args.heap.now c')) [] c.loop-card.patches.items
     c.push_card.new.patches.items (take i xs) (get_or xs i 0) c.loop-card.invariant c.in_ok-push_card.ensures
     ∙ ap (flat_map (λ c'. patches_at c.args.heap.now c.args.plan.now.survivors (slots_on c.args.heap.now c'))) (sym (take_more xs i 0 c.loop-card-test.true))
 
-pub returns-clause-ok : goal.returns-clause-ok
-returns-clause-ok g c =
+pub returns : goal.returns
+returns c =
     c.loop-card.invariant
-    ∙ ap (flat_map (λ c'. patches_at c.args.heap.now c.args.plan.now.survivors (slots_on c.args.heap.now c'))) (take_whole c.args.cards.now c.loop-card.card-index c.loop-card-test.false)
-    ∙ patches_by_cards c.args.heap.now c.args.plan.now.survivors c.args.cards.now c.valid.ensures c.requires.rising
+    ∙ ap (patches_by_card c.args.heap.now c.args.plan.now.survivors) (take_whole c.args.cards.now c.loop-card.card-index c.loop-card-test.false)
 
 pub loop-card-smaller : goal.loop-card-smaller
-loop-card-smaller g c = omega (arith, c.loop-card-test.true)
+loop-card-smaller c = omega (arith, c.loop-card-test.true)

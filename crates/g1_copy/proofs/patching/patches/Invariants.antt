@@ -1,7 +1,0 @@
-use Rattle.std.proofs.Common.{◌≡◌, flat_map, take}
-use Rattle.g1_rem.specs.Slots.{slots_on}
-use Rattle.g1_copy.specs.Patches.{patches_at}
-use Rattle.g1_copy.proofs.patching.patches.Given as goal
-
-abbrev pub invariant-loop-card : goal.invariant-loop-card
-invariant-loop-card g l = l.patches.items ≡ flat_map (λ c. patches_at l.heap l.plan.survivors (slots_on l.heap c)) (take l.card-index l.cards)
