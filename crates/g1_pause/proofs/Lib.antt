@@ -4,7 +4,6 @@ pub mod OneAnswer
 pub mod CollectionSets
 pub mod Following
 pub mod Always
-pub mod Counted
 pub mod Refused
 pub mod Carried
 pub mod Planning

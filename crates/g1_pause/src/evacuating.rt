@@ -46,6 +46,8 @@ fn plan_pause<R: Threads + Sync, G: Gate + Sync>(
     let survivors = discover(rt, alloc, heap, &starts, &set, &cards, workers, chunk, gate)?;
     g1_layout::laws::placeable();
     let plan = place(alloc, heap, &set, &survivors)?;
+    // The plan has them.
+    drop(survivors);
     let prepared = prepare_on(
         rt,
         alloc,
@@ -57,7 +59,7 @@ fn plan_pause<R: Threads + Sync, G: Gate + Sync>(
         &cards,
         workers,
     )?;
-    let report = report_of(alloc, image, set, &plan, prepared.humongous())?;
+    let report = report_of(alloc, set, &plan, prepared.humongous())?;
     Ok((prepared, report))
 }
 

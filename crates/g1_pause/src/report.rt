@@ -1,11 +1,7 @@
-ghost use Rattle.std.specs.Prelude.{◌≡◌, length, sum, IfOk, IfErr};
-ghost use Rattle.g1_words.specs.Layout.{sizes_of};
-ghost use Rattle.g1_layout.specs.Placed.{CanLay};
-ghost use Rattle.g1_copy.specs.Plans.{IsPlanOf};
+ghost use Rattle.std.specs.Prelude.{◌≡◌, length, IfOk, IfErr};
 
-use g1_image::Image;
 use g1_layout::Plan;
-use g1_words::{Fault, Heap, header};
+use g1_words::Fault;
 use std::alloc::Global;
 
 /// What a pause did.
@@ -23,19 +19,6 @@ pub struct Report {
     pub humongous: Vec<u32>,
 }
 
-/// How many words the survivors have, their headers included.
-fn copied_words(heap: &Heap, survivors: &[u64]) -> u64
-    requires { CanLay heap.now survivors.now }
-    ensures { result ≡ sum (sizes_of heap.now survivors.now) }
-{
-    let words = heap.words();
-    let mut count: u64 = 0;
-    for a in survivors {
-        count += header(words, *a).size;
-    }
-    count
-}
-
 /// The report of the pause that evacuates a set as the plan says and frees these humongous objects.
 ///
 /// # Errors
@@ -43,26 +26,22 @@ fn copied_words(heap: &Heap, survivors: &[u64]) -> u64
 /// `Fault::Memory` alone.
 pub(crate) fn report_of(
     alloc: Global,
-    image: &Image,
     set: Vec<u32>,
     plan: &Plan,
     humongous: &[u32],
 ) -> Result<Report, Fault>
-    requires plan { IsPlanOf image.now.heap plan.now }
     ensures set { IfOk result (λ x. x.set.items ≡ set.items) }
     ensures to { IfOk result (λ x. x.to.items ≡ plan.now.to_space) }
     ensures objects { IfOk result (λ x. x.objects ≡ length plan.now.survivors) }
-    ensures words { IfOk result (λ x. x.words ≡ sum (sizes_of image.now.heap plan.now.survivors)) }
+    ensures words { IfOk result (λ x. x.words ≡ plan.now.words) }
     ensures humongous { IfOk result (λ x. x.humongous.items ≡ humongous.now) }
     ensures memory { IfErr result (λ e. e ≡ Fault.Memory) }
 {
-    let survivors = plan.survivors();
-    let words = copied_words(image.heap(), survivors);
     Ok(Report {
         set,
         to: plan.to_space().to_vec(alloc)?,
-        objects: survivors.len() as u64,
-        words,
+        objects: plan.survivors().len() as u64,
+        words: plan.words(),
         humongous: humongous.to_vec(alloc)?,
     })
 }

@@ -5,7 +5,7 @@ ghost use Rattle.g1_pause.specs.Streams.{RunGives, WritesNoFault, input_mark, ou
 
 use crate::bytes::run_pause;
 use crate::settings::Settings;
-use g1_image::{Sink, Source, read, write};
+use g1_image::{Sink, Source, read_by, write};
 use g1_rem::image;
 use g1_words::Fault;
 use g1_work::Gate;
@@ -13,7 +13,7 @@ use std::alloc::Global;
 use std::thread::Threads;
 
 /// The whole pause from a source to a sink: reads the text of an image to its end, then writes the
-/// text of the image after, both in pieces (`g1_image::read`, `g1_image::write`). A sink that keeps
+/// text of the image after, both in pieces (`g1_image::read_by`, `g1_image::write`). A sink that keeps
 /// bytes back is not flushed.
 ///
 /// # Errors
@@ -35,7 +35,7 @@ pub fn pause_run<R: Threads + Sync, I: Source, O: Sink, G: Gate + Sync>(
     ensures input { I.failed reader.new ≡ input_mark (I.failed reader.old) result }
     ensures output { O.failed writer.new ≡ output_mark (O.failed writer.old) result }
 {
-    let before = read(alloc, reader)?;
+    let before = read_by(rt, alloc, reader, settings.workers())?;
     match run_pause(rt, alloc, before, settings, gate) {
         Ok(after) => write(alloc, image(&after), writer),
         Err(fault) => Err(fault),

@@ -1,7 +1,5 @@
-use Rattle.std.proofs.Common.{◌≡◌, Err, refl, sym, subst}
-use Rattle.std.specs.Prelude.{IfErr}
 use Rattle.std.proofs.lemmas.Result.{err_from_is_err_and}
-use Rattle.g1_pause.proofs.Answered.{Told, OnlyTold, unread_told, fault_told, only_told, memory_told, text_told, only_written, written_follows}
+use Rattle.g1_pause.proofs.Answered.{unread_told, fault_told, only_told, memory_told, text_told, only_written, written_follows}
 use Rattle.g1_pause.proofs.bytes.pause_bytes.Goals as goal
 
 pub returns-in_err-before-clause-fault : goal.returns-in_err-before-clause-fault

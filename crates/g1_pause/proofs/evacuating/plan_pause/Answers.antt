@@ -91,16 +91,6 @@ prepare_on-requires-clause-cards g c κs within =
     let set_same : c.deref-3.result.now ≡ c.deref-9.result.now = c.deref-3.ensures.value ∙ sym c.deref-9.ensures.value in
     c.deref-10.ensures.value ∙ c.in_ok-cards.ensures.ok ∙ (λ q. cards_into (he q) (map (λ s. s.items) (refined_same q)) (set_same q))
 
-pub report_of-requires : goal.report_of-requires
-report_of-requires g c =
-    let i : Image = c.image-image.result.now in
-    let tracked : IsTracked i = record { image = c.heap-heap.ensures.valid; covered = subst Covered (sym c.image-image.ensures.same) c.image-image.ensures.covered } in
-    let made =
-    set_planned c.args.settings.now.cost c.args.settings.now.choice i c.heap-heap.result.now c.heap-heap.ensures.same c.in_ok-set.set.items c.in_ok-set.ensures.set
-    c.deref-6.result.now c.deref-4.result.now c.deref-4.result.now c.deref-7.result.now c.in_ok-survivors.survivors.items c.in_ok-plan.plan c.place.result tracked c.placeable.ensures
-    c.deref-6.ensures.value c.deref-4.ensures.value c.deref-4.ensures.value c.deref-7.ensures.value c.in_ok-survivors.ensures.ok c.in_ok-plan.was c.in_ok-plan.ensures.plan c.place.ensures.room in
-    record { plan = made.made }
-
 pub returns-clause-report : goal.returns-clause-report
 returns-clause-report g c =
     let t : Image = c.args.tracked.now in
@@ -120,5 +110,5 @@ returns-clause-report g c =
     (c.in_ok-report.ensures.set ∙ sym c.deref-9.ensures.value)
     (c.in_ok-report.ensures.to ∙ ap (λ (q : Plan). q.to_space) made.made.plan ∙ ap (λ (j : Image). to_space j.heap c.in_ok-plan.plan.survivors) same)
     c.in_ok-report.ensures.objects
-    (c.in_ok-report.ensures.words ∙ ap (λ (j : Image). sum (sizes_of j.heap c.in_ok-plan.plan.survivors)) same)
+    (c.in_ok-report.ensures.words ∙ ap (λ (q : Plan). q.words) made.made.plan ∙ ap (λ (j : Image). sum (sizes_of j.heap c.in_ok-plan.plan.survivors)) same)
     (c.in_ok-report.ensures.humongous ∙ c.humongous.ensures)

@@ -1,8 +1,6 @@
-use Rattle.std.proofs.Common.{◌≡◌, Err, refl, ◌∙◌, subst}
-use Rattle.std.specs.Prelude.{IfSome}
+use Rattle.std.proofs.Common.{◌∙◌}
 use Rattle.std.proofs.lemmas.Result.{err_from_is_err_and}
 use Rattle.g1_words.specs.declared.fault.Device.TheVariants as device
-use Rattle.g1_pause.specs.Streams.{RunGives, output_mark}
 use Rattle.g1_pause.proofs.NoDevice.{leaves_input, leaves_output, run_unread, run_refused, run_written}
 use Rattle.g1_pause.proofs.run_streams.pause_run.Goals as goal
 
