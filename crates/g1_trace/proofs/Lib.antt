@@ -1,3 +1,4 @@
+mod Accepted
 pub mod Views
 pub mod Effects
 pub mod Stores

@@ -12,9 +12,7 @@ use Rattle.g1_words.specs.Geometry.{Geometry}
 use Rattle.g1_words.specs.Heap.{Heap, free_region, region, kind, pinned, top, end, regions}
 use Rattle.g1_words.proofs.Indices.{range_bounds}
 use Rattle.g1_words.proofs.Shapes.{IsBuilt}
-use Rattle.g1_image.specs.Image.{Image}
-use Rattle.g1_image.specs.Cards.{IsTracked}
-use Rattle.g1_trace.specs.Mutator.{is_humongous, run_length, is_free_region, is_free_run, fits_current, region_for, place_for, is_in_run, run_region, grown, region_after, heap_with, with_heap}
+use Rattle.g1_trace.specs.Mutator.{is_humongous, run_length, is_free_region, is_free_run, fits_current, region_for, place_for, is_in_run, run_region, grown, region_after, heap_with}
 use Rattle.g1_trace.specs.Placing.{run_taken, ordinary_heap, humongous_heap}
 use Rattle.g1_trace.proofs.Views.{equal_or_not}
 use Rattle.g1_trace.proofs.Ready.{built_ready, found, free_run, free_top, free_found}
@@ -22,24 +20,19 @@ use Rattle.g1_trace.proofs.NewOrdinary.{not_equal}
 use Rattle.g1_trace.proofs.NewHumongous.{some_regions}
 use Rattle.g1_trace.proofs.Tables.{same_list}
 
--- ---- the image put together again
+-- ---- the heap put together again
 
-pub ordinary_same : (i : Image) (r size refs root header : ℕ) (heap : Heap) (remembered : List (List ℕ)) (log : List ℕ) (at used : ℕ) (pin : Bool) →
-    record { heap = heap; remembered = remembered; log = log } ≡ i → at ≡ end i.heap r → used ≡ top i.heap r + size → pin ≡ pinned i.heap r → header ≡ size * 2 ^ 32 + refs
-    → with_heap i (ordinary_heap i.heap r size refs root) ≡ record {
-      heap = record {
-        geometry = heap.geometry;
-        words = set heap.words at header;
-        regions = set heap.regions r (record { kind = Ordinary; top = used; pinned = pin });
-        roots = set heap.roots root (at + 1);
-        current = Some r;
-      };
-      remembered = remembered;
-      log = log;
+pub ordinary_same : (h before : Heap) (r size refs root header at used : ℕ) (pin : Bool) → before ≡ h → at ≡ end h r → used ≡ top h r + size → pin ≡ pinned h r
+    → header ≡ size * 2 ^ 32 + refs
+    → ordinary_heap h r size refs root ≡ record {
+      geometry = before.geometry;
+      words = set before.words at header;
+      regions = set before.regions r (record { kind = Ordinary; top = used; pinned = pin });
+      roots = set before.roots root (at + 1);
+      current = Some r;
     }
-ordinary_same i r size refs root header heap remembered log at used pin e a u k w =
-    let h : heap ≡ i.heap = ap (λ (x : Image). x.heap) e in
-    let next : suc (end i.heap r) ≡ at + 1 = omega (arith, a) in
+ordinary_same h before r size refs root header at used pin e a u k w =
+    let next : suc (end h r) ≡ at + 1 = omega (arith, a) in
     let whole : (x : Heap) (p q n m : ℕ) (b : Bool) → Heap = λ x p q n m b. record {
       geometry = x.geometry;
       words = set x.words p m;
@@ -47,35 +40,19 @@ ordinary_same i r size refs root header heap remembered log at used pin e a u k 
       roots = set x.roots root n;
       current = Some r;
     } in
-    let image : (x : Image) (p q n m : ℕ) (b : Bool) → Image = λ x p q n m b. record { heap = whole x.heap p q n m b; remembered = x.remembered; log = x.log } in
-    λ s. image (sym e s) (sym a s) (sym u s) (next s) (sym w s) (sym k s)
+    λ s. whole (sym e s) (sym a s) (sym u s) (next s) (sym w s) (sym k s)
 
-pub ordinary_parts : (i : Image) (r size refs root header : ℕ) (heap : Heap) (remembered : List (List ℕ)) (log : List ℕ) (at used : ℕ) (pin : Bool) →
-    record { heap = heap; remembered = remembered; log = log } ≡ i → at ≡ end i.heap r → used ≡ top i.heap r + size → pin ≡ pinned i.heap r → header ≡ size * 2 ^ 32 + refs
-    → IsTracked (with_heap i (ordinary_heap i.heap r size refs root))
-    → IsTracked (record {
-      heap = record {
-        geometry = heap.geometry;
-        words = set heap.words at header;
-        regions = set heap.regions r (record { kind = Ordinary; top = used; pinned = pin });
-        roots = set heap.roots root (at + 1);
-        current = Some r;
-      };
-      remembered = remembered;
-      log = log;
-    })
-ordinary_parts i r size refs root header heap remembered log at used pin e a u k w t = subst IsTracked (ordinary_same i r size refs root header heap remembered log at used pin e a u k w) t
-
-pub humongous_same : (i : Image) (r size refs root header : ℕ) (heap : Heap) (remembered : List (List ℕ)) (log : List ℕ) (at : ℕ)
-    (table : List Region) → record { heap = heap; remembered = remembered; log = log } ≡ i → at ≡ end i.heap r
-    → table ≡ run_taken i.heap.geometry.w i.heap.regions r size (run_length i.heap size) → header ≡ size * 2 ^ 32 + refs
-    → with_heap i (humongous_heap i.heap r size refs root) ≡ record {
-      heap = record { geometry = heap.geometry; words = set heap.words at header; regions = table; roots = set heap.roots root (at + 1); current = heap.current };
-      remembered = remembered;
-      log = log;
+pub humongous_same : (h before : Heap) (r size refs root header at : ℕ) (table : List Region) → before ≡ h → at ≡ end h r
+    → table ≡ run_taken h.geometry.w h.regions r size (run_length h size) → header ≡ size * 2 ^ 32 + refs
+    → humongous_heap h r size refs root ≡ record {
+      geometry = before.geometry;
+      words = set before.words at header;
+      regions = table;
+      roots = set before.roots root (at + 1);
+      current = before.current;
     }
-humongous_same i r size refs root header heap remembered log at table e a u w =
-    let next : suc (end i.heap r) ≡ at + 1 = omega (arith, a) in
+humongous_same h before r size refs root header at table e a u w =
+    let next : suc (end h r) ≡ at + 1 = omega (arith, a) in
     let whole : (x : Heap) (p n m : ℕ) (rs : List Region) → Heap = λ x p n m rs. record {
       geometry = x.geometry;
       words = set x.words p m;
@@ -83,19 +60,7 @@ humongous_same i r size refs root header heap remembered log at table e a u w =
       roots = set x.roots root n;
       current = x.current;
     } in
-    let image : (x : Image) (p n m : ℕ) (rs : List Region) → Image = λ x p n m rs. record { heap = whole x.heap p n m rs; remembered = x.remembered; log = x.log } in
-    λ s. image (sym e s) (sym a s) (next s) (sym w s) (sym u s)
-
-pub humongous_parts : (i : Image) (r size refs root header : ℕ) (heap : Heap) (remembered : List (List ℕ)) (log : List ℕ) (at : ℕ)
-    (table : List Region) → record { heap = heap; remembered = remembered; log = log } ≡ i → at ≡ end i.heap r
-    → table ≡ run_taken i.heap.geometry.w i.heap.regions r size (run_length i.heap size) → header ≡ size * 2 ^ 32 + refs
-    → IsTracked (with_heap i (humongous_heap i.heap r size refs root))
-    → IsTracked (record {
-      heap = record { geometry = heap.geometry; words = set heap.words at header; regions = table; roots = set heap.roots root (at + 1); current = heap.current };
-      remembered = remembered;
-      log = log;
-    })
-humongous_parts i r size refs root header heap remembered log at table e a u w t = subst IsTracked (humongous_same i r size refs root header heap remembered log at table e a u w) t
+    λ s. whole (sym e s) (sym a s) (next s) (sym w s) (sym u s)
 
 -- ---- the heap with a new object, by its two cases
 

@@ -18,7 +18,7 @@ use Rattle.g1_trace.specs.declared.command.Command.{Command}
 use Rattle.g1_trace.specs.declared.command.Reply.{Reply}
 use Rattle.g1_trace.specs.declared.command.Reply.TheVariants.{Full, Room}
 use Rattle.g1_trace.specs.Commands.{Effect, Nothing, SetRoot, SetSlot, SetValue, MakeNew, MakePause, Answer, answer_of}
-use Rattle.g1_trace.specs.Store.{Store, Entry, entry, store_view, store_after, refusals, IsPlainStep}
+use Rattle.g1_trace.specs.Store.{Store, Stored, object, store_view, store_after, refusals, IsPlainStep}
 use Rattle.g1_trace.specs.Mutator.{heap_view, region_for, heap_with, IsEffect, IsStep}
 use Rattle.g1_trace.specs.Views.{Seen, SeenWord, Shows, renamed_effect, EffectFits}
 use Rattle.g1_trace.specs.Laid.{IsReady}
@@ -59,9 +59,9 @@ module _ (cost : Cost) (s : Store) (i j : Image) (tracked : IsTracked i) (shows 
       let here : k < length ((heap_view i.heap).slots (shows.view.rename m)) =
       subst (λ n. k < n) (sym (ap length (shows.view.slots m sm) ∙ length-map ((store_view s).slots m) (renamed shows.view.rename))) lt in
       record {
-        numbered = λ b h. subst (λ n. b < n) (sym (length-set s.entries m (record {
-          slots = set (entry s m).slots k x;
-          values = (entry s m).values;
+        numbered = λ b h. subst (λ n. b < n) (sym (length-set s.objects m (record {
+          slots = set (object s m).slots k x;
+          values = (object s m).values;
         }))) (shows.numbered b (slot_set_seen (store_view s) (store_view t) m k x w (store_slot s shows.numbered m k x sm) b h));
         view = slot_set_same (store_view s) (heap_view i.heap) (store_view t) (heap_view
             (record (i.heap) { words = set i.heap.words (shows.view.rename m + 1 + k) (renamed shows.view.rename x) })) m k x shows.view sm w (store_slot s shows.numbered m k x sm)
@@ -74,9 +74,9 @@ module _ (cost : Cost) (s : Store) (i j : Image) (tracked : IsTracked i) (shows 
       let t : Store = store_after s (SetValue m k x) in
       let here : k < length ((heap_view i.heap).values (shows.view.rename m)) = subst (λ n. k < n) (sym (ap length (shows.view.values m sm))) lt in
       record {
-        numbered = λ b h. subst (λ n. b < n) (sym (length-set s.entries m (record {
-          slots = (entry s m).slots;
-          values = set (entry s m).values k x;
+        numbered = λ b h. subst (λ n. b < n) (sym (length-set s.objects m (record {
+          slots = (object s m).slots;
+          values = set (object s m).values k x;
         }))) (shows.numbered b (value_set_seen (store_view s) (store_view t) m k x (store_value s shows.numbered m k x sm) b h));
         view = value_set_same (store_view s) (heap_view i.heap) (store_view t)
             (heap_view (record (i.heap) { words = set i.heap.words (shows.view.rename m + 1 + (object_at i.heap (shows.view.rename m)).refs + k) x }))
@@ -93,14 +93,14 @@ module _ (cost : Cost) (s : Store) (i j : Image) (tracked : IsTracked i) (shows 
       let small : refs < 2 ^ 32 = let x : h.geometry.n * h.geometry.w ≤ most_words = ready.small in omega (arith, x, fits) in
       let made = image_made h (heap_with h r (1 + refs + count) refs root) ready.laid a refs count root (ready.places (1 + refs + count) r (omega arith) fits place) small refl refl in
       let new = store_made s shows.numbered root refs count in
-      let e : Entry = record { slots = replicate refs 0; values = replicate count 0 } in
-      let longer : length (s.entries ++ e ∷ []) ≡ length s.entries + 1 = length-append s.entries (e ∷ []) in
+      let e : Stored = record { slots = replicate refs 0; values = replicate count 0 } in
+      let longer : length (s.objects ++ e ∷ []) ≡ length s.objects + 1 = length-append s.objects (e ∷ []) in
       record {
-        numbered = λ b g. elim (made_seen (store_view s) (store_view t) (length s.entries) root refs count new b g) [
+        numbered = λ b g. elim (made_seen (store_view s) (store_view t) (length s.objects) root refs count new b g) [
           | inl q ↦ omega (arith, q, longer)
-          | inr p ↦ let lt : b < length s.entries = shows.numbered b p in omega (arith, lt, longer)
+          | inr p ↦ let lt : b < length s.objects = shows.numbered b p in omega (arith, lt, longer)
         ];
-        view = made_same (store_view s) (heap_view h) (store_view t) (heap_view (heap_with h r (1 + refs + count) refs root)) (length s.entries) a root refs count shows.view new made;
+        view = made_same (store_view s) (heap_view h) (store_view t) (heap_view (heap_with h r (1 + refs + count) refs root)) (length s.objects) a root refs count shows.view new made;
       }
 
   place_found : (root refs count r : ℕ) (b : Bool) → ltb (i.heap.geometry.n * i.heap.geometry.w) (1 + refs + count) ≡ b → cond b None (region_for i.heap (1 + refs + count)) ≡ Some r

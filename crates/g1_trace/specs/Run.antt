@@ -18,7 +18,7 @@ Replies {S} step s (c ∷ cs) (r ∷ rs) = (t : S) × step s c r t × Replies st
 
 -- a plain store without objects, all roots null
 abbrev pub empty_store : ℕ → Store
-empty_store roots = record { entries = []; roots = replicate roots 0 }
+empty_store roots = record { objects = []; roots = replicate roots 0 }
 
 -- an image of free regions, all roots null
 abbrev pub empty_image : Geometry → ℕ → Image

@@ -6,35 +6,35 @@ use Rattle.g1_trace.specs.declared.command.Reply.TheVariants.{Full, Room}
 use Rattle.g1_trace.specs.Commands.{View, Effect, Nothing, SetRoot, SetSlot, SetValue, MakeNew, MakePause, answer_of}
 
 -- an object: its slots and its data words
-pub record Entry : Type 0 where
+pub record Stored : Type 0 where
   pub slots : List ℕ
   pub values : List ℕ
 
 -- all objects ever made, by number, and the roots
 pub record Store : Type 0 where
-  pub entries : List Entry
+  pub objects : List Stored
   pub roots : List ℕ
 
 -- past the last object there is an empty one
-abbrev pub no_entry : Entry
-no_entry = record { slots = []; values = [] }
+abbrev pub no_object : Stored
+no_object = record { slots = []; values = [] }
 
 -- the object of a number
-abbrev pub entry : Store → ℕ → Entry
-entry s m = slice_index_or s.entries m no_entry
+abbrev pub object : Store → ℕ → Stored
+object s m = slice_index_or s.objects m no_object
 
 -- what a command sees of the store
 abbrev pub store_view : Store → View
-store_view s = record { roots = s.roots; slots = λ m. (entry s m).slots; values = λ m. (entry s m).values }
+store_view s = record { roots = s.roots; slots = λ m. (object s m).slots; values = λ m. (object s m).values }
 
 -- the store after an effect; a pause changes nothing
 abbrev pub store_after : Store → Effect → Store
 store_after s Nothing = s
 store_after s (SetRoot r x) = record s { roots = slice_set s.roots r x }
-store_after s (SetSlot m p x) = record s { entries = slice_set s.entries m (record { slots = slice_set (entry s m).slots p x; values = (entry s m).values }) }
-store_after s (SetValue m p x) = record s { entries = slice_set s.entries m (record { slots = (entry s m).slots; values = slice_set (entry s m).values p x }) }
+store_after s (SetSlot m p x) = record s { objects = slice_set s.objects m (record { slots = slice_set (object s m).slots p x; values = (object s m).values }) }
+store_after s (SetValue m p x) = record s { objects = slice_set s.objects m (record { slots = (object s m).slots; values = slice_set (object s m).values p x }) }
 store_after s (MakeNew r refs words) =
-    record { entries = s.entries ++ record { slots = replicate refs 0; values = replicate words 0 } ∷ []; roots = slice_set s.roots r (suc (length s.entries)) }
+    record { objects = s.objects ++ record { slots = replicate refs 0; values = replicate words 0 } ∷ []; roots = slice_set s.roots r (suc (length s.objects)) }
 store_after s (MakePause b) = s
 
 -- by which replies a new object and a pause may be turned down, and then nothing changes

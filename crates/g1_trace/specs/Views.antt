@@ -22,7 +22,7 @@ pub record SameView (v u : View) : Type 0 where
 
 -- the heap shows what the plain store shows: each number that the store's roots reach has an address of its own
 pub record Shows (s : Store) (h : Heap) : Type 0 where
-  pub numbered : (m : ℕ) → Seen (store_view s) m → m < length s.entries
+  pub numbered : (m : ℕ) → Seen (store_view s) m → m < length s.objects
   pub view : SameView (store_view s) (heap_view h)
 
 -- the word is null or names an object that is seen

@@ -1,13 +1,13 @@
 ghost use Rattle.std.specs.Prelude.{◌≡◌, ◌+◌, ◌*◌, ◌/◌, ◌-◌, ◌<◌, ◌≤◌, ◌^◌, length, find, min, Some, ◌==◌, if◌then◌else◌};
 ghost use Rattle.g1_words.specs.Geometry.{most_region_words, most_regions, most_words};
 ghost use Rattle.g1_words.specs.Heap.{end, region_with, regions, top};
+ghost use Rattle.g1_words.specs.Valid.{IsValid};
 ghost use Rattle.g1_words.specs.declared.region.Kind.TheVariants.{HumongousFirst, Continuation};
 ghost use Rattle.g1_image.specs.Cards.{IsTracked};
 ghost use Rattle.g1_trace.specs.Mutator.{is_free_region, is_free_run, run_length, region_for, place_for, heap_with, with_heap};
 ghost use Rattle.g1_trace.specs.Placing.{run_taken, ordinary_heap, humongous_heap};
 
-use g1_image::Image;
-use g1_rem::{Tracked, image};
+use g1_rem::Tracked;
 use g1_words::{Geometry, Heap, Kind, Region, header_word};
 
 /// Returns whether a region is free.
@@ -121,116 +121,72 @@ fn take_run(regions: &mut Vec<Region>, geometry: &Geometry, first: u32, size: u6
     }
 }
 
-/// The image with a new ordinary object at the top of a region, which becomes current.
-fn place_ordinary(tracked: Tracked, r: u32, root: u64, size: u64, refs: u64) -> Tracked
-    requires region { r < length tracked.heap.regions }
-    requires fits { top tracked.heap r + size ≤ most_region_words }
-    requires width { (16 ≤ tracked.heap.geometry.w) × (tracked.heap.geometry.w ≤ most_region_words) }
-    requires few { length tracked.heap.regions ≤ most_regions }
+/// Places an ordinary object at the top of a region, which becomes current.
+fn place_ordinary(heap: &mut Heap, r: u32, root: u64, size: u64, refs: u64)
+    requires region { r < length heap.old.regions }
+    requires fits { top heap.old r + size ≤ most_region_words }
+    requires width { (16 ≤ heap.old.geometry.w) × (heap.old.geometry.w ≤ most_region_words) }
+    requires few { length heap.old.regions ≤ most_regions }
     requires refs { refs < size }
-    requires header { end tracked.heap r < length tracked.heap.words }
-    requires root { root < length tracked.heap.roots }
-    requires kept { IsTracked (with_heap tracked (ordinary_heap tracked.heap r size refs root)) }
-    ensures { result ≡ with_heap tracked (ordinary_heap tracked.heap r size refs root) }
+    requires header { end heap.old r < length heap.old.words }
+    requires root { root < length heap.old.roots }
+    requires kept { IsValid (ordinary_heap heap.old r size refs root) }
+    ensures { heap.new ≡ ordinary_heap heap.old r size refs root }
 {
-    let Tracked { image } = tracked;
-    let Image {
-        heap,
-        remembered,
-        log,
-    } = image;
-    let Heap {
-        geometry,
-        mut words,
-        mut regions,
-        mut roots,
-        ..
-    } = heap;
-    let Region { top, pinned, .. } = regions[r as usize];
-    let at = geometry.start(r) + u64::from(top);
-    words[at as usize] = header_word(size, refs);
-    roots[root as usize] = at + 1;
-    regions[r as usize] = Region {
+    let Region { top, pinned, .. } = heap.regions[r as usize];
+    let at = heap.geometry.start(r) + u64::from(top);
+    heap.words[at as usize] = header_word(size, refs);
+    heap.roots[root as usize] = at + 1;
+    heap.regions[r as usize] = Region {
         kind: Kind::Ordinary,
         top: top + size as u32,
         pinned,
     };
-    let heap = Heap {
-        geometry,
-        words,
-        regions,
-        roots,
-        current: Some(r),
-    };
-    Tracked {
-        image: Image {
-            heap,
-            remembered,
-            log,
-        },
-    }
+    heap.current = Some(r);
 }
 
-/// The image with a new humongous object at the start of a run of free regions.
-fn place_humongous(tracked: Tracked, r: u32, root: u64, size: u64, refs: u64) -> Tracked
-    requires region { r < length tracked.heap.regions }
-    requires free { top tracked.heap r ≡ 0 }
-    requires run { r + run_length tracked.heap size ≤ length tracked.heap.regions }
-    requires width { (16 ≤ tracked.heap.geometry.w) × (tracked.heap.geometry.w ≤ most_region_words) }
-    requires few { length tracked.heap.regions ≤ most_regions }
+/// Places a humongous object at the start of a run of free regions.
+fn place_humongous(heap: &mut Heap, r: u32, root: u64, size: u64, refs: u64)
+    requires region { r < length heap.old.regions }
+    requires free { top heap.old r ≡ 0 }
+    requires run { r + run_length heap.old size ≤ length heap.old.regions }
+    requires width { (16 ≤ heap.old.geometry.w) × (heap.old.geometry.w ≤ most_region_words) }
+    requires few { length heap.old.regions ≤ most_regions }
     requires refs { (refs < size) × (size ≤ most_words) }
-    requires header { end tracked.heap r < length tracked.heap.words }
-    requires root { root < length tracked.heap.roots }
-    requires kept { IsTracked (with_heap tracked (humongous_heap tracked.heap r size refs root)) }
-    ensures { result ≡ with_heap tracked (humongous_heap tracked.heap r size refs root) }
+    requires header { end heap.old r < length heap.old.words }
+    requires root { root < length heap.old.roots }
+    requires kept { IsValid (humongous_heap heap.old r size refs root) }
+    ensures { heap.new ≡ humongous_heap heap.old r size refs root }
 {
-    let Tracked { image } = tracked;
-    let Image {
-        heap,
-        remembered,
-        log,
-    } = image;
-    let Heap {
-        geometry,
-        mut words,
-        mut regions,
-        mut roots,
-        current,
-    } = heap;
-    let at = geometry.start(r);
-    words[at as usize] = header_word(size, refs);
-    roots[root as usize] = at + 1;
-    take_run(&mut regions, &geometry, r, size);
-    let heap = Heap {
-        geometry,
-        words,
-        regions,
-        roots,
-        current,
-    };
-    Tracked {
-        image: Image {
-            heap,
-            remembered,
-            log,
-        },
-    }
+    let at = heap.geometry.start(r);
+    heap.words[at as usize] = header_word(size, refs);
+    heap.roots[root as usize] = at + 1;
+    take_run(&mut heap.regions, &heap.geometry, r, size);
 }
 
-/// The image with a new object that a root references, in the region where it goes. One header is
-/// written, and as many regions as it takes: the words were 0 before.
-pub(crate) fn place_object(tracked: Tracked, r: u32, root: u64, refs: u64, words: u64) -> Tracked
-    requires place { place_for tracked.heap (1 + refs + words) ≡ Some r }
-    requires root { root < length tracked.heap.roots }
-    requires before { IsTracked tracked }
-    requires kept { IsTracked (with_heap tracked (heap_with tracked.heap r (1 + refs + words) refs root)) }
-    ensures { result ≡ with_heap tracked (heap_with tracked.heap r (1 + refs + words) refs root) }
+/// Places an object that a root references in the region where it goes. One header is written, and
+/// as many regions as it takes: the words were 0 before.
+fn place(heap: &mut Heap, r: u32, root: u64, refs: u64, words: u64)
+    requires place { place_for heap.old (1 + refs + words) ≡ Some r }
+    requires root { root < length heap.old.roots }
+    requires kept { IsValid (heap_with heap.old r (1 + refs + words) refs root) }
+    ensures { heap.new ≡ heap_with heap.old r (1 + refs + words) refs root }
 {
-    let geometry = image(&tracked).heap().geometry();
+    let geometry = heap.geometry();
     let size = 1 + refs + words;
     if geometry.is_humongous(size) {
-        place_humongous(tracked, r, root, size, refs)
+        place_humongous(heap, r, root, size, refs);
     } else {
-        place_ordinary(tracked, r, root, size, refs)
+        place_ordinary(heap, r, root, size, refs);
     }
+}
+
+/// The same on an image.
+pub(crate) fn place_object(tracked: &mut Tracked, r: u32, root: u64, refs: u64, words: u64)
+    requires place { place_for tracked.old.heap (1 + refs + words) ≡ Some r }
+    requires root { root < length tracked.old.heap.roots }
+    requires kept { IsTracked (with_heap tracked.old (heap_with tracked.old.heap r (1 + refs + words) refs root)) }
+    ensures { tracked.new ≡ with_heap tracked.old (heap_with tracked.old.heap r (1 + refs + words) refs root) }
+{
+    place(&mut tracked.image.heap, r, root, refs, words);
 }

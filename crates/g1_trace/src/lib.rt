@@ -22,6 +22,7 @@
 
 mod allocating;
 mod answering;
+mod collector;
 mod command;
 mod effect;
 pub mod laws;

@@ -12,13 +12,13 @@ ghost use Rattle.g1_trace.specs.Views.{EffectFits, ForPause, Shows};
 
 use crate::allocating::{place_for, place_object};
 use crate::answering::answer;
+use crate::collector::{Collector, pause};
 use crate::command::{Command, Reply};
 use crate::effect::{Answer, Effect};
 use crate::laws;
 use crate::writing::{set_root, set_slot, set_value};
 use g1_choose::Cost;
 use g1_image::Image;
-use g1_pause::{Choice, Settings, evacuate};
 use g1_rem::{Tracked, image};
 use g1_words::{Fault, Geometry, Heap, Kind, MOST_ROOTS, Region, header};
 use g1_work::Gate;
@@ -74,48 +74,14 @@ fn no_remembered(alloc: Global, regions: u64) -> Result<Vec<Vec<u32>>, Fault>
     Ok(remembered)
 }
 
-/// One pause by a budget.
-///
-/// # Errors
-///
-/// `Fault::Memory`, with the image as it was.
-fn pause<R: Threads + Sync, G: Gate + Sync>(
-    rt: &R,
-    alloc: Global,
-    tracked: Tracked,
-    budget: u64,
-    cost: &Cost,
-    workers: u64,
-    chunk: u64,
-    gate: &G,
-) -> (Tracked, Result<Reply, Fault>)
-    requires workers { AreWorkers workers }
-    requires chunk { IsChunk chunk }
-    requires cost { IsCost cost.now }
-    ensures done { IfOk result.1 (λ r. IsEffect cost.now tracked (Effect.MakePause budget) Reply.Ok r result.0) }
-    ensures memory { IfErr result.1 (λ e. e ≡ Fault.Memory) }
-    ensures same { IfErr result.1 (λ e. result.0 ≡ tracked) }
+/// Writes a data word of an object. Its header says where its data words begin.
+fn set_data(tracked: &mut Tracked, object: u64, word: u64, value: u64)
+    requires before { IsTracked tracked.old }
+    requires fits { EffectFits (heap_view tracked.old.heap) (Effect.SetValue object word value) }
+    ensures { tracked.new ≡ with_words tracked.old (slice_set tracked.old.heap.words (value_address tracked.old.heap object word) value) tracked.old.log }
 {
-    match Settings::new(workers, chunk, *cost, Choice::Budget(budget)) {
-        Err(_) => (tracked, Err(Fault::Memory)),
-        Ok(settings) => match evacuate(rt, alloc, tracked, &settings, gate) {
-            Ok((tracked, _report)) => (tracked, Ok(Reply::Ok)),
-            Err((tracked, fault)) => match fault {
-                Fault::Memory => (tracked, Err(Fault::Memory)),
-                _ => (tracked, Ok(Reply::Room)),
-            },
-        },
-    }
-}
-
-/// The image with another data word of an object. Its header says where its data words begin.
-fn set_data(tracked: Tracked, object: u64, word: u64, value: u64) -> Tracked
-    requires before { IsTracked tracked }
-    requires fits { EffectFits (heap_view tracked.heap) (Effect.SetValue object word value) }
-    ensures { result ≡ with_words tracked (slice_set tracked.heap.words (value_address tracked.heap object word) value) tracked.log }
-{
-    let refs = header(image(&tracked).heap().words(), object).refs;
-    set_value(tracked, object + 1 + refs + word, value)
+    let refs = header(image(tracked).heap().words(), object).refs;
+    set_value(tracked, object + 1 + refs + word, value);
 }
 
 /// Does what a command does, if the table of commands answers so.
@@ -124,51 +90,50 @@ fn set_data(tracked: Tracked, object: u64, word: u64, value: u64) -> Tracked
 ///
 /// `Fault::Memory`, with the image as it was.
 fn carry_out<R: Threads + Sync, G: Gate + Sync>(
-    rt: &R,
-    alloc: Global,
-    tracked: Tracked,
+    collector: &Collector<'_, R, G>,
+    mut tracked: Tracked,
     told: Answer,
-    cost: &Cost,
-    workers: u64,
-    chunk: u64,
-    gate: &G,
 ) -> (Tracked, Result<Reply, Fault>)
-    requires workers { AreWorkers workers }
-    requires chunk { IsChunk chunk }
-    requires cost { IsCost cost.now }
     requires before { IsTracked tracked }
     requires fits { EffectFits (heap_view tracked.heap) told.effect }
     requires paused { ForPause told.effect (told.reply ≡ Reply.Ok) }
-    ensures done { IfOk result.1 (λ r. IsEffect cost.now tracked told.effect told.reply r result.0) }
+    ensures done { IfOk result.1 (λ r. IsEffect collector.now.cost tracked told.effect told.reply r result.0) }
     ensures memory { IfErr result.1 (λ e. e ≡ Fault.Memory) }
     ensures same { IfErr result.1 (λ e. result.0 ≡ tracked) }
 {
     match told.effect {
         Effect::Nothing => (tracked, Ok(told.reply)),
-        Effect::SetRoot { root, value } => (set_root(tracked, root, value), Ok(told.reply)),
+        Effect::SetRoot { root, value } => {
+            set_root(&mut tracked, root, value);
+            (tracked, Ok(told.reply))
+        }
         Effect::SetSlot {
             object,
             slot,
             value,
-        } => match set_slot(tracked, object + 1 + slot, value) {
-            Ok(tracked) => (tracked, Ok(told.reply)),
-            Err((tracked, fault)) => (tracked, Err(fault)),
+        } => match set_slot(&mut tracked, object + 1 + slot, value) {
+            Ok(()) => (tracked, Ok(told.reply)),
+            Err(fault) => (tracked, Err(fault)),
         },
         Effect::SetValue {
             object,
             word,
             value,
-        } => (set_data(tracked, object, word, value), Ok(told.reply)),
+        } => {
+            set_data(&mut tracked, object, word, value);
+            (tracked, Ok(told.reply))
+        }
         Effect::MakeNew { root, refs, words } => {
             let place = place_for(image(&tracked).heap(), refs, words);
             match place {
                 None => (tracked, Ok(Reply::Full)),
-                Some(r) => (place_object(tracked, r, root, refs, words), Ok(told.reply)),
+                Some(r) => {
+                    place_object(&mut tracked, r, root, refs, words);
+                    (tracked, Ok(told.reply))
+                }
             }
         }
-        Effect::MakePause { budget } => {
-            pause(rt, alloc, tracked, budget, cost, workers, chunk, gate)
-        }
+        Effect::MakePause { budget } => pause(collector, tracked, budget),
     }
 }
 
@@ -231,9 +196,56 @@ impl Mutator {
     {
         laws::traces();
         laws::one_run();
+        let collector = Collector {
+            rt,
+            alloc,
+            cost: *cost,
+            workers,
+            chunk,
+            gate,
+        };
+        self.execute(command, &collector)
+    }
+
+    /// Does one command; its pauses are the collector's.
+    ///
+    /// # Errors
+    ///
+    /// `Fault::Memory`, and then the mutator is as before.
+    pub(crate) fn execute<R: Threads + Sync, G: Gate + Sync>(
+        self,
+        command: &Command,
+        collector: &Collector<'_, R, G>,
+    ) -> (Mutator, Result<Reply, Fault>)
+        ensures tracked { IsTracked self }
+        ensures replied { IfOk result.1 (λ r. IsStep collector.now.cost self command.now r result.0) }
+        ensures memory { IfErr result.1 (λ e. e ≡ Fault.Memory) }
+        ensures same { IfErr result.1 (λ e. result.0 ≡ self) }
+    {
         let Mutator { tracked } = self;
         let told = answer(image(&tracked).heap(), command);
-        let (tracked, outcome) = carry_out(rt, alloc, tracked, told, cost, workers, chunk, gate);
+        let (tracked, outcome) = carry_out(collector, tracked, told);
         (Mutator { tracked }, outcome)
+    }
+
+    /// The mutator after a command, and the reply.
+    ///
+    /// # Errors
+    ///
+    /// `Fault::Memory`.
+    pub(crate) fn advance<R: Threads + Sync, G: Gate + Sync>(
+        self,
+        command: &Command,
+        collector: &Collector<'_, R, G>,
+    ) -> Result<(Mutator, Reply), Fault>
+        ensures tracked { IfOk result (λ r. IsTracked self) }
+        ensures replied { IfOk result (λ r. IsStep collector.now.cost self command.now r.1 r.0) }
+        ensures memory { IfErr result (λ e. e ≡ Fault.Memory) }
+    {
+        let (mutator, outcome) = self.execute(command, collector);
+        match outcome {
+            Ok(reply) => Ok((mutator, reply)),
+            Err(fault) => Err(fault),
+        }
     }
 }

@@ -5,9 +5,10 @@ ghost use Rattle.g1_pause.specs.Settings.{AreWorkers, IsChunk};
 ghost use Rattle.g1_trace.specs.declared.command.Reply.{Reply as ReplyOf};
 ghost use Rattle.g1_trace.specs.Mutator.{IsStep};
 ghost use Rattle.g1_trace.specs.Run.{IsRun, empty_image};
-ghost use Rattle.g1_trace.specs.Running.{AreLimits};
+ghost use Rattle.g1_trace.specs.Running.{AreLimits, IsHeapSize};
 ghost use Rattle.g1_trace.specs.TraceText.{sizes};
 
+use crate::collector::Collector;
 use crate::command::{Command, Reply};
 use crate::laws;
 use crate::mutator::Mutator;
@@ -18,33 +19,18 @@ use g1_work::Gate;
 use std::alloc::Global;
 use std::thread::Threads;
 
-/// The heap that a trace starts from.
-fn start(alloc: Global, trace: &Trace) -> Result<Mutator, Fault>
-    ensures ok { IfOk result (λ m. m ≡ empty_image (sizes trace.now) trace.now.roots) }
-    ensures limits { IfOk result (λ m. AreLimits trace.now) }
-    ensures refused { IfErr result (λ e. (e ≡ Fault.Memory) ⊎ ((e ≡ Fault.Geometry) × (AreLimits trace.now → ⊥))) }
-{
-    match Geometry::new(trace.w, trace.k, trace.n) {
-        Ok(geometry) => Mutator::new(alloc, geometry, trace.roots),
-        Err(fault) => Err(fault),
-    }
-}
-
-/// Adds the reply that a command came to.
+/// The heap that a trace starts from, by the numbers of its first line.
 ///
 /// # Errors
 ///
-/// `Fault::Memory`.
-fn push_outcome(replies: &mut Vec<Reply>, outcome: Result<Reply, Fault>) -> Result<(), Fault>
-    requires { IfErr outcome (λ e. e ≡ Fault.Memory) }
-    ensures told { OnOk result ((reply : ReplyOf) × (outcome ≡ Ok reply) × (replies.new.items ≡ replies.old.items ++ reply ∷ [])) }
-    ensures memory { IfErr result (λ e. e ≡ Fault.Memory) }
+/// `Fault::Geometry` if a number is outside the limits; `Fault::Memory`.
+pub(crate) fn start(alloc: Global, w: u64, k: u64, n: u64, roots: u64) -> Result<Mutator, Fault>
+    ensures ok { IfOk result (λ m. m ≡ empty_image (record { w = w; k = k; n = n }) roots) }
+    ensures limits { IfOk result (λ m. IsHeapSize (record { w = w; k = k; n = n }) roots) }
+    ensures refused { IfErr result (λ e. (e ≡ Fault.Memory) ⊎ ((e ≡ Fault.Geometry) × (IsHeapSize (record { w = w; k = k; n = n }) roots → ⊥))) }
 {
-    match outcome {
-        Ok(reply) => match replies.push(reply) {
-            Ok(()) => Ok(()),
-            Err(_) => Err(Fault::Memory),
-        },
+    match Geometry::new(w, k, n) {
+        Ok(geometry) => Mutator::new(alloc, geometry, roots),
         Err(fault) => Err(fault),
     }
 }
@@ -55,28 +41,18 @@ fn push_outcome(replies: &mut Vec<Reply>, outcome: Result<Reply, Fault>) -> Resu
 ///
 /// `Fault::Memory`.
 fn answer_command<R: Threads + Sync, G: Gate + Sync>(
-    rt: &R,
-    alloc: Global,
+    collector: &Collector<'_, R, G>,
     mutator: Mutator,
     command: &Command,
-    cost: &Cost,
-    workers: u64,
-    chunk: u64,
-    gate: &G,
     replies: &mut Vec<Reply>,
 ) -> Result<Mutator, Fault>
-    requires workers { AreWorkers workers }
-    requires chunk { IsChunk chunk }
-    requires cost { IsCost cost.now }
     ensures tracked { IfOk result (λ m. IsTracked mutator) }
-    ensures answered { IfOk result (λ m. (reply : ReplyOf) × IsStep cost.now mutator command.now reply m × (replies.new.items ≡ replies.old.items ++ reply ∷ [])) }
+    ensures answered { IfOk result (λ m. (reply : ReplyOf) × IsStep collector.now.cost mutator command.now reply m × (replies.new.items ≡ replies.old.items ++ reply ∷ [])) }
     ensures memory { IfErr result (λ e. e ≡ Fault.Memory) }
 {
-    let (next, outcome) = mutator.step(rt, alloc, command, cost, workers, chunk, gate);
-    match push_outcome(replies, outcome) {
-        Ok(()) => Ok(next),
-        Err(fault) => Err(fault),
-    }
+    let (next, reply) = mutator.advance(command, collector)?;
+    replies.push(reply)?;
+    Ok(next)
 }
 
 /// The replies to a trace, one a command.
@@ -104,26 +80,18 @@ pub fn run_trace<R: Threads + Sync, G: Gate + Sync>(
 {
     laws::traces();
     laws::one_run();
-    let mut mutator = match start(alloc, trace) {
-        Ok(mutator) => mutator,
-        Err(fault) => return Err(fault),
+    let collector = Collector {
+        rt,
+        alloc,
+        cost: *cost,
+        workers,
+        chunk,
+        gate,
     };
+    let mut mutator = start(alloc, trace.w, trace.k, trace.n, trace.roots)?;
     let mut replies = Vec::new(alloc);
     for command in &trace.commands {
-        mutator = match answer_command(
-            rt,
-            alloc,
-            mutator,
-            command,
-            cost,
-            workers,
-            chunk,
-            gate,
-            &mut replies,
-        ) {
-            Ok(next) => next,
-            Err(fault) => return Err(fault),
-        };
+        mutator = answer_command(&collector, mutator, command, &mut replies)?;
     }
     Ok(replies)
 }

@@ -1,4 +1,4 @@
-ghost use Rattle.std.specs.Prelude.{◌≡◌, ◌⊎◌, ◌++◌, ◌∷◌, ◌+◌, ◌<◌, List, ℕ, length, Ok, OnOk, IfOk, IfErr};
+ghost use Rattle.std.specs.Prelude.{◌≡◌, ◌⊎◌, ◌++◌, ◌∷◌, ◌+◌, ◌<◌, List, ℕ, length, OnOk, IfOk, IfErr};
 ghost use Rattle.g1_image.specs.Cards.{IsTracked};
 ghost use Rattle.g1_choose.specs.Cost.{IsCost};
 ghost use Rattle.g1_pause.specs.Settings.{AreWorkers, IsChunk};
@@ -8,12 +8,14 @@ ghost use Rattle.g1_trace.specs.Mutator.{IsStep};
 ghost use Rattle.g1_trace.specs.TraceText.{AllFit, command_line, numbers_of, IsBadRest};
 ghost use Rattle.g1_trace.specs.Telling.{reply_line, IsTold, IsRefusal, IsBegun, BeginsOutside};
 
+use crate::collector::Collector;
 use crate::command::Reply;
 use crate::laws;
 use crate::mutator::Mutator;
 use crate::parsing::{first_line, next_command, parse_trace, split_line};
+use crate::running::start;
 use g1_choose::Cost;
-use g1_words::{Fault, Geometry, MOST_ROOTS};
+use g1_words::Fault;
 use g1_work::Gate;
 use itoa::Buffer;
 use std::alloc::{AllocError, Global};
@@ -42,25 +44,6 @@ fn push_number(text: &mut Vec<u8>, value: u64) -> Result<(), AllocError>
     text.extend_from_slice(b"\n")
 }
 
-/// Adds the line of what a command came to.
-///
-/// # Errors
-///
-/// `Fault::Memory`.
-fn push_outcome(text: &mut Vec<u8>, outcome: Result<Reply, Fault>) -> Result<(), Fault>
-    requires { IfErr outcome (λ e. e ≡ Fault.Memory) }
-    ensures told { OnOk result ((reply : ReplyOf) × (outcome ≡ Ok reply) × (text.new.items ≡ text.old.items ++ reply_line reply)) }
-    ensures memory { IfErr result (λ e. e ≡ Fault.Memory) }
-{
-    match outcome {
-        Ok(reply) => match push_reply(text, reply) {
-            Ok(()) => Ok(()),
-            Err(_) => Err(Fault::Memory),
-        },
-        Err(fault) => Err(fault),
-    }
-}
-
 /// What is reported of bytes whose first line has a number outside the limits: the fault of a line
 /// comes first.
 fn outside(alloc: Global, bytes: &[u8]) -> Fault
@@ -78,24 +61,16 @@ fn begin(alloc: Global, bytes: &[u8]) -> Result<(Mutator, &[u8]), Fault>
     ensures ok { IfOk result (λ r. IsBegun bytes.now r.0 r.1.now) }
     ensures refused { IfErr result (IsRefusal bytes.now) }
 {
-    let (first, rest) = match split_line(bytes) {
-        Some(split) => split,
-        None => return Err(Fault::Line(1)),
+    let Some((first, rest)) = split_line(bytes) else {
+        return Err(Fault::Line(1));
     };
-    let (w, k, n, roots) = match first_line(first) {
-        Some(numbers) => numbers,
-        None => return Err(Fault::Line(1)),
+    let Some((w, k, n, roots)) = first_line(first) else {
+        return Err(Fault::Line(1));
     };
-    let geometry = match Geometry::new(w, k, n) {
-        Ok(geometry) => geometry,
-        Err(_) => return Err(outside(alloc, bytes)),
-    };
-    if roots > u64::from(MOST_ROOTS) {
-        return Err(outside(alloc, bytes));
-    }
-    match Mutator::new(alloc, geometry, roots) {
+    match start(alloc, w, k, n, roots) {
         Ok(mutator) => Ok((mutator, rest)),
-        Err(_) => Err(Fault::Memory),
+        Err(Fault::Geometry) => Err(outside(alloc, bytes)),
+        Err(fault) => Err(fault),
     }
 }
 
@@ -106,34 +81,24 @@ fn begin(alloc: Global, bytes: &[u8]) -> Result<(Mutator, &[u8]), Fault>
 ///
 /// `Fault::Line` with the line's number if it isn't of its form; `Fault::Memory`.
 fn answer_line<'a, R: Threads + Sync, G: Gate + Sync>(
-    rt: &R,
-    alloc: Global,
+    collector: &Collector<'_, R, G>,
     mutator: Mutator,
     lines: &'a [u8],
     number: u64,
-    cost: &Cost,
-    workers: u64,
-    chunk: u64,
-    gate: &G,
     text: &mut Vec<u8>,
 ) -> Result<(Mutator, &'a [u8]), Fault>
-    requires workers { AreWorkers workers }
-    requires chunk { IsChunk chunk }
-    requires cost { IsCost cost.now }
     requires some { 0 < length lines.now }
     ensures tracked { IfOk result (λ r. IsTracked mutator) }
-    ensures answered { IfOk result (λ r. (c : CommandOf) × (reply : ReplyOf) × (lines.now ≡ command_line c ++ 10 ∷ r.1.now) × AllFit (numbers_of c) × IsStep cost.now mutator c reply r.0 × (text.new.items ≡ text.old.items ++ reply_line reply)) }
+    ensures answered { IfOk result (λ r. (c : CommandOf) × (reply : ReplyOf) × (lines.now ≡ command_line c ++ 10 ∷ r.1.now) × AllFit (numbers_of c) × IsStep collector.now.cost mutator c reply r.0 × (text.new.items ≡ text.old.items ++ reply_line reply)) }
     ensures refused { IfErr result (λ e. (e ≡ Fault.Memory) ⊎ ((e ≡ Fault.Line number) × ((m : ℕ) → IsBadRest (m + 1) lines.now))) }
 {
     let (command, more) = match next_command(lines, number) {
         Ok(read) => read,
         Err(fault) => return Err(fault),
     };
-    let (next, outcome) = mutator.step(rt, alloc, &command, cost, workers, chunk, gate);
-    match push_outcome(text, outcome) {
-        Ok(()) => Ok((next, more)),
-        Err(fault) => Err(fault),
-    }
+    let (next, reply) = mutator.advance(&command, collector)?;
+    push_reply(text, reply)?;
+    Ok((next, more))
 }
 
 /// The replies to the trace whose text the bytes are, a line each. Each line is read, done and
@@ -162,28 +127,19 @@ pub fn run_text<R: Threads + Sync, G: Gate + Sync>(
 {
     laws::traces();
     laws::one_answer();
-    let (mut mutator, mut rest) = match begin(alloc, bytes) {
-        Ok(begun) => begun,
-        Err(fault) => return Err(fault),
+    let collector = Collector {
+        rt,
+        alloc,
+        cost: *cost,
+        workers,
+        chunk,
+        gate,
     };
+    let (mut mutator, mut rest) = begin(alloc, bytes)?;
     let mut text: Vec<u8> = Vec::new(alloc);
     let mut lines: u64 = 1;
     while rest.len() > 0 {
-        let (next, more) = match answer_line(
-            rt,
-            alloc,
-            mutator,
-            rest,
-            lines + 1,
-            cost,
-            workers,
-            chunk,
-            gate,
-            &mut text,
-        ) {
-            Ok(answered) => answered,
-            Err(fault) => return Err(fault),
-        };
+        let (next, more) = answer_line(&collector, mutator, rest, lines + 1, &mut text)?;
         mutator = next;
         lines += 1;
         rest = more;

@@ -74,19 +74,19 @@ place_object-requires-clause-root g c = subst (EffectFits (heap_view c.args.trac
 pub returns-in-Nothing-clause-done : goal.returns-in-Nothing-clause-done
 returns-in-Nothing-clause-done g c =
     let i : Image = c.args.tracked in
-    subst (λ (e : Effect). IsEffect c.args.cost.now i e c.args.told.reply c.args.told.reply i) (sym c.in-Nothing.is) (refl, refl)
+    subst (λ (e : Effect). IsEffect c.args.collector.now.cost i e c.args.told.reply c.args.told.reply i) (sym c.in-Nothing.is) (refl, refl)
 
 pub returns-in-SetRoot-clause-done : goal.returns-in-SetRoot-clause-done
 returns-in-SetRoot-clause-done g c =
-    subst (λ (e : Effect). IsEffect c.args.cost.now c.args.tracked e c.args.told.reply c.args.told.reply c.set_root.result) (sym c.in-SetRoot.is) (refl, c.set_root.ensures)
+    subst (λ (e : Effect). IsEffect c.args.collector.now.cost c.args.tracked e c.args.told.reply c.args.told.reply c.set_root.new.tracked) (sym c.in-SetRoot.is) (refl, c.set_root.ensures)
 
 pub returns-in-Ok-clause-done : goal.returns-in-Ok-clause-done
 returns-in-Ok-clause-done g c =
-    subst (λ (e : Effect). IsEffect c.args.cost.now c.args.tracked e c.args.told.reply c.args.told.reply c.in-Ok.tracked) (sym c.in-SetSlot.is) (refl, c.in-Ok.ensures.ok)
+    subst (λ (e : Effect). IsEffect c.args.collector.now.cost c.args.tracked e c.args.told.reply c.args.told.reply c.set_slot.new.tracked) (sym c.in-SetSlot.is) (refl, c.in-Ok.ensures.ok)
 
 pub returns-in-SetValue-clause-done : goal.returns-in-SetValue-clause-done
 returns-in-SetValue-clause-done g c =
-    subst (λ (e : Effect). IsEffect c.args.cost.now c.args.tracked e c.args.told.reply c.args.told.reply c.set_data.result) (sym c.in-SetValue.is) (refl, c.set_data.ensures)
+    subst (λ (e : Effect). IsEffect c.args.collector.now.cost c.args.tracked e c.args.told.reply c.args.told.reply c.set_data.new.tracked) (sym c.in-SetValue.is) (refl, c.set_data.ensures)
 
 pub returns-in-None-clause-done : goal.returns-in-None-clause-done
 returns-in-None-clause-done g c =
@@ -94,4 +94,4 @@ returns-in-None-clause-done g c =
     let found : place_for i.heap (1 + c.in-MakeNew.refs + c.in-MakeNew.words) ≡ None =
     sym (c.place_for-place.ensures ∙ ap (λ (h : Heap). place_for h (1 + c.in-MakeNew.refs + c.in-MakeNew.words)) (c.heap.ensures.same
     ∙ ap (λ (x : Image). x.heap) c.image.ensures.same)) ∙ c.in-None.is in
-    subst (λ (e : Effect). IsEffect c.args.cost.now i e c.args.told.reply Full i) (sym c.in-MakeNew.is) (inl (found, refl, refl))
+    subst (λ (e : Effect). IsEffect c.args.collector.now.cost i e c.args.told.reply Full i) (sym c.in-MakeNew.is) (inl (found, refl, refl))

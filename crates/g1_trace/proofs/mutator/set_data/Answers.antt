@@ -10,7 +10,7 @@ use Rattle.g1_trace.proofs.mutator.set_data.Goals as goal
 
 pub overflow_add-object-3 : goal.overflow_add-object-3
 overflow_add-object-3 c =
-    let i : Image = c.args.tracked in
+    let i : Image = c.args.tracked.now in
     let words = c.words.ensures ∙ ap (λ (h : Heap). h.words) (c.heap.ensures.same ∙ ap (λ (x : Image). x.heap) c.image.ensures.same) in
     let at : c.args.object + 1 + c.header-refs.result.refs + c.args.word ≡ value_address i.heap c.args.object c.args.word =
     ap (λ (o : Object). c.args.object + 1 + o.refs + c.args.word) (c.header-refs.ensures.value ∙ ap (λ ws. header ws c.args.object) words) in
@@ -18,7 +18,7 @@ overflow_add-object-3 c =
 
 pub set_value-requires-clause-at : goal.set_value-requires-clause-at
 set_value-requires-clause-at c =
-    let i : Image = c.args.tracked in
+    let i : Image = c.args.tracked.now in
     let words = c.words.ensures ∙ ap (λ (h : Heap). h.words) (c.heap.ensures.same ∙ ap (λ (x : Image). x.heap) c.image.ensures.same) in
     let at : c.args.object + 1 + c.header-refs.result.refs + c.args.word ≡ value_address i.heap c.args.object c.args.word =
     ap (λ (o : Object). c.args.object + 1 + o.refs + c.args.word) (c.header-refs.ensures.value ∙ ap (λ ws. header ws c.args.object) words) in
@@ -26,7 +26,7 @@ set_value-requires-clause-at c =
 
 pub set_value-requires-clause-kept : goal.set_value-requires-clause-kept
 set_value-requires-clause-kept c =
-    let i : Image = c.args.tracked in
+    let i : Image = c.args.tracked.now in
     let words = c.words.ensures ∙ ap (λ (h : Heap). h.words) (c.heap.ensures.same ∙ ap (λ (x : Image). x.heap) c.image.ensures.same) in
     let at : c.args.object + 1 + c.header-refs.result.refs + c.args.word ≡ value_address i.heap c.args.object c.args.word =
     ap (λ (o : Object). c.args.object + 1 + o.refs + c.args.word) (c.header-refs.ensures.value ∙ ap (λ ws. header ws c.args.object) words) in
@@ -34,7 +34,7 @@ set_value-requires-clause-kept c =
 
 pub overflow_add-object : goal.overflow_add-object
 overflow_add-object c =
-    let i : Image = c.args.tracked in
+    let i : Image = c.args.tracked.now in
     let words = c.words.ensures ∙ ap (λ (h : Heap). h.words) (c.heap.ensures.same ∙ ap (λ (x : Image). x.heap) c.image.ensures.same) in
     let at : c.args.object + 1 + c.header-refs.result.refs + c.args.word ≡ value_address i.heap c.args.object c.args.word =
     ap (λ (o : Object). c.args.object + 1 + o.refs + c.args.word) (c.header-refs.ensures.value ∙ ap (λ ws. header ws c.args.object) words) in
@@ -42,7 +42,7 @@ overflow_add-object c =
 
 pub overflow_add-object-2 : goal.overflow_add-object-2
 overflow_add-object-2 c =
-    let i : Image = c.args.tracked in
+    let i : Image = c.args.tracked.now in
     let words = c.words.ensures ∙ ap (λ (h : Heap). h.words) (c.heap.ensures.same ∙ ap (λ (x : Image). x.heap) c.image.ensures.same) in
     let at : c.args.object + 1 + c.header-refs.result.refs + c.args.word ≡ value_address i.heap c.args.object c.args.word =
     ap (λ (o : Object). c.args.object + 1 + o.refs + c.args.word) (c.header-refs.ensures.value ∙ ap (λ ws. header ws c.args.object) words) in
@@ -50,13 +50,13 @@ overflow_add-object-2 c =
 
 pub header-refs-requires : goal.header-refs-requires
 header-refs-requires c =
-    let i : Image = c.args.tracked in
+    let i : Image = c.args.tracked.now in
     let words = c.words.ensures ∙ ap (λ (h : Heap). h.words) (c.heap.ensures.same ∙ ap (λ (x : Image). x.heap) c.image.ensures.same) in
     omega (arith, ap length words, value_inside i c.requires.before c.args.object c.args.word c.args.value c.requires.fits)
 
 pub returns : goal.returns
 returns c =
-    let i : Image = c.args.tracked in
+    let i : Image = c.args.tracked.now in
     let words = c.words.ensures ∙ ap (λ (h : Heap). h.words) (c.heap.ensures.same ∙ ap (λ (x : Image). x.heap) c.image.ensures.same) in
     let at : c.args.object + 1 + c.header-refs.result.refs + c.args.word ≡ value_address i.heap c.args.object c.args.word =
     ap (λ (o : Object). c.args.object + 1 + o.refs + c.args.word) (c.header-refs.ensures.value ∙ ap (λ ws. header ws c.args.object) words) in

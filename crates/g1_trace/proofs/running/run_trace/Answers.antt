@@ -1,4 +1,4 @@
-use Rattle.std.proofs.Common.{◌≡◌, ℕ, ◌<◌, List, ◌++◌, length, get_or, inl, sym, subst, arith}
+use Rattle.std.proofs.Common.{◌≡◌, ℕ, ◌<◌, List, ◌++◌, length, get_or, sym, subst, arith}
 use Rattle.g1_image.specs.Image.{Image}
 use Rattle.g1_trace.specs.declared.command.Command.{Command}
 use Rattle.g1_trace.specs.declared.command.Command.TheVariants.{New}
@@ -15,7 +15,7 @@ pub loop-command-init : goal.loop-command-init
 loop-command-init g c =
     let roots : ℕ = c.args.trace.now.roots in
     let all : List Command = c.deref-command-items.result.now in
-    let made : c.in-Ok.mutator ≡ empty_image (sizes c.args.trace.now) roots = c.in-Ok.ensures.ok in
+    let made : c.in_ok-mutator.mutator ≡ empty_image (sizes c.args.trace.now) roots = c.in_ok-mutator.ensures.ok in
     record {
       heap = subst (λ (i : Image). (rs : List Reply) → Replies (IsStep c.args.cost.now) i all rs →
           Replies (IsStep c.args.cost.now) (empty_image (sizes c.args.trace.now) roots) all (c.new-replies.result.items ++ rs)) (sym made)
@@ -34,11 +34,11 @@ loop-command-preserved g c =
     let i : Image = c.loop-command.mutator in
     let k : ℕ = c.loop-command.command-index in
     let d : Command = New 0 0 0 in
-    let next : Image = c.in-Ok-answer_command.next in
-    let answered = c.in-Ok-answer_command.ensures.answered in
+    let next : Image = c.in_ok-mutator-2.mutator in
+    let answered = c.in_ok-mutator-2.ensures.answered in
     let longer : List Reply = c.answer_command.new.replies.items in
     let lt : k < length all = omega (arith, c.loop-command-test.true) in
-    let plain = c.traces.ensures.step c.args.cost.now inv.plain.0 i (get_or all k d) answered.0 next c.in-Ok-answer_command.ensures.tracked inv.plain.1 answered.1 in
+    let plain = c.traces.ensures.step c.args.cost.now inv.plain.0 i (get_or all k d) answered.0 next c.in_ok-mutator-2.ensures.tracked inv.plain.1 answered.1 in
     record {
       heap = leads_on (IsStep c.args.cost.now) (empty_image (sizes c.args.trace.now) c.args.trace.now.roots) all c.loop-command.replies.items i next k
           d answered.0 longer lt inv.heap answered.1 answered.2;
@@ -70,10 +70,4 @@ pub loop-command-smaller : goal.loop-command-smaller
 loop-command-smaller g c = omega (arith, c.loop-command-test.true)
 
 pub returns-clause-limits : goal.returns-clause-limits
-returns-clause-limits g c = c.in-Ok.ensures.limits
-
-pub returns-in-Err-clause-refused : goal.returns-in-Err-clause-refused
-returns-in-Err-clause-refused g c = c.in-Err.ensures.refused
-
-pub returns-in-Err-answer_command-clause-refused : goal.returns-in-Err-answer_command-clause-refused
-returns-in-Err-answer_command-clause-refused g c = inl c.in-Err-answer_command.ensures.memory
+returns-clause-limits g c = c.in_ok-mutator.ensures.limits

@@ -1,71 +1,30 @@
-use Rattle.std.proofs.Common.{◌≡◌, sym, ◌∙◌, ap, subst}
-use Rattle.std.specs.Prelude.{IfOk}
-use Rattle.g1_words.specs.Heap.{Heap}
-use Rattle.g1_image.specs.Image.{Image, IsImage}
-use Rattle.g1_image.specs.Cards.{Covered}
+use Rattle.std.proofs.Common.{◌≡◌}
+use Rattle.g1_image.specs.Image.{Image}
 use Rattle.g1_trace.specs.declared.command.Reply.{Reply}
-use Rattle.g1_trace.specs.declared.command.Reply.TheVariants.{Ok as Done}
-use Rattle.g1_trace.specs.Commands.{Answer, answer_of}
-use Rattle.g1_trace.specs.Mutator.{heap_view, IsEffect, IsStep}
+use Rattle.g1_trace.specs.Mutator.{IsStep}
 use Rattle.g1_trace.specs.Store.{Store, IsPlainStep}
-use Rattle.g1_trace.specs.Views.{EffectFits, ForPause, Shows}
-use Rattle.g1_trace.proofs.Views.{answer_fits, answer_pauses}
-use Rattle.g1_trace.proofs.GoesOn.{IfOk-weaken, IfErr-weaken}
+use Rattle.g1_trace.specs.Views.{Shows}
+use Rattle.g1_trace.proofs.GoesOn.{IfOk-weaken}
 use Rattle.g1_trace.proofs.mutator.Mutator.step.Goals as goal
 
-pub carry_out-tracked-requires-clause-fits : goal.carry_out-tracked-requires-clause-fits
-carry_out-tracked-requires-clause-fits g c κs within =
-    let h : Heap = c.self.inside.tracked.heap in
-    let told : c.answer-told.result ≡ answer_of (heap_view h) c.args.command.now =
-    c.answer-told.ensures ∙ ap (λ (x : Heap). answer_of (heap_view x) c.args.command.now) (c.heap.ensures.same ∙ ap (λ (i : Image). i.heap) c.image.ensures.same) in
-    subst (λ (a : Answer). EffectFits (heap_view h) a.effect) (sym told) (answer_fits (heap_view h) c.args.command.now)
-
-pub carry_out-tracked-requires-clause-paused : goal.carry_out-tracked-requires-clause-paused
-carry_out-tracked-requires-clause-paused g c κs within =
-    let h : Heap = c.self.inside.tracked.heap in
-    let told : c.answer-told.result ≡ answer_of (heap_view h) c.args.command.now =
-    c.answer-told.ensures ∙ ap (λ (x : Heap). answer_of (heap_view x) c.args.command.now) (c.heap.ensures.same ∙ ap (λ (i : Image). i.heap) c.image.ensures.same) in
-    subst (λ (a : Answer). ForPause a.effect (a.reply ≡ Done)) (sym told) (answer_pauses (heap_view h) c.args.command.now)
-
-pub carry_out-tracked-requires-clause-before : goal.carry_out-tracked-requires-clause-before
-carry_out-tracked-requires-clause-before g c κs within = record { image = subst IsImage c.image.ensures.same c.heap.ensures.valid; covered = c.image.ensures.covered }
-
 pub returns-clause-tracked : goal.returns-clause-tracked
-returns-clause-tracked g c =
-    let same : c.self.inside.tracked ≡ c.args.self = c.self.view_is in
-    record { image = subst IsImage (c.image.ensures.same ∙ same) c.heap.ensures.valid; covered = subst Covered same c.image.ensures.covered }
+returns-clause-tracked g c = c.execute.ensures.tracked
 
 pub returns-clause-replied : goal.returns-clause-replied
-returns-clause-replied g c =
-    let i : Image = c.args.self in
-    let same : c.self.inside.tracked ≡ i = c.self.view_is in
-    let told : c.answer-told.result ≡ answer_of (heap_view i.heap) c.args.command.now =
-    c.answer-told.ensures ∙ ap (λ (x : Heap). answer_of (heap_view x) c.args.command.now) (c.heap.ensures.same ∙ ap (λ (x : Image). x.heap) (c.image.ensures.same ∙ same)) in
-    let done : IfOk c.carry_out-tracked.result.1 (λ r. IsEffect c.args.cost.now i c.answer-told.result.effect c.answer-told.result.reply r c.carry_out-tracked.result.0) =
-    subst (λ (x : Image). IfOk c.carry_out-tracked.result.1 (λ r. IsEffect c.args.cost.now x c.answer-told.result.effect c.answer-told.result.reply r
-    c.carry_out-tracked.result.0)) same c.carry_out-tracked.ensures.done in
-    subst (λ (a : Answer). IfOk c.carry_out-tracked.result.1 (λ r. IsEffect c.args.cost.now i a.effect a.reply r c.carry_out-tracked.result.0)) told done
+returns-clause-replied g c = c.execute.ensures.replied
 
 pub returns-clause-only : goal.returns-clause-only
 returns-clause-only g c =
     let i : Image = c.args.self in
-    let j : Image = c.carry_out-tracked.result.0 in
-    IfOk-weaken c.carry_out-tracked.result.1 (λ r. IsStep c.args.cost.now i c.args.command.now r j)
+    let j : Image = c.execute.result.0 in
+    IfOk-weaken c.execute.result.1 (λ r. IsStep c.args.cost.now i c.args.command.now r j)
     (λ r. (told : Reply) (k : Image) → IsStep c.args.cost.now i c.args.command.now told k → (told ≡ r) × (k ≡ j))
     (λ r st told k other. c.one_run.ensures.step c.args.cost.now i c.args.command.now told r k j other st) (returns-clause-replied g c)
 
 pub returns-clause-shows : goal.returns-clause-shows
 returns-clause-shows g c =
     let i : Image = c.args.self in
-    let j : Image = c.carry_out-tracked.result.0 in
-    IfOk-weaken c.carry_out-tracked.result.1 (λ r. IsStep c.args.cost.now i c.args.command.now r j)
+    let j : Image = c.execute.result.0 in
+    IfOk-weaken c.execute.result.1 (λ r. IsStep c.args.cost.now i c.args.command.now r j)
     (λ r. (s : Store) → Shows s i.heap → (t : Store) × IsPlainStep s c.args.command.now r t × Shows t j.heap)
     (λ r st s shows. c.traces.ensures.step c.args.cost.now s i c.args.command.now r j (returns-clause-tracked g c) shows st) (returns-clause-replied g c)
-
-pub returns-clause-same : goal.returns-clause-same
-returns-clause-same g c =
-    IfErr-weaken c.carry_out-tracked.result.1 (λ e. c.carry_out-tracked.result.0 ≡ c.self.inside.tracked) (λ e. c.carry_out-tracked.result.0
-    ≡ c.args.self) (λ e same. same ∙ c.self.view_is) c.carry_out-tracked.ensures.same
-
-pub returns-clause-memory : goal.returns-clause-memory
-returns-clause-memory g c = c.carry_out-tracked.ensures.memory
