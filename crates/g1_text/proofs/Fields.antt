@@ -13,7 +13,7 @@ use Rattle.g1_text.proofs.Splitting.{Small, AreDigits, own}
 abbrev pub word_at : ℕ → List (List ℕ) → List ℕ
 word_at k l = get_or l k []
 
-first_digit : (x : ℕ) → x < 2 ^ 64 → (48 ≤ get_or (decimal x) 0 0) × (get_or (decimal x) 0 0 ≤ 57)
+pub first_digit : (x : ℕ) → x < 2 ^ 64 → (48 ≤ get_or (decimal x) 0 0) × (get_or (decimal x) 0 0 ≤ 57)
 first_digit x small = let d = digits_decimal own x small 0 (decimal_nonempty x small) in (d.0, omega (arith, d.1))
 
 pub reference_one : (x y : ℕ) → x < 2 ^ 64 → y < 2 ^ 64 → reference_word x ≡ reference_word y → x ≡ y

@@ -1,3 +1,5 @@
+pub mod Results
+pub mod Ends
 pub mod Numbers
 pub mod Windows
 pub mod Taking
@@ -7,3 +9,4 @@ pub mod Bounded
 pub mod Fields
 pub mod OneImage
 pub mod OneText
+pub mod Gathering

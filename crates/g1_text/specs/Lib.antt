@@ -1,3 +1,5 @@
 pub mod Made
 pub mod Lines
+pub mod Content
+pub mod Drafts
 pub mod Laws

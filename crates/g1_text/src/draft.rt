@@ -1,4 +1,7 @@
-ghost use Rattle.std.specs.Prelude.{◌<◌, ◌^◌, IfOk};
+ghost use Rattle.std.specs.Prelude.{◌≡◌, ◌≤◌, ◌<◌, ◌^◌, ◌*◌, ◌+◌, ◌-◌, ◌++◌, [], ◌∷◌, List, Ok, map, length, replicate, IfOk};
+ghost use Rattle.g1_words.specs.declared.region.Region.{Region as RegionOf};
+ghost use Rattle.g1_words.specs.Geometry.{IsWithinLimits};
+ghost use Rattle.g1_text.specs.Content.{HasRoom, top_behind, beyond_behind};
 
 use crate::expected::{Expected, Refusal};
 use g1_words::{Geometry, Kind, Region};
@@ -67,13 +70,21 @@ pub(crate) struct Told {
 }
 
 impl Draft {
+    ghost use Rattle.std.specs.Prelude.{◌≡◌, ◌≤◌, ◌<◌, ◌^◌, ◌+◌, ◌-◌, ◌*◌, ◌++◌, [], ◌∷◌, List, Some, Ok, false, length, min, IfOk, OnOk};
+    ghost use Rattle.g1_words.specs.declared.region.Region.{Region as RegionOf};
+    ghost use Rattle.g1_words.specs.declared.region.Kind.TheVariants.{Continuation};
+    ghost use Rattle.g1_text.specs.Content.{begun, HasRoom, top_behind, beyond_behind};
+    ghost use Rattle.g1_text.specs.Drafts.{content, Becomes};
+
     /// A heap of these sizes with nothing in it.
     pub(crate) fn new(
         alloc: Global,
         geometry: Geometry,
         current: Option<u32>,
         heading: Heading,
-    ) -> Result<Draft, AllocError> {
+    ) -> Result<Draft, AllocError>
+        ensures { IfOk result (λ d. content d ≡ begun geometry current heading.roots heading.dirty) }
+    {
         let count = geometry.regions() as usize;
         let lines = Lines {
             heading,
@@ -98,7 +109,9 @@ impl Draft {
     }
 
     /// The address behind the last object of the last region.
-    pub(crate) fn next_address(&self) -> u64 {
+    pub(crate) fn next_address(&self) -> u64
+        ensures { (below : List RegionOf) (q : RegionOf) → (content self.now).regions ≡ below ++ q ∷ [] → length below < self.now.geometry.n → q.top ≤ self.now.geometry.w → result ≡ length below * self.now.geometry.w + q.top }
+    {
         match self.regions.split_last() {
             Some((last, below)) => {
                 start_of(self.geometry, below.len()).saturating_add(u64::from(last.top))
@@ -108,7 +121,9 @@ impl Draft {
     }
 
     /// Adds free regions up to this one.
-    pub(crate) fn fill_up_to(&mut self, region: u64) -> Result<(), AllocError> {
+    pub(crate) fn fill_up_to(&mut self, region: u64) -> Result<(), AllocError>
+        ensures { region ≤ length (content self.old).regions → OnOk result (content self.new ≡ content self.old) }
+    {
         for _ in self.regions.len() as u64..region {
             self.add_empty(Kind::Free)?;
         }
@@ -116,7 +131,9 @@ impl Draft {
     }
 
     /// Adds a region of a kind with nothing in it.
-    pub(crate) fn add_empty(&mut self, kind: Kind) -> Result<(), AllocError> {
+    pub(crate) fn add_empty(&mut self, kind: Kind) -> Result<(), AllocError>
+        ensures { OnOk result (content self.new ≡ record (content self.old) { regions = (content self.old).regions ++ record { kind = kind; top = 0; pinned = false } ∷ [] }) }
+    {
         self.regions.push(Region {
             kind,
             top: 0,
@@ -126,7 +143,9 @@ impl Draft {
     }
 
     /// Adds a region in which the humongous object above it goes on.
-    pub(crate) fn continue_run(&mut self) -> Result<(), AllocError> {
+    pub(crate) fn continue_run(&mut self) -> Result<(), AllocError>
+        ensures { OnOk result (content self.new ≡ record (content self.old) { regions = (content self.old).regions ++ record { kind = Kind.Continuation; top = min self.old.geometry.w self.old.beyond; pinned = false } ∷ []; beyond = self.old.beyond - min self.old.geometry.w self.old.beyond }) }
+    {
         let words = self.geometry.region_words().min(self.beyond);
         self.beyond -= words;
         self.regions.push(Region {
@@ -137,19 +156,31 @@ impl Draft {
         Ok(())
     }
 
-    /// Adds the regions up to this one, in which the humongous object above them goes on.
-    pub(crate) fn continue_run_to(&mut self, region: u64) -> Result<(), Refusal> {
-        for _ in self.regions.len() as u64..=region {
-            if self.beyond == 0 {
-                return Err(Expected::NoContinuation.into());
-            }
-            self.continue_run()?;
+    // The next region, if a humongous object goes on in it.
+    fn continue_next(&mut self) -> Result<(), Refusal>
+        ensures { 0 < self.old.beyond → Becomes result (content self.new) (record (content self.old) { regions = (content self.old).regions ++ record { kind = Kind.Continuation; top = min self.old.geometry.w self.old.beyond; pinned = false } ∷ []; beyond = self.old.beyond - min self.old.geometry.w self.old.beyond }) }
+    {
+        if self.beyond == 0 {
+            return Err(Expected::NoContinuation.into());
         }
+        self.continue_run()?;
         Ok(())
     }
 
+    /// Adds the regions up to this one, in which the humongous object above them goes on.
+    pub(crate) fn continue_run_to(&mut self, region: u64) -> Result<(), Refusal>
+        ensures { region ≡ length (content self.old).regions → 0 < self.old.beyond → Becomes result (content self.new) (record (content self.old) { regions = (content self.old).regions ++ record { kind = Kind.Continuation; top = min self.old.geometry.w self.old.beyond; pinned = false } ∷ []; beyond = self.old.beyond - min self.old.geometry.w self.old.beyond }) }
+    {
+        for _ in self.regions.len() as u64..region {
+            self.continue_next()?;
+        }
+        self.continue_next()
+    }
+
     /// Adds all regions in which the humongous object above them goes on.
-    pub(crate) fn close_run(&mut self) -> Result<(), AllocError> {
+    pub(crate) fn close_run(&mut self) -> Result<(), AllocError>
+        ensures { self.old.beyond ≡ 0 → OnOk result (content self.new ≡ content self.old) }
+    {
         for _ in 0..self.geometry.regions() {
             if self.beyond == 0 {
                 break;
@@ -160,7 +191,9 @@ impl Draft {
     }
 
     /// Adds the regions that have no line.
-    pub(crate) fn close(&mut self) -> Result<(), AllocError> {
+    pub(crate) fn close(&mut self) -> Result<(), AllocError>
+        ensures { self.old.beyond ≡ 0 → self.old.geometry.n ≤ length (content self.old).regions → OnOk result (content self.new ≡ content self.old) }
+    {
         self.close_run()?;
         let regions = self.geometry.regions();
         self.fill_up_to(regions)
@@ -168,33 +201,39 @@ impl Draft {
 
     /// Takes room for an object of this many words behind the last one.
     pub(crate) fn take_room(&mut self, size: u64) -> Result<(), Expected>
-        ensures { IfOk result (λ _. size < 2 ^ 32) }
+        ensures small { IfOk result (λ _. size < 2 ^ 32) }
+        ensures room { (below : List RegionOf) (q : RegionOf) → (content self.old).regions ≡ below ++ q ∷ [] → length below < self.old.geometry.n → size < 2 ^ 32 → HasRoom q.kind self.old.geometry (length below) q.top size → (result ≡ Ok tt) × (content self.new ≡ record (content self.old) { regions = below ++ record q { top = top_behind q.kind self.old.geometry q.top size } ∷ []; beyond = beyond_behind q.kind self.old.geometry self.old.beyond size }) }
     {
-        let geometry = self.geometry;
-        let Some((region, below)) = self.regions.split_last_mut() else {
+        let Some((last, below)) = self.regions.split_last() else {
             return Err(Expected::NoObject);
         };
-        match region.kind {
-            Kind::Ordinary => {
-                region.top = grow(geometry, region.top, size)?;
-                Ok(())
-            }
-            Kind::HumongousFirst if region.top == 0 => {
-                self.beyond = overhang(geometry, start_of(geometry, below.len()), size)?;
-                region.top = size.min(geometry.region_words()) as u32;
-                Ok(())
-            }
-            Kind::HumongousFirst | Kind::Free | Kind::Continuation => Err(Expected::NoObject),
-        }
+        let (top, beyond) = room(self.geometry, below.len(), *last, self.beyond, size)?;
+        self.beyond = beyond;
+        set_top(&mut self.regions, top);
+        Ok(())
+    }
+}
+
+// The top of the last region.
+fn set_top(regions: &mut Vec<Region>, top: u32)
+    ensures { (below : List RegionOf) (q : RegionOf) → regions.old.items ≡ below ++ q ∷ [] → regions.new.items ≡ below ++ record q { top = top } ∷ [] }
+{
+    if let Some(last) = regions.last_mut() {
+        last.top = top;
     }
 }
 
 // The address of the first word of a region.
-fn start_of(geometry: Geometry, region: usize) -> u64 {
+fn start_of(geometry: Geometry, region: usize) -> u64
+    ensures value { region < 2 ^ 32 → result ≡ region * geometry.w }
+    ensures limits { IsWithinLimits geometry.w geometry.k geometry.n }
+{
     geometry.start(u32::try_from(region).unwrap_or(u32::MAX))
 }
 
-fn empty_remembered(alloc: Global, count: usize) -> Result<Vec<Vec<u32>>, AllocError> {
+fn empty_remembered(alloc: Global, count: usize) -> Result<Vec<Vec<u32>>, AllocError>
+    ensures { IfOk result (λ v. map (λ s. s.items) v.items ≡ replicate count []) }
+{
     let mut remembered = Vec::new(alloc);
     for _ in 0..count {
         remembered.push(Vec::new(alloc))?;
@@ -202,9 +241,31 @@ fn empty_remembered(alloc: Global, count: usize) -> Result<Vec<Vec<u32>>, AllocE
     Ok(remembered)
 }
 
+// The top of the last region behind an object more, and the words of a humongous object that no region has yet.
+fn room(
+    geometry: Geometry,
+    below: usize,
+    last: Region,
+    beyond: u64,
+    size: u64,
+) -> Result<(u32, u64), Expected>
+    ensures small { IfOk result (λ _. size < 2 ^ 32) }
+    ensures room { below < geometry.n → size < 2 ^ 32 → HasRoom last.kind geometry below last.top size → result ≡ Ok (top_behind last.kind geometry last.top size, beyond_behind last.kind geometry beyond size) }
+{
+    match last.kind {
+        Kind::Ordinary => Ok((grow(geometry, last.top, size)?, beyond)),
+        Kind::HumongousFirst if last.top == 0 => {
+            let beyond = overhang(geometry, start_of(geometry, below), size)?;
+            Ok((size.min(geometry.region_words()) as u32, beyond))
+        }
+        Kind::HumongousFirst | Kind::Free | Kind::Continuation => Err(Expected::NoObject),
+    }
+}
+
 // The top of an ordinary region behind an object more.
 fn grow(geometry: Geometry, top: u32, size: u64) -> Result<u32, Expected>
-    ensures { IfOk result (λ _. size < 2 ^ 32) }
+    ensures small { IfOk result (λ _. size < 2 ^ 32) }
+    ensures room { 4 * size ≤ 3 * geometry.w → top + size ≤ geometry.w → result ≡ Ok (top + size) }
 {
     let left = geometry.region_words().saturating_sub(u64::from(top));
     let most = geometry.most_ordinary().min(left);
@@ -216,7 +277,8 @@ fn grow(geometry: Geometry, top: u32, size: u64) -> Result<u32, Expected>
 
 // The words of a humongous object beyond its first region, which starts at this address.
 fn overhang(geometry: Geometry, start: u64, size: u64) -> Result<u64, Expected>
-    ensures { IfOk result (λ _. size < 2 ^ 32) }
+    ensures small { IfOk result (λ _. size < 2 ^ 32) }
+    ensures room { 3 * geometry.w < 4 * size → start + size ≤ geometry.n * geometry.w → result ≡ Ok (size - geometry.w) }
 {
     let most = geometry.words().saturating_sub(start);
     if !geometry.is_humongous(size) {

@@ -131,6 +131,12 @@ pub enum Wrong {
 }
 
 impl From<AllocError> for Wrong {
+    ghost use Rattle.std.specs.Prelude.{◌≡◌};
+    ghost use Rattle.g1_words.specs.declared.fault.Fault.TheVariants.{Memory as OutOfMemory};
+    ghost use Rattle.g1_text.specs.declared.expected.Wrong.TheVariants.{Fault as OfFault};
+
+    ghost from_gives = { λ _ e. e ≡ OfFault OutOfMemory };
+
     fn from(_error: AllocError) -> Wrong {
         Wrong::Fault(Fault::Memory)
     }
@@ -154,18 +160,33 @@ impl Refusal {
 }
 
 impl From<Expected> for Refusal {
+    ghost use Rattle.std.specs.Prelude.{◌≡◌};
+    ghost use Rattle.g1_text.specs.declared.expected.Refusal.TheVariants.{Expected as Wanted};
+
+    ghost from_gives = { λ d e. e ≡ Wanted d };
+
     fn from(expected: Expected) -> Refusal {
         Refusal::Expected(expected)
     }
 }
 
 impl From<AllocError> for Refusal {
+    ghost use Rattle.std.specs.Prelude.{◌≡◌};
+    ghost use Rattle.g1_text.specs.declared.expected.Refusal.TheVariants.{Memory};
+
+    ghost from_gives = { λ _ e. e ≡ Memory };
+
     fn from(_error: AllocError) -> Refusal {
         Refusal::Memory
     }
 }
 
 impl<T: Drop> From<AllocFailed<T>> for Refusal {
+    ghost use Rattle.std.specs.Prelude.{◌≡◌};
+    ghost use Rattle.g1_text.specs.declared.expected.Refusal.TheVariants.{Memory};
+
+    ghost from_gives = { λ _ e. e ≡ Memory };
+
     fn from(_error: AllocFailed<T>) -> Refusal {
         Refusal::Memory
     }

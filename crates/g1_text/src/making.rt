@@ -1,4 +1,8 @@
-ghost use Rattle.std.specs.Prelude.{◌≡◌, IfOk};
+ghost use Rattle.std.specs.Prelude.{◌≡◌, IfOk, MatchResult};
+ghost use Rattle.g1_image.specs.Image.{Image as ImageOf, IsTextIn};
+ghost use Rattle.g1_image.specs.declared.cursor.Version.TheVariants.{Two};
+ghost use Rattle.g1_text.specs.Content.{IsContentOf};
+ghost use Rattle.g1_text.specs.Drafts.{content};
 ghost use Rattle.g1_text.specs.Made.{IsImageText};
 
 use crate::covering::cover;
@@ -28,10 +32,18 @@ pub fn make(alloc: Global, text: &[u8]) -> Result<Vec<u8>, Wrong>
 // Settles what was read, and packs it into bytes that are an image's.
 fn finish(alloc: Global, draft: &mut Draft) -> Result<Vec<u8>, Wrong>
     ensures image { IfOk result (λ v. IsImageText v.items) }
+    ensures text { (i : ImageOf) → IsContentOf (content draft.old) i → MatchResult result (λ v. IsTextIn Two v.items i) (λ e. e ≡ Wrong.Fault Fault.Memory) }
 {
     if draft.covered {
         cover(draft)?;
     }
+    check_and_pack(alloc, draft)
+}
+
+fn check_and_pack(alloc: Global, draft: &Draft) -> Result<Vec<u8>, Wrong>
+    ensures image { IfOk result (λ v. IsImageText v.items) }
+    ensures text { (i : ImageOf) → IsContentOf (content draft.now) i → MatchResult result (λ v. IsTextIn Two v.items i) (λ e. e ≡ Wrong.Fault Fault.Memory) }
+{
     settle(draft)?;
     let bytes = pack(alloc, draft)?;
     match decode(alloc, bytes.as_slice()) {
@@ -41,7 +53,9 @@ fn finish(alloc: Global, draft: &mut Draft) -> Result<Vec<u8>, Wrong>
 }
 
 // Traces a fault of the bytes to the line that it comes from.
-fn trace(draft: &Draft, fault: Fault) -> Wrong {
+fn trace(draft: &Draft, fault: Fault) -> Wrong
+    ensures { fault ≡ Fault.Memory → result ≡ Wrong.Fault Fault.Memory }
+{
     let lines = &draft.lines;
     match fault {
         Fault::Reference(Place::Root(root)) => at(&lines.roots, root, Expected::Root, fault),

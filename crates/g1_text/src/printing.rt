@@ -4,6 +4,7 @@ ghost use Rattle.g1_text.specs.Lines.{line_text, further, text_of, reference_wor
 
 use g1_image::Image;
 use g1_words::{Fault, Heap, Object, Region, data, laws, objects_in, slots};
+use itoa::Buffer;
 use std::alloc::{AllocError, Global};
 
 /// The lines of an image, in their full form: each number and each set is there.
@@ -200,11 +201,20 @@ fn push_object(text: &mut String, words: &[u64], object: &Object) -> Result<(), 
     requires within { object.now.at + object.now.size ≤ length words.now }
     ensures { OnOk result (string_bytes text.new ≡ string_bytes text.old ++ line_text (object_line words.now object.now)) }
 {
-    let Object { at, size, refs } = *object;
-    write!(text, "object {at} {size}/{refs}")?;
+    push_header(text, object)?;
     push_references(text, slots(words, object))?;
     push_data(text, data(words, object))?;
     text.push_str("\n")
+}
+
+fn push_header(text: &mut String, object: &Object) -> Result<(), AllocError>
+    ensures { OnOk result (string_bytes text.new ≡ string_bytes text.old ++ (codes "object " ++ (decimal object.now.at ++ 32 ∷ (decimal object.now.size ++ 47 ∷ decimal object.now.refs)))) }
+{
+    text.push_str("object ")?;
+    push_number(text, object.at)?;
+    push_spaced(text, object.size)?;
+    text.push_str("/")?;
+    push_number(text, object.refs)
 }
 
 fn push_references(text: &mut String, references: &[u64]) -> Result<(), AllocError>
@@ -220,9 +230,25 @@ fn push_data(text: &mut String, words: &[u64]) -> Result<(), AllocError>
     ensures { OnOk result (string_bytes text.new ≡ string_bytes text.old ++ flat_map (λ x. 32 ∷ decimal x) words.now) }
 {
     for word in words {
-        write!(text, " {word}")?;
+        push_spaced(text, *word)?;
     }
     Ok(())
+}
+
+// A space and a number.
+fn push_spaced(text: &mut String, value: u64) -> Result<(), AllocError>
+    ensures { OnOk result (string_bytes text.new ≡ string_bytes text.old ++ (32 ∷ decimal value)) }
+{
+    text.push_str(" ")?;
+    push_number(text, value)
+}
+
+// A number in decimal digits. Numbers are most of a text, so no formatter is asked.
+fn push_number(text: &mut String, value: u64) -> Result<(), AllocError>
+    ensures { OnOk result (string_bytes text.new ≡ string_bytes text.old ++ decimal value) }
+{
+    let mut buffer = Buffer::new();
+    text.push_str(buffer.format(value))
 }
 
 // A reference word as the address that it names, or as a dash.
@@ -230,7 +256,7 @@ fn push_reference(text: &mut String, reference: u64) -> Result<(), AllocError>
     ensures { OnOk result (string_bytes text.new ≡ string_bytes text.old ++ (32 ∷ reference_word reference)) }
 {
     match reference.checked_sub(1) {
-        Some(address) => write!(text, " {address}"),
+        Some(address) => push_spaced(text, address),
         None => text.push_str(" -"),
     }
 }

@@ -1,10 +1,16 @@
-ghost use Rattle.std.specs.Prelude.{◌<◌, IfOk};
+ghost use Rattle.std.specs.Prelude.{◌≡◌, ◌<◌, ◌+◌, ◌^◌, ℕ, Bool, List, [], ◌∷◌, ◌++◌, Option, Some, Ok, length, map, replicate, decimal, codes, All, IsTrue, IfSome, IfOk, IfErr, OnOk, MatchResult};
+ghost use Rattle.g1_words.specs.declared.region.Kind.{Kind as KindOf};
+ghost use Rattle.g1_words.specs.declared.region.Region.{Region as RegionOf};
+ghost use Rattle.g1_words.specs.Kind.{kind_word};
+ghost use Rattle.g1_text.specs.Lines.{reference_word, current_word, cards_words, pinned_words};
+ghost use Rattle.g1_text.specs.Content.{Content, Counts, Line, Root, Dirty, Numbers, Remembered, Holds, words_of, Takes, MayFollow, with_region, one_found, Begins, Says};
+ghost use Rattle.g1_text.specs.Drafts.{content, counts_of, Becomes, said};
 
 use crate::draft::{Draft, Heading, Placed, Told};
 use crate::expected::{Expected, Refusal, Wrong};
 use crate::words::{Words, size_and_slots};
-use g1_words::{Geometry, Kind, MOST_ROOTS, header_word};
-use std::alloc::Global;
+use g1_words::{Geometry, Kind, MOST_ROOTS, Region, header_word};
+use std::alloc::{AllocError, Global};
 use std::str;
 
 /// Reads lines one after the other.
@@ -58,9 +64,11 @@ fn read_words(
     number: u64,
     first: &str,
     words: Words<'_>,
-) -> Result<(), Refusal> {
+) -> Result<(), Refusal>
+    ensures { (c : Content) → Says (said draft.old) (first.now ∷ words.entry) c → MatchResult result (λ _. said draft.new ≡ Some c) (λ e. e ≡ Refusal.Memory) }
+{
     match draft {
-        Some(draft) => draft.add(alloc, first, words, number),
+        Some(draft) => draft.add(first, words, number),
         None => {
             *draft = Some(begin(alloc, first, words, number)?);
             Ok(())
@@ -69,7 +77,9 @@ fn read_words(
 }
 
 // heap W K N [roots R] [dirty D] [current none|C]
-fn begin(alloc: Global, first: &str, words: Words<'_>, line: u64) -> Result<Draft, Refusal> {
+fn begin(alloc: Global, first: &str, words: Words<'_>, line: u64) -> Result<Draft, Refusal>
+    ensures { (c : Content) → Begins (first.now ∷ words.entry) c → MatchResult result (λ d. content d ≡ c) (λ e. e ≡ Refusal.Memory) }
+{
     let mut words = words;
     if first != "heap" {
         return Err(Expected::Heading.into());
@@ -83,41 +93,44 @@ fn begin(alloc: Global, first: &str, words: Words<'_>, line: u64) -> Result<Draf
 }
 
 // W K N
-fn sizes(words: &mut Words<'_>) -> Result<(u64, u64, u64), Expected> {
-    match (
-        words.take_number(),
-        words.take_number(),
-        words.take_number(),
-    ) {
-        (Some(w), Some(k), Some(n)) => Ok((w, k, n)),
-        (None, _, _) => Err(Expected::Number("W")),
-        (_, None, _) => Err(Expected::Number("K")),
-        _ => Err(Expected::Number("N")),
-    }
+fn sizes(words: &mut Words<'_>) -> Result<(u64, u64, u64), Expected>
+    ensures { (w k n : ℕ) (rest : List (List ℕ)) → w < 2 ^ 64 → k < 2 ^ 64 → n < 2 ^ 64 → words.old ≡ decimal w ∷ decimal k ∷ decimal n ∷ rest → (result ≡ Ok (w, k, n)) × (words.new ≡ rest) }
+{
+    let w = words.number("W")?;
+    let k = words.number("K")?;
+    let n = words.number("N")?;
+    Ok((w, k, n))
 }
 
 // [roots R] [dirty D] [current none|C]
-fn heading(words: Words<'_>, line: u64) -> Result<(Heading, Option<u32>), Expected> {
+fn heading(words: Words<'_>, line: u64) -> Result<(Heading, Option<u32>), Expected>
+    ensures { (roots dirty : ℕ) (c : Option ℕ) → roots < 2 ^ 64 → dirty < 2 ^ 64 → IfSome c (λ r. r < 2 ^ 32) → words.entry ≡ codes "roots" ∷ decimal roots ∷ codes "dirty" ∷ decimal dirty ∷ codes "current" ∷ current_word c ∷ [] → result ≡ Ok (record { line = line; roots = Some roots; dirty = Some dirty }, c) }
+{
     let mut words = words;
-    let heading = Heading {
-        line,
-        roots: words.take_named("roots")?,
-        dirty: words.take_named("dirty")?,
-    };
+    let roots = words.take_named("roots")?;
+    let dirty = words.take_named("dirty")?;
     let current = current(&mut words)?;
     words.end()?;
+    let heading = Heading { line, roots, dirty };
     Ok((heading, current))
 }
 
-fn current(words: &mut Words<'_>) -> Result<Option<u32>, Expected> {
-    if !words.take("current") || words.take("none") {
+fn current(words: &mut Words<'_>) -> Result<Option<u32>, Expected>
+    ensures { (c : Option ℕ) → IfSome c (λ r. r < 2 ^ 32) → words.old ≡ codes "current" ∷ current_word c ∷ [] → (result ≡ Ok c) × (words.new ≡ []) }
+{
+    if !words.take("current") {
+        return Ok(None);
+    }
+    if words.take("none") {
         return Ok(None);
     }
     Ok(Some(words.short_number("current")?))
 }
 
 // The number that follows, where a line tells one.
-pub(crate) fn follows(told: Option<u64>, what: &'static str, number: u64) -> Result<(), Expected> {
+pub(crate) fn follows(told: Option<u64>, what: &'static str, number: u64) -> Result<(), Expected>
+    ensures { MatchResult result (λ _. IfSome told (λ t. t ≡ number)) (λ _. IfSome told (λ t. t ≡ number) → ⊥) }
+{
     match told {
         Some(told) if told != number => Err(Expected::Follows(what, number)),
         _ => Ok(()),
@@ -126,18 +139,14 @@ pub(crate) fn follows(told: Option<u64>, what: &'static str, number: u64) -> Res
 
 impl Draft {
     // Reads the words behind the first word of a line.
-    fn add(
-        &mut self,
-        alloc: Global,
-        first: &str,
-        words: Words<'_>,
-        line: u64,
-    ) -> Result<(), Refusal> {
+    fn add(&mut self, first: &str, words: Words<'_>, line: u64) -> Result<(), Refusal>
+        ensures { (l : Line) (c : Content) → first.now ∷ words.entry ≡ words_of l → Takes (content self.old) l c → Becomes result (content self.new) c }
+    {
         match first {
             "root" => self.add_root(words, line),
             "dirty" => self.add_dirty(words, line),
             "covered" => self.cover(words),
-            "region" => self.add_region(alloc, words, line),
+            "region" => self.add_region(words, line),
             "remembered" => self.add_remembered(words, line),
             "object" => self.add_object(words, line),
             _ => Err(Expected::Line.into()),
@@ -145,19 +154,24 @@ impl Draft {
     }
 
     // root [NUMBER] REFERENCE
-    fn add_root(&mut self, words: Words<'_>, line: u64) -> Result<(), Refusal> {
+    fn add_root(&mut self, words: Words<'_>, line: u64) -> Result<(), Refusal>
+        ensures { (m x : ℕ) (c : Content) → codes "root" ∷ words.entry ≡ words_of (Root m x) → Takes (content self.old) (Root m x) c → Becomes result (content self.new) c }
+    {
         let next = self.roots.len() as u64;
         let most = u64::from(MOST_ROOTS);
         if next >= most {
             return Err(Expected::Roots(most).into());
         }
-        self.roots.push(root(words, next)?)?;
+        let reference = root(words, next)?;
+        self.roots.push(reference)?;
         self.lines.roots.push(line)?;
         Ok(())
     }
 
     // dirty cards CARD ..
-    fn add_dirty(&mut self, words: Words<'_>, line: u64) -> Result<(), Refusal> {
+    fn add_dirty(&mut self, words: Words<'_>, line: u64) -> Result<(), Refusal>
+        ensures { (cards : List ℕ) (c : Content) → codes "dirty" ∷ words.entry ≡ words_of (Dirty cards) → Takes (content self.old) (Dirty cards) c → Becomes result (content self.new) c }
+    {
         add_cards(words, &mut self.log)?;
         self.lines.log.resize(self.log.len(), line)?;
         Ok(())
@@ -171,7 +185,9 @@ impl Draft {
     }
 
     // remembered REGION cards CARD ..
-    fn add_remembered(&mut self, words: Words<'_>, line: u64) -> Result<(), Refusal> {
+    fn add_remembered(&mut self, words: Words<'_>, line: u64) -> Result<(), Refusal>
+        ensures { (r : ℕ) (cards : List ℕ) (c : Content) → codes "remembered" ∷ words.entry ≡ words_of (Remembered r cards) → Takes (content self.old) (Remembered r cards) c → Becomes result (content self.new) c }
+    {
         let mut words = words;
         let region = words.number("region")?;
         let last = self.geometry.regions().saturating_sub(1);
@@ -179,51 +195,56 @@ impl Draft {
             return Err(Expected::Region(0, last).into());
         };
         add_cards(words, set)?;
-        if let Some(told) = self.lines.remembered.get_mut(region as usize) {
-            *told = line;
-        }
+        set_line(&mut self.lines.remembered, region as usize, line);
         Ok(())
     }
 
     // region [NUMBER] KIND [top WORDS] [objects COUNT] [cards COUNT] [pinned]
-    fn add_region(&mut self, alloc: Global, words: Words<'_>, line: u64) -> Result<(), Refusal> {
+    fn add_region(&mut self, words: Words<'_>, line: u64) -> Result<(), Refusal>
+        ensures { (r : ℕ) (k : KindOf) (t o m : ℕ) (p : Bool) (c : Content) → codes "region" ∷ words.entry ≡ words_of (Numbers r k t o m p) → Takes (content self.old) (Numbers r k t o m p) c → Becomes result (content self.new) c }
+    {
         let mut words = words;
         let told = words.take_number();
-        let kind = kind(alloc, words.next().unwrap_or(""))?;
+        let kind = region_kind(&mut words)?;
         let region = self.begin_region(told, kind)?;
         let told = read_counts(region, &mut words, line)?;
-        if is_pinned(kind, words)? {
-            self.pin(region);
-        }
+        let pinned = is_pinned(kind, words)?;
+        set_pinned(&mut self.regions, pinned);
         self.lines.regions.push(told)?;
         Ok(())
     }
 
-    fn pin(&mut self, region: usize) {
-        if let Some(region) = self.regions.get_mut(region) {
-            region.pinned = true;
+    // Adds a region of a kind, and those below it that no line has. Returns its number.
+    fn begin_region(&mut self, told: Option<u64>, kind: Kind) -> Result<usize, Refusal>
+        ensures { told ≡ Some (length (content self.old).regions) → length (content self.old).regions < self.old.geometry.n → MayFollow (content self.old) kind → MatchResult result (λ r. (r ≡ length (content self.old).regions) × (content self.new ≡ with_region (content self.old) kind)) (λ e. e ≡ Refusal.Memory) }
+    {
+        if kind.is_continuation() {
+            let region = self.region_number(told)?;
+            self.continue_run_to(region)?;
+            Ok(region as usize)
+        } else {
+            self.close_run()?;
+            let region = self.region_number(told)?;
+            self.fill_up_to(region)?;
+            self.add_empty(kind)?;
+            Ok(region as usize)
         }
     }
 
-    // Adds a region of a kind, and those below it that no line names. Tells its number.
-    fn begin_region(&mut self, told: Option<u64>, kind: Kind) -> Result<usize, Refusal> {
-        if !kind.is_continuation() {
-            self.close_run()?;
-        }
+    // The number of a region behind the last one: the next one, unless a line has another.
+    fn region_number(&self, told: Option<u64>) -> Result<u64, Expected>
+        ensures { told ≡ Some (length (content self.now).regions) → length (content self.now).regions < self.now.geometry.n → result ≡ Ok (length (content self.now).regions) }
+    {
         let next = self.regions.len() as u64;
         let number = told.unwrap_or(next);
         check_number(number, next, self.geometry.regions())?;
-        if kind.is_continuation() {
-            self.continue_run_to(number)?;
-        } else {
-            self.fill_up_to(number)?;
-            self.add_empty(kind)?;
-        }
-        Ok(number as usize)
+        Ok(number)
     }
 
     // object [ADDRESS] SIZE/SLOTS SLOT .. WORD .. [..]
-    fn add_object(&mut self, words: Words<'_>, line: u64) -> Result<(), Refusal> {
+    fn add_object(&mut self, words: Words<'_>, line: u64) -> Result<(), Refusal>
+        ensures { (at : ℕ) (slots values : List ℕ) (c : Content) → codes "object" ∷ words.entry ≡ words_of (Holds at slots values) → Takes (content self.old) (Holds at slots values) c → Becomes result (content self.new) c }
+    {
         let mut words = words;
         let told = words.take_number();
         let (size, slots) = size(&mut words)?;
@@ -233,48 +254,113 @@ impl Draft {
         let place = self.words.len();
         self.words.push(header_word(size, slots))?;
         let data = size.saturating_sub(slots).saturating_sub(1);
-        self.add_content(words, slots, data)?;
+        add_content(words, &mut self.words, slots, data)?;
         self.objects.push(Placed {
             at,
             slots,
             place,
             line,
         })?;
-        if let Some(told) = self.lines.regions.last_mut() {
-            told.found = told.found.saturating_add(1);
-        }
-        Ok(())
-    }
-
-    // Two dots at the end stand for null slots and data words of 0.
-    fn add_content(&mut self, words: Words<'_>, slots: u64, count: u64) -> Result<(), Refusal> {
-        let mut words = words;
-        let whole = slots.saturating_add(count);
-        let open = words.take_last("..");
-        let given = words.len() as u64;
-        if given > whole || (given < whole && !open) {
-            return Err(Expected::Content(slots, count).into());
-        }
-        for place in 0..given {
-            let word = if place < slots {
-                words.reference()?
-            } else {
-                words.number("data word")?
-            };
-            self.words.push(word)?;
-        }
-        for _ in given..whole {
-            self.words.push(0)?;
-        }
+        count_object(&mut self.lines.regions);
         Ok(())
     }
 }
 
+fn set_line(lines: &mut Vec<u64>, place: usize, line: u64) {
+    if let Some(told) = lines.get_mut(place) {
+        *told = line;
+    }
+}
+
+// Whether the last region is pinned.
+fn set_pinned(regions: &mut Vec<Region>, pinned: bool)
+    ensures { (below : List RegionOf) (q : RegionOf) → regions.old.items ≡ below ++ q ∷ [] → regions.new.items ≡ below ++ record q { pinned = pinned } ∷ [] }
+{
+    if let Some(last) = regions.last_mut() {
+        last.pinned = pinned;
+    }
+}
+
+// An object more in the last region that has a line.
+fn count_object(regions: &mut Vec<Told>)
+    ensures { (earlier : List Counts) (last : Counts) → map counts_of regions.old.items ≡ earlier ++ last ∷ [] → last.found + 1 < 2 ^ 64 → map counts_of regions.new.items ≡ earlier ++ one_found last ∷ [] }
+{
+    if let Some(last) = regions.last_mut() {
+        last.found = last.found.saturating_add(1);
+    }
+}
+
+// Two dots at the end stand for null slots and data words of 0.
+fn add_content(
+    words: Words<'_>,
+    content: &mut Vec<u64>,
+    slots: u64,
+    count: u64,
+) -> Result<(), Refusal>
+    ensures { (refs values : List ℕ) → slots ≡ length refs → count ≡ length values → slots + count < 2 ^ 64 → All (λ x. x < 2 ^ 64) refs → All (λ x. x < 2 ^ 64) values → words.entry ≡ map reference_word refs ++ map decimal values → MatchResult result (λ _. content.new.items ≡ content.old.items ++ (refs ++ values)) (λ e. e ≡ Refusal.Memory) }
+{
+    let mut words = words;
+    let (given, missing) = given_words(&mut words, slots, count)?;
+    let references = slots.min(given);
+    add_references(&mut words, content, references)?;
+    add_data(&mut words, content, given - references)?;
+    add_zeros(content, missing)?;
+    Ok(())
+}
+
+// How many slots and data words a line gives, and how many its two dots stand for.
+fn given_words(words: &mut Words<'_>, slots: u64, count: u64) -> Result<(u64, u64), Expected>
+    ensures { (refs values : List ℕ) → slots ≡ length refs → count ≡ length values → slots + count < 2 ^ 64 → All (λ x. x < 2 ^ 64) refs → All (λ x. x < 2 ^ 64) values → words.old ≡ map reference_word refs ++ map decimal values → (result ≡ Ok (slots + count, 0)) × (words.new ≡ map reference_word refs ++ map decimal values) }
+{
+    let whole = slots.saturating_add(count);
+    let open = words.take_last("..");
+    let given = words.len() as u64;
+    if given == whole {
+        return Ok((whole, 0));
+    }
+    if given > whole || !open {
+        return Err(Expected::Content(slots, count));
+    }
+    Ok((given, whole - given))
+}
+
+fn add_references(words: &mut Words<'_>, content: &mut Vec<u64>, count: u64) -> Result<(), Refusal>
+    ensures { (xs : List ℕ) (rest : List (List ℕ)) → count ≡ length xs → All (λ x. x < 2 ^ 64) xs → words.old ≡ map reference_word xs ++ rest → MatchResult result (λ _. (words.new ≡ rest) × (content.new.items ≡ content.old.items ++ xs)) (λ e. e ≡ Refusal.Memory) }
+{
+    for _ in 0..count {
+        let reference = words.reference()?;
+        content.push(reference)?;
+    }
+    Ok(())
+}
+
+fn add_data(words: &mut Words<'_>, content: &mut Vec<u64>, count: u64) -> Result<(), Refusal>
+    ensures { (xs : List ℕ) (rest : List (List ℕ)) → count ≡ length xs → All (λ x. x < 2 ^ 64) xs → words.old ≡ map decimal xs ++ rest → MatchResult result (λ _. (words.new ≡ rest) × (content.new.items ≡ content.old.items ++ xs)) (λ e. e ≡ Refusal.Memory) }
+{
+    for _ in 0..count {
+        let word = words.number("data word")?;
+        content.push(word)?;
+    }
+    Ok(())
+}
+
+fn add_zeros(content: &mut Vec<u64>, count: u64) -> Result<(), AllocError>
+    ensures { OnOk result (content.new.items ≡ content.old.items ++ replicate count 0) }
+{
+    for _ in 0..count {
+        content.push(0)?;
+    }
+    Ok(())
+}
+
 // [NUMBER] REFERENCE
-fn root(words: Words<'_>, next: u64) -> Result<u64, Expected> {
+fn root(words: Words<'_>, next: u64) -> Result<u64, Expected>
+    ensures { (x : ℕ) → x < 2 ^ 64 → words.entry ≡ decimal next ∷ reference_word x ∷ [] → result ≡ Ok x }
+{
     let mut words = words;
     if words.len() > 1 {
-        follows(words.take_number(), "root", next)?;
+        let told = words.take_number();
+        follows(told, "root", next)?;
     }
     let reference = words.reference()?;
     words.end()?;
@@ -282,30 +368,39 @@ fn root(words: Words<'_>, next: u64) -> Result<u64, Expected> {
 }
 
 // cards CARD ..
-fn add_cards(words: Words<'_>, cards: &mut Vec<u32>) -> Result<(), Refusal> {
+fn add_cards(words: Words<'_>, cards: &mut Vec<u32>) -> Result<(), Refusal>
+    ensures { (xs : List ℕ) → All (λ x. x < 2 ^ 32) xs → words.entry ≡ cards_words xs → MatchResult result (λ _. cards.new.items ≡ cards.old.items ++ xs) (λ e. e ≡ Refusal.Memory) }
+{
     let mut words = words;
     words.word("cards")?;
     for _ in 0..words.len() {
-        cards.push(words.short_number("card")?)?;
+        let card = words.short_number("card")?;
+        cards.push(card)?;
     }
     Ok(())
 }
 
 // [top WORDS] [objects COUNT] [cards COUNT]
-fn read_counts(region: usize, words: &mut Words<'_>, line: u64) -> Result<Told, Expected> {
+fn read_counts(region: usize, words: &mut Words<'_>, line: u64) -> Result<Told, Expected>
+    ensures { (top objects cards : ℕ) (rest : List (List ℕ)) → top < 2 ^ 64 → objects < 2 ^ 64 → cards < 2 ^ 64 → words.old ≡ codes "top" ∷ decimal top ∷ codes "objects" ∷ decimal objects ∷ codes "cards" ∷ decimal cards ∷ rest → (result ≡ Ok (record { line = line; region = region; top = Some top; objects = Some objects; cards = Some cards; found = 0 })) × (words.new ≡ rest) }
+{
+    let top = words.take_named("top")?;
+    let objects = words.take_named("objects")?;
+    let cards = words.take_named("cards")?;
     Ok(Told {
         line,
         region,
-        top: words.take_named("top")?,
-        objects: words.take_named("objects")?,
-        cards: words.take_named("cards")?,
+        top,
+        objects,
+        cards,
         found: 0,
     })
 }
 
 // SIZE/SLOTS
 fn size(words: &mut Words<'_>) -> Result<(u64, u64), Expected>
-    ensures { IfOk result (λ p. p.1 < p.0) }
+    ensures within { IfOk result (λ p. p.1 < p.0) }
+    ensures full { (size slots : ℕ) (rest : List (List ℕ)) → slots < size → size < 2 ^ 64 → words.old ≡ (decimal size ++ 47 ∷ decimal slots) ∷ rest → (result ≡ Ok (size, slots)) × (words.new ≡ rest) }
 {
     match size_and_slots(words.next().unwrap_or("")) {
         Some((size, slots)) if slots < size => Ok((size, slots)),
@@ -314,7 +409,9 @@ fn size(words: &mut Words<'_>) -> Result<(u64, u64), Expected>
 }
 
 // [pinned]
-fn is_pinned(kind: Kind, words: Words<'_>) -> Result<bool, Expected> {
+fn is_pinned(kind: Kind, words: Words<'_>) -> Result<bool, Expected>
+    ensures { (p : Bool) → (IsTrue p → kind ≡ Kind.Ordinary) → words.entry ≡ pinned_words p → result ≡ Ok p }
+{
     let mut words = words;
     let pinned = kind.is_ordinary() && words.take("pinned");
     words.end()?;
@@ -322,7 +419,9 @@ fn is_pinned(kind: Kind, words: Words<'_>) -> Result<bool, Expected> {
 }
 
 // A region's number is at least the next one, and below the count of regions.
-fn check_number(number: u64, next: u64, regions: u64) -> Result<(), Expected> {
+fn check_number(number: u64, next: u64, regions: u64) -> Result<(), Expected>
+    ensures { number ≡ next → next < regions → result ≡ Ok tt }
+{
     if next >= regions {
         Err(Expected::NoRegion)
     } else if number < next || number >= regions {
@@ -332,15 +431,22 @@ fn check_number(number: u64, next: u64, regions: u64) -> Result<(), Expected> {
     }
 }
 
+// KIND
+fn region_kind(words: &mut Words<'_>) -> Result<Kind, Expected>
+    ensures { (k : KindOf) (rest : List (List ℕ)) → words.old ≡ kind_word k ∷ rest → (result ≡ Ok k) × (words.new ≡ rest) }
+{
+    kind(words.next().unwrap_or(""))
+}
+
 // The kind that this word is the text of.
-fn kind(alloc: Global, word: &str) -> Result<Kind, Refusal> {
-    for number in 0..u32::MAX {
-        let Some(kind) = Kind::of_number(number) else {
-            break;
-        };
-        if format!(in alloc; "{kind}")?.as_str() == word {
-            return Ok(kind);
-        }
+fn kind(word: &str) -> Result<Kind, Expected>
+    ensures { (k : KindOf) → word.now ≡ kind_word k → result ≡ Ok k }
+{
+    match word {
+        "free" => Ok(Kind::Free),
+        "ordinary" => Ok(Kind::Ordinary),
+        "humongous" => Ok(Kind::HumongousFirst),
+        "continuation" => Ok(Kind::Continuation),
+        _ => Err(Expected::Kind),
     }
-    Err(Expected::Kind.into())
 }

@@ -1,10 +1,16 @@
+ghost use Rattle.std.specs.Prelude.{◌≡◌, Ok};
+ghost use Rattle.g1_text.specs.Content.{Agrees, CountsAgree};
+ghost use Rattle.g1_text.specs.Drafts.{content, counts_of};
+
 use crate::draft::{Draft, Told};
 use crate::expected::{Expected, Wrong};
 use crate::reading::follows;
 use g1_words::Region;
 
 /// Finds that the lines agree with what was read: counts, tops, objects, and the current region.
-pub(crate) fn settle(draft: &Draft) -> Result<(), Wrong> {
+pub(crate) fn settle(draft: &Draft) -> Result<(), Wrong>
+    ensures { Agrees (content draft.now) → result ≡ Ok tt }
+{
     if let Err(expected) = settle_heading(draft) {
         let number = draft.lines.heading.line;
         return Err(Wrong::Line { number, expected });
@@ -18,13 +24,12 @@ pub(crate) fn settle(draft: &Draft) -> Result<(), Wrong> {
     Ok(())
 }
 
-fn settle_heading(draft: &Draft) -> Result<(), Expected> {
+fn settle_heading(draft: &Draft) -> Result<(), Expected>
+    ensures { Agrees (content draft.now) → result ≡ Ok tt }
+{
     let heading = draft.lines.heading;
-    follows(heading.roots, "roots", draft.roots.len() as u64).and(follows(
-        heading.dirty,
-        "dirty",
-        draft.log.len() as u64,
-    ))?;
+    follows(heading.roots, "roots", draft.roots.len() as u64)?;
+    follows(heading.dirty, "dirty", draft.log.len() as u64)?;
     match draft.current {
         Some(current) => match draft.regions.get(current as usize) {
             Some(region) if region.kind.is_ordinary() => Ok(()),
@@ -34,7 +39,9 @@ fn settle_heading(draft: &Draft) -> Result<(), Expected> {
     }
 }
 
-fn settle_region(draft: &Draft, told: &Told) -> Result<(), Expected> {
+fn settle_region(draft: &Draft, told: &Told) -> Result<(), Expected>
+    ensures { CountsAgree (content draft.now) (counts_of told.now) → result ≡ Ok tt }
+{
     let Some(Region { kind, top, .. }) = draft.regions.get(told.region) else {
         return Err(Expected::NoRegion);
     };
@@ -45,7 +52,7 @@ fn settle_region(draft: &Draft, told: &Told) -> Result<(), Expected> {
         Some(set) => set.len(),
         None => 0,
     };
-    follows(told.top, "top", u64::from(*top))
-        .and(follows(told.objects, "objects", told.found))
-        .and(follows(told.cards, "cards", cards as u64))
+    follows(told.top, "top", u64::from(*top))?;
+    follows(told.objects, "objects", told.found)?;
+    follows(told.cards, "cards", cards as u64)
 }

@@ -11,5 +11,5 @@ returns c =
     let words = c.args.words.now in
     let object = c.args.object.now in
     pushed c.push_str.result last (now ++ 10 ∷ []) now (old ++ line_text (object_line words object))
-    (object_end old (string_bytes c.write.new.self) (string_bytes c.push_references.new.text) now last c.slots.result.now c.data.result.now words object
-    c.slots.ensures.value c.data.ensures.value c.in_ok-write.ensures.bytes c.in_ok-push_references.ensures c.in_ok-push_data.ensures) c.push_str.ensures.bytes
+    (object_end old (string_bytes c.push_header.new.text) (string_bytes c.push_references.new.text) now last c.slots.result.now c.data.result.now words object
+    c.slots.ensures.value c.data.ensures.value c.in_ok-push_header.ensures c.in_ok-push_references.ensures c.in_ok-push_data.ensures) c.push_str.ensures.bytes

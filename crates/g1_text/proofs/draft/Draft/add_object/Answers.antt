@@ -1,0 +1,55 @@
+use Rattle.std.proofs.Common.{◌≡◌, ◌<◌, ◌*◌, ◌^◌, ◌+◌, [], ◌∷◌, ◌++◌, length, map, drop, append_assoc, sym, ◌∙◌, ap, subst, arith}
+use Rattle.std.specs.Prelude.{decimal}
+use Rattle.std.proofs.lemmas.Result.{err_from_is_err_and}
+use Rattle.g1_text.specs.Lines.{reference_word}
+use Rattle.g1_text.specs.Content.{Content, HasRoom, top_behind, beyond_behind, size_with}
+use Rattle.g1_text.specs.Drafts.{content}
+use Rattle.g1_text.proofs.Results.{ok_one, not_both}
+use Rattle.g1_text.proofs.draft.Draft.add_object.Goals as goal
+
+pub returns-in_err-take_room : goal.returns-in_err-take_room
+returns-in_err-take_room c = λ at slots values after e takes.
+    let g = c.args.self.now.geometry in
+    let q = takes.1 in
+    let rest = map reference_word slots ++ map decimal values in
+    let number = c.take_number-told.ensures at ((decimal (size_with slots values) ++ 47 ∷ decimal (length slots)) ∷ rest) takes.8 (ap (drop 1) e) in
+    let read = c.size.ensures.full (size_with slots values) (length slots) rest (omega arith) (omega (arith, takes.10)) number.1 in
+    let pair = ok_one c.in_ok-size.was read.0 in
+    let size = ap (λ x. x.0) pair in
+    let room = c.take_room.ensures.room takes.0 q takes.4 takes.6 (subst (λ n. n < 2 ^ 32) (sym size) takes.10) (subst (λ n. HasRoom q.kind g (length takes.0) q.top n) (sym size) takes.9) in
+    absurd (not_both c.in_err-take_room.was room.0)
+
+pub returns-in_err-add_content : goal.returns-in_err-add_content
+returns-in_err-add_content c = λ at slots values after e takes.
+    let rest = map reference_word slots ++ map decimal values in
+    let number = c.take_number-told.ensures at ((decimal (size_with slots values) ++ 47 ∷ decimal (length slots)) ∷ rest) takes.8 (ap (drop 1) e) in
+    let read = c.size.ensures.full (size_with slots values) (length slots) rest (omega arith) (omega (arith, takes.10)) number.1 in
+    let pair = ok_one c.in_ok-size.was read.0 in
+    let size : c.in_ok-size.size ≡ length slots + length values + 1 = ap (λ x. x.0) pair in
+    let refs : c.in_ok-size.slots ≡ length slots = ap (λ x. x.1) pair in
+    let others : c.saturating_sub-data.result ≡ length values = omega (arith, c.saturating_sub-data.ensures, c.saturating_sub.ensures, size, refs) in
+    let left = err_from_is_err_and c.from_residual-in_err-add_content.result c.from_residual-in_err-add_content.ensures.1 in
+    rw (left.1, left.2) (c.in_err-add_content.ensures slots values refs others (omega (arith, refs, others, takes.10)) takes.11 takes.12 read.1)
+
+pub returns : goal.returns
+returns c = λ at slots values after e takes.
+    let s = content c.args.self.now in
+    let g = c.args.self.now.geometry in
+    let below = takes.0 in
+    let q = takes.1 in
+    let rest = map reference_word slots ++ map decimal values in
+    let number = c.take_number-told.ensures at ((decimal (size_with slots values) ++ 47 ∷ decimal (length slots)) ∷ rest) takes.8 (ap (drop 1) e) in
+    let read = c.size.ensures.full (size_with slots values) (length slots) rest (omega arith) (omega (arith, takes.10)) number.1 in
+    let pair = ok_one c.in_ok-size.was read.0 in
+    let size : c.in_ok-size.size ≡ length slots + length values + 1 = ap (λ x. x.0) pair in
+    let refs : c.in_ok-size.slots ≡ length slots = ap (λ x. x.1) pair in
+    let others : c.saturating_sub-data.result ≡ length values = omega (arith, c.saturating_sub-data.ensures, c.saturating_sub.ensures, size, refs) in
+    let taken = c.take_room.ensures.room below q takes.4 takes.6 (subst (λ n. n < 2 ^ 32) (sym size) takes.10) (subst (λ n. HasRoom q.kind g (length below) q.top n) (sym size) takes.9) in
+    let room = taken.1
+    ∙ ap (λ n. record s { regions = below ++ record q { top = top_behind q.kind g q.top n } ∷ []; beyond = beyond_behind q.kind g s.beyond n }) size in
+    let had = ap (λ (x : Content). x.words) room in
+    let headed = c.in_ok-push.ensures.items ∙ (λ i. had i ++ (c.header_word.ensures ∙ (λ j. size j * 2 ^ 32 + refs j)) i ∷ []) in
+    let words = c.in_ok-add_content.ensures slots values refs others (omega (arith, refs, others, takes.10)) takes.11 takes.12 read.1
+    ∙ ap (λ xs. xs ++ (slots ++ values)) headed ∙ append_assoc s.words ((size_with slots values * 2 ^ 32 + length slots) ∷ []) (slots ++ values) in
+    let counts = c.count_object.ensures takes.2 takes.3 (ap (λ (x : Content). x.counts) room ∙ takes.5) takes.13 in
+    (λ i. record (room i) { words = words i; counts = counts i }) ∙ sym takes.14

@@ -1,0 +1,26 @@
+use Rattle.std.proofs.Common.{◌≡◌, ◌<◌, ℕ, zero, suc, List, [], ◌∷◌, ◌++◌, length, get_or, drop, set, refl, sym, ◌∙◌, ap, arith, Vec, Global}
+use Rattle.g1_text.specs.Lines.{cards_words}
+use Rattle.g1_text.specs.Drafts.{content}
+use Rattle.g1_text.proofs.Results.{ok_one}
+use Rattle.g1_text.proofs.Gathering.{map_set, map_at}
+use Rattle.g1_text.proofs.draft.Draft.add_remembered.Goals as goal
+
+any_default : {A : Type 0} (xs : List A) (n : ℕ) (d e : A) → n < length xs → get_or xs n d ≡ get_or xs n e
+any_default [] n d e lt = absurd (omega (arith, lt))
+any_default (x ∷ xs) zero d e lt = refl
+any_default (x ∷ xs) (suc n) d e lt = any_default xs n d e (omega (arith, lt))
+
+pub returns : goal.returns
+returns c = λ r cards after e takes.
+    let s = content c.args.self.now in
+    let sets = c.args.self.now.remembered.items in
+    let number = c.number.ensures r (cards_words cards) takes.1 (ap (drop 1) e) in
+    let same = ok_one c.in_ok-region.was number.0 in
+    let added = c.in_ok-add_cards.ensures cards takes.2 number.1 in
+    let old = c.in-Some.set.now in
+    let seen : old.items ≡ get_or s.remembered c.in_ok-region.region old.items =
+    ap (λ (v : Vec ℕ Global). v.items) c.in-Some.ensures.value ∙ sym (map_at (λ (v : Vec ℕ Global). v.items) sets c.in_ok-region.region old) in
+    let there : old.items ≡ get_or s.remembered r [] = seen ∙ ap (λ n. get_or s.remembered n old.items) same ∙ any_default s.remembered r old.items [] takes.0 in
+    let written = map_set (λ (v : Vec ℕ Global). v.items) sets c.in_ok-region.region c.add_cards.new.cards ∙ (λ i. set s.remembered (same i) (added i))
+    ∙ ap (λ xs. set s.remembered r (xs ++ cards)) there in
+    (λ i. record s { remembered = written i }) ∙ sym takes.3

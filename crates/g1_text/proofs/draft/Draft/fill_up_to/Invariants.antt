@@ -1,0 +1,6 @@
+use Rattle.std.proofs.Common.{◌≡◌, ◌≤◌, length}
+use Rattle.g1_text.specs.Drafts.{content}
+use Rattle.g1_text.proofs.draft.Draft.fill_up_to.Given as goal
+
+abbrev pub invariant-loop : goal.invariant-loop
+invariant-loop l = l.fn.region ≤ length (content l.fn.self).regions → content l.self ≡ content l.fn.self

@@ -1,0 +1,38 @@
+use Rattle.std.proofs.Common.{◌≡◌, ◌<◌, ◌^◌, List, ℕ, inl, inr, length, sym, ◌∙◌, ap, subst, arith}
+use Rattle.std.specs.Prelude.{All}
+use Rattle.g1_words.specs.declared.fault.Fault.{Fault}
+use Rattle.g1_words.specs.declared.fault.Fault.TheVariants.{Memory}
+use Rattle.g1_image.specs.declared.cursor.Version.TheVariants.{Two}
+use Rattle.g1_image.specs.Text.{File, file_text}
+use Rattle.g1_image.specs.Image.{Image, IsTextIn}
+use Rattle.g1_image.specs.Faults.{MayFail}
+use Rattle.g1_image.proofs.Images.{counts_fit}
+use Rattle.g1_image.proofs.NoFault.{no_fault}
+use Rattle.g1_text.specs.Content.{Content, CountsFit, IsContentOf, file_with}
+use Rattle.g1_text.specs.Drafts.{content}
+use Rattle.g1_text.proofs.making.check_and_pack.Goals as goal
+
+module _ (s : Content) (i : Image) (is : IsContentOf s i) where
+  fits : CountsFit s
+  fits =
+      let roots = ap (λ (f : File). length f.roots) is.same in
+      let log = ap (λ (f : File). length f.log) is.same in record {
+        roots = omega (arith, roots, is.image.heap.root_count);
+        log = omega (arith, log, is.image.log.count);
+        remembered = subst (All (λ cards. length cards < 2 ^ 32)) (sym (ap (λ (f : File). f.remembered) is.same)) (counts_fit i is.image);
+      }
+
+  pub packed : (bytes : List ℕ) → (CountsFit s → bytes ≡ file_text (file_with s)) → IsTextIn Two bytes i
+  packed bytes text = (is.image, tt, text fits ∙ ap file_text is.same)
+
+  pub memory : (bytes seen : List ℕ) (e : Fault) → seen ≡ bytes → (CountsFit s → bytes ≡ file_text (file_with s)) → MayFail seen e → e ≡ Memory
+  memory bytes seen e same text (inl m) = m
+  memory bytes seen e same text (inr f) = absurd (no_fault seen i e (Two, subst (λ b. IsTextIn Two b i) (sym same) (packed bytes text)) f)
+
+pub returns-in-Ok-clause-text : goal.returns-in-Ok-clause-text
+returns-in-Ok-clause-text c = λ i is. packed (content c.args.draft.now) i is c.in_ok-bytes.bytes.items (λ fit. c.in_ok-bytes.ensures fit)
+
+pub returns-in-Err-clause-text : goal.returns-in-Err-clause-text
+returns-in-Err-clause-text c = λ i is.
+    c.trace.ensures (memory (content c.args.draft.now) i is c.in_ok-bytes.bytes.items c.as_slice.result.now c.in-Err.fault c.as_slice.ensures.value
+    (λ fit. c.in_ok-bytes.ensures fit) c.in-Err.ensures.err)

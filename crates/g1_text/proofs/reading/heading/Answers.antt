@@ -1,0 +1,15 @@
+use Rattle.std.proofs.Common.{[], ◌∷◌}
+use Rattle.std.specs.Prelude.{Ok, decimal, codes}
+use Rattle.g1_text.specs.Lines.{current_word}
+use Rattle.g1_text.proofs.Results.{ok_one}
+use Rattle.g1_text.proofs.reading.heading.Goals as goal
+
+pub returns : goal.returns
+returns c = λ roots dirty current fr fd fc e.
+    let first = c.take_named.ensures roots (codes "dirty" ∷ decimal dirty ∷ codes "current" ∷ current_word current ∷ []) fr e in
+    let second = c.take_named-2.ensures dirty (codes "current" ∷ current_word current ∷ []) fd first.1 in
+    let third = c.current.ensures current fc second.1 in
+    let a = ok_one c.in_ok-roots.was first.0 in
+    let b = ok_one c.in_ok-dirty.was second.0 in
+    let d = ok_one c.in_ok-current.was third.0 in
+    λ t. Ok (record { line = c.args.line; roots = a t; dirty = b t }, d t)

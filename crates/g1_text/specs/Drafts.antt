@@ -1,0 +1,37 @@
+-- What a draft of an image holds.
+use Rattle.std.specs.Prelude.{◌≡◌, map, Option, Some, None, Result, MatchResult}
+use Rattle.g1_text.specs.declared.expected.Refusal.{Refusal}
+use Rattle.g1_text.specs.declared.expected.Refusal.TheVariants.{Memory}
+use Rattle.g1_text.specs.declared.draft.Draft.{Draft}
+use Rattle.g1_text.specs.declared.draft.Told.{Told}
+use Rattle.g1_text.specs.Content.{Content, Counts}
+
+-- what a region's line said
+abbrev pub counts_of : Told → Counts
+counts_of t = record { region = t.region; top = t.top; objects = t.objects; cards = t.cards; found = t.found }
+
+-- what the lines said that a draft was read from
+abbrev pub content : Draft → Content
+content d = record {
+  geometry = d.geometry;
+  current = d.current;
+  root_count = d.lines.heading.roots;
+  dirty_count = d.lines.heading.dirty;
+  roots = d.roots.items;
+  log = d.log.items;
+  regions = d.regions.items;
+  remembered = map (λ s. s.items) d.remembered.items;
+  words = d.words.items;
+  beyond = d.beyond;
+  covered = d.covered;
+  counts = map counts_of d.lines.regions.items;
+}
+
+-- a draft has this content after a call, or memory is out
+abbrev pub Becomes : {T : Type 0} → Result T Refusal → Content → Content → Type 0
+Becomes r after c = MatchResult r (λ _. after ≡ c) (λ e. e ≡ Memory)
+
+-- what the lines said that were read so far, if any was
+abbrev pub said : Option Draft → Option Content
+said None = None
+said (Some d) = Some (content d)
