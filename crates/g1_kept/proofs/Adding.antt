@@ -1,5 +1,5 @@
 -- A walk to which a pair is added is a walk.
-use Rattle.std.proofs.Common.{◌≡◌, ℕ, suc, ◌+◌, ◌<◌, ◌≤◌, ◌^◌, ◌++◌, ◌⊎◌, inl, inr, List, [], ◌∷◌, length, set, Contains, IsTrue, refl, sym, ap, subst, ◌∙◌, arith, slice_index}
+use Rattle.std.proofs.Common.{◌≡◌, ℕ, suc, ◌+◌, ◌<◌, ◌≤◌, ◌^◌, ◌++◌, ◌⊎◌, inl, inr, List, [], ◌∷◌, length, set, Contains, IsTrue, refl, sym, ap, subst, ◌∙◌, arith, slice_index, Bool}
 use Rattle.std.proofs.lemmas.Bool.{cases_lt}
 use Rattle.std.proofs.lemmas.List.{get_or_append_left, get_or_push, length_push, length-set}
 use Rattle.g1_words.specs.Heap.{Heap, object_at, objects}
@@ -14,18 +14,20 @@ use Rattle.g1_kept.specs.Lost.{Match}
 use Rattle.g1_kept.specs.Walk.{IsWalk, HasGrown, IsPaired}
 
 -- the pairs of a walk are within its tables
-pub before_within : (chosen : List ℕ) (g h : Heap) (w : Pairs) → IsValid g → IsWalk chosen g h w → (i : ℕ) → i < length w.before.items → slice_index w.before.items i < length w.new_of.items
-before_within chosen g h w valid walk i p = let o = object_in g (slice_index w.before.items i) valid (walk.names_before i p) in omega (arith, o.0, o.1, walk.table_before)
+pub before_within : (fill : Bool) (chosen : List ℕ) (g h : Heap) (w : Pairs) → IsValid g → IsWalk fill chosen g h w
+    → (i : ℕ) → i < length w.before.items → slice_index w.before.items i < length w.new_of.items
+before_within fill chosen g h w valid walk i p = let o = object_in g (slice_index w.before.items i) valid (walk.names_before i p) in omega (arith, o.0, o.1, walk.table_before)
 
-pub after_within : (chosen : List ℕ) (g h : Heap) (w : Pairs) → IsValid h → IsWalk chosen g h w → (i : ℕ) → i < length w.after.items → slice_index w.after.items i < length w.old_of.items
-after_within chosen g h w valid walk i p = let o = object_in h (slice_index w.after.items i) valid (walk.names_after i (omega (arith, p, walk.pairs))) in omega (arith, o.0, o.1, walk.table_after)
+pub after_within : (fill : Bool) (chosen : List ℕ) (g h : Heap) (w : Pairs) → IsValid h → IsWalk fill chosen g h w
+    → (i : ℕ) → i < length w.after.items → slice_index w.after.items i < length w.old_of.items
+after_within fill chosen g h w valid walk i p = let o = object_in h (slice_index w.after.items i) valid (walk.names_after i (omega (arith, p, walk.pairs))) in omega (arith, o.0, o.1, walk.table_after)
 
-pub few_pairs : (chosen : List ℕ) (g h : Heap) (w : Pairs) → IsValid g → IsWalk chosen g h w → length w.before.items ≤ length g.words
-few_pairs chosen g h w valid walk = let k = index_few w.new_of.items w.before.items walk.index_before (before_within chosen g h w valid walk) in omega (arith, k, walk.table_before)
+pub few_pairs : (fill : Bool) (chosen : List ℕ) (g h : Heap) (w : Pairs) → IsValid g → IsWalk fill chosen g h w → length w.before.items ≤ length g.words
+few_pairs fill chosen g h w valid walk = let k = index_few w.new_of.items w.before.items walk.index_before (before_within fill chosen g h w valid walk) in omega (arith, k, walk.table_before)
 
 -- so their places fit the tables
-pub pairs_fit : (chosen : List ℕ) (g h : Heap) (w : Pairs) → IsValid g → IsWalk chosen g h w → length w.before.items ≤ 2 ^ 24
-pairs_fit chosen g h w valid walk = let k = few_pairs chosen g h w valid walk in omega (arith, k, valid.word_count, valid.limits.words_most)
+pub pairs_fit : (fill : Bool) (chosen : List ℕ) (g h : Heap) (w : Pairs) → IsValid g → IsWalk fill chosen g h w → length w.before.items ≤ 2 ^ 24
+pairs_fit fill chosen g h w valid walk = let k = few_pairs fill chosen g h w valid walk in omega (arith, k, valid.word_count, valid.limits.words_most)
 
 pub record IsAdded (w v : Pairs) (a b : ℕ) : Type 0 where
   pub before : v.before.items ≡ w.before.items ++ a ∷ []
@@ -42,7 +44,7 @@ pushed_new xs ys x i e p = ap (λ l. slice_index l i) e ∙ get_or_push xs x 0 i
 pushed_length : (xs ys : List ℕ) (x : ℕ) → ys ≡ xs ++ x ∷ [] → length ys ≡ length xs + 1
 pushed_length xs ys x e = ap length e ∙ length_push xs x
 
-module _ (chosen : List ℕ) (g h : Heap) (w v : Pairs) (a b : ℕ) (walk : IsWalk chosen g h w) (e : IsAdded w v a b) where
+module _ (fill : Bool) (chosen : List ℕ) (g h : Heap) (w v : Pairs) (a b : ℕ) (walk : IsWalk fill chosen g h w) (e : IsAdded w v a b) where
   len : length v.before.items ≡ length w.before.items + 1
   len = pushed_length w.before.items v.before.items a e.before
 
@@ -77,10 +79,10 @@ module _ (chosen : List ℕ) (g h : Heap) (w v : Pairs) (a b : ℕ) (walk : IsWa
   ]
 
   module _ (x_in : Contains (objects g) (object_at g a)) (y_in : Contains (objects h) (object_at h b))
-      (of_set : IsTrue (in_set g chosen a)) (room : MayHoldCopy g b) (matched : Match chosen g h a b)
+      (of_set : IsTrue (in_set g chosen a)) (room : MayHoldCopy fill g b) (matched : Match chosen g h a b)
       (a_lt : a < length w.new_of.items) (b_lt : b < length w.old_of.items)
       (a_new : slice_index w.new_of.items a ≡ 0) (b_new : slice_index w.old_of.items b ≡ 0) where
-    pub added_walk : IsWalk chosen g h v
+    pub added_walk : IsWalk fill chosen g h v
     added_walk = record {
       table_before = ap length e.new_of ∙ length-set w.new_of.items a (suc (length w.before.items)) ∙ walk.table_before;
       table_after = ap length e.old_of ∙ length-set w.old_of.items b (suc (length w.before.items)) ∙ walk.table_after;
@@ -92,6 +94,6 @@ module _ (chosen : List ℕ) (g h : Heap) (w v : Pairs) (a b : ℕ) (walk : IsWa
       names_before = all_pairs (λ x y. Contains (objects g) (object_at g x)) walk.names_before x_in;
       names_after = all_pairs (λ x y. Contains (objects h) (object_at h y)) walk.names_after y_in;
       of_set = all_pairs (λ x y. IsTrue (in_set g chosen x)) walk.of_set of_set;
-      room = all_pairs (λ x y. MayHoldCopy g y) walk.room room;
+      room = all_pairs (λ x y. MayHoldCopy fill g y) walk.room room;
       matched = all_pairs (Match chosen g h) walk.matched matched;
     }

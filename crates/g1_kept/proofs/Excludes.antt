@@ -1,5 +1,5 @@
 -- A heap that keeps what a pause keeps has lost nothing.
-use Rattle.std.proofs.Common.{◌≡◌, ℕ, zero, suc, ◌+◌, ◌<◌, inl, inr, List, length, IsTrue, IsFalse, refl, sym, ap, subst, ◌∙◌, arith, slice_index}
+use Rattle.std.proofs.Common.{◌≡◌, ℕ, zero, suc, ◌+◌, ◌<◌, inl, inr, List, length, IsTrue, IsFalse, refl, sym, ap, subst, ◌∙◌, arith, slice_index, Bool}
 use Rattle.std.proofs.lemmas.Bool.{false≢true}
 use Rattle.std.proofs.lemmas.List.{length-map, get_or-map}
 use Rattle.g1_words.specs.Heap.{Heap, word, kind, object_at}
@@ -10,10 +10,10 @@ use Rattle.g1_kept.specs.declared.lost.Lost.{Lost}
 use Rattle.g1_kept.specs.declared.lost.Lost.TheVariants as lost
 use Rattle.g1_kept.specs.Keeps.{MayHoldCopy, IsAsItWas, Keeps, Remains, outside as outside_remains, root as root_remains, slot as slot_remains}
 use Rattle.g1_kept.specs.Lost.{Match, outside, root, slot, Disagree, changed, null, split, joined, IsUsedOutside, IsLoss}
-use Rattle.g1_kept.proofs.Regions.{same_top}
+use Rattle.g1_kept.proofs.Regions.{other_top}
 use Rattle.g1_kept.proofs.Remaining.{root_target, slot_target, remains_object, copied_header, copied_slot, copied_data}
 
-module _ (set : List ℕ) (g h : Heap) (left : IsValid g) (right : IsValid h) (k : Keeps set g h) where
+module _ (fill : Bool) (set : List ℕ) (g h : Heap) (left : IsValid g) (right : IsValid h) (k : Keeps fill set g h) where
   same_header : (a : ℕ) → Remains set g h a → word h (k.rename a) ≡ word g a
   same_header a r = copied_header k.rename g h a left (remains_object set g h left a r) (k.copies a r)
 
@@ -52,13 +52,13 @@ module _ (set : List ℕ) (g h : Heap) (left : IsValid g) (right : IsValid h) (k
       let r = matched other b m in
       ne (k.one_to_one other a r.0 (remains a refl of_set) (omega (arith, e, r.1)))
 
-  as_it_was : (r : ℕ) → IsUsedOutside set g r → kind h r ≡ kind g r → IsAsItWas g h r
+  as_it_was : (r : ℕ) → IsUsedOutside set g r → kind h r ≡ kind g r → IsAsItWas fill g h r
   as_it_was r out same = elim ((k.table.regions r out.in_heap).other out.outside) [
     | inl e ↦ absurd (out.used e)
     | inr s ↦ elim s [ inl f ↦ absurd (out.used (sym same ∙ f.1)) | inr was ↦ was ]
   ]
 
-  pub no_loss : (l : Lost) → IsLoss set g h l → ⊥
+  pub no_loss : (l : Lost) → IsLoss fill set g h l → ⊥
   no_loss lost.Sizes c = c k.table.geometry
   no_loss lost.Roots c = c (ap length k.roots ∙ length-map g.roots (renamed k.rename))
   no_loss (lost.Set r) c = c.2 ((k.table.regions r c.0).of_set c.1)
@@ -66,12 +66,12 @@ module _ (set : List ℕ) (g h : Heap) (left : IsValid g) (right : IsValid h) (k
     | inl e ↦ c.0.used e
     | inr s ↦ elim s [
       | inl f ↦ c.1 f
-      | inr was ↦ elim c.2 [ inl d ↦ d was.same_kind | inr d ↦ d (same_top g h r left right k.table.geometry c.0.in_heap c.0.used was) ]
+      | inr was ↦ elim c.2 [ inl d ↦ d was.same_kind | inr d ↦ other_top fill g h r was d ]
     ]
   ]
   no_loss (lost.Unpinned r) c = let was = as_it_was r c.0 c.1 in absurd (false≢true (sym c.4 ∙ was.same_pin ∙ c.3))
   no_loss (lost.Pinned r) c = let was = as_it_was r c.0 c.1 in absurd (false≢true (sym c.3 ∙ sym was.same_pin ∙ c.4))
-  no_loss (lost.Copy a b) c = let r = matched a b c.0 in c.2 (subst (MayHoldCopy g) (sym r.1) (k.moves a r.0 c.1))
+  no_loss (lost.Copy a b) c = let r = matched a b c.0 in c.2 (subst (MayHoldCopy fill g) (sym r.1) (k.moves a r.0 c.1))
   no_loss (lost.Header a b) c = let r = matched a b c.0 in c.1 (ap (word h) r.1 ∙ same_header a r.0)
   no_loss (lost.Data a b n) c =
       let r = matched a b c.0 in

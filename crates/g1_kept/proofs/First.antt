@@ -1,33 +1,33 @@
 -- The first loss, and that there is one at most.
-use Rattle.std.proofs.Common.{◌≡◌, ◌≢◌, ℕ, ◌<◌, ◌⊎◌, inl, inr, List, length, IsTrue, IsFalse, refl, sym, subst, ◌∙◌, arith}
+use Rattle.std.proofs.Common.{◌≡◌, ◌≢◌, ℕ, ◌<◌, ◌⊎◌, inl, inr, List, length, IsTrue, IsFalse, refl, sym, subst, ◌∙◌, arith, Bool}
 use Rattle.std.proofs.lemmas.Bool.{cases_lt, false≢true}
 use native.Mathlib.Decide.{ℕ_discrete}
 use Rattle.g1_words.specs.Lists.{has}
-use Rattle.g1_words.specs.Heap.{Heap, kind, top, pinned}
+use Rattle.g1_words.specs.Heap.{Heap, kind, pinned}
 use Rattle.g1_words.specs.Valid.{IsValid}
 use Rattle.g1_kept.specs.declared.lost.Lost.{Lost}
 use Rattle.g1_kept.specs.declared.lost.Lost.TheVariants as lost
 use Rattle.g1_kept.specs.Keeps.{IsAsItWas, KeepsRegion, KeepsTable}
-use Rattle.g1_kept.specs.Lost.{IsUsedOutside, IsLoss}
+use Rattle.g1_kept.specs.Lost.{HasOtherTop, IsUsedOutside, IsLoss}
 use Rattle.g1_kept.specs.Order.{KeepsBefore, IsEarliest, IsMetFirst}
 use Rattle.g1_kept.specs.Laws.{OneLoss}
 use Rattle.g1_kept.proofs.OneLoss.{one_met}
-use Rattle.g1_kept.proofs.Regions.{same_top}
+use Rattle.g1_kept.proofs.Regions.{other_top}
 
 -- what is lost of a region
-data AtRegion (set : List ℕ) (g h : Heap) (l : Lost) (r : ℕ) : Type 0 where
-  for_set : l ≡ lost.Set r → IsTrue (has set r) → AtRegion set g h l r
-  for_table : l ≡ lost.Region r → IsFalse (has set r) → (kind h r ≢ kind g r) ⊎ (top h r ≢ top g r) → AtRegion set g h l r
-  for_unpinned : l ≡ lost.Unpinned r → IsFalse (has set r) → kind h r ≡ kind g r → top h r ≡ top g r → IsTrue (pinned g r) → AtRegion set g h l r
-  for_pinned : l ≡ lost.Pinned r → IsFalse (has set r) → kind h r ≡ kind g r → top h r ≡ top g r → IsFalse (pinned g r) → AtRegion set g h l r
+data AtRegion (fill : Bool) (set : List ℕ) (g h : Heap) (l : Lost) (r : ℕ) : Type 0 where
+  for_set : l ≡ lost.Set r → IsTrue (has set r) → AtRegion fill set g h l r
+  for_table : l ≡ lost.Region r → IsFalse (has set r) → (kind h r ≢ kind g r) ⊎ HasOtherTop fill g h r → AtRegion fill set g h l r
+  for_unpinned : l ≡ lost.Unpinned r → IsFalse (has set r) → kind h r ≡ kind g r → (HasOtherTop fill g h r → ⊥) → IsTrue (pinned g r) → AtRegion fill set g h l r
+  for_pinned : l ≡ lost.Pinned r → IsFalse (has set r) → kind h r ≡ kind g r → (HasOtherTop fill g h r → ⊥) → IsFalse (pinned g r) → AtRegion fill set g h l r
 
-module _ (set : List ℕ) (g h : Heap) (left : IsValid g) (right : IsValid h) where
-  both : (r : ℕ) → kind h r ≡ kind g r → top h r ≡ top g r → (kind h r ≢ kind g r) ⊎ (top h r ≢ top g r) → ⊥
+module _ (fill : Bool) (set : List ℕ) (g h : Heap) (left : IsValid g) (right : IsValid h) where
+  both : (r : ℕ) → kind h r ≡ kind g r → (HasOtherTop fill g h r → ⊥) → (kind h r ≢ kind g r) ⊎ HasOtherTop fill g h r → ⊥
   both r k t (inl d) = d k
-  both r k t (inr d) = d t
+  both r k t (inr d) = t d
 
   -- one region has one loss
-  same_region : (l m : Lost) (r : ℕ) → AtRegion set g h l r → AtRegion set g h m r → l ≡ m
+  same_region : (l m : Lost) (r : ℕ) → AtRegion fill set g h l r → AtRegion fill set g h m r → l ≡ m
   same_region l m r (for_set e t) (for_set f u) = e ∙ sym f
   same_region l m r (for_set e t) (for_table f u d) = absurd (false≢true (sym u ∙ t))
   same_region l m r (for_set e t) (for_unpinned f u a b p) = absurd (false≢true (sym u ∙ t))
@@ -45,33 +45,33 @@ module _ (set : List ℕ) (g h : Heap) (left : IsValid g) (right : IsValid h) wh
   same_region l m r (for_pinned e t a b p) (for_unpinned f u a' b' p') = absurd (false≢true (sym p ∙ p'))
   same_region l m r (for_pinned e t a b p) (for_pinned f u a' b' p') = e ∙ sym f
 
-  as_it_was : (r : ℕ) → IsUsedOutside set g r → kind h r ≡ kind g r → KeepsRegion set g h r → IsAsItWas g h r
+  as_it_was : (r : ℕ) → IsUsedOutside set g r → kind h r ≡ kind g r → KeepsRegion fill set g h r → IsAsItWas fill g h r
   as_it_was r out same k = elim (k.other out.outside) [
     | inl e ↦ absurd (out.used e)
     | inr s ↦ elim s [ inl f ↦ absurd (out.used (sym same ∙ f.1)) | inr was ↦ was ]
   ]
 
   -- a region of which something is lost is not as it has to be
-  not_set : (r : ℕ) → IsLoss set g h (lost.Set r) → KeepsRegion set g h r → ⊥
+  not_set : (r : ℕ) → IsLoss fill set g h (lost.Set r) → KeepsRegion fill set g h r → ⊥
   not_set r c k = c.2 (k.of_set c.1)
 
-  not_region : (r : ℕ) → h.geometry ≡ g.geometry → IsLoss set g h (lost.Region r) → KeepsRegion set g h r → ⊥
+  not_region : (r : ℕ) → h.geometry ≡ g.geometry → IsLoss fill set g h (lost.Region r) → KeepsRegion fill set g h r → ⊥
   not_region r same_sizes c k = elim (k.other c.0.outside) [
     | inl e ↦ c.0.used e
     | inr s ↦ elim s [
       | inl f ↦ c.1 f
-      | inr was ↦ elim c.2 [ inl d ↦ d was.same_kind | inr d ↦ d (same_top g h r left right same_sizes c.0.in_heap c.0.used was) ]
+      | inr was ↦ elim c.2 [ inl d ↦ d was.same_kind | inr d ↦ other_top fill g h r was d ]
     ]
   ]
 
-  not_unpinned : (r : ℕ) → IsLoss set g h (lost.Unpinned r) → KeepsRegion set g h r → ⊥
+  not_unpinned : (r : ℕ) → IsLoss fill set g h (lost.Unpinned r) → KeepsRegion fill set g h r → ⊥
   not_unpinned r c k = let was = as_it_was r c.0 c.1 k in false≢true (sym c.4 ∙ was.same_pin ∙ c.3)
 
-  not_pinned : (r : ℕ) → IsLoss set g h (lost.Pinned r) → KeepsRegion set g h r → ⊥
+  not_pinned : (r : ℕ) → IsLoss fill set g h (lost.Pinned r) → KeepsRegion fill set g h r → ⊥
   not_pinned r c k = let was = as_it_was r c.0 c.1 k in false≢true (sym c.3 ∙ sym was.same_pin ∙ c.4)
 
   -- what is met first when the tables and the number of roots are as they have to be is the first loss
-  pub later : (l : Lost) → KeepsTable set g h → length h.roots ≡ length g.roots → IsLoss set g h l → IsMetFirst set g h l → IsEarliest set g h l
+  pub later : (l : Lost) → KeepsTable fill set g h → length h.roots ≡ length g.roots → IsLoss fill set g h l → IsMetFirst fill set g h l → IsEarliest fill set g h l
   later lost.Sizes t n c m = tt
   later lost.Roots t n c m = t
   later (lost.Set r) t n c m = absurd (not_set r c (t.regions r c.0))
@@ -87,11 +87,11 @@ module _ (set : List ℕ) (g h : Heap) (left : IsValid g) (right : IsValid h) wh
   -- where the first loss is
   data Stage (l : Lost) : Type 0 where
     sizes : l ≡ lost.Sizes → h.geometry ≢ g.geometry → Stage l
-    region : (r : ℕ) → r < g.geometry.n → AtRegion set g h l r → KeepsBefore set g h r → (KeepsRegion set g h r → ⊥) → Stage l
-    roots : l ≡ lost.Roots → KeepsTable set g h → length h.roots ≢ length g.roots → Stage l
-    words : KeepsTable set g h → length h.roots ≡ length g.roots → IsMetFirst set g h l → Stage l
+    region : (r : ℕ) → r < g.geometry.n → AtRegion fill set g h l r → KeepsBefore fill set g h r → (KeepsRegion fill set g h r → ⊥) → Stage l
+    roots : l ≡ lost.Roots → KeepsTable fill set g h → length h.roots ≢ length g.roots → Stage l
+    words : KeepsTable fill set g h → length h.roots ≡ length g.roots → IsMetFirst fill set g h l → Stage l
 
-  stage : (l : Lost) → IsLoss set g h l → IsEarliest set g h l → Stage l
+  stage : (l : Lost) → IsLoss fill set g h l → IsEarliest fill set g h l → Stage l
   stage lost.Sizes c e = sizes refl c
   stage lost.Roots c e = roots refl e c
   stage (lost.Set r) c e = region r c.0 (for_set refl c.1) e (not_set r c)
@@ -108,7 +108,7 @@ module _ (set : List ℕ) (g h : Heap) (left : IsValid g) (right : IsValid h) wh
   one l m (words t n a) (sizes f d) = absurd (d t.geometry)
   one l m (words t n a) (region r lt at b not) = absurd (not (t.regions r lt))
   one l m (words t n a) (roots f t' n') = absurd (n' n)
-  one l m (words t n a) (words t' n' b) = one_met set g h l m a b
+  one l m (words t n a) (words t' n' b) = one_met fill set g h l m a b
   one l m (sizes e d) (sizes f d') = e ∙ sym f
   one l m (sizes e d) (region r lt at b not) = absurd (d b.0)
   one l m (sizes e d) (roots f t n) = absurd (d t.geometry)
@@ -119,7 +119,7 @@ module _ (set : List ℕ) (g h : Heap) (left : IsValid g) (right : IsValid h) wh
   one l m (region r lt at b not) (region q lt' at' b' not') = elim (cases_lt r q) [
     | inl below ↦ absurd (not (b'.1 r below))
     | inr le ↦ elim (ℕ_discrete r q) [
-      | yes e ↦ same_region l m q (subst (AtRegion set g h l) e at) at'
+      | yes e ↦ same_region l m q (subst (AtRegion fill set g h l) e at) at'
       | no d ↦ absurd (not' (b.1 q (omega (arith, le, d))))
     ]
   ]
@@ -129,4 +129,4 @@ module _ (set : List ℕ) (g h : Heap) (left : IsValid g) (right : IsValid h) wh
   one l m (roots e t n) (words t' n' a) = absurd (n n')
 
 pub one_loss : OneLoss
-one_loss set g h l m left right lost first lost' first' = one set g h left right l m (stage set g h left right l lost first) (stage set g h left right m lost' first')
+one_loss fill set g h l m left right lost first lost' first' = one fill set g h left right l m (stage fill set g h left right l lost first) (stage fill set g h left right m lost' first')

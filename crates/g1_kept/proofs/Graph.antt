@@ -1,5 +1,5 @@
 -- A heap that keeps what a pause keeps shows the same graph.
-use Rattle.std.proofs.Common.{◌≡◌, ◌≢◌, ℕ, suc, ◌+◌, ◌/◌, ◌%◌, ◌^◌, ◌<◌, inl, inr, List, length, Contains, IsFalse, ap, subst, ◌∙◌, arith, slice_index}
+use Rattle.std.proofs.Common.{◌≡◌, ◌≢◌, ℕ, suc, ◌+◌, ◌/◌, ◌%◌, ◌^◌, ◌<◌, inl, inr, List, length, Contains, IsFalse, ap, subst, ◌∙◌, arith, slice_index, Bool}
 use Rattle.std.proofs.lemmas.Bool.{cases_Bool}
 use Rattle.std.proofs.lemmas.List.{length-map, get_or-map}
 use Rattle.g1_words.specs.declared.region.Kind.TheVariants.{Free}
@@ -14,7 +14,7 @@ use Rattle.g1_kept.specs.Keeps.{Keeps, Remains, outside, root, slot}
 use Rattle.g1_kept.specs.Laws.{KeepsGraph}
 use Rattle.g1_kept.proofs.Remaining.{remains_object, copied_header, copied_slot}
 
-module _ (set : List ℕ) (g h : Heap) (left : IsValid g) (right : IsValid h) (k : Keeps set g h) where
+module _ (fill : Bool) (set : List ℕ) (g h : Heap) (left : IsValid g) (right : IsValid h) (k : Keeps fill set g h) where
   -- where an object stands in the heap after, the region is in use
   used_there : (a : ℕ) → Contains (objects h) (object_at h a) → kind h (region_of g a) ≢ Free
   used_there a c e = (sound h right).in_used (object_at h a) c (ap (λ s. kind h (a / s.w)) k.table.geometry ∙ e)
@@ -45,10 +45,10 @@ module _ (set : List ℕ) (g h : Heap) (left : IsValid g) (right : IsValid h) (k
       ]
 
 pub keeps_graph : KeepsGraph
-keeps_graph set g h left right k = record {
+keeps_graph fill set g h left right k = record {
   rename = k.rename;
-  one_to_one = λ a b la lb. k.one_to_one a b (live_remains set g h left right k a la) (live_remains set g h left right k b lb);
+  one_to_one = λ a b la lb. k.one_to_one a b (live_remains fill set g h left right k a la) (live_remains fill set g h left right k b lb);
   roots = k.roots;
-  stands = λ a la. k.stands a (live_remains set g h left right k a la);
-  copies = λ a la. k.copies a (live_remains set g h left right k a la);
+  stands = λ a la. k.stands a (live_remains fill set g h left right k a la);
+  copies = λ a la. k.copies a (live_remains fill set g h left right k a la);
 }

@@ -1,19 +1,18 @@
 -- A search meets one loss first.
-use Rattle.std.proofs.Common.{◌≡◌, ◌≢◌, ℕ, zero, suc, ◌+◌, ◌<◌, ◌≤◌, ◌⊎◌, inl, inr, List, length, IsTrue, refl, sym, ap, subst, ◌∙◌, arith, slice_index}
+use Rattle.std.proofs.Common.{◌≡◌, ◌≢◌, ℕ, zero, suc, ◌+◌, ◌<◌, ◌≤◌, inl, inr, List, length, IsTrue, refl, sym, ap, subst, ◌∙◌, arith, slice_index, Bool}
 use Rattle.std.proofs.lemmas.Bool.{cases_lt, false≢true}
 use Rattle.g1_words.specs.Heap.{Heap, word, object_at}
 use Rattle.g1_words.specs.Survivors.{in_set}
-use Rattle.g1_same.specs.Walk.{AreAlike, IsEarlier, IsNew}
+use Rattle.g1_same.specs.Walk.{IsEarlier, IsNew}
 use Rattle.g1_kept.specs.declared.lost.Lost.{Lost}
 use Rattle.g1_kept.specs.declared.lost.Lost.TheVariants as lost
-use Rattle.g1_kept.specs.Keeps.{MayHoldCopy, IsOutside}
-use Rattle.g1_kept.specs.Lost.{LeadsOut}
+use Rattle.g1_kept.specs.Keeps.{MayHoldCopy}
 use Rattle.g1_kept.proofs.Places.{places, sooner, later, neither, turn_one, words_one, AreSame, words_there, same_back}
 use Rattle.g1_kept.specs.Order.{IsTurn, AreWords, DoAgree, IsSearch, Clash, changed, null, split, joined, IsLostAt, IsMetFirst}
 
-module _ (set : List ℕ) (g h : Heap) where
+module _ (fill : Bool) (set : List ℕ) (g h : Heap) where
   -- The place of the pair k of one search is not before that of the other one's.
-  module _ (olds news : List ℕ) (f n : ℕ) (s : IsSearch set g h olds news f n) (others images : List ℕ) (k m : ℕ) (t : IsSearch set g h others images k m) where
+  module _ (olds news : List ℕ) (f n : ℕ) (s : IsSearch fill set g h olds news f n) (others images : List ℕ) (k m : ℕ) (t : IsSearch fill set g h others images k m) where
     -- where the other search finds the words of a pair that it has not found before
     not_before : (i : ℕ) → i < length olds → AreSame set g h olds news others images i → IsEarlier (slice_index s.froms i) (slice_index s.numbers i) k m
         → (i < length others) × IsEarlier (slice_index t.froms i) (slice_index t.numbers i) (slice_index s.froms i) (slice_index s.numbers i + 1)
@@ -53,7 +52,7 @@ module _ (set : List ℕ) (g h : Heap) where
         before_later i j p q (inr a) (inr b) = inr (omega (arith, a.0, b.0), omega (arith, a.1, b.1))
 
   -- the search that goes on has all pairs of the one that ends first
-  module _ (olds news : List ℕ) (f n : ℕ) (s : IsSearch set g h olds news f n) (others images : List ℕ) (k m : ℕ) (t : IsSearch set g h others images k m)
+  module _ (olds news : List ℕ) (f n : ℕ) (s : IsSearch fill set g h olds news f n) (others images : List ℕ) (k m : ℕ) (t : IsSearch fill set g h others images k m)
       (order : (a b : ℕ) → IsEarlier a b f n → IsEarlier a b k m) where
     all_same : (i : ℕ) → i ≤ length olds → AreSame set g h olds news others images i
     all_same zero le = record { more = omega arith; olds_same = λ i lt. absurd (omega (arith, lt)); news_same = λ i lt. absurd (omega (arith, lt)) }
@@ -128,12 +127,12 @@ module _ (set : List ℕ) (g h : Heap) where
         new i (omega (arith, lt, all.more, t.pairs)) (sym (all.news_same i lt) ∙ is ∙ omega (arith, ey))
 
     -- nothing is lost where the other search goes on
-    never : (l : Lost) → IsEarlier f n k m → IsLostAt set g h olds news f n l → ⊥
+    never : (l : Lost) → IsEarlier f n k m → IsLostAt fill set g h olds news f n l → ⊥
     never (lost.Root r) e o = clash_never f n o.2 o.3 o.5 (t.agree f n o.2 o.3 e (words_all f n o.2 o.3 o.4))
     never (lost.Slot a b r) e o = clash_never f n o.4 o.5 o.7 (t.agree f n o.4 o.5 e (words_all f n o.4 o.5 o.6))
     never (lost.Copy a b) e o = elim (t.agree f n (suc a) (suc b) e (words_all f n (suc a) (suc b) o.0)) [
       | inl out ↦ false≢true (sym (out.0 a refl) ∙ o.1)
-      | inr j ↦ let is : slice_index images j.0 ≡ b = omega (arith, j.3) in o.4 (subst (MayHoldCopy g) is (t.room j.0 j.1))
+      | inr j ↦ let is : slice_index images j.0 ≡ b = omega (arith, j.3) in o.4 (subst (MayHoldCopy fill g) is (t.room j.0 j.1))
     ]
     never (lost.Header a b) e o =
         let same = t.alike o.0 a b (subst (λ z. IsEarlier z 0 k m) o.1 (subst (λ z. IsEarlier f z k m) o.2 e)) (turn_all o.0 a b o.3) in
@@ -148,14 +147,14 @@ module _ (set : List ℕ) (g h : Heap) where
     never (lost.Unpinned r) e o = o
     never (lost.Pinned r) e o = o
 
-  module _ (olds news : List ℕ) (f n : ℕ) (s : IsSearch set g h olds news f n) (others images : List ℕ) (t : IsSearch set g h others images f n) where
+  module _ (olds news : List ℕ) (f n : ℕ) (s : IsSearch fill set g h olds news f n) (others images : List ℕ) (t : IsSearch fill set g h others images f n) where
     forth_words : (x y u v : ℕ) → AreWords set g h olds news f n x y → AreWords set g h others images f n u v → (x ≡ u) × (y ≡ v)
     forth_words x y u v o p = words_one set g h others images f n x y u v (words_all olds news f n s others images f n t (λ a b e. e) f n x y o) p
 
     forth_turn : (t' a b c d : ℕ) → IsTurn set g h olds news t' a b → IsTurn set g h others images t' c d → (a ≡ c) × (b ≡ d)
     forth_turn t' a b c d o p = turn_one set g h others images t' a b c d (turn_all olds news f n s others images f n t (λ a b e. e) t' a b o) p
 
-    clash_copy : (x y a b : ℕ) → AreWords set g h olds news f n x y → Clash set g olds news x y → IsLostAt set g h others images f n (lost.Copy a b) → ⊥
+    clash_copy : (x y a b : ℕ) → AreWords set g h olds news f n x y → Clash set g olds news x y → IsLostAt fill set g h others images f n (lost.Copy a b) → ⊥
     clash_copy x y a b o c p =
         let e = forth_words x y (suc a) (suc b) o p.0 in
         clash_known olds news f n s others images f n t (λ a b e. e) x y a b c e.0 e.1 p.1 p.2 p.3
@@ -178,8 +177,8 @@ module _ (set : List ℕ) (g h : Heap) where
         let e : u ≡ v = omega (arith, eu, ev) in
         forth_turn v a b c d (subst (λ z. IsTurn set g h olds news z a b) e o) p
 
-  module _ (olds news : List ℕ) (f n : ℕ) (s : IsSearch set g h olds news f n) (others images : List ℕ) (t : IsSearch set g h others images f n) where
-    same_here : (l m : Lost) → IsLostAt set g h olds news f n l → IsLostAt set g h others images f n m → l ≡ m
+  module _ (olds news : List ℕ) (f n : ℕ) (s : IsSearch fill set g h olds news f n) (others images : List ℕ) (t : IsSearch fill set g h others images f n) where
+    same_here : (l m : Lost) → IsLostAt fill set g h olds news f n l → IsLostAt fill set g h others images f n m → l ≡ m
     same_here (lost.Root r) (lost.Root q) o p = ap lost.Root (omega (arith, o.1, p.1))
     same_here (lost.Root r) (lost.Slot c d q) o p = absurd (omega (arith, o.0, p.1))
     same_here (lost.Root r) (lost.Copy c d) o p = absurd (clash_copy olds news f n s others images t o.2 o.3 c d o.4 o.5 p)
@@ -244,18 +243,18 @@ module _ (set : List ℕ) (g h : Heap) where
 before_that : (a b f n k m : ℕ) → IsEarlier f n k m → IsEarlier a b f n → IsEarlier a b k m
 before_that a b f n k m e d = sooner a b f n k m (later a b f n d) e
 
-pub one_met : (set : List ℕ) (g h : Heap) (l m : Lost) → IsMetFirst set g h l → IsMetFirst set g h m → l ≡ m
-one_met set g h l m a b = elim (places a.from a.number b.from b.number) [
-  | inl e ↦ absurd (never set g h a.olds a.news a.from a.number a.search b.olds b.news b.from b.number b.search
+pub one_met : (fill : Bool) (set : List ℕ) (g h : Heap) (l m : Lost) → IsMetFirst fill set g h l → IsMetFirst fill set g h m → l ≡ m
+one_met fill set g h l m a b = elim (places a.from a.number b.from b.number) [
+  | inl e ↦ absurd (never fill set g h a.olds a.news a.from a.number a.search b.olds b.news b.from b.number b.search
       (λ p q d. before_that p q a.from a.number b.from b.number e d) l e a.here)
   | inr r ↦ elim r [
     | inl e ↦
-        let s : IsSearch set g h a.olds a.news b.from b.number =
-        subst (λ z. IsSearch set g h a.olds a.news b.from z) e.1 (subst (λ z. IsSearch set g h a.olds a.news z a.number) e.0 a.search) in
-        let o : IsLostAt set g h a.olds a.news b.from b.number l =
-        subst (λ z. IsLostAt set g h a.olds a.news b.from z l) e.1 (subst (λ z. IsLostAt set g h a.olds a.news z a.number l) e.0 a.here) in
-        same_here set g h a.olds a.news b.from b.number s b.olds b.news b.search l m o b.here
-    | inr e ↦ absurd (never set g h b.olds b.news b.from b.number b.search a.olds a.news a.from a.number a.search
+        let s : IsSearch fill set g h a.olds a.news b.from b.number =
+        subst (λ z. IsSearch fill set g h a.olds a.news b.from z) e.1 (subst (λ z. IsSearch fill set g h a.olds a.news z a.number) e.0 a.search) in
+        let o : IsLostAt fill set g h a.olds a.news b.from b.number l =
+        subst (λ z. IsLostAt fill set g h a.olds a.news b.from z l) e.1 (subst (λ z. IsLostAt fill set g h a.olds a.news z a.number l) e.0 a.here) in
+        same_here fill set g h a.olds a.news b.from b.number s b.olds b.news b.search l m o b.here
+    | inr e ↦ absurd (never fill set g h b.olds b.news b.from b.number b.search a.olds a.news a.from a.number a.search
         (λ p q d. before_that p q b.from b.number a.from a.number e d) m e b.here)
   ]
 ]

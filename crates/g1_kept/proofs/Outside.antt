@@ -1,5 +1,5 @@
 -- The search over the objects outside the set, by address.
-use Rattle.std.proofs.Common.{◌≡◌, ◌≢◌, ℕ, zero, suc, ◌+◌, ◌*◌, ◌/◌, ◌<◌, ◌≤◌, inl, inr, List, [], ◌∷◌, ◌++◌, length, flat_map, Contains, IsFalse, refl, sym, ap, subst, ◌∙◌, arith, slice_index}
+use Rattle.std.proofs.Common.{◌≡◌, ◌≢◌, ℕ, zero, suc, ◌+◌, ◌*◌, ◌<◌, ◌≤◌, inl, inr, List, [], ◌∷◌, ◌++◌, length, flat_map, Contains, IsFalse, refl, sym, ap, subst, ◌∙◌, arith, slice_index, Bool}
 use Rattle.std.proofs.Math.Nat.{div-mul-le_self, lt-div-mul-add, mul-le-mul_right}
 use Rattle.std.proofs.lemmas.Bool.{cases_lt}
 use Rattle.g1_words.specs.declared.object.Object.{Object}
@@ -50,15 +50,15 @@ rise_of (o ∷ os) ordered some zero (suc j) less lt =
 rise_of (o ∷ os) ordered some (suc i) (suc j) less lt = rise_of os ordered.1 (λ q k. some q (inr k)) i j (omega (arith, less)) (omega (arith, lt))
 
 -- The walk has looked at the first objects of a region, and at nothing that comes after them.
-pub record IsAlong (set : List ℕ) (g h : Heap) (w : Pairs) (starts : List ℕ) (r i : ℕ) : Type 0 where
+pub record IsAlong (fill : Bool) (set : List ℕ) (g h : Heap) (w : Pairs) (starts : List ℕ) (r i : ℕ) : Type 0 where
   pub reached : ℕ
   pub from_start : start g r ≤ reached
   pub to_end : reached ≤ start g (r + 1)
   pub before_next : (j : ℕ) → i ≤ j → j < length starts → reached ≤ slice_index starts j
   pub none_left : (j : ℕ) → j < length starts → reached ≤ slice_index starts j → i ≤ j
-  pub search : Searches set g h w (suc reached) 0
+  pub search : Searches fill set g h w (suc reached) 0
 
-module _ (set : List ℕ) (g h : Heap) (left : IsValid g) (right : IsValid h) where
+module _ (fill : Bool) (set : List ℕ) (g h : Heap) (left : IsValid g) (right : IsValid h) where
   some_words : 0 < g.geometry.w
   some_words = omega (arith, left.limits.w_least)
 
@@ -90,15 +90,15 @@ module _ (set : List ℕ) (g h : Heap) (left : IsValid g) (right : IsValid h) wh
 
   -- over a region of which nothing is looked at
   pub region_skipped : (w : Pairs) (r : ℕ) → r < g.geometry.n → (IsFalse (has set r) → kind g r ≢ Free → kind h r ≢ Free → ⊥)
-      → Searches set g h w (suc (start g r)) 0 → Searches set g h w (suc (start g (r + 1))) 0
-  region_skipped w r lt none search = skip_to set g h w.before.items w.after.items (start g r) (start g (r + 1)) (omega arith) search
+      → Searches fill set g h w (suc (start g r)) 0 → Searches fill set g h w (suc (start g (r + 1))) 0
+  region_skipped w r lt none search = skip_to fill set g h w.before.items w.after.items (start g r) (start g (r + 1)) (omega arith) search
       (λ t a b from to turn.
       let fits = start_within r lt in
-      let o = turn_outside set g h w.before.items w.after.items t a b (omega (arith, fits, to)) turn in
+      let o = turn_outside fill set g h w.before.items w.after.items t a b (omega (arith, fits, to)) turn in
       let here = region_is t r from to in
       none (ap (has set) (sym here) ∙ o.0.outside) (λ e. (sound g left).in_used (object_at g t) o.0.object (ap (kind g) here ∙ e)) (λ e. o.0.in_use (ap (kind h) here ∙ e)))
 
-  module _ (table : KeepsTable set g h) (r : ℕ) (lt : r < g.geometry.n) (out : IsFalse (has set r)) (used : kind g r ≢ Free) (in_use : kind h r ≢ Free)
+  module _ (table : KeepsTable fill set g h) (r : ℕ) (lt : r < g.geometry.n) (out : IsFalse (has set r)) (used : kind g r ≢ Free) (in_use : kind h r ≢ Free)
       (starts : List ℕ) (is : starts ≡ starts_of (objects_in g r)) where
     at_region : (i : ℕ) → i < length starts → region_of g (slice_index starts i) ≡ r
     at_region i p =
@@ -127,7 +127,7 @@ module _ (set : List ℕ) (g h : Heap) (left : IsValid g) (right : IsValid h) wh
         let c = object_here t r o (region_is t r from to) in
         place_of starts t (subst (λ l. In l t) (sym is) (In-map (λ (q : Object). q.at) (objects_in g r) (object_at g t) (In-from_contains (objects_in g r) (object_at g t) c)))
 
-    pub along_start : (w : Pairs) → Searches set g h w (suc (start g r)) 0 → IsAlong set g h w starts r 0
+    pub along_start : (w : Pairs) → Searches fill set g h w (suc (start g r)) 0 → IsAlong fill set g h w starts r 0
     along_start w search = record {
       reached = start g r;
       from_start = omega arith;
@@ -140,40 +140,40 @@ module _ (set : List ℕ) (g h : Heap) (left : IsValid g) (right : IsValid h) wh
     -- the turn of an object of the region
     pub start_turn : (w : Pairs) (i : ℕ) → i < length starts → (a : ℕ) → a ≡ slice_index starts i → HasTurn set g h w a a a
     start_turn w i p a e =
-        let o = start_outside set g h left right table r lt out used in_use starts is i p in
+        let o = start_outside fill set g h left right table r lt out used in_use starts is i p in
         let k = object_in g (slice_index starts i) left o.object in
         let within : a < length g.words = omega (arith, k.0, k.1, e) in
         inl (within, subst (IsOutside set g h) (sym e) o, refl, refl)
 
-    module _ (w : Pairs) (i : ℕ) (along : IsAlong set g h w starts r i) where
+    module _ (w : Pairs) (i : ℕ) (along : IsAlong fill set g h w starts r i) where
       no_turn : (q : ℕ) → q ≤ start g (r + 1) → ((j : ℕ) → i ≤ j → j < length starts → slice_index starts j < q → ⊥)
           → (t a b : ℕ) → along.reached ≤ t → t < q → HasTurn set g h w t a b → ⊥
       no_turn q le none t a b from to turn =
           let fits = start_within r lt in
-          let o = turn_outside set g h w.before.items w.after.items t a b (omega (arith, fits, to, le)) turn in
+          let o = turn_outside fill set g h w.before.items w.after.items t a b (omega (arith, fits, to, le)) turn in
           let j = one_of_starts t o.0 (omega (arith, along.from_start, from)) (omega (arith, to, le)) in
           none j.0 (along.none_left j.0 j.1 (omega (arith, from, j.2))) j.1 (omega (arith, j.2, to))
 
       -- to the next object
-      pub along_to : i < length starts → Searches set g h w (suc (slice_index starts i)) 0
+      pub along_to : i < length starts → Searches fill set g h w (suc (slice_index starts i)) 0
       along_to p =
           let to = region_to (slice_index starts i) r (at_region i p) in
-          skip_to set g h w.before.items w.after.items along.reached (slice_index starts i) (along.before_next i (omega arith) p) along.search
+          skip_to fill set g h w.before.items w.after.items along.reached (slice_index starts i) (along.before_next i (omega arith) p) along.search
           (no_turn (slice_index starts i) (omega (arith, to)) (λ j le lt' less. elim (cases_lt i j) [
             | inl below ↦ let k = rise i j below lt' in omega (arith, k, less)
             | inr ge ↦ let e : j ≡ i = omega (arith, le, ge) in let k = ap (slice_index starts) e in omega (arith, k, less)
           ]))
 
-      pub at_start : i < length starts → (a : ℕ) → a ≡ slice_index starts i → Searches set g h w (suc a) 0
-      at_start p a e = subst (λ z. Searches set g h w (suc z) 0) (sym e) (along_to p)
+      pub at_start : i < length starts → (a : ℕ) → a ≡ slice_index starts i → Searches fill set g h w (suc a) 0
+      at_start p a e = subst (λ z. Searches fill set g h w (suc z) 0) (sym e) (along_to p)
 
       -- to the next region
-      pub along_end : length starts ≤ i → Searches set g h w (suc (start g (r + 1))) 0
-      along_end le = skip_to set g h w.before.items w.after.items along.reached (start g (r + 1)) along.to_end along.search
+      pub along_end : length starts ≤ i → Searches fill set g h w (suc (start g (r + 1))) 0
+      along_end le = skip_to fill set g h w.before.items w.after.items along.reached (start g (r + 1)) along.to_end along.search
           (no_turn (start g (r + 1)) (omega arith) (λ j ge p less. omega (arith, le, ge, p)))
 
       -- past an object
-      pub along_next : (v : Pairs) → i < length starts → Searches set g h v (suc (suc (slice_index starts i))) 0 → IsAlong set g h v starts r (i + 1)
+      pub along_next : (v : Pairs) → i < length starts → Searches fill set g h v (suc (suc (slice_index starts i))) 0 → IsAlong fill set g h v starts r (i + 1)
       along_next v p search =
           let first = along.before_next i (omega arith) p in
           let last = region_to (slice_index starts i) r (at_region i p) in

@@ -92,8 +92,8 @@ module _ (i : Image) (set l : List ℕ) (b : Image) (valid : IsValid i.heap) (ro
   set_region : (r : ℕ) → r < i.heap.geometry.n → has set r ≡ true → kind after r ≡ Free
   set_region r lt e = ap (λ (q : Region). q.kind) (not_freed_stays r lt (set_not_freed r lt e) ∙ of_set_free r lt e)
 
-  other_region : (r : ℕ) → r < i.heap.geometry.n → has set r ≡ false → (kind i.heap r ≡ Free) ⊎ (IsFreed i.heap after r ⊎ IsAsItWas i.heap after r)
-  other_region r lt out = elim (cases_Bool (has (to_space i.heap l) r)) [
+  other_region : (fill : Bool) (r : ℕ) → r < i.heap.geometry.n → has set r ≡ false → (kind i.heap r ≡ Free) ⊎ (IsFreed i.heap after r ⊎ IsAsItWas fill i.heap after r)
+  other_region fill r lt out = elim (cases_Bool (has (to_space i.heap l) r)) [
     | inl t ↦ inl (is_free_region i.heap r (taken_in (need i.heap l) (free_regions i.heap) r (in_from_has (to_space i.heap l) r t))).0
     | inr f ↦
         let same : region b.heap r ≡ region i.heap r = moved_region r lt ∙ cond_false (has set r) free_region _ out ∙ cond_false (has (to_space i.heap l) r) _ (region i.heap r) f in
@@ -192,7 +192,7 @@ module _ (i : Image) (set l : List ℕ) (b : Image) (valid : IsValid i.heap) (ro
       (In-filter (λ (o : Object). not (in_set i.heap freed o.at)) (kept i.heap set l) (object_at i.heap a) (kept_there a r) (ap not (not_in_freed a r)))
 
 pub pause_keeps : PauseKeeps
-pause_keeps i set l j valid room p =
+pause_keeps fill i set l j valid room p =
     let b : Image = p.between in
     let h : Heap = i.heap in
     let s : IsSound h = sound h valid in
@@ -203,13 +203,13 @@ pause_keeps i set l j valid room p =
     record {
       table = record {
         geometry = ap (λ (z : Heap). z.geometry) heap ∙ sizes i set l b valid room p.moved;
-        regions = λ r lt. subst (λ z. KeepsRegion set h z r) (sym heap)
-            (record { of_set = set_region i set l b valid room p.moved r lt; other = other_region i set l b valid room p.moved r lt });
+        regions = λ r lt. subst (λ z. KeepsRegion fill set h z r) (sym heap)
+            (record { of_set = set_region i set l b valid room p.moved r lt; other = other_region i set l b valid room p.moved fill r lt });
       };
       rename = f;
       stays = λ a out. outside_stays h set l s room.ordinary room.survivors room.room a out;
-      moves = λ a r t. survivor_to_free h set l s room.ordinary room.survivors room.room a
-          (In-from_contains l a (survives i set l b valid room p.moved a (subst (λ z. Remains set h z a) heap r) t));
+      moves = λ a r t. inl (survivor_to_free h set l s room.ordinary room.survivors room.room a
+          (In-from_contains l a (survives i set l b valid room p.moved a (subst (λ z. Remains set h z a) heap r) t)));
       one_to_one = λ a c ra rc e. forward_one_to_one h set l s room.ordinary room.survivors room.room (object_at h a) (object_at h c)
           (Contains-from_in (kept h set l) (object_at h a) (kept_there i set l b valid room p.moved a (subst (λ z. Remains set h z a) heap ra)))
           (Contains-from_in (kept h set l) (object_at h c) (kept_there i set l b valid room p.moved c (subst (λ z. Remains set h z c) heap rc))) e;

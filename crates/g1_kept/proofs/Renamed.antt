@@ -1,5 +1,5 @@
 -- A walk that has paired all roots and compared all objects shows that everything is kept.
-use Rattle.std.proofs.Common.{◌≡◌, ℕ, zero, suc, ◌+◌, ◌-◌, ◌<◌, inl, inr, List, length, get_or, map, Contains, IsTrue, IsFalse, refl, sym, ap, subst, ◌∙◌, arith, slice_index, cond}
+use Rattle.std.proofs.Common.{◌≡◌, ℕ, zero, suc, ◌+◌, ◌-◌, ◌<◌, inl, inr, List, length, get_or, map, Contains, IsTrue, IsFalse, refl, sym, ap, subst, ◌∙◌, arith, slice_index, cond, Bool}
 use Rattle.std.proofs.lemmas.Bool.{cases_Bool, false≢true}
 use Rattle.std.proofs.lemmas.List.{ext_get_or, length-map, get_or-map}
 use Rattle.std.proofs.lemmas.List.FromFn.{get_or-map-range_with_len, length-map-range_with_len}
@@ -19,9 +19,10 @@ use Rattle.g1_kept.specs.declared.pairs.Pairs.{Pairs}
 use Rattle.g1_kept.specs.Keeps.{MayHoldCopy, IsOutside, Keeps, Remains, outside, root, slot, KeepsTable}
 use Rattle.g1_kept.specs.Walk.{IsWalk, IsPaired, PairsRoots, IsCompared, ComparesOutside, ComparesPairs}
 use Rattle.g1_kept.proofs.Adding.{before_within, after_within}
+use Rattle.g1_kept.proofs.Regions.{not_at_object}
 use Rattle.g1_kept.proofs.Remaining.{remains_object}
 
-module _ (set : List ℕ) (g h : Heap) (left : IsValid g) (right : IsValid h) (w : Pairs) (walk : IsWalk set g h w) where
+module _ (fill : Bool) (set : List ℕ) (g h : Heap) (left : IsValid g) (right : IsValid h) (w : Pairs) (walk : IsWalk fill set g h w) where
   abbrev found_at : ℕ → ℕ
   found_at a = slice_index w.after.items (slice_index w.new_of.items a - 1)
 
@@ -34,7 +35,7 @@ module _ (set : List ℕ) (g h : Heap) (left : IsValid g) (right : IsValid h) (w
   rename_at : (i : ℕ) → i < length w.before.items → rename (slice_index w.before.items i) ≡ slice_index w.after.items i
   rename_at i p =
       let a : ℕ = slice_index w.before.items i in
-      let k = (walk.index_before a i (before_within set g h w left walk i p)).1 (p, refl) in
+      let k = (walk.index_before a i (before_within fill set g h w left walk i p)).1 (p, refl) in
       let e : slice_index w.new_of.items a - 1 ≡ i = omega (arith, k) in
       ap (λ b. cond b (found_at a) a) (walk.of_set i p) ∙ ap (slice_index w.after.items) e
 
@@ -82,7 +83,7 @@ module _ (set : List ℕ) (g h : Heap) (left : IsValid g) (right : IsValid h) (w
       (λ m lt. let q : m < o.size = omega (arith, lt, long) in
       get_or-map-range_with_len (word h) (rename a) o.size m (rename a + m) 0 q refl ∙ word_copied a (rename a) m object c q)
 
-  module _ (table : KeepsTable set g h) (count : length h.roots ≡ length g.roots) (roots : PairsRoots set g h w (length g.roots))
+  module _ (table : KeepsTable fill set g h) (count : length h.roots ≡ length g.roots) (roots : PairsRoots set g h w (length g.roots))
       (others : ComparesOutside set g h w g.geometry.n) (pairs : ComparesPairs set g h w (length w.before.items)) where
     pair_compared : (a i : ℕ) → i < length w.before.items → slice_index w.before.items i ≡ a → IsCompared set g h w a (rename a)
     pair_compared a i p e =
@@ -121,14 +122,14 @@ module _ (set : List ℕ) (g h : Heap) (left : IsValid g) (right : IsValid h) (w
     to_place : (a i : ℕ) → i < length w.before.items → slice_index w.before.items i ≡ a → rename a ≡ slice_index w.after.items i
     to_place a i p e = ap rename (sym e) ∙ rename_at i p
 
-    moves : (a : ℕ) → Remains set g h a → IsTrue (in_set g set a) → MayHoldCopy g (rename a)
-    moves a r of_set = let i = placed a r of_set in subst (MayHoldCopy g) (sym (to_place a i.0 i.1 i.2)) (walk.room i.0 i.1)
+    moves : (a : ℕ) → Remains set g h a → IsTrue (in_set g set a) → MayHoldCopy fill g (rename a)
+    moves a r of_set = let i = placed a r of_set in subst (MayHoldCopy fill g) (sym (to_place a i.0 i.1 i.2)) (walk.room i.0 i.1)
 
     -- no copy is where an object outside the set stands
     apart : (a b : ℕ) → Remains set g h a → Remains set g h b → IsTrue (in_set g set a) → IsFalse (in_set g set b) → rename a ≡ rename b → ⊥
     apart a b ra rb of_set out e =
-        let room : MayHoldCopy g b = subst (MayHoldCopy g) (e ∙ rename_out b out) (moves a ra of_set) in
-        (sound g left).in_used (object_at g b) (remains_object set g h left b rb) room
+        let room : MayHoldCopy fill g b = subst (MayHoldCopy fill g) (e ∙ rename_out b out) (moves a ra of_set) in
+        not_at_object fill g b left (remains_object set g h left b rb) room
 
     one_to_one : (a b : ℕ) → Remains set g h a → Remains set g h b → rename a ≡ rename b → a ≡ b
     one_to_one a b ra rb e = elim (cases_Bool (in_set g set a)) [
@@ -136,7 +137,7 @@ module _ (set : List ℕ) (g h : Heap) (left : IsValid g) (right : IsValid h) (w
         | inl u ↦
             let i = placed a ra t in
             let j = placed b rb u in
-            let k : i.0 ≡ j.0 = index_apart w.old_of.items w.after.items walk.index_after (after_within set g h w right walk) i.0 j.0
+            let k : i.0 ≡ j.0 = index_apart w.old_of.items w.after.items walk.index_after (after_within fill set g h w right walk) i.0 j.0
             (omega (arith, i.1, walk.pairs)) (omega (arith, j.1, walk.pairs)) (sym (to_place a i.0 i.1 i.2) ∙ e ∙ to_place b j.0 j.1 j.2) in
             sym i.2 ∙ ap (slice_index w.before.items) k ∙ j.2
         | inr u ↦ absurd (apart a b ra rb t u e)
@@ -147,7 +148,7 @@ module _ (set : List ℕ) (g h : Heap) (left : IsValid g) (right : IsValid h) (w
       ]
     ]
 
-    pub keeps : Keeps set g h
+    pub keeps : Keeps fill set g h
     keeps = record {
       table = table;
       rename = rename;

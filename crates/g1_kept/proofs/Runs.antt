@@ -1,5 +1,5 @@
 -- A humongous object is there as a whole, or all regions of its run are free.
-use Rattle.std.proofs.Common.{◌≡◌, ◌≢◌, ℕ, ◌+◌, ◌-◌, ◌*◌, ◌/◌, ◌^◌, ◌<◌, ◌≤◌, ◌⊎◌, inl, inr, List, Contains, IsFalse, refl, sym, ap, subst, ◌∙◌, arith}
+use Rattle.std.proofs.Common.{◌≡◌, ◌≢◌, ℕ, ◌+◌, ◌-◌, ◌*◌, ◌/◌, ◌^◌, ◌<◌, ◌≤◌, ◌⊎◌, inl, inr, List, Contains, IsFalse, refl, sym, ap, subst, ◌∙◌, arith, Bool}
 use Rattle.std.proofs.lemmas.Bool.{cases_Bool, cases_lt}
 use Rattle.std.proofs.Math.Nat.{mul-le-mul_right}
 use native.Mathlib.Decide.{ℕ_discrete}
@@ -37,7 +37,7 @@ run_of h r valid lt e =
     let is : s.0 ≡ object_at h (start h r) = object_is h s.0 s.1.object ∙ ap (object_at h) s.1.at in
     record { first = subst (IsFirst h r) is s.1; whole = subst (λ (o : Object). IsWholeRun h r o.size) is s.4 }
 
-module _ (set : List ℕ) (g h : Heap) (r : ℕ) (left : IsValid g) (right : IsValid h) (k : Keeps set g h) (ordinary : AllOrdinary g set)
+module _ (fill : Bool) (set : List ℕ) (g h : Heap) (r : ℕ) (left : IsValid g) (right : IsValid h) (k : Keeps fill set g h) (ordinary : AllOrdinary g set)
     (lt : r < g.geometry.n) (first : kind g r ≡ HumongousFirst) where
   run : IsRun g r
   run = run_of g r left lt first
@@ -97,7 +97,7 @@ module _ (set : List ℕ) (g h : Heap) (r : ℕ) (left : IsValid g) (right : IsV
   rest_used i some within used =
       let a : ℕ = start g r in
       let out : IsFalse (has set r) = not_chosen r (λ o. let clash : HumongousFirst ≡ Ordinary = sym first ∙ o in cc) in
-      let was : IsAsItWas g h r = elim ((k.table.regions r lt).other out) [
+      let was : IsAsItWas fill g h r = elim ((k.table.regions r lt).other out) [
         | inl f ↦ absurd (free≢first (sym f ∙ first))
         | inr s ↦ elim s [ inl f ↦ absurd (used f.1) | inr was ↦ was ]
       ] in
@@ -115,16 +115,16 @@ module _ (set : List ℕ) (g h : Heap) (r : ℕ) (left : IsValid g) (right : IsV
       (there.whole i some within').1
 
 pub frees_runs : FreesRuns
-frees_runs set g h r i left right k ordinary lt first within = elim (ℕ_discrete i 0) [
+frees_runs fill set g h r i left right k ordinary lt first within = elim (ℕ_discrete i 0) [
   | yes e ↦ let same : r + i ≡ r = omega (arith, e) in (λ f. ap (kind h) (sym same) ∙ f, λ f. ap (kind h) same ∙ f)
   | no d ↦ (
     λ f. elim (is_free (kind h r)) [
       | inl free ↦ free
-      | inr used ↦ absurd (free≢continuation (sym f ∙ rest_used set g h r left right k ordinary lt first i (omega (arith, d)) within used))
+      | inr used ↦ absurd (free≢continuation (sym f ∙ rest_used fill set g h r left right k ordinary lt first i (omega (arith, d)) within used))
     ],
     λ free. elim (is_free (kind h (r + i))) [
       | inl f ↦ f
-      | inr used ↦ absurd (rest_free set g h r left right k ordinary lt first i (omega (arith, d)) within free used)
+      | inr used ↦ absurd (rest_free fill set g h r left right k ordinary lt first i (omega (arith, d)) within free used)
     ],
   )
 ]

@@ -1,5 +1,5 @@
 -- How a search goes on.
-use Rattle.std.proofs.Common.{◌≡◌, ℕ, zero, suc, ◌+◌, ◌<◌, ◌≤◌, ◌++◌, ◌⊎◌, inl, inr, List, [], ◌∷◌, length, IsTrue, refl, sym, ap, subst, ◌∙◌, arith, slice_index}
+use Rattle.std.proofs.Common.{◌≡◌, ℕ, zero, suc, ◌+◌, ◌<◌, ◌≤◌, ◌++◌, ◌⊎◌, inl, inr, List, [], ◌∷◌, length, IsTrue, refl, sym, ap, subst, ◌∙◌, arith, slice_index, Bool}
 use Rattle.std.proofs.lemmas.Bool.{cases_lt}
 use Rattle.std.proofs.lemmas.List.{get_or_append_left, get_or_push, length_push}
 use Rattle.g1_words.specs.Heap.{Heap, object_at}
@@ -20,8 +20,8 @@ row_cases f m k (inl e) = elim (cases_lt f k) [ inl l ↦ inl l | inr l ↦ inr 
 row_cases f m k (inr e) = absurd (omega (arith, e.1))
 
 -- the search that has found nothing
-pub search_none : (set : List ℕ) (g h : Heap) (olds news : List ℕ) → length olds ≡ 0 → length news ≡ length olds → IsSearch set g h olds news 0 0
-search_none set g h olds news none pairs = record {
+pub search_none : (fill : Bool) (set : List ℕ) (g h : Heap) (olds news : List ℕ) → length olds ≡ 0 → length news ≡ length olds → IsSearch fill set g h olds news 0 0
+search_none fill set g h olds news none pairs = record {
   froms = [];
   numbers = [];
   pairs = pairs;
@@ -43,7 +43,7 @@ search_none set g h olds news none pairs = record {
     nothing k m (inl e) = omega (arith, e)
     nothing k m (inr e) = omega (arith, e.1)
 
-module _ (set : List ℕ) (g h : Heap) (olds news : List ℕ) where
+module _ (fill : Bool) (set : List ℕ) (g h : Heap) (olds news : List ℕ) where
   -- the object of a turn that is a word's
   pub turn_outside : (t a b : ℕ) → t < length g.words → IsTurn set g h olds news t a b → IsOutside set g h t × (a ≡ t) × (b ≡ t)
   turn_outside t a b lt (inl o) = (o.1, o.2, o.3)
@@ -63,12 +63,12 @@ module _ (set : List ℕ) (g h : Heap) (olds news : List ℕ) where
   words_some : (t x y : ℕ) → AreWords set g h olds news (suc t) 0 x y → ⊥
   words_some t x y w = w
 
-  module _ (f n : ℕ) (s : IsSearch set g h olds news f n) where
+  module _ (f n : ℕ) (s : IsSearch fill set g h olds news f n) where
     -- with the pairs that were found
     move : (k m : ℕ) → ((a b : ℕ) → IsEarlier a b f n → IsEarlier a b k m)
         → ((a b x y : ℕ) → IsEarlier a b k m → AreWords set g h olds news a b x y → IsEarlier a b f n ⊎ DoAgree set g olds news s.froms s.numbers a b x y)
         → ((t a b : ℕ) → IsEarlier (suc t) 0 k m → IsTurn set g h olds news t a b → IsEarlier (suc t) 0 f n ⊎ AreAlike g h a b)
-        → IsSearch set g h olds news k m
+        → IsSearch fill set g h olds news k m
     move k m order words objects = record {
       froms = s.froms;
       numbers = s.numbers;
@@ -90,7 +90,7 @@ module _ (set : List ℕ) (g h : Heap) (olds news : List ℕ) where
     -- past two words that agree
     pub words_on : (x y : ℕ) → AreWords set g h olds news f n x y
         → (LeadsOut set g x × (y ≡ x)) ⊎ ((i : ℕ) × (i < length olds) × (x ≡ suc (slice_index olds i)) × (y ≡ suc (slice_index news i)))
-        → IsSearch set g h olds news f (n + 1)
+        → IsSearch fill set g h olds news f (n + 1)
     words_on x y w agree = move f (n + 1)
         (λ a b e. later a b f n e)
         (λ a b u v e w'. elim (earlier_cases a b f n e) [
@@ -111,7 +111,7 @@ module _ (set : List ℕ) (g h : Heap) (olds news : List ℕ) where
         found = elim agree [ inl o ↦ inl o | inr o ↦ inr (o.0, o.1, o.2, o.3, later (slice_index s.froms o.0) (slice_index s.numbers o.0) f n (s.below o.0 o.1)) ]
 
     -- to the next row
-    pub row_on : ((t : ℕ) → f ≡ suc t → 0 < n) → ((m x y : ℕ) → n ≤ m → AreWords set g h olds news f m x y → ⊥) → IsSearch set g h olds news (suc f) 0
+    pub row_on : ((t : ℕ) → f ≡ suc t → 0 < n) → ((m x y : ℕ) → n ≤ m → AreWords set g h olds news f m x y → ⊥) → IsSearch fill set g h olds news (suc f) 0
     row_on some none = move (suc f) 0
         (λ a b e. elim e [ inl l ↦ inl (omega (arith, l)) | inr r ↦ inl (omega (arith, r.0)) ])
         (λ a b x y e w. elim (row_cases a b f e) [
@@ -127,7 +127,7 @@ module _ (set : List ℕ) (g h : Heap) (olds news : List ℕ) where
         ])
 
   -- past the headers and the data words of two objects
-  pub contents_on : (t a b : ℕ) → IsSearch set g h olds news (suc t) 0 → IsTurn set g h olds news t a b → AreAlike g h a b → IsSearch set g h olds news (suc t) 1
+  pub contents_on : (t a b : ℕ) → IsSearch fill set g h olds news (suc t) 0 → IsTurn set g h olds news t a b → AreAlike g h a b → IsSearch fill set g h olds news (suc t) 1
   contents_on t a b s turn alike = move (suc t) 0 s (suc t) 1
       (λ k m e. later k m (suc t) 0 e)
       (λ k m x y e w. elim (earlier_cases k m (suc t) 0 e) [
@@ -142,7 +142,7 @@ module _ (set : List ℕ) (g h : Heap) (olds news : List ℕ) where
       ])
 
   -- past all slots of two objects
-  pub slots_on : (t a b n : ℕ) → IsSearch set g h olds news (suc t) (n + 1) → IsTurn set g h olds news t a b → (object_at g a).refs ≤ n → IsSearch set g h olds news (suc (suc t)) 0
+  pub slots_on : (t a b n : ℕ) → IsSearch fill set g h olds news (suc t) (n + 1) → IsTurn set g h olds news t a b → (object_at g a).refs ≤ n → IsSearch fill set g h olds news (suc (suc t)) 0
   slots_on t a b n s turn few = row_on (suc t) (n + 1) s (λ u e. omega arith) none
     where
       none : (m x y : ℕ) → n + 1 ≤ m → AreWords set g h olds news (suc t) m x y → ⊥
@@ -153,11 +153,11 @@ module _ (set : List ℕ) (g h : Heap) (olds news : List ℕ) where
           omega (arith, le, w.3, refs, few)
 
   -- past the roots
-  pub roots_on : (n : ℕ) → length g.roots ≤ n → IsSearch set g h olds news 0 n → IsSearch set g h olds news 1 0
+  pub roots_on : (n : ℕ) → length g.roots ≤ n → IsSearch fill set g h olds news 0 n → IsSearch fill set g h olds news 1 0
   roots_on n all s = row_on 0 n s (λ t e. absurd (omega (arith, e))) (λ m x y le w. omega (arith, all, le, w.0))
 
   -- over turns without objects
-  pub skip_to : (p q : ℕ) → p ≤ q → IsSearch set g h olds news (suc p) 0 → ((t a b : ℕ) → p ≤ t → t < q → IsTurn set g h olds news t a b → ⊥) → IsSearch set g h olds news (suc q) 0
+  pub skip_to : (p q : ℕ) → p ≤ q → IsSearch fill set g h olds news (suc p) 0 → ((t a b : ℕ) → p ≤ t → t < q → IsTurn set g h olds news t a b → ⊥) → IsSearch fill set g h olds news (suc q) 0
   skip_to p q le s none = move (suc p) 0 s (suc q) 0
       (λ a b e. elim e [ inl l ↦ inl (omega (arith, l, le)) | inr r ↦ absurd (omega (arith, r.1)) ])
       words
@@ -182,8 +182,8 @@ pushed_old xs x i lt = get_or_append_left xs (x ∷ []) 0 i lt
 pushed_new : (xs : List ℕ) (x i : ℕ) → i ≡ length xs → slice_index (xs ++ x ∷ []) i ≡ x
 pushed_new xs x i e = get_or_push xs x 0 i (sym e)
 
-module _ (set : List ℕ) (g h : Heap) (olds news : List ℕ) (f n : ℕ) (s : IsSearch set g h olds news f n) (a b : ℕ)
-    (here_are : AreWords set g h olds news f n (suc a) (suc b)) (of_set : IsTrue (in_set g set a)) (room : MayHoldCopy g b)
+module _ (fill : Bool) (set : List ℕ) (g h : Heap) (olds news : List ℕ) (f n : ℕ) (s : IsSearch fill set g h olds news f n) (a b : ℕ)
+    (here_are : AreWords set g h olds news f n (suc a) (suc b)) (of_set : IsTrue (in_set g set a)) (room : MayHoldCopy fill g b)
     (new_old : IsNew olds a) (new_new : IsNew news b) where
   abbrev more : List ℕ
   more = olds ++ a ∷ []
@@ -231,7 +231,7 @@ module _ (set : List ℕ) (g h : Heap) (olds news : List ℕ) (f n : ℕ) (s : I
   same = record { more = omega (arith, count); olds_same = λ i lt. sym (old_is i lt); news_same = λ i lt. sym (new_is i lt) }
 
   within : f ≤ length g.words + length olds
-  within = words_within set g h olds news f n (suc a) (suc b) here_are
+  within = words_within fill set g h olds news f n (suc a) (suc b) here_are
 
   words_more : (k m x y : ℕ) → AreWords set g h olds news k m x y → k ≤ length g.words + length olds → AreWords set g h more images k m x y
   words_more k m x y w le = words_there set g h olds news more images (length olds) k m x y same (λ lt. le) w
@@ -261,7 +261,7 @@ module _ (set : List ℕ) (g h : Heap) (olds news : List ℕ) (f n : ℕ) (s : I
   row_within k m (inl e) = omega (arith, e, within)
   row_within k m (inr e) = omega (arith, e.0, within)
 
-  pub added_search : IsSearch set g h more images f (n + 1)
+  pub added_search : IsSearch fill set g h more images f (n + 1)
   added_search = record {
     froms = froms;
     numbers = numbers;
@@ -273,8 +273,8 @@ module _ (set : List ℕ) (g h : Heap) (olds news : List ℕ) (f n : ℕ) (s : I
       | inr e ↦ subst (λ z. IsTrue (in_set g set z)) (sym (old_last i e)) of_set
     ];
     room = λ i lt. elim (cases i lt) [
-      | inl l ↦ subst (MayHoldCopy g) (sym (new_is i l)) (s.room i l)
-      | inr e ↦ subst (MayHoldCopy g) (sym (new_last i e)) room
+      | inl l ↦ subst (MayHoldCopy fill g) (sym (new_is i l)) (s.room i l)
+      | inr e ↦ subst (MayHoldCopy fill g) (sym (new_last i e)) room
     ];
     one_old = λ i j lt lt' e. elim (cases i lt) [
       | inl l ↦ elim (cases j lt') [
@@ -348,7 +348,7 @@ module _ (set : List ℕ) (g h : Heap) (olds news : List ℕ) (f n : ℕ) (s : I
         (λ le. let k = row_within (suc t) 0 e in omega (arith, k)) w in
         elim (earlier_cases (suc t) 0 f n e) [
           | inl k ↦ s.alike t c d k w'
-          | inr k ↦ absurd (words_some set g h olds news t (suc a) (suc b)
+          | inr k ↦ absurd (words_some fill set g h olds news t (suc a) (suc b)
               (subst (λ z. AreWords set g h olds news z 0 (suc a) (suc b)) (sym k.0) (subst (λ z. AreWords set g h olds news f z (suc a) (suc b)) (sym k.1) here_are)))
         ];
   }

@@ -1,5 +1,5 @@
 -- What two words are to a walk, by its tables.
-use Rattle.std.proofs.Common.{◌≡◌, ◌≢◌, ℕ, suc, ◌-◌, ◌<◌, inr, List, length, IsTrue, sym, ap, subst, ◌∙◌, arith, slice_index}
+use Rattle.std.proofs.Common.{◌≡◌, ◌≢◌, ℕ, suc, ◌-◌, ◌<◌, inr, List, length, IsTrue, sym, ap, subst, ◌∙◌, arith, slice_index, Bool}
 use native.Mathlib.Decide.{ℕ_discrete}
 use Rattle.g1_words.specs.Heap.{Heap}
 use Rattle.g1_words.specs.Survivors.{in_set}
@@ -19,7 +19,7 @@ some n h = omega arith
 pub named_below : (h : Heap) (x : ℕ) → IsValid h → x ≢ 0 → Names h x → x - 1 < length h.words
 named_below h x valid some names = let o = object_in h (x - 1) valid (names (x - 1) (omega arith)) in omega (arith, o.0, o.1)
 
-module _ (set : List ℕ) (g h : Heap) (w : Pairs) (walk : IsWalk set g h w) (a b i j : ℕ)
+module _ (fill : Bool) (set : List ℕ) (g h : Heap) (w : Pairs) (walk : IsWalk fill set g h w) (a b i j : ℕ)
     (a_lt : a < length w.new_of.items) (b_lt : b < length w.old_of.items) (is_i : i ≡ slice_index w.new_of.items a) (is_j : j ≡ slice_index w.old_of.items b) where
   in_before : i ≢ 0 → (i - 1 < length w.before.items) × (slice_index w.before.items (i - 1) ≡ a)
   in_before some = subst (λ m. (m - 1 < length w.before.items) × (slice_index w.before.items (m - 1) ≡ a)) (sym is_i)

@@ -1,5 +1,5 @@
 -- The laws that public functions of this crate prove.
-use Rattle.std.specs.Prelude.{◌≡◌, ◌<◌, ◌+◌, ◌*◌, ◌↔◌, List, ℕ}
+use Rattle.std.specs.Prelude.{◌≡◌, ◌<◌, ◌+◌, ◌*◌, ◌↔◌, Bool, List, ℕ}
 use Rattle.g1_words.specs.declared.region.Kind.TheVariants.{Free, HumongousFirst}
 use Rattle.g1_words.specs.Heap.{Heap, kind, start, object_at}
 use Rattle.g1_words.specs.Survivors.{AllOrdinary}
@@ -15,23 +15,23 @@ use Rattle.g1_kept.specs.Order.{IsEarliest}
 
 -- the image after a pause of a set keeps what a pause of the set keeps
 abbrev pub PauseKeeps : Type 0
-PauseKeeps = (i : Image) (set l : List ℕ) (j : Image) → IsValid i.heap → HasRoom i.heap set l → IsPaused i set l j → Keeps set i.heap j.heap
+PauseKeeps = (fill : Bool) (i : Image) (set l : List ℕ) (j : Image) → IsValid i.heap → HasRoom i.heap set l → IsPaused i set l j → Keeps fill set i.heap j.heap
 
 -- a heap that keeps this shows the same graph
 abbrev pub KeepsGraph : Type 0
-KeepsGraph = (set : List ℕ) (g h : Heap) → IsValid g → IsValid h → Keeps set g h → SameGraph g h
+KeepsGraph = (fill : Bool) (set : List ℕ) (g h : Heap) → IsValid g → IsValid h → Keeps fill set g h → SameGraph g h
 
 -- and nothing of it is lost
 abbrev pub NothingLost : Type 0
-NothingLost = (set : List ℕ) (g h : Heap) (l : Lost) → IsValid g → IsValid h → Keeps set g h → IsLoss set g h l → ⊥
+NothingLost = (fill : Bool) (set : List ℕ) (g h : Heap) (l : Lost) → IsValid g → IsValid h → Keeps fill set g h → IsLoss fill set g h l → ⊥
 
 -- of a humongous object's run all regions are free or none
 abbrev pub FreesRuns : Type 0
-FreesRuns = (set : List ℕ) (g h : Heap) (r i : ℕ) → IsValid g → IsValid h → Keeps set g h → AllOrdinary g set
+FreesRuns = (fill : Bool) (set : List ℕ) (g h : Heap) (r i : ℕ) → IsValid g → IsValid h → Keeps fill set g h → AllOrdinary g set
     → r < g.geometry.n → kind g r ≡ HumongousFirst → i * g.geometry.w < (object_at g (start g r)).size
     → (kind h (r + i) ≡ Free) ↔ (kind h r ≡ Free)
 
 -- two heaps have one first loss
 abbrev pub OneLoss : Type 0
-OneLoss = (set : List ℕ) (g h : Heap) (l m : Lost) → IsValid g → IsValid h
-    → IsLoss set g h l → IsEarliest set g h l → IsLoss set g h m → IsEarliest set g h m → l ≡ m
+OneLoss = (fill : Bool) (set : List ℕ) (g h : Heap) (l m : Lost) → IsValid g → IsValid h
+    → IsLoss fill set g h l → IsEarliest fill set g h l → IsLoss fill set g h m → IsEarliest fill set g h m → l ≡ m

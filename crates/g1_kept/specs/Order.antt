@@ -1,7 +1,7 @@
 -- Which of several losses is the first. First come the sizes, then the regions by number, and then the number of roots. Then a search
 -- of both heaps looks at the roots by number, at the objects outside the set by address, and at the copies in the order in which it
 -- found them; of an object at the header, at the data words, and then at the slots, by number.
-use Rattle.std.specs.Prelude.{◌≡◌, ◌≢◌, ◌<◌, ◌≤◌, ◌⊎◌, ◌+◌, ℕ, zero, suc, List, length, slice_index, IsTrue}
+use Rattle.std.specs.Prelude.{◌≡◌, ◌≢◌, ◌<◌, ◌≤◌, ◌⊎◌, ◌+◌, ℕ, zero, suc, Bool, List, length, slice_index, IsTrue}
 use Rattle.g1_words.specs.Heap.{Heap, word, object_at}
 use Rattle.g1_words.specs.Survivors.{in_set}
 use Rattle.g1_same.specs.Walk.{AreAlike, IsEarlier, IsNew}
@@ -33,14 +33,14 @@ DoAgree set g olds news froms numbers f n x y =
 
 -- What a search has found before a place: objects of the set with their copies. Each pair was found at the place of the first two words
 -- that reference it, in the order of the places, and each word and object before the place is as it has to be.
-pub record IsSearch (set : List ℕ) (g h : Heap) (olds news : List ℕ) (f n : ℕ) : Type 0 where
+pub record IsSearch (fill : Bool) (set : List ℕ) (g h : Heap) (olds news : List ℕ) (f n : ℕ) : Type 0 where
   pub froms : List ℕ
   pub numbers : List ℕ
   pub pairs : length news ≡ length olds
   pub from_each : length froms ≡ length olds
   pub number_each : length numbers ≡ length olds
   pub of_set : (i : ℕ) → i < length olds → IsTrue (in_set g set (slice_index olds i))
-  pub room : (i : ℕ) → i < length olds → MayHoldCopy g (slice_index news i)
+  pub room : (i : ℕ) → i < length olds → MayHoldCopy fill g (slice_index news i)
   pub one_old : (i j : ℕ) → i < length olds → j < length olds → slice_index olds i ≡ slice_index olds j → i ≡ j
   pub one_new : (i j : ℕ) → i < length olds → j < length olds → slice_index news i ≡ slice_index news j → i ≡ j
   pub places : (i : ℕ) → i < length olds
@@ -60,38 +60,38 @@ pub data Clash (set : List ℕ) (g : Heap) (olds news : List ℕ) : ℕ → ℕ 
   joined : {a b : ℕ} (i : ℕ) → IsTrue (in_set g set a) → i < length olds → slice_index news i ≡ b → slice_index olds i ≢ a → Clash set g olds news (suc a) (suc b)
 
 -- this is lost at a place, by what was found before
-abbrev pub IsLostAt : List ℕ → Heap → Heap → List ℕ → List ℕ → ℕ → ℕ → Lost → Type 0
-IsLostAt set g h olds news f n (lost.Root m) = (f ≡ 0) × (n ≡ m) × (x : ℕ) × (y : ℕ) × AreWords set g h olds news f n x y × Clash set g olds news x y
-IsLostAt set g h olds news f n (lost.Slot a b m) =
+abbrev pub IsLostAt : Bool → List ℕ → Heap → Heap → List ℕ → List ℕ → ℕ → ℕ → Lost → Type 0
+IsLostAt fill set g h olds news f n (lost.Root m) = (f ≡ 0) × (n ≡ m) × (x : ℕ) × (y : ℕ) × AreWords set g h olds news f n x y × Clash set g olds news x y
+IsLostAt fill set g h olds news f n (lost.Slot a b m) =
     (t : ℕ) × (f ≡ suc t) × (n ≡ suc m) × IsTurn set g h olds news t a b × (x : ℕ) × (y : ℕ) × AreWords set g h olds news f n x y × Clash set g olds news x y
-IsLostAt set g h olds news f n (lost.Copy a b) =
-    AreWords set g h olds news f n (suc a) (suc b) × IsTrue (in_set g set a) × IsNew olds a × IsNew news b × (MayHoldCopy g b → ⊥)
-IsLostAt set g h olds news f n (lost.Header a b) = (t : ℕ) × (f ≡ suc t) × (n ≡ 0) × IsTurn set g h olds news t a b × (word h b ≢ word g a)
-IsLostAt set g h olds news f n (lost.Data a b k) =
+IsLostAt fill set g h olds news f n (lost.Copy a b) =
+    AreWords set g h olds news f n (suc a) (suc b) × IsTrue (in_set g set a) × IsNew olds a × IsNew news b × (MayHoldCopy fill g b → ⊥)
+IsLostAt fill set g h olds news f n (lost.Header a b) = (t : ℕ) × (f ≡ suc t) × (n ≡ 0) × IsTurn set g h olds news t a b × (word h b ≢ word g a)
+IsLostAt fill set g h olds news f n (lost.Data a b k) =
     (t : ℕ) × (f ≡ suc t) × (n ≡ 0) × IsTurn set g h olds news t a b × ((object_at g a).refs + 1 + k < (object_at g a).size)
     × (word h b ≡ word g a) × (word h (b + 1 + (object_at g a).refs + k) ≢ word g (a + 1 + (object_at g a).refs + k))
     × ((j : ℕ) → j < k → word h (b + 1 + (object_at g a).refs + j) ≡ word g (a + 1 + (object_at g a).refs + j))
-IsLostAt set g h olds news f n _ = ⊥
+IsLostAt fill set g h olds news f n _ = ⊥
 
 -- a search meets this loss first
-pub record IsMetFirst (set : List ℕ) (g h : Heap) (l : Lost) : Type 0 where
+pub record IsMetFirst (fill : Bool) (set : List ℕ) (g h : Heap) (l : Lost) : Type 0 where
   pub olds : List ℕ
   pub news : List ℕ
   pub from : ℕ
   pub number : ℕ
-  pub search : IsSearch set g h olds news from number
-  pub here : IsLostAt set g h olds news from number l
+  pub search : IsSearch fill set g h olds news from number
+  pub here : IsLostAt fill set g h olds news from number l
 
 -- the heaps have the same sizes, and each region before this one is as it has to be
-abbrev pub KeepsBefore : List ℕ → Heap → Heap → ℕ → Type 0
-KeepsBefore set g h r = (h.geometry ≡ g.geometry) × ((q : ℕ) → q < r → KeepsRegion set g h q)
+abbrev pub KeepsBefore : Bool → List ℕ → Heap → Heap → ℕ → Type 0
+KeepsBefore fill set g h r = (h.geometry ≡ g.geometry) × ((q : ℕ) → q < r → KeepsRegion fill set g h q)
 
 -- nothing that comes before it is lost
-abbrev pub IsEarliest : List ℕ → Heap → Heap → Lost → Type 0
-IsEarliest set g h lost.Sizes = Unit {0}
-IsEarliest set g h (lost.Set r) = KeepsBefore set g h r
-IsEarliest set g h (lost.Region r) = KeepsBefore set g h r
-IsEarliest set g h (lost.Unpinned r) = KeepsBefore set g h r
-IsEarliest set g h (lost.Pinned r) = KeepsBefore set g h r
-IsEarliest set g h lost.Roots = KeepsTable set g h
-IsEarliest set g h l = KeepsTable set g h × (length h.roots ≡ length g.roots) × IsMetFirst set g h l
+abbrev pub IsEarliest : Bool → List ℕ → Heap → Heap → Lost → Type 0
+IsEarliest fill set g h lost.Sizes = Unit {0}
+IsEarliest fill set g h (lost.Set r) = KeepsBefore fill set g h r
+IsEarliest fill set g h (lost.Region r) = KeepsBefore fill set g h r
+IsEarliest fill set g h (lost.Unpinned r) = KeepsBefore fill set g h r
+IsEarliest fill set g h (lost.Pinned r) = KeepsBefore fill set g h r
+IsEarliest fill set g h lost.Roots = KeepsTable fill set g h
+IsEarliest fill set g h l = KeepsTable fill set g h × (length h.roots ≡ length g.roots) × IsMetFirst fill set g h l

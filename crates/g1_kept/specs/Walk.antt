@@ -1,5 +1,5 @@
 -- What the walk over both heaps has found.
-use Rattle.std.specs.Prelude.{◌≡◌, ◌≢◌, ◌<◌, ◌≤◌, ◌⊎◌, ◌+◌, ℕ, suc, List, length, slice_index, Contains, IsTrue, IsFalse}
+use Rattle.std.specs.Prelude.{◌≡◌, ◌≢◌, ◌<◌, ◌≤◌, ◌⊎◌, ◌+◌, ℕ, suc, Bool, List, length, slice_index, Contains, IsTrue, IsFalse}
 use Rattle.g1_words.specs.Lists.{has}
 use Rattle.g1_words.specs.declared.region.Kind.TheVariants.{Free}
 use Rattle.g1_words.specs.Heap.{Heap, kind, word, object_at, objects, objects_in}
@@ -15,7 +15,7 @@ use Rattle.g1_kept.specs.Lost.{Match, LeadsOut, Disagree}
 use Rattle.g1_kept.specs.Order.{IsTurn, AreWords, IsSearch, Clash, IsLostAt, IsMetFirst}
 
 -- The pairs are objects of the set and of the heap after that match, found by the tables, each where a copy may be.
-pub record IsWalk (set : List ℕ) (g h : Heap) (w : Pairs) : Type 0 where
+pub record IsWalk (fill : Bool) (set : List ℕ) (g h : Heap) (w : Pairs) : Type 0 where
   pub table_before : length w.new_of.items ≡ length g.words
   pub table_after : length w.old_of.items ≡ length h.words
   pub index_before : IsIndex w.new_of.items w.before.items
@@ -24,7 +24,7 @@ pub record IsWalk (set : List ℕ) (g h : Heap) (w : Pairs) : Type 0 where
   pub names_before : (i : ℕ) → i < length w.before.items → Contains (objects g) (object_at g (slice_index w.before.items i))
   pub names_after : (i : ℕ) → i < length w.before.items → Contains (objects h) (object_at h (slice_index w.after.items i))
   pub of_set : (i : ℕ) → i < length w.before.items → IsTrue (in_set g set (slice_index w.before.items i))
-  pub room : (i : ℕ) → i < length w.before.items → MayHoldCopy g (slice_index w.after.items i)
+  pub room : (i : ℕ) → i < length w.before.items → MayHoldCopy fill g (slice_index w.after.items i)
   pub matched : (i : ℕ) → i < length w.before.items → Match set g h (slice_index w.before.items i) (slice_index w.after.items i)
 
 -- the walk has all pairs that it had, each in its place
@@ -40,13 +40,13 @@ IsPaired set g w x y =
     ⊎ ((i : ℕ) × (i < length w.before.items) × (x ≡ suc (slice_index w.before.items i)) × (y ≡ suc (slice_index w.after.items i)))
 
 -- what two words are to the walk
-abbrev pub IsMet : List ℕ → Heap → Heap → Pairs → ℕ → ℕ → Met → Type 0
-IsMet set g h w x y Agree = IsPaired set g w x y
-IsMet set g h w x y Differ = Disagree set g h x y × Clash set g w.before.items w.after.items x y
-IsMet set g h w x y (Occupied a b) =
-    (x ≡ suc a) × (y ≡ suc b) × IsTrue (in_set g set a) × (MayHoldCopy g b → ⊥) × IsNew w.before.items a × IsNew w.after.items b
-IsMet set g h w x y (New a b) =
-    (x ≡ suc a) × (y ≡ suc b) × IsTrue (in_set g set a) × MayHoldCopy g b × (slice_index w.new_of.items a ≡ 0) × (slice_index w.old_of.items b ≡ 0)
+abbrev pub IsMet : Bool → List ℕ → Heap → Heap → Pairs → ℕ → ℕ → Met → Type 0
+IsMet fill set g h w x y Agree = IsPaired set g w x y
+IsMet fill set g h w x y Differ = Disagree set g h x y × Clash set g w.before.items w.after.items x y
+IsMet fill set g h w x y (Occupied a b) =
+    (x ≡ suc a) × (y ≡ suc b) × IsTrue (in_set g set a) × (MayHoldCopy fill g b → ⊥) × IsNew w.before.items a × IsNew w.after.items b
+IsMet fill set g h w x y (New a b) =
+    (x ≡ suc a) × (y ≡ suc b) × IsTrue (in_set g set a) × MayHoldCopy fill g b × (slice_index w.new_of.items a ≡ 0) × (slice_index w.old_of.items b ≡ 0)
 
 -- the first roots are paired
 abbrev pub PairsRoots : List ℕ → Heap → Heap → Pairs → ℕ → Type 0
@@ -81,8 +81,8 @@ ComparesPairs set g h w k =
     (i : ℕ) → i < k → IsCompared set g h w (slice_index w.before.items i) (slice_index w.after.items i)
 
 -- the walk has found what a search has before a place
-abbrev pub Searches : List ℕ → Heap → Heap → Pairs → ℕ → ℕ → Type 0
-Searches set g h w f n = IsSearch set g h w.before.items w.after.items f n
+abbrev pub Searches : Bool → List ℕ → Heap → Heap → Pairs → ℕ → ℕ → Type 0
+Searches fill set g h w f n = IsSearch fill set g h w.before.items w.after.items f n
 
 -- the objects of a turn of the walk
 abbrev pub HasTurn : List ℕ → Heap → Heap → Pairs → ℕ → ℕ → ℕ → Type 0
@@ -93,22 +93,22 @@ abbrev pub HasWords : List ℕ → Heap → Heap → Pairs → ℕ → ℕ → �
 HasWords set g h w f n x y = AreWords set g h w.before.items w.after.items f n x y
 
 -- the search goes on past any place that has these two words
-abbrev pub PassesWords : List ℕ → Heap → Heap → Pairs → Pairs → ℕ → ℕ → Type 0
-PassesWords set g h w v x y = (f n : ℕ) → Searches set g h w f n → HasWords set g h w f n x y → Searches set g h v f (n + 1)
+abbrev pub PassesWords : Bool → List ℕ → Heap → Heap → Pairs → Pairs → ℕ → ℕ → Type 0
+PassesWords fill set g h w v x y = (f n : ℕ) → Searches fill set g h w f n → HasWords set g h w f n x y → Searches fill set g h v f (n + 1)
 
 -- this loss is met first at any place that has these two words, and the other one if they disagree
-abbrev pub StopsAtWords : List ℕ → Heap → Heap → Pairs → ℕ → ℕ → Lost → Lost → Type 0
-StopsAtWords set g h w x y other l =
-    (f n : ℕ) → Searches set g h w f n → HasWords set g h w f n x y
-    → (Clash set g w.before.items w.after.items x y → IsLostAt set g h w.before.items w.after.items f n other) → IsMetFirst set g h l
+abbrev pub StopsAtWords : Bool → List ℕ → Heap → Heap → Pairs → ℕ → ℕ → Lost → Lost → Type 0
+StopsAtWords fill set g h w x y other l =
+    (f n : ℕ) → Searches fill set g h w f n → HasWords set g h w f n x y
+    → (Clash set g w.before.items w.after.items x y → IsLostAt fill set g h w.before.items w.after.items f n other) → IsMetFirst fill set g h l
 
 -- the search goes on from this number of the row of two objects to the next row
-abbrev pub PassesObjects : List ℕ → Heap → Heap → Pairs → Pairs → ℕ → ℕ → ℕ → Type 0
-PassesObjects set g h w v a b n = (t : ℕ) → Searches set g h w (suc t) n → HasTurn set g h w t a b → Searches set g h v (suc (suc t)) 0
+abbrev pub PassesObjects : Bool → List ℕ → Heap → Heap → Pairs → Pairs → ℕ → ℕ → ℕ → Type 0
+PassesObjects fill set g h w v a b n = (t : ℕ) → Searches fill set g h w (suc t) n → HasTurn set g h w t a b → Searches fill set g h v (suc (suc t)) 0
 
 -- this loss is met first from this number of the row of two objects on
-abbrev pub StopsAtObjects : List ℕ → Heap → Heap → Pairs → ℕ → ℕ → ℕ → Lost → Type 0
-StopsAtObjects set g h w a b n l = (t : ℕ) → Searches set g h w (suc t) n → HasTurn set g h w t a b → IsMetFirst set g h l
+abbrev pub StopsAtObjects : Bool → List ℕ → Heap → Heap → Pairs → ℕ → ℕ → ℕ → Lost → Type 0
+StopsAtObjects fill set g h w a b n l = (t : ℕ) → Searches fill set g h w (suc t) n → HasTurn set g h w t a b → IsMetFirst fill set g h l
 
 -- What is lost of the headers or the data words of two objects: the headers differ, or this is the first data word that does. (The data
 -- words begin behind the slots, and these are as many as the header says.)

@@ -38,6 +38,7 @@ fn compare_contents(
     before: &Heap,
     after: &Heap,
     set: &RegionSet<'_>,
+    fill: bool,
     a: u64,
     b: u64,
 ) -> Option<Lost>
@@ -45,7 +46,7 @@ fn compare_contents(
     requires b { Contains (objects after.now) (object_at after.now b) }
     requires matched { Match set.now before.now after.now a b }
     ensures none { IfNone result (AreAlike before.now after.now a b) }
-    ensures some { IfSome result (λ l. IsLoss set.now before.now after.now l) }
+    ensures some { IfSome result (λ l. IsLoss fill set.now before.now after.now l) }
     ensures first { IfSome result (λ l. IsFirstOfObjects before.now after.now a b l) }
 {
     let old = before.object(a);
@@ -73,26 +74,27 @@ fn compare_pair(
     before: &Heap,
     after: &Heap,
     set: &RegionSet<'_>,
+    fill: bool,
     pairs: &mut Pairs,
     a: u64,
     b: u64,
 ) -> Result<Option<Lost>, AllocError>
-    requires walk { IsWalk set.now before.now after.now pairs.old }
+    requires walk { IsWalk fill set.now before.now after.now pairs.old }
     requires sizes { length after.now.words ≡ length before.now.words }
     requires a { Contains (objects before.now) (object_at before.now a) }
     requires b { Contains (objects after.now) (object_at after.now b) }
     requires matched { Match set.now before.now after.now a b }
-    ensures walk { OnOk result (IsWalk set.now before.now after.now pairs.new) }
+    ensures walk { OnOk result (IsWalk fill set.now before.now after.now pairs.new) }
     ensures grown { OnOk result (HasGrown pairs.old pairs.new) }
     ensures compared { IfOk result (λ o. IfNone o (IsCompared set.now before.now after.now pairs.new a b)) }
-    ensures lost { IfOk result (λ o. IfSome o (λ l. IsLoss set.now before.now after.now l)) }
-    ensures passed { IfOk result (λ o. IfNone o (PassesObjects set.now before.now after.now pairs.old pairs.new a b 0)) }
-    ensures first { IfOk result (λ o. IfSome o (λ l. StopsAtObjects set.now before.now after.now pairs.old a b 0 l)) }
+    ensures lost { IfOk result (λ o. IfSome o (λ l. IsLoss fill set.now before.now after.now l)) }
+    ensures passed { IfOk result (λ o. IfNone o (PassesObjects fill set.now before.now after.now pairs.old pairs.new a b 0)) }
+    ensures first { IfOk result (λ o. IfSome o (λ l. StopsAtObjects fill set.now before.now after.now pairs.old a b 0 l)) }
 {
-    if let Some(lost) = compare_contents(before, after, set, a, b) {
+    if let Some(lost) = compare_contents(before, after, set, fill, a, b) {
         return Ok(Some(lost));
     }
-    link_slots(before, after, set, pairs, a, b)
+    link_slots(before, after, set, fill, pairs, a, b)
 }
 
 // Compares the objects of a region outside the set, which is as it was, each with itself.
@@ -101,22 +103,23 @@ fn compare_region(
     before: &Heap,
     after: &Heap,
     set: &RegionSet<'_>,
+    fill: bool,
     pairs: &mut Pairs,
     region: u32,
 ) -> Result<Option<Lost>, AllocError>
-    requires walk { IsWalk set.now before.now after.now pairs.old }
-    requires table { KeepsTable set.now before.now after.now }
+    requires walk { IsWalk fill set.now before.now after.now pairs.old }
+    requires table { KeepsTable fill set.now before.now after.now }
     requires region { region < before.now.geometry.n }
     requires outside { IsFalse (has set.now region) }
     requires used { kind before.now region ≢ Free }
     requires in_use { kind after.now region ≢ Free }
-    requires search { Searches set.now before.now after.now pairs.old (suc (start before.now region)) 0 }
-    ensures walk { OnOk result (IsWalk set.now before.now after.now pairs.new) }
+    requires search { Searches fill set.now before.now after.now pairs.old (suc (start before.now region)) 0 }
+    ensures walk { OnOk result (IsWalk fill set.now before.now after.now pairs.new) }
     ensures grown { OnOk result (HasGrown pairs.old pairs.new) }
     ensures compared { IfOk result (λ o. IfNone o (ComparesRegion set.now before.now after.now pairs.new region)) }
-    ensures lost { IfOk result (λ o. IfSome o (λ l. IsLoss set.now before.now after.now l)) }
-    ensures searched { IfOk result (λ o. IfNone o (Searches set.now before.now after.now pairs.new (suc (start before.now (region + 1))) 0)) }
-    ensures first { IfOk result (λ o. IfSome o (λ l. IsMetFirst set.now before.now after.now l)) }
+    ensures lost { IfOk result (λ o. IfSome o (λ l. IsLoss fill set.now before.now after.now l)) }
+    ensures searched { IfOk result (λ o. IfNone o (Searches fill set.now before.now after.now pairs.new (suc (start before.now (region + 1))) 0)) }
+    ensures first { IfOk result (λ o. IfSome o (λ l. IsMetFirst fill set.now before.now after.now l)) }
 {
     g1_words::laws::valid(before);
     g1_words::laws::valid(after);
@@ -126,7 +129,7 @@ fn compare_region(
     };
     for place in 0..starts.len() {
         let at = starts[place];
-        if let Some(lost) = compare_pair(before, after, set, pairs, at, at)? {
+        if let Some(lost) = compare_pair(before, after, set, fill, pairs, at, at)? {
             return Ok(Some(lost));
         }
     }
@@ -150,23 +153,24 @@ fn compare_outside(
     before: &Heap,
     after: &Heap,
     set: &RegionSet<'_>,
+    fill: bool,
     pairs: &mut Pairs,
 ) -> Result<Option<Lost>, AllocError>
-    requires walk { IsWalk set.now before.now after.now pairs.old }
-    requires table { KeepsTable set.now before.now after.now }
-    requires search { Searches set.now before.now after.now pairs.old 1 0 }
-    ensures walk { OnOk result (IsWalk set.now before.now after.now pairs.new) }
+    requires walk { IsWalk fill set.now before.now after.now pairs.old }
+    requires table { KeepsTable fill set.now before.now after.now }
+    requires search { Searches fill set.now before.now after.now pairs.old 1 0 }
+    ensures walk { OnOk result (IsWalk fill set.now before.now after.now pairs.new) }
     ensures grown { OnOk result (HasGrown pairs.old pairs.new) }
     ensures compared { IfOk result (λ o. IfNone o (ComparesOutside set.now before.now after.now pairs.new before.now.geometry.n)) }
-    ensures lost { IfOk result (λ o. IfSome o (λ l. IsLoss set.now before.now after.now l)) }
-    ensures searched { IfOk result (λ o. IfNone o (Searches set.now before.now after.now pairs.new (suc (length before.now.words)) 0)) }
-    ensures first { IfOk result (λ o. IfSome o (λ l. IsMetFirst set.now before.now after.now l)) }
+    ensures lost { IfOk result (λ o. IfSome o (λ l. IsLoss fill set.now before.now after.now l)) }
+    ensures searched { IfOk result (λ o. IfNone o (Searches fill set.now before.now after.now pairs.new (suc (length before.now.words)) 0)) }
+    ensures first { IfOk result (λ o. IfSome o (λ l. IsMetFirst fill set.now before.now after.now l)) }
 {
     g1_words::laws::valid(before);
     g1_words::laws::valid(after);
     for region in 0..before.geometry().regions() as u32 {
         if is_compared(before, after, set, region) {
-            if let Some(lost) = compare_region(alloc, before, after, set, pairs, region)? {
+            if let Some(lost) = compare_region(alloc, before, after, set, fill, pairs, region)? {
                 return Ok(Some(lost));
             }
         }
@@ -179,16 +183,17 @@ fn compare_pairs(
     before: &Heap,
     after: &Heap,
     set: &RegionSet<'_>,
+    fill: bool,
     pairs: &mut Pairs,
 ) -> Result<Option<Lost>, AllocError>
-    requires walk { IsWalk set.now before.now after.now pairs.old }
-    requires table { KeepsTable set.now before.now after.now }
-    requires search { Searches set.now before.now after.now pairs.old (suc (length before.now.words)) 0 }
-    ensures walk { OnOk result (IsWalk set.now before.now after.now pairs.new) }
+    requires walk { IsWalk fill set.now before.now after.now pairs.old }
+    requires table { KeepsTable fill set.now before.now after.now }
+    requires search { Searches fill set.now before.now after.now pairs.old (suc (length before.now.words)) 0 }
+    ensures walk { OnOk result (IsWalk fill set.now before.now after.now pairs.new) }
     ensures grown { OnOk result (HasGrown pairs.old pairs.new) }
     ensures compared { IfOk result (λ o. IfNone o (ComparesPairs set.now before.now after.now pairs.new (length pairs.new.before.items))) }
-    ensures lost { IfOk result (λ o. IfSome o (λ l. IsLoss set.now before.now after.now l)) }
-    ensures first { IfOk result (λ o. IfSome o (λ l. IsMetFirst set.now before.now after.now l)) }
+    ensures lost { IfOk result (λ o. IfSome o (λ l. IsLoss fill set.now before.now after.now l)) }
+    ensures first { IfOk result (λ o. IfSome o (λ l. IsMetFirst fill set.now before.now after.now l)) }
 {
     g1_words::laws::valid(before);
     g1_words::laws::valid(after);
@@ -196,7 +201,7 @@ fn compare_pairs(
     while place < pairs.before.len() {
         let a = pairs.before[place];
         let b = pairs.after[place];
-        if let Some(lost) = compare_pair(before, after, set, pairs, a, b)? {
+        if let Some(lost) = compare_pair(before, after, set, fill, pairs, a, b)? {
             return Ok(Some(lost));
         }
         place += 1;
@@ -210,21 +215,22 @@ fn compare_words(
     before: &Heap,
     after: &Heap,
     set: &RegionSet<'_>,
+    fill: bool,
 ) -> Result<Option<Lost>, AllocError>
-    requires table { KeepsTable set.now before.now after.now }
+    requires table { KeepsTable fill set.now before.now after.now }
     requires roots { length after.now.roots ≡ length before.now.roots }
-    ensures none { IfOk result (λ o. IfNone o (Keeps set.now before.now after.now)) }
-    ensures some { IfOk result (λ o. IfSome o (λ l. IsLoss set.now before.now after.now l)) }
-    ensures first { IfOk result (λ o. IfSome o (λ l. IsMetFirst set.now before.now after.now l)) }
+    ensures none { IfOk result (λ o. IfNone o (Keeps fill set.now before.now after.now)) }
+    ensures some { IfOk result (λ o. IfSome o (λ l. IsLoss fill set.now before.now after.now l)) }
+    ensures first { IfOk result (λ o. IfSome o (λ l. IsMetFirst fill set.now before.now after.now l)) }
 {
-    let mut pairs = start(alloc, before, after, set)?;
-    if let Some(lost) = link_roots(before, after, set, &mut pairs)? {
+    let mut pairs = start(alloc, before, after, set, fill)?;
+    if let Some(lost) = link_roots(before, after, set, fill, &mut pairs)? {
         return Ok(Some(lost));
     }
-    if let Some(lost) = compare_outside(alloc, before, after, set, &mut pairs)? {
+    if let Some(lost) = compare_outside(alloc, before, after, set, fill, &mut pairs)? {
         return Ok(Some(lost));
     }
-    compare_pairs(before, after, set, &mut pairs)
+    compare_pairs(before, after, set, fill, &mut pairs)
 }
 
 // The first thing that is lost.
@@ -233,24 +239,26 @@ fn find_loss(
     before: &Heap,
     after: &Heap,
     set: &RegionSet<'_>,
+    fill: bool,
 ) -> Result<Option<Lost>, AllocError>
-    ensures none { IfOk result (λ o. IfNone o (Keeps set.now before.now after.now)) }
-    ensures some { IfOk result (λ o. IfSome o (λ l. IsLoss set.now before.now after.now l)) }
-    ensures earliest { IfOk result (λ o. IfSome o (λ l. IsEarliest set.now before.now after.now l)) }
+    ensures none { IfOk result (λ o. IfNone o (Keeps fill set.now before.now after.now)) }
+    ensures some { IfOk result (λ o. IfSome o (λ l. IsLoss fill set.now before.now after.now l)) }
+    ensures earliest { IfOk result (λ o. IfSome o (λ l. IsEarliest fill set.now before.now after.now l)) }
 {
     g1_words::laws::valid(before);
     g1_words::laws::valid(after);
-    if let Some(lost) = compare_tables(before, after, set) {
+    if let Some(lost) = compare_tables(before, after, set, fill) {
         return Ok(Some(lost));
     }
     if before.roots().len() != after.roots().len() {
         return Ok(Some(Lost::Roots));
     }
-    compare_words(alloc, before, after, set)
+    compare_words(alloc, before, after, set, fill)
 }
 
 /// Whether a heap keeps what a pause of these regions keeps of another one: all objects outside them
-/// in their places, and a copy of each object of theirs that a root or a kept slot leads to.
+/// in their places, and a copy of each object of theirs that a root or a kept slot leads to. A copy is in a
+/// region that was free; if `fill`, it may be behind the old top of an ordinary region, too.
 ///
 /// # Errors
 ///
@@ -260,17 +268,18 @@ pub fn kept(
     before: &Heap,
     after: &Heap,
     set: &[u32],
+    fill: bool,
 ) -> Result<Result<(), Lost>, Fault>
-    ensures keeps { IfOk result (λ r. IfOk r (λ _. Keeps set.now before.now after.now)) }
-    ensures lost { IfOk result (λ r. IfErr r (λ l. IsLoss set.now before.now after.now l)) }
-    ensures earliest { IfOk result (λ r. IfErr r (λ l. IsEarliest set.now before.now after.now l)) }
-    ensures never { IfOk result (λ r. IfErr r (λ _. Keeps set.now before.now after.now → ⊥)) }
+    ensures keeps { IfOk result (λ r. IfOk r (λ _. Keeps fill set.now before.now after.now)) }
+    ensures lost { IfOk result (λ r. IfErr r (λ l. IsLoss fill set.now before.now after.now l)) }
+    ensures earliest { IfOk result (λ r. IfErr r (λ l. IsEarliest fill set.now before.now after.now l)) }
+    ensures never { IfOk result (λ r. IfErr r (λ _. Keeps fill set.now before.now after.now → ⊥)) }
     ensures memory { IfErr result (λ e. e ≡ Memory) }
 {
     g1_words::laws::valid(before);
     g1_words::laws::valid(after);
     let regions = RegionSet::new(alloc, before.regions().len(), set)?;
-    match find_loss(alloc, before, after, &regions)? {
+    match find_loss(alloc, before, after, &regions, fill)? {
         Some(lost) => Ok(Err(lost)),
         None => Ok(Ok(())),
     }

@@ -1,5 +1,5 @@
-ghost use Rattle.std.specs.Prelude.{◌≡◌, ◌≢◌, ◌<◌, ◌+◌, ◌-◌, ◌↔◌, ℕ, suc, [], length, slice_index, Contains, IfSome, IfNone, IfOk, OnOk, IsTrue, IsFalse};
-ghost use Rattle.g1_words.specs.Heap.{word, object_at, objects};
+ghost use Rattle.std.specs.Prelude.{◌≡◌, ◌≢◌, ◌<◌, ◌≤◌, ◌+◌, ◌-◌, ◌↔◌, ℕ, suc, [], length, slice_index, Contains, IfSome, IfNone, IfOk, OnOk, IsTrue, IsFalse};
+ghost use Rattle.g1_words.specs.Heap.{word, start, top, object_at, objects};
 ghost use Rattle.g1_words.specs.Survivors.{in_set};
 ghost use Rattle.g1_same.specs.Walk.{AreAlike, Names};
 ghost use Rattle.g1_kept.specs.Keeps.{MayHoldCopy};
@@ -33,22 +33,39 @@ fn leads_in(before: &Heap, set: &RegionSet<'_>, x: u64) -> bool
     x > 0 && set.has(region_of(&before.geometry(), x - 1))
 }
 
-// Whether a copy may be at an address: its region was free.
-fn may_hold_copy(before: &Heap, b: u64) -> bool
-    requires { b < length before.now.words }
-    ensures { IsTrue result ↔ MayHoldCopy before.now b }
+// Whether an address is at or above a region's top.
+fn is_behind_top(before: &Heap, number: u32, b: u64) -> bool
+    requires { number < before.now.geometry.n }
+    ensures { IsTrue result ↔ (start before.now number + top before.now number ≤ b) }
 {
-    let region = region_of(&before.geometry(), b);
-    before.region(region as u32).kind.is_free()
+    before.geometry().start(number) + u64::from(before.region(number).top) <= b
+}
+
+// Whether a copy may be at an address.
+fn may_hold_copy(before: &Heap, fill: bool, b: u64) -> bool
+    requires { b < length before.now.words }
+    ensures { IsTrue result ↔ MayHoldCopy fill before.now b }
+{
+    let number = region_of(&before.geometry(), b) as u32;
+    let region = before.region(number);
+    region.kind.is_free() || (fill && region.kind.is_ordinary() && is_behind_top(before, number, b))
 }
 
 // What two words are to the walk.
-fn meet(before: &Heap, after: &Heap, set: &RegionSet<'_>, pairs: &Pairs, x: u64, y: u64) -> Met
-    requires walk { IsWalk set.now before.now after.now pairs.now }
+fn meet(
+    before: &Heap,
+    after: &Heap,
+    set: &RegionSet<'_>,
+    fill: bool,
+    pairs: &Pairs,
+    x: u64,
+    y: u64,
+) -> Met
+    requires walk { IsWalk fill set.now before.now after.now pairs.now }
     requires sizes { length after.now.words ≡ length before.now.words }
     requires x { Names before.now x }
     requires y { Names after.now y }
-    ensures { IsMet set.now before.now after.now pairs.now x y result }
+    ensures { IsMet fill set.now before.now after.now pairs.now x y result }
 {
     g1_words::laws::valid(before);
     g1_words::laws::valid(after);
@@ -71,7 +88,7 @@ fn meet(before: &Heap, after: &Heap, set: &RegionSet<'_>, pairs: &Pairs, x: u64,
     if i != 0 {
         return Met::Agree;
     }
-    if may_hold_copy(before, b) {
+    if may_hold_copy(before, fill, b) {
         Met::New { a, b }
     } else {
         Met::Occupied { a, b }
@@ -83,27 +100,28 @@ fn link(
     before: &Heap,
     after: &Heap,
     set: &RegionSet<'_>,
+    fill: bool,
     pairs: &mut Pairs,
     x: u64,
     y: u64,
     other: Lost,
 ) -> Result<Option<Lost>, AllocError>
-    requires walk { IsWalk set.now before.now after.now pairs.old }
+    requires walk { IsWalk fill set.now before.now after.now pairs.old }
     requires sizes { length after.now.words ≡ length before.now.words }
     requires x { Names before.now x }
     requires y { Names after.now y }
     requires found { (a b : ℕ) → x ≡ suc a → y ≡ suc b → IsTrue (in_set before.now set.now a) → Match set.now before.now after.now a b }
-    requires other { Disagree set.now before.now after.now x y → IsLoss set.now before.now after.now other }
-    ensures walk { OnOk result (IsWalk set.now before.now after.now pairs.new) }
+    requires other { Disagree set.now before.now after.now x y → IsLoss fill set.now before.now after.now other }
+    ensures walk { OnOk result (IsWalk fill set.now before.now after.now pairs.new) }
     ensures grown { OnOk result (HasGrown pairs.old pairs.new) }
     ensures paired { IfOk result (λ o. IfNone o (IsPaired set.now before.now pairs.new x y)) }
-    ensures lost { IfOk result (λ o. IfSome o (λ l. IsLoss set.now before.now after.now l)) }
-    ensures passed { IfOk result (λ o. IfNone o (PassesWords set.now before.now after.now pairs.old pairs.new x y)) }
-    ensures first { IfOk result (λ o. IfSome o (λ l. StopsAtWords set.now before.now after.now pairs.old x y other l)) }
+    ensures lost { IfOk result (λ o. IfSome o (λ l. IsLoss fill set.now before.now after.now l)) }
+    ensures passed { IfOk result (λ o. IfNone o (PassesWords fill set.now before.now after.now pairs.old pairs.new x y)) }
+    ensures first { IfOk result (λ o. IfSome o (λ l. StopsAtWords fill set.now before.now after.now pairs.old x y other l)) }
 {
     g1_words::laws::valid(before);
     g1_words::laws::valid(after);
-    match meet(before, after, set, pairs, x, y) {
+    match meet(before, after, set, fill, pairs, x, y) {
         Met::Agree => Ok(None),
         Met::Differ => Ok(Some(other)),
         Met::Occupied { a, b } => Ok(Some(Lost::Copy {
@@ -122,17 +140,18 @@ pub(crate) fn link_roots(
     before: &Heap,
     after: &Heap,
     set: &RegionSet<'_>,
+    fill: bool,
     pairs: &mut Pairs,
 ) -> Result<Option<Lost>, AllocError>
-    requires walk { IsWalk set.now before.now after.now pairs.old }
+    requires walk { IsWalk fill set.now before.now after.now pairs.old }
     requires sizes { length after.now.words ≡ length before.now.words }
     requires roots { length after.now.roots ≡ length before.now.roots }
     requires none { pairs.old.before.items ≡ [] }
-    ensures walk { OnOk result (IsWalk set.now before.now after.now pairs.new) }
+    ensures walk { OnOk result (IsWalk fill set.now before.now after.now pairs.new) }
     ensures paired { IfOk result (λ o. IfNone o (PairsRoots set.now before.now after.now pairs.new (length before.now.roots))) }
-    ensures lost { IfOk result (λ o. IfSome o (λ l. IsLoss set.now before.now after.now l)) }
-    ensures searched { IfOk result (λ o. IfNone o (Searches set.now before.now after.now pairs.new 1 0)) }
-    ensures first { IfOk result (λ o. IfSome o (λ l. IsMetFirst set.now before.now after.now l)) }
+    ensures lost { IfOk result (λ o. IfSome o (λ l. IsLoss fill set.now before.now after.now l)) }
+    ensures searched { IfOk result (λ o. IfNone o (Searches fill set.now before.now after.now pairs.new 1 0)) }
+    ensures first { IfOk result (λ o. IfSome o (λ l. IsMetFirst fill set.now before.now after.now l)) }
 {
     g1_words::laws::valid(before);
     g1_words::laws::valid(after);
@@ -142,7 +161,7 @@ pub(crate) fn link_roots(
         let x = old[number];
         let y = new[number];
         let other = Lost::Root(number as u64);
-        if let Some(lost) = link(before, after, set, pairs, x, y, other)? {
+        if let Some(lost) = link(before, after, set, fill, pairs, x, y, other)? {
             return Ok(Some(lost));
         }
     }
@@ -154,22 +173,23 @@ pub(crate) fn link_slots(
     before: &Heap,
     after: &Heap,
     set: &RegionSet<'_>,
+    fill: bool,
     pairs: &mut Pairs,
     a: u64,
     b: u64,
 ) -> Result<Option<Lost>, AllocError>
-    requires walk { IsWalk set.now before.now after.now pairs.old }
+    requires walk { IsWalk fill set.now before.now after.now pairs.old }
     requires sizes { length after.now.words ≡ length before.now.words }
     requires a { Contains (objects before.now) (object_at before.now a) }
     requires b { Contains (objects after.now) (object_at after.now b) }
     requires matched { Match set.now before.now after.now a b }
     requires alike { AreAlike before.now after.now a b }
-    ensures walk { OnOk result (IsWalk set.now before.now after.now pairs.new) }
+    ensures walk { OnOk result (IsWalk fill set.now before.now after.now pairs.new) }
     ensures grown { OnOk result (HasGrown pairs.old pairs.new) }
     ensures paired { IfOk result (λ o. IfNone o (PairsSlots set.now before.now after.now pairs.new a b (object_at before.now a).refs)) }
-    ensures lost { IfOk result (λ o. IfSome o (λ l. IsLoss set.now before.now after.now l)) }
-    ensures passed { IfOk result (λ o. IfNone o (PassesObjects set.now before.now after.now pairs.old pairs.new a b 1)) }
-    ensures first { IfOk result (λ o. IfSome o (λ l. StopsAtObjects set.now before.now after.now pairs.old a b 1 l)) }
+    ensures lost { IfOk result (λ o. IfSome o (λ l. IsLoss fill set.now before.now after.now l)) }
+    ensures passed { IfOk result (λ o. IfNone o (PassesObjects fill set.now before.now after.now pairs.old pairs.new a b 1)) }
+    ensures first { IfOk result (λ o. IfSome o (λ l. StopsAtObjects fill set.now before.now after.now pairs.old a b 1 l)) }
 {
     g1_words::laws::valid(before);
     g1_words::laws::valid(after);
@@ -185,7 +205,7 @@ pub(crate) fn link_slots(
             after: b,
             slot: number as u64,
         };
-        if let Some(lost) = link(before, after, set, pairs, x, y, other)? {
+        if let Some(lost) = link(before, after, set, fill, pairs, x, y, other)? {
             return Ok(Some(lost));
         }
     }

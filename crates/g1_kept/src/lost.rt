@@ -20,7 +20,8 @@ pub enum Lost {
     /// A region outside the set that is pinned and wasn't.
     #[error("region {0}: outside the set, pinned after and not before")]
     Pinned(u32),
-    /// What references an object of the set before references one in a region that was in use.
+    /// What references an object of the set before references one where no copy may be: in a region that was
+    /// in use or, if copies may fill regions, below the old top of one.
     #[error("object {before}: {after} after is in a region that was not free")]
     Copy { before: u64, after: u64 },
     #[error("object {before}: {after} after has another size or number of slots")]

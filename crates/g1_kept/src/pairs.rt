@@ -33,8 +33,9 @@ pub(crate) fn start(
     before: &Heap,
     after: &Heap,
     set: &RegionSet<'_>,
+    fill: bool,
 ) -> Result<Pairs, AllocError>
-    ensures walk { IfOk result (λ w. IsWalk set.now before.now after.now w) }
+    ensures walk { IfOk result (λ w. IsWalk fill set.now before.now after.now w) }
     ensures none { IfOk result (λ w. w.before.items ≡ []) }
     ensures before { IsValid before.now }
     ensures after { IsValid after.now }

@@ -1,6 +1,8 @@
-ghost use Rattle.std.specs.Prelude.{◌≡◌, ◌<◌, ◌↔◌, IfSome, IfNone, IsTrue};
-ghost use Rattle.g1_kept.specs.Keeps.{IsFreed, KeepsRegion, KeepsTable};
-ghost use Rattle.g1_kept.specs.Lost.{IsLoss};
+ghost use Rattle.std.specs.Prelude.{◌≡◌, ◌≢◌, ◌<◌, ◌≤◌, ◌+◌, ◌↔◌, ℕ, IfSome, IfNone, IsTrue, IsFalse};
+ghost use Rattle.g1_words.specs.declared.region.Kind.TheVariants.{Free};
+ghost use Rattle.g1_words.specs.Heap.{kind, start, top};
+ghost use Rattle.g1_kept.specs.Keeps.{MayHoldCopy, IsFreed, KeepsRegion, KeepsTable};
+ghost use Rattle.g1_kept.specs.Lost.{HasOtherTop, IsLoss};
 ghost use Rattle.g1_kept.specs.Order.{IsEarliest, KeepsBefore};
 
 use crate::lost::Lost;
@@ -30,13 +32,39 @@ fn is_freed(before: &Heap, after: &Heap, number: u32) -> bool
     was_humongous && after.region(number).kind.is_free()
 }
 
+// Whether the top of a region is another one, except if copies may fill it.
+fn has_other_top(before: &Heap, after: &Heap, fill: bool, number: u32) -> bool
+    requires sizes { after.now.geometry ≡ before.now.geometry }
+    requires region { number < before.now.geometry.n }
+    requires used { kind before.now number ≢ Free }
+    ensures other { IsTrue result ↔ HasOtherTop fill before.now after.now number }
+    ensures filled { IsFalse result → top before.now number ≤ top after.now number }
+    ensures above { IsFalse result → (i : ℕ) → top before.now number ≤ i → i < top after.now number → MayHoldCopy fill before.now (start before.now number + i) }
+{
+    g1_words::laws::valid(before);
+    g1_words::laws::valid(after);
+    let old = before.region(number);
+    let new = after.region(number);
+    if fill && old.kind.is_ordinary() {
+        new.top < old.top
+    } else {
+        new.top != old.top
+    }
+}
+
 // What is lost of a region, by the entries of the heaps' tables.
-fn compare_entries(before: &Heap, after: &Heap, set: &RegionSet<'_>, number: u32) -> Option<Lost>
-    requires before { number < before.now.geometry.n }
-    requires after { number < after.now.geometry.n }
-    ensures none { IfNone result (KeepsRegion set.now before.now after.now number) }
-    ensures some { IfSome result (λ l. IsLoss set.now before.now after.now l) }
-    ensures earliest { IfSome result (λ l. KeepsBefore set.now before.now after.now number → IsEarliest set.now before.now after.now l) }
+fn compare_entries(
+    before: &Heap,
+    after: &Heap,
+    set: &RegionSet<'_>,
+    fill: bool,
+    number: u32,
+) -> Option<Lost>
+    requires sizes { after.now.geometry ≡ before.now.geometry }
+    requires region { number < before.now.geometry.n }
+    ensures none { IfNone result (KeepsRegion fill set.now before.now after.now number) }
+    ensures some { IfSome result (λ l. IsLoss fill set.now before.now after.now l) }
+    ensures earliest { IfSome result (λ l. KeepsBefore fill set.now before.now after.now number → IsEarliest fill set.now before.now after.now l) }
 {
     let old = before.region(number);
     let new = after.region(number);
@@ -49,7 +77,7 @@ fn compare_entries(before: &Heap, after: &Heap, set: &RegionSet<'_>, number: u32
     if old.kind.is_free() || is_freed(before, after, number) {
         return None;
     }
-    if old.kind != new.kind || old.top != new.top {
+    if old.kind != new.kind || has_other_top(before, after, fill, number) {
         return Some(Lost::Region(number));
     }
     if old.pinned && !new.pinned {
@@ -62,16 +90,21 @@ fn compare_entries(before: &Heap, after: &Heap, set: &RegionSet<'_>, number: u32
 }
 
 /// What is lost of the sizes and of the first region that is not as it has to be.
-pub(crate) fn compare_tables(before: &Heap, after: &Heap, set: &RegionSet<'_>) -> Option<Lost>
-    ensures none { IfNone result (KeepsTable set.now before.now after.now) }
-    ensures some { IfSome result (λ l. IsLoss set.now before.now after.now l) }
-    ensures earliest { IfSome result (λ l. IsEarliest set.now before.now after.now l) }
+pub(crate) fn compare_tables(
+    before: &Heap,
+    after: &Heap,
+    set: &RegionSet<'_>,
+    fill: bool,
+) -> Option<Lost>
+    ensures none { IfNone result (KeepsTable fill set.now before.now after.now) }
+    ensures some { IfSome result (λ l. IsLoss fill set.now before.now after.now l) }
+    ensures earliest { IfSome result (λ l. IsEarliest fill set.now before.now after.now l) }
 {
     if !have_same_sizes(before, after) {
         return Some(Lost::Sizes);
     }
     for number in 0..before.geometry().regions() as u32 {
-        if let Some(lost) = compare_entries(before, after, set, number) {
+        if let Some(lost) = compare_entries(before, after, set, fill, number) {
             return Some(lost);
         }
     }

@@ -1,5 +1,5 @@
 -- The status of a verdict is exactly what the bytes are.
-use Rattle.std.proofs.Common.{◌≡◌, ◌⊎◌, ◌↔◌, ℕ, inl, inr, List, ◌∷◌, [], refl, sym, subst, ◌∙◌, arith}
+use Rattle.std.proofs.Common.{◌≡◌, ◌⊎◌, ◌↔◌, ℕ, inl, inr, List, ◌∷◌, [], refl, sym, subst, ◌∙◌, arith, false}
 use Rattle.g1_words.specs.Graph.{SameGraph}
 use Rattle.g1_words.specs.Valid.{IsValid}
 use Rattle.g1_image.specs.Cards.{Covered, uncovered}
@@ -126,7 +126,7 @@ module _ (one : OneImage) (none : NoFaultOfText) (accepted : AcceptedNotBad) whe
 
   kept_lost : (before after set : List ℕ) → ShowKept before after set → ShowLost before after set → ⊥
   kept_lost before after set (g, h, s, t, takeable, keeps) (i, j, u, v, other, never) =
-      never (subst (λ z. Keeps set i.heap z.heap) (one after h j t v) (subst (λ z. Keeps set z.heap h.heap) (one before g i s u) keeps))
+      never (subst (λ z. Keeps false set i.heap z.heap) (one after h j t v) (subst (λ z. Keeps false set z.heap h.heap) (one before g i s u) keeps))
 
   pub kept_status : KeptStatus
   kept_status before after set Good (g, h, s, t, j) =

@@ -1,5 +1,5 @@
 -- What bytes are found to be.
-use Rattle.std.specs.Prelude.{◌≡◌, ◌≢◌, ◌<◌, ℕ, zero, suc, ◌+◌, ◌⊎◌, List, length, slice_index, ◌∷◌, sum_by, Contains}
+use Rattle.std.specs.Prelude.{◌≡◌, ◌≢◌, ◌<◌, ℕ, zero, suc, ◌+◌, ◌⊎◌, List, length, slice_index, ◌∷◌, sum_by, Contains, false}
 use Rattle.g1_words.specs.declared.fault.Fault.{Fault}
 use Rattle.g1_words.specs.declared.fault.Fault.TheVariants as fault
 use Rattle.g1_words.specs.Heap.{Heap, word, object_at, objects}
@@ -74,13 +74,13 @@ JudgesSlots i _ = ⊥
 
 -- a heap does not keep what a pause of the set keeps of another one, and this is lost
 pub record Loses (set : List ℕ) (g h : Heap) (l : Lost) : Type 0 where
-  pub is : IsLoss set g h l
-  pub earliest : IsEarliest set g h l
-  pub never : Keeps set g h → ⊥
+  pub is : IsLoss false set g h l
+  pub earliest : IsEarliest false set g h l
+  pub never : Keeps false set g h → ⊥
 
 -- what a heap keeps of another one
 abbrev pub JudgesLoss : List ℕ → Heap → Heap → Verdict → Type 0
-JudgesLoss set g h Good = Keeps set g h
+JudgesLoss set g h Good = Keeps false set g h
 JudgesLoss set g h (Loss l) = Loses set g h l
 JudgesLoss set g h Memory = Unit {0}
 JudgesLoss set g h _ = ⊥
@@ -91,7 +91,7 @@ IsRefused h set region = (i : ℕ) × IsFirstBad h set i × (region ≡ slice_in
 
 -- the same of two images and a set that the first allows, else the first region of the set that it does not allow
 abbrev pub JudgesSet : Image → Image → List ℕ → Verdict → Type 0
-JudgesSet g h set Good = AreTakeable g.heap set × Keeps set g.heap h.heap
+JudgesSet g h set Good = AreTakeable g.heap set × Keeps false set g.heap h.heap
 JudgesSet g h set (Loss l) = AreTakeable g.heap set × Loses set g.heap h.heap l
 JudgesSet g h set (NoSet region) = IsRefused g.heap set region
 JudgesSet g h set Memory = Unit {0}

@@ -1,5 +1,5 @@
 -- The laws that public functions of this crate prove.
-use Rattle.std.specs.Prelude.{◌≡◌, ◌↔◌, ◌⊎◌, ℕ, List}
+use Rattle.std.specs.Prelude.{◌≡◌, ◌↔◌, ◌⊎◌, ℕ, List, false}
 use Rattle.g1_words.specs.declared.fault.Fault.{Fault}
 use Rattle.g1_words.specs.Graph.{SameGraph}
 use Rattle.g1_image.specs.Image.{Image, IsTextOf}
@@ -35,12 +35,12 @@ IsBareText bytes = (i : Image) × IsTextOf bytes i × (Covered i → ⊥)
 -- the bytes are the texts of two images, the first allows the set, and the second keeps what a pause of it keeps
 abbrev pub ShowKept : List ℕ → List ℕ → List ℕ → Type 0
 ShowKept before after set =
-    (g : Image) × (h : Image) × IsTextOf before g × IsTextOf after h × AreTakeable g.heap set × Keeps set g.heap h.heap
+    (g : Image) × (h : Image) × IsTextOf before g × IsTextOf after h × AreTakeable g.heap set × Keeps false set g.heap h.heap
 
 -- and the second does not keep it
 abbrev pub ShowLost : List ℕ → List ℕ → List ℕ → Type 0
 ShowLost before after set =
-    (g : Image) × (h : Image) × IsTextOf before g × IsTextOf after h × AreTakeable g.heap set × (Keeps set g.heap h.heap → ⊥)
+    (g : Image) × (h : Image) × IsTextOf before g × IsTextOf after h × AreTakeable g.heap set × (Keeps false set g.heap h.heap → ⊥)
 
 -- the bytes are the texts of two images, and the first does not allow the set
 abbrev pub ShowNoSet : List ℕ → List ℕ → List ℕ → Type 0

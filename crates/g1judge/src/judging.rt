@@ -101,7 +101,7 @@ pub fn judge_cover(alloc: Global, bytes: &[u8]) -> Verdict
 fn judge_loss(alloc: Global, before: &Heap, after: &Heap, set: &[u32]) -> Verdict
     ensures { JudgesLoss set.now before.now after.now result }
 {
-    match kept(alloc, before, after, set) {
+    match kept(alloc, before, after, set, false) {
         Err(_) => Verdict::Memory,
         Ok(Ok(())) => Verdict::Good,
         Ok(Err(lost)) => Verdict::Loss(lost),

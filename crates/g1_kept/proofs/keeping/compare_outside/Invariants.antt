@@ -5,8 +5,8 @@ use Rattle.g1_kept.proofs.keeping.compare_outside.Given as goal
 
 abbrev pub invariant-loop-region : goal.invariant-loop-region
 invariant-loop-region l = record {
-  walk : IsWalk l.set l.before l.after l.pairs;
+  walk : IsWalk l.fill l.set l.before l.after l.pairs;
   grown : HasGrown l.initial.pairs l.pairs;
   compared : ComparesOutside l.set l.before l.after l.pairs l.region;
-  search : Searches l.set l.before l.after l.pairs (suc (start l.before l.region)) 0;
+  search : Searches l.fill l.set l.before l.after l.pairs (suc (start l.before l.region)) 0;
 }

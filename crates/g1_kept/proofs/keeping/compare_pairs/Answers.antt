@@ -10,7 +10,7 @@ use Rattle.g1_kept.proofs.Steps.{as_many_words, pair_read}
 use Rattle.g1_kept.proofs.keeping.compare_pairs.Goals as goal
 
 pub compare_pair-requires-clause-sizes : goal.compare_pair-requires-clause-sizes
-compare_pair-requires-clause-sizes c = as_many_words c.args.set.now c.args.before.now c.args.after.now c.valid.ensures c.valid-2.ensures c.requires.table
+compare_pair-requires-clause-sizes c = as_many_words c.args.fill c.args.set.now c.args.before.now c.args.after.now c.valid.ensures c.valid-2.ensures c.requires.table
 
 pub compare_pair-requires-clause-a : goal.compare_pair-requires-clause-a
 compare_pair-requires-clause-a c =
@@ -19,7 +19,7 @@ compare_pair-requires-clause-a c =
     let lt : i < length w.before.items = omega (arith, c.loop-place-test.true, c.len.ensures, w.before.ok) in
     let a_is = get_or_read w.before.items i c.index-a.result.now lt c.index-a.ensures 0 in
     let b_is = get_or_read w.after.items i c.index-b.result.now (omega (arith, lt, c.loop-place.invariant.walk.pairs)) c.index-b.ensures 0 in
-    (pair_read c.args.set.now c.args.before.now c.args.after.now w i c.index-a.result.now c.index-b.result.now c.loop-place.invariant.walk lt a_is b_is).before_in
+    (pair_read c.args.fill c.args.set.now c.args.before.now c.args.after.now w i c.index-a.result.now c.index-b.result.now c.loop-place.invariant.walk lt a_is b_is).before_in
 
 pub compare_pair-requires-clause-b : goal.compare_pair-requires-clause-b
 compare_pair-requires-clause-b c =
@@ -28,7 +28,7 @@ compare_pair-requires-clause-b c =
     let lt : i < length w.before.items = omega (arith, c.loop-place-test.true, c.len.ensures, w.before.ok) in
     let a_is = get_or_read w.before.items i c.index-a.result.now lt c.index-a.ensures 0 in
     let b_is = get_or_read w.after.items i c.index-b.result.now (omega (arith, lt, c.loop-place.invariant.walk.pairs)) c.index-b.ensures 0 in
-    (pair_read c.args.set.now c.args.before.now c.args.after.now w i c.index-a.result.now c.index-b.result.now c.loop-place.invariant.walk lt a_is b_is).after_in
+    (pair_read c.args.fill c.args.set.now c.args.before.now c.args.after.now w i c.index-a.result.now c.index-b.result.now c.loop-place.invariant.walk lt a_is b_is).after_in
 
 pub compare_pair-requires-clause-matched : goal.compare_pair-requires-clause-matched
 compare_pair-requires-clause-matched c =
@@ -37,7 +37,7 @@ compare_pair-requires-clause-matched c =
     let lt : i < length w.before.items = omega (arith, c.loop-place-test.true, c.len.ensures, w.before.ok) in
     let a_is = get_or_read w.before.items i c.index-a.result.now lt c.index-a.ensures 0 in
     let b_is = get_or_read w.after.items i c.index-b.result.now (omega (arith, lt, c.loop-place.invariant.walk.pairs)) c.index-b.ensures 0 in
-    (pair_read c.args.set.now c.args.before.now c.args.after.now w i c.index-a.result.now c.index-b.result.now c.loop-place.invariant.walk lt a_is b_is).matched
+    (pair_read c.args.fill c.args.set.now c.args.before.now c.args.after.now w i c.index-a.result.now c.index-b.result.now c.loop-place.invariant.walk lt a_is b_is).matched
 
 pub loop-place-preserved : goal.loop-place-preserved
 loop-place-preserved c =
@@ -54,11 +54,11 @@ loop-place-preserved c =
     let grown : HasGrown w v = c.in_ok-lost.ensures.grown in
     let one : IsCompared c.args.set.now g h v a b = none_then (IsCompared c.args.set.now g h v a b) c.in_ok-lost.field-0 c.in_default.not-Some c.in_ok-lost.ensures.compared in
     let turn : HasTurn c.args.set.now g h w (length g.words + i) a b = inr (i, lt, refl, a_is, b_is) in
-    let passed = none_then (PassesObjects c.args.set.now g h w v a b 0) c.in_ok-lost.field-0 c.in_default.not-Some c.in_ok-lost.ensures.passed in
+    let passed = none_then (PassesObjects c.args.fill c.args.set.now g h w v a b 0) c.in_ok-lost.field-0 c.in_default.not-Some c.in_ok-lost.ensures.passed in
     let next : suc (suc (length g.words + i)) ≡ suc (length g.words + (i + 1)) = omega arith in
     record {
       walk = c.in_ok-lost.ensures.walk;
-      search = subst (λ z. Searches c.args.set.now g h v z 0) next (passed (length g.words + i) c.loop-place.invariant.search turn);
+      search = subst (λ z. Searches c.args.fill c.args.set.now g h v z 0) next (passed (length g.words + i) c.loop-place.invariant.search turn);
       grown = grown_more c.args.pairs.now w v c.loop-place.invariant.grown grown;
       compared = pairs_more c.args.set.now g h w v grown i a b lt (sym a_is) (sym b_is) c.loop-place.invariant.compared one;
       within = omega (arith, lt, grown.more);
@@ -69,7 +69,7 @@ returns-in-Some-clause-grown c = grown_more c.args.pairs.now c.loop-place.pairs 
 
 pub loop-place-smaller : goal.loop-place-smaller
 loop-place-smaller c =
-    let few = few_pairs c.args.set.now c.args.before.now c.args.after.now c.loop-place.pairs c.valid.ensures c.loop-place.invariant.walk in
+    let few = few_pairs c.args.fill c.args.set.now c.args.before.now c.args.after.now c.loop-place.pairs c.valid.ensures c.loop-place.invariant.walk in
     let lt : c.loop-place.place < length c.loop-place.pairs.before.items = omega (arith, c.loop-place-test.true, c.len.ensures, c.loop-place.pairs.before.ok) in
     let n : ℕ = length c.args.before.now.words in
     let e : n - (c.loop-place.place + 1) < n - c.loop-place.place = omega (arith, few, lt) in
@@ -83,7 +83,7 @@ loop-place-init c =
       grown = grown_same c.args.pairs.now;
       compared = λ i lt. absurd (omega (arith, lt));
       within = omega arith;
-      search = subst (λ z. Searches c.args.set.now c.args.before.now c.args.after.now c.args.pairs.now z 0) first c.requires.search;
+      search = subst (λ z. Searches c.args.fill c.args.set.now c.args.before.now c.args.after.now c.args.pairs.now z 0) first c.requires.search;
     }
 
 pub returns-in-Some-clause-first : goal.returns-in-Some-clause-first
@@ -98,5 +98,5 @@ returns-in-Some-clause-first c =
     let a_is : a ≡ slice_index w.before.items i = get_or_read w.before.items i a lt c.index-a.ensures 0 in
     let b_is : b ≡ slice_index w.after.items i = get_or_read w.after.items i b (omega (arith, lt, c.loop-place.invariant.walk.pairs)) c.index-b.ensures 0 in
     let turn : HasTurn c.args.set.now g h w (length g.words + i) a b = inr (i, lt, refl, a_is, b_is) in
-    let stops = some_then (λ (l : Lost). StopsAtObjects c.args.set.now g h w a b 0 l) c.in_ok-lost.field-0 c.in-Some.lost c.in-Some.is c.in_ok-lost.ensures.first in
+    let stops = some_then (λ (l : Lost). StopsAtObjects c.args.fill c.args.set.now g h w a b 0 l) c.in_ok-lost.field-0 c.in-Some.lost c.in-Some.is c.in_ok-lost.ensures.first in
     stops (length g.words + i) c.loop-place.invariant.search turn

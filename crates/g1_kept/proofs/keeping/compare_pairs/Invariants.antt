@@ -4,11 +4,11 @@ use Rattle.g1_kept.proofs.keeping.compare_pairs.Given as goal
 
 abbrev pub invariant-loop-place : goal.invariant-loop-place
 invariant-loop-place l = record {
-  walk : IsWalk l.set l.before l.after l.pairs;
+  walk : IsWalk l.fill l.set l.before l.after l.pairs;
   grown : HasGrown l.initial.pairs l.pairs;
   compared : ComparesPairs l.set l.before l.after l.pairs l.place;
   within : l.place ≤ length l.pairs.before.items;
-  search : Searches l.set l.before l.after l.pairs (suc (length l.before.words + l.place)) 0;
+  search : Searches l.fill l.set l.before l.after l.pairs (suc (length l.before.words + l.place)) 0;
 }
 
 abbrev pub decreases-loop-place : goal.decreases-loop-place

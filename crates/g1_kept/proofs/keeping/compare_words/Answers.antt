@@ -17,17 +17,17 @@ returns-clause-none c =
     let v : Pairs = c.compare_pairs.new.pairs in
     let roots : PairsRoots set g h u (length g.roots) = none_then (PairsRoots set g h u (length g.roots)) c.in_ok-lost.field-0 c.in_default.not-Some c.in_ok-lost.ensures.paired in
     let others : ComparesOutside set g h w g.geometry.n = none_then (ComparesOutside set g h w g.geometry.n) c.in_ok-lost-2.field-0 c.in_default-2.not-Some c.in_ok-lost-2.ensures.compared in
-    ok_none_then (ComparesPairs set g h v (length v.before.items)) (Keeps set g h) (IsWalk set g h v) (HasGrown w v) c.compare_pairs.result
+    ok_none_then (ComparesPairs set g h v (length v.before.items)) (Keeps c.args.fill set g h) (IsWalk c.args.fill set g h v) (HasGrown w v) c.compare_pairs.result
     c.compare_pairs.ensures.compared c.compare_pairs.ensures.walk c.compare_pairs.ensures.grown
-    (λ walk grown pairs. keeps set g h c.in_ok-pairs.ensures.before c.in_ok-pairs.ensures.after v walk c.requires.table c.requires.roots
+    (λ walk grown pairs. keeps c.args.fill set g h c.in_ok-pairs.ensures.before c.in_ok-pairs.ensures.after v walk c.requires.table c.requires.roots
     (roots_kept set g h u v (grown_more u w v c.in_ok-lost-2.ensures.grown grown) (length g.roots) roots)
     (outside_kept set g h w v grown g.geometry.n others) pairs)
 
 pub compare_outside-requires-clause-search : goal.compare_outside-requires-clause-search
 compare_outside-requires-clause-search c =
-    none_then (Searches c.args.set.now c.args.before.now c.args.after.now c.link_roots.new.pairs 1 0) c.in_ok-lost.field-0 c.in_default.not-Some c.in_ok-lost.ensures.searched
+    none_then (Searches c.args.fill c.args.set.now c.args.before.now c.args.after.now c.link_roots.new.pairs 1 0) c.in_ok-lost.field-0 c.in_default.not-Some c.in_ok-lost.ensures.searched
 
 pub compare_pairs-requires-clause-search : goal.compare_pairs-requires-clause-search
 compare_pairs-requires-clause-search c =
-    none_then (Searches c.args.set.now c.args.before.now c.args.after.now c.compare_outside.new.pairs (suc (length c.args.before.now.words)) 0)
+    none_then (Searches c.args.fill c.args.set.now c.args.before.now c.args.after.now c.compare_outside.new.pairs (suc (length c.args.before.now.words)) 0)
     c.in_ok-lost-2.field-0 c.in_default-2.not-Some c.in_ok-lost-2.ensures.searched

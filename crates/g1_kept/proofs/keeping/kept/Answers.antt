@@ -10,6 +10,6 @@ returns-in-Some-clause-never c = λ k.
     let g = c.args.before.now in
     let h = c.args.after.now in
     let same : c.in_ok-regions.regions ≡ set = c.in_ok-regions.ensures in
-    let found = some_then (IsLoss c.in_ok-regions.regions g h) c.in_ok-lost.field-0 c.in-Some.lost c.in-Some.is c.in_ok-lost.ensures.some in
-    let lost : IsLoss set g h c.in-Some.lost = subst (λ s. IsLoss s g h c.in-Some.lost) same found in
-    no_loss set g h c.valid.ensures c.valid-2.ensures k c.in-Some.lost lost
+    let found = some_then (IsLoss c.args.fill c.in_ok-regions.regions g h) c.in_ok-lost.field-0 c.in-Some.lost c.in-Some.is c.in_ok-lost.ensures.some in
+    let lost : IsLoss c.args.fill set g h c.in-Some.lost = subst (λ s. IsLoss c.args.fill s g h c.in-Some.lost) same found in
+    no_loss c.args.fill set g h c.valid.ensures c.valid-2.ensures k c.in-Some.lost lost

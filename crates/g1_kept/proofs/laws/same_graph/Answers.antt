@@ -6,4 +6,4 @@ pub returns-clause-graph : goal.returns-clause-graph
 returns-clause-graph c = keeps_graph
 
 pub returns-clause-nothing_lost : goal.returns-clause-nothing_lost
-returns-clause-nothing_lost c = λ set g h l left right k lost. no_loss set g h left right k l lost
+returns-clause-nothing_lost c = λ fill set g h l left right k lost. no_loss fill set g h left right k l lost

@@ -1,4 +1,4 @@
-use Rattle.std.proofs.Common.{arith, refl, subst, sym, suc, ℕ, ◌≡◌, ◌<◌, length, slice_index}
+use Rattle.std.proofs.Common.{arith, refl, subst, sym, suc, ℕ, ◌<◌, length, slice_index}
 use Rattle.g1_same.specs.Walk.{IsNew}
 use Rattle.g1_kept.specs.Walk.{IsPaired, PassesWords}
 use Rattle.g1_words.proofs.Sound.{object_in}
@@ -18,7 +18,7 @@ add-requires-clause-b c =
     omega (arith, o.0, o.1, c.requires.walk.table_after)
 
 pub add-requires-clause-few : goal.add-requires-clause-few
-add-requires-clause-few c = pairs_fit c.args.set.now c.args.before.now c.args.after.now c.args.pairs.now c.valid.ensures c.requires.walk
+add-requires-clause-few c = pairs_fit c.args.fill c.args.set.now c.args.before.now c.args.after.now c.args.pairs.now c.valid.ensures c.requires.walk
 
 pub returns-in_ok-add-in-New-clause-walk : goal.returns-in_ok-add-in-New-clause-walk
 returns-in_ok-add-in-New-clause-walk c =
@@ -39,7 +39,7 @@ returns-in_ok-add-in-New-clause-walk c =
       new_of = c.in_ok-add-in-New.ensures.new_of;
       old_of = c.in_ok-add-in-New.ensures.old_of;
     } in
-    added_walk c.args.set.now g h w v a b c.requires.walk e x_in y_in met.2 met.3 (c.requires.found a b met.0 met.1 met.2) x_lt y_lt met.4 met.5
+    added_walk c.args.fill c.args.set.now g h w v a b c.requires.walk e x_in y_in met.2 met.3 (c.requires.found a b met.0 met.1 met.2) x_lt y_lt met.4 met.5
 
 pub returns-in_ok-add-in-New-clause-paired : goal.returns-in_ok-add-in-New-clause-paired
 returns-in_ok-add-in-New-clause-paired c =
@@ -56,10 +56,11 @@ returns-in_ok-add-in-New-clause-paired c =
       new_of = c.in_ok-add-in-New.ensures.new_of;
       old_of = c.in_ok-add-in-New.ensures.old_of;
     } in
-    subst (λ z. IsPaired c.args.set.now g v z c.args.y) (sym met.0) (subst (λ z. IsPaired c.args.set.now g v (suc a) z) (sym met.1) (added_paired c.args.set.now g h w v a b c.requires.walk e))
+    subst (λ z. IsPaired c.args.set.now g v z c.args.y) (sym met.0)
+    (subst (λ z. IsPaired c.args.set.now g v (suc a) z) (sym met.1) (added_paired c.args.fill c.args.set.now g h w v a b c.requires.walk e))
 
 pub returns-in-Agree-clause-passed : goal.returns-in-Agree-clause-passed
-returns-in-Agree-clause-passed c = passes_same c.args.set.now c.args.before.now c.args.after.now c.args.pairs.now c.args.x c.args.y c.in-Agree.ensures
+returns-in-Agree-clause-passed c = passes_same c.args.fill c.args.set.now c.args.before.now c.args.after.now c.args.pairs.now c.args.x c.args.y c.in-Agree.ensures
 
 pub returns-in_ok-add-in-New-clause-passed : goal.returns-in_ok-add-in-New-clause-passed
 returns-in_ok-add-in-New-clause-passed c =
@@ -81,7 +82,7 @@ returns-in_ok-add-in-New-clause-passed c =
     } in
     let i : ℕ = slice_index w.new_of.items a in
     let j : ℕ = slice_index w.old_of.items b in
-    let old : IsNew w.before.items a = new_before set g h w c.requires.walk a b i j x_lt y_lt refl refl met.4 in
-    let new : IsNew w.after.items b = new_after set g h w c.requires.walk a b i j x_lt y_lt refl refl met.5 in
-    subst (λ z. PassesWords set g h w v z c.args.y) (sym met.0)
-    (subst (λ z. PassesWords set g h w v (suc a) z) (sym met.1) (passes_new set g h w v a b e met.2 met.3 old new))
+    let old : IsNew w.before.items a = new_before c.args.fill set g h w c.requires.walk a b i j x_lt y_lt refl refl met.4 in
+    let new : IsNew w.after.items b = new_after c.args.fill set g h w c.requires.walk a b i j x_lt y_lt refl refl met.5 in
+    subst (λ z. PassesWords c.args.fill set g h w v z c.args.y) (sym met.0)
+    (subst (λ z. PassesWords c.args.fill set g h w v (suc a) z) (sym met.1) (passes_new c.args.fill set g h w v a b e met.2 met.3 old new))

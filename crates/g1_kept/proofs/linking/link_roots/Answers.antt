@@ -48,7 +48,7 @@ loop-number-preserved c =
       ap (λ l. slice_index l n) (sym c.roots-old.ensures),
       ap (λ l. slice_index l n) (sym c.roots-new.ensures),
     ) in
-    let passed = none_then (PassesWords c.args.set.now g h w v x y) c.in_ok-lost.field-0 c.in_default.not-Some c.in_ok-lost.ensures.passed in
+    let passed = none_then (PassesWords c.args.fill c.args.set.now g h w v x y) c.in_ok-lost.field-0 c.in_default.not-Some c.in_ok-lost.ensures.passed in
     record {
       walk = c.in_ok-lost.ensures.walk;
       search = passed 0 n c.loop-number.invariant.search at;
@@ -62,7 +62,7 @@ pub loop-number-init : goal.loop-number-init
 loop-number-init c = record {
   walk = c.requires.walk;
   paired = λ n lt. absurd (omega (arith, lt));
-  search = search_none c.args.set.now c.args.before.now c.args.after.now c.args.pairs.now.before.items c.args.pairs.now.after.items (ap length c.requires.none) c.requires.walk.pairs;
+  search = search_none c.args.fill c.args.set.now c.args.before.now c.args.after.now c.args.pairs.now.before.items c.args.pairs.now.after.items (ap length c.requires.none) c.requires.walk.pairs;
 }
 
 pub returns-in-Some-clause-first : goal.returns-in-Some-clause-first
@@ -81,11 +81,11 @@ returns-in-Some-clause-first c =
       ap (λ l. slice_index l n) (sym c.roots-old.ensures),
       ap (λ l. slice_index l n) (sym c.roots-new.ensures),
     ) in
-    let stops = some_then (λ (l : Lost). StopsAtWords set g h w x y (lost.Root n) l) c.in_ok-lost.field-0 c.in-Some.lost c.in-Some.is c.in_ok-lost.ensures.first in
+    let stops = some_then (λ (l : Lost). StopsAtWords c.args.fill set g h w x y (lost.Root n) l) c.in_ok-lost.field-0 c.in-Some.lost c.in-Some.is c.in_ok-lost.ensures.first in
     stops 0 n c.loop-number.invariant.search at (λ clash. (refl, refl, x, y, at, clash))
 
 pub returns-clause-searched : goal.returns-clause-searched
 returns-clause-searched c =
     let w : Pairs = c.loop-number.pairs in
     let all : length c.args.before.now.roots ≤ c.loop-number.number = let k = ap length c.roots-old.ensures in omega (arith, k, c.loop-number-test.false) in
-    roots_on c.args.set.now c.args.before.now c.args.after.now w.before.items w.after.items c.loop-number.number all c.loop-number.invariant.search
+    roots_on c.args.fill c.args.set.now c.args.before.now c.args.after.now w.before.items w.after.items c.loop-number.number all c.loop-number.invariant.search

@@ -50,8 +50,8 @@ returns-then-i-j c =
     let y_lt : c.args.y - 1 < length w.old_of.items = let k = named_below h c.args.y c.valid-2.ensures c.if-y-eq0.false c.requires.y in omega (arith, k, c.requires.walk.table_after) in
     let is_i : c.index-i.result.now ≡ slice_index w.new_of.items (c.args.x - 1) = get_or_read w.new_of.items (c.args.x - 1) c.index-i.result.now x_lt c.index-i.ensures 0 in
     let is_j : c.index-j.result.now ≡ slice_index w.old_of.items (c.args.y - 1) = get_or_read w.old_of.items (c.args.y - 1) c.index-j.result.now y_lt c.index-j.ensures 0 in
-    let d = differ_here set g h w c.requires.walk (c.args.x - 1) (c.args.y - 1) c.index-i.result.now c.index-j.result.now x_lt y_lt is_i is_j into.1 c.if-i-j.true in
-    let k = clash_here set g h w c.requires.walk (c.args.x - 1) (c.args.y - 1) c.index-i.result.now c.index-j.result.now x_lt y_lt is_i is_j into.1 c.if-i-j.true in
+    let d = differ_here c.args.fill set g h w c.requires.walk (c.args.x - 1) (c.args.y - 1) c.index-i.result.now c.index-j.result.now x_lt y_lt is_i is_j into.1 c.if-i-j.true in
+    let k = clash_here c.args.fill set g h w c.requires.walk (c.args.x - 1) (c.args.y - 1) c.index-i.result.now c.index-j.result.now x_lt y_lt is_i is_j into.1 c.if-i-j.true in
     subst (λ z. Disagree set g h z c.args.y × Clash set g w.before.items w.after.items z c.args.y) (sym (some c.args.x into.0))
     (subst (λ z. Disagree set g h (suc (c.args.x - 1)) z × Clash set g w.before.items w.after.items (suc (c.args.x - 1)) z) (sym (some c.args.y c.if-y-eq0.false)) (d, k))
 
@@ -66,7 +66,7 @@ returns-then-i-ne0 c =
     let y_lt : c.args.y - 1 < length w.old_of.items = let k = named_below h c.args.y c.valid-2.ensures c.if-y-eq0.false c.requires.y in omega (arith, k, c.requires.walk.table_after) in
     let is_i : c.index-i.result.now ≡ slice_index w.new_of.items (c.args.x - 1) = get_or_read w.new_of.items (c.args.x - 1) c.index-i.result.now x_lt c.index-i.ensures 0 in
     let is_j : c.index-j.result.now ≡ slice_index w.old_of.items (c.args.y - 1) = get_or_read w.old_of.items (c.args.y - 1) c.index-j.result.now y_lt c.index-j.ensures 0 in
-    let d = known_here set g h w c.requires.walk (c.args.x - 1) (c.args.y - 1) c.index-i.result.now c.index-j.result.now x_lt y_lt is_i is_j c.if-i-j.false c.if-i-ne0.true in
+    let d = known_here c.args.fill set g h w c.requires.walk (c.args.x - 1) (c.args.y - 1) c.index-i.result.now c.index-j.result.now x_lt y_lt is_i is_j c.if-i-j.false c.if-i-ne0.true in
     subst (λ z. IsPaired set g w z c.args.y) (sym (some c.args.x into.0)) (subst (λ z. IsPaired set g w (suc (c.args.x - 1)) z) (sym (some c.args.y c.if-y-eq0.false)) d)
 
 pub returns-else-may_hold_copy : goal.returns-else-may_hold_copy
@@ -84,6 +84,6 @@ returns-else-may_hold_copy c =
       some c.args.y c.if-y-eq0.false,
       into.1,
       λ m. false≢true (sym c.if-may_hold_copy.false ∙ c.may_hold_copy.ensures.1 m),
-      new_before set g h w c.requires.walk (c.args.x - 1) (c.args.y - 1) c.index-i.result.now c.index-j.result.now x_lt y_lt is_i is_j c.if-i-ne0.false,
-      new_after set g h w c.requires.walk (c.args.x - 1) (c.args.y - 1) c.index-i.result.now c.index-j.result.now x_lt y_lt is_i is_j (sym c.if-i-j.false ∙ c.if-i-ne0.false),
+      new_before c.args.fill set g h w c.requires.walk (c.args.x - 1) (c.args.y - 1) c.index-i.result.now c.index-j.result.now x_lt y_lt is_i is_j c.if-i-ne0.false,
+      new_after c.args.fill set g h w c.requires.walk (c.args.x - 1) (c.args.y - 1) c.index-i.result.now c.index-j.result.now x_lt y_lt is_i is_j (sym c.if-i-j.false ∙ c.if-i-ne0.false),
     )
