@@ -1,6 +1,5 @@
 //! What keeps an object.
-ghost use Rattle.std.specs.Prelude.{◌≡◌, ◌<◌, map};
-ghost use Rattle.g1_words.specs.Heap.{regions};
+ghost use Rattle.std.specs.Prelude.{◌≡◌, ◌<◌};
 ghost use Rattle.g1_image.specs.Cards.{refined};
 ghost use Rattle.g1_rem.specs.Starts.{IsStartsOf};
 
@@ -12,7 +11,7 @@ use crate::places::{push_found, push_object};
 use g1_frontier::discover;
 use g1_image::Image;
 use g1_mark::live_objects;
-use g1_rem::{Starts, Tracked, image, refine_by, verify};
+use g1_rem::{Starts, Tracked, image, refine_region, verify};
 use g1_words::{Fault, Heap, region_of};
 use g1_work::{Open, Team};
 use std::alloc::{AllocError, Global};
@@ -182,47 +181,38 @@ fn explain_tracked<R: Threads + Sync>(
 {
     let image = image(tracked);
     let heap = image.heap();
-    let refined = refine_by(rt, alloc, tracked, starts, WORKERS)?;
     let number = region_of(&heap.geometry(), at);
     if number >= heap.geometry().regions() {
         return Err(Failure::Contradiction);
     }
     let region = number as u32;
+    let cards = refine_region(alloc, tracked, starts, region)?;
     if heap.region(region).kind.is_humongous_first() {
-        return explain_humongous(alloc, image, starts, region, &refined, at);
+        return explain_humongous(alloc, image, starts, region, &cards, at);
     }
-    let found = survivors_in(rt, alloc, tracked, starts, &refined, region)?;
-    explain_ordinary(alloc, image, starts, region, &refined, &found, at)
+    let found = survivors_in(rt, alloc, tracked, starts, &cards, region)?;
+    explain_ordinary(alloc, image, starts, region, &cards, &found, at)
 }
 
-// The objects that would survive if a region alone were collected.
+// The objects that would survive if a region alone were collected, from the cards of its refined set.
 fn survivors_in<R: Threads + Sync>(
     rt: &R,
     alloc: Global,
     tracked: &Tracked,
     starts: &Starts,
-    remembered: &[Vec<u32>],
+    cards: &[u32],
     region: u32,
 ) -> Result<Vec<u64>, Fault>
     requires starts { IsStartsOf tracked.now.heap starts.now }
-    requires remembered { map (λ s. s.items) remembered.now ≡ map (refined tracked.now) (regions tracked.now.heap) }
+    requires cards { cards.now ≡ refined tracked.now region }
     requires region { region < tracked.now.heap.geometry.n }
 {
     let image = image(tracked);
     let heap = image.heap();
-    let cards = remembered[region as usize].as_slice();
     let window = [region];
     discover(
         rt, alloc, heap, starts, &window, cards, WORKERS, CHUNK, &Open,
     )
-}
-
-// The cards that a region's refined set has.
-fn cards_of(refined: &[Vec<u32>], region: u32) -> &[u32] {
-    match refined.get(region as usize) {
-        Some(cards) => cards.as_slice(),
-        None => &[],
-    }
 }
 
 // A humongous object: a slot of another object keeps it, or it is garbage.
@@ -231,13 +221,12 @@ fn explain_humongous(
     image: &Image,
     starts: &Starts,
     region: u32,
-    refined: &[Vec<u32>],
+    cards: &[u32],
     at: u64,
 ) -> Result<String, Failure>
     requires { IsStartsOf image.now.heap starts.now }
 {
     let heap = image.heap();
-    let cards = cards_of(refined, region);
     let none = mark_regions(alloc, heap, &[])?;
     match card_keeper(alloc, heap, starts, &none, u64::from(region), cards) {
         Some(finder) => Ok(kept_lines(alloc, image, starts, region, &[at], &[finder], at)?),
@@ -251,13 +240,12 @@ fn explain_ordinary(
     image: &Image,
     starts: &Starts,
     region: u32,
-    refined: &[Vec<u32>],
+    cards: &[u32],
     found: &[u64],
     at: u64,
 ) -> Result<String, Failure>
     requires { IsStartsOf image.now.heap starts.now }
 {
-    let cards = cards_of(refined, region);
     match path_to(alloc, image.heap(), starts, cards, found, at)? {
         Some(path) => Ok(kept_lines(alloc, image, starts, region, found, &path, at)?),
         None => Ok(garbage_line(alloc, image, region, at)?),

@@ -392,7 +392,7 @@ fn lost(alloc: Global, same: &Same, old: &Heap, new: &Heap) -> Result<Option<Los
         Ok(set) => set,
         Err(fault) => return Err(of_file(alloc, same.before.as_str(), fault)),
     };
-    match kept(alloc, old, new, set.as_slice()) {
+    match kept(alloc, old, new, set.as_slice(), same.fill) {
         Ok(Ok(())) => Ok(None),
         Ok(Err(lost)) => Ok(Some(lost)),
         Err(fault) => Err(Refusal::Fault(fault)),

@@ -88,6 +88,8 @@ pub struct Same {
     /// The regions of a pause that is to have kept all others; empty if nothing is asked of it. Those that
     /// are free are left out.
     pub set: Vec<u32>,
+    /// Whether copies may be behind the old tops of ordinary regions.
+    pub fill: bool,
     /// The file of the names that the program has for what is in the first one.
     pub names: Option<String>,
     /// How many differences are listed and then all counted, if that is asked.
@@ -333,6 +335,16 @@ fn young_of(alloc: Global, values: &ArgMatches<'_>) -> Result<Vec<u32>, Misuse> 
     }
 }
 
+// Whether copies may fill regions, which only a set gives a meaning.
+fn fill_of(alloc: Global, values: &ArgMatches<'_>) -> Result<bool, Misuse> {
+    let fill = values.get_flag("fill");
+    if fill && values.get_strs(SET.id).is_none() {
+        let message = "'--fill' needs '--set <REGION>...'";
+        return Err(Misuse::Value(String::from_str(alloc, message)?));
+    }
+    Ok(fill)
+}
+
 fn same_of(alloc: Global, values: &ArgMatches<'_>) -> Result<Request, Misuse> {
     check_streams(alloc, values)?;
     Ok(Request::Same(Same {
@@ -341,6 +353,7 @@ fn same_of(alloc: Global, values: &ArgMatches<'_>) -> Result<Request, Misuse> {
         covered: values.get_flag("covered"),
         young: young_of(alloc, values)?,
         set: regions_in(alloc, &SET, values.get_strs(SET.id).unwrap_or(&[]))?,
+        fill: fill_of(alloc, values)?,
         names: name_if_given(alloc, values, "names")?,
         all: all_of(alloc, values)?,
     }))

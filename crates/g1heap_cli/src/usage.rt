@@ -170,7 +170,7 @@ pub struct Row {
     pub form: Form,
 }
 
-pub static SAME_ROWS: [Row; 7] = [
+pub static SAME_ROWS: [Row; 8] = [
     Row {
         id: "before",
         value: "BEFORE",
@@ -194,6 +194,12 @@ pub static SAME_ROWS: [Row; 7] = [
         value: "REGION",
         help: "Also asks that AFTER keeps all that a pause of these regions keeps, as in 1,2,5-9",
         form: Form::Values,
+    },
+    Row {
+        id: "fill",
+        value: "",
+        help: "With --set: copies may also be behind the old tops of ordinary regions",
+        form: Form::Flag,
     },
     Row {
         id: "young",

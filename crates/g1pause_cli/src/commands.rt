@@ -4,7 +4,7 @@ use crate::options::{NAME, Pause, Question, Request, Sharing, parse};
 use crate::show::table;
 use g1_choose::Cost;
 use g1_command::{Refusal, deliver, read_all, refuse};
-use g1_image::{FromReader, Image, ToWriter, read, write};
+use g1_image::{FromReader, Image, ToWriter, read_by, write};
 use g1_pause::{Choice, Settings, pause_run};
 use g1_rem::{Tracked, verify_by};
 use g1_trace::run_text;
@@ -56,7 +56,7 @@ fn answer<T: Threads + Sync, R: Read, W: Write>(
         Request::Help(text) => deliver(text.as_bytes(), writer),
         Request::Check => check(rt, alloc, reader, writer),
         Request::Answer(question) => answer_question(rt, alloc, question, reader, writer),
-        Request::Repack(sharing) => repack(alloc, sharing, reader, writer),
+        Request::Repack(sharing) => repack(rt, alloc, sharing, reader, writer),
         Request::Pause(pause) => collect(rt, alloc, pause, reader, writer),
     }
 }
@@ -140,22 +140,29 @@ fn show<T: Threads + Sync, R: Read>(
     settings: &Settings,
     reader: &mut R,
 ) -> Result<Vec<u8>, Fault> {
-    let image = read_image(alloc, reader)?;
+    let image = read_image(rt, alloc, settings.workers(), reader)?;
     table(rt, alloc, settings, &image)
 }
 
-fn repack<R: Read, W: Write>(
+fn repack<T: Threads + Sync, R: Read, W: Write>(
+    rt: &T,
     alloc: Global,
     sharing: Sharing,
     reader: &mut R,
     writer: &mut W,
 ) -> Result<(), Fault> {
-    sharing_settings(sharing)?;
-    rewrite(alloc, reader, writer)
+    let settings = sharing_settings(sharing)?;
+    rewrite(rt, alloc, settings.workers(), reader, writer)
 }
 
-fn rewrite<R: Read, W: Write>(alloc: Global, reader: &mut R, writer: &mut W) -> Result<(), Fault> {
-    let image = read_image(alloc, reader)?;
+fn rewrite<T: Threads + Sync, R: Read, W: Write>(
+    rt: &T,
+    alloc: Global,
+    workers: u64,
+    reader: &mut R,
+    writer: &mut W,
+) -> Result<(), Fault> {
+    let image = read_image(rt, alloc, workers, reader)?;
     let mut sink = ToWriter::new(writer);
     write(alloc, &image, &mut sink)?;
     sink.flush()
@@ -177,7 +184,7 @@ fn live<T: Threads + Sync, R: Read>(
     settings: &Settings,
     reader: &mut R,
 ) -> Result<Vec<u8>, Fault> {
-    let image = read_image(alloc, reader)?;
+    let image = read_image(rt, alloc, settings.workers(), reader)?;
     live_lines(rt, alloc, settings, image.heap())
 }
 
@@ -236,8 +243,13 @@ fn run<T: Threads + Sync, R: Read>(
     )
 }
 
-fn read_image<R: Read>(alloc: Global, reader: &mut R) -> Result<Image, Fault> {
-    read(alloc, &mut FromReader::new(reader))
+fn read_image<T: Threads + Sync, R: Read>(
+    rt: &T,
+    alloc: Global,
+    workers: u64,
+    reader: &mut R,
+) -> Result<Image, Fault> {
+    read_by(rt, alloc, &mut FromReader::new(reader), workers)
 }
 
 fn read_tracked<T: Threads + Sync, R: Read>(
@@ -246,7 +258,8 @@ fn read_tracked<T: Threads + Sync, R: Read>(
     workers: u64,
     reader: &mut R,
 ) -> Result<Tracked, Fault> {
-    match verify_by(rt, alloc, read_image(alloc, reader)?, workers) {
+    let image = read_image(rt, alloc, workers, reader)?;
+    match verify_by(rt, alloc, image, workers) {
         Ok(tracked) => Ok(tracked),
         Err((_, fault)) => Err(fault),
     }
