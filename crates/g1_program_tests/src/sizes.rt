@@ -1,7 +1,8 @@
 //! Images at their limits, and with more of one thing than 16 bits count: roots, cards, objects of a region,
 //! regions, candidates.
-use crate::{heap, pause};
+use crate::told::{answer_of_heap, answer_of_pause};
 use g1_testing::Sketch;
+use g1pause_cli::choice_lines;
 use std::alloc::{AllocError, Global};
 use std::process::Abort;
 use std::rt::Files;
@@ -71,8 +72,7 @@ fn heap_answer<T: Threads + Abort + Sync + Files>(
     line: &str,
     input: &[u8],
 ) -> Result<Vec<u8>, AllocError> {
-    let mut reader = input;
-    let (status, out, errors) = heap::outcome(rt, alloc, line, &mut reader)?;
+    let (status, out, errors) = answer_of_heap(rt, alloc, line, input)?;
     assert!(rt; status == 0 && errors.is_empty(), "{line}");
     Ok(out)
 }
@@ -85,8 +85,7 @@ fn pause_answer<T: Threads + Abort + Sync>(
     sketch: &Sketch,
 ) -> Result<Vec<u8>, AllocError> {
     let image = sketch.text(alloc)?;
-    let mut reader = image.as_slice();
-    let (status, out, errors) = pause::outcome(rt, alloc, line, &mut reader)?;
+    let (status, out, errors) = answer_of_pause(rt, alloc, line, image.as_slice())?;
     assert!(rt; status == 0 && errors.is_empty(), "{line}");
     Ok(out)
 }
@@ -185,5 +184,12 @@ fn counts_many_cards_and_candidates(rt: HostRuntime) -> Result<(), AllocError> {
     let regions = pause_answer(&rt, alloc, "choose --budget 7", &many_regions(alloc)?)?;
     let end = b"region 4094 cost 0 garbage 16 taken\nregion 4095 cost 8 garbage 8 left\ntotal 0\n";
     assert!(&rt; regions.as_slice().ends_with(end));
+    Ok(())
+}
+
+#[test]
+fn a_total_has_more_than_64_bits(rt: HostRuntime) -> Result<(), Fail> {
+    let text = choice_lines(rt.alloc(), &[], 0, 1 << 64)?;
+    assert_eq!(rt; text.as_slice(), b"total 18446744073709551616\n".as_slice());
     Ok(())
 }

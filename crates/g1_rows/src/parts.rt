@@ -6,6 +6,9 @@
 //! - `image NAME`: the bytes of an image that a block has drawn;
 //! - `hex DIGITS`: these bytes, with spaces for the reader's eye;
 //! - `text TEXT`: the bytes of the text, in which `\n` ends a line and `\t` is a tab;
+//! - `raw MAGIC NUMBER ..`: the magic, and numbers of 4 bytes: `=N` is a word of 8 bytes, `S/R` the header of an object
+//!   of S words with R slots, and `0*N` stands for n words that are 0;
+//! - `| LINE`: this line and its end, also if it looks like another part;
 //! - any other line: itself and its end.
 use g1_testing::text;
 use g1_words::Fault;
@@ -89,12 +92,17 @@ fn part_of(alloc: Global, line: &str, pictures: &[Picture]) -> Result<Vec<u8>, F
         Some(("image", name)) => bytes_of_picture(alloc, name, pictures),
         Some(("hex", digits)) => bytes_of(alloc, digits),
         Some(("text", text)) => Ok(unescape(alloc, text)?),
-        _ => {
-            let mut part = Vec::from_slice(alloc, line.as_bytes())?;
-            part.push(b'\n')?;
-            Ok(part)
-        }
+        Some(("raw", numbers)) => raw_bytes(alloc, numbers),
+        Some(("|", text)) => Ok(line_of(alloc, text)?),
+        _ if line == "|" => Ok(line_of(alloc, "")?),
+        _ => Ok(line_of(alloc, line)?),
     }
+}
+
+fn line_of(alloc: Global, text: &str) -> Result<Vec<u8>, AllocError> {
+    let mut line = Vec::from_slice(alloc, text.as_bytes())?;
+    line.push(b'\n')?;
+    Ok(line)
 }
 
 fn bytes_of_picture(alloc: Global, name: &str, pictures: &[Picture]) -> Result<Vec<u8>, Fault> {
@@ -131,7 +139,60 @@ fn bytes_of(alloc: Global, digits: &str) -> Result<Vec<u8>, Fault> {
     }
 }
 
-fn unescape(alloc: Global, text: &str) -> Result<Vec<u8>, AllocError> {
+/// The bytes of a magic and the numbers behind it.
+fn raw_bytes(alloc: Global, numbers: &str) -> Result<Vec<u8>, Fault> {
+    let (magic, numbers) = numbers.split_once(' ').unwrap_or((numbers, ""));
+    let mut bytes = Vec::from_slice(alloc, magic.as_bytes())?;
+    for number in numbers.split_ascii_whitespace() {
+        if !push_raw(&mut bytes, number)? {
+            return Err(Fault::Line(0));
+        }
+    }
+    Ok(bytes)
+}
+
+/// Adds what a number says. Returns whether it says anything.
+fn push_raw(bytes: &mut Vec<u8>, number: &str) -> Result<bool, AllocError> {
+    if let Some(("0", count)) = number.split_once('*') {
+        let Ok(count) = count.parse::<u16>() else {
+            return Ok(false);
+        };
+        for _word in 0..count {
+            bytes.extend_from_slice(&[0; 8])?;
+        }
+        return Ok(true);
+    }
+    if let Some((size, slots)) = number.split_once('/') {
+        return Ok(push_number(bytes, slots)? && push_number(bytes, size)?);
+    }
+    match number.strip_prefix("=") {
+        Some(word) => push_word(bytes, word),
+        None => push_number(bytes, number),
+    }
+}
+
+fn push_number(bytes: &mut Vec<u8>, number: &str) -> Result<bool, AllocError> {
+    match number.parse::<u32>() {
+        Ok(number) => {
+            bytes.extend_from_slice(&number.to_le_bytes())?;
+            Ok(true)
+        }
+        Err(_) => Ok(false),
+    }
+}
+
+fn push_word(bytes: &mut Vec<u8>, word: &str) -> Result<bool, AllocError> {
+    match word.parse::<u64>() {
+        Ok(word) => {
+            bytes.extend_from_slice(&word.to_le_bytes())?;
+            Ok(true)
+        }
+        Err(_) => Ok(false),
+    }
+}
+
+/// The bytes of a text, in which `\n` ends a line, and `\t` and `\r` are what they are elsewhere.
+pub fn unescape(alloc: Global, text: &str) -> Result<Vec<u8>, AllocError> {
     let mut bytes = Vec::new(alloc);
     let mut is_escaped = false;
     for byte in text.bytes() {

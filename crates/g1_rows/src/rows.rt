@@ -5,17 +5,20 @@
 //! - a row of many cases: below its `----` each line is `OPTION .. => ANSWER`, for one more option, or
 //!   `text TEXT => ANSWER`, for a text that the call is given;
 //! - a row of a trace: `# WHAT IT SHOWS`, `CALL OPTION ..`, `trace`, and lines `COMMAND [REPLY]`;
-//! - an image that rows may name: `image NAME`, and its lines;
+//! - a row of a program (`program_rows`);
+//! - an image that rows may name: `image NAME`, and its lines, or other parts;
 //! - a remark: all its lines begin with `#`.
 //!
 //! In a row each further line that begins with `#` is a remark too. `CALL,CALL` stands for two calls that
 //! have to return the same, `workers 1 8` for few and for many workers, and `chunk 1 64` for small and for
 //! large chunks: all of them are tried.
 use crate::parts::{Picture, join, parts_of, trace_of};
+use crate::program_rows;
 use crate::subject::{are_options, copy_words, numbers_of};
 use crate::trying::{Call, answer};
 use g1_words::Fault;
 use std::alloc::{AllocError, Global};
+use std::rt::Files;
 use std::thread::Threads;
 
 /// What came of the rows, as lines, and how many are so.
@@ -59,7 +62,11 @@ struct Case {
 }
 
 /// Tries each row of a text. The images of all its blocks are drawn first.
-pub fn judge<R: Threads + Sync>(rt: &R, alloc: Global, text: &str) -> Result<Verdicts, AllocError> {
+pub fn judge<R: Threads + Files + Sync>(
+    rt: &R,
+    alloc: Global,
+    text: &str,
+) -> Result<Verdicts, AllocError> {
     let mut verdicts = Verdicts {
         text: String::new(alloc),
         good: 0,
@@ -113,7 +120,7 @@ fn draw(alloc: Global, block: &str, pictures: &[Picture]) -> Result<Picture, Fau
             return Err(Fault::Line(0));
         }
     }
-    let bytes = g1_testing::text(alloc, lines)?;
+    let bytes = join(alloc, parts_of(alloc, lines, pictures)?.as_slice())?;
     let name = String::from_str(alloc, name)?;
     Ok(Picture { name, bytes })
 }
@@ -125,7 +132,7 @@ fn first_line(block: &str) -> &str {
     }
 }
 
-fn judge_row<R: Threads + Sync>(
+fn judge_row<R: Threads + Files + Sync>(
     rt: &R,
     alloc: Global,
     block: &str,
@@ -142,13 +149,20 @@ fn judge_row<R: Threads + Sync>(
 }
 
 /// What a call of a row returned, if it is not what the row expects.
-fn why_not<R: Threads + Sync>(
+fn why_not<R: Threads + Files + Sync>(
     rt: &R,
     alloc: Global,
     block: &str,
     pictures: &[Picture],
 ) -> Result<Option<String>, Fault> {
-    let row = row_of(alloc, block, pictures)?;
+    if !block.starts_with("# ") {
+        return Err(Fault::Line(0));
+    }
+    let body = without_remarks(alloc, block)?;
+    if program_rows::is_run(body.as_str()) {
+        return program_rows::first_miss(rt, alloc, body.as_str(), pictures);
+    }
+    let row = row_of(alloc, body.as_str(), pictures)?;
     for name in row.calls.as_str().split(',') {
         if let Some(miss) = first_miss(rt, alloc, name, row.cases.as_slice())? {
             return Ok(Some(miss));
@@ -215,7 +229,7 @@ fn miss_text(
 }
 
 /// Adds bytes as they are if they are lines of text, else as hexadecimal.
-fn push_shown(text: &mut String, bytes: &[u8]) -> Result<(), AllocError> {
+pub fn push_shown(text: &mut String, bytes: &[u8]) -> Result<(), AllocError> {
     let is_plain = bytes.iter().all(|byte| *byte == b'\n'
         || byte.is_ascii_graphic()
         || *byte == b' ');
@@ -251,20 +265,16 @@ fn one_at_least<'a>(numbers: &'a [u64], other: &'a [u64]) -> &'a [u64] {
     if numbers.is_empty() { other } else { numbers }
 }
 
-/// The row of a block.
+/// The row of a block's lines, of which none is a remark.
 ///
 /// # Errors
 ///
 /// `Fault::Line` if it is not understood; `Fault::Memory`.
-fn row_of(alloc: Global, block: &str, pictures: &[Picture]) -> Result<Row, Fault> {
-    let body = without_remarks(alloc, block)?;
-    let Some((call, rest)) = body.as_str().split_once('\n') else {
+fn row_of(alloc: Global, body: &str, pictures: &[Picture]) -> Result<Row, Fault> {
+    let Some((call, rest)) = body.split_once('\n') else {
         return Err(Fault::Line(0));
     };
     let (calls, options) = words_of(alloc, call)?;
-    if !block.starts_with("# ") {
-        return Err(Fault::Line(0));
-    }
     let cases = cases_of(alloc, options, rest, pictures)?;
     Ok(Row { calls, cases })
 }
@@ -281,7 +291,7 @@ fn without_remarks(alloc: Global, block: &str) -> Result<String, AllocError> {
 }
 
 /// The first word of a line, and the others.
-fn words_of(alloc: Global, line: &str) -> Result<(String, Vec<String>), AllocError> {
+pub fn words_of(alloc: Global, line: &str) -> Result<(String, Vec<String>), AllocError> {
     let (first, rest) = line.split_once(' ').unwrap_or((line, ""));
     let mut others = Vec::new(alloc);
     if !rest.is_empty() {
@@ -384,7 +394,7 @@ fn push_parts(
     Ok(())
 }
 
-fn push_words(alloc: Global, words: &mut Vec<String>, line: &str) -> Result<(), AllocError> {
+pub fn push_words(alloc: Global, words: &mut Vec<String>, line: &str) -> Result<(), AllocError> {
     for word in line.split(' ') {
         words.push(String::from_str(alloc, word)?)?;
     }

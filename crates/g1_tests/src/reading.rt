@@ -1,6 +1,6 @@
 use crate::expecting::expect_equal;
 use crate::images::{of_many_pieces, of_many_roots};
-use g1_image::{FromReader, encode, read};
+use g1_image::{FromReader, encode, read, read_by};
 use g1_testing::pictures::{humongous, one_object, three_regions};
 use g1_testing::{Stream, Trouble, text};
 use g1_words::{Device, Fault};
@@ -41,6 +41,23 @@ fn words_lie_across_pieces(rt: HostRuntime) -> Result<(), Fail> {
         again(alloc, bytes.as_slice())?.as_slice(),
         bytes.as_slice(),
     );
+    Ok(())
+}
+
+#[test]
+fn workers_read_the_same_image(rt: HostRuntime) -> Result<(), Fail> {
+    let alloc = rt.alloc();
+    let bytes = of_many_pieces(alloc)?;
+    for workers in [0, 1, 2, 64] {
+        let mut reader = bytes.as_slice();
+        let image = read_by(&rt, alloc, &mut FromReader::new(&mut reader), workers)?;
+        let again = encode(alloc, &image)?;
+        expect_equal(
+            &rt,
+            (workers, again.as_slice()),
+            (workers, bytes.as_slice()),
+        );
+    }
     Ok(())
 }
 

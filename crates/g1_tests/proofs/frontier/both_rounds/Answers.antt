@@ -1,4 +1,4 @@
-use Rattle.std.proofs.Common.{ap, sym, subst, ◌≡◌, ◌+◌, ◌∙◌, ℕ, List, [], ◌∷◌, length, map, All}
+use Rattle.std.proofs.Common.{ap, sym, subst, ◌≡◌, ◌+◌, ◌*◌, ◌∙◌, ℕ, List, [], ◌∷◌, length, map, All}
 use Rattle.g1_claim.specs.declared.rule.Offer.{Offer}
 use Rattle.g1_claim.specs.declared.rule.Hand.{Hand}
 use Rattle.g1_claim.specs.Claims.{TableView}
@@ -6,7 +6,7 @@ use Rattle.g1_frontier.specs.declared.item.Item.{Item}
 use Rattle.g1_frontier.specs.Window.{place}
 use Rattle.g1_frontier.specs.Items.{IsItem, IsOutside, AreRanks, all_pairs, first_items, object_items}
 use Rattle.g1_frontier.specs.Round.{Rises, AreAbove, AddsOffers, winners}
-use Rattle.g1_frontier.specs.Search.{IsSearching}
+use Rattle.g1_frontier.specs.Search.{IsSearchBy}
 use Rattle.g1_frontier.proofs.Searching.{first_are_items, first_rises, first_ranks, rest_are_items, rest_rises, rest_ranks, rest_above}
 use Rattle.g1_tests.proofs.Rounds.{first_outside, objects_outside, going_on, is_going_on}
 use Rattle.g1_tests.proofs.frontier.both_rounds.Given.{Over}
@@ -36,7 +36,9 @@ claim_round-requires-clause-ranks g c κs within =
     (first_ranks h c.geometry.ensures.valid (1 ∷ []) c.args.cards.now c.requires.region c.requires.cards c.requires.outside c.requires.lead_in)
 
 -- where a search stands after the first round
-after_first : (g : Over) (c : goal.After-claim_round-arg-2-1 g) → IsSearching c.args.heap.now (1 ∷ []) (going_on c.args.heap.now c.in_ok-claims-2.claims c.in_ok-claims-2.seat c.in_ok-found.found)
+after_first : (g : Over) (c : goal.After-claim_round-arg-2-1 g)
+    → IsSearchBy c.args.heap.now (1 ∷ []) (length {A = ℕ} (1 ∷ []) * c.args.heap.now.geometry.w) (place c.args.heap.now (1 ∷ []))
+    (going_on c.args.heap.now c.in_ok-claims-2.claims c.in_ok-claims-2.seat c.in_ok-found.found)
 after_first g c =
     let h = c.args.heap.now in
     let r = c.in_ok-claims-2.ensures in

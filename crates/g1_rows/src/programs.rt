@@ -1,0 +1,204 @@
+//! The programs by their names: `g1pause`, `g1heap`, and `g1heap_at_terminal`, whose streams are a terminal.
+//!
+//! A program is called as its `main` calls it, over streams in memory. Its files are in the folder of the run. If a row
+//! gives no standard input, the program must not read it: each of its reads fails, and is reported.
+use crate::parts::Picture;
+use crate::scene::{Content, Scene, fits};
+use g1_testing::{Stream, Trouble};
+use g1_words::{Device, Fault};
+use g1heap_cli::Terminals;
+use std::alloc::{AllocError, Global};
+use std::fs::File;
+use std::io::{Read, Write};
+use std::rt::Files;
+use std::thread::Threads;
+use std::{fs, io};
+
+/// The names of the programs.
+const NAMES: [&str; 3] = ["g1pause", "g1heap", "g1heap_at_terminal"];
+
+/// A program with its words, what it is given, and what it has to leave.
+#[derive(Clone, Copy)]
+pub struct Run<'a> {
+    pub name: &'a str,
+    pub words: &'a [String],
+    pub given: &'a str,
+    pub expected: &'a str,
+}
+
+/// What a program left on its streams.
+#[derive(Drop)]
+struct Left {
+    status: u8,
+    out: Vec<u8>,
+    errors: Vec<u8>,
+}
+
+/// Whether a program has this name.
+pub fn is_program(name: &str) -> bool {
+    NAMES.iter().any(|program| *program == name)
+}
+
+/// What a run left, if it is not what the row expects.
+///
+/// # Errors
+///
+/// `Fault::Line` if a line is not understood; `Fault::Device` if a file cannot be written, read or removed; `Fault::Memory`.
+pub fn miss_of<R: Threads + Files + Sync>(
+    rt: &R,
+    alloc: Global,
+    run: &Run<'_>,
+    pictures: &[Picture],
+) -> Result<Option<String>, Fault> {
+    let before = Scene::of_lines(alloc, run.given)?;
+    let after = Scene::of_lines(alloc, run.expected)?;
+    write_files(rt, alloc, before.files.as_slice(), pictures)?;
+    let left = left_by(rt, alloc, run, &before, pictures)?;
+    let miss = compare(rt, alloc, &left, &after, pictures)?;
+    remove_files(rt, before.files.as_slice())?;
+    remove_files(rt, after.files.as_slice())?;
+    Ok(miss)
+}
+
+fn write_files<R: Files>(
+    rt: &R,
+    alloc: Global,
+    files: &[Content],
+    pictures: &[Picture],
+) -> Result<(), Fault> {
+    for file in files {
+        let bytes = file.bytes(alloc, pictures)?;
+        done(write_file(rt, file.name.as_str(), bytes.as_slice()))?;
+    }
+    Ok(())
+}
+
+fn write_file<R: Files>(rt: &R, name: &str, bytes: &[u8]) -> io::Result<()> {
+    let mut file = File::create(rt, name)?;
+    file.write_all(bytes)
+}
+
+fn done(attempt: io::Result<()>) -> Result<(), Fault> {
+    match attempt {
+        Ok(()) => Ok(()),
+        Err(_) => Err(Fault::Device(Device::Output)),
+    }
+}
+
+fn remove_files<R: Files>(rt: &R, files: &[Content]) -> Result<(), Fault> {
+    for file in files {
+        if fs::open(rt, file.name.as_str()).is_ok() {
+            done(fs::remove_file(rt, file.name.as_str()))?;
+        }
+    }
+    Ok(())
+}
+
+fn left_by<R: Threads + Files + Sync>(
+    rt: &R,
+    alloc: Global,
+    run: &Run<'_>,
+    before: &Scene,
+    pictures: &[Picture],
+) -> Result<Left, Fault> {
+    if before.stream.is_there {
+        let bytes = before.stream.bytes(alloc, pictures)?;
+        let mut reader = bytes.as_slice();
+        return Ok(call(rt, alloc, run, &mut reader));
+    }
+    let mut reader = Stream::new(Vec::new(alloc), 0, Trouble::Broken);
+    let mut left = call(rt, alloc, run, &mut reader);
+    if reader.calls > 0 {
+        left.errors.extend_from_slice(b"standard input was read\n")?;
+    }
+    Ok(left)
+}
+
+fn call<T: Threads + Files + Sync, R: Read>(
+    rt: &T,
+    alloc: Global,
+    run: &Run<'_>,
+    reader: &mut R,
+) -> Left {
+    let (mut out, mut errors) = (Vec::new(alloc), Vec::new(alloc));
+    let status = if run.name == "g1pause" {
+        g1pause_cli::program(rt, alloc, run.words, reader, &mut out, &mut errors)
+    } else {
+        let is_at_terminal = run.name == "g1heap_at_terminal";
+        let terminals = Terminals {
+            input: is_at_terminal,
+            output: is_at_terminal,
+        };
+        g1heap_cli::program(
+            rt,
+            alloc,
+            run.words,
+            terminals,
+            reader,
+            &mut out,
+            &mut errors,
+        )
+    };
+    Left {
+        status,
+        out,
+        errors,
+    }
+}
+
+/// What was left, as lines, if it is not what has to be.
+fn compare<R: Files>(
+    rt: &R,
+    alloc: Global,
+    left: &Left,
+    after: &Scene,
+    pictures: &[Picture],
+) -> Result<Option<String>, Fault> {
+    let wanted = after.stream.bytes(alloc, pictures)?;
+    let errors = after.errors.as_slice();
+    let is_told = if after.is_usage {
+        left.errors.starts_with(b"error: ")
+    } else {
+        fits(left.errors.as_slice(), errors)
+    };
+    if left.status != after.status || !is_told || !fits(left.out.as_slice(), wanted.as_slice()) {
+        return Ok(Some(left_text(alloc, left)?));
+    }
+    for file in after.files.iter() {
+        if !is_as_expected(rt, alloc, file, pictures)? {
+            let name = file.name.as_str();
+            return Ok(Some(format!(in alloc; "the file {name} is another one\n")?));
+        }
+    }
+    Ok(None)
+}
+
+fn is_as_expected<R: Files>(
+    rt: &R,
+    alloc: Global,
+    file: &Content,
+    pictures: &[Picture],
+) -> Result<bool, Fault> {
+    let wanted = file.bytes(alloc, pictures)?;
+    match read_file(rt, alloc, file.name.as_str()) {
+        Ok(bytes) => Ok(file.is_there && bytes.as_slice() == wanted.as_slice()),
+        Err(_) => Ok(!file.is_there),
+    }
+}
+
+fn read_file<R: Files>(rt: &R, alloc: Global, name: &str) -> io::Result<Vec<u8>> {
+    let mut file = fs::open(rt, name)?;
+    let mut bytes = Vec::new(alloc);
+    file.read_to_end(&mut bytes)?;
+    Ok(bytes)
+}
+
+fn left_text(alloc: Global, left: &Left) -> Result<String, AllocError> {
+    let mut text = String::new(alloc);
+    let status = left.status;
+    write!(text, "it left status {status}, standard error\n")?;
+    crate::rows::push_shown(&mut text, left.errors.as_slice())?;
+    text.push_str("and standard output\n")?;
+    crate::rows::push_shown(&mut text, left.out.as_slice())?;
+    Ok(text)
+}

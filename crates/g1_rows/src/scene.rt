@@ -1,0 +1,169 @@
+//! What is on the streams of a program and in its files: what a row gives it, or what it has to leave.
+//!
+//! - Parts (`parts`) are standard input or standard output, or what is in a file. In standard output a first or a last
+//!   line `..` stands for any text.
+//! - `file NAME`: the parts below are in this file; `no file NAME`: there is no such file.
+//! - `stdin`: the parts below are standard input again.
+//! - `status N`: the exit status, which is 0 if the line is left out. Another line of this list may follow in it.
+//! - `! TEXT`: a line of standard error, in which `\n` ends a line, too. A first or a last line `! ..` stands for any text.
+//! - `usage`: status 2, and a standard error that begins with `error: `.
+use crate::parts::{Picture, join, parts_of, unescape};
+use g1_words::Fault;
+use std::alloc::{AllocError, Global};
+
+/// What a stream or a file has, by its lines.
+#[derive(Drop)]
+pub struct Content {
+    pub name: String,
+    pub is_there: bool,
+    lines: String,
+}
+
+impl Content {
+    fn new(alloc: Global, name: &str, is_there: bool) -> Result<Content, AllocError> {
+        Ok(Content {
+            name: String::from_str(alloc, name)?,
+            is_there,
+            lines: String::new(alloc),
+        })
+    }
+
+    fn push(&mut self, line: &str) -> Result<(), AllocError> {
+        self.is_there = true;
+        self.lines.push_str(line)?;
+        self.lines.push_str("\n")
+    }
+
+    /// The bytes that the lines say.
+    ///
+    /// # Errors
+    ///
+    /// `Fault::Line` if a line says nothing; `Fault::Memory`.
+    pub fn bytes(&self, alloc: Global, pictures: &[Picture]) -> Result<Vec<u8>, Fault> {
+        let parts = parts_of(alloc, self.lines.as_str(), pictures)?;
+        Ok(join(alloc, parts.as_slice())?)
+    }
+}
+
+/// What is on the streams and in the files.
+#[derive(Drop)]
+pub struct Scene {
+    pub status: u8,
+    pub errors: Vec<u8>,
+    pub is_usage: bool,
+    pub stream: Content,
+    pub files: Vec<Content>,
+    // Whether the next line belongs to the last file.
+    is_in_file: bool,
+}
+
+impl Scene {
+    /// The scene of these lines.
+    ///
+    /// # Errors
+    ///
+    /// `Fault::Line` if a line is not understood; `Fault::Memory`.
+    pub fn of_lines(alloc: Global, lines: &str) -> Result<Scene, Fault> {
+        let mut scene = Scene {
+            status: 0,
+            errors: Vec::new(alloc),
+            is_usage: false,
+            stream: Content::new(alloc, "", false)?,
+            files: Vec::new(alloc),
+            is_in_file: false,
+        };
+        for line in lines.split('\n') {
+            scene.push_with_status(alloc, line)?;
+        }
+        Ok(scene)
+    }
+
+    /// Adds a line, which may begin with the status.
+    fn push_with_status(&mut self, alloc: Global, line: &str) -> Result<(), Fault> {
+        let Some(rest) = line.strip_prefix("status ") else {
+            return self.push_line(alloc, line);
+        };
+        let (number, rest) = rest.split_once(' ').unwrap_or((rest, ""));
+        match number.parse::<u8>() {
+            Ok(status) => self.status = status,
+            Err(_) => return Err(Fault::Line(0)),
+        }
+        self.push_line(alloc, rest)
+    }
+
+    fn push_line(&mut self, alloc: Global, line: &str) -> Result<(), Fault> {
+        if line.is_empty() {
+            return Ok(());
+        }
+        if let Some(text) = line.strip_prefix("!") {
+            return Ok(self.push_error(alloc, text)?);
+        }
+        if let Some(name) = line.strip_prefix("file ") {
+            return Ok(self.begin_file(alloc, name, true)?);
+        }
+        if let Some(name) = line.strip_prefix("no file ") {
+            return Ok(self.begin_file(alloc, name, false)?);
+        }
+        match line {
+            "stdin" => {
+                self.is_in_file = false;
+                self.stream.is_there = true;
+            }
+            "usage" => {
+                self.is_usage = true;
+                self.status = 2;
+            }
+            _ => self.push_part(line)?,
+        }
+        Ok(())
+    }
+
+    fn push_error(&mut self, alloc: Global, text: &str) -> Result<(), AllocError> {
+        let text = text.strip_prefix(" ").unwrap_or(text);
+        let line = unescape(alloc, text)?;
+        self.errors.extend_from_slice(line.as_slice())?;
+        self.errors.extend_from_slice(b"\n")
+    }
+
+    fn begin_file(&mut self, alloc: Global, name: &str, is_there: bool) -> Result<(), AllocError> {
+        self.is_in_file = true;
+        self.files.push(Content::new(alloc, name, is_there)?)?;
+        Ok(())
+    }
+
+    fn push_part(&mut self, line: &str) -> Result<(), AllocError> {
+        if self.is_in_file {
+            match self.files.last_mut() {
+                Some(file) => file.push(line),
+                None => Ok(()),
+            }
+        } else {
+            self.stream.push(line)
+        }
+    }
+}
+
+/// Whether this is the text, in which a first or a last line `..` stands for any.
+pub fn fits(found: &[u8], wanted: &[u8]) -> bool {
+    let (is_open_before, wanted) = match wanted.strip_prefix(b"..\n") {
+        Some(rest) => (true, rest),
+        None => (false, wanted),
+    };
+    let (is_open_behind, wanted) = match wanted.strip_suffix(b"..\n") {
+        Some(rest) => (true, rest),
+        None => (false, wanted),
+    };
+    match (is_open_before, is_open_behind) {
+        (false, false) => found == wanted,
+        (false, true) => found.starts_with(wanted),
+        (true, false) => found.ends_with(wanted),
+        (true, true) => has_text(found, wanted),
+    }
+}
+
+fn has_text(found: &[u8], wanted: &[u8]) -> bool {
+    match (str::from_utf8(found), str::from_utf8(wanted)) {
+        (Ok(found), Ok(wanted)) => found.contains(wanted),
+        _ => false,
+    }
+}
