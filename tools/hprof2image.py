@@ -51,8 +51,8 @@ Standard error has what was counted in the dump and what in the finished image; 
 with --progress, it says how far the work is.
 Statuses: 0 done; 1 the counts do not agree; 2 usage, a field that is not there, or W, K or N out of its range; 3 the
 file is no such dump; 4 a reference leads to nothing; 5 the objects do not fit; 6 a file can't be read or written, or
-memory is out. If the status is not 0, no image is written, except for a beginning of it if the writing failed.
-With --from a dump of 100 MB took about 16 seconds of processor time, and six times the memory of its image.
+there is too little memory. If the status is not 0, no image is written, except for a beginning of it if the writing failed.
+With --from a dump of 99 MB took 10 seconds of processor time, and less than six times the memory of its image.
 """
 import argparse
 import contextlib
@@ -66,12 +66,12 @@ from zlib import crc32
 
 sys.path.insert(0, str(pathlib.Path(__file__).resolve().parent / "lib"))
 
-from hprof import (CLASS, INSTANCE, OBJECTS, ClassShape, Dump, Progress, Refusal, bad,  # noqa: E402 (in lib/)
-                   instance_shape, main_of, objects_shape, primitives_shape, quiet, words_of)
+from hprof import (CLASS, INSTANCE, MOST_WORDS, OBJECTS, ClassShape, Dump, Progress, Refusal, bad,  # noqa: E402
+                   check_words, instance_shape, main_of, objects_shape, primitives_shape, quiet, words_of)
 from hprof_graph import Graph  # noqa: E402
 from hprof_write import Writer  # noqa: E402
 
-MOST_WORDS, MOST_REGIONS, MOST_ROOTS = 1 << 24, 4096, 65536
+MOST_REGIONS, MOST_ROOTS = 4096, 65536
 FREE, ORDINARY, FIRST, CONTINUATION = range(4)
 LEAST_WIDTH, MOST_WIDTH, CARD = 4096, 65536, 64  # what is chosen if nobody says W, K and N
 BATCH = 4096  # objects between two reports of progress
@@ -86,6 +86,7 @@ class Index:
         known = set(self.roots)
         self.roots.extend(name for name in dump.classes if name not in known)
         shapes = [(self.shape_of(*key), group) for key, group in dump.groups.items()]
+        check_words(sum(shape.size * len(group.names) for shape, group in shapes))
         parts = sorted(chain.from_iterable(zip(group.places, group.names, [i] * len(group.names))
                                            for i, (_shape, group) in enumerate(shapes)))
         self.names = array("Q", (name for _place, name, _i in parts))
@@ -381,10 +382,8 @@ def chosen(sizes):
         width *= 2
     if best is None:
         total = sum(size * count for size, count in sizes)
-        share = 100 * MOST_WORDS // total
-        raise Refusal(5, f"the objects take {total:,} words, and a heap has at most {MOST_WORDS:,}: {share} of 100 would "
-                         f"fit. Dump live objects alone, take what hangs from some fields by --from, or give the "
-                         f"program less to do")
+        check_words(total)
+        raise Refusal(5, f"the objects take {total:,} words, and do not fit into regions of {MOST_WIDTH} words or fewer")
     return best[1], CARD, best[2]
 
 

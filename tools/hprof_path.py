@@ -24,7 +24,7 @@ from hprof import Refusal, TYPES, main_of  # noqa: E402 (it is in lib/)
 
 WIDTHS = {f"{name}[]": width for name, width in TYPES.values()}
 LINE = re.compile(r"differ (\w+) at root (\d+)((?: slot \d+)*): ")
-DATA = re.compile(r"; data word (\d+) is (\d+) before, (\d+) after")
+DATA = re.compile(r"; data word (\d+) is (\d+)(?: \(0x\w+\))? before, (\d+)(?: \(0x\w+\))? after")
 EARLIER = re.compile(r"; (\d+) (before|after) is (\d+) (before|after) on an earlier path")
 MOST_TEXT = 40  # letters of a string that are shown
 

@@ -4,12 +4,15 @@
 Draws N small heaps (1000) and sets, evacuates each set as tools/opponent.py does, and asks of the image after that
 `same --covered --set R ..` finds it the same, kept and covered, with the numbers of objects and words that are
 reached; with --g1pause also that `check` finds it covered, and that the answer of `g1pause pause R ..` to the heap
-with exact remembered sets is found the same, kept and covered too. Then an error of each kind of tools/plant_errors.py is
+with exact remembered sets is found the same, kept and covered too. Then the same set is evacuated again by threads
+that also copy behind the tops of regions that are kept: `same --set --fill` has to find it kept, and `same --set` has to
+report the first region that was filled. In both answers an error of each kind of tools/plant_errors.py is
 planted, and in a quarter of the cases words that reference no object beside it. What `same` reports of it, line by line,
 and `same --all`, is compared with a judge of this script's own, which walks both heaps from the definition; some of the
 heaps are compared as lines of objects by name, too. `same --set` has to find it wherever roots or objects outside the set
-lead to it, or a region is not as a pause of the set leaves it, and `same --covered` wherever a slot is not covered. Some
-heaps have more than 256 roots, and some have an object outside the set that is equal to one of the set.
+lead to it, or a region is not as a pause of the set leaves it, with `--fill` and without, and `same --covered` wherever
+a slot is not covered. Some heaps have more than 256 roots, and some have an object outside the set that is equal to one
+of the set.
 The last line is 'N passed, M failed', after a count for each kind of error.
 """
 import argparse
@@ -129,20 +132,27 @@ def graph_lines(rng, image, letter, stray):
     return "\n".join(["graph", *lines, ""])
 
 
-def region_line(before, after, chosen):
-    """The line of `same --set` for the first region that is not as a pause of the set leaves it. None where all are."""
+def region_line(before, after, chosen, fill):
+    """The line of `same --set` for the first region that is not as a pause of the set leaves it, which with `fill` may have
+    copied behind the top of an ordinary region. None where all are."""
     for region in range(before.regions):
         if region in chosen:
             if after.kinds[region] != FREE:
                 return f"differ region {region}: in the set, and not free after\n"
         elif before.kinds[region] == FREE or before.kinds[region] != ORDINARY and after.kinds[region] == FREE:
             continue
-        elif (before.kinds[region], before.tops[region]) != (after.kinds[region], after.tops[region]):
+        elif before.kinds[region] != after.kinds[region] or has_other_top(before, after, region, fill):
             return f"differ region {region}: outside the set, with another kind or top after\n"
         elif before.pinned[region] != after.pinned[region]:
             how = "before and not after" if before.pinned[region] else "after and not before"
             return f"differ region {region}: outside the set, pinned {how}\n"
     return None
+
+
+def has_other_top(before, after, region, fill):
+    """Whether a region that is kept ends where it must not."""
+    was, now = before.tops[region], after.tops[region]
+    return now < was if fill and before.kinds[region] == ORDINARY else now != was
 
 
 def stray(image):
@@ -219,7 +229,8 @@ class Judge:
             add_twin(rng, before, chosen)
         if rng.random() < 0.1:
             before.roots = [NULL] * 256 + before.roots
-        opponent = Opponent(before, chosen, rng, rng.randint(1, 4), rng.choice((4, 12, 48)))
+        threads, buffer = rng.randint(1, 4), rng.choice((4, 12, 48))
+        opponent = Opponent(before, chosen, rng, threads, buffer)
         try:
             after = opponent.evacuate()
         except NoRoom:
@@ -227,11 +238,34 @@ class Judge:
         (self.folder / "before").write_bytes(before.to_bytes())
         words = ["--set", *(str(r) for r in chosen)]
         expected = judged(before, after) + "kept\ncovered\n"
-        self.judge(name, expected.startswith("same") and self.same(after, "--covered", *words) == (0, expected, ""))
+        good = (0, expected, "")
+        self.judge(name, expected.startswith("same") and self.same(after, "--covered", *words) == good)
+        self.judge(f"{name}, --fill", self.same(after, "--covered", *words, "--fill") == good)
         if self.options.g1pause:
             done = subprocess.run([self.options.g1pause, "check"], input=after.to_bytes(), capture_output=True)
             self.judge(f"{name}: check", done.stdout == b"covered\n")
             self.paused(f"{name}: g1pause", before, chosen, expected)
+        self.plant_all(name, before, opponent, after, chosen, rng)
+        self.filled(f"{name}, filled", before, Opponent(before, chosen, rng, threads, buffer, True), chosen, rng)
+        return True
+
+    def filled(self, name, before, opponent, chosen, rng):
+        """The same set, evacuated by threads that also fill regions which are kept."""
+        try:
+            after = opponent.evacuate()
+        except NoRoom:
+            return
+        words = ["--set", *(str(r) for r in chosen)]
+        expected = judged(before, after) + "kept\ncovered\n"
+        self.judge(name, expected.startswith("same") and self.same(after, "--covered", *words, "--fill") == (0, expected, ""))
+        line = region_line(before, after, chosen, False)
+        self.counts["copies behind old tops"] += line is not None
+        told = (1, line, "") if line else (0, expected, "")
+        self.judge(f"{name}, --set: {told}", self.same(after, "--covered", *words) == told)
+        self.plant_all(name, before, opponent, after, chosen, rng)
+
+    def plant_all(self, name, before, opponent, after, chosen, rng):
+        """Plants an error of each kind."""
         planter = Planter(before, opponent, after, rng)
         for error in ERRORS + MORE_ERRORS:
             image = getattr(planter, error)()
@@ -239,7 +273,6 @@ class Judge:
             if image is not None and rng.random() < 0.25:
                 make_stale(rng, before, image)
                 self.planted(f"{name}: stale words beside {error}", "stale words beside another error", before, image, chosen)
-        return True
 
     def paused(self, name, before, chosen, expected):
         """The answer of g1pause, where there is room for it. It has no fillers, but shows the same."""
@@ -270,7 +303,8 @@ class Judge:
         status, out, err = self.same(after)
         self.judge(f"{name}: {expected}", (status, out, err) == (int(expected[:4] != "same"), expected, ""))
         self.counts[f"{error}, and a root leads to it"] += expected[:4] != "same"
-        self.with_set(name, error, before, after, chosen, expected)
+        for fill in (False, True):
+            self.with_set(name, error, before, after, chosen, expected, fill)
         if expected[:4] == "same":
             self.with_cover(name, error, after, expected)
 
@@ -296,14 +330,14 @@ class Judge:
         self.counts[f"{error}, and a root leads to it"] += expected[:4] != "same"
         self.counts[f"{error}, reported as stale"] += expected.startswith("differ stale")
 
-    def with_set(self, name, error, before, after, chosen, expected):
-        status, out, err = self.same(after, "--set", *(str(r) for r in chosen))
-        region = region_line(before, after, chosen) if expected[:4] == "same" else None
+    def with_set(self, name, error, before, after, chosen, expected, fill):
+        status, out, err = self.same(after, "--set", *(str(r) for r in chosen), *["--fill"] * fill)
+        region = region_line(before, after, chosen, fill) if expected[:4] == "same" else None
         outside = [a + 1 for a in before.objects() if before.region_of(a) not in chosen]
         whole = region or judged(before, after, [(f"object {word - 1}", word, word) for word in outside])
         found = (status, out[:6]) == (1, "differ")
-        self.judge(f"{name}, with the set: {whole}", found == (whole[:4] != "same") and not err and region in (None, out))
-        self.counts[f"{error}, and --set finds it"] += found
+        self.judge(f"{name}, with the set{', filled' * fill}: {whole}", found == (whole[:4] != "same") and not err and region in (None, out))
+        self.counts[f"{error}, and --set{' --fill' * fill} finds it"] += found
 
     def with_cover(self, name, error, after, expected):
         slot = uncovered(after)

@@ -1,9 +1,10 @@
 #!/usr/bin/env python3
-"""opponent.py IMAGE OUT --set R .. [--seed S] [--threads T] [--buffer WORDS]
+"""opponent.py IMAGE OUT --set R .. [--seed S] [--threads T] [--buffer WORDS] [--fill]
 
 Evacuates the regions of a set as a collector of another make would, and writes the image after. T threads (3)
 take the survivors in a random order. Each copies into a buffer of its own of at most so many words (12), in a
-random free region of its own; what it leaves of a buffer is filled with a dead object, as such collectors do.
+random free region of its own; what it leaves of a buffer is filled with a dead object, as such collectors do. With
+--fill a thread also copies behind the top of an ordinary region that is kept.
 Roots and slots are updated, the set's regions are free, remembered sets are exact, and the log is empty.
 
 So the image after is not the one that g1pause gives, and yet shows the same graph.
@@ -52,7 +53,7 @@ class Worker:
         width = self.image.region_words
         top = self.image.tops[self.region] if self.region is not None else width
         if top + size > width:
-            self.region, top = self.opponent.take_region(), 0
+            self.region, top = self.opponent.take_region(size)
         length = max(size, min(self.rng.randint(1, self.opponent.buffer), width - top))
         self.at = self.region * width + top
         self.end = self.at + length
@@ -60,20 +61,29 @@ class Worker:
 
 
 class Opponent:
-    def __init__(self, image, chosen, rng, threads=3, buffer=12):
+    def __init__(self, image, chosen, rng, threads=3, buffer=12, fill=False):
         # A filler is an ordinary object too, so a buffer is not larger than one may be.
         self.image, self.chosen, self.rng = image.copy(), set(chosen), rng
         self.buffer = min(buffer, 3 * image.region_words // 4)
         self.workers = [Worker(self) for _ in range(threads)]
         self.copies = {}
+        kept = [r for r in range(image.regions) if image.kinds[r] == ORDINARY and r not in self.chosen]
+        self.fillable = kept if fill else []
 
-    def take_region(self):
-        free = [r for r in range(self.image.regions) if self.image.kinds[r] == FREE]
+    def take_region(self, size):
+        """A region for a thread, with its top: a free one, or one to fill that has room for so many words."""
+        image = self.image
+        free = [r for r in range(image.regions) if image.kinds[r] == FREE]
+        filled = [r for r in self.fillable if image.tops[r] + size <= image.region_words]
+        if filled and (not free or self.rng.random() < 0.7):
+            region = self.rng.choice(filled)
+            self.fillable.remove(region)
+            return region, image.tops[region]
         if not free:
             raise NoRoom()
         region = self.rng.choice(free)
-        self.image.kinds[region] = ORDINARY
-        return region
+        image.kinds[region] = ORDINARY
+        return region, 0
 
     def leads_in(self, word):
         return word != NULL and self.image.region_of(word - 1) in self.chosen
@@ -128,12 +138,13 @@ def main():
     parser.add_argument("--seed", type=int, default=1, metavar="S")
     parser.add_argument("--threads", type=int, default=3, metavar="T")
     parser.add_argument("--buffer", type=int, default=12, metavar="WORDS")
+    parser.add_argument("--fill", action="store_true")
     options = parser.parse_args()
     image = from_bytes(pathlib.Path(options.image).read_bytes())
     for region in options.set:
         if refused(image, region):
             sys.exit(f"no pause collects region {region} of {options.image}")
-    opponent = Opponent(image, options.set, random.Random(options.seed), options.threads, options.buffer)
+    opponent = Opponent(image, options.set, random.Random(options.seed), options.threads, options.buffer, options.fill)
     try:
         after = opponent.evacuate()
     except NoRoom:

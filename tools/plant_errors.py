@@ -155,6 +155,32 @@ class Planter:
         """A region outside the set is pinned, and was not."""
         return self.repinned(False)
 
+    def filler_behind_a_top(self):
+        """A dead object of one word is behind the top of a region outside the set."""
+        region = self.pick(r for r in range(self.after.regions) if r not in self.chosen and self.before.kinds[r] == ORDINARY
+                           and self.after.tops[r] < self.after.region_words)
+        if region is None:
+            return None
+        image = self.after.copy()
+        image.words[region * image.region_words + image.tops[region]] = 1 << 32
+        image.tops[region] += 1
+        return image
+
+    def last_object_lost(self):
+        """A region outside the set lacks its last object, which nothing references."""
+        named = {*self.after.roots, *(self.after.words[s] for a in self.objects for s in self.after.slots(a))}
+        lasts = {self.after.region_of(at): at for at in self.objects if self.after.kinds[self.after.region_of(at)] == ORDINARY}
+        width = self.after.region_words
+        at = self.pick(at for r, at in lasts.items() if r not in self.chosen and self.before.kinds[r] == ORDINARY
+                       and r * width < at < r * width + self.before.tops[r] and at + 1 not in named)
+        if at is None:
+            return None
+        image, region = self.after.copy(), self.after.region_of(at)
+        image.words[at:(region + 1) * width] = [0] * ((region + 1) * width - at)
+        image.tops[region] = at - region * width
+        image.make_exact()
+        return image
+
     def equal_object_in_use(self):
         """Whatever referenced a copy references an equal object outside the set, which was there before."""
         equal = {}
@@ -177,7 +203,8 @@ class Planter:
 ERRORS = ("copied_twice", "slot_not_updated", "slot_to_a_wrong_copy", "data_torn", "lost_root", "root_left_out",
           "root_not_updated", "stray_word")
 # Those that `same` finds with --covered or --set alone.
-MORE_ERRORS = ("card_lost", "region_not_freed", "pin_lost", "pin_new", "equal_object_in_use")
+MORE_ERRORS = ("card_lost", "region_not_freed", "pin_lost", "pin_new", "filler_behind_a_top", "last_object_lost",
+               "equal_object_in_use")
 
 
 def main():

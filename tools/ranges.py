@@ -120,13 +120,18 @@ class Ranges(Judge):
         out, errors, status = run([self.binary, "check"], data)
         if fault is None:
             self.met["covered images"] += 1
-            return self.judge(f"{name}, check", (out, errors, status) == (b"covered\n", b"", 0))
+            self.judge(f"{name}, check", (out, errors, status) == (b"covered\n", b"", 0))
+            return None
         self.met[FAULTS.get(fault.split(":")[0], "other faults")] += 1
         good = not out and status != 0 and errors == f"g1pause: fault {fault}\n".encode()
-        return self.judge(f"{name}, check finds {fault}, and not {errors}", good)
+        self.judge(f"{name}, check finds {fault}, and not {errors}", good)
+        return fault
 
-    def same(self, name, words, data):
+    def same(self, name, words, data, fault):
         one = run([self.binary, words[0], "--workers", "1", *words[1:]], data)
+        if fault is not None and not fault.startswith("9:"):  # found by reading, so by each command
+            good = not one[0] and one[2] != 0 and one[1] == f"g1pause: fault {fault}\n".encode()
+            self.judge(f"{name}, {' '.join(words)} finds {fault}, and not {one[1]}", good)
         for workers in WORKERS:
             many = run([self.binary, words[0], "--workers", workers, *words[1:]], data)
             self.judge(f"{name}, {' '.join(words)}, {workers} workers", one == many)
@@ -140,12 +145,14 @@ class Ranges(Judge):
         data = image.to_bytes()
         self.met["large images"] += len(image.words) >= 2 * THREAD_WORDS
         self.met["long runs"] += image.kinds.count(CONTINUATION) > image.regions // 8
-        self.fault(f"image {number}", data)
+        fault = self.fault(f"image {number}", data)
+        large = len(image.words) >= 2 * THREAD_WORDS
+        self.met["stray slots of large images"] += large and fault is not None and fault.startswith("7: reference in slot")
         for words in self.commands(rng, image):
-            self.same(f"image {number}", words, data)
+            self.same(f"image {number}", words, data, fault)
 
     def end(self):
-        wanted = ("covered images", "large images", "long runs", *FAULTS.values())
+        wanted = ("covered images", "large images", "stray slots of large images", "long runs", *FAULTS.values())
         print(", ".join(f"{self.met[what]} {what}" for what in wanted))
         for what in wanted:
             self.judge(f"some images show: {what}", self.met[what])

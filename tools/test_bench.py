@@ -15,6 +15,7 @@ import sys
 import tempfile
 import unittest
 import unittest.mock
+import xml.etree.ElementTree
 
 TOP = pathlib.Path(__file__).resolve().parent.parent
 sys.dont_write_bytecode = True
@@ -22,6 +23,7 @@ sys.path[:0] = [str(TOP / "bench"), str(TOP / "tools"), str(TOP / "tools" / "lib
 
 import compare  # noqa: E402
 import hostile  # noqa: E402
+import plot  # noqa: E402
 from image_text import fault_of, graph, read  # noqa: E402
 
 ECHO = "cat"
@@ -36,6 +38,7 @@ BROKEN = {
     "cat; echo 'g1pause: fault 3: short' >&2": "another fault",
     "cat; exec sleep 20": "cut off",
 }
+TRACE = "humongous20k"  # the hostile input that is no image
 BOTH_FAIL = "echo 'g1pause: fault {}' >&2; exit 5"
 
 
@@ -208,7 +211,7 @@ class Images(unittest.TestCase):
         return file.getvalue()
 
     def setUp(self):
-        self.texts = {name: self.text(hostile.made(name, "1", 1000)) for name in hostile.IMAGES}
+        self.texts = {name: self.text(hostile.made(name, "1", 1000)) for name in hostile.INPUTS if name != TRACE}
 
     def test_each_is_legal_and_covered(self):
         for name, text in self.texts.items():
@@ -251,7 +254,7 @@ class Images(unittest.TestCase):
 
     def test_the_whole_images_have_the_sizes_that_are_told(self):
         told = {name: [int(number.replace(",", "")) for number in re.findall(r"\d[\d,]*", what)]
-                for name, (_maker, what, _narrow) in hostile.IMAGES.items()}
+                for name, (_maker, what, _narrow) in hostile.INPUTS.items()}
         heap = hostile.made("full_sets", "1")
         self.assertEqual([heap.used, len(heap.remembered[5])], [told["full_sets"][0], told["full_sets"][1]])
         heap = hostile.made("regions16", "1")
@@ -261,6 +264,168 @@ class Images(unittest.TestCase):
         self.assertEqual(len(heap.words), 6_553_600)
         heap = hostile.made("two_chains", "1")
         self.assertEqual([len(heap.roots), len(heap.words) // 4 // 1000], [2, 100])
+
+
+    def test_what_is_hardest_for_a_command_is_run_by_it(self):
+        for name, command in (("roots64k", ["pause", "--budget", "BUDGET"]), ("dirty1m", ["live"]), (TRACE, ["run"])):
+            self.assertIn(command, hostile.made(name, "1", 1000).commands, name)
+
+
+class Traces(unittest.TestCase):
+    """The hostile trace, by a reading of its own."""
+
+    def live(self, roots, slots):
+        """The objects that roots lead to."""
+        found, todo = set(), [each for each in roots if each is not None]
+        while todo:
+            each = todo.pop()
+            if each not in found:
+                found.add(each)
+                todo += [slots[each]] if slots[each] is not None else []
+        return found
+
+    def test_the_trace_has_the_humongous_objects_and_pauses_that_it_says(self):
+        lines = hostile.made(TRACE, "1").lines
+        width, _card, regions, held = map(int, lines[0].split()[1:])
+        roots, slots, size, used = [None] * held, [], [], 0
+        pauses = most_live = 0
+        for words in map(str.split, lines[1:]):
+            if words[0] == "new":
+                root, count, data = map(int, words[1:])
+                self.assertTrue(count and data)
+                self.assertGreater(4 * (1 + count + data), 3 * width)
+                roots[root] = len(slots)
+                slots.append(None)  # of the slots, slot 0 alone is put
+                size.append(-(-(1 + count + data) // width))
+                used += size[-1]
+                self.assertLess(used, regions)  # there is room for it
+            elif words[0] == "put":
+                self.assertEqual(words[2], "0")
+                slots[roots[int(words[1])]] = roots[int(words[3])]
+            elif words[0] == "pause":
+                pauses += 1
+                live = self.live(roots, slots)
+                used, most_live = sum(size[each] for each in live), max(most_live, len(live))
+            else:
+                self.assertIn(words[0], ("set", "say"))
+        self.assertEqual((len(slots), pauses), (20_000, 500))
+        self.assertLess(most_live, 120)
+
+    def test_the_same_seed_gives_the_same_lines(self):
+        self.assertEqual(hostile.made(TRACE, "7", 100).lines, hostile.made(TRACE, "7", 100).lines)
+
+
+class Scaling(Folder):
+    """The table of workers, and its picture."""
+
+    WORDS = ("--scaling", "--large", "0", "--only", "small")
+
+    def test_each_command_is_run_with_each_number_of_workers(self):
+        status, text = self.compared(ECHO, "--images", str(self.inputs), *self.WORDS)
+        self.assertEqual(status, 0)
+        # as above, and four settings of seven commands
+        self.assertIn(f"Answers: {23 + 28} the same, 0 not, 0 cut off.", text)
+        self.assertIn("| wall ms: 1 worker | 2 | 4 | 8 | cpu ms: 1 worker | 2 | 4 | 8 |", text)
+
+    def test_an_answer_that_eight_workers_spoil_is_told(self):
+        body = 'cat; case "$*" in *"--workers 8"*) echo;; esac'
+        status, text = self.compared(body, "--images", str(self.inputs), *self.WORDS, "--only", "small live")
+        self.assertEqual(status, 1)
+        self.assertIn("| DIFFERS (8 workers): other bytes |", text)
+
+    def test_more_time_with_more_workers_is_in_the_columns(self):
+        """With 2 workers it sleeps, with 4 it works."""
+        body = 'cat; case "$*" in *"workers 2"*) sleep 0.5;; *"workers 4"*) i=0; while [ $i -lt 100000 ]; do i=$((i+1)); done;; esac'
+        _status, text = self.compared(body, "--images", str(self.inputs), *self.WORDS, "--only", "small live")
+        row = next(line for line in text.splitlines() if line.startswith("| small | live") and line.count("|") == 15)
+        cells = [cell.strip() for cell in row.split("|")[5:13]]
+        wall, cpu = [float(cell) for cell in cells[:4]], [float(cell) for cell in cells[4:]]
+        self.assertEqual(max(wall[:2] + wall[3:]), wall[1], row)
+        self.assertGreater(wall[1], 500)
+        self.assertLess(cpu[1], 300)
+        self.assertEqual(max(cpu), cpu[2])
+
+    def test_small_inputs_are_left_out(self):
+        _status, text = self.compared(ECHO, "--images", str(self.inputs), "--scaling", "--only", "small")
+        self.assertEqual(text.count("| small |"), 8)
+
+    def test_the_picture_is_beside_the_page_that_shows_it(self):
+        page, picture = self.room / "page.md", self.room / "pictures" / "scaling.svg"
+        picture.parent.mkdir()
+        page.write_text(f"Before\n{compare.BEGIN}\n{compare.END}\nAfter\n")
+        self.compared(ECHO, "--images", str(self.inputs), *self.WORDS, "--plot", str(picture), "--write", str(page))
+        link = re.search(r"^!\[.+\]\((.+)\)$", page.read_text(), re.M)
+        self.assertEqual(link[1], "pictures/scaling.svg")
+        names = [each.text for each in xml.etree.ElementTree.parse(picture).iter(f"{SVG}text")]
+        for name in ("show", "live", "choose", "pause (empty)", "pause by budget", "run", "the reference"):
+            self.assertIn(name, names)
+
+
+SVG = "{http://www.w3.org/2000/svg}"
+ROWS = {"show": [1.5, 1.0, 0.75, 0.7], "live": [3.2, 1.7, None, 1.1], "run <a>": [0.5, 0.5, 0.5, 0.5]}
+
+
+class Pictures(unittest.TestCase):
+    """A picture of known numbers, measured by its own ticks."""
+
+    def setUp(self):
+        self.text = plot.picture("Times", (1, 2, 4, 8), [("wall", ROWS), ("cpu", {name: values[::-1] for name, values in ROWS.items()})])
+        self.svg = xml.etree.ElementTree.fromstring(self.text)
+
+    def texts(self, kind):
+        """The words of a class, with where they are."""
+        return [(each.text, float(each.get("x")), float(each.get("y"))) for each in self.svg.iter(f"{SVG}text") if each.get("class") == kind]
+
+    def test_each_point_is_where_the_ticks_say(self):
+        ticks, counts = self.texts("tick"), self.texts("count")
+        low, high = (next(y for text, _x, y in ticks if text == wanted) for wanted in ("0", "1"))
+        lines = list(self.svg.iter(f"{SVG}polyline"))
+        wanted = [*ROWS.values(), *(values[::-1] for values in ROWS.values())]
+        self.assertEqual(len(lines), len(wanted))
+        for at, (line, values) in enumerate(zip(lines, wanted)):
+            points = [tuple(map(float, point.split(","))) for point in line.get("points").split()]
+            places = [x for _text, x, _y in counts[4 * (at // 3):4 * (at // 3) + 4]]
+            known = [(x, value) for x, value in zip(places, values) if value is not None]
+            self.assertEqual(len(points), len(known))
+            for (x, y), (place, value) in zip(points, known):
+                self.assertAlmostEqual(x, place, delta=0.2)
+                self.assertAlmostEqual((low - 4 - y) / (low - high), value, delta=0.01)
+
+    def test_each_line_has_a_colour_and_a_mark_of_its_own(self):
+        self.assertEqual(len(set(plot.MARKS)), len(plot.LINES))
+        self.assertEqual(self.text.count('class="mark0"'), 4 + 4 + 1)  # eight points and the legend's
+        self.assertEqual(self.text.count('class="mark1"'), 3 + 3 + 1)
+
+    def test_all_is_within_the_picture_and_no_text_is_over_another(self):
+        width, height = float(self.svg.get("width")), float(self.svg.get("height"))
+        boxes = []
+        for each in self.svg.iter(f"{SVG}text"):
+            size, x, y = 7.5 * len(each.text), float(each.get("x")), float(each.get("y"))
+            left = x - {None: 0, "middle": size / 2, "end": size}[each.get("text-anchor")]
+            boxes.append((left, y - 11, left + size, y + 4, each.text))
+        for left, top, right, bottom, text in boxes:
+            self.assertTrue(left >= 0 and top >= 0 and right <= width and bottom <= height, text)
+            for other in boxes:
+                self.assertTrue(other[4] == text and other[0] == left or right <= other[0] or other[2] <= left or bottom <= other[1]
+                                or other[3] <= top, (text, other[4]))
+
+    def test_light_and_dark_can_be_read(self):
+        def brightness(colour):
+            parts = [int(colour[at:at + 2], 16) / 255 for at in (1, 3, 5)]
+            red, green, blue = (part / 12.92 if part <= 0.04045 else ((part + 0.055) / 1.055) ** 2.4 for part in parts)
+            return 0.2126 * red + 0.7152 * green + 0.0722 * blue
+        light, dark = self.text.split("@media(prefers-color-scheme:dark)")
+        for rules in (light, dark.split("</style>")[0]):
+            found = dict(re.findall(r"\.?(\w+)\{(?:fill|stroke):(#\w{6})\}", rules))
+            ground = brightness(found.pop("page"))
+            self.assertEqual(len(found), 2 + 2 * len(plot.LINES))
+            for name, colour in found.items():
+                low, high = sorted((brightness(colour), ground))
+                self.assertGreaterEqual((high + 0.05) / (low + 0.05), 4.5 if name in ("text", "axis") else 3, name)
+
+    def test_what_would_need_more_colours_is_refused(self):
+        with self.assertRaises(ValueError):
+            plot.picture("Times", (1, 2), [("wall", {str(i): [1, 1] for i in range(len(plot.LINES) + 1)})])
 
 
 class Drawn(Folder):
@@ -289,6 +454,20 @@ class Drawn(Folder):
                 status, told, image = self.drawn(*words, "--seed", seed)
                 self.assertEqual((status, told), (0, ""), words)
                 self.assertIsNone(fault_of(image, True), words)
+
+    def test_growing_images_have_the_sizes_that_are_told(self):
+        """The smallest and the largest one are made."""
+        told = [float(size) for size in re.search(r"growing size, from ([\d.]+) to (\d+) MB", compare.__doc__).groups()]
+        self.assertEqual((len(compare.GROWING), compare.GROWING), (8, sorted(compare.GROWING)))
+        for words, size in zip((compare.GROWING[0], compare.GROWING[-1]), told):
+            image = self.drawn(*compare.growing(words, "1"))[2]
+            self.assertAlmostEqual(len(image) / compare.MB / size, 1, delta=0.06)
+
+    def test_a_share_of_the_regions_is_free(self):
+        for share in ("0", "0.5", "0.9"):
+            image = self.drawn("64", "--words", "262144", "--free", share)[2]
+            regions = read(image)[3]
+            self.assertAlmostEqual(sum(1 for kind, _top, _flags in regions if not kind) / len(regions), float(share), delta=0.06)
 
 
 if __name__ == "__main__":

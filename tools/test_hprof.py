@@ -6,6 +6,7 @@ laid out by hand, too.
 """
 import argparse
 import contextlib
+import gzip
 import hashlib
 import io
 import os
@@ -16,14 +17,19 @@ import subprocess
 import sys
 import tempfile
 import unittest
+import unittest.mock
 
 sys.dont_write_bytecode = True
 TOOLS = pathlib.Path(__file__).resolve().parent
 HOTSPOT = TOOLS.parent / "examples" / "hotspot"
-sys.path[:0] = [str(TOOLS), str(TOOLS / "lib")]
+sys.path[:0] = [str(TOOLS), str(TOOLS / "lib"), str(HOTSPOT)]
 
 import hprof  # noqa: E402
 import hprof2image  # noqa: E402
+import hprof_graph  # noqa: E402
+import jvm  # noqa: E402
+import plain_judge  # noqa: E402
+import plants  # noqa: E402
 
 REFERENCE, BYTE, INT = 2, 8, 10
 OBJECT, NODE, MAIN, REF, WEAK, CLASS, NODES = range(0x10, 0x17)  # classes
@@ -68,16 +74,20 @@ class Maker:
         node = [("next", REFERENCE), ("value", INT), ("other", REFERENCE), ("flag", BYTE)]
         classes = [self.kind(OBJECT, 0), self.kind(NODE, fields=node), self.kind(MAIN, statics=root),
                    self.kind(REF, fields=weak), self.kind(WEAK, REF), self.kind(CLASS), self.kind(NODES)]
-        objects = [self.node(DEAD, FIRST, 1, FIRST, 1), self.node(FIRST, ARRAY, 7, BYTES, flag),
-                   array, b"\x23" + self.ids(BYTES) + struct.pack(">IIB", 0, 3, BYTE) + b"\1\2\3",
-                   self.instance(WEAKLY, WEAK, self.ids(FAR, NOWHERE, 0, 0)), self.node(FAR, 0, 9, 0, 0)]
+        parts = [self.node(DEAD, FIRST, 1, FIRST, 1), self.node(FIRST, ARRAY, 7, BYTES, flag),
+                 array, b"\x23" + self.ids(BYTES) + struct.pack(">IIB", 0, 3, BYTE) + b"\1\2\3",
+                 self.instance(WEAKLY, WEAK, self.ids(FAR, NOWHERE, 0, 0)), self.node(FAR, 0, 9, 0, 0)]
+        return self.dump(classes, [*parts, more], version)
+
+    def dump(self, classes, objects, version=b"2"):
+        """The file of these parts."""
         names = {OBJECT: "java/lang/Object", NODE: "pack/Node", MAIN: "pack/Main", REF: "java/lang/ref/Reference",
                  WEAK: "java/lang/ref/WeakReference", CLASS: "java/lang/Class", NODES: "[Lpack/Node;"}
         loads = [struct.pack(">I", 1) + self.ids(kind) + bytes(4) + self.ids(self.text(name))
                  for kind, name in names.items()]
         records = [(0x01, self.ids(number) + text.encode()) for text, number in self.texts.items()]
         records += [(0x02, load) for load in loads]
-        parts = b"".join(classes + objects) + more
+        parts = b"".join(classes + objects)
         records += [(0x1C, parts), (0x2C, b"")] if version == b"2" else [(0x0C, parts)]
         body = b"".join(struct.pack(">BII", tag, 0, len(data)) + data for tag, data in records)
         return b"JAVA PROFILE 1.0." + version + b"\0" + struct.pack(">IQ", self.id_bytes, 0) + body
@@ -213,6 +223,113 @@ class Graphs(unittest.TestCase):
             hprof2image.chosen([(8, 1 << 22)])
         self.assertEqual(caught.exception.status, 5)
 
+    def test_a_dump_that_is_too_large_is_refused_before_it_is_sorted_or_written(self):
+        """By hand: the dump's six objects have 5 + 5 + 6 + 3 + 6 + 5 words, and its classes 6 * 6 + 8. Of what hangs from
+        the field, the headers, labels and slots have 4 + 6 + 6 words if there are slots."""
+        with unittest.mock.patch.object(hprof, "MOST_WORDS", 73), self.assertRaisesRegex(hprof.Refusal, "take 74 words") as caught:
+            hprof2image.Index(hprof.Dump(io.BytesIO(Maker().heap())))
+        self.assertEqual(caught.exception.status, 5)
+        with unittest.mock.patch.object(hprof, "MOST_WORDS", 74):
+            hprof2image.Index(hprof.Dump(io.BytesIO(Maker().heap())))
+        with unittest.mock.patch.object(hprof, "MOST_WORDS", 15):
+            self.refused(5, "^what hangs from the fields takes at least 16 words", Maker().heap())
+        with unittest.mock.patch.object(hprof, "MOST_WORDS", 16):
+            converted(Maker().heap())
+
+    def test_a_dump_that_would_fill_the_memory_is_refused(self):
+        with unittest.mock.patch.object(hprof_graph, "free_memory", lambda: 13 * hprof_graph.OBJECT_BYTES - 1):
+            self.refused(6, "^the dump has 13 objects, which take about 0.0 GB of memory here, and 0.0 GB are free", Maker().heap())
+        with unittest.mock.patch.object(hprof_graph, "free_memory", lambda: 13 * hprof_graph.OBJECT_BYTES):
+            converted(Maker().heap())
+        self.assertGreater(hprof_graph.free_memory(), 1 << 20)
+
+
+class PlainJudge(unittest.TestCase):
+    """The second judge, on good dumps and on bad ones."""
+
+    def setUp(self):
+        room = tempfile.TemporaryDirectory()
+        self.addCleanup(room.cleanup)
+        self.good, self.other = (pathlib.Path(room.name) / name for name in ("good", "other"))
+        self.good.write_bytes(Maker().heap())
+
+    def answer(self, data, start="pack.Main.root"):
+        self.other.write_bytes(data)
+        return plain_judge.answer(self.good, self.other, start, plain_judge.WEAK)
+
+    def test_it_counts_as_the_image_does(self):
+        for version in (b"1", b"2"):
+            self.assertEqual(self.answer(Maker().heap(version)), ("same objects 5 words 22, 0 of them at another address", 0))
+
+    def test_differences_are_told_with_their_paths(self):
+        self.assertEqual(self.answer(Maker().heap(flag=3)),
+                         ("differ at pack.Main.root: pack/Node before, pack/Node after, with other data", 1))
+        array = Maker().objects(ARRAY, NODES, FIRST, 0, NODE, 0)
+        self.assertEqual(self.answer(Maker().heap(array=array)), ("differ at pack.Main.root.next[3]: null after", 1))
+        array = Maker().objects(ARRAY, NODES, FIRST, 0, NODE, NOWHERE)
+        self.assertEqual(self.answer(Maker().heap(array=array)),
+                         ("differ at pack.Main.root.next[3]: no object at 0x0000000000000600 after", 1))
+
+    def test_no_cut_dump_has_a_verdict(self):
+        for version in (b"1", b"2"):
+            data = Maker().heap(version)
+            for length in range(len(data)):
+                line, status = self.answer(data[:length])
+                self.assertEqual((status, line.count("\n")), (3, 0), length)
+
+    def test_a_changed_byte_gives_one_line(self):
+        data = Maker().heap()
+        for at in range(len(data)):
+            for flip in (0x01, 0x80, 0xFF):
+                line, status = self.answer(data[:at] + bytes([data[at] ^ flip]) + data[at + 1:])
+                self.assertEqual(line.count("\n"), 0, at)
+                self.assertIn(status, (0, 1, 3))
+
+    def test_foreign_files_and_unknown_fields_have_no_verdict(self):
+        for data in (b"", b"text\n", Maker(4).heap(), Maker().heap().replace(b"1.0.2", b"1.0.3", 1), gzip.compress(Maker().heap())):
+            line, status = self.answer(data)
+            self.assertEqual((status, line.startswith("plain_judge: ")), (3, True), line)
+        self.assertEqual(self.answer(Maker().heap(), "pack.Main.rot"), ("plain_judge: 0 static fields pack.Main.rot", 3))
+        missing = plain_judge.answer(self.good, "no-such-dump", "pack.Main.root", plain_judge.WEAK)
+        self.assertEqual(missing, ("plain_judge: no-such-dump: No such file or directory", 3))
+
+
+class Plants(unittest.TestCase):
+    """What plants.py takes as a right report. Node A's slots reference B and C, and the planted error lets the first one
+    reference C, too."""
+
+    A, B, C = 0x100, 0x200, 0x300
+    LINE = "differ joined at pack.Main.root.other: pack.Node @0x300 before, pack.Node @0x300 after; pack.Node @0x300 after is " \
+           "pack.Node @0x{:x} before on an earlier path"
+
+    def graph(self, following):
+        make = Maker()
+        root = [("root", REFERENCE, make.ids(self.A)), ("count", INT, bytes(4))]
+        node = [("next", REFERENCE), ("value", INT), ("other", REFERENCE), ("flag", BYTE)]
+        data = make.dump([make.kind(OBJECT, 0), make.kind(NODE, fields=node), make.kind(MAIN, statics=root)],
+                         [make.node(self.A, following, 1, self.C, 0), make.node(self.B, 0, 2, 0, 0), make.node(self.C, 0, 2, 0, 0)])
+        return hprof_graph.Graph(hprof.Dump(io.BytesIO(data)), ["pack.Main.root"])
+
+    def right(self, line, path):
+        good, bad = self.graph(self.B), self.graph(self.C)
+        at = {name: (group.shape, place) for group in good.groups for name, place in zip(group.names, group.places)}
+        planter = argparse.Namespace(object=self.A, slot=0, target=self.C, others=set())
+        planter.path = lambda: plants.Planter.path(argparse.Namespace(graph=good, at=at, object=self.A, slot=0))
+        with unittest.mock.patch.object(jvm, "ROOT", "pack.Main.root"):
+            return plants.is_right(line, path, planter, good, bad)
+
+    def test_the_planted_slot_is_right(self):
+        self.assertTrue(self.right("differ split at pack.Main.root.next: x", "pack.Main.root.next"))
+
+    def test_another_slot_is_wrong(self):
+        self.assertFalse(self.right("differ split at pack.Main.root.other: x", "pack.Main.root.other"))
+        self.assertFalse(self.right("differ data at pack.Main.root: x", "pack.Main.root"))
+
+    def test_joined_at_another_slot_is_right_only_with_the_object_that_was_there(self):
+        self.assertTrue(self.right(self.LINE.format(self.B), "pack.Main.root.other"))
+        for other in (self.A, self.C, 0x999):
+            self.assertFalse(self.right(self.LINE.format(other), "pack.Main.root.other"))
+
 
 class Commands(unittest.TestCase):
     """The scripts as they are called."""
@@ -282,6 +399,51 @@ class Commands(unittest.TestCase):
     def test_a_missing_judge_is_one_line_and_a_status(self):
         for script in ("judge.py", "across.py", "plants.py"):
             self.stopped(script, "no-such-java", "G1HEAP=no-such-judge: there is no such program", "no-such-judge")
+
+    def with_java(self, body, script, *words):
+        """What a script says of a java that does this where it is to run Judge."""
+        version = 'case "$*" in *-version*) echo version \'"17.0.1"\' >&2; exit;; esac'
+        for name, text in (("java", f"{version}\n{body}"), ("javac", "true")):
+            (self.folder / name).write_text(f"#!/bin/sh\n{text}\n")
+            (self.folder / name).chmod(0o755)
+        done = subprocess.run([sys.executable, str(HOTSPOT / script), *words, str(self.folder / "java")], capture_output=True,
+                              cwd=self.folder, env=dict(os.environ, G1HEAP=sys.executable), timeout=60, check=False)
+        return done.returncode, done.stdout.decode(), done.stderr.decode()
+
+    def test_a_heap_that_is_too_large_ends_all_runs_with_one_line(self):
+        body = "echo 'Exception in thread \"main\" java.lang.OutOfMemoryError: Java heap space' >&2; exit 1"
+        for script in ("judge.py", "across.py", "plants.py"):
+            status, out, errors = self.with_java(body, script, "--objects", "9000000")
+            self.assertEqual((status, out, errors), (2, "", f"{script[:-3]}: so many objects do not fit into the heap of -Xmx160m: "
+                                                            "give fewer by --objects\n"))
+
+    def test_a_run_without_a_verdict_fails_with_its_reason(self):
+        failed = "echo 'Exception in thread \"main\" java.lang.Bad: why' >&2; echo '\tat Judge.main(Judge.java)' >&2; exit 1"
+        # the words are: -cp CLASSES Judge N STEPS OUT HOW
+        dumps = 'while [ "$1" != Judge ]; do shift; done; for when in before after; do {} > "$4_$when.hprof"; done'
+        for body, reason in ((failed, "java ended with status 1: Exception in thread \"main\" java.lang.Bad: why"),
+                             ("true", "hprof2image: .*dump_before.hprof: No such file or directory"),
+                             (dumps.format("echo no dump"), "hprof2image: not a heap dump: .*"),
+                             (dumps.format(f"head -c 1000 {self.folder / 'dump'}"), "hprof2image: cut short: .*"),
+                             (dumps.format(f"cat {self.folder / 'dump'}"), "hprof2image: Judge.root: the dump has no class 'Judge'.*")):
+            (self.folder / "dump").write_bytes(Maker().heap())
+            status, out, errors = self.with_java(body, "judge.py", "--only", "Serial", "--collection", "full")
+            self.assertEqual((status, errors), (1, ""))
+            self.assertRegex(out, rf"^17.0.1 Serial full: {reason}\n0 passed, 1 failed\n$")
+
+    def test_a_java_that_is_named_twice_is_judged_once(self):
+        for name in ("link", "folder"):
+            (self.folder / name).symlink_to("." if name == "folder" else "java")
+        words = ["--only", "Serial", "--collection", "full", str(self.folder / "link"), str(self.folder / "folder/java")]
+        _status, out, _errors = self.with_java("exit 7", "judge.py", *words)
+        self.assertEqual(out, "17.0.1 Serial full: java ended with status 7: it said nothing\n0 passed, 1 failed\n")
+
+    def test_numbers_that_are_none_are_refused(self):
+        for script, option in (("judge.py", "--objects"), ("across.py", "--steps"), ("plants.py", "--seeds"), ("pause.py", "--objects")):
+            for number in ("0", "-1", "many", str(2**31)):
+                status, out, errors = self.with_java("true", script, f"{option}={number}")
+                self.assertEqual((status, out), (2, ""))
+                self.assertIn(f"argument {option}: {number}: a number from 1 to 2147483647 is wanted", errors)
 
     def test_a_dump_alone_is_enough(self):
         (self.folder / "dump").write_bytes(Maker().heap())

@@ -13,6 +13,7 @@ import io
 import os
 import pathlib
 import re
+import shutil
 import struct
 import subprocess
 import sys
@@ -229,6 +230,16 @@ class Pages(unittest.TestCase):
 
     def test_the_shell_goes_on_from_line_to_line(self):
         self.assertEqual(self.wrong("    cd /\n    printf '%s\\n' $PWD\n\n    /\n"), [])
+
+    def test_a_page_whose_program_is_missing_is_left_out_and_named(self):
+        with tempfile.TemporaryDirectory() as room:
+            page, said = pathlib.Path(room) / "page.md", io.StringIO()
+            for needed, count in (("sh", 1), ("sh no-such-program", 0)):
+                page.write_text(f"<!-- needs: {needed} -->\n\n    cat nothing-here\n")
+                with contextlib.redirect_stdout(said):
+                    _ran, wrong = check_pages.check_all([page], {})
+                self.assertEqual(len(wrong), count, needed)
+        self.assertIn(f"{page}: not run, there is no no-such-program\n", said.getvalue())
 
     def test_a_block_that_is_left_out_is_not_run(self):
         self.assertEqual(self.wrong("<!-- not run: it fails -->\n\n    cat nothing-here\n"), [])
@@ -586,6 +597,54 @@ class Planted(unittest.TestCase):
         self.assertEqual((last, status), ("0 refused, 2 failed", 1))
         self.assertIn("BAD: it changes no line of fourth", rows["nobody"])
         self.assertIn("BAD: it changes no line of second", rows["another"])
+
+
+class JavaHeaps(unittest.TestCase):
+    """examples/java/run.sh, before it runs a JVM."""
+
+    def test_words_that_no_heap_has_are_one_line(self):
+        for words, line in (("many 4096 64 9", "SIZE is 'many', and has to be a number of entries, at most 999999"),
+                            ("1000000 4096 64 9", "SIZE is '1000000', and has to be a number of entries, at most 999999"),
+                            ("10 4000 64 9", "hprof2image: W is 4000: a power of two from 16 to 65536 is wanted"),
+                            ("10 4096 3 9", "hprof2image: K is 3: a power of two from 4 to 64, and at most W, is wanted"),
+                            ("10 4096 64 9999", "hprof2image: N is 9999: from 1 to 4096 is wanted where W is 4096")):
+            done = subprocess.run([TOP / "examples/java/run.sh", "TreeAndIndex", *words.split()], capture_output=True, text=True,
+                                  check=False, env=dict(os.environ, G1PAUSE=shutil.which("true")), timeout=60)
+            self.assertEqual((done.returncode, done.stdout, done.stderr), (2, "", f"run.sh: {line}\n"))
+
+
+class Ocaml(unittest.TestCase):
+    """examples/ocaml/judge.sh, with a compiler of a few lines of shell."""
+
+    def judged(self, programs, *words):
+        """The status and the line of standard error. Programs are what stands in for ocamlopt and g1heap."""
+        with tempfile.TemporaryDirectory() as room:
+            for name, text in programs.items():
+                (pathlib.Path(room) / name).write_text(f"#!/bin/sh\n{text}\n")
+                (pathlib.Path(room) / name).chmod(0o755)
+            tools = pathlib.Path(room) / "tools"
+            tools.mkdir()
+            for name in ("dirname", "sh"):
+                (tools / name).symlink_to(shutil.which(name))
+            done = subprocess.run([TOP / "examples/ocaml/judge.sh", *words], capture_output=True, text=True, check=False,
+                                  env={"PATH": f"{room}:{tools}"}, timeout=60)
+        self.assertEqual((done.stdout, done.stderr.count("\n")), ("", 1), done.stderr)
+        return done.returncode, done.stderr.strip()
+
+    def test_what_is_missing_is_one_line(self):
+        compiler, judge = "echo 4.14.1", "true"
+        for programs, line in (({"g1heap": judge}, "no ocamlopt on the path"), ({"ocamlopt": compiler}, "no g1heap on the path")):
+            self.assertEqual(self.judged(programs), (2, f"judge.sh: {line}"))
+
+    def test_an_ocaml_of_another_kind_is_one_line(self):
+        for version in ("4.02.3", "5.1.0", "4.1"):
+            programs = {"ocamlopt": f"echo {version}", "g1heap": "true"}
+            self.assertEqual(self.judged(programs), (2, f"judge.sh: ocamlopt is {version}, and the walk is for 4.13 and later 4.x"))
+
+    def test_a_depth_that_is_too_small_or_too_large_is_one_line(self):
+        programs = {"ocamlopt": "echo 4.14.1", "g1heap": "true"}
+        for depth in ("2", "19", "60", "-3", "many", "3 4", "03"):
+            self.assertEqual(self.judged(programs, depth), (2, f"judge.sh: DEPTH is '{depth}', and has to be from 3 to 18"))
 
 
 class Scripts(unittest.TestCase):

@@ -50,7 +50,7 @@ def work(options):
     heap, passed, failed = jvm.heap_program(), 0, 0
     with tempfile.TemporaryDirectory() as folder:
         room = pathlib.Path(folder)
-        for java in [jvm.Java(command, room) for command in options.java]:
+        for java in jvm.javas(options.java, room):
             left_out = left_out_for(java, options)
             dump, _ = run_once(java, jvm.COLLECTORS["Serial"], options, room, f"first_{java.version}")
             first = dump, jvm.convert(dump, left_out)
@@ -58,6 +58,8 @@ def work(options):
                 try:
                     other, ran = run_once(java, flags, options, room, "other")
                     line, good = compared(heap, first, other, left_out)
+                except jvm.TooLarge:
+                    raise
                 except jvm.Problem as problem:
                     line, ran, good = str(problem), "nothing", False
                 print(f"{java.version} {name}: {line}, ran {ran}", flush=True)
@@ -69,8 +71,8 @@ def work(options):
 def main():
     parser = argparse.ArgumentParser(description=__doc__, formatter_class=argparse.RawDescriptionHelpFormatter)
     parser.add_argument("java", nargs="+", metavar="JAVA", help="a java: a command or a path")
-    parser.add_argument("--objects", type=int, default=100_000, metavar="N", help="about how many objects (default: 100000)")
-    parser.add_argument("--steps", type=int, default=300_000, metavar="N", help="how many steps (default: 300000)")
+    parser.add_argument("--objects", type=jvm.count, default=100_000, metavar="N", help="about how many objects (default: 100000)")
+    parser.add_argument("--steps", type=jvm.count, default=300_000, metavar="N", help="how many steps (default: 300000)")
     parser.add_argument("--without", action="append", metavar="CLASS.FIELD", help="a field that is left out")
     options = parser.parse_args()
     return jvm.ended("across", lambda: work(options))

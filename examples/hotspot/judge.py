@@ -1,5 +1,5 @@
 #!/usr/bin/env python3
-"""Judges the collectors of Java virtual machines: judge.py [--objects N] [--collections NAME ..] [--only NAME] JAVA ..
+"""Judges the collectors of Java virtual machines: judge.py [--objects N] [--collection NAME] [--only NAME] JAVA ..
 
 JAVA is a command, such as `java`, or a path. For each JAVA and each collector that it has, the script runs Judge.java
 three times: with a full collection, with young ones, and with six rounds of both. Each run dumps its heap before and
@@ -55,19 +55,27 @@ def judged(heap, java, options, how, objects, room):
     return f"{line}, moved {same[2]}, ran {ran}", True
 
 
+def runs(options, room):
+    """Each java with each of its collectors, and each kind of collection."""
+    for java in jvm.javas(options.java, room):
+        for name, flags in java.collectors():
+            if options.only in (None, name):
+                yield from ((java, name, flags, how) for how in options.collection or HOW)
+
+
 def work(options):
     heap, passed, failed = jvm.heap_program(), 0, 0
     with tempfile.TemporaryDirectory() as folder:
         room = pathlib.Path(folder)
-        for java in [jvm.Java(command, room) for command in options.java]:
-            for name, flags in java.collectors():
-                for how in options.collections if not options.only or options.only == name else ():
-                    try:
-                        line, good = judged(heap, java, flags, how, options.objects, room)
-                    except jvm.Problem as problem:
-                        line, good = str(problem), False
-                    print(f"{java.version} {name} {how}: {line}", flush=True)
-                    passed, failed = passed + good, failed + (not good)
+        for java, name, flags, how in runs(options, room):
+            try:
+                line, good = judged(heap, java, flags, how, options.objects, room)
+            except jvm.TooLarge:
+                raise
+            except jvm.Problem as problem:
+                line, good = str(problem), False
+            print(f"{java.version} {name} {how}: {line}", flush=True)
+            passed, failed = passed + good, failed + (not good)
     print(f"{passed} passed, {failed} failed")
     return 1 if failed or not passed else 0
 
@@ -75,8 +83,8 @@ def work(options):
 def main():
     parser = argparse.ArgumentParser(description=__doc__, formatter_class=argparse.RawDescriptionHelpFormatter)
     parser.add_argument("java", nargs="+", metavar="JAVA", help="a java: a command or a path")
-    parser.add_argument("--objects", type=int, default=200_000, metavar="N", help="about how many objects (default: 200000)")
-    parser.add_argument("--collections", nargs="+", default=HOW, choices=HOW, metavar="NAME", help="full, young, mixed")
+    parser.add_argument("--objects", type=jvm.count, default=200_000, metavar="N", help="about how many objects (default: 200000)")
+    parser.add_argument("--collection", action="append", choices=HOW, metavar="NAME", help="full, young or mixed, and no other")
     parser.add_argument("--only", choices=jvm.COLLECTORS, metavar="NAME", help="this collector alone")
     options = parser.parse_args()
     return jvm.ended("judge", lambda: work(options))

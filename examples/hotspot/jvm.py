@@ -1,4 +1,5 @@
 """What judge.py, across.py and plants.py share: the collectors of a java, a run of Judge, the verdict on two dumps."""
+import argparse
 import os
 import pathlib
 import re
@@ -11,7 +12,9 @@ TOP = HERE.parent.parent
 CONVERTER, PATHS = TOP / "tools" / "hprof2image.py", TOP / "tools" / "hprof_path.py"
 ROOT = "Judge.root"
 MOST_HEAP = "-Xmx160m"
+MOST_COUNT = 2**31 - 1
 SECONDS = 900  # for one program
+TOO_LARGE = 5  # the converter's status if the objects do not fit
 COLLECTORS = {
     "Serial": ["-XX:+UseSerialGC"],
     "Parallel": ["-XX:+UseParallelGC"],
@@ -26,6 +29,10 @@ COLLECTORS = {
 
 class Problem(Exception):
     """One line that says why there is no verdict."""
+
+
+class TooLarge(Problem):
+    """The heap does not fit: so no other run has a verdict, either."""
 
 
 def run(*words, output=None):
@@ -43,6 +50,12 @@ def run(*words, output=None):
 def last_line(text):
     lines = text.strip().splitlines()
     return lines[-1] if lines else "it said nothing"
+
+
+def failure_of(text):
+    """The line of what a java said that says why it failed: below an exception are the places that it passed."""
+    found = re.search(r"^.*(?:Exception|Error)\b.*$", text, re.M)
+    return found[0].strip() if found else last_line(text)
 
 
 def heap_program():
@@ -91,9 +104,19 @@ class Java:
     def run(self, options, *words):
         """Runs a class with its words, and returns what it said."""
         status, out, errors = run(self.command, *options, MOST_HEAP, "-cp", self.classes, *words)
+        if "java.lang.OutOfMemoryError" in errors:
+            raise TooLarge(f"so many objects do not fit into the heap of {MOST_HEAP}: give fewer by --objects")
         if status:
-            raise Problem(f"java ended with status {status}: {last_line(errors or out)}")
+            raise Problem(f"java ended with status {status}: {failure_of(errors or out)}")
         return out
+
+
+def javas(commands, room, sources=("Judge.java",)):
+    """The javas of these commands, each once: /usr/lib/jvm has links beside the folders that they lead to."""
+    once = {}
+    for command in commands:
+        once.setdefault(os.path.realpath(shutil.which(command) or command), command)
+    return [Java(command, room, sources) for command in once.values()]
 
 
 def convert(dump, left_out=()):
@@ -103,7 +126,7 @@ def convert(dump, left_out=()):
     with open(image, "wb") as file:
         status, _, errors = run(CONVERTER, "--from", ROOT, *words, "--names", names, dump, output=file)
     if status:
-        raise Problem(last_line(errors))
+        raise (TooLarge if status == TOO_LARGE else Problem)(last_line(errors))
     return image, names
 
 
@@ -122,6 +145,13 @@ def plain_verdict(before, after, left_out=()):
     words = [word for field in left_out for word in ("--without", field)]
     _, out, errors = run(HERE / "plain_judge.py", before, after, ROOT, *words)
     return last_line(out or errors)
+
+
+def count(text):
+    """A number of objects or steps, as the type of an argument."""
+    if not text.isdigit() or not 1 <= int(text) <= MOST_COUNT:
+        raise argparse.ArgumentTypeError(f"{text}: a number from 1 to {MOST_COUNT} is wanted")
+    return int(text)
 
 
 def ended(script, work):

@@ -7,7 +7,7 @@ address. g1pause then evacuates the collection set that G1 chose. G1's figures c
 
 G1's least region has 131,072 words, and an image's largest has 65,536. So the script copies this repository, raises
 that one constant in the copy, and builds g1pause there without any proof, which takes some minutes. --programs FOLDER
-keeps the copy in FOLDER for the next call, and takes what is there from an earlier one.
+keeps the program in FOLDER for the next call, and takes the one that is there from an earlier one.
 
 JAVA is a JDK 25. Later ones may have other options; earlier ones write another log. The last line is 'N passed, M
 failed': a pause passes if each object fits into its place, and cards and bytes are within 5 percent of G1's.
@@ -17,7 +17,6 @@ import argparse
 import bisect
 import pathlib
 import re
-import shutil
 import struct
 import subprocess
 import sys
@@ -56,22 +55,13 @@ ROW = re.compile(r"\|\s*(\d+)\|0x(\w+), 0x(\w+), 0x\w+\|\s*\d+%\|\s*(\w+)\|")
 
 def raised_program(folder):
     """The g1pause of a copy of the repository in which a region may have twice as many words."""
-    copy, program = folder / "raised", folder / "g1pause"
+    program = folder / "g1pause"
     if program.exists():
         return program
-    if not shutil.which("rt"):
-        raise jvm.Problem("there is no rt on the path: it comes with the Rattle kit")
     folder.mkdir(parents=True, exist_ok=True)
-    shutil.rmtree(copy, ignore_errors=True)
-    shutil.copytree(jvm.TOP, copy, ignore=shutil.ignore_patterns("out", ".git", "__pycache__"))
-    for name, old, new in RAISED:
-        text = (copy / name).read_text(encoding="utf-8")
-        if text.count(old) != 1:
-            raise jvm.Problem(f"{name}: '{old}' is not in it once")
-        (copy / name).write_text(text.replace(old, new), encoding="utf-8")
     print("building g1pause with a raised limit, without any proof", flush=True)
     try:
-        unproved.build_unproved(copy / "crates" / "g1pause", program)
+        unproved.build_changed(jvm.TOP, RAISED, "g1pause", program)
     except unproved.NotBuilt as error:
         raise jvm.Problem(jvm.last_line(str(error))) from None
     return program
@@ -150,12 +140,10 @@ class OwnPlaces(Index):
 
 
 def size_of(shape, tag, room):
-    """How many words HotSpot gives an object that has `room` words up to the next one; `room` is None for the last one
-    of a region. A class has fields that a dump does not show, an array a word for its length or a part of one, and an
-    instance gaps between its fields."""
+    """How many words HotSpot gives an object that has `room` words up to the next one, or up to the top of its region. A
+    class has fields that a dump does not show, an array a word for its length or a part of one, and an instance gaps
+    between its fields."""
     more = {CLASS: 40, INSTANCE: 6}.get(tag, 1)
-    if room is None:
-        return shape.size + (tag == OBJECTS)
     return room if shape.size <= room <= shape.size + more else shape.size
 
 
@@ -186,12 +174,12 @@ class OwnImage:
     def put_objects(self):
         """Region by region, so that what lies between two objects is seen."""
         names = [name for name, _, _ in self.objects]
-        for region, (bottom, _, kind) in sorted(self.regions.items()):
+        for region, (bottom, top, kind) in sorted(self.regions.items()):
             first, end = (bisect.bisect_left(names, address) for address in (bottom, bottom + 8 * WIDTH))
             if kind == "HS":
                 self.put_humongous(region, self.objects[first])
             elif kind not in ("F", "HC"):
-                self.put_region(region, self.objects[first:end])
+                self.put_region(region, self.objects[first:end], self.word(top))
 
     def put_humongous(self, region, found):
         size = found[1].size + 1
@@ -203,17 +191,15 @@ class OwnImage:
             self.layout.kinds[region + at] = CONTINUATION if at else FIRST
             self.layout.tops[region + at] = min(left, WIDTH)
 
-    def put_region(self, region, found):
+    def put_region(self, region, found, top):
         end = region * WIDTH
         starts = [self.word(name) for name, _, _ in found]
-        for one, start, after in zip(found, starts, [*starts[1:], None]):
+        for one, start, after in zip(found, starts, [*starts[1:], top]):
             if start > end:
                 self.put_dead(end, start - end)
-            room = None if after is None else after - start
-            size = size_of(one[1], self.index.dump.data[one[2]], room)
-            limit = (region + 1) * WIDTH - start if room is None else room
-            self.too_long += size > limit
-            size = min(size, limit)
+            size = size_of(one[1], self.index.dump.data[one[2]], after - start)
+            self.too_long += size > after - start
+            size = min(size, after - start)
             self.put(one, start, size)
             end = start + size
         self.layout.kinds[region] = ORDINARY if found else FREE
@@ -316,6 +302,8 @@ def work(options):
         for how in [options.only] if options.only else HOW:
             try:
                 lines, good = compared(program, java, how, options.objects, room)
+            except jvm.TooLarge:
+                raise
             except (jvm.Problem, Refusal) as problem:
                 lines, good = [f"{how}: {problem}"], False
             print("\n".join(lines), flush=True)
@@ -327,8 +315,8 @@ def work(options):
 def main():
     parser = argparse.ArgumentParser(description=__doc__, formatter_class=argparse.RawDescriptionHelpFormatter)
     parser.add_argument("java", metavar="JAVA", help="a java of JDK 25: a command or a path")
-    parser.add_argument("--programs", metavar="FOLDER", help="where the copy with the raised limit is, or is made")
-    parser.add_argument("--objects", type=int, default=200_000, metavar="N", help="about how many objects (default: 200000)")
+    parser.add_argument("--programs", metavar="FOLDER", help="where the program with the raised limit is, or is made")
+    parser.add_argument("--objects", type=jvm.count, default=200_000, metavar="N", help="about how many objects (default: 200000)")
     parser.add_argument("--only", choices=HOW, metavar="NAME", help="this pause alone")
     options = parser.parse_args()
     return jvm.ended("pause", lambda: work(options))

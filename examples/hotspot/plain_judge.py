@@ -28,13 +28,16 @@ class Dump:
     def __init__(self, path):
         with open(path, "rb") as file:
             self.data = data = file.read()
-        if data[:13] != b"JAVA PROFILE " or len(data) < 31 or data[19:23] != b"\0\0\0\x08":
-            raise NoDump(f"{path}: not a dump with identifiers of 8 bytes")
+        if data[:19] not in (b"JAVA PROFILE 1.0.1\0", b"JAVA PROFILE 1.0.2\0") or data[19:23] != b"\0\0\0\x08":
+            raise NoDump(f"{path}: no dump HPROF 1.0.1 or 1.0.2 with identifiers of 8 bytes")
         self.texts, self.loaded, self.classes, self.objects = {}, {}, {}, {}
-        at = 31
+        at, last = 31, None
         while at < len(data):
             tag, _, length = struct.unpack_from(">BII", data, at)
             at += 9
+            if at + length > len(data):
+                raise IndexError
+            last = tag if tag in (0x0C, 0x1C, 0x2C) else last
             if tag == 0x01:
                 self.texts[data[at:at + 8]] = data[at + 8:at + length].decode("utf-8", "replace")
             elif tag == 0x02:
@@ -42,6 +45,8 @@ class Dump:
             elif tag in (0x0C, 0x1C):
                 self.heap(at, at + length)
             at += length
+        if last not in (0x0C, 0x2C):  # segments of a heap have an end behind them
+            raise IndexError
 
     def number(self, at, count):
         return int.from_bytes(self.data[at:at + count], "big")
@@ -66,6 +71,8 @@ class Dump:
                 at = self.class_part(at + 1)
             else:
                 at += 1 + ROOTS[tag]
+        if at != end:
+            raise IndexError
 
     def class_part(self, at):
         data, number = self.data, self.number
@@ -103,8 +110,11 @@ class Dump:
         what, slots, plain = self.class_name(kind), [], b""
         if what == "java/lang/Class":
             return "class of a primitive type", [], b""
-        at = 0
+        at, passed = 0, set()
         while kind in self.classes:
+            if kind in passed:  # a class above itself
+                raise IndexError
+            passed.add(kind)
             above, _, fields = self.classes[kind]
             for field, type_ in fields:
                 size = SIZES.get(type_, 8)
@@ -153,6 +163,18 @@ def judge(before, after, text, left_out):
     return f"same objects {len(here)} words {words}, {moved} of them at another address", 0
 
 
+def answer(before, after, text, left_out):
+    """The line that is printed, and the status, whatever the files are."""
+    try:
+        return judge(Dump(before), Dump(after), text, left_out)
+    except NoDump as problem:
+        return f"plain_judge: {problem}", 3
+    except OSError as error:
+        return f"plain_judge: {error.filename}: {error.strerror}", 3
+    except (IndexError, KeyError, struct.error):
+        return "plain_judge: a dump is cut short or of another form", 3
+
+
 def main():
     words = sys.argv[1:]
     left_out = set(WEAK)
@@ -167,14 +189,7 @@ def main():
     if len(words) != 3:
         print("usage: plain_judge.py BEFORE AFTER CLASS.FIELD [--without CLASS.FIELD ..]", file=sys.stderr)
         return 2
-    try:
-        text, status = judge(Dump(words[0]), Dump(words[1]), words[2], left_out)
-    except NoDump as problem:
-        text, status = f"plain_judge: {problem}", 3
-    except OSError as error:
-        text, status = f"plain_judge: {error.filename}: {error.strerror}", 3
-    except (IndexError, KeyError, struct.error):
-        text, status = "plain_judge: a dump is cut short or of another kind", 3
+    text, status = answer(*words, left_out)
     print(text)
     return status
 

@@ -14,9 +14,10 @@ in what Judge.root leads to. Then the converter and `g1heap same` compare this d
 With --live the error is in the heap of a running JVM instead. After a full collection LiveBug.java writes it there: a
 stale, a wrong or a null slot, or torn data. This is tried for each JAVA under Serial and Parallel.
 
-A report is right if its path leads to the planted slot or object. (A second copy may be reported at another slot that
-references the first one. If two slots reference one object after, and two objects before, `joined` is reported at the
-slot with the longer path, which need not be the planted one.) The last line is 'N passed, M failed'.
+A report is right if its path leads to the planted slot or object. There are two exceptions. A second copy may be reported
+at another slot that references the first one. And a wrong slot may have the shorter path to its object: then `joined` is
+reported at the other slot that references this object, and the line has to end with the object that the planted slot
+references in the first dump. The last line is 'N passed, M failed'.
 Statuses: 0 all passed; 1 an error was not reported, or with a wrong path; 2 usage, or a program is not there.
 """
 import argparse
@@ -26,13 +27,14 @@ import re
 import struct
 import sys
 import tempfile
+import types
 
 import jvm
 
 sys.path.insert(0, str(jvm.TOP / "tools" / "lib"))
 
 from hprof import INSTANCE, OBJECTS, PRIMITIVES, Dump  # noqa: E402
-from hprof_graph import Graph  # noqa: E402
+from hprof_graph import Graph, path_to  # noqa: E402
 
 SLOTS = ("null", "wrong", "swapped", "twice", "stale")
 KINDS = (*SLOTS, "torn", "class", "length", "lost", "root")
@@ -116,8 +118,9 @@ class Planter:
     def plant_wrong(self):
         places = self.choose_slot(lambda slots, full: True)
         old = self.read(places[self.slot])
-        alike = [name for name in self.names if self.at[name][0] is self.at[old][0] and name != old]
-        self.target = self.random.choice(alike or self.names)
+        others = [name for name in self.names if name != old]
+        alike = [name for name in others if self.at[name][0] is self.at[old][0]]
+        self.target = self.random.choice(alike or others)
         self.write(places[self.slot], self.target)
 
     def plant_swapped(self):
@@ -160,6 +163,20 @@ class Planter:
         _, place = self.choose_object(lambda shape, tag: tag in (INSTANCE, OBJECTS, PRIMITIVES))
         self.write(place + 1, self.unused)
 
+    def path(self):
+        """The shortest path to the slot that was planted."""
+        start = self.graph.root_values[0]
+        way, queue = {start: (None, jvm.ROOT)}, [start]
+        for name in queue:
+            shape, place = self.at[name]
+            if name == self.object:
+                return path_to(name, way, self.at) + shape.step(self.slot)
+            for slot, value in enumerate(shape.open(place)[0]):
+                if value and value not in way:
+                    way[value] = name, slot
+                    queue.append(value)
+        raise KeyError(self.object)
+
     def plant_root(self):
         """The value of a static field is in the record of its class, and nowhere else in it."""
         value = self.graph.root_values[0]
@@ -197,25 +214,37 @@ def reported(heap, before, dump):
     return line, found and found[1].rstrip(":")
 
 
+def is_joined_with(line, planter, before):
+    """Whether the line says that the wrong object is also the one that the planted slot references in the first dump."""
+    earlier = re.fullmatch(r"differ joined at .* after is [^;]* @0x([0-9a-f]+) before on an earlier path", line)
+    return bool(earlier) and int(earlier[1], 16) == resolved(planter.path(), before)[2]
+
+
+def is_right(line, path, planter, before, after):
+    """Whether a report leads to what was planted. `before` and `after` are the graphs of the first dump and of the planted one."""
+    owner, slot, name = resolved(path, after)
+    wanted = {(planter.object, planter.slot), *planter.others} if planter.slot is not None else {planter.object}
+    if wanted & {(owner, slot), name}:
+        return True
+    return planter.target is not None and name == planter.target and is_joined_with(line, planter, before)
+
+
 def judged_plant(heap, before, after, kind, seed, room):
     """The line of one planted error, and whether it was reported rightly."""
     planter = Planter(after, f"{kind} {seed}").plant(kind)
     bad = room / "bad.hprof"
     bad.write_bytes(planter.data)
-    line, path = reported(heap, before, bad)
+    line, path = reported(heap, before.image, bad)
     if path is None:
         return f"{kind} {seed}: NOT REPORTED: {line}", False
-    owner, slot, name = resolved(path, graph_of(bad))
-    wanted = {(planter.object, planter.slot), *planter.others} if planter.slot is not None else {planter.object}
-    if planter.target and line.startswith("differ joined"):
-        wanted.add(planter.target)
-    right = bool(wanted & {(owner, slot), name})
+    right = is_right(line, path, planter, before.graph, graph_of(bad))
     return f"{kind} {seed}: {line}" + ("" if right else "  WRONG PATH"), right
 
 
 def dumped_plants(heap, java, options, room):
     java.run(jvm.COLLECTORS["Serial"], "Judge", options.objects, 1, room / "dump", "full")
-    before = jvm.convert(room / "dump_before.hprof")
+    first = room / "dump_before.hprof"
+    before = types.SimpleNamespace(image=jvm.convert(first), graph=graph_of(first))
     for kind in KINDS:
         for seed in range(1, options.seeds + 1):
             yield judged_plant(heap, before, room / "dump_after.hprof", kind, seed, room)
@@ -240,8 +269,7 @@ def work(options):
     heap, passed, failed = jvm.heap_program(), 0, 0
     with tempfile.TemporaryDirectory() as folder:
         room = pathlib.Path(folder)
-        for command in options.java:
-            java = jvm.Java(command, room, ("Judge.java", "LiveBug.java") if options.live else ("Judge.java",))
+        for java in jvm.javas(options.java, room, ("Judge.java", "LiveBug.java") if options.live else ("Judge.java",)):
             for line, good in (live_plants if options.live else dumped_plants)(heap, java, options, room):
                 print(f"{java.version} {line}", flush=True)
                 passed, failed = passed + good, failed + (not good)
@@ -253,8 +281,8 @@ def main():
     parser = argparse.ArgumentParser(description=__doc__, formatter_class=argparse.RawDescriptionHelpFormatter)
     parser.add_argument("java", nargs="+", metavar="JAVA", help="a java: a command or a path")
     parser.add_argument("--live", action="store_true", help="in the heap of a running JVM")
-    parser.add_argument("--objects", type=int, default=20_000, metavar="N", help="about how many objects (default: 20000)")
-    parser.add_argument("--seeds", type=int, default=2, metavar="N", help="how many places for each kind (default: 2)")
+    parser.add_argument("--objects", type=jvm.count, default=20_000, metavar="N", help="about how many objects (default: 20000)")
+    parser.add_argument("--seeds", type=jvm.count, default=2, metavar="N", help="how many places for each kind (default: 2)")
     options = parser.parse_args()
     return jvm.ended("plants", lambda: work(options))
 

@@ -4,8 +4,8 @@ usage() {
     cat <<'END'
 run.sh [--image IMAGE] PROGRAM SIZE W K N [FOLDER]
 
-Compiles examples/java/PROGRAM.java (CacheAndQueue or TreeAndIndex), runs it with SIZE entries, dumps its heap by
-jcmd, and makes an image of N regions of W words and cards of K words. Then for three budgets (a twentieth, a fifth
+Compiles examples/java/PROGRAM.java (CacheAndQueue or TreeAndIndex), runs it with SIZE entries (at most 999999), dumps its
+heap by jcmd, and makes an image of N regions of W words and cards of K words. Then for three budgets (a twentieth, a fifth
 and a half of what all regions together cost) it pauses the image, asks whether the answer is covered, pauses the
 answer again by the same budget, and asks each time by g1heap, where it was built, whether both heaps are the same to
 the program. Last it makes a page with the pictures of the heap before and after the second budget.
@@ -37,6 +37,22 @@ if [ ! -x "$program" ]; then
     exit 2
 fi
 
+stop() {
+    echo "run.sh: $1" >&2
+    exit 2
+}
+
+# What would be refused only after the JVM has run.
+check_words() {
+    case $2 in
+        '' | *[!0-9]* | ???????*) stop "SIZE is '$2', and has to be a number of entries, at most 999999" ;;
+    esac
+    status=0
+    refusal=$("$top/tools/hprof2image.py" /dev/null "$3" "$4" "$5" 2>&1 >/dev/null) || status=$?
+    [ $status -ne 2 ] || stop "$(printf '%s' "$refusal" | tail -n 1)"
+}
+
+[ -n "$image" ] || check_words "$@"
 room=$(mktemp -d)
 java_process=
 clean() {

@@ -1,23 +1,34 @@
 #!/bin/sh
-# judge.sh [DEPTH]: judges OCaml's minor collection, major collection and compaction on the heap of judge.ml. It needs
-# ocamlopt (4.13 or later 4.x) and g1heap on the path. The status is 1 if a collection changed what the program can see, or
-# if the change that the program itself makes at the end is not found.
+# judge.sh [DEPTH]: judges OCaml's minor collection, major collection and compaction on the heap of judge.ml.
 set -eu
 if [ "${1:-}" = --help ]; then
     cat <<'END'
 judge.sh [DEPTH]
 
 Judges OCaml's minor collection, major collection and compaction on the heap of judge.ml, with trees of DEPTH levels
-(16). It needs ocamlopt (4.13 or later 4.x) and g1heap on the path.
+(3 to 18, by default 16). It needs ocamlopt (4.13 or later 4.x) and g1heap on the path.
 Statuses: 0 done; 1 a collection changed what the program can see, or the change that the program itself makes at the
-end is not found; 2 no ocamlopt or no g1heap.
+end is not found; 2 usage, no such ocamlopt or no g1heap.
 END
     exit 0
 fi
-for program in ocamlopt g1heap; do
-    command -v "$program" > /dev/null || { echo "judge.sh: no $program on the path" >&2; exit 2; }
-done
+stop() {
+    echo "judge.sh: $1" >&2
+    exit 2
+}
 depth=${1:-16}
+case $depth in
+    [3-9] | 1[0-8]) ;;
+    *) stop "DEPTH is '$depth', and has to be from 3 to 18" ;;
+esac
+for program in ocamlopt g1heap; do
+    command -v "$program" > /dev/null || stop "no $program on the path"
+done
+version=$(ocamlopt -version)
+case $version in
+    4.1[3-9].*) ;;
+    *) stop "ocamlopt is $version, and the walk is for 4.13 and later 4.x" ;;
+esac
 here=$(cd "$(dirname "$0")" && pwd)
 room=$(mktemp -d)
 trap 'rm -rf "$room"' EXIT

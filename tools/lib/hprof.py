@@ -18,6 +18,7 @@ TYPES = {4: ("boolean", 1), 5: ("char", 2), 6: ("float", 4), 7: ("double", 8), 8
          10: ("int", 4), 11: ("long", 8)}
 LETTERS = {"Z": "boolean", "C": "char", "F": "float", "D": "double", "B": "byte", "S": "short", "I": "int",
            "J": "long"}
+MOST_WORDS = 1 << 24  # of a heap
 STEP = 1 << 22  # bytes that are read between two reports of progress
 
 
@@ -31,6 +32,14 @@ class Refusal(Exception):
 
 def bad(text):
     return Refusal(3, text)
+
+
+def check_words(total, known="the objects take"):
+    """Refuses objects that no heap holds."""
+    if total > MOST_WORDS:
+        raise Refusal(5, f"{known} {total:,} words, and a heap has at most {MOST_WORDS:,}: {100 * MOST_WORDS // total} of 100 "
+                         f"would fit. Dump live objects alone, take what hangs from few fields by --from, or give the "
+                         f"program less to do")
 
 
 class Progress:

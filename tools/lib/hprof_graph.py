@@ -15,13 +15,14 @@ import difflib
 from array import array
 from itertools import chain, compress, repeat
 
-from hprof import (CLASS, INSTANCE, OBJECTS, REFERENCE, Refusal, Shape, bad, instance_shape, name_label, objects_shape,
-                   primitives_shape, quiet)
+from hprof import (CLASS, INSTANCE, OBJECTS, REFERENCE, Refusal, Shape, bad, check_words, instance_shape, name_label,
+                   objects_shape, primitives_shape, quiet)
 
 WEAK_FIELDS = tuple(f"java.lang.ref.Reference.{field}" for field in ("referent", "next", "discovered", "queue"))
 MIRROR = "java.lang.Class"
 BATCH = 1 << 16  # objects between two reports of progress
-USAGE, DANGLING = 2, 4
+OBJECT_BYTES = 220  # of memory that an object of the dump takes, on average
+USAGE, DANGLING, MEMORY = 2, 4, 6
 
 
 def like(name, names):
@@ -62,6 +63,24 @@ def static_field(dump, text):
     return value
 
 
+def free_memory():
+    """How many bytes of memory are free, or None where the system does not say."""
+    try:
+        with open("/proc/meminfo", encoding="ascii") as file:
+            found = next((line for line in file if line.startswith("MemAvailable:")), None)
+    except OSError:
+        found = None
+    return found and 1024 * int(found.split()[1])
+
+
+def check_memory(count):
+    """Refuses a dump of so many objects that they would fill the memory."""
+    needed, free = count * OBJECT_BYTES, free_memory()
+    if free is not None and needed > free:
+        raise Refusal(MEMORY, f"the dump has {count:,} objects, which take about {needed / 1e9:.1f} GB of memory here, and "
+                              f"{free / 1e9:.1f} GB are free")
+
+
 class Members:
     """The objects of one group that were reached: their shape, their identifiers and their places in the dump."""
 
@@ -91,6 +110,7 @@ class Graph:
         self.root_values = [static_field(dump, text) for text in starts]
         self.left_out = {*left_out, *(() if weak else WEAK_FIELDS)}
         self.mirrors = {kind for kind in dump.classes if dump.class_name(kind) == MIRROR}
+        check_memory(sum(len(group.names) for group in dump.groups.values()))
         self.groups = [Members(self.shape_of(*key), group.names, group.places) for key, group in dump.groups.items()]
         self.unreached = self.all_references()
         self.walk()
@@ -123,11 +143,13 @@ class Graph:
     def walk(self):
         """Takes what the roots reach out of `unreached`, breadth first. What was taken before, null, and what the dump
         does not have give no references."""
-        take, none, reached = self.unreached.pop, repeat(()), 0
+        take, none, reached, words = self.unreached.pop, repeat(()), 0, 0
         todo = [self.root_values]
         while todo:
             todo = list(filter(None, map(take, chain.from_iterable(todo), none)))
             reached += len(todo)
+            words += 2 * len(todo) + sum(map(len, todo))  # of headers, labels and slots
+            check_words(words, "what hangs from the fields takes at least")
             self.progress("walking, objects with references", reached)
 
     def keep_reached(self):

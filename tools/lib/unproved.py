@@ -89,6 +89,22 @@ def optimized(flags, module, made):
     return [instead.get(flag, flag) for flag in flags if flag not in ("-fsanitize=address", "-Werror")]
 
 
+def build_changed(top, changes, crate, program):
+    """Builds a crate's program in a changed copy of the repository, without any proof. A change is a file, a text that is
+    in it once, and the text in its place."""
+    if not shutil.which("rt"):
+        raise NotBuilt("there is no rt on the path: it comes with the Rattle kit")
+    with tempfile.TemporaryDirectory(prefix="changed-") as folder:
+        copy = pathlib.Path(folder) / "copy"
+        shutil.copytree(top, copy, ignore=shutil.ignore_patterns("out", ".git", "__pycache__"))
+        for name, old, new in changes:
+            text = (copy / name).read_text(encoding="utf-8")
+            if text.count(old) != 1:
+                raise NotBuilt(f"{name}: '{old}' is not in it once")
+            (copy / name).write_text(text.replace(old, new), encoding="utf-8")
+        build_unproved(copy / "crates" / crate, program)
+
+
 def run(words):
     done = subprocess.run([str(word) for word in words], capture_output=True, text=True, errors="replace", check=False)
     if done.returncode:
