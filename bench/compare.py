@@ -7,8 +7,9 @@ written to be fast, or an older g1pause. --reference says how it is called: `--r
 
 What to run (by default --images without a folder):
   --images FOLDER  every image and trace of a folder. Without a folder two images and two traces are made from a seed
+  --scaling        each command with 1, 2, 4 and 8 workers, on the inputs of --images that have 8 MB or more
   --hostile        inputs that were made to be hard, from a seed (hostile.py), with few and many workers
-  --growth         pauses on eight images of growing size
+  --growth         pauses on eight images of growing size, from 0.6 to 100 MB
 
 A time is the least of all rounds. A peak of memory is the greatest; it is not reported if it is below that of the Python
 that starts the programs. An answer is the bytes on standard output, the status, and the text of a fault. The last line
@@ -35,7 +36,8 @@ import tempfile
 import time
 from typing import NamedTuple
 
-from hostile import IMAGES
+from hostile import INPUTS
+import plot
 
 HERE = pathlib.Path(__file__).resolve().parent
 MB, MS = 1_000_000, 1000
@@ -45,6 +47,8 @@ HUGE = {"GLIBC_TUNABLES": "glibc.malloc.hugetlb=1"}
 CUT = "cut off"
 WITHOUT_WORKERS = ("check",)
 MOST_BUDGET, LEAST_BUDGET = 1 << 25, 1 << 10
+WORKERS = (1, 2, 4, 8)
+GROWING = [round((1 << 24) / 186 ** (i / 7)) for i in range(7, -1, -1)]  # words of heaps whose images have 0.6 to 100 MB
 
 
 class Setting(NamedTuple):
@@ -67,6 +71,7 @@ class Measured(NamedTuple):
 ONE = Setting("1 worker")
 FOUR = Setting("4 workers", ("--workers", "4"))
 LARGE_PAGES = Setting("huge pages", (), HUGE)
+SCALED = [ONE, *(Setting(f"{workers} workers", ("--workers", str(workers))) for workers in WORKERS[1:])]
 MANY = [Setting(f"{workers} x {chunk}", ("--workers", str(workers), "--chunk", str(chunk)))
         for workers, chunk in ((4, 64), (4, 1), (64, 64), (64, 1))]
 
@@ -262,6 +267,41 @@ def plain_table(bench, lines, inputs):
         table.row([kind, str(len(rows)), *(number(mean(column)) for column in zip(*rows))])
 
 
+def scaling_table(bench, lines, inputs, large):
+    """Each command's times with 1, 2, 4 and 8 workers. It returns their means, as multiples of the reference's."""
+    counts = [f"{field} ms: {SCALED[0].name}" if i == 0 else str(count) for field in ("wall", "cpu") for i, count in enumerate(WORKERS)]
+    table = Table(lines, "Scaling", ["input", "command", "MB", "reference wall ms", *counts, "8 x own wall", "answers"])
+    found = {}
+    for name, source in inputs:
+        if source.stat().st_size < large * MB:
+            continue
+        for kind, command in wanted(bench, name, commands_of(bench, source)):
+            if command[0] in WITHOUT_WORKERS:
+                continue
+            row = measure(bench, name, source, command, SCALED)
+            found.setdefault(kind, []).append([row.ratio(field, each) for field in ("wall", "cpu") for each in SCALED])
+            times = [number(MS * getattr(row.least(each), field), 1) for field in ("wall", "cpu") for each in SCALED]
+            table.row([row.name, row.label(), number(source.stat().st_size / MB, 1), number(MS * row.least().wall, 1), *times,
+                       number(row.ratio("wall", SCALED[-1], ONE)), row.answers()])
+    means = {kind: [mean(column) for column in zip(*rows)] for kind, rows in found.items()}
+    titles = [f"x {field}: {SCALED[0].name}" if i == 0 else str(count) for field in ("wall", "cpu") for i, count in enumerate(WORKERS)]
+    table = Table(lines, "Scaling, geometric means", ["command", "inputs", *titles])
+    for kind, ratios_of_kind in means.items():
+        table.row([kind, str(len(found[kind])), *map(number, ratios_of_kind)])
+    return means
+
+
+def draw_scaling(options, lines, means):
+    """The means as a picture, and a line of the page that shows it."""
+    panels = [(title, {kind: values[at:at + len(WORKERS)] for kind, values in means.items()})
+              for title, at in (("wall time / the reference's", 0), ("processor time / the reference's", len(WORKERS)))]
+    title = "Wall time and processor time with 1, 2, 4 and 8 workers, as multiples of the reference's"
+    pathlib.Path(options.plot).write_text(plot.picture(title, WORKERS, panels), encoding="utf-8")
+    if options.write:
+        link = os.path.relpath(options.plot, pathlib.Path(options.write).resolve().parent)
+        lines += ["", f"![{title}]({link})"]
+
+
 def wanted(bench, name, commands):
     return [(kind, command) for kind, command in commands if bench.only in f"{name} {kind}"]
 
@@ -270,7 +310,7 @@ def hostile_table(bench, lines, seed, share):
     table = Table(lines, "Hostile inputs", [*FIRST, "x cpu", "x peak", "g1pause wall ms", *(f"{setting.name}: x own wall" for setting in MANY),
                                             "answers"])
     rows = []
-    for name, (_maker, _what, narrow) in IMAGES.items():
+    for name, (_maker, _what, narrow) in INPUTS.items():
         image, commands = make_hostile(bench, name, seed, share)
         for _kind, command in wanted(bench, name, [(" ".join(words[:4]), words) for words in commands]):
             row = measure(bench, name, image, command, [ONE, *(MANY if narrow else MANY[:1])])
@@ -310,11 +350,16 @@ def exponent(sizes, times):
     return sum((a - x) * (b - y) for a, b in zip(xs, ys)) / sum((a - x) ** 2 for a in xs)
 
 
-def growth_table(bench, lines, seed, smallest=17):
+def growing(words, seed):
+    """How images.py makes a heap of so many words, of which some regions stay free."""
+    return ["4096", "--words", str(words), "--free", "0.22", "--seed", seed]
+
+
+def growth_table(bench, lines, seed):
     table = Table(lines, "Growth", ["MB", "command", "reference cpu ms", "g1pause cpu ms", "x cpu", "x peak", "answers"])
     sizes, found = [], {}
-    for power in range(8):
-        image = make(bench.room, "images.py", "growing.img", ["4096", "--words", str(1 << (smallest + power)), "--seed", seed])
+    for words in GROWING:
+        image = make(bench.room, "images.py", "growing.img", growing(words, seed))
         sizes.append(image.stat().st_size)
         commands = [("pause", ["pause"]), ("pause by budget", ["pause", "--budget", bench.budget(image)])]
         for kind, command in wanted(bench, "growing", commands):
@@ -397,10 +442,11 @@ def write_figures(page, lines):
 
 def options_of(words):
     parser = argparse.ArgumentParser(description=__doc__, formatter_class=argparse.RawDescriptionHelpFormatter,
-                                     usage="compare.py --program FILE --reference WORDS [--images [FOLDER]] [--hostile] [--growth] ..")
+                                     usage="compare.py --program FILE --reference WORDS [--images [FOLDER]] [--scaling] [--hostile] [--growth] ..")
     parser.add_argument("--program", required=True, metavar="FILE", help="the built g1pause")
     parser.add_argument("--reference", required=True, metavar="WORDS", help="the program to compare it with, and words before its command")
     parser.add_argument("--images", nargs="?", const="", metavar="FOLDER")
+    parser.add_argument("--scaling", action="store_true")
     parser.add_argument("--hostile", action="store_true")
     parser.add_argument("--growth", action="store_true")
     parser.add_argument("--rounds", type=int, default=5, metavar="R", help="how often each is run (5)")
@@ -408,6 +454,8 @@ def options_of(words):
     parser.add_argument("--cut", type=float, default=60, metavar="S", help="a run is cut off after S seconds (default: 60)")
     parser.add_argument("--seed", default="1", metavar="S", help="for the inputs that are made (1)")
     parser.add_argument("--share", type=int, default=1, metavar="N", help="hostile inputs that are N times smaller, to try it out")
+    parser.add_argument("--large", type=float, default=8, metavar="MB", help="the least input of --scaling (8 MB)")
+    parser.add_argument("--plot", metavar="FILE", help="with --scaling: also draw its means, as an SVG")
     parser.add_argument("--write", metavar="PAGE", help=f"also put the figures into a page, between '{BEGIN}' and '{END}'")
     if not words:
         parser.print_help(sys.stderr)
@@ -418,7 +466,9 @@ def options_of(words):
             parser.error(f"{name}: no program at {program}")
     if options.write and not {BEGIN, END} <= set(pathlib.Path(options.write).read_text().splitlines()):
         parser.error(f"{options.write} has no lines '{BEGIN}' and '{END}'")
-    if options.images is None and not options.hostile and not options.growth:
+    if options.plot and not options.scaling:
+        parser.error("--plot goes with --scaling")
+    if options.images is None and not (options.scaling or options.hostile or options.growth):
         options.images = ""
     return options
 
@@ -429,6 +479,22 @@ def roomy_folder():
     return str(shared) if shared.is_dir() and os.access(shared, os.W_OK) and shutil.disk_usage(shared).free > 1 << 30 else None
 
 
+def run_tables(options, bench, room, lines):
+    """The tables that are asked for."""
+    if options.images is not None or options.scaling:
+        inputs = of_folder(options.images) if options.images else list(made_here(room, options.seed))
+    if options.images is not None:
+        plain_table(bench, lines, inputs)
+    if options.scaling:
+        means = scaling_table(bench, lines, inputs, options.large)
+        if options.plot and means:
+            draw_scaling(options, lines, means)
+    if options.hostile:
+        hostile_table(bench, lines, options.seed, options.share)
+    if options.growth:
+        growth_table(bench, lines, options.seed)
+
+
 def main():
     options = options_of(sys.argv[1:])
     signal.signal(signal.SIGTERM, lambda *_: sys.exit("ended"))  # so that the folder goes
@@ -436,14 +502,9 @@ def main():
         room = pathlib.Path(folder)
         bench = Bench(options, room)
         lines = []
-        begin = load()
-        if options.images is not None:
-            plain_table(bench, lines, of_folder(options.images) if options.images else made_here(room, options.seed))
-        if options.hostile:
-            hostile_table(bench, lines, options.seed, options.share)
-        if options.growth:
-            growth_table(bench, lines, options.seed)
-        about = [f"Seen on {machine()}; load {begin} before and {load()} after (1, 5, 15 minutes). {options.rounds} rounds. "
+        begin, day = load(), time.strftime("%Y-%m-%d", time.gmtime())
+        run_tables(options, bench, room, lines)
+        about = [f"Seen on {day} on {machine()}; load {begin} before and {load()} after (1, 5, 15 minutes). {options.rounds} round{'s' * (options.rounds > 1)}. "
                  f"The program's SHA-256 begins with {digest(bench.program)}, the reference's with {digest(bench.reference)}.",
                  "", f"Answers: {bench.same} the same, {bench.other} not, {bench.unended} cut off."]
     if options.write:

@@ -1,7 +1,8 @@
 #!/usr/bin/env python3
-"""Writes an image that is hard on a collector: hostile.py NAME FILE [--seed S] [--share N] [--commands]
+"""Writes an input that is hard on a collector: hostile.py NAME FILE [--seed S] [--share N] [--commands]
 
-NAME is one of those that `hostile.py --list` prints. Each image is legal and covered. --share N makes it about N times
+NAME is one of those that `hostile.py --list` prints. All are images except the last, a trace. Each image is legal and
+covered. --share N makes it about N times
 smaller. With --commands it prints the commands that the image is made for, one a line. The same arguments give the same
 bytes.
 """
@@ -98,7 +99,7 @@ def dirty_cards(rng, share):
     heap = Hostile(width, 4, used, min(MOST_REGIONS, 3 * used))
     pairs(rng, heap, range(used * width // 4))
     heap.roots = [2 * rng.randrange(used * width // 2) + 1 for _ in range(1000)]
-    heap.commands = [["check"], ["choose", "--budget", "5000000"], ["pause"], ["pause", "--budget", "BUDGET"]]
+    heap.commands = [["check"], ["live"], ["choose", "--budget", "5000000"], ["pause"], ["pause", "--budget", "BUDGET"]]
     return heap
 
 
@@ -143,8 +144,34 @@ def wide_object(rng, share):
     return heap
 
 
-# Name, maker, what is hard about it, and whether the rounds of its searches are narrow.
-IMAGES = {
+class Trace:
+    """The lines of a trace, and the command that it is made for."""
+
+    def __init__(self, lines):
+        self.lines, self.commands = lines, [["run"]]
+
+    def write(self, file):
+        file.write(("\n".join(self.lines) + "\n").encode())
+
+
+def humongous_objects(rng, share):
+    """20,000 humongous objects of one to three regions. Each takes the place of one of 60, which reference newer ones, and
+    a pause follows each fortieth."""
+    held, every = 60, 40
+    trace = Trace([f"heap 4096 64 512 {held}"])
+    for number in range(max(2 * held, 20_000 // share)):
+        at, other = rng.randrange(held) if number >= held else number, rng.randrange(min(held, number + 1))
+        words = rng.randrange(3 * 1024 + 1, 3 * 4096)
+        slots = rng.choice((1, words // 2))
+        trace.lines += [f"new {at} {slots} {words - 1 - slots}", f"set {at} 0 {number}", f"put {other} 0 {at}",
+                        f"say {other} 0"]
+        if number % every == every - 1:
+            trace.lines.append("pause 2000000")
+    return trace
+
+
+# Name, maker, what is hard about it, and whether the rounds of its searches are narrow. The last one is a trace.
+INPUTS = {
     "chain100k": (lambda rng, share: lists(rng, share, 1, 100_000), "a chain of 100,000 objects: one a round", True),
     "chain1m": (lambda rng, share: lists(rng, share, 1, 1_000_000), "a chain of 1,000,000 objects", True),
     "chain1m_far": (lambda rng, share: lists(rng, share, 1, 1_000_000, True), "a chain of 1,000,000 objects in any order", True),
@@ -156,20 +183,21 @@ IMAGES = {
     "full_sets": (full_sets, "1,600 remembered sets with all 6,396 cards of the others", False),
     "regions16": (small_regions, "2,048 regions of 16 words, all given; one given 100,000 times", False),
     "wide8m": (wide_object, "one object of 8,000,000 slots", False),
+    "humongous20k": (humongous_objects, "a trace of 20,000 humongous objects, 60 of them live, with 500 pauses", False),
 }
 
 
 def made(name, seed, share=1):
-    return IMAGES[name][0](random.Random(f"{seed} {name}"), share)
+    return INPUTS[name][0](random.Random(f"{seed} {name}"), share)
 
 
 def main():
     if sys.argv[1:] == ["--list"]:
-        for name, (_maker, what, _narrow) in IMAGES.items():
+        for name, (_maker, what, _narrow) in INPUTS.items():
             print(f"{name:12} {what}")
         return
     parser = argparse.ArgumentParser(description=__doc__, formatter_class=argparse.RawDescriptionHelpFormatter)
-    parser.add_argument("name", choices=IMAGES, metavar="NAME")
+    parser.add_argument("name", choices=INPUTS, metavar="NAME")
     parser.add_argument("file", metavar="FILE")
     parser.add_argument("--seed", default="1", metavar="S")
     parser.add_argument("--share", type=int, default=1, metavar="N")

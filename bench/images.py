@@ -1,8 +1,8 @@
 #!/usr/bin/env python3
-"""Writes a large heap image without the program: images.py W FILE [--card K] [--words COUNT] [--seed S]
+"""Writes a large heap image without the program: images.py W FILE [--card K] [--words COUNT] [--free SHARE] [--seed S]
 
-The heap has COUNT words (2^24 if not given) in regions of W words and cards of K words (64). About a third of
-the regions are free. The others hold objects mostly of 2 to 10 words, some arrays, and some humongous objects. A
+The heap has COUNT words (2^24 if not given) in regions of W words and cards of K words (64). A share of the regions is
+free, about a third if none is given. The others hold objects mostly of 2 to 10 words, some arrays, and some humongous objects. A
 slot is null, or references an object of its own region, or, more seldom, any object at all. The roots reference few
 objects, so many are dead. A remembered set has exactly the cards outside its region that aren't dirty and hold a slot
 that references an object of the region. The same arguments give the same bytes. Sizes that no image has are refused.
@@ -30,8 +30,8 @@ def sizes_and_refs(rng, region_words, count):
 
 
 class Heap:
-    def __init__(self, region_words, card_words, count, seed):
-        self.rng = random.Random(seed)
+    def __init__(self, region_words, card_words, count, seed, free=0.30):
+        self.rng, self.free = random.Random(seed), free
         self.region_words, self.card_words = region_words, card_words
         self.regions = count // region_words
         self.kinds = [FREE] * self.regions
@@ -46,9 +46,9 @@ class Heap:
         region, at_draw = 0, 0
         while region < self.regions:
             chance = self.rng.random()
-            if chance < 0.30:
+            if chance < self.free:
                 region += 1
-            elif chance < 0.34:
+            elif chance < self.free + 0.04:
                 region += self.place_humongous(region)
             else:
                 at_draw = self.place_ordinary(region, drawn, at_draw)
@@ -182,12 +182,13 @@ def main():
     parser.add_argument("file", metavar="FILE")
     parser.add_argument("--card", type=int, default=64, metavar="K")
     parser.add_argument("--words", type=int, default=1 << 24, metavar="COUNT")
+    parser.add_argument("--free", type=float, default=0.30, metavar="SHARE", help="the share of free regions (0.3)")
     parser.add_argument("--seed", type=int, default=1, metavar="S")
     options = parser.parse_args()
     wrong = wrong_sizes(options.region_words, options.card, options.words)
     if wrong:
         sys.exit(f"images.py: {wrong}")
-    heap = Heap(options.region_words, options.card, options.words, options.seed)
+    heap = Heap(options.region_words, options.card, options.words, options.seed, options.free)
     heap.place()
     heap.link()
     with open(options.file, "wb") as file:
