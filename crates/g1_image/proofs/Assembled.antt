@@ -265,13 +265,14 @@ is_image f fits d g known logged remembered = record {
 }
 
 -- an image made of the heap, the remembered sets and the log of a file that keeps all rules
-pub made_image : (f : File) (h : Heap) (log : List ℕ) → FileFits f → IsDraft h → h ≡ heap_of f → log ≡ f.log → IsGoodHeap (heap_of f) → TableKnown f →
-    LogsGood f → ((r : ℕ) → r < f.n → RememberedGood f r) →
-    IsImage (record { heap = h; remembered = f.remembered; log = log })
-made_image f h log fits d same logs good known logged remembered =
-    subst (λ l. IsImage (record { heap = h; remembered = f.remembered; log = l })) (sym logs)
-    (subst (λ x. IsImage (record { heap = x; remembered = f.remembered; log = f.log })) (sym same) (is_image f fits (subst IsDraft same d) good known logged remembered))
+pub made_image : (f : File) (h : Heap) (remembered : List (List ℕ)) (log : List ℕ) → FileFits f → IsDraft h → h ≡ heap_of f → remembered ≡ f.remembered → log ≡ f.log →
+    IsGoodHeap (heap_of f) → TableKnown f → LogsGood f → ((r : ℕ) → r < f.n → RememberedGood f r) → IsImage (record { heap = h; remembered = remembered; log = log })
+made_image f h remembered log fits d same own logs good known logged sets =
+    subst (λ l. IsImage (record { heap = h; remembered = remembered; log = l })) (sym logs)
+    (subst (λ l. IsImage (record { heap = h; remembered = l; log = f.log })) (sym own)
+    (subst (λ x. IsImage (record { heap = x; remembered = f.remembered; log = f.log })) (sym same) (is_image f fits (subst IsDraft same d) good known logged sets)))
 
-pub made_text : (f : File) (h : Heap) (log : List ℕ) → FileFits f → h ≡ heap_of f → log ≡ f.log → IsGoodHeap (heap_of f) → TableKnown f →
-    file_text f ≡ file_text (file_of f.version (record { heap = h; remembered = f.remembered; log = log }))
-made_text f h log fits same logs good known = ap file_text (sym ((λ t. file_of f.version (record { heap = same t; remembered = f.remembered; log = logs t })) ∙ file_again f fits good known))
+pub made_text : (f : File) (h : Heap) (remembered : List (List ℕ)) (log : List ℕ) → FileFits f → h ≡ heap_of f → remembered ≡ f.remembered → log ≡ f.log → IsGoodHeap (heap_of f) → TableKnown f →
+    file_text f ≡ file_text (file_of f.version (record { heap = h; remembered = remembered; log = log }))
+made_text f h remembered log fits same own logs good known =
+    ap file_text (sym ((λ t. file_of f.version (record { heap = same t; remembered = own t; log = logs t })) ∙ file_again f fits good known))

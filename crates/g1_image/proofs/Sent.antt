@@ -121,3 +121,9 @@ pub rest_written : (a b c : Option (List ℕ)) (front words ys zs : List ℕ) (r
 rest_written a b c front words ys zs (Ok u) p q none f = all_written a b c front words ys p (subst (Sent b c ys []) none q)
 rest_written a b c front words ys zs (Err e) p q none f = subst (λ l. Writes (front ++ l) a c (Err e)) (append-nil words)
     (part_written a c front (words ++ []) e (fails_behind a b c front ys words [] e p f))
+
+-- a text that is written into an empty list is the list's
+pub list_written : (a b : Option (List ℕ)) (xs ys text : List ℕ) → a ≡ Some xs → xs ≡ [] → Appends a b text → Some ys ≡ b → ys ≡ text
+list_written a b xs ys text ea none w eb =
+    let s : Appends (Some xs) (Some ys) text = subst (λ l. Appends (Some xs) l text) (sym eb) (subst (λ l. Appends l b text) ea w) in
+    s ∙ ap (λ l. l ++ text) none

@@ -1,11 +1,11 @@
 -- The first stray slot of some regions, of those of ranges that follow one another.
-use Rattle.std.proofs.Common.{◌≡◌, ◌≤◌, ◌<◌, ℕ, zero, suc, ◌+◌, ◌*◌, ◌⊎◌, inl, inr, List, [], ◌∷◌, length, drop, slice_index, slice_index_or, arith, refl, sym, ap, subst, ◌∙◌}
+use Rattle.std.proofs.Common.{◌≡◌, ◌≤◌, ◌<◌, ℕ, zero, suc, ◌+◌, ◌*◌, inl, inr, List, [], ◌∷◌, length, drop, slice_index, slice_index_or, arith, refl, sym, ap, subst, ◌∙◌}
 use Rattle.std.specs.Prelude.{Option, None, Some}
 use Rattle.std.specs.List.{range_with_len, AllZip}
 use Rattle.std.proofs.lemmas.Bool.{cases_lt}
 use Rattle.std.proofs.Math.Nat.{mul-le-mul_right}
 use Rattle.g1_words.specs.Heap.{Heap, region, start, end}
-use Rattle.g1_words.specs.Valid.{HasObject, IsSlotOf, IsReference}
+use Rattle.g1_words.specs.Valid.{HasObject}
 use Rattle.g1_words.specs.declared.object.Object.{Object}
 use Rattle.g1_words.specs.declared.region.Kind.{Kind}
 use Rattle.g1_words.specs.declared.region.Kind.TheVariants.{Free, Ordinary, HumongousFirst, Continuation}
@@ -14,7 +14,7 @@ use Rattle.g1_work.specs.Ranges.{IsCut}
 use Rattle.g1_image.specs.Draft.{ShapedBelow}
 use Rattle.g1_image.specs.Marks.{StartsIn}
 use Rattle.g1_image.specs.Faults.{IsFirstBreach, IsGoodSlot}
-use Rattle.g1_image.specs.Strays.{SlotsBetween, IsGoodFrom, IsFirstStray, IsFirstStrayIn, AreFirstStrays, StartBefore, first_some}
+use Rattle.g1_image.specs.Strays.{SlotsBetween, IsFirstStray, IsFirstStrayIn, AreFirstStrays, first_some}
 use Rattle.g1_image.proofs.Rows.{in_place, stands_starts}
 
 -- a region that an address lies in

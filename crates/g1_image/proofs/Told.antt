@@ -1,6 +1,6 @@
 -- A text that is read from a source: what its front and its words make of all of it.
-use Rattle.std.proofs.Common.{◌≡◌, ◌≢◌, ◌<◌, inl, inr, ℕ, ◌*◌, Bool, List, [], ◌∷◌, ◌++◌, Option, Some, None, length, drop, arith, sym, ap, subst, ◌∙◌, append_assoc, append-nil, length-append}
-use Rattle.std.specs.Prelude.{IfSome, IfErr, Result, Ok, Err}
+use Rattle.std.proofs.Common.{◌≡◌, ◌≢◌, ◌<◌, inl, inr, ℕ, ◌*◌, Bool, true, false, List, [], ◌∷◌, ◌++◌, Option, Some, None, length, drop, arith, refl, sym, ap, subst, ◌∙◌, append_assoc, append-nil, length-append}
+use Rattle.std.specs.Prelude.{IfSome, IfOk, IfErr, Result, Ok, Err}
 use Rattle.std.proofs.lemmas.List.{get_or_append_left}
 use Rattle.std.specs.Io.KnownBytes.{Keeps, Consumes, IsAtEnd, prepend_known}
 use Rattle.std.proofs.KnownBytes.{prepend_known-nil, prepend_known-read}
@@ -12,7 +12,7 @@ use Rattle.g1_image.specs.Text.{Entry, Version, magic, heading_text, table_words
 use Rattle.g1_image.specs.Reading.{IsBytes}
 use Rattle.g1_image.specs.Faults.{FaultOf, MayFail}
 use Rattle.g1_image.specs.Plain.{PlainIs, FrontFits, front_text}
-use Rattle.g1_image.specs.Source.{ReadFails, input_mark}
+use Rattle.g1_image.specs.Source.{ReadFails, IsReadOut, input_mark}
 use Rattle.g1_image.specs.Ahead.{TakeFails, TextFails}
 use Rattle.g1_image.proofs.Files.{front_read, front_text-flat, front_short, plain_trailing}
 
@@ -141,3 +141,21 @@ mark_stays m n bytes (Err e) h same = same
 pub if_err : {X : Type 0} (r : Result X Fault) (P Q : Fault → Type 0) → ((e : Fault) → P e → Q e) → IfErr r P → IfErr r Q
 if_err (Ok x) P Q f h = tt
 if_err (Err e) P Q f h = f e h
+
+-- a text in memory isn't read for its own fault, or for want of memory
+pub memory_fault : (bytes : List ℕ) (e : Fault) → TextFails false false (Some (bytes ++ [])) e → MayFail bytes e
+memory_fault bytes fault.Memory h = inl refl
+memory_fault bytes (fault.Device device.Input) h = absurd (let clash : false ≡ true = h in cc)
+memory_fault bytes (fault.Device device.Output) h = absurd h
+memory_fault bytes e h = inr (subst (λ l. FaultOf l e) (append-nil bytes) h.1)
+
+-- a source at its end was read out, whatever the answer
+pub read_out_at_end : {X : Type 0} (left : Option (List ℕ)) (r : Result X Fault) → IsAtEnd left → IsReadOut left r
+read_out_at_end left (Ok x) h = h
+read_out_at_end left (Err fault.Memory) h = tt
+read_out_at_end left (Err (fault.Device device.Input)) h = tt
+read_out_at_end left (Err e) h = h
+
+pub if_ok : {X : Type 0} (r : Result X Fault) (P Q : X → Type 0) → ((x : X) → P x → Q x) → IfOk r P → IfOk r Q
+if_ok (Ok x) P Q f h = f x h
+if_ok (Err e) P Q f h = tt

@@ -1,32 +1,29 @@
--- The bytes that were read from a source and wait to be taken, and what taking them says.
-use Rattle.std.specs.Prelude.{◌≡◌, ◌<◌, ◌≤◌, ℕ, Bool, true, IsTrue, IsFalse, List, ◌++◌, length, replicate, slice_range, min, Option, IfSome, ◌-◌}
-use Rattle.std.specs.Io.KnownBytes.{Keeps, Consumes, IsAtEnd, prepend_known}
+-- The bytes of a text that wait to be taken, and what taking them says.
+use Rattle.std.specs.Prelude.{◌≡◌, ◌<◌, ℕ, Bool, true, List, ◌++◌, length, replicate, min, Option, IfSome, ◌-◌}
+use Rattle.std.specs.Io.KnownBytes.{Consumes, IsAtEnd, prepend_known}
 use Rattle.g1_words.specs.declared.fault.Fault.{Fault}
 use Rattle.g1_words.specs.declared.fault.Fault.TheVariants as fault
 use Rattle.g1_words.specs.declared.fault.Device.TheVariants as device
 use Rattle.g1_image.specs.declared.ahead.Ahead.{Ahead}
+use Rattle.g1_image.specs.declared.ahead.Ahead.TheVariants.{Whole, Read}
+use Rattle.g1_image.specs.Buffer.{buffered, SeesEnd}
 use Rattle.g1_image.specs.Text.{words_of}
 use Rattle.g1_image.specs.Reading.{IsBytes}
 use Rattle.g1_image.specs.Faults.{FaultOf}
 
--- the bytes that wait
+-- the bytes that wait: all that is left of a text in memory, or those that were read from a source
 abbrev pub waiting : Ahead → List ℕ
-waiting a = slice_range a.room.items a.start a.end
+waiting (Whole bytes) = bytes
+waiting (Read buffer) = buffered buffer
 
 -- what is still to be taken: the bytes that wait, and behind them those that are left in the source
 abbrev pub to_take : Ahead → Option (List ℕ) → Option (List ℕ)
 to_take a left = prepend_known (waiting a) left
 
--- where the source was seen to end, none is left in it
+-- no source has more of a text in memory; where another source was seen to end, none is left in it
 abbrev pub KnowsEnd : Ahead → Option (List ℕ) → Type 0
-KnowsEnd a left = IsTrue a.ended → IsAtEnd left
-
--- so many bytes wait, or the source has ended before; the mark and what is still to be taken are as before
-pub record IsReadAhead (old_mark new_mark : Bool) (old new left : Option (List ℕ)) (waits : List ℕ) (wanted : ℕ) (found : Bool) : Type 0 where
-  pub mark : new_mark ≡ old_mark
-  pub kept : Keeps old new
-  pub there : IsTrue found → wanted ≤ length waits
-  pub ended : IsFalse found → IsAtEnd left × (length waits < wanted)
+KnowsEnd (Whole bytes) left = IsAtEnd left
+KnowsEnd (Read buffer) left = SeesEnd buffer left
 
 -- these bytes were taken; the mark is as before
 pub record Takes (old_mark new_mark : Bool) (old new : Option (List ℕ)) (taken : List ℕ) : Type 0 where

@@ -1,7 +1,7 @@
 -- What stands in a file before its words, as it was read.
 use Rattle.std.specs.Prelude.{ℕ, List, map}
 use Rattle.g1_image.specs.declared.plain.Front.{Front}
-use Rattle.g1_image.specs.Plain.{PlainIs, FrontFits, front_text, ArePartsOf}
+use Rattle.g1_image.specs.Plain.{FrontFits, front_text, ArePartsOf}
 
 -- its heading is good, its numbers fit, and there are as many as are announced
 abbrev pub IsGoodFront : Front → Type 0
@@ -10,10 +10,6 @@ IsGoodFront f = FrontFits f.version f.heading f.table.items f.roots.items f.log.
 -- its text, and what follows it
 abbrev pub text_of : Front → List ℕ → List ℕ
 text_of f rest = front_text f.version f.heading f.table.items f.roots.items f.log.items (map (λ s. s.items) f.remembered.items) rest
-
--- the bytes are the text of a whole file with this front, whose words have the bytes that follow
-abbrev pub IsWhole : List ℕ → Front → List ℕ → Type 0
-IsWhole bytes f words = PlainIs bytes f.version f.heading f.table.items f.roots.items f.log.items (map (λ s. s.items) f.remembered.items) words
 
 -- the bytes are the text of a whole file with this front and these laid words
 abbrev pub IsLaidOut : List ℕ → Front → List ℕ → Type 0

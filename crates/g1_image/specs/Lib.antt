@@ -9,9 +9,11 @@ pub mod Draft
 pub mod Marks
 pub mod Strays
 pub mod Judged
+pub mod Drafted
 pub mod Cards
 pub mod Laws
 pub mod Verdict
 pub mod Source
 pub mod Sink
+pub mod Buffer
 pub mod Ahead

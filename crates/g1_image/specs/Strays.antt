@@ -1,5 +1,5 @@
 -- Slots that reference no object, found range by range.
-use Rattle.std.specs.Prelude.{◌≡◌, ◌≤◌, ◌<◌, ℕ, ◌+◌, ◌*◌, List, [], ◌∷◌, Option, None, Some, slice_index}
+use Rattle.std.specs.Prelude.{◌≤◌, ◌<◌, ℕ, ◌+◌, ◌*◌, List, [], ◌∷◌, Option, None, Some, slice_index}
 use Rattle.std.specs.List.{range_with_len, AllZip}
 use Rattle.g1_words.specs.Heap.{Heap, start}
 use Rattle.g1_words.specs.Valid.{HasObject, IsSlotOf, IsReference}

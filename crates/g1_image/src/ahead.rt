@@ -1,42 +1,31 @@
-//! The bytes that were read from a source and wait to be taken.
-ghost use Rattle.std.specs.Prelude.{◌≤◌, vec_len};
-
+//! The bytes of a text that wait to be taken.
+use crate::buffer::Buffer;
+use crate::cursor::Cursor;
 use crate::source::Source;
 use g1_words::Fault;
-use std::alloc::{AllocError, Global};
+use std::alloc::Global;
 
-// An image may have 134 million bytes: few calls read it, and a small one doesn't take much room.
-pub(crate) const PIECE: usize = 65_536;
-
-/// The bytes that wait are in the room, from a start to an end. A source that has ended is asked no
-/// more: one more read of a terminal would wait for another line.
+/// The bytes that wait: all that is left of a text in memory, or what was read of one from a source.
 #[derive(Drop)]
-pub(crate) struct Ahead {
-    room: Vec<u8>,
-    start: usize,
-    end: usize,
-    ended: bool,
-    ghost ordered: { start ≤ end },
-    ghost in_room: { end ≤ vec_len room },
+pub(crate) enum Ahead<'a> {
+    Whole(Cursor<'a>),
+    Read(Buffer),
 }
 
-impl Ahead {
-    ghost use Rattle.std.specs.Prelude.{◌≡◌, ◌≤◌, ◌<◌, ◌+◌, ◌^◌, ℕ, [], length, drop, false, vec_len, OnOk, IfOk, IfErr, IsTrue, IsFalse};
-    ghost use Rattle.std.specs.Io.KnownBytes.{Keeps, IsAtEnd};
+impl<'a> Ahead<'a> {
+    ghost use Rattle.std.specs.Prelude.{◌≡◌, ◌≤◌, ◌<◌, ◌^◌, ℕ, List, Option, [], length, drop, OnOk, IfOk, IfErr};
+    ghost use Rattle.std.specs.Io.KnownBytes.{IsAtEnd};
     ghost use Rattle.g1_image.specs.Reading.{IsBytes};
     ghost use Rattle.g1_image.specs.Source.{ReadFails};
-    ghost use Rattle.g1_image.specs.Ahead.{waiting, to_take, KnowsEnd, IsReadAhead};
+    ghost use Rattle.g1_image.specs.Buffer.{IsReadAhead};
+    ghost use Rattle.g1_image.specs.Ahead.{waiting, to_take, KnowsEnd};
 
-    pub(crate) fn new(alloc: Global) -> Ahead
+    /// Nothing was read so far.
+    pub(crate) fn nothing(alloc: Global) -> Ahead<'a>
         ensures none { waiting result ≡ [] }
-        ensures known { result.ended ≡ false }
+        ensures known { (left : Option (List ℕ)) → KnowsEnd result left }
     {
-        Ahead {
-            room: Vec::new(alloc),
-            start: 0,
-            end: 0,
-            ended: false,
-        }
+        Ahead::Read(Buffer::new(alloc))
     }
 
     /// The bytes that wait.
@@ -44,9 +33,10 @@ impl Ahead {
         ensures same { result.now ≡ waiting self.now }
         ensures are_bytes { IsBytes result.now }
     {
-        let (start, end) = (self.start, self.end);
-        let all = self.room.as_slice();
-        &all[start..end]
+        match self {
+            Ahead::Whole(cursor) => cursor.rest(),
+            Ahead::Read(buffer) => buffer.bytes(),
+        }
     }
 
     /// How many bytes wait.
@@ -54,65 +44,19 @@ impl Ahead {
         ensures value { result ≡ length (waiting self.now) }
         ensures bound { result < 2 ^ 63 }
     {
-        self.end - self.start
+        self.bytes().len()
     }
 
     /// Lets go of the first bytes.
     pub(crate) fn pass(&mut self, count: usize)
         requires { count ≤ length (waiting self.old) }
         ensures left { waiting self.new ≡ drop count (waiting self.old) }
-        ensures end { self.new.ended ≡ self.old.ended }
+        ensures end { (left : Option (List ℕ)) → KnowsEnd self.old left → KnowsEnd self.new left }
     {
-        self.start += count;
-    }
-
-    /// Moves the bytes to the front of the room.
-    fn move_to_front(&mut self)
-        ensures same { waiting self.new ≡ waiting self.old }
-        ensures end { self.new.ended ≡ self.old.ended }
-    {
-        let (start, end) = (self.start, self.end);
-        self.room.copy_within(start..end, 0);
-        self.start = 0;
-        self.end = end - start;
-    }
-
-    /// Makes the room twice as large if the bytes reach its end.
-    fn grow(&mut self) -> Result<(), AllocError>
-        ensures same { OnOk result (waiting self.new ≡ waiting self.old) }
-        ensures room { OnOk result (self.new.end < vec_len self.new.room) }
-        ensures end { self.new.ended ≡ self.old.ended }
-    {
-        let end = self.end;
-        if end == self.room.len() {
-            let more = if end < PIECE { PIECE } else { end };
-            self.room.resize(end + more, 0)?;
+        match self {
+            Ahead::Whole(cursor) => cursor.skip(count),
+            Ahead::Read(buffer) => buffer.pass(count),
         }
-        Ok(())
-    }
-
-    /// Reads behind the bytes, and returns whether there were any.
-    fn read_on<S: Source>(&mut self, source: &mut S) -> Result<bool, Fault>
-        requires known { KnowsEnd self.old (S.left source.old) }
-        ensures known { KnowsEnd self.new (S.left source.new) }
-        ensures kept { OnOk result (Keeps (to_take self.old (S.left source.old)) (to_take self.new (S.left source.new))) }
-        ensures more { IfOk result (λ more. IsTrue more → length (waiting self.old) < length (waiting self.new)) }
-        ensures end { IfOk result (λ more. IsFalse more → IsAtEnd (S.left source.new) × (length (waiting self.new) ≡ length (waiting self.old))) }
-        ensures mark { OnOk result (S.failed source.new ≡ S.failed source.old) }
-        ensures err { IfErr result (ReadFails (S.failed source.old) (S.failed source.new)) }
-    {
-        if self.ended {
-            return Ok(false);
-        }
-        if self.start > 0 {
-            self.move_to_front();
-        }
-        self.grow()?;
-        let end = self.end;
-        let count = source.read(&mut self.room[end..])?;
-        self.end = end + count;
-        self.ended = count == 0;
-        Ok(count > 0)
     }
 
     /// Reads until this many bytes wait, and returns whether they do.
@@ -122,12 +66,10 @@ impl Ahead {
         ensures ok { IfOk result (IsReadAhead (S.failed source.old) (S.failed source.new) (to_take self.old (S.left source.old)) (to_take self.new (S.left source.new)) (S.left source.new) (waiting self.new) wanted) }
         ensures err { IfErr result (ReadFails (S.failed source.old) (S.failed source.new)) }
     {
-        while self.len() < wanted {
-            if !self.read_on(source)? {
-                return Ok(false);
-            }
+        match self {
+            Ahead::Whole(cursor) => Ok(cursor.len() >= wanted),
+            Ahead::Read(buffer) => buffer.reach(source, wanted),
         }
-        Ok(true)
     }
 
     /// Reads to the end, and keeps nothing.
@@ -137,14 +79,9 @@ impl Ahead {
         ensures mark { OnOk result (S.failed source.new ≡ S.failed source.old) }
         ensures err { IfErr result (ReadFails (S.failed source.old) (S.failed source.new)) }
     {
-        for _ in 0..u64::MAX {
-            let count = self.len();
-            self.pass(count);
-            if !self.read_on(source)? {
-                return Ok(());
-            }
+        match self {
+            Ahead::Whole(_) => Ok(()),
+            Ahead::Read(buffer) => buffer.drain(source),
         }
-        // No memory would hold an image of so many bytes.
-        Err(Fault::Memory)
     }
 }

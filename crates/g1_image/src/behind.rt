@@ -1,7 +1,7 @@
 //! The bytes that wait to be written.
 ghost use Rattle.std.specs.Prelude.{◌≡◌, ◌≤◌, vec_len};
 
-use crate::ahead::PIECE;
+use crate::buffer::PIECE;
 use crate::sink::{Sink, write_all};
 use byteorder::{ByteOrder, LittleEndian};
 use g1_words::Fault;

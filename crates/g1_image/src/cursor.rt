@@ -1,5 +1,6 @@
-ghost use Rattle.std.specs.Prelude.{◌≡◌, ◌≤◌, ◌<◌, ◌+◌, ◌^◌, ◌++◌, ℕ, List, length, slice_index, ◌≢◌, IfSome, IfNone, OnOk, IfOk, IfErr, IsTrue, ◌↔◌};
+ghost use Rattle.std.specs.Prelude.{◌≡◌, ◌≤◌, ◌<◌, ◌+◌, ◌^◌, ◌++◌, ℕ, List, length, drop, slice_index, ◌≢◌, IfSome, IfNone, OnOk, IfOk, IfErr, IsTrue, ◌↔◌};
 ghost use Rattle.g1_image.specs.Text.{u32 as u32_text, heading_text, digit, magic};
+ghost use Rattle.g1_image.specs.Reading.{IsBytes};
 ghost use Rattle.g1_image.specs.Faults.{HeadingFits, IsGoodHeading, FaultOf};
 
 use byteorder::{ByteOrder, LittleEndian};
@@ -45,10 +46,20 @@ impl Version {
             _ => None,
         }
     }
+
+    /// The digit that the magic of the version ends with.
+    pub(crate) fn digit(self) -> u8
+        ensures { result ≡ digit self }
+    {
+        match self {
+            Version::One => b'1',
+            Version::Two => b'2',
+        }
+    }
 }
 
-/// What the magics of all versions begin with; a digit follows.
-const MAGIC: [u8; 7] = *b"G1IMAGE";
+/// What the text of an image begins with, in each version; the version's digit follows.
+pub const MAGIC: [u8; 7] = *b"G1IMAGE";
 
 /// The bytes that are left to read.
 #[derive(Drop)]
@@ -76,7 +87,8 @@ impl<'a> Cursor<'a> {
 
     /// The bytes that are left.
     pub(crate) fn rest(&self) -> &'a [u8]
-        ensures { result.now ≡ self.now }
+        ensures same { result.now ≡ self.now }
+        ensures are_bytes { IsBytes result.now }
     {
         self.rest
     }
@@ -86,6 +98,15 @@ impl<'a> Cursor<'a> {
         ensures { result ≡ length self.now }
     {
         self.rest.len()
+    }
+
+    /// Passes over the first bytes.
+    pub(crate) fn skip(&mut self, count: usize)
+        requires { count ≤ length self.old }
+        ensures { self.new ≡ drop count self.old }
+    {
+        let (_, rest) = self.rest.split_at(count);
+        self.rest = rest;
     }
 
     /// Takes a number of 32 bits.

@@ -1,17 +1,17 @@
-ghost use Rattle.std.specs.Prelude.{◌≡◌, ◌≤◌, ◌<◌, ◌+◌, ◌*◌, ◌^◌, ◌⊎◌, ℕ, List, map, All, length, OnOk, IfOk, IfErr};
+ghost use Rattle.std.specs.Prelude.{◌≡◌, ◌<◌, ◌*◌, ◌^◌, ◌⊎◌, ℕ, List, All, length, OnOk, IfOk, IfErr};
 ghost use Rattle.g1_image.specs.Image.{IsTextOf};
 ghost use Rattle.g1_image.specs.Faults.{MayFail, IsGoodHeading, AreKnown};
 ghost use Rattle.g1_image.specs.Plain.{heap_of_parts};
 ghost use Rattle.g1_image.specs.Front.{IsLaidOut};
-ghost use Rattle.g1_image.specs.Judged.{TableFault};
+ghost use Rattle.g1_image.specs.Drafted.{IsDraftOf};
+ghost use Rattle.g1_image.specs.Judged.{IsGoodHeap, TableFault};
 
 use crate::cards::{check_log, check_remembered};
 use crate::checks::{check_heap, check_heap_by};
 use crate::cursor::{Entry, Heading};
 use crate::draft::Draft;
 use crate::image::Image;
-use crate::laying::lay_words;
-use crate::plain::{Front, whole};
+use crate::plain::Front;
 use crate::table::{check_flags, regions};
 use g1_words::{Fault, Geometry, Heap};
 use std::alloc::Global;
@@ -51,10 +51,18 @@ fn draft_heap(
     })
 }
 
-/// The image of a whole file's front and words.
-pub(crate) fn image_of(alloc: Global, front: Front, words: Vec<u64>) -> Result<Image, Fault>
+/// An image whose heap and cards haven't been looked at.
+#[derive(Drop)]
+struct DraftImage {
+    draft: Draft,
+    log: Vec<u32>,
+    remembered: Vec<Vec<u32>>,
+}
+
+/// The image in a whole file's front and words, before it is checked.
+fn draft_image(alloc: Global, front: Front, words: Vec<u64>) -> Result<DraftImage, Fault>
     requires { (bytes : List ℕ) × IsLaidOut bytes front words.items }
-    ensures ok { IfOk result (λ i. (bytes : List ℕ) → IsLaidOut bytes front words.items → IsTextOf bytes i) }
+    ensures ok { IfOk result (λ d. (bytes : List ℕ) → IsLaidOut bytes front words.items → IsDraftOf bytes d) }
     ensures err { IfErr result (λ e. (bytes : List ℕ) → IsLaidOut bytes front words.items → MayFail bytes e) }
 {
     let Front {
@@ -62,11 +70,29 @@ pub(crate) fn image_of(alloc: Global, front: Front, words: Vec<u64>) -> Result<I
         heading,
         table,
         roots,
-        log: cards,
+        log,
         remembered,
     } = front;
     let draft = draft_heap(alloc, &heading, &table, roots, words)?;
-    check_heap(alloc, &draft)?;
+    Ok(DraftImage {
+        draft,
+        log,
+        remembered,
+    })
+}
+
+/// The image of a draft whose heap is good, or the first fault of its cards.
+fn finish(alloc: Global, drafted: DraftImage) -> Result<Image, Fault>
+    requires good { IsGoodHeap drafted.draft }
+    requires text { (bytes : List ℕ) × IsDraftOf bytes drafted }
+    ensures ok { IfOk result (λ i. (bytes : List ℕ) → IsDraftOf bytes drafted → IsTextOf bytes i) }
+    ensures err { IfErr result (λ e. (bytes : List ℕ) → IsDraftOf bytes drafted → MayFail bytes e) }
+{
+    let DraftImage {
+        draft,
+        log: cards,
+        remembered,
+    } = drafted;
     let log = check_log(alloc, &draft, &cards)?;
     check_remembered(&draft, &remembered)?;
     let heap = Heap {
@@ -81,6 +107,17 @@ pub(crate) fn image_of(alloc: Global, front: Front, words: Vec<u64>) -> Result<I
         remembered,
         log,
     })
+}
+
+/// The image of a whole file's front and words.
+pub(crate) fn image_of(alloc: Global, front: Front, words: Vec<u64>) -> Result<Image, Fault>
+    requires { (bytes : List ℕ) × IsLaidOut bytes front words.items }
+    ensures ok { IfOk result (λ i. (bytes : List ℕ) → IsLaidOut bytes front words.items → IsTextOf bytes i) }
+    ensures err { IfErr result (λ e. (bytes : List ℕ) → IsLaidOut bytes front words.items → MayFail bytes e) }
+{
+    let drafted = draft_image(alloc, front, words)?;
+    check_heap(alloc, &drafted.draft)?;
+    finish(alloc, drafted)
 }
 
 /// As `image_of`, with this many workers at most. One if it is 0.
@@ -95,38 +132,7 @@ pub(crate) fn image_of_by(
     ensures ok { IfOk result (λ i. (bytes : List ℕ) → IsLaidOut bytes front words.items → IsTextOf bytes i) }
     ensures err { IfErr result (λ e. (bytes : List ℕ) → IsLaidOut bytes front words.items → MayFail bytes e) }
 {
-    let Front {
-        version: _,
-        heading,
-        table,
-        roots,
-        log: cards,
-        remembered,
-    } = front;
-    let draft = draft_heap(alloc, &heading, &table, roots, words)?;
-    check_heap_by(rt, alloc, &draft, workers)?;
-    let log = check_log(alloc, &draft, &cards)?;
-    check_remembered(&draft, &remembered)?;
-    let heap = Heap {
-        geometry: draft.geometry,
-        words: draft.words,
-        regions: draft.regions,
-        roots: draft.roots,
-        current: draft.current,
-    };
-    Ok(Image {
-        heap,
-        remembered,
-        log,
-    })
-}
-
-/// The image whose text the bytes are, or the fault of the first stage that finds one.
-pub fn decode(alloc: Global, bytes: &[u8]) -> Result<Image, Fault>
-    ensures ok { IfOk result (λ i. IsTextOf bytes.now i) }
-    ensures err { IfErr result (MayFail bytes.now) }
-{
-    let (front, words) = whole(alloc, bytes)?;
-    let words = lay_words(alloc, front.heading.w, &front.table, words)?;
-    image_of(alloc, front, words)
+    let drafted = draft_image(alloc, front, words)?;
+    check_heap_by(rt, alloc, &drafted.draft, workers)?;
+    finish(alloc, drafted)
 }

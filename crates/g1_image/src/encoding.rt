@@ -5,10 +5,10 @@ ghost use Rattle.g1_image.specs.Image.{flags_of, entry_of, file_of, IsTextIn};
 use crate::cursor::{Heading, Version};
 use crate::image::Image;
 use crate::writing::{
-    push_heading, push_number, push_numbers, push_remembered, push_used, push_words,
+    push_heading, push_magic, push_number, push_numbers, push_remembered, push_words,
 };
-use g1_words::{Fault, Region};
-use std::alloc::{AllocError, Global};
+use g1_words::Region;
+use std::alloc::AllocError;
 
 /// The flags of a region that is pinned or isn't.
 fn flags_of(pinned: bool) -> u32
@@ -44,28 +44,11 @@ pub(crate) fn write_front(out: &mut Vec<u8>, image: &Image) -> Result<(), AllocE
         current: heap.current().unwrap_or(geometry.regions() as u32),
     };
     out.clear();
-    out.extend_from_slice(b"G1IMAGE2")?;
+    push_magic(out, Version::Two)?;
     push_heading(out, &heading)?;
     push_table(out, heap.regions())?;
     push_words(out, heap.roots())?;
     push_numbers(out, log)?;
     push_remembered(out, image.remembered())?;
     Ok(())
-}
-
-/// The text of an image, of version 2.
-pub fn encode(alloc: Global, image: &Image) -> Result<Vec<u8>, Fault>
-    ensures ok { IfOk result (λ v. IsTextIn Version.Two v.items image.now) }
-    ensures err { IfErr result (λ e. e ≡ Fault.Memory) }
-{
-    let mut out = Vec::new(alloc);
-    write_front(&mut out, image)?;
-    let heap = image.heap();
-    push_used(
-        &mut out,
-        heap.geometry().region_words() as usize,
-        heap.regions(),
-        heap.words(),
-    )?;
-    Ok(out)
 }

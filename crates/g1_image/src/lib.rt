@@ -2,18 +2,23 @@
 //!
 //! An image is a heap with each region's remembered set and the dirty log. Its text is the magic, a
 //! heading of six numbers, the region table, the roots, the log, the remembered sets and the used
-//! words. `decode` reads forward once: the parts, then the regions' kinds and shapes, the
-//! references and the cards, and returns the fault of the first of these stages that finds one.
-//! `read` does so with the bytes that a source gives piece by piece: what precedes the words is
-//! looked for in twice as many bytes until it is there whole, the words go straight to their
-//! places, and the source is read to its end whatever fault its bytes have. `read_by` shares the
-//! slots among this many workers at most: each has a range of the regions, and the first range with
-//! a slot that references no object has the lowest. `write` sends the text of an image to a sink
-//! the same way: what precedes the words whole, and the words in pieces.
+//! words.
+//!
+//! `read` reads forward once: the parts, then the regions' kinds and shapes, the references and the
+//! cards, and returns the fault of the first of these stages that finds one. The source gives its
+//! bytes piece by piece. What precedes the words is looked for in twice as many bytes until it is
+//! there whole, the words go straight to their places, and the source is read to its end whatever
+//! fault its bytes have. `decode` reads bytes in memory the same way, as if they had all been read
+//! ahead. `read_by` shares the slots among this many workers at most: each has a range of the
+//! regions, and the first range with a slot that references no object has the lowest.
+//!
+//! `write` sends the text of an image to a sink: what precedes the words whole, and the words in
+//! pieces. `encode` writes it into a list.
 #![tactic(auto)]
 
 mod ahead;
 mod behind;
+mod buffer;
 mod cards;
 mod checks;
 mod cursor;
@@ -22,7 +27,6 @@ mod draft;
 mod encoding;
 mod image;
 pub mod laws;
-mod laying;
 mod pieces;
 mod plain;
 mod reading;
@@ -37,11 +41,10 @@ mod streaming;
 mod table;
 mod writing;
 
-pub use decoding::decode;
-pub use encoding::encode;
+pub use cursor::MAGIC;
 pub use image::Image;
-pub use sending::write;
+pub use sending::{encode, write};
 pub use sink::Sink;
 pub use source::Source;
 pub use std_streams::{FromReader, ToWriter};
-pub use streaming::{read, read_by};
+pub use streaming::{decode, read, read_by};

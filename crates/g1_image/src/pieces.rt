@@ -1,4 +1,4 @@
-//! The words of an image, straight from a source to their places.
+//! The words of an image, straight from their bytes to their places.
 ghost use Rattle.std.specs.Prelude.{◌≡◌, ◌≤◌, ◌<◌, ◌*◌, ◌^◌, ◌++◌, ◌+◌, ℕ, List, [], length, replicate, OnOk, IfOk, IfErr};
 ghost use Rattle.std.specs.Io.KnownBytes.{Keeps};
 ghost use Rattle.g1_words.specs.Geometry.{most_regions, most_words};
@@ -10,11 +10,32 @@ ghost use Rattle.g1_image.specs.Growing.{laid_words};
 
 use crate::ahead::Ahead;
 use crate::cursor::Entry;
-use crate::laying::{push_read, push_zeros};
 use crate::source::Source;
 use crate::table::table_words as announced;
+use byteorder::{ByteOrder, LittleEndian};
 use g1_words::Fault;
-use std::alloc::Global;
+use std::alloc::{AllocError, Global};
+
+/// Writes the first words of the bytes at the end.
+fn push_read(out: &mut Vec<u64>, count: u32, bytes: &[u8]) -> Result<(), AllocError>
+    requires { 8 * count ≤ length bytes.now }
+    ensures { OnOk result (out.new.items ≡ out.old.items ++ words_of count bytes.now) }
+{
+    let start = out.len();
+    let count = count as usize;
+    out.resize(start + count, 0)?;
+    LittleEndian::read_u64_into(&bytes[..8 * count], &mut out[start..]);
+    Ok(())
+}
+
+/// Writes zeros at the end.
+fn push_zeros(out: &mut Vec<u64>, count: u32) -> Result<(), AllocError>
+    ensures { OnOk result (out.new.items ≡ out.old.items ++ replicate count 0) }
+{
+    let filled = out.len() + count as usize;
+    out.resize(filled, 0)?;
+    Ok(())
+}
 
 /// How many whole words wait: at least one, and no more than are wanted.
 fn words_ahead<S: Source>(source: &mut S, ahead: &mut Ahead, wanted: u32) -> Result<u32, Fault>

@@ -1,5 +1,5 @@
-//! The text of an image, to a sink.
-ghost use Rattle.std.specs.Prelude.{◌≡◌, ◌≤◌, ◌*◌, ℕ, List, length, All, OnOk, IfErr};
+//! The text of an image, to a sink or into a list.
+ghost use Rattle.std.specs.Prelude.{◌≡◌, ◌≤◌, ◌*◌, ℕ, List, length, All, OnOk, IfOk, IfErr};
 ghost use Rattle.g1_image.specs.Text.{words_text};
 ghost use Rattle.g1_image.specs.Image.{used_words, IsTextIn};
 ghost use Rattle.g1_image.specs.Source.{marked};
@@ -10,6 +10,7 @@ use crate::cursor::Version;
 use crate::encoding::write_front;
 use crate::image::Image;
 use crate::sink::Sink;
+use crate::std_streams::ToWriter;
 use g1_words::{Fault, Region};
 use std::alloc::Global;
 
@@ -60,4 +61,17 @@ pub fn write<S: Sink>(alloc: Global, image: &Image, sink: &mut S) -> Result<(), 
         heap.words(),
     )?;
     behind.flush(sink)
+}
+
+/// The text of an image, of version 2.
+pub fn encode(alloc: Global, image: &Image) -> Result<Vec<u8>, Fault>
+    ensures ok { IfOk result (λ v. IsTextIn Version.Two v.items image.now) }
+    ensures err { IfErr result (λ e. e ≡ Fault.Memory) }
+{
+    let mut sink = ToWriter::new(Vec::new(alloc));
+    match write(alloc, image, &mut sink) {
+        Ok(()) => Ok(sink.into_inner()),
+        // A list takes no more bytes only if memory runs out.
+        Err(_) => Err(Fault::Memory),
+    }
 }

@@ -1,5 +1,5 @@
 //! Where the bytes of an image come from.
-ghost use Rattle.std.specs.Prelude.{◌≡◌, ℕ, ◌≤◌, Bool, List, Option, IfOk, IfErr, length};
+ghost use Rattle.std.specs.Prelude.{◌≡◌, ℕ, ◌≤◌, Bool, false, List, [], Option, Some, IfOk, IfErr, length};
 ghost use Rattle.std.specs.Io.KnownBytes.{ReadConsumes};
 ghost use Rattle.g1_image.specs.Source.{marked};
 
@@ -24,4 +24,18 @@ pub trait Source {
         ensures bytes { ReadConsumes (left self.old) (left self.new) result buf.new }
         ensures mark { failed self.new ≡ marked (failed self.old) result }
         ensures fault { IfErr result (λ e. e ≡ Fault.Device Device.Input) };
+}
+
+/// What a text in memory has behind it: no byte.
+#[derive(Drop)]
+pub(crate) struct Nothing;
+
+impl Source for Nothing {
+    ghost left = { λ s. Some [] };
+
+    ghost failed = { λ s. false };
+
+    fn read(&mut self, _buf: &mut [u8]) -> Result<usize, Fault> {
+        Ok(0)
+    }
 }

@@ -1,4 +1,4 @@
-//! The image in a source.
+//! The image in bytes: in memory, or in a source.
 ghost use Rattle.std.specs.Prelude.{◌≡◌, ◌≢◌, ◌≤◌, ◌<◌, ◌⊎◌, ◌++◌, ℕ, List, [], length, drop, map, IfSome, OnOk, IfOk, IfErr, IsTrue, IsFalse};
 ghost use Rattle.std.specs.Io.KnownBytes.{IsAtEnd, Consumes};
 ghost use Rattle.g1_image.specs.Source.{IsReadOut, input_mark};
@@ -7,12 +7,14 @@ ghost use Rattle.g1_image.specs.Faults.{FaultOf, MayFail};
 ghost use Rattle.g1_image.specs.Front.{IsGoodFront, text_of, IsLaidOut};
 ghost use Rattle.g1_image.specs.Ahead.{to_take, KnowsEnd, TextFails};
 
-use crate::ahead::{Ahead, PIECE};
+use crate::ahead::Ahead;
+use crate::buffer::PIECE;
+use crate::cursor::Cursor;
 use crate::decoding::{image_of, image_of_by};
 use crate::image::Image;
 use crate::pieces::lay_pieces;
 use crate::plain::{Front, read_front};
-use crate::source::Source;
+use crate::source::{Nothing, Source};
 use g1_words::{Device, Fault};
 use std::alloc::Global;
 use std::thread::Threads;
@@ -96,6 +98,37 @@ fn take_parts<S: Source>(
     Ok((front, words))
 }
 
+/// The front and the words of the text that is left in a source, read to its end.
+fn read_parts<S: Source>(alloc: Global, source: &mut S) -> Result<(Front, Vec<u64>), Fault>
+    ensures ok { IfOk result (λ x. (bytes : List ℕ) × IsLaidOut bytes x.0 x.1.items × IfSome (S.left source.old) (λ xs. xs ≡ bytes)) }
+    ensures err { IfErr result (λ e. (e ≡ Fault.Device Device.Input) ⊎ IfSome (S.left source.old) (λ xs. MayFail xs e)) }
+    ensures no_output { IfErr result (λ e. e ≢ Fault.Device Device.Output) }
+    ensures end { IsReadOut (S.left source.new) result }
+    ensures marks { S.failed source.new ≡ input_mark (S.failed source.old) result }
+{
+    let mut ahead = Ahead::nothing(alloc);
+    match take_parts(alloc, source, &mut ahead) {
+        Ok(parts) => Ok(parts),
+        Err(fault) => {
+            // The rest is read too, so that a read that fails there is reported.
+            if is_of_bytes(&fault) {
+                ahead.drain(source)?;
+            }
+            Err(fault)
+        }
+    }
+}
+
+/// The image whose text the bytes are, or the fault of the first stage that finds one.
+pub fn decode(alloc: Global, bytes: &[u8]) -> Result<Image, Fault>
+    ensures ok { IfOk result (λ i. IsTextOf bytes.now i) }
+    ensures err { IfErr result (MayFail bytes.now) }
+{
+    let cursor = Cursor::new(bytes);
+    let (front, words) = take_parts(alloc, &mut Nothing, &mut Ahead::Whole(cursor))?;
+    image_of(alloc, front, words)
+}
+
 /// The image whose text is left in a source, read to its end: as `decode` of those bytes, but the words
 /// go straight to their places, and the text is never in memory as a whole. Their list grows with the
 /// words that are there: a short text that announces a large heap takes no room for it.
@@ -110,17 +143,8 @@ pub fn read<S: Source>(alloc: Global, source: &mut S) -> Result<Image, Fault>
     ensures end { IsReadOut (S.left source.new) result }
     ensures marks { S.failed source.new ≡ input_mark (S.failed source.old) result }
 {
-    let mut ahead = Ahead::new(alloc);
-    match take_parts(alloc, source, &mut ahead) {
-        Ok((front, words)) => image_of(alloc, front, words),
-        Err(fault) => {
-            // The rest is read too, so that a read that fails there is told.
-            if is_of_bytes(&fault) {
-                ahead.drain(source)?;
-            }
-            Err(fault)
-        }
-    }
+    let (front, words) = read_parts(alloc, source)?;
+    image_of(alloc, front, words)
 }
 
 /// As `read`, with this many workers at most. One if it is 0.
@@ -143,15 +167,6 @@ pub fn read_by<S: Source>(
     ensures end { IsReadOut (S.left source.new) result }
     ensures marks { S.failed source.new ≡ input_mark (S.failed source.old) result }
 {
-    let mut ahead = Ahead::new(alloc);
-    match take_parts(alloc, source, &mut ahead) {
-        Ok((front, words)) => image_of_by(rt, alloc, front, words, workers),
-        Err(fault) => {
-            // The rest is read too, so that a read that fails there is told.
-            if is_of_bytes(&fault) {
-                ahead.drain(source)?;
-            }
-            Err(fault)
-        }
-    }
+    let (front, words) = read_parts(alloc, source)?;
+    image_of_by(rt, alloc, front, words, workers)
 }

@@ -28,10 +28,10 @@ returns c =
     let empty : c.clear.new.self.items ≡ [] = search rules in (
       c.heap-heap.ensures.valid,
       tt,
-      file_written (file_of Two i) c.extend_from_slice.new.self.items c.push_heading.new.out.items c.push_table.new.out.items
+      file_written (file_of Two i) c.push_magic.new.out.items c.push_heading.new.out.items c.push_table.new.out.items
           c.push_words.new.out.items c.push_numbers.new.out.items c.push_remembered.new.out.items
-          (c.in_ok-extend_from_slice.ensures.items ∙ (λ t. empty t ++ magic Two))
-          (c.in_ok-push_heading.ensures ∙ (λ t. c.extend_from_slice.new.self.items ++ heading_text (first t)))
+          (c.in_ok-push_magic.ensures ∙ (λ t. empty t ++ magic Two))
+          (c.in_ok-push_heading.ensures ∙ (λ t. c.push_magic.new.out.items ++ heading_text (first t)))
           (c.in_ok-push_table.ensures ∙ (λ t. c.push_heading.new.out.items ++ table_text Two (map entry_of (table t))))
           (c.in_ok-push_words.ensures ∙ (λ t. c.push_table.new.out.items ++ words_text (roots t)))
           (c.in_ok-push_numbers.ensures ∙ (λ t. c.push_words.new.out.items ++ numbers_text (log t)))

@@ -1,4 +1,4 @@
-use Rattle.std.proofs.Common.{sym, ap, ◌∙◌, ◌++◌}
+use Rattle.std.proofs.Common.{ap, ◌∙◌, ◌++◌}
 use Rattle.std.proofs.lemmas.Result.{err_from_is_err_and}
 use Rattle.g1_image.specs.Text.{words_of}
 use Rattle.g1_image.specs.Ahead.{waiting}
@@ -27,7 +27,7 @@ loop-left-preserved g c =
     let now = c.words_ahead.new.ahead in
     let here = c.in_ok-here.here in
     record {
-      known = λ t. c.words_ahead.ensures.known (sym c.pass.ensures.end ∙ t);
+      known = c.pass.ensures.end _ c.words_ahead.ensures.known;
       part = pushed_more _ _ _ _ _ (g.S.Source.left c.words_ahead.new.source) c.args.count c.loop-left.left here (waiting now)
           (waiting c.pass.new.self) c.args.out.now.items c.loop-left.out.items c.push_read.new.out.items
           c.loop-left.invariant.part c.in_ok-here.ensures.mark c.in_ok-here.ensures.kept

@@ -1,4 +1,4 @@
-use Rattle.std.proofs.Common.{◌≡◌, ◌-◌, ◌∙◌, [], ◌++◌, min, arith, sym, ap, length-append}
+use Rattle.std.proofs.Common.{◌≡◌, ◌∙◌, [], ◌++◌, min, arith, sym, ap, length-append}
 use Rattle.g1_image.specs.Text.{words_of}
 use Rattle.g1_image.specs.Ahead.{region_words}
 use Rattle.g1_image.specs.Growing.{laid_words}

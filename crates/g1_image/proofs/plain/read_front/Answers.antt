@@ -9,7 +9,7 @@ use Rattle.g1_image.proofs.plain.read_front.Goals.{After-rest}
 
 -- the bytes are the magic, the heading and the rest
 opened : (c : After-rest) → c.args.bytes.now ≡ magic c.in_ok-heading.version ++ (heading_text c.in_ok-heading.heading ++ c.rest.result.now)
-opened c = sym c.new-cursor.ensures ∙ c.in_ok-heading.ensures.ok.2 ∙ ap (λ l. magic c.in_ok-heading.version ++ (heading_text c.in_ok-heading.heading ++ l)) (sym c.rest.ensures)
+opened c = sym c.new-cursor.ensures ∙ c.in_ok-heading.ensures.ok.2 ∙ ap (λ l. magic c.in_ok-heading.version ++ (heading_text c.in_ok-heading.heading ++ l)) (sym c.rest.ensures.same)
 
 pub returns-in_err-heading-clause-err : goal.returns-in_err-heading-clause-err
 returns-in_err-heading-clause-err c =

@@ -1,5 +1,4 @@
 use Rattle.std.proofs.Common.{◌*◌, refl, subst}
-use Rattle.std.specs.Prelude.{None, Some}
 use Rattle.g1_image.specs.Strays.{IsFirstStray}
 use Rattle.g1_image.proofs.StraySlots.{no_stray, stray_breach}
 use Rattle.g1_image.proofs.strays.fault_of.Goals as goal

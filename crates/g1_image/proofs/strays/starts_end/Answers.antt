@@ -1,5 +1,5 @@
-use Rattle.std.proofs.Common.{◌≡◌, ◌<◌, ◌+◌, ◌*◌, ap, arith, subst, sym, ◌∙◌}
-use Rattle.g1_words.specs.Heap.{region, start, end}
+use Rattle.std.proofs.Common.{◌≡◌, ◌<◌, ◌*◌, ap, arith, subst, sym, ◌∙◌}
+use Rattle.g1_words.specs.Heap.{region, start}
 use Rattle.g1_words.specs.declared.region.Kind.TheVariants.{Free, Ordinary, HumongousFirst, Continuation}
 use Rattle.g1_image.specs.Marks.{StartsIn}
 use Rattle.g1_image.proofs.StraySlots.{starts_here}

@@ -1,41 +1,63 @@
-use Rattle.std.proofs.Common.{◌≡◌, ◌≢◌, ◌⊎◌, List, ℕ, inr, map, subst}
+use Rattle.std.proofs.Common.{◌≡◌, ◌≢◌, ◌⊎◌, List, ℕ, inr}
 use Rattle.std.specs.Prelude.{IfSome}
+use Rattle.std.proofs.lemmas.Result.{err_from_is_err_and}
 use Rattle.g1_words.specs.declared.fault.Fault.TheVariants as fault
 use Rattle.g1_words.specs.declared.fault.Device.TheVariants as device
-use Rattle.g1_image.specs.Ahead.{waiting}
-use Rattle.g1_image.specs.Plain.{ArePartsOf}
+use Rattle.g1_image.specs.Image.{IsTextOf}
+use Rattle.g1_image.specs.Front.{IsLaidOut}
 use Rattle.g1_image.specs.Faults.{MayFail}
-use Rattle.g1_image.proofs.Told.{none_waits, of_all, if_err, mark_stays, no_output}
+use Rattle.g1_image.proofs.Told.{of_all, if_ok, if_err, mark_stays, no_output, read_out_at_end}
 use Rattle.g1_image.proofs.streaming.read.Goals as goal
 
-pub returns-in-Ok-clause-err : goal.returns-in-Ok-clause-err
-returns-in-Ok-clause-err g c =
-    let f = c.in-Ok.front in
-    let sets = map (λ s. s.items) f.remembered.items in
+pub returns-in_err-front-clause-err : goal.returns-in_err-front-clause-err
+returns-in_err-front-clause-err g c =
+    let left = err_from_is_err_and c.from_residual.result c.from_residual.ensures.1 in
+    rw (left.1, left.2) c.in_err-front.ensures.err
+
+pub returns-in_err-front-clause-no_output : goal.returns-in_err-front-clause-no_output
+returns-in_err-front-clause-no_output g c =
+    let left = err_from_is_err_and c.from_residual.result c.from_residual.ensures.1 in
+    rw (left.1, left.2) c.in_err-front.ensures.no_output
+
+pub returns-in_err-front-clause-end : goal.returns-in_err-front-clause-end
+returns-in_err-front-clause-end g c =
+    let left = err_from_is_err_and c.from_residual.result c.from_residual.ensures.1 in
+    rw (left.1, left.2) c.in_err-front.ensures.end
+
+pub returns-in_err-front-clause-marks : goal.returns-in_err-front-clause-marks
+returns-in_err-front-clause-marks g c =
+    let left = err_from_is_err_and c.from_residual.result c.from_residual.ensures.1 in
+    rw (left.1, left.2) c.in_err-front.ensures.marks
+
+pub returns-clause-ok : goal.returns-clause-ok
+returns-clause-ok g c =
     let left = g.S.Source.left c.args.source.now in
-    let is = c.in-Ok.ensures.ok in
-    let all : IfSome left (λ xs. xs ≡ is.0) = subst (λ a. IfSome a (λ xs. xs ≡ is.0)) (none_waits (waiting c.new-ahead.result) left c.new-ahead.ensures.none) is.2 in
-    if_err c.image_of.result
-    (λ e. (bytes : List ℕ) → ArePartsOf bytes f.version f.heading f.table.items f.roots.items f.log.items sets c.in-Ok.words.items → MayFail bytes e)
+    let is = c.in_ok-front.ensures.ok in
+    if_ok c.image_of.result (λ i. (bytes : List ℕ) → IsLaidOut bytes c.in_ok-front.front c.in_ok-front.words.items → IsTextOf bytes i)
+    (λ i. IfSome left (λ xs. IsTextOf xs i))
+    (λ i h. of_all left is.0 (λ xs. IsTextOf xs i) is.2 (h is.0 is.1)) c.image_of.ensures.ok
+
+pub returns-clause-err : goal.returns-clause-err
+returns-clause-err g c =
+    let left = g.S.Source.left c.args.source.now in
+    let is = c.in_ok-front.ensures.ok in
+    if_err c.image_of.result (λ e. (bytes : List ℕ) → IsLaidOut bytes c.in_ok-front.front c.in_ok-front.words.items → MayFail bytes e)
     (λ e. (e ≡ fault.Device device.Input) ⊎ IfSome left (λ xs. MayFail xs e))
-    (λ e h. inr (of_all left is.0 (λ xs. MayFail xs e) all (h is.0 is.1))) c.image_of.ensures.err
+    (λ e h. inr (of_all left is.0 (λ xs. MayFail xs e) is.2 (h is.0 is.1))) c.image_of.ensures.err
 
-pub returns-in-Ok-clause-marks : goal.returns-in-Ok-clause-marks
-returns-in-Ok-clause-marks g c =
-    let f = c.in-Ok.front in
-    let sets = map (λ s. s.items) f.remembered.items in
-    let is = c.in-Ok.ensures.ok in
+pub returns-clause-no_output : goal.returns-clause-no_output
+returns-clause-no_output g c =
+    let is = c.in_ok-front.ensures.ok in
+    if_err c.image_of.result (λ e. (bytes : List ℕ) → IsLaidOut bytes c.in_ok-front.front c.in_ok-front.words.items → MayFail bytes e)
+    (λ e. e ≢ fault.Device device.Output) (λ e h. no_output is.0 e (h is.0 is.1)) c.image_of.ensures.err
+
+pub returns-clause-end : goal.returns-clause-end
+returns-clause-end g c = read_out_at_end _ c.image_of.result c.in_ok-front.ensures.end
+
+pub returns-clause-marks : goal.returns-clause-marks
+returns-clause-marks g c =
+    let is = c.in_ok-front.ensures.ok in
     mark_stays _ _ is.0 c.image_of.result
-    (if_err c.image_of.result
-    (λ e. (bytes : List ℕ) → ArePartsOf bytes f.version f.heading f.table.items f.roots.items f.log.items sets c.in-Ok.words.items →
-    MayFail bytes e) (λ e. MayFail is.0 e) (λ e h. h is.0 is.1) c.image_of.ensures.err)
-    c.in-Ok.ensures.mark
-
-pub returns-in-Ok-clause-no_output : goal.returns-in-Ok-clause-no_output
-returns-in-Ok-clause-no_output g c =
-    let f = c.in-Ok.front in
-    let sets = map (λ s. s.items) f.remembered.items in
-    let is = c.in-Ok.ensures.ok in
-    if_err c.image_of.result
-    (λ e. (bytes : List ℕ) → ArePartsOf bytes f.version f.heading f.table.items f.roots.items f.log.items sets c.in-Ok.words.items →
-    MayFail bytes e) (λ e. e ≢ fault.Device device.Output) (λ e h. no_output is.0 e (h is.0 is.1)) c.image_of.ensures.err
+    (if_err c.image_of.result (λ e. (bytes : List ℕ) → IsLaidOut bytes c.in_ok-front.front c.in_ok-front.words.items → MayFail bytes e)
+    (λ e. MayFail is.0 e) (λ e h. h is.0 is.1) c.image_of.ensures.err)
+    c.in_ok-front.ensures.marks

@@ -6,27 +6,27 @@ use Rattle.std.specs.Io.KnownBytes.{IsAtEnd}
 use Rattle.g1_image.specs.Source.{ReadFails}
 use borrow.Author.Tests.{ltb-true, ltb-false, eqb-true}
 use borrow.Rule.Slice.PartMut.{post_of}
-use Rattle.g1_image.specs.Ahead.{waiting}
+use Rattle.g1_image.specs.Buffer.{buffered}
 use Rattle.g1_image.proofs.Taken.{read_behind, keeps_read}
-use Rattle.g1_image.proofs.ahead.Ahead.read_on.Goals as goal
-use Rattle.g1_image.proofs.ahead.Ahead.read_on.Given.{Over}
-use Rattle.g1_image.proofs.ahead.Ahead.read_on.Goals.{In_ok-count, then-self-gt0, else-self-gt0}
+use Rattle.g1_image.proofs.buffer.Buffer.read_on.Goals as goal
+use Rattle.g1_image.proofs.buffer.Buffer.read_on.Given.{Over}
+use Rattle.g1_image.proofs.buffer.Buffer.read_on.Goals.{In_ok-count, then-self-gt0, else-self-gt0}
 
 -- what waits after the read: what waited before it, and what was read
 waits : (g : Over) (c : In_ok-count g) →
     slice_range (with_items c.grow.new.self.room (take c.grow.new.self.end c.deref_mut.result.now
     ++ (c.read.new.buf ++ post_of c.grow.new.self.end (length c.deref_mut.result.now - c.grow.new.self.end) c.deref_mut.result.now))).items
     c.grow.new.self.start (c.grow.new.self.end + c.in_ok-count.count)
-    ≡ waiting c.args.self.now ++ take c.in_ok-count.count c.read.new.buf
+    ≡ buffered c.args.self.now ++ take c.in_ok-count.count c.read.new.buf
 waits g c =
     let r = c.grow.new.self in
     let d = c.deref_mut.result.now in
     let buf = c.read.new.buf in
     let n = c.in_ok-count.count in
     let post = post_of r.end (length d - r.end) d in
-    let before : waiting r ≡ waiting c.args.self.now = c.in_ok-grow.ensures.same ∙ elim c.if-self-gt0.branch [
-      | then-self-gt0 w ↦ ap waiting w.self-is ∙ w.move_to_front.ensures.same
-      | else-self-gt0 w ↦ ap waiting w.self-is
+    let before : buffered r ≡ buffered c.args.self.now = c.in_ok-grow.ensures.same ∙ elim c.if-self-gt0.branch [
+      | then-self-gt0 w ↦ ap buffered w.self-is ∙ w.move_to_front.ensures.same
+      | else-self-gt0 w ↦ ap buffered w.self-is
     ] in
     let within : r.end ≤ length d = search (rules, places) in
     let is : (with_items r.room (take r.end d ++ (buf ++ post))).items ≡ take r.end d ++ (buf ++ post) = with_items_is r.room (take r.end d ++ (buf ++ post)) (search (rules, places)) in
@@ -38,11 +38,11 @@ more_wait : (g : Over) (c : In_ok-count g) →
     length (slice_range (with_items c.grow.new.self.room (take c.grow.new.self.end c.deref_mut.result.now
     ++ (c.read.new.buf ++ post_of c.grow.new.self.end (length c.deref_mut.result.now - c.grow.new.self.end) c.deref_mut.result.now))).items
     c.grow.new.self.start (c.grow.new.self.end + c.in_ok-count.count))
-    ≡ length (waiting c.args.self.now) + c.in_ok-count.count
+    ≡ length (buffered c.args.self.now) + c.in_ok-count.count
 more_wait g c =
     let n = c.in_ok-count.count in
     let buf = c.read.new.buf in
-    omega (arith, ap length (waits g c), length-append (waiting c.args.self.now) (take n buf), length-take-le n buf c.in_ok-count.ensures.bound)
+    omega (arith, ap length (waits g c), length-append (buffered c.args.self.now) (take n buf), length-take-le n buf c.in_ok-count.ensures.bound)
 
 -- where nothing was read, none is left
 at_end : (g : Over) (c : In_ok-count g) → c.in_ok-count.count ≡ 0 → IsAtEnd (g.S.Source.left c.read.new.self)
@@ -52,7 +52,7 @@ at_end g c none =
 
 pub returns-clause-kept : goal.returns-clause-kept
 returns-clause-kept g c =
-    keeps_read _ _ (waiting c.args.self.now) _ (take c.in_ok-count.count c.read.new.buf) (waits g (goal.at.returns-clause-kept g c).In_ok-count) c.in_ok-count.ensures.bytes.0
+    keeps_read _ _ (buffered c.args.self.now) _ (take c.in_ok-count.count c.read.new.buf) (waits g (goal.at.returns-clause-kept g c).In_ok-count) c.in_ok-count.ensures.bytes.0
 
 pub returns-clause-more : goal.returns-clause-more
 returns-clause-more g c = λ t. omega (arith, more_wait g (goal.at.returns-clause-more g c).In_ok-count, ltb-true 0 c.in_ok-count.count t)

@@ -1,7 +1,7 @@
 use Rattle.std.proofs.Common.{rules, ◌≡◌, ◌+◌, ◌*◌, ◌++◌, length, take, ap, ◌∙◌}
 use Rattle.g1_image.specs.Text.{words_of}
 use Rattle.g1_image.proofs.Words.{read_words-is, words_of-take, tail_grown}
-use Rattle.g1_image.proofs.laying.push_read.Goals as goal
+use Rattle.g1_image.proofs.pieces.push_read.Goals as goal
 
 pub returns : goal.returns
 returns c =
