@@ -10,3 +10,4 @@ pub mod Whole
 pub mod Slices
 pub mod Cutting
 pub mod Gathered
+pub mod Making

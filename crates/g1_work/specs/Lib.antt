@@ -6,3 +6,4 @@ pub mod Merge
 pub mod Regions
 pub mod Team
 pub mod Ranges
+pub mod Make

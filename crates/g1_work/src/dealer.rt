@@ -76,6 +76,13 @@ impl Dealer {
         Ok((dealer, seat))
     }
 
+    /// How many chunks there are.
+    pub(crate) fn chunks(&self) -> u64
+        ensures { result ≡ self.now.chunks }
+    {
+        self.chunks
+    }
+
     /// The next number below the count of chunks, or None if every one has been drawn.
     ///
     /// It is one step on the cursor. A seat that has had None makes no further step, and answers

@@ -121,12 +121,11 @@ fn run_all<R: Threads + Sync, T: Task + Sync, G: Gate + Sync>(
     task: &T,
     gate: &G,
     workers: Vec<Worker<T::State>>,
-    chunks: u64,
 ) -> Result<Vec<Result<Worked<T::State, T::Out>, Fault>>, AllocError>
     requires { All (IsFresh (T.ready task.now) dealer.now) workers.items }
     ensures { IfOk result (λ v. AreBack (T.runs task.now) (T.may_fail task.now) dealer.now workers.items v.items) }
 {
-    if chunks <= 1 {
+    if dealer.chunks() <= 1 {
         run_in_turn(alloc, dealer, task, gate, workers)
     } else {
         run_by_threads(rt, alloc, dealer, task, gate, workers)
@@ -159,7 +158,7 @@ pub fn each_chunk<R: Threads + Sync, T: Task + Sync, G: Gate + Sync>(
 {
     let (dealer, seat) = Dealer::new(alloc, chunks)?;
     let workers = hire(alloc, &dealer, seat, states)?;
-    let results = run_all(rt, alloc, &dealer, task, gate, workers, chunks)?;
+    let results = run_all(rt, alloc, &dealer, task, gate, workers)?;
     let Gathered {
         seat,
         states,

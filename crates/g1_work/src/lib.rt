@@ -17,7 +17,9 @@
 //!
 //! A `Team` is how many workers share some work and how many items one of them draws at once: each
 //! call that is handed the two numbers makes one, and the functions below it ask for no range again.
-//! Work that is not drawn goes by its size: `threads_for` says how many threads its items feed.
+//! Work that is not drawn goes by its size: `threads_for` says how many threads its items feed. If
+//! each number, such as that of a region or of a range, has its own result, `make_each` makes them in
+//! order: by that many threads, and by the thread that asked if it is one.
 //!
 //! Words that are written in place are not drawn: `each_region_mut` cuts them into runs of regions,
 //! and lends each run to one thread alone. Words that are only read are not drawn either if what is
@@ -32,6 +34,7 @@ mod each;
 mod fill;
 mod gate;
 mod gather;
+mod make;
 mod merge;
 mod ranges;
 mod regions;
@@ -44,6 +47,7 @@ pub use dealer::{DealSeat, Dealer, shares};
 pub use each::each_chunk;
 pub use fill::Fill;
 pub use gate::{Gate, Open, Part};
+pub use make::{Make, make_each};
 pub use ranges::{WORDS_A_THREAD, cut_regions};
 pub use regions::each_region_mut;
 pub use task::Task;

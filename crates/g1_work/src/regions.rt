@@ -7,6 +7,23 @@ use crate::fill::Fill;
 use crate::gate::{Gate, Part};
 use std::thread::{Threads, join_mut};
 
+// What writes the regions: the fill, the gate that watches it, and how many words a region has.
+#[derive(Drop)]
+struct Writer<'a, F, G> {
+    fill: &'a F,
+    gate: &'a G,
+    width: usize,
+}
+
+// `count` regions from `first` on, in `runs` runs, the first of which is number `run`.
+#[derive(Clone, Copy)]
+struct Span {
+    run: usize,
+    runs: usize,
+    first: usize,
+    count: usize,
+}
+
 /// Fills each region of a list of words in place, the regions being its slices of `width` words.
 ///
 /// The regions are cut into as many runs as there are workers, 1 to 64, or as there are regions, if
@@ -30,93 +47,83 @@ pub fn each_region_mut<R: Threads + Sync, F: Fill + Sync, G: Gate + Sync>(
 {
     let count = words.len() / width;
     if count != 0 {
-        let runs = (workers as usize).min(count);
-        runs_from(rt, fill, gate, width, 0, runs, 0, count, words);
+        let writer = Writer { fill, gate, width };
+        let span = Span {
+            run: 0,
+            runs: (workers as usize).min(count),
+            first: 0,
+            count,
+        };
+        fill_span(rt, &writer, span, words);
     }
 }
 
-// Fills `count` regions from `first` on in `runs` runs, the first of which is number `run`. The runs
-// are halved at each step and one half goes to a new thread, so the stack grows as the logarithm of
-// `runs`. The first runs have one region more where the regions cannot be shared evenly.
+// Fills the regions of a span. The runs are halved at each step and one half goes to a new thread, so
+// the stack grows as the logarithm of `runs`. The first runs have one region more where the regions
+// cannot be shared evenly.
 #[cycle(halves)]
-fn runs_from<R: Threads + Sync, F: Fill + Sync, G: Gate + Sync>(
+fn fill_span<R: Threads + Sync, F: Fill + Sync, G: Gate + Sync>(
     rt: &R,
-    fill: &F,
-    gate: &G,
-    width: usize,
-    run: usize,
-    runs: usize,
-    first: usize,
-    count: usize,
+    writer: &Writer<'_, F, G>,
+    span: Span,
     words: &mut [u64],
 )
-    requires runs { (0 < runs) × (runs ≤ count) }
-    requires named { run + runs < 2 ^ 64 }
-    requires cut { IsCut (F.ready fill.now) width first count words.old }
-    ensures { IsFilled (F.fills fill.now) width first count words.old words.new }
+    requires runs { (0 < span.runs) × (span.runs ≤ span.count) }
+    requires named { span.run + span.runs < 2 ^ 64 }
+    requires cut { IsCut (F.ready writer.now.fill.now) writer.now.width span.first span.count words.old }
+    ensures { IsFilled (F.fills writer.now.fill.now) writer.now.width span.first span.count words.old words.new }
 {
-    if runs == 1 {
-        gate.at(Part::Fill, run as u64);
-        fill_run(fill, first, count, width, words);
+    if span.runs == 1 {
+        writer.gate.at(Part::Fill, span.run as u64);
+        fill_run(writer.fill, span.first, span.count, writer.width, words);
         return;
     }
-    let low = runs / 2;
-    let here = count / runs * low + (count % runs).min(low);
-    let (a, b) = words.split_at_mut(here * width);
-    both_halves(
-        rt,
-        fill,
-        gate,
-        width,
-        run,
-        low,
-        first,
-        here,
-        a,
-        run + low,
-        runs - low,
-        first + here,
-        count - here,
-        b,
-    );
+    let low = span.runs / 2;
+    let here = span.count / span.runs * low + (span.count % span.runs).min(low);
+    let front = Span {
+        run: span.run,
+        runs: low,
+        first: span.first,
+        count: here,
+    };
+    let back = Span {
+        run: span.run + low,
+        runs: span.runs - low,
+        first: span.first + here,
+        count: span.count - here,
+    };
+    let (a, b) = words.split_at_mut(here * writer.width);
+    fill_both(rt, writer, front, a, back, b);
 }
 
-// Apart from `runs_from`, so that what the closures require is what this function is given.
+// Apart from `fill_span`, so that what the closures require is what this function is given.
 #[cycle(halves)]
-fn both_halves<R: Threads + Sync, F: Fill + Sync, G: Gate + Sync>(
+fn fill_both<R: Threads + Sync, F: Fill + Sync, G: Gate + Sync>(
     rt: &R,
-    fill: &F,
-    gate: &G,
-    width: usize,
-    run: usize,
-    runs: usize,
-    first: usize,
-    count: usize,
+    writer: &Writer<'_, F, G>,
+    front: Span,
     a: &mut [u64],
-    next: usize,
-    others: usize,
-    from: usize,
-    left: usize,
+    back: Span,
     b: &mut [u64],
 )
-    requires front_runs { (0 < runs) × (runs ≤ count) }
-    requires front_named { run + runs < 2 ^ 64 }
-    requires front { IsCut (F.ready fill.now) width first count a.old }
-    requires back_runs { (0 < others) × (others ≤ left) }
-    requires back_named { next + others < 2 ^ 64 }
-    requires back { IsCut (F.ready fill.now) width from left b.old }
-    ensures front { IsFilled (F.fills fill.now) width first count a.old a.new }
-    ensures back { IsFilled (F.fills fill.now) width from left b.old b.new }
+    requires front_runs { (0 < front.runs) × (front.runs ≤ front.count) }
+    requires front_named { front.run + front.runs < 2 ^ 64 }
+    requires front { IsCut (F.ready writer.now.fill.now) writer.now.width front.first front.count a.old }
+    requires back_runs { (0 < back.runs) × (back.runs ≤ back.count) }
+    requires back_named { back.run + back.runs < 2 ^ 64 }
+    requires back { IsCut (F.ready writer.now.fill.now) writer.now.width back.first back.count b.old }
+    ensures front { IsFilled (F.fills writer.now.fill.now) writer.now.width front.first front.count a.old a.new }
+    ensures back { IsFilled (F.fills writer.now.fill.now) writer.now.width back.first back.count b.old b.new }
 {
-    let mut front = ||
-        requires { IsSync R.row × IsSync F.row × IsSync G.row × (0 < runs) × (runs ≤ count) × (run + runs < 2 ^ 64) × IsCut (F.ready fill.now) width first count a.now }
-        ensures { IsFilled (F.fills fill.entry.now) width first count a.entry.now a.exit.now }
-    { runs_from(rt, fill, gate, width, run, runs, first, count, a) };
-    let mut back = ||
-        requires { IsSync R.row × IsSync F.row × IsSync G.row × (0 < others) × (others ≤ left) × (next + others < 2 ^ 64) × IsCut (F.ready fill.now) width from left b.now }
-        ensures { IsFilled (F.fills fill.entry.now) width from left b.entry.now b.exit.now }
-    { runs_from(rt, fill, gate, width, next, others, from, left, b) };
-    join_mut(rt, &mut front, &mut back);
+    let mut fill_front = ||
+        requires { IsSync R.row × IsSync F.row × IsSync G.row × (0 < front.runs) × (front.runs ≤ front.count) × (front.run + front.runs < 2 ^ 64) × IsCut (F.ready writer.now.fill.now) writer.now.width front.first front.count a.now }
+        ensures { IsFilled (F.fills writer.entry.now.fill.now) writer.entry.now.width front.first front.count a.entry.now a.exit.now }
+    { fill_span(rt, writer, front, a) };
+    let mut fill_back = ||
+        requires { IsSync R.row × IsSync F.row × IsSync G.row × (0 < back.runs) × (back.runs ≤ back.count) × (back.run + back.runs < 2 ^ 64) × IsCut (F.ready writer.now.fill.now) writer.now.width back.first back.count b.now }
+        ensures { IsFilled (F.fills writer.entry.now.fill.now) writer.entry.now.width back.first back.count b.entry.now b.exit.now }
+    { fill_span(rt, writer, back, b) };
+    join_mut(rt, &mut fill_front, &mut fill_back);
 }
 
 // Fills `count` regions from `first` on, one after another.
