@@ -21,3 +21,7 @@ AreWorkers n = (0 < n) × (n ≤ most_workers)
 -- a worker may draw n items at once
 abbrev pub IsChunk : ℕ → Type 0
 IsChunk n = (0 < n) × (n ≤ most_chunk)
+
+-- this many workers may share some work, each of which draws this many items at once
+abbrev pub IsTeam : ℕ → ℕ → Type 0
+IsTeam workers chunk = AreWorkers workers × IsChunk chunk
