@@ -27,6 +27,7 @@
 //! numbers of the objects take 16 bytes for each 64 words of the window.
 #![tactic(auto)]
 
+mod crew;
 mod item;
 pub mod laws;
 mod numbers;

@@ -1,7 +1,7 @@
 ghost use Rattle.std.specs.Prelude.{◌≡◌, ◌<◌, ◌≤◌, ◌^◌, ◌*◌, ◌++◌, ◌∷◌, [], ℕ, List, IfOk, IfErr, length, vec_len, map, flat_map, sum_by, OnOk, ◌+◌, IsPermutation, true};
 ghost use Rattle.std.specs.List.{All};
 ghost use Rattle.g1_words.specs.declared.fault.Fault.TheVariants.{Memory};
-ghost use Rattle.g1_work.specs.Team.{AreWorkers, IsChunk};
+ghost use Rattle.g1_work.specs.Team.{AreWorkers, IsTeam};
 ghost use Rattle.g1_rem.specs.Starts.{IsStartsOf};
 ghost use Rattle.g1_claim.specs.Claims.{all_shares, IsSeatOf, IsSettled};
 ghost use Rattle.g1_frontier.specs.Window.{AreRegions, place};
@@ -11,6 +11,7 @@ ghost use Rattle.g1_frontier.specs.Scope.{IsScope, place_in, place_count, all_pa
 ghost use Rattle.g1_frontier.specs.Offering.{HasPlaces};
 ghost use Rattle.g1_frontier.specs.Round.{Rises, AreAbove, AddsOffers, winners, IsGivenOut, HasTaken, HasOffered, IsByRank};
 
+use crate::crew::Crew;
 use crate::item::Item;
 use crate::offering::{Holder, Offers, Round, keep_if};
 use crate::scope::{Numbering, Scope, positions};
@@ -123,14 +124,11 @@ fn offer_alone(
 
 // Offers what all items name in the window: the whole seat after, and what each worker kept.
 fn offer_all<R: Threads + Sync, G: Gate + Sync>(
-    rt: &R,
-    alloc: Global,
+    crew: &Crew<'_, R, G>,
     scope: &Scope,
     claims: &Claims,
     seat: ClaimSeat,
     items: &[Item],
-    team: Team,
-    gate: &G,
 ) -> Result<(ClaimSeat, Vec<Vec<(u64, u64)>>), Fault>
     requires places { HasPlaces scope.now claims.now }
     requires seat { IsSeatOf claims.now seat × (seat.hand.shares ≡ all_shares) }
@@ -141,9 +139,10 @@ fn offer_all<R: Threads + Sync, G: Gate + Sync>(
     ensures ok { IfOk result (λ r. HasOffered claims.now (place_in scope.now) (all_pairs_in scope.now items.now) seat r.0 (map (λ l. l.items) r.1.items)) }
     ensures memory { IfErr result (λ e. e ≡ Memory) }
 {
-    let chunk = team.chunk() as usize;
+    let alloc = crew.alloc;
+    let chunk = crew.team.chunk() as usize;
     let count = (items.len() + chunk - 1) / chunk;
-    let workers = team.workers() as usize;
+    let workers = crew.team.workers() as usize;
     let holders = give_out(alloc, claims, seat, workers.min(count).max(1))?;
     let round = Round {
         offers: Offers { scope, claims },
@@ -151,7 +150,7 @@ fn offer_all<R: Threads + Sync, G: Gate + Sync>(
         chunk,
         alloc,
     };
-    let (holders, _) = each_chunk(rt, alloc, holders, count as u64, &round, gate)?;
+    let (holders, _) = each_chunk(crew.rt, alloc, holders, count as u64, &round, crew.gate)?;
     Ok(take_in(alloc, claims, holders)?)
 }
 
@@ -193,14 +192,11 @@ fn still_there(
 
 // One round of claims, in a scope that was made before: the whole seat after, and what won.
 pub(crate) fn round_in<R: Threads + Sync, G: Gate + Sync>(
-    rt: &R,
-    alloc: Global,
+    crew: &Crew<'_, R, G>,
     scope: &Scope,
     claims: &Claims,
     seat: ClaimSeat,
     items: &[Item],
-    team: Team,
-    gate: &G,
 ) -> Result<(ClaimSeat, Vec<(u64, u64)>), Fault>
     requires scope { IsScope scope.now }
     requires items { All (IsItem scope.now.heap.now) items.now }
@@ -218,11 +214,12 @@ pub(crate) fn round_in<R: Threads + Sync, G: Gate + Sync>(
     ensures settled { IfOk result (λ r. IsSettled r.0.hand.offers) }
     ensures memory { IfErr result (λ e. e ≡ Memory) }
 {
-    if team.workers() == 1 || items.len() as u64 <= team.chunk() {
+    let alloc = crew.alloc;
+    if crew.team.workers() == 1 || items.len() as u64 <= crew.team.chunk() {
         // A worker alone offers by rising rank, so what it kept is least.
         return Ok(offer_alone(alloc, scope, claims, seat, items)?);
     }
-    let (mut seat, lists) = offer_all(rt, alloc, scope, claims, seat, items, team, gate)?;
+    let (mut seat, lists) = offer_all(crew, scope, claims, seat, items)?;
     let kept = merge(alloc, lists)?;
     let won = still_there(alloc, scope, claims, &mut seat, kept.as_slice())?;
     Ok((seat, won))
@@ -264,8 +261,7 @@ pub fn claim_round<R: Threads + Sync, G: Gate + Sync>(
     requires rise { Rises (all_pairs heap.now window.now items.now) }
     requires ranks { AreRanks (all_pairs heap.now window.now items.now) }
     requires above { AreAbove seat.hand.offers (all_pairs heap.now window.now items.now) }
-    requires workers { AreWorkers workers }
-    requires chunk { IsChunk chunk }
+    requires team { IsTeam workers chunk }
     ensures claims { IfOk result (λ r. r.0 ≡ claims) }
     ensures table { IfOk result (λ r. IsSeatOf claims r.1) }
     ensures whole { IfOk result (λ r. r.1.hand.shares ≡ all_shares) }
@@ -283,7 +279,12 @@ pub fn claim_round<R: Threads + Sync, G: Gate + Sync>(
         positions: positions.as_slice(),
         numbering: &Numbering::Words,
     };
-    let team = Team::new(workers, chunk);
-    let (seat, won) = round_in(rt, alloc, &scope, &claims, seat, items, team, gate)?;
+    let crew = Crew {
+        rt,
+        alloc,
+        team: Team::new(workers, chunk),
+        gate,
+    };
+    let (seat, won) = round_in(&crew, &scope, &claims, seat, items)?;
     Ok((claims, seat, won))
 }

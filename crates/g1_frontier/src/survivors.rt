@@ -3,13 +3,14 @@ ghost use Rattle.std.specs.List.{All};
 ghost use Rattle.g1_words.specs.declared.fault.Fault.TheVariants.{Memory};
 ghost use Rattle.g1_words.specs.Heap.{objects, object_at};
 ghost use Rattle.g1_words.specs.Survivors.{Survivors};
-ghost use Rattle.g1_work.specs.Team.{AreWorkers, IsChunk};
+ghost use Rattle.g1_work.specs.Team.{IsTeam};
 ghost use Rattle.g1_rem.specs.Starts.{IsStartsOf};
 ghost use Rattle.g1_frontier.specs.Window.{AreRegions, AreCards, AreOutside, LeadIn};
 ghost use Rattle.g1_frontier.specs.Items.{first_items, object_items, slot_count};
 ghost use Rattle.g1_frontier.specs.Scope.{IsScope};
 ghost use Rattle.g1_frontier.specs.Search.{IsSearching};
 
+use crate::crew::Crew;
 use crate::item::Item;
 use crate::numbers::Numbers;
 use crate::queue::Traversal;
@@ -31,20 +32,6 @@ pub struct Search {
     pub found: Vec<u64>,
     pub from: usize,
     pub next: u64,
-}
-
-// A thread takes as long to start as some 500 items to be looked at. So a round has a worker for
-// each 2,048 items; only the first rounds of a call, which are all that a small heap has, may have
-// two for fewer.
-const ITEMS_A_WORKER: usize = 2048;
-
-const ROUNDS_OF_TWO: u64 = 16;
-
-// Hires from the team for a round of this many items.
-fn hire(team: Team, items: usize, round: u64) -> Team {
-    let fed = (items / ITEMS_A_WORKER) as u64;
-    let fewest = if round < ROUNDS_OF_TWO { 2 } else { 1 };
-    Team::new(team.workers().min(fed.max(fewest)), team.chunk())
 }
 
 // The roots, by number, then the cards.
@@ -100,12 +87,9 @@ fn push_addresses(found: &mut Vec<u64>, won: &[(u64, u64)]) -> Result<(), AllocE
 
 // The round of the roots and the cards.
 pub(crate) fn first_round<R: Threads + Sync, G: Gate + Sync>(
-    rt: &R,
-    alloc: Global,
+    crew: &Crew<'_, R, G>,
     scope: &Scope,
     cards: &[u32],
-    team: Team,
-    gate: &G,
 ) -> Result<Search, Fault>
     requires scope { IsScope scope.now }
     requires cards { AreCards scope.now.heap.now cards.now }
@@ -114,12 +98,13 @@ pub(crate) fn first_round<R: Threads + Sync, G: Gate + Sync>(
     ensures ok { IfOk result (IsSearching scope.now) }
     ensures memory { IfErr result (λ e. e ≡ Memory) }
 {
+    let alloc = crew.alloc;
     let roots = scope.heap.roots().len() as u64;
     let (claims, seat) = Claims::new(alloc, scope.places())?;
     let first = first_items(alloc, roots, cards)?;
     let items = first.as_slice();
-    let hired = hire(team, items.len(), 0);
-    let (seat, won) = round_in(rt, alloc, scope, &claims, seat, items, hired, gate)?;
+    let hired = crew.hire(items.len(), 0);
+    let (seat, won) = round_in(&hired, scope, &claims, seat, items)?;
     let mut found = Vec::new(alloc);
     push_addresses(&mut found, won.as_slice())?;
     Ok(Search {
@@ -133,12 +118,9 @@ pub(crate) fn first_round<R: Threads + Sync, G: Gate + Sync>(
 
 // The round of the objects that the last one found.
 pub(crate) fn next_round<R: Threads + Sync, G: Gate + Sync>(
-    rt: &R,
-    alloc: Global,
+    crew: &Crew<'_, R, G>,
     scope: &Scope,
     search: Search,
-    team: Team,
-    gate: &G,
 ) -> Result<Search, Fault>
     requires scope { IsScope scope.now }
     requires search { IsSearching scope.now search }
@@ -153,9 +135,9 @@ pub(crate) fn next_round<R: Threads + Sync, G: Gate + Sync>(
         from,
         next,
     } = search;
-    let (items, next) = object_items(alloc, scope.heap, &found[from..], next)?;
+    let (items, next) = object_items(crew.alloc, scope.heap, &found[from..], next)?;
     let items = items.as_slice();
-    let (seat, won) = round_in(rt, alloc, scope, &claims, seat, items, team, gate)?;
+    let (seat, won) = round_in(crew, scope, &claims, seat, items)?;
     let from = found.len();
     push_addresses(&mut found, won.as_slice())?;
     Ok(Search {
@@ -214,8 +196,7 @@ pub fn discover<R: Threads + Sync, G: Gate + Sync>(
     requires cards { AreCards heap.now cards.now }
     requires outside { AreOutside heap.now window.now cards.now }
     requires lead_in { LeadIn heap.now window.now cards.now }
-    requires workers { AreWorkers workers }
-    requires chunk { IsChunk chunk }
+    requires team { IsTeam workers chunk }
     ensures ok { IfOk result (λ v. Survivors heap.now window.now v.items) }
     ensures only { IfOk result (λ v. (l : List ℕ) → Survivors heap.now window.now l → l ≡ v.items) }
     ensures memory { IfErr result (λ e. e ≡ Memory) }
@@ -233,12 +214,17 @@ pub fn discover<R: Threads + Sync, G: Gate + Sync>(
     if workers == 1 {
         return search_alone(alloc, &scope, cards);
     }
-    let team = Team::new(workers, chunk);
-    let mut search = first_round(rt, alloc, &scope, cards, team, gate)?;
+    let crew = Crew {
+        rt,
+        alloc,
+        team: Team::new(workers, chunk),
+        gate,
+    };
+    let mut search = first_round(&crew, &scope, cards)?;
     let mut round: u64 = 1;
     while search.from < search.found.len() {
-        let hired = hire(team, search.found.len() - search.from, round);
-        search = next_round(rt, alloc, &scope, search, hired, gate)?;
+        let hired = crew.hire(search.found.len() - search.from, round);
+        search = next_round(&hired, &scope, search)?;
         round = round.saturating_add(1);
     }
     Ok(search.found)

@@ -12,6 +12,6 @@ mod Remaining
 mod Renamed
 mod Excludes
 mod Graph
-mod Pause
+mod PauseKeeps
 mod Runs
 mod First

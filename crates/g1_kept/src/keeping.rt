@@ -4,14 +4,16 @@ ghost use Rattle.g1_words.specs.declared.region.Kind.TheVariants.{Free};
 ghost use Rattle.g1_words.specs.Lists.{has};
 ghost use Rattle.g1_words.specs.Heap.{kind, start, object_at, objects};
 ghost use Rattle.g1_same.specs.Walk.{AreAlike};
-ghost use Rattle.g1_kept.specs.Keeps.{Keeps, KeepsTable};
-ghost use Rattle.g1_kept.specs.Lost.{IsLoss, Match};
-ghost use Rattle.g1_kept.specs.Order.{IsEarliest, IsMetFirst};
-ghost use Rattle.g1_kept.specs.Walk.{IsWalk, HasGrown, PairsRoots, IsCompared, ComparesRegion, ComparesOutside, ComparesPairs, Searches, PassesObjects, StopsAtObjects, IsFirstOfObjects};
+ghost use Rattle.g1_kept.specs.Keeps.{Keeps};
+ghost use Rattle.g1_kept.specs.Lost.{IsLoss};
+ghost use Rattle.g1_kept.specs.Order.{IsEarliest};
+ghost use Rattle.g1_kept.specs.Walk.{HasGrown, IsCompared, ComparesRegion, ComparesOutside, ComparesPairs, IsFirstOfObjects};
+ghost use Rattle.g1_kept.specs.Pause.{KeepsIn, KeepsTableIn, IsLossIn, IsEarliestIn, IsMetFirstIn, MatchIn, IsWalkIn, SearchesIn, PassesObjectsIn, StopsAtObjectsIn};
 
 use crate::linking::{link_roots, link_slots};
 use crate::lost::Lost;
 use crate::pairs::{Pairs, start};
+use crate::pause::Pause;
 use crate::region_set::RegionSet;
 use crate::tables::compare_tables;
 use g1_words::{Fault, Heap, data, objects_in};
@@ -34,31 +36,24 @@ fn first_other(old: &[u64], new: &[u64]) -> Option<usize>
 }
 
 // What is lost of an object in the one after that matches it, apart from its slots.
-fn compare_contents(
-    before: &Heap,
-    after: &Heap,
-    set: &RegionSet<'_>,
-    fill: bool,
-    a: u64,
-    b: u64,
-) -> Option<Lost>
-    requires a { Contains (objects before.now) (object_at before.now a) }
-    requires b { Contains (objects after.now) (object_at after.now b) }
-    requires matched { Match set.now before.now after.now a b }
-    ensures none { IfNone result (AreAlike before.now after.now a b) }
-    ensures some { IfSome result (λ l. IsLoss fill set.now before.now after.now l) }
-    ensures first { IfSome result (λ l. IsFirstOfObjects before.now after.now a b l) }
+fn compare_contents(pause: &Pause<'_>, a: u64, b: u64) -> Option<Lost>
+    requires a { Contains (objects pause.now.before.now) (object_at pause.now.before.now a) }
+    requires b { Contains (objects pause.now.after.now) (object_at pause.now.after.now b) }
+    requires matched { MatchIn pause.now a b }
+    ensures none { IfNone result (AreAlike pause.now.before.now pause.now.after.now a b) }
+    ensures some { IfSome result (λ l. IsLossIn pause.now l) }
+    ensures first { IfSome result (λ l. IsFirstOfObjects pause.now.before.now pause.now.after.now a b l) }
 {
-    let old = before.object(a);
-    let new = after.object(b);
+    let old = pause.before.object(a);
+    let new = pause.after.object(b);
     if old.size != new.size || old.refs != new.refs {
         return Some(Lost::Header {
             before: a,
             after: b,
         });
     }
-    let here = data(before.words(), &old);
-    let there = data(after.words(), &new);
+    let here = data(pause.before.words(), &old);
+    let there = data(pause.after.words(), &new);
     match first_other(here, there) {
         Some(word) => Some(Lost::Data {
             before: a,
@@ -71,65 +66,59 @@ fn compare_contents(
 
 // Compares an object with the one after that matches it.
 fn compare_pair(
-    before: &Heap,
-    after: &Heap,
-    set: &RegionSet<'_>,
-    fill: bool,
+    pause: &Pause<'_>,
     pairs: &mut Pairs,
     a: u64,
     b: u64,
 ) -> Result<Option<Lost>, AllocError>
-    requires walk { IsWalk fill set.now before.now after.now pairs.old }
-    requires sizes { length after.now.words ≡ length before.now.words }
-    requires a { Contains (objects before.now) (object_at before.now a) }
-    requires b { Contains (objects after.now) (object_at after.now b) }
-    requires matched { Match set.now before.now after.now a b }
-    ensures walk { OnOk result (IsWalk fill set.now before.now after.now pairs.new) }
+    requires walk { IsWalkIn pause.now pairs.old }
+    requires sizes { length pause.now.after.now.words ≡ length pause.now.before.now.words }
+    requires a { Contains (objects pause.now.before.now) (object_at pause.now.before.now a) }
+    requires b { Contains (objects pause.now.after.now) (object_at pause.now.after.now b) }
+    requires matched { MatchIn pause.now a b }
+    ensures walk { OnOk result (IsWalkIn pause.now pairs.new) }
     ensures grown { OnOk result (HasGrown pairs.old pairs.new) }
-    ensures compared { IfOk result (λ o. IfNone o (IsCompared set.now before.now after.now pairs.new a b)) }
-    ensures lost { IfOk result (λ o. IfSome o (λ l. IsLoss fill set.now before.now after.now l)) }
-    ensures passed { IfOk result (λ o. IfNone o (PassesObjects fill set.now before.now after.now pairs.old pairs.new a b 0)) }
-    ensures first { IfOk result (λ o. IfSome o (λ l. StopsAtObjects fill set.now before.now after.now pairs.old a b 0 l)) }
+    ensures compared { let p = pause.now in IfOk result (λ o. IfNone o (IsCompared p.set.now p.before.now p.after.now pairs.new a b)) }
+    ensures lost { IfOk result (λ o. IfSome o (λ l. IsLossIn pause.now l)) }
+    ensures passed { IfOk result (λ o. IfNone o (PassesObjectsIn pause.now pairs.old pairs.new a b 0)) }
+    ensures first { IfOk result (λ o. IfSome o (λ l. StopsAtObjectsIn pause.now pairs.old a b 0 l)) }
 {
-    if let Some(lost) = compare_contents(before, after, set, fill, a, b) {
+    if let Some(lost) = compare_contents(pause, a, b) {
         return Ok(Some(lost));
     }
-    link_slots(before, after, set, fill, pairs, a, b)
+    link_slots(pause, pairs, a, b)
 }
 
 // Compares the objects of a region outside the set, which is as it was, each with itself.
 fn compare_region(
     alloc: Global,
-    before: &Heap,
-    after: &Heap,
-    set: &RegionSet<'_>,
-    fill: bool,
+    pause: &Pause<'_>,
     pairs: &mut Pairs,
     region: u32,
 ) -> Result<Option<Lost>, AllocError>
-    requires walk { IsWalk fill set.now before.now after.now pairs.old }
-    requires table { KeepsTable fill set.now before.now after.now }
-    requires region { region < before.now.geometry.n }
-    requires outside { IsFalse (has set.now region) }
-    requires used { kind before.now region ≢ Free }
-    requires in_use { kind after.now region ≢ Free }
-    requires search { Searches fill set.now before.now after.now pairs.old (suc (start before.now region)) 0 }
-    ensures walk { OnOk result (IsWalk fill set.now before.now after.now pairs.new) }
+    requires walk { IsWalkIn pause.now pairs.old }
+    requires table { KeepsTableIn pause.now }
+    requires region { region < pause.now.before.now.geometry.n }
+    requires outside { IsFalse (has pause.now.set.now region) }
+    requires used { kind pause.now.before.now region ≢ Free }
+    requires in_use { kind pause.now.after.now region ≢ Free }
+    requires search { SearchesIn pause.now pairs.old (suc (start pause.now.before.now region)) 0 }
+    ensures walk { OnOk result (IsWalkIn pause.now pairs.new) }
     ensures grown { OnOk result (HasGrown pairs.old pairs.new) }
-    ensures compared { IfOk result (λ o. IfNone o (ComparesRegion set.now before.now after.now pairs.new region)) }
-    ensures lost { IfOk result (λ o. IfSome o (λ l. IsLoss fill set.now before.now after.now l)) }
-    ensures searched { IfOk result (λ o. IfNone o (Searches fill set.now before.now after.now pairs.new (suc (start before.now (region + 1))) 0)) }
-    ensures first { IfOk result (λ o. IfSome o (λ l. IsMetFirst fill set.now before.now after.now l)) }
+    ensures compared { let p = pause.now in IfOk result (λ o. IfNone o (ComparesRegion p.set.now p.before.now p.after.now pairs.new region)) }
+    ensures lost { IfOk result (λ o. IfSome o (λ l. IsLossIn pause.now l)) }
+    ensures searched { IfOk result (λ o. IfNone o (SearchesIn pause.now pairs.new (suc (start pause.now.before.now (region + 1))) 0)) }
+    ensures first { IfOk result (λ o. IfSome o (λ l. IsMetFirstIn pause.now l)) }
 {
-    g1_words::laws::valid(before);
-    g1_words::laws::valid(after);
-    let starts = match objects_in(alloc, before, region) {
+    g1_words::laws::valid(pause.before);
+    g1_words::laws::valid(pause.after);
+    let starts = match objects_in(alloc, pause.before, region) {
         Ok(starts) => starts,
         Err(_) => return Err(AllocError),
     };
     for place in 0..starts.len() {
         let at = starts[place];
-        if let Some(lost) = compare_pair(before, after, set, fill, pairs, at, at)? {
+        if let Some(lost) = compare_pair(pause, pairs, at, at)? {
             return Ok(Some(lost));
         }
     }
@@ -137,40 +126,37 @@ fn compare_region(
 }
 
 // Whether a region outside the set was in use and still is.
-fn is_compared(before: &Heap, after: &Heap, set: &RegionSet<'_>, region: u32) -> bool
-    requires before { region < before.now.geometry.n }
-    requires after { region < after.now.geometry.n }
-    ensures { IsTrue result ↔ (IsFalse (has set.now region) × (kind before.now region ≢ Free) × (kind after.now region ≢ Free)) }
+fn is_compared(pause: &Pause<'_>, region: u32) -> bool
+    requires before { region < pause.now.before.now.geometry.n }
+    requires after { region < pause.now.after.now.geometry.n }
+    ensures { IsTrue result ↔ (IsFalse (has pause.now.set.now region) × (kind pause.now.before.now region ≢ Free) × (kind pause.now.after.now region ≢ Free)) }
 {
-    !set.has(u64::from(region))
-        && before.region(region).kind.is_used()
-        && after.region(region).kind.is_used()
+    !pause.set.has(u64::from(region))
+        && pause.before.region(region).kind.is_used()
+        && pause.after.region(region).kind.is_used()
 }
 
 // Compares the objects outside the set that are still there, each with itself.
 fn compare_outside(
     alloc: Global,
-    before: &Heap,
-    after: &Heap,
-    set: &RegionSet<'_>,
-    fill: bool,
+    pause: &Pause<'_>,
     pairs: &mut Pairs,
 ) -> Result<Option<Lost>, AllocError>
-    requires walk { IsWalk fill set.now before.now after.now pairs.old }
-    requires table { KeepsTable fill set.now before.now after.now }
-    requires search { Searches fill set.now before.now after.now pairs.old 1 0 }
-    ensures walk { OnOk result (IsWalk fill set.now before.now after.now pairs.new) }
+    requires walk { IsWalkIn pause.now pairs.old }
+    requires table { KeepsTableIn pause.now }
+    requires search { SearchesIn pause.now pairs.old 1 0 }
+    ensures walk { OnOk result (IsWalkIn pause.now pairs.new) }
     ensures grown { OnOk result (HasGrown pairs.old pairs.new) }
-    ensures compared { IfOk result (λ o. IfNone o (ComparesOutside set.now before.now after.now pairs.new before.now.geometry.n)) }
-    ensures lost { IfOk result (λ o. IfSome o (λ l. IsLoss fill set.now before.now after.now l)) }
-    ensures searched { IfOk result (λ o. IfNone o (Searches fill set.now before.now after.now pairs.new (suc (length before.now.words)) 0)) }
-    ensures first { IfOk result (λ o. IfSome o (λ l. IsMetFirst fill set.now before.now after.now l)) }
+    ensures compared { let p = pause.now in IfOk result (λ o. IfNone o (ComparesOutside p.set.now p.before.now p.after.now pairs.new p.before.now.geometry.n)) }
+    ensures lost { IfOk result (λ o. IfSome o (λ l. IsLossIn pause.now l)) }
+    ensures searched { IfOk result (λ o. IfNone o (SearchesIn pause.now pairs.new (suc (length pause.now.before.now.words)) 0)) }
+    ensures first { IfOk result (λ o. IfSome o (λ l. IsMetFirstIn pause.now l)) }
 {
-    g1_words::laws::valid(before);
-    g1_words::laws::valid(after);
-    for region in 0..before.geometry().regions() as u32 {
-        if is_compared(before, after, set, region) {
-            if let Some(lost) = compare_region(alloc, before, after, set, fill, pairs, region)? {
+    g1_words::laws::valid(pause.before);
+    g1_words::laws::valid(pause.after);
+    for region in 0..pause.before.geometry().regions() as u32 {
+        if is_compared(pause, region) {
+            if let Some(lost) = compare_region(alloc, pause, pairs, region)? {
                 return Ok(Some(lost));
             }
         }
@@ -179,29 +165,23 @@ fn compare_outside(
 }
 
 // Compares all pairs, those that this finds, too.
-fn compare_pairs(
-    before: &Heap,
-    after: &Heap,
-    set: &RegionSet<'_>,
-    fill: bool,
-    pairs: &mut Pairs,
-) -> Result<Option<Lost>, AllocError>
-    requires walk { IsWalk fill set.now before.now after.now pairs.old }
-    requires table { KeepsTable fill set.now before.now after.now }
-    requires search { Searches fill set.now before.now after.now pairs.old (suc (length before.now.words)) 0 }
-    ensures walk { OnOk result (IsWalk fill set.now before.now after.now pairs.new) }
+fn compare_pairs(pause: &Pause<'_>, pairs: &mut Pairs) -> Result<Option<Lost>, AllocError>
+    requires walk { IsWalkIn pause.now pairs.old }
+    requires table { KeepsTableIn pause.now }
+    requires search { SearchesIn pause.now pairs.old (suc (length pause.now.before.now.words)) 0 }
+    ensures walk { OnOk result (IsWalkIn pause.now pairs.new) }
     ensures grown { OnOk result (HasGrown pairs.old pairs.new) }
-    ensures compared { IfOk result (λ o. IfNone o (ComparesPairs set.now before.now after.now pairs.new (length pairs.new.before.items))) }
-    ensures lost { IfOk result (λ o. IfSome o (λ l. IsLoss fill set.now before.now after.now l)) }
-    ensures first { IfOk result (λ o. IfSome o (λ l. IsMetFirst fill set.now before.now after.now l)) }
+    ensures compared { let p = pause.now in IfOk result (λ o. IfNone o (ComparesPairs p.set.now p.before.now p.after.now pairs.new (length pairs.new.before.items))) }
+    ensures lost { IfOk result (λ o. IfSome o (λ l. IsLossIn pause.now l)) }
+    ensures first { IfOk result (λ o. IfSome o (λ l. IsMetFirstIn pause.now l)) }
 {
-    g1_words::laws::valid(before);
-    g1_words::laws::valid(after);
+    g1_words::laws::valid(pause.before);
+    g1_words::laws::valid(pause.after);
     let mut place = 0;
     while place < pairs.before.len() {
         let a = pairs.before[place];
         let b = pairs.after[place];
-        if let Some(lost) = compare_pair(before, after, set, fill, pairs, a, b)? {
+        if let Some(lost) = compare_pair(pause, pairs, a, b)? {
             return Ok(Some(lost));
         }
         place += 1;
@@ -210,50 +190,38 @@ fn compare_pairs(
 }
 
 // What is lost of what roots and objects hold.
-fn compare_words(
-    alloc: Global,
-    before: &Heap,
-    after: &Heap,
-    set: &RegionSet<'_>,
-    fill: bool,
-) -> Result<Option<Lost>, AllocError>
-    requires table { KeepsTable fill set.now before.now after.now }
-    requires roots { length after.now.roots ≡ length before.now.roots }
-    ensures none { IfOk result (λ o. IfNone o (Keeps fill set.now before.now after.now)) }
-    ensures some { IfOk result (λ o. IfSome o (λ l. IsLoss fill set.now before.now after.now l)) }
-    ensures first { IfOk result (λ o. IfSome o (λ l. IsMetFirst fill set.now before.now after.now l)) }
+fn compare_words(alloc: Global, pause: &Pause<'_>) -> Result<Option<Lost>, AllocError>
+    requires table { KeepsTableIn pause.now }
+    requires roots { length pause.now.after.now.roots ≡ length pause.now.before.now.roots }
+    ensures none { IfOk result (λ o. IfNone o (KeepsIn pause.now)) }
+    ensures some { IfOk result (λ o. IfSome o (λ l. IsLossIn pause.now l)) }
+    ensures first { IfOk result (λ o. IfSome o (λ l. IsMetFirstIn pause.now l)) }
 {
-    let mut pairs = start(alloc, before, after, set, fill)?;
-    if let Some(lost) = link_roots(before, after, set, fill, &mut pairs)? {
+    let mut pairs = start(alloc, pause)?;
+    if let Some(lost) = link_roots(pause, &mut pairs)? {
         return Ok(Some(lost));
     }
-    if let Some(lost) = compare_outside(alloc, before, after, set, fill, &mut pairs)? {
+    if let Some(lost) = compare_outside(alloc, pause, &mut pairs)? {
         return Ok(Some(lost));
     }
-    compare_pairs(before, after, set, fill, &mut pairs)
+    compare_pairs(pause, &mut pairs)
 }
 
 // The first thing that is lost.
-fn find_loss(
-    alloc: Global,
-    before: &Heap,
-    after: &Heap,
-    set: &RegionSet<'_>,
-    fill: bool,
-) -> Result<Option<Lost>, AllocError>
-    ensures none { IfOk result (λ o. IfNone o (Keeps fill set.now before.now after.now)) }
-    ensures some { IfOk result (λ o. IfSome o (λ l. IsLoss fill set.now before.now after.now l)) }
-    ensures earliest { IfOk result (λ o. IfSome o (λ l. IsEarliest fill set.now before.now after.now l)) }
+fn find_loss(alloc: Global, pause: &Pause<'_>) -> Result<Option<Lost>, AllocError>
+    ensures none { IfOk result (λ o. IfNone o (KeepsIn pause.now)) }
+    ensures some { IfOk result (λ o. IfSome o (λ l. IsLossIn pause.now l)) }
+    ensures earliest { IfOk result (λ o. IfSome o (λ l. IsEarliestIn pause.now l)) }
 {
-    g1_words::laws::valid(before);
-    g1_words::laws::valid(after);
-    if let Some(lost) = compare_tables(before, after, set, fill) {
+    g1_words::laws::valid(pause.before);
+    g1_words::laws::valid(pause.after);
+    if let Some(lost) = compare_tables(pause) {
         return Ok(Some(lost));
     }
-    if before.roots().len() != after.roots().len() {
+    if pause.before.roots().len() != pause.after.roots().len() {
         return Ok(Some(Lost::Roots));
     }
-    compare_words(alloc, before, after, set, fill)
+    compare_words(alloc, pause)
 }
 
 /// Whether a heap keeps what a pause of these regions keeps of another one: all objects outside them
@@ -279,7 +247,13 @@ pub fn kept(
     g1_words::laws::valid(before);
     g1_words::laws::valid(after);
     let regions = RegionSet::new(alloc, before.regions().len(), set)?;
-    match find_loss(alloc, before, after, &regions, fill)? {
+    let pause = Pause {
+        before,
+        after,
+        set: &regions,
+        fill,
+    };
+    match find_loss(alloc, &pause)? {
         Some(lost) => Ok(Err(lost)),
         None => Ok(Ok(())),
     }

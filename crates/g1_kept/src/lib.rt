@@ -24,6 +24,7 @@ pub mod laws;
 mod linking;
 mod lost;
 mod pairs;
+mod pause;
 mod region_set;
 mod tables;
 

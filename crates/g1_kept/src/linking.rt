@@ -3,12 +3,13 @@ ghost use Rattle.g1_words.specs.Heap.{word, start, top, object_at, objects};
 ghost use Rattle.g1_words.specs.Survivors.{in_set};
 ghost use Rattle.g1_same.specs.Walk.{AreAlike, Names};
 ghost use Rattle.g1_kept.specs.Keeps.{MayHoldCopy};
-ghost use Rattle.g1_kept.specs.Lost.{Match, LeadsOut, Disagree, IsLoss};
-ghost use Rattle.g1_kept.specs.Order.{IsMetFirst};
-ghost use Rattle.g1_kept.specs.Walk.{IsWalk, HasGrown, IsPaired, IsMet, PairsRoots, PairsSlots, Searches, PassesWords, StopsAtWords, PassesObjects, StopsAtObjects};
+ghost use Rattle.g1_kept.specs.Lost.{LeadsOut, Disagree};
+ghost use Rattle.g1_kept.specs.Walk.{HasGrown, IsPaired, IsMet, PairsRoots, PairsSlots, PassesWords, StopsAtWords};
+ghost use Rattle.g1_kept.specs.Pause.{MatchIn, IsLossIn, IsMetFirstIn, IsWalkIn, SearchesIn, PassesObjectsIn, StopsAtObjectsIn};
 
 use crate::lost::Lost;
 use crate::pairs::Pairs;
+use crate::pause::Pause;
 use crate::region_set::RegionSet;
 use g1_words::{Heap, region_of, slots};
 use std::alloc::AllocError;
@@ -52,24 +53,16 @@ fn may_hold_copy(before: &Heap, fill: bool, b: u64) -> bool
 }
 
 // What two words are to the walk.
-fn meet(
-    before: &Heap,
-    after: &Heap,
-    set: &RegionSet<'_>,
-    fill: bool,
-    pairs: &Pairs,
-    x: u64,
-    y: u64,
-) -> Met
-    requires walk { IsWalk fill set.now before.now after.now pairs.now }
-    requires sizes { length after.now.words ≡ length before.now.words }
-    requires x { Names before.now x }
-    requires y { Names after.now y }
-    ensures { IsMet fill set.now before.now after.now pairs.now x y result }
+fn meet(pause: &Pause<'_>, pairs: &Pairs, x: u64, y: u64) -> Met
+    requires walk { IsWalkIn pause.now pairs.now }
+    requires sizes { length pause.now.after.now.words ≡ length pause.now.before.now.words }
+    requires x { Names pause.now.before.now x }
+    requires y { Names pause.now.after.now y }
+    ensures { let p = pause.now in IsMet p.fill p.set.now p.before.now p.after.now pairs.now x y result }
 {
-    g1_words::laws::valid(before);
-    g1_words::laws::valid(after);
-    if !leads_in(before, set, x) {
+    g1_words::laws::valid(pause.before);
+    g1_words::laws::valid(pause.after);
+    if !leads_in(pause.before, pause.set, x) {
         if x == y {
             return Met::Agree;
         }
@@ -88,7 +81,7 @@ fn meet(
     if i != 0 {
         return Met::Agree;
     }
-    if may_hold_copy(before, fill, b) {
+    if may_hold_copy(pause.before, pause.fill, b) {
         Met::New { a, b }
     } else {
         Met::Occupied { a, b }
@@ -97,31 +90,28 @@ fn meet(
 
 // Links two words, or returns what is lost: this if they disagree.
 fn link(
-    before: &Heap,
-    after: &Heap,
-    set: &RegionSet<'_>,
-    fill: bool,
+    pause: &Pause<'_>,
     pairs: &mut Pairs,
     x: u64,
     y: u64,
     other: Lost,
 ) -> Result<Option<Lost>, AllocError>
-    requires walk { IsWalk fill set.now before.now after.now pairs.old }
-    requires sizes { length after.now.words ≡ length before.now.words }
-    requires x { Names before.now x }
-    requires y { Names after.now y }
-    requires found { (a b : ℕ) → x ≡ suc a → y ≡ suc b → IsTrue (in_set before.now set.now a) → Match set.now before.now after.now a b }
-    requires other { Disagree set.now before.now after.now x y → IsLoss fill set.now before.now after.now other }
-    ensures walk { OnOk result (IsWalk fill set.now before.now after.now pairs.new) }
+    requires walk { IsWalkIn pause.now pairs.old }
+    requires sizes { length pause.now.after.now.words ≡ length pause.now.before.now.words }
+    requires x { Names pause.now.before.now x }
+    requires y { Names pause.now.after.now y }
+    requires found { (a b : ℕ) → x ≡ suc a → y ≡ suc b → IsTrue (in_set pause.now.before.now pause.now.set.now a) → MatchIn pause.now a b }
+    requires other { let p = pause.now in Disagree p.set.now p.before.now p.after.now x y → IsLossIn p other }
+    ensures walk { OnOk result (IsWalkIn pause.now pairs.new) }
     ensures grown { OnOk result (HasGrown pairs.old pairs.new) }
-    ensures paired { IfOk result (λ o. IfNone o (IsPaired set.now before.now pairs.new x y)) }
-    ensures lost { IfOk result (λ o. IfSome o (λ l. IsLoss fill set.now before.now after.now l)) }
-    ensures passed { IfOk result (λ o. IfNone o (PassesWords fill set.now before.now after.now pairs.old pairs.new x y)) }
-    ensures first { IfOk result (λ o. IfSome o (λ l. StopsAtWords fill set.now before.now after.now pairs.old x y other l)) }
+    ensures paired { IfOk result (λ o. IfNone o (IsPaired pause.now.set.now pause.now.before.now pairs.new x y)) }
+    ensures lost { IfOk result (λ o. IfSome o (λ l. IsLossIn pause.now l)) }
+    ensures passed { let p = pause.now in IfOk result (λ o. IfNone o (PassesWords p.fill p.set.now p.before.now p.after.now pairs.old pairs.new x y)) }
+    ensures first { let p = pause.now in IfOk result (λ o. IfSome o (λ l. StopsAtWords p.fill p.set.now p.before.now p.after.now pairs.old x y other l)) }
 {
-    g1_words::laws::valid(before);
-    g1_words::laws::valid(after);
-    match meet(before, after, set, fill, pairs, x, y) {
+    g1_words::laws::valid(pause.before);
+    g1_words::laws::valid(pause.after);
+    match meet(pause, pairs, x, y) {
         Met::Agree => Ok(None),
         Met::Differ => Ok(Some(other)),
         Met::Occupied { a, b } => Ok(Some(Lost::Copy {
@@ -136,32 +126,26 @@ fn link(
 }
 
 /// Links the roots, by number.
-pub(crate) fn link_roots(
-    before: &Heap,
-    after: &Heap,
-    set: &RegionSet<'_>,
-    fill: bool,
-    pairs: &mut Pairs,
-) -> Result<Option<Lost>, AllocError>
-    requires walk { IsWalk fill set.now before.now after.now pairs.old }
-    requires sizes { length after.now.words ≡ length before.now.words }
-    requires roots { length after.now.roots ≡ length before.now.roots }
+pub(crate) fn link_roots(pause: &Pause<'_>, pairs: &mut Pairs) -> Result<Option<Lost>, AllocError>
+    requires walk { IsWalkIn pause.now pairs.old }
+    requires sizes { length pause.now.after.now.words ≡ length pause.now.before.now.words }
+    requires roots { length pause.now.after.now.roots ≡ length pause.now.before.now.roots }
     requires none { pairs.old.before.items ≡ [] }
-    ensures walk { OnOk result (IsWalk fill set.now before.now after.now pairs.new) }
-    ensures paired { IfOk result (λ o. IfNone o (PairsRoots set.now before.now after.now pairs.new (length before.now.roots))) }
-    ensures lost { IfOk result (λ o. IfSome o (λ l. IsLoss fill set.now before.now after.now l)) }
-    ensures searched { IfOk result (λ o. IfNone o (Searches fill set.now before.now after.now pairs.new 1 0)) }
-    ensures first { IfOk result (λ o. IfSome o (λ l. IsMetFirst fill set.now before.now after.now l)) }
+    ensures walk { OnOk result (IsWalkIn pause.now pairs.new) }
+    ensures paired { let p = pause.now in IfOk result (λ o. IfNone o (PairsRoots p.set.now p.before.now p.after.now pairs.new (length p.before.now.roots))) }
+    ensures lost { IfOk result (λ o. IfSome o (λ l. IsLossIn pause.now l)) }
+    ensures searched { IfOk result (λ o. IfNone o (SearchesIn pause.now pairs.new 1 0)) }
+    ensures first { IfOk result (λ o. IfSome o (λ l. IsMetFirstIn pause.now l)) }
 {
-    g1_words::laws::valid(before);
-    g1_words::laws::valid(after);
-    let old = before.roots();
-    let new = after.roots();
+    g1_words::laws::valid(pause.before);
+    g1_words::laws::valid(pause.after);
+    let old = pause.before.roots();
+    let new = pause.after.roots();
     for number in 0..old.len() {
         let x = old[number];
         let y = new[number];
         let other = Lost::Root(number as u64);
-        if let Some(lost) = link(before, after, set, fill, pairs, x, y, other)? {
+        if let Some(lost) = link(pause, pairs, x, y, other)? {
             return Ok(Some(lost));
         }
     }
@@ -170,33 +154,30 @@ pub(crate) fn link_roots(
 
 /// Links the slots of two objects that match, by number.
 pub(crate) fn link_slots(
-    before: &Heap,
-    after: &Heap,
-    set: &RegionSet<'_>,
-    fill: bool,
+    pause: &Pause<'_>,
     pairs: &mut Pairs,
     a: u64,
     b: u64,
 ) -> Result<Option<Lost>, AllocError>
-    requires walk { IsWalk fill set.now before.now after.now pairs.old }
-    requires sizes { length after.now.words ≡ length before.now.words }
-    requires a { Contains (objects before.now) (object_at before.now a) }
-    requires b { Contains (objects after.now) (object_at after.now b) }
-    requires matched { Match set.now before.now after.now a b }
-    requires alike { AreAlike before.now after.now a b }
-    ensures walk { OnOk result (IsWalk fill set.now before.now after.now pairs.new) }
+    requires walk { IsWalkIn pause.now pairs.old }
+    requires sizes { length pause.now.after.now.words ≡ length pause.now.before.now.words }
+    requires a { Contains (objects pause.now.before.now) (object_at pause.now.before.now a) }
+    requires b { Contains (objects pause.now.after.now) (object_at pause.now.after.now b) }
+    requires matched { MatchIn pause.now a b }
+    requires alike { AreAlike pause.now.before.now pause.now.after.now a b }
+    ensures walk { OnOk result (IsWalkIn pause.now pairs.new) }
     ensures grown { OnOk result (HasGrown pairs.old pairs.new) }
-    ensures paired { IfOk result (λ o. IfNone o (PairsSlots set.now before.now after.now pairs.new a b (object_at before.now a).refs)) }
-    ensures lost { IfOk result (λ o. IfSome o (λ l. IsLoss fill set.now before.now after.now l)) }
-    ensures passed { IfOk result (λ o. IfNone o (PassesObjects fill set.now before.now after.now pairs.old pairs.new a b 1)) }
-    ensures first { IfOk result (λ o. IfSome o (λ l. StopsAtObjects fill set.now before.now after.now pairs.old a b 1 l)) }
+    ensures paired { let p = pause.now in IfOk result (λ o. IfNone o (PairsSlots p.set.now p.before.now p.after.now pairs.new a b (object_at p.before.now a).refs)) }
+    ensures lost { IfOk result (λ o. IfSome o (λ l. IsLossIn pause.now l)) }
+    ensures passed { IfOk result (λ o. IfNone o (PassesObjectsIn pause.now pairs.old pairs.new a b 1)) }
+    ensures first { IfOk result (λ o. IfSome o (λ l. StopsAtObjectsIn pause.now pairs.old a b 1 l)) }
 {
-    g1_words::laws::valid(before);
-    g1_words::laws::valid(after);
-    let old = before.object(a);
-    let new = after.object(b);
-    let here = slots(before.words(), &old);
-    let there = slots(after.words(), &new);
+    g1_words::laws::valid(pause.before);
+    g1_words::laws::valid(pause.after);
+    let old = pause.before.object(a);
+    let new = pause.after.object(b);
+    let here = slots(pause.before.words(), &old);
+    let there = slots(pause.after.words(), &new);
     for number in 0..here.len() {
         let x = here[number];
         let y = there[number];
@@ -205,7 +186,7 @@ pub(crate) fn link_slots(
             after: b,
             slot: number as u64,
         };
-        if let Some(lost) = link(before, after, set, fill, pairs, x, y, other)? {
+        if let Some(lost) = link(pause, pairs, x, y, other)? {
             return Ok(Some(lost));
         }
     }

@@ -1,9 +1,9 @@
 ghost use Rattle.std.specs.Prelude.{◌≡◌, ◌<◌, ◌≤◌, ◌++◌, ◌∷◌, [], suc, length, replicate, slice_set, IfOk, OnOk};
 ghost use Rattle.g1_words.specs.Geometry.{most_words};
 ghost use Rattle.g1_words.specs.Valid.{IsValid};
-ghost use Rattle.g1_kept.specs.Walk.{IsWalk};
+ghost use Rattle.g1_kept.specs.Pause.{IsWalkIn};
 
-use crate::region_set::RegionSet;
+use crate::pause::Pause;
 use g1_words::Heap;
 use std::alloc::{AllocError, Global};
 
@@ -28,25 +28,19 @@ fn zeros(alloc: Global, count: usize) -> Result<Vec<u32>, AllocError>
 }
 
 /// No pairs.
-pub(crate) fn start(
-    alloc: Global,
-    before: &Heap,
-    after: &Heap,
-    set: &RegionSet<'_>,
-    fill: bool,
-) -> Result<Pairs, AllocError>
-    ensures walk { IfOk result (λ w. IsWalk fill set.now before.now after.now w) }
+pub(crate) fn start(alloc: Global, pause: &Pause<'_>) -> Result<Pairs, AllocError>
+    ensures walk { IfOk result (λ w. IsWalkIn pause.now w) }
     ensures none { IfOk result (λ w. w.before.items ≡ []) }
-    ensures before { IsValid before.now }
-    ensures after { IsValid after.now }
+    ensures before { IsValid pause.now.before.now }
+    ensures after { IsValid pause.now.after.now }
 {
-    g1_words::laws::valid(before);
-    g1_words::laws::valid(after);
+    g1_words::laws::valid(pause.before);
+    g1_words::laws::valid(pause.after);
     Ok(Pairs {
         before: Vec::new(alloc),
         after: Vec::new(alloc),
-        new_of: zeros(alloc, before.words().len())?,
-        old_of: zeros(alloc, after.words().len())?,
+        new_of: zeros(alloc, pause.before.words().len())?,
+        old_of: zeros(alloc, pause.after.words().len())?,
     })
 }
 

@@ -1,12 +1,13 @@
 ghost use Rattle.std.specs.Prelude.{◌≡◌, ◌≢◌, ◌<◌, ◌≤◌, ◌+◌, ◌↔◌, ℕ, IfSome, IfNone, IsTrue, IsFalse};
 ghost use Rattle.g1_words.specs.declared.region.Kind.TheVariants.{Free};
 ghost use Rattle.g1_words.specs.Heap.{kind, start, top};
-ghost use Rattle.g1_kept.specs.Keeps.{MayHoldCopy, IsFreed, KeepsRegion, KeepsTable};
-ghost use Rattle.g1_kept.specs.Lost.{HasOtherTop, IsLoss};
-ghost use Rattle.g1_kept.specs.Order.{IsEarliest, KeepsBefore};
+ghost use Rattle.g1_kept.specs.Keeps.{MayHoldCopy, IsFreed, KeepsRegion};
+ghost use Rattle.g1_kept.specs.Lost.{HasOtherTop};
+ghost use Rattle.g1_kept.specs.Order.{KeepsBefore};
+ghost use Rattle.g1_kept.specs.Pause.{IsLossIn, IsEarliestIn, KeepsTableIn};
 
 use crate::lost::Lost;
-use crate::region_set::RegionSet;
+use crate::pause::Pause;
 use g1_words::Heap;
 
 // Whether two heaps have the same sizes.
@@ -53,31 +54,25 @@ fn has_other_top(before: &Heap, after: &Heap, fill: bool, number: u32) -> bool
 }
 
 // What is lost of a region, by the entries of the heaps' tables.
-fn compare_entries(
-    before: &Heap,
-    after: &Heap,
-    set: &RegionSet<'_>,
-    fill: bool,
-    number: u32,
-) -> Option<Lost>
-    requires sizes { after.now.geometry ≡ before.now.geometry }
-    requires region { number < before.now.geometry.n }
-    ensures none { IfNone result (KeepsRegion fill set.now before.now after.now number) }
-    ensures some { IfSome result (λ l. IsLoss fill set.now before.now after.now l) }
-    ensures earliest { IfSome result (λ l. KeepsBefore fill set.now before.now after.now number → IsEarliest fill set.now before.now after.now l) }
+fn compare_entries(pause: &Pause<'_>, number: u32) -> Option<Lost>
+    requires sizes { pause.now.after.now.geometry ≡ pause.now.before.now.geometry }
+    requires region { number < pause.now.before.now.geometry.n }
+    ensures none { let p = pause.now in IfNone result (KeepsRegion p.fill p.set.now p.before.now p.after.now number) }
+    ensures some { IfSome result (λ l. IsLossIn pause.now l) }
+    ensures earliest { let p = pause.now in IfSome result (λ l. KeepsBefore p.fill p.set.now p.before.now p.after.now number → IsEarliestIn p l) }
 {
-    let old = before.region(number);
-    let new = after.region(number);
-    if set.has(u64::from(number)) {
+    let old = pause.before.region(number);
+    let new = pause.after.region(number);
+    if pause.set.has(u64::from(number)) {
         if new.kind.is_free() {
             return None;
         }
         return Some(Lost::Set(number));
     }
-    if old.kind.is_free() || is_freed(before, after, number) {
+    if old.kind.is_free() || is_freed(pause.before, pause.after, number) {
         return None;
     }
-    if old.kind != new.kind || has_other_top(before, after, fill, number) {
+    if old.kind != new.kind || has_other_top(pause.before, pause.after, pause.fill, number) {
         return Some(Lost::Region(number));
     }
     if old.pinned && !new.pinned {
@@ -90,21 +85,16 @@ fn compare_entries(
 }
 
 /// What is lost of the sizes and of the first region that is not as it has to be.
-pub(crate) fn compare_tables(
-    before: &Heap,
-    after: &Heap,
-    set: &RegionSet<'_>,
-    fill: bool,
-) -> Option<Lost>
-    ensures none { IfNone result (KeepsTable fill set.now before.now after.now) }
-    ensures some { IfSome result (λ l. IsLoss fill set.now before.now after.now l) }
-    ensures earliest { IfSome result (λ l. IsEarliest fill set.now before.now after.now l) }
+pub(crate) fn compare_tables(pause: &Pause<'_>) -> Option<Lost>
+    ensures none { IfNone result (KeepsTableIn pause.now) }
+    ensures some { IfSome result (λ l. IsLossIn pause.now l) }
+    ensures earliest { IfSome result (λ l. IsEarliestIn pause.now l) }
 {
-    if !have_same_sizes(before, after) {
+    if !have_same_sizes(pause.before, pause.after) {
         return Some(Lost::Sizes);
     }
-    for number in 0..before.geometry().regions() as u32 {
-        if let Some(lost) = compare_entries(before, after, set, fill, number) {
+    for number in 0..pause.before.geometry().regions() as u32 {
+        if let Some(lost) = compare_entries(pause, number) {
             return Some(lost);
         }
     }

@@ -3,7 +3,7 @@ ghost use Rattle.g1_words.specs.declared.fault.Fault.TheVariants.{Memory};
 ghost use Rattle.g1_words.specs.Live.{IsLiveBytes};
 ghost use Rattle.g1_words.specs.Survivors.{Survivors};
 ghost use Rattle.g1_words.specs.Valid.{IsValid};
-ghost use Rattle.g1_work.specs.Team.{AreWorkers, IsChunk};
+ghost use Rattle.g1_work.specs.Team.{IsTeam};
 ghost use Rattle.g1_rem.specs.Starts.{IsStartsOf};
 ghost use Rattle.g1_mark.specs.Marked.{used};
 
@@ -61,8 +61,7 @@ pub fn live_bytes<R: Threads + Sync, G: Gate + Sync>(
     gate: &G,
 ) -> Result<Vec<u64>, Fault>
     requires starts { IsStartsOf heap.now starts.now }
-    requires workers { AreWorkers workers }
-    requires chunk { IsChunk chunk }
+    requires team { IsTeam workers chunk }
     ensures ok { IfOk result (λ v. IsLiveBytes heap.now v.items) }
     ensures only { IfOk result (λ v. (l : List ℕ) → IsLiveBytes heap.now l → l ≡ v.items) }
     ensures memory { IfErr result (λ e. e ≡ Memory) }

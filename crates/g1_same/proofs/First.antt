@@ -291,7 +291,7 @@ module _ (g h : Heap) (left : IsValid g) (right : IsValid h) (w : Walk) (walk : 
   none_lower x y how other k l lt c = absurd (omega (arith, lt))
 
 module _ (g h : Heap) (left : IsValid g) (right : IsValid h) (w : Walk) (walk : IsWalk g h w) where
-  pub first : (s : Stop) (k : ℕ) (ss : Vec ℕ Global) → length g.roots ≡ length h.roots → LinksTo g h w s.from s.number → IsStop g h w s → IsRoute w s.from s.number (k ∷ ss.items)
+  pub first : (s : Stop) (k : ℕ) (ss : Vec ℕ Global) → length g.roots ≡ length h.roots → LinksTo g h w s.way.from s.way.number → IsStop g h w s → IsRoute w s.way.from s.way.number (k ∷ ss.items)
       → IsFirstDifference g h (At k ss s.how)
   first s k ss count links stop at =
       let p : List ℕ = k ∷ ss.items in
@@ -300,13 +300,13 @@ module _ (g h : Heap) (left : IsValid g) (right : IsValid h) (w : Walk) (walk : 
         is = here;
         earliest = (
           count,
-          none_earlier g h left right w walk s.from s.number p links at,
+          none_earlier g h left right w walk s.way.from s.way.number p links at,
           λ other lt c.
-              let there : Together g h p stop.0 stop.1 = route_leads g h w walk s.from s.number p at stop.0 stop.1 stop.2 in
-              let clash : IsClash g h p s.how stop.0 stop.1 = seen_clash g h w walk s.from s.number stop.0 stop.1 p s.how stop.4 at stop.3 in
+              let there : Together g h p stop.0 stop.1 = route_leads g h w walk s.way.from s.way.number p at stop.0 stop.1 stop.2 in
+              let clash : IsClash g h p s.how stop.0 stop.1 = seen_clash g h w walk s.way.from s.way.number stop.0 stop.1 p s.how stop.4 at stop.3 in
               let ex : c.0 ≡ stop.0 = leads_to_one g p c.0 stop.0 c.2.0 there.0 in
               let ey : c.1 ≡ stop.1 = leads_to_one h p c.1 stop.1 c.2.1 there.1 in
               let d : IsClash g h p other stop.0 stop.1 = subst (λ z. IsClash g h p other z stop.1) ex (subst (λ z. IsClash g h p other c.0 z) ey c.3) in
-              none_lower g h left right w walk s.from s.number p links at stop.0 stop.1 s.how other clash stop.5 lt d,
+              none_lower g h left right w walk s.way.from s.way.number p links at stop.0 stop.1 s.how other clash stop.5 lt d,
         );
       }

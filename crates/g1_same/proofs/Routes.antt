@@ -118,5 +118,5 @@ module _ (g h : Heap) (w : Walk) (walk : IsWalk g h w) where
   seen_clash f n x y p (Data a) below r s = s p
 
   -- where a walk ends there is a difference
-  pub stopped : (s : Stop) (p : List ℕ) → IsStop g h w s → IsRoute w s.from s.number p → ClashAt g h p s.how
-  stopped s p k r = (k.0, k.1, route_leads s.from s.number p r k.0 k.1 k.2, seen_clash s.from s.number k.0 k.1 p s.how k.4 r k.3)
+  pub stopped : (s : Stop) (p : List ℕ) → IsStop g h w s → IsRoute w s.way.from s.way.number p → ClashAt g h p s.how
+  stopped s p k r = (k.0, k.1, route_leads s.way.from s.way.number p r k.0 k.1 k.2, seen_clash s.way.from s.way.number k.0 k.1 p s.how k.4 r k.3)

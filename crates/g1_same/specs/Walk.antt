@@ -138,4 +138,4 @@ IsMet g h w x y (Clash how) = IsSeen g h w how x y × IsLeast g h w how x y
 -- the walk ends at two words that disagree
 abbrev pub IsStop : Heap → Heap → Walk → Stop → Type 0
 IsStop g h w s =
-    (x : ℕ) × (y : ℕ) × IsWay g h w.before.items w.after.items s.from s.number x y × IsSeen g h w s.how x y × IsBelow w s.from s.number × IsLeast g h w s.how x y
+    (x : ℕ) × (y : ℕ) × IsWay g h w.before.items w.after.items s.way.from s.way.number x y × IsSeen g h w s.how x y × IsBelow w s.way.from s.way.number × IsLeast g h w s.how x y

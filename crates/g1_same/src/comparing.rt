@@ -9,7 +9,7 @@ ghost use Rattle.g1_same.specs.Walk.{IsWalk, IsWay, IsBelow, IsLinked, HasGrown,
 use crate::difference::Difference;
 use crate::meeting::link;
 use crate::renaming::Renaming;
-use crate::walk::{Stop, Walk, start};
+use crate::walk::{Stop, Walk, Way, start};
 use g1_words::{Fault, Heap, slots};
 use std::alloc::{AllocError, Global};
 
@@ -22,7 +22,7 @@ fn link_roots(before: &Heap, after: &Heap, walk: &mut Walk) -> Result<Option<Sto
     ensures linked { IfOk result (λ o. IfNone o (LinksRoots before.now after.now walk.new (length before.now.roots))) }
     ensures below { OnOk result (IsBelow walk.new 1 0) }
     ensures stop { IfOk result (λ o. IfSome o (λ s. IsStop before.now after.now walk.new s)) }
-    ensures until { IfOk result (λ o. IfSome o (λ s. LinksTo before.now after.now walk.new s.from s.number)) }
+    ensures until { IfOk result (λ o. IfSome o (λ s. LinksTo before.now after.now walk.new s.way.from s.way.number)) }
 {
     g1_words::laws::valid(before);
     g1_words::laws::valid(after);
@@ -31,13 +31,12 @@ fn link_roots(before: &Heap, after: &Heap, walk: &mut Walk) -> Result<Option<Sto
     for number in 0..roots.len() {
         let x = roots[number];
         let y = others[number];
-        let number = number as u32;
-        if let Some(how) = link(before, after, walk, 0, number, x, y)? {
-            return Ok(Some(Stop {
-                from: 0,
-                number,
-                how,
-            }));
+        let way = Way {
+            from: 0,
+            number: number as u32,
+        };
+        if let Some(how) = link(before, after, walk, way, x, y)? {
+            return Ok(Some(Stop { way, how }));
         }
     }
     Ok(None)
@@ -58,7 +57,7 @@ fn link_slots(
     ensures linked { IfOk result (λ o. IfNone o (LinksSlots before.now after.now walk.new place (object_at before.now (slice_index walk.old.before.items place)).refs)) }
     ensures below { OnOk result (IsBelow walk.new (place + 2) 0) }
     ensures stop { IfOk result (λ o. IfSome o (λ s. IsStop before.now after.now walk.new s)) }
-    ensures until { IfOk result (λ o. IfSome o (λ s. (s.from ≡ suc place) × LinksSlots before.now after.now walk.new place s.number)) }
+    ensures until { IfOk result (λ o. IfSome o (λ s. (s.way.from ≡ suc place) × LinksSlots before.now after.now walk.new place s.way.number)) }
 {
     g1_words::laws::valid(before);
     g1_words::laws::valid(after);
@@ -70,9 +69,12 @@ fn link_slots(
     for number in 0..here.len() {
         let x = here[number];
         let y = there[number];
-        let number = number as u32;
-        if let Some(how) = link(before, after, walk, from, number, x, y)? {
-            return Ok(Some(Stop { from, number, how }));
+        let way = Way {
+            from,
+            number: number as u32,
+        };
+        if let Some(how) = link(before, after, walk, way, x, y)? {
+            return Ok(Some(Stop { way, how }));
         }
     }
     Ok(None)
@@ -87,7 +89,7 @@ fn link_pairs(before: &Heap, after: &Heap, walk: &mut Walk) -> Result<Option<Sto
     ensures roots { OnOk result (LinksRoots before.now after.now walk.new (length before.now.roots)) }
     ensures pairs { IfOk result (λ o. IfNone o (LinksPairs before.now after.now walk.new (length walk.new.before.items))) }
     ensures stop { IfOk result (λ o. IfSome o (λ s. IsStop before.now after.now walk.new s)) }
-    ensures until { IfOk result (λ o. IfSome o (λ s. LinksTo before.now after.now walk.new s.from s.number)) }
+    ensures until { IfOk result (λ o. IfSome o (λ s. LinksTo before.now after.now walk.new s.way.from s.way.number)) }
 {
     g1_words::laws::valid(before);
     g1_words::laws::valid(after);
@@ -111,15 +113,15 @@ fn report_difference(
 ) -> Result<Difference, AllocError>
     requires walk { IsWalk before.now after.now walk.now }
     requires stop { IsStop before.now after.now walk.now stop }
-    requires until { LinksTo before.now after.now walk.now stop.from stop.number }
+    requires until { LinksTo before.now after.now walk.now stop.way.from stop.way.number }
     requires roots { length before.now.roots ≡ length after.now.roots }
     ensures { IfOk result (λ d. IsFirstDifference before.now after.now d) }
 {
     g1_words::laws::valid(before);
     g1_words::laws::valid(after);
     let mut slots = Vec::new(alloc);
-    let mut from = stop.from;
-    let mut number = stop.number;
+    let mut from = stop.way.from;
+    let mut number = stop.way.number;
     while from > 0 {
         slots.push(number as u64)?;
         let place = (from - 1) as usize;

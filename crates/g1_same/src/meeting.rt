@@ -5,7 +5,7 @@ ghost use Rattle.g1_same.specs.Same.{IsClash};
 ghost use Rattle.g1_same.specs.Walk.{IsWalk, IsWay, IsBelow, IsLinked, HasGrown, AreAlike, IsMet, IsSeen, IsLeast, IsLower, Names};
 
 use crate::difference::How;
-use crate::walk::Walk;
+use crate::walk::{Walk, Way};
 use g1_words::Heap;
 use std::alloc::AllocError;
 
@@ -117,22 +117,21 @@ pub fn link(
     before: &Heap,
     after: &Heap,
     walk: &mut Walk,
-    from: u32,
-    number: u32,
+    way: Way,
     x: u64,
     y: u64,
 ) -> Result<Option<How>, AllocError>
     requires walk { IsWalk before.now after.now walk.old }
-    requires below { IsBelow walk.old from number }
-    requires way { IsWay before.now after.now walk.old.before.items walk.old.after.items from number x y }
-    requires backward { from ≤ length walk.old.before.items }
+    requires below { IsBelow walk.old way.from way.number }
+    requires way { IsWay before.now after.now walk.old.before.items walk.old.after.items way.from way.number x y }
+    requires backward { way.from ≤ length walk.old.before.items }
     requires x { Names before.now x }
     requires y { Names after.now y }
     ensures walk { OnOk result (IsWalk before.now after.now walk.new) }
     ensures grown { OnOk result (HasGrown walk.old walk.new) }
-    ensures linked { IfOk result (λ o. IfNone o (IsLinked walk.new from number x y)) }
-    ensures below { OnOk result (IsBelow walk.new from (number + 1)) }
-    ensures clash { IfOk result (λ o. IfSome o (λ how. IsSeen before.now after.now walk.new how x y × IsBelow walk.new from number × IsLeast before.now after.now walk.new how x y)) }
+    ensures linked { IfOk result (λ o. IfNone o (IsLinked walk.new way.from way.number x y)) }
+    ensures below { OnOk result (IsBelow walk.new way.from (way.number + 1)) }
+    ensures clash { IfOk result (λ o. IfSome o (λ how. IsSeen before.now after.now walk.new how x y × IsBelow walk.new way.from way.number × IsLeast before.now after.now walk.new how x y)) }
 {
     g1_words::laws::valid(before);
     g1_words::laws::valid(after);
@@ -140,7 +139,7 @@ pub fn link(
         Met::Known => Ok(None),
         Met::Clash(how) => Ok(Some(how)),
         Met::New { a, b } => {
-            walk.add(from, number, a, b)?;
+            walk.add(way, a, b)?;
             Ok(None)
         }
     }

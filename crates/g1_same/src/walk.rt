@@ -25,11 +25,18 @@ pub struct Walk {
     pub old_of: Vec<u32>,
 }
 
+/// The way to two words: the root of this number if `from` is 0, else the slot of this number of the
+/// pair before place `from`.
+#[derive(Clone, Copy, Drop)]
+pub struct Way {
+    pub from: u32,
+    pub number: u32,
+}
+
 /// Where a walk ends at two words that disagree: the way to them, and how.
 #[derive(Clone, Copy, Drop)]
 pub struct Stop {
-    pub from: u32,
-    pub number: u32,
+    pub way: Way,
     pub how: How,
 }
 
@@ -60,22 +67,22 @@ pub fn start(alloc: Global, before: &Heap, after: &Heap) -> Result<Walk, AllocEr
 
 impl Walk {
     /// Adds a pair, found by this way.
-    pub fn add(&mut self, from: u32, number: u32, a: u64, b: u64) -> Result<(), AllocError>
+    pub fn add(&mut self, way: Way, a: u64, b: u64) -> Result<(), AllocError>
         requires a { a < length self.old.new_of.items }
         requires b { b < length self.old.old_of.items }
         requires few { length self.old.before.items ≤ most_words }
         ensures before { OnOk result (self.new.before.items ≡ self.old.before.items ++ a ∷ []) }
         ensures after { OnOk result (self.new.after.items ≡ self.old.after.items ++ b ∷ []) }
-        ensures from { OnOk result (self.new.from.items ≡ self.old.from.items ++ from ∷ []) }
-        ensures number { OnOk result (self.new.number.items ≡ self.old.number.items ++ number ∷ []) }
+        ensures from { OnOk result (self.new.from.items ≡ self.old.from.items ++ way.from ∷ []) }
+        ensures number { OnOk result (self.new.number.items ≡ self.old.number.items ++ way.number ∷ []) }
         ensures new_of { OnOk result (self.new.new_of.items ≡ slice_set self.old.new_of.items a (suc (length self.old.before.items))) }
         ensures old_of { OnOk result (self.new.old_of.items ≡ slice_set self.old.old_of.items b (suc (length self.old.before.items))) }
     {
         let place = self.before.len() as u32 + 1;
         self.before.push(a)?;
         self.after.push(b)?;
-        self.from.push(from)?;
-        self.number.push(number)?;
+        self.from.push(way.from)?;
+        self.number.push(way.number)?;
         self.new_of[a as usize] = place;
         self.old_of[b as usize] = place;
         Ok(())

@@ -12,8 +12,9 @@ use Rattle.g1_kept.proofs.keeping.compare_outside.Goals.{then-is_compared+in_ok-
 
 pub loop-region-preserved : goal.loop-region-preserved
 loop-region-preserved c =
-    let g : Heap = c.args.before.now in
-    let h : Heap = c.args.after.now in
+    let pause = c.args.pause.now in
+    let g : Heap = pause.before.now in
+    let h : Heap = pause.after.now in
     let w : Pairs = c.loop-region.pairs in
     let k : ℕ = c.loop-region.region in
     let now : Pairs = c.if-is_compared.pairs in
@@ -22,29 +23,29 @@ loop-region-preserved c =
       | then-is_compared+in_ok-lost+in_default w' ↦
           let v : Pairs = w'.compare_region.new.pairs in
           let grown : HasGrown w v = w'.in_ok-lost.ensures.grown in
-          let one : ComparesRegion c.args.set.now g h v k = none_then (ComparesRegion c.args.set.now g h v k) w'.in_ok-lost.field-0 w'.in_default.not-Some w'.in_ok-lost.ensures.compared in
-          let on = none_then (Searches c.args.fill c.args.set.now g h v (suc (start g (k + 1))) 0) w'.in_ok-lost.field-0 w'.in_default.not-Some w'.in_ok-lost.ensures.searched in
+          let one : ComparesRegion pause.set.now g h v k = none_then (ComparesRegion pause.set.now g h v k) w'.in_ok-lost.field-0 w'.in_default.not-Some w'.in_ok-lost.ensures.compared in
+          let on = none_then (Searches pause.fill pause.set.now g h v (suc (start g (k + 1))) 0) w'.in_ok-lost.field-0 w'.in_default.not-Some w'.in_ok-lost.ensures.searched in
           record {
-            walk = subst (IsWalk c.args.fill c.args.set.now g h) (sym w'.pairs-is) w'.in_ok-lost.ensures.walk;
-            search = subst (λ u. Searches c.args.fill c.args.set.now g h u (suc (start g (k + 1))) 0) (sym w'.pairs-is) on;
+            walk = subst (IsWalk pause.fill pause.set.now g h) (sym w'.pairs-is) w'.in_ok-lost.ensures.walk;
+            search = subst (λ u. Searches pause.fill pause.set.now g h u (suc (start g (k + 1))) 0) (sym w'.pairs-is) on;
             grown = subst (HasGrown c.args.pairs.now) (sym w'.pairs-is) (grown_more c.args.pairs.now w v c.loop-region.invariant.grown grown);
-            compared = subst (λ u. ComparesOutside c.args.set.now g h u (k + 1)) (sym w'.pairs-is) (outside_more c.args.set.now g h w v grown k c.loop-region.invariant.compared one);
+            compared = subst (λ u. ComparesOutside pause.set.now g h u (k + 1)) (sym w'.pairs-is) (outside_more pause.set.now g h w v grown k c.loop-region.invariant.compared one);
           }
       | else-is_compared w' ↦
           record {
-            walk = subst (IsWalk c.args.fill c.args.set.now g h) (sym w'.pairs-is) c.loop-region.invariant.walk;
-            search = subst (λ u. Searches c.args.fill c.args.set.now g h u (suc (start g (k + 1))) 0) (sym w'.pairs-is)
-                (region_skipped c.args.fill c.args.set.now g h c.valid.ensures c.valid-2.ensures w k in_heap
+            walk = subst (IsWalk pause.fill pause.set.now g h) (sym w'.pairs-is) c.loop-region.invariant.walk;
+            search = subst (λ u. Searches pause.fill pause.set.now g h u (suc (start g (k + 1))) 0) (sym w'.pairs-is)
+                (region_skipped pause.fill pause.set.now g h c.valid.ensures c.valid-2.ensures w k in_heap
                 (λ out used in_use. let yes : c.is_compared.result ≡ true = c.is_compared.ensures.1 (out, used, in_use) in false≢true (sym w'.if-is_compared.false ∙ yes))
                 c.loop-region.invariant.search);
             grown = subst (HasGrown c.args.pairs.now) (sym w'.pairs-is) c.loop-region.invariant.grown;
-            compared = subst (λ u. ComparesOutside c.args.set.now g h u (k + 1)) (sym w'.pairs-is)
+            compared = subst (λ u. ComparesOutside pause.set.now g h u (k + 1)) (sym w'.pairs-is)
                 (λ r lt out used in_use. elim (cases_lt r k) [
                   | inl p ↦ c.loop-region.invariant.compared r p out used in_use
                   | inr p ↦
                       let e : r ≡ k = omega (arith, lt, p) in
                       let yes : c.is_compared.result ≡ true = c.is_compared.ensures.1 (
-                        subst (λ z. IsFalse (has c.args.set.now z)) e out,
+                        subst (λ z. IsFalse (has pause.set.now z)) e out,
                         subst (λ z. kind g z ≢ Free) e used,
                         subst (λ z. kind h z ≢ Free) e in_use,
                       ) in

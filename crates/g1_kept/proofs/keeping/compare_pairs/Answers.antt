@@ -10,39 +10,45 @@ use Rattle.g1_kept.proofs.Steps.{as_many_words, pair_read}
 use Rattle.g1_kept.proofs.keeping.compare_pairs.Goals as goal
 
 pub compare_pair-requires-clause-sizes : goal.compare_pair-requires-clause-sizes
-compare_pair-requires-clause-sizes c = as_many_words c.args.fill c.args.set.now c.args.before.now c.args.after.now c.valid.ensures c.valid-2.ensures c.requires.table
+compare_pair-requires-clause-sizes c =
+    let pause = c.args.pause.now in
+    as_many_words pause.fill pause.set.now pause.before.now pause.after.now c.valid.ensures c.valid-2.ensures c.requires.table
 
 pub compare_pair-requires-clause-a : goal.compare_pair-requires-clause-a
 compare_pair-requires-clause-a c =
+    let pause = c.args.pause.now in
     let w : Pairs = c.loop-place.pairs in
     let i : ℕ = c.loop-place.place in
     let lt : i < length w.before.items = omega (arith, c.loop-place-test.true, c.len.ensures, w.before.ok) in
     let a_is = get_or_read w.before.items i c.index-a.result.now lt c.index-a.ensures 0 in
     let b_is = get_or_read w.after.items i c.index-b.result.now (omega (arith, lt, c.loop-place.invariant.walk.pairs)) c.index-b.ensures 0 in
-    (pair_read c.args.fill c.args.set.now c.args.before.now c.args.after.now w i c.index-a.result.now c.index-b.result.now c.loop-place.invariant.walk lt a_is b_is).before_in
+    (pair_read pause.fill pause.set.now pause.before.now pause.after.now w i c.index-a.result.now c.index-b.result.now c.loop-place.invariant.walk lt a_is b_is).before_in
 
 pub compare_pair-requires-clause-b : goal.compare_pair-requires-clause-b
 compare_pair-requires-clause-b c =
+    let pause = c.args.pause.now in
     let w : Pairs = c.loop-place.pairs in
     let i : ℕ = c.loop-place.place in
     let lt : i < length w.before.items = omega (arith, c.loop-place-test.true, c.len.ensures, w.before.ok) in
     let a_is = get_or_read w.before.items i c.index-a.result.now lt c.index-a.ensures 0 in
     let b_is = get_or_read w.after.items i c.index-b.result.now (omega (arith, lt, c.loop-place.invariant.walk.pairs)) c.index-b.ensures 0 in
-    (pair_read c.args.fill c.args.set.now c.args.before.now c.args.after.now w i c.index-a.result.now c.index-b.result.now c.loop-place.invariant.walk lt a_is b_is).after_in
+    (pair_read pause.fill pause.set.now pause.before.now pause.after.now w i c.index-a.result.now c.index-b.result.now c.loop-place.invariant.walk lt a_is b_is).after_in
 
 pub compare_pair-requires-clause-matched : goal.compare_pair-requires-clause-matched
 compare_pair-requires-clause-matched c =
+    let pause = c.args.pause.now in
     let w : Pairs = c.loop-place.pairs in
     let i : ℕ = c.loop-place.place in
     let lt : i < length w.before.items = omega (arith, c.loop-place-test.true, c.len.ensures, w.before.ok) in
     let a_is = get_or_read w.before.items i c.index-a.result.now lt c.index-a.ensures 0 in
     let b_is = get_or_read w.after.items i c.index-b.result.now (omega (arith, lt, c.loop-place.invariant.walk.pairs)) c.index-b.ensures 0 in
-    (pair_read c.args.fill c.args.set.now c.args.before.now c.args.after.now w i c.index-a.result.now c.index-b.result.now c.loop-place.invariant.walk lt a_is b_is).matched
+    (pair_read pause.fill pause.set.now pause.before.now pause.after.now w i c.index-a.result.now c.index-b.result.now c.loop-place.invariant.walk lt a_is b_is).matched
 
 pub loop-place-preserved : goal.loop-place-preserved
 loop-place-preserved c =
-    let g : Heap = c.args.before.now in
-    let h : Heap = c.args.after.now in
+    let pause = c.args.pause.now in
+    let g : Heap = pause.before.now in
+    let h : Heap = pause.after.now in
     let w : Pairs = c.loop-place.pairs in
     let v : Pairs = c.compare_pair.new.pairs in
     let i : ℕ = c.loop-place.place in
@@ -52,15 +58,15 @@ loop-place-preserved c =
     let a_is : a ≡ slice_index w.before.items i = get_or_read w.before.items i a lt c.index-a.ensures 0 in
     let b_is : b ≡ slice_index w.after.items i = get_or_read w.after.items i b (omega (arith, lt, c.loop-place.invariant.walk.pairs)) c.index-b.ensures 0 in
     let grown : HasGrown w v = c.in_ok-lost.ensures.grown in
-    let one : IsCompared c.args.set.now g h v a b = none_then (IsCompared c.args.set.now g h v a b) c.in_ok-lost.field-0 c.in_default.not-Some c.in_ok-lost.ensures.compared in
-    let turn : HasTurn c.args.set.now g h w (length g.words + i) a b = inr (i, lt, refl, a_is, b_is) in
-    let passed = none_then (PassesObjects c.args.fill c.args.set.now g h w v a b 0) c.in_ok-lost.field-0 c.in_default.not-Some c.in_ok-lost.ensures.passed in
+    let one : IsCompared pause.set.now g h v a b = none_then (IsCompared pause.set.now g h v a b) c.in_ok-lost.field-0 c.in_default.not-Some c.in_ok-lost.ensures.compared in
+    let turn : HasTurn pause.set.now g h w (length g.words + i) a b = inr (i, lt, refl, a_is, b_is) in
+    let passed = none_then (PassesObjects pause.fill pause.set.now g h w v a b 0) c.in_ok-lost.field-0 c.in_default.not-Some c.in_ok-lost.ensures.passed in
     let next : suc (suc (length g.words + i)) ≡ suc (length g.words + (i + 1)) = omega arith in
     record {
       walk = c.in_ok-lost.ensures.walk;
-      search = subst (λ z. Searches c.args.fill c.args.set.now g h v z 0) next (passed (length g.words + i) c.loop-place.invariant.search turn);
+      search = subst (λ z. Searches pause.fill pause.set.now g h v z 0) next (passed (length g.words + i) c.loop-place.invariant.search turn);
       grown = grown_more c.args.pairs.now w v c.loop-place.invariant.grown grown;
-      compared = pairs_more c.args.set.now g h w v grown i a b lt (sym a_is) (sym b_is) c.loop-place.invariant.compared one;
+      compared = pairs_more pause.set.now g h w v grown i a b lt (sym a_is) (sym b_is) c.loop-place.invariant.compared one;
       within = omega (arith, lt, grown.more);
     }
 
@@ -69,27 +75,30 @@ returns-in-Some-clause-grown c = grown_more c.args.pairs.now c.loop-place.pairs 
 
 pub loop-place-smaller : goal.loop-place-smaller
 loop-place-smaller c =
-    let few = few_pairs c.args.fill c.args.set.now c.args.before.now c.args.after.now c.loop-place.pairs c.valid.ensures c.loop-place.invariant.walk in
+    let pause = c.args.pause.now in
+    let few = few_pairs pause.fill pause.set.now pause.before.now pause.after.now c.loop-place.pairs c.valid.ensures c.loop-place.invariant.walk in
     let lt : c.loop-place.place < length c.loop-place.pairs.before.items = omega (arith, c.loop-place-test.true, c.len.ensures, c.loop-place.pairs.before.ok) in
-    let n : ℕ = length c.args.before.now.words in
+    let n : ℕ = length pause.before.now.words in
     let e : n - (c.loop-place.place + 1) < n - c.loop-place.place = omega (arith, few, lt) in
     e
 
 pub loop-place-init : goal.loop-place-init
 loop-place-init c =
-    let first : suc (length c.args.before.now.words) ≡ suc (length c.args.before.now.words + 0) = omega arith in
+    let pause = c.args.pause.now in
+    let first : suc (length pause.before.now.words) ≡ suc (length pause.before.now.words + 0) = omega arith in
     record {
       walk = c.requires.walk;
       grown = grown_same c.args.pairs.now;
       compared = λ i lt. absurd (omega (arith, lt));
       within = omega arith;
-      search = subst (λ z. Searches c.args.fill c.args.set.now c.args.before.now c.args.after.now c.args.pairs.now z 0) first c.requires.search;
+      search = subst (λ z. Searches pause.fill pause.set.now pause.before.now pause.after.now c.args.pairs.now z 0) first c.requires.search;
     }
 
 pub returns-in-Some-clause-first : goal.returns-in-Some-clause-first
 returns-in-Some-clause-first c =
-    let g : Heap = c.args.before.now in
-    let h : Heap = c.args.after.now in
+    let pause = c.args.pause.now in
+    let g : Heap = pause.before.now in
+    let h : Heap = pause.after.now in
     let w : Pairs = c.loop-place.pairs in
     let i : ℕ = c.loop-place.place in
     let a : ℕ = c.index-a.result.now in
@@ -97,6 +106,6 @@ returns-in-Some-clause-first c =
     let lt : i < length w.before.items = omega (arith, c.loop-place-test.true, c.len.ensures, w.before.ok) in
     let a_is : a ≡ slice_index w.before.items i = get_or_read w.before.items i a lt c.index-a.ensures 0 in
     let b_is : b ≡ slice_index w.after.items i = get_or_read w.after.items i b (omega (arith, lt, c.loop-place.invariant.walk.pairs)) c.index-b.ensures 0 in
-    let turn : HasTurn c.args.set.now g h w (length g.words + i) a b = inr (i, lt, refl, a_is, b_is) in
-    let stops = some_then (λ (l : Lost). StopsAtObjects c.args.fill c.args.set.now g h w a b 0 l) c.in_ok-lost.field-0 c.in-Some.lost c.in-Some.is c.in_ok-lost.ensures.first in
+    let turn : HasTurn pause.set.now g h w (length g.words + i) a b = inr (i, lt, refl, a_is, b_is) in
+    let stops = some_then (λ (l : Lost). StopsAtObjects pause.fill pause.set.now g h w a b 0 l) c.in_ok-lost.field-0 c.in-Some.lost c.in-Some.is c.in_ok-lost.ensures.first in
     stops (length g.words + i) c.loop-place.invariant.search turn

@@ -1,11 +1,12 @@
-use Rattle.g1_kept.specs.Walk.{IsWalk, HasGrown, ComparesFirst}
+use Rattle.g1_kept.specs.Walk.{HasGrown, ComparesFirst}
+use Rattle.g1_kept.specs.Pause.{IsWalkIn}
 use Rattle.g1_kept.proofs.Outside.{IsAlong}
 use Rattle.g1_kept.proofs.keeping.compare_region.Given as goal
 
 abbrev pub invariant-loop-place : goal.invariant-loop-place
 invariant-loop-place l = record {
-  walk : IsWalk l.fill l.set l.before l.after l.pairs;
+  walk : IsWalkIn l.pause l.pairs;
   grown : HasGrown l.initial.pairs l.pairs;
-  compared : ComparesFirst l.set l.before l.after l.pairs l.starts.items l.place;
-  along : IsAlong l.fill l.set l.before l.after l.pairs l.starts.items l.region l.place;
+  compared : ComparesFirst l.pause.set.now l.pause.before.now l.pause.after.now l.pairs l.starts.items l.place;
+  along : IsAlong l.pause.fill l.pause.set.now l.pause.before.now l.pause.after.now l.pairs l.starts.items l.region l.place;
 }

@@ -9,25 +9,28 @@ use Rattle.g1_kept.proofs.keeping.compare_words.Goals as goal
 
 pub returns-clause-none : goal.returns-clause-none
 returns-clause-none c =
-    let set = c.args.set.now in
-    let g : Heap = c.args.before.now in
-    let h : Heap = c.args.after.now in
+    let pause = c.args.pause.now in
+    let set = pause.set.now in
+    let g : Heap = pause.before.now in
+    let h : Heap = pause.after.now in
     let u : Pairs = c.link_roots.new.pairs in
     let w : Pairs = c.compare_outside.new.pairs in
     let v : Pairs = c.compare_pairs.new.pairs in
     let roots : PairsRoots set g h u (length g.roots) = none_then (PairsRoots set g h u (length g.roots)) c.in_ok-lost.field-0 c.in_default.not-Some c.in_ok-lost.ensures.paired in
     let others : ComparesOutside set g h w g.geometry.n = none_then (ComparesOutside set g h w g.geometry.n) c.in_ok-lost-2.field-0 c.in_default-2.not-Some c.in_ok-lost-2.ensures.compared in
-    ok_none_then (ComparesPairs set g h v (length v.before.items)) (Keeps c.args.fill set g h) (IsWalk c.args.fill set g h v) (HasGrown w v) c.compare_pairs.result
+    ok_none_then (ComparesPairs set g h v (length v.before.items)) (Keeps pause.fill set g h) (IsWalk pause.fill set g h v) (HasGrown w v) c.compare_pairs.result
     c.compare_pairs.ensures.compared c.compare_pairs.ensures.walk c.compare_pairs.ensures.grown
-    (λ walk grown pairs. keeps c.args.fill set g h c.in_ok-pairs.ensures.before c.in_ok-pairs.ensures.after v walk c.requires.table c.requires.roots
+    (λ walk grown pairs. keeps pause.fill set g h c.in_ok-pairs.ensures.before c.in_ok-pairs.ensures.after v walk c.requires.table c.requires.roots
     (roots_kept set g h u v (grown_more u w v c.in_ok-lost-2.ensures.grown grown) (length g.roots) roots)
     (outside_kept set g h w v grown g.geometry.n others) pairs)
 
 pub compare_outside-requires-clause-search : goal.compare_outside-requires-clause-search
 compare_outside-requires-clause-search c =
-    none_then (Searches c.args.fill c.args.set.now c.args.before.now c.args.after.now c.link_roots.new.pairs 1 0) c.in_ok-lost.field-0 c.in_default.not-Some c.in_ok-lost.ensures.searched
+    let pause = c.args.pause.now in
+    none_then (Searches pause.fill pause.set.now pause.before.now pause.after.now c.link_roots.new.pairs 1 0) c.in_ok-lost.field-0 c.in_default.not-Some c.in_ok-lost.ensures.searched
 
 pub compare_pairs-requires-clause-search : goal.compare_pairs-requires-clause-search
 compare_pairs-requires-clause-search c =
-    none_then (Searches c.args.fill c.args.set.now c.args.before.now c.args.after.now c.compare_outside.new.pairs (suc (length c.args.before.now.words)) 0)
+    let pause = c.args.pause.now in
+    none_then (Searches pause.fill pause.set.now pause.before.now pause.after.now c.compare_outside.new.pairs (suc (length pause.before.now.words)) 0)
     c.in_ok-lost-2.field-0 c.in_default-2.not-Some c.in_ok-lost-2.ensures.searched

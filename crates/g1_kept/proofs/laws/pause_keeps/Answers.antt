@@ -1,4 +1,4 @@
-use Rattle.g1_kept.proofs.Pause.{pause_keeps}
+use Rattle.g1_kept.proofs.PauseKeeps.{pause_keeps}
 use Rattle.g1_kept.proofs.laws.pause_keeps.Goals as goal
 
 pub returns : goal.returns

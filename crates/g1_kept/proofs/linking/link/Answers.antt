@@ -9,21 +9,24 @@ use Rattle.g1_kept.proofs.linking.link.Goals as goal
 
 pub add-requires-clause-a : goal.add-requires-clause-a
 add-requires-clause-a c =
-    let o = object_in c.args.before.now c.in-New.a c.valid.ensures (c.requires.x c.in-New.a c.in-New.ensures.0) in
+    let o = object_in c.args.pause.now.before.now c.in-New.a c.valid.ensures (c.requires.x c.in-New.a c.in-New.ensures.0) in
     omega (arith, o.0, o.1, c.requires.walk.table_before)
 
 pub add-requires-clause-b : goal.add-requires-clause-b
 add-requires-clause-b c =
-    let o = object_in c.args.after.now c.in-New.b c.valid-2.ensures (c.requires.y c.in-New.b c.in-New.ensures.1) in
+    let o = object_in c.args.pause.now.after.now c.in-New.b c.valid-2.ensures (c.requires.y c.in-New.b c.in-New.ensures.1) in
     omega (arith, o.0, o.1, c.requires.walk.table_after)
 
 pub add-requires-clause-few : goal.add-requires-clause-few
-add-requires-clause-few c = pairs_fit c.args.fill c.args.set.now c.args.before.now c.args.after.now c.args.pairs.now c.valid.ensures c.requires.walk
+add-requires-clause-few c =
+    let pause = c.args.pause.now in
+    pairs_fit pause.fill pause.set.now pause.before.now pause.after.now c.args.pairs.now c.valid.ensures c.requires.walk
 
 pub returns-in_ok-add-in-New-clause-walk : goal.returns-in_ok-add-in-New-clause-walk
 returns-in_ok-add-in-New-clause-walk c =
-    let g = c.args.before.now in
-    let h = c.args.after.now in
+    let pause = c.args.pause.now in
+    let g = pause.before.now in
+    let h = pause.after.now in
     let w = c.args.pairs.now in
     let v = c.add.new.self in
     let met = c.in-New.ensures in
@@ -39,12 +42,13 @@ returns-in_ok-add-in-New-clause-walk c =
       new_of = c.in_ok-add-in-New.ensures.new_of;
       old_of = c.in_ok-add-in-New.ensures.old_of;
     } in
-    added_walk c.args.fill c.args.set.now g h w v a b c.requires.walk e x_in y_in met.2 met.3 (c.requires.found a b met.0 met.1 met.2) x_lt y_lt met.4 met.5
+    added_walk pause.fill pause.set.now g h w v a b c.requires.walk e x_in y_in met.2 met.3 (c.requires.found a b met.0 met.1 met.2) x_lt y_lt met.4 met.5
 
 pub returns-in_ok-add-in-New-clause-paired : goal.returns-in_ok-add-in-New-clause-paired
 returns-in_ok-add-in-New-clause-paired c =
-    let g = c.args.before.now in
-    let h = c.args.after.now in
+    let pause = c.args.pause.now in
+    let g = pause.before.now in
+    let h = pause.after.now in
     let w = c.args.pairs.now in
     let v = c.add.new.self in
     let met = c.in-New.ensures in
@@ -56,17 +60,20 @@ returns-in_ok-add-in-New-clause-paired c =
       new_of = c.in_ok-add-in-New.ensures.new_of;
       old_of = c.in_ok-add-in-New.ensures.old_of;
     } in
-    subst (λ z. IsPaired c.args.set.now g v z c.args.y) (sym met.0)
-    (subst (λ z. IsPaired c.args.set.now g v (suc a) z) (sym met.1) (added_paired c.args.fill c.args.set.now g h w v a b c.requires.walk e))
+    subst (λ z. IsPaired pause.set.now g v z c.args.y) (sym met.0)
+    (subst (λ z. IsPaired pause.set.now g v (suc a) z) (sym met.1) (added_paired pause.fill pause.set.now g h w v a b c.requires.walk e))
 
 pub returns-in-Agree-clause-passed : goal.returns-in-Agree-clause-passed
-returns-in-Agree-clause-passed c = passes_same c.args.fill c.args.set.now c.args.before.now c.args.after.now c.args.pairs.now c.args.x c.args.y c.in-Agree.ensures
+returns-in-Agree-clause-passed c =
+    let pause = c.args.pause.now in
+    passes_same pause.fill pause.set.now pause.before.now pause.after.now c.args.pairs.now c.args.x c.args.y c.in-Agree.ensures
 
 pub returns-in_ok-add-in-New-clause-passed : goal.returns-in_ok-add-in-New-clause-passed
 returns-in_ok-add-in-New-clause-passed c =
-    let set = c.args.set.now in
-    let g = c.args.before.now in
-    let h = c.args.after.now in
+    let pause = c.args.pause.now in
+    let set = pause.set.now in
+    let g = pause.before.now in
+    let h = pause.after.now in
     let w = c.args.pairs.now in
     let v = c.add.new.self in
     let met = c.in-New.ensures in
@@ -82,7 +89,7 @@ returns-in_ok-add-in-New-clause-passed c =
     } in
     let i : ℕ = slice_index w.new_of.items a in
     let j : ℕ = slice_index w.old_of.items b in
-    let old : IsNew w.before.items a = new_before c.args.fill set g h w c.requires.walk a b i j x_lt y_lt refl refl met.4 in
-    let new : IsNew w.after.items b = new_after c.args.fill set g h w c.requires.walk a b i j x_lt y_lt refl refl met.5 in
-    subst (λ z. PassesWords c.args.fill set g h w v z c.args.y) (sym met.0)
-    (subst (λ z. PassesWords c.args.fill set g h w v (suc a) z) (sym met.1) (passes_new c.args.fill set g h w v a b e met.2 met.3 old new))
+    let old : IsNew w.before.items a = new_before pause.fill set g h w c.requires.walk a b i j x_lt y_lt refl refl met.4 in
+    let new : IsNew w.after.items b = new_after pause.fill set g h w c.requires.walk a b i j x_lt y_lt refl refl met.5 in
+    subst (λ z. PassesWords pause.fill set g h w v z c.args.y) (sym met.0)
+    (subst (λ z. PassesWords pause.fill set g h w v (suc a) z) (sym met.1) (passes_new pause.fill set g h w v a b e met.2 met.3 old new))

@@ -13,63 +13,69 @@ use Rattle.g1_kept.proofs.linking.link_roots.Goals as goal
 
 pub link-requires-clause-x : goal.link-requires-clause-x
 link-requires-clause-x c =
-    let lt : c.loop-number.number < length c.args.before.now.roots = let k = ap length c.roots-old.ensures in omega (arith, k, c.loop-number-test.true) in
-    subst (λ l. Names c.args.before.now (slice_index l c.loop-number.number)) (sym c.roots-old.ensures) (root_names c.args.before.now c.loop-number.number c.valid.ensures lt)
+    let pause = c.args.pause.now in
+    let lt : c.loop-number.number < length pause.before.now.roots = let k = ap length c.roots-old.ensures in omega (arith, k, c.loop-number-test.true) in
+    subst (λ l. Names pause.before.now (slice_index l c.loop-number.number)) (sym c.roots-old.ensures) (root_names pause.before.now c.loop-number.number c.valid.ensures lt)
 
 pub link-requires-clause-y : goal.link-requires-clause-y
 link-requires-clause-y c =
-    let lt : c.loop-number.number < length c.args.after.now.roots = let k = ap length c.roots-old.ensures in omega (arith, k, c.requires.roots, c.loop-number-test.true) in
-    subst (λ l. Names c.args.after.now (slice_index l c.loop-number.number)) (sym c.roots-new.ensures) (root_names c.args.after.now c.loop-number.number c.valid-2.ensures lt)
+    let pause = c.args.pause.now in
+    let lt : c.loop-number.number < length pause.after.now.roots = let k = ap length c.roots-old.ensures in omega (arith, k, c.requires.roots, c.loop-number-test.true) in
+    subst (λ l. Names pause.after.now (slice_index l c.loop-number.number)) (sym c.roots-new.ensures) (root_names pause.after.now c.loop-number.number c.valid-2.ensures lt)
 
 pub link-requires-clause-found : goal.link-requires-clause-found
 link-requires-clause-found c = λ a b ex ey of_set.
     let n : ℕ = c.loop-number.number in
-    let lt : n < length c.args.before.now.roots = let k = ap length c.roots-old.ensures in omega (arith, k, c.loop-number-test.true) in
+    let lt : n < length c.args.pause.now.before.now.roots = let k = ap length c.roots-old.ensures in omega (arith, k, c.loop-number-test.true) in
     root n lt (omega (arith, lt, c.requires.roots)) (ap (λ l. slice_index l n) (sym c.roots-old.ensures) ∙ ex) (ap (λ l. slice_index l n) (sym c.roots-new.ensures) ∙ ey) of_set
 
 pub loop-number-preserved : goal.loop-number-preserved
 loop-number-preserved c =
-    let g : Heap = c.args.before.now in
-    let h : Heap = c.args.after.now in
+    let pause = c.args.pause.now in
+    let g : Heap = pause.before.now in
+    let h : Heap = pause.after.now in
     let v : Pairs = c.link.new.pairs in
     let n : ℕ = c.loop-number.number in
-    let l : IsPaired c.args.set.now g v (slice_index c.roots-old.result.now n) (slice_index c.roots-new.result.now n) =
-    none_then (IsPaired c.args.set.now g v (slice_index c.roots-old.result.now n) (slice_index c.roots-new.result.now n)) c.in_ok-lost.field-0 c.in_default.not-Some c.in_ok-lost.ensures.paired in
-    let l' : IsPaired c.args.set.now g v (slice_index g.roots n) (slice_index h.roots n) =
-    subst (λ q. IsPaired c.args.set.now g v (slice_index q n) (slice_index h.roots n)) c.roots-old.ensures
-    (subst (λ q. IsPaired c.args.set.now g v (slice_index c.roots-old.result.now n) (slice_index q n)) c.roots-new.ensures l) in
+    let l : IsPaired pause.set.now g v (slice_index c.roots-old.result.now n) (slice_index c.roots-new.result.now n) =
+    none_then (IsPaired pause.set.now g v (slice_index c.roots-old.result.now n) (slice_index c.roots-new.result.now n)) c.in_ok-lost.field-0 c.in_default.not-Some c.in_ok-lost.ensures.paired in
+    let l' : IsPaired pause.set.now g v (slice_index g.roots n) (slice_index h.roots n) =
+    subst (λ q. IsPaired pause.set.now g v (slice_index q n) (slice_index h.roots n)) c.roots-old.ensures
+    (subst (λ q. IsPaired pause.set.now g v (slice_index c.roots-old.result.now n) (slice_index q n)) c.roots-new.ensures l) in
     let w : Pairs = c.loop-number.pairs in
     let x : ℕ = slice_index c.roots-old.result.now n in
     let y : ℕ = slice_index c.roots-new.result.now n in
     let lt : n < length g.roots = let k = ap length c.roots-old.ensures in omega (arith, k, c.loop-number-test.true) in
-    let at : HasWords c.args.set.now g h w 0 n x y = (
+    let at : HasWords pause.set.now g h w 0 n x y = (
       lt,
       omega (arith, lt, c.requires.roots),
       ap (λ l. slice_index l n) (sym c.roots-old.ensures),
       ap (λ l. slice_index l n) (sym c.roots-new.ensures),
     ) in
-    let passed = none_then (PassesWords c.args.fill c.args.set.now g h w v x y) c.in_ok-lost.field-0 c.in_default.not-Some c.in_ok-lost.ensures.passed in
+    let passed = none_then (PassesWords pause.fill pause.set.now g h w v x y) c.in_ok-lost.field-0 c.in_default.not-Some c.in_ok-lost.ensures.passed in
     record {
       walk = c.in_ok-lost.ensures.walk;
       search = passed 0 n c.loop-number.invariant.search at;
-      paired = roots_more c.args.set.now g h c.loop-number.pairs v c.in_ok-lost.ensures.grown n c.loop-number.invariant.paired l';
+      paired = roots_more pause.set.now g h c.loop-number.pairs v c.in_ok-lost.ensures.grown n c.loop-number.invariant.paired l';
     }
 
 pub loop-number-smaller : goal.loop-number-smaller
 loop-number-smaller c = omega (arith, c.loop-number-test.true)
 
 pub loop-number-init : goal.loop-number-init
-loop-number-init c = record {
-  walk = c.requires.walk;
-  paired = λ n lt. absurd (omega (arith, lt));
-  search = search_none c.args.fill c.args.set.now c.args.before.now c.args.after.now c.args.pairs.now.before.items c.args.pairs.now.after.items (ap length c.requires.none) c.requires.walk.pairs;
-}
+loop-number-init c =
+    let pause = c.args.pause.now in
+    record {
+      walk = c.requires.walk;
+      paired = λ n lt. absurd (omega (arith, lt));
+      search = search_none pause.fill pause.set.now pause.before.now pause.after.now c.args.pairs.now.before.items c.args.pairs.now.after.items (ap length c.requires.none) c.requires.walk.pairs;
+    }
 
 pub returns-in-Some-clause-first : goal.returns-in-Some-clause-first
 returns-in-Some-clause-first c =
-    let set = c.args.set.now in
-    let g : Heap = c.args.before.now in
-    let h : Heap = c.args.after.now in
+    let pause = c.args.pause.now in
+    let set = pause.set.now in
+    let g : Heap = pause.before.now in
+    let h : Heap = pause.after.now in
     let w : Pairs = c.loop-number.pairs in
     let n : ℕ = c.loop-number.number in
     let x : ℕ = slice_index c.roots-old.result.now n in
@@ -81,11 +87,12 @@ returns-in-Some-clause-first c =
       ap (λ l. slice_index l n) (sym c.roots-old.ensures),
       ap (λ l. slice_index l n) (sym c.roots-new.ensures),
     ) in
-    let stops = some_then (λ (l : Lost). StopsAtWords c.args.fill set g h w x y (lost.Root n) l) c.in_ok-lost.field-0 c.in-Some.lost c.in-Some.is c.in_ok-lost.ensures.first in
+    let stops = some_then (λ (l : Lost). StopsAtWords pause.fill set g h w x y (lost.Root n) l) c.in_ok-lost.field-0 c.in-Some.lost c.in-Some.is c.in_ok-lost.ensures.first in
     stops 0 n c.loop-number.invariant.search at (λ clash. (refl, refl, x, y, at, clash))
 
 pub returns-clause-searched : goal.returns-clause-searched
 returns-clause-searched c =
+    let pause = c.args.pause.now in
     let w : Pairs = c.loop-number.pairs in
-    let all : length c.args.before.now.roots ≤ c.loop-number.number = let k = ap length c.roots-old.ensures in omega (arith, k, c.loop-number-test.false) in
-    roots_on c.args.fill c.args.set.now c.args.before.now c.args.after.now w.before.items w.after.items c.loop-number.number all c.loop-number.invariant.search
+    let all : length pause.before.now.roots ≤ c.loop-number.number = let k = ap length c.roots-old.ensures in omega (arith, k, c.loop-number-test.false) in
+    roots_on pause.fill pause.set.now pause.before.now pause.after.now w.before.items w.after.items c.loop-number.number all c.loop-number.invariant.search

@@ -15,7 +15,7 @@ use Rattle.g1_kept.proofs.linking.link_slots.Goals as goal
 
 pub link-requires-clause-x : goal.link-requires-clause-x
 link-requires-clause-x c =
-    let g : Heap = c.args.before.now in
+    let g : Heap = c.args.pause.now.before.now in
     let here = has_slots g c.args.a c.object-old.result c.words.result.now c.slots-here.result.now c.object-old.ensures.value c.words.ensures c.slots-here.ensures.count c.slots-here.ensures.each in
     let n : ℕ = c.loop-number.number in
     let lt : n < (object_at g c.args.a).refs = omega (arith, c.loop-number-test.true, here.count) in
@@ -23,8 +23,9 @@ link-requires-clause-x c =
 
 pub link-requires-clause-y : goal.link-requires-clause-y
 link-requires-clause-y c =
-    let g : Heap = c.args.before.now in
-    let h : Heap = c.args.after.now in
+    let pause = c.args.pause.now in
+    let g : Heap = pause.before.now in
+    let h : Heap = pause.after.now in
     let here = has_slots g c.args.a c.object-old.result c.words.result.now c.slots-here.result.now c.object-old.ensures.value c.words.ensures c.slots-here.ensures.count c.slots-here.ensures.each in
     let there = has_slots h c.args.b c.object-new.result c.words-2.result.now c.slots-there.result.now c.object-new.ensures.value c.words-2.ensures
     c.slots-there.ensures.count c.slots-there.ensures.each in
@@ -35,8 +36,9 @@ link-requires-clause-y c =
 
 pub link-requires-clause-found : goal.link-requires-clause-found
 link-requires-clause-found c = λ x y ex ey of_set.
-    let g : Heap = c.args.before.now in
-    let h : Heap = c.args.after.now in
+    let pause = c.args.pause.now in
+    let g : Heap = pause.before.now in
+    let h : Heap = pause.after.now in
     let here = has_slots g c.args.a c.object-old.result c.words.result.now c.slots-here.result.now c.object-old.ensures.value c.words.ensures c.slots-here.ensures.count c.slots-here.ensures.each in
     let there = has_slots h c.args.b c.object-new.result c.words-2.result.now c.slots-there.result.now c.object-new.ensures.value c.words-2.ensures
     c.slots-there.ensures.count c.slots-there.ensures.each in
@@ -51,8 +53,9 @@ returns-in-Some-clause-grown c = grown_more c.args.pairs.now c.loop-number.pairs
 
 pub loop-number-preserved : goal.loop-number-preserved
 loop-number-preserved c =
-    let g : Heap = c.args.before.now in
-    let h : Heap = c.args.after.now in
+    let pause = c.args.pause.now in
+    let g : Heap = pause.before.now in
+    let h : Heap = pause.after.now in
     let here = has_slots g c.args.a c.object-old.result c.words.result.now c.slots-here.result.now c.object-old.ensures.value c.words.ensures c.slots-here.ensures.count c.slots-here.ensures.each in
     let there = has_slots h c.args.b c.object-new.result c.words-2.result.now c.slots-there.result.now c.object-new.ensures.value c.words-2.ensures
     c.slots-there.ensures.count c.slots-there.ensures.each in
@@ -61,20 +64,20 @@ loop-number-preserved c =
     let v : Pairs = c.link.new.pairs in
     let x : ℕ = slice_index c.slots-here.result.now n in
     let y : ℕ = slice_index c.slots-there.result.now n in
-    let l = none_then (IsPaired c.args.set.now g v x y) c.in_ok-lost.field-0 c.in_default.not-Some c.in_ok-lost.ensures.paired in
+    let l = none_then (IsPaired pause.set.now g v x y) c.in_ok-lost.field-0 c.in_default.not-Some c.in_ok-lost.ensures.paired in
     let x_is = here.each n c.loop-number-test.true in
     let y_is = there.each n (omega (arith, c.loop-number-test.true, here.count, refs, there.count)) in
-    let l' : IsPaired c.args.set.now g v (word g (c.args.a + 1 + n)) (word h (c.args.b + 1 + n)) =
-    subst (λ z. IsPaired c.args.set.now g v z (word h (c.args.b + 1 + n))) x_is (subst (λ z. IsPaired c.args.set.now g v x z) y_is l) in
+    let l' : IsPaired pause.set.now g v (word g (c.args.a + 1 + n)) (word h (c.args.b + 1 + n)) =
+    subst (λ z. IsPaired pause.set.now g v z (word h (c.args.b + 1 + n))) x_is (subst (λ z. IsPaired pause.set.now g v x z) y_is l) in
     let w : Pairs = c.loop-number.pairs in
-    let passed = none_then (PassesWords c.args.fill c.args.set.now g h w v x y) c.in_ok-lost.field-0 c.in_default.not-Some c.in_ok-lost.ensures.passed in
+    let passed = none_then (PassesWords pause.fill pause.set.now g h w v x y) c.in_ok-lost.field-0 c.in_default.not-Some c.in_ok-lost.ensures.passed in
     record {
       walk = c.in_ok-lost.ensures.walk;
       grown = grown_more c.args.pairs.now c.loop-number.pairs v c.loop-number.invariant.grown c.in_ok-lost.ensures.grown;
       search = λ t s turn. passed (suc t) (n + 1) (c.loop-number.invariant.search t s turn)
-          (words_at c.args.fill c.args.set.now g h w t c.args.a c.args.b n x y (turn_more c.args.fill c.args.set.now g h c.args.pairs.now w t c.args.a c.args.b c.loop-number.invariant.grown turn)
+          (words_at pause.fill pause.set.now g h w t c.args.a c.args.b n x y (turn_more pause.fill pause.set.now g h c.args.pairs.now w t c.args.a c.args.b c.loop-number.invariant.grown turn)
           (omega (arith, c.loop-number-test.true, here.count)) (omega (arith, c.loop-number-test.true, here.count, refs)) (sym x_is) (sym y_is));
-      paired = slots_more c.args.set.now g h c.loop-number.pairs v c.in_ok-lost.ensures.grown c.args.a c.args.b n c.loop-number.invariant.paired l';
+      paired = slots_more pause.set.now g h c.loop-number.pairs v c.in_ok-lost.ensures.grown c.args.a c.args.b n c.loop-number.invariant.paired l';
     }
 
 pub loop-number-smaller : goal.loop-number-smaller
@@ -90,9 +93,10 @@ loop-number-init c = record {
 
 pub returns-in-Some-clause-first : goal.returns-in-Some-clause-first
 returns-in-Some-clause-first c = λ t s turn.
-    let set = c.args.set.now in
-    let g : Heap = c.args.before.now in
-    let h : Heap = c.args.after.now in
+    let pause = c.args.pause.now in
+    let set = pause.set.now in
+    let g : Heap = pause.before.now in
+    let h : Heap = pause.after.now in
     let here = has_slots g c.args.a c.object-old.result c.words.result.now c.slots-here.result.now c.object-old.ensures.value c.words.ensures c.slots-here.ensures.count c.slots-here.ensures.each in
     let there = has_slots h c.args.b c.object-new.result c.words-2.result.now c.slots-there.result.now c.object-new.ensures.value c.words-2.ensures
     c.slots-there.ensures.count c.slots-there.ensures.each in
@@ -105,27 +109,28 @@ returns-in-Some-clause-first c = λ t s turn.
     let y : ℕ = slice_index c.slots-there.result.now n in
     let lt : n < (object_at g a).refs = omega (arith, c.loop-number-test.true, here.count) in
     let lt' : n < (object_at h b).refs = omega (arith, lt, refs) in
-    let now : HasTurn set g h w t a b = turn_more c.args.fill set g h c.args.pairs.now w t a b c.loop-number.invariant.grown turn in
+    let now : HasTurn set g h w t a b = turn_more pause.fill set g h c.args.pairs.now w t a b c.loop-number.invariant.grown turn in
     let at : HasWords set g h w (suc t) (n + 1) x y =
-    words_at c.args.fill set g h w t a b n x y now lt lt' (sym (here.each n c.loop-number-test.true)) (sym (there.each n (omega (arith, lt', there.count)))) in
+    words_at pause.fill set g h w t a b n x y now lt lt' (sym (here.each n c.loop-number-test.true)) (sym (there.each n (omega (arith, lt', there.count)))) in
     let one : n + 1 ≡ suc n = omega arith in
-    let stops = some_then (λ (l : Lost). StopsAtWords c.args.fill set g h w x y (lost.Slot a b n) l) c.in_ok-lost.field-0 c.in-Some.lost c.in-Some.is c.in_ok-lost.ensures.first in
+    let stops = some_then (λ (l : Lost). StopsAtWords pause.fill set g h w x y (lost.Slot a b n) l) c.in_ok-lost.field-0 c.in-Some.lost c.in-Some.is c.in_ok-lost.ensures.first in
     stops (suc t) (n + 1) (c.loop-number.invariant.search t s turn) at (λ clash. (t, refl, one, now, x, y, at, clash))
 
 pub returns-clause-passed : goal.returns-clause-passed
 returns-clause-passed c = λ t s turn.
-    let set = c.args.set.now in
-    let g : Heap = c.args.before.now in
-    let h : Heap = c.args.after.now in
+    let pause = c.args.pause.now in
+    let set = pause.set.now in
+    let g : Heap = pause.before.now in
+    let h : Heap = pause.after.now in
     let here = has_slots g c.args.a c.object-old.result c.words.result.now c.slots-here.result.now c.object-old.ensures.value c.words.ensures c.slots-here.ensures.count c.slots-here.ensures.each in
     let w : Pairs = c.loop-number.pairs in
     let few : (object_at g c.args.a).refs ≤ c.loop-number.number = omega (arith, here.count, c.loop-number-test.false) in
-    slots_on c.args.fill set g h w.before.items w.after.items t c.args.a c.args.b c.loop-number.number (c.loop-number.invariant.search t s turn)
-    (turn_more c.args.fill set g h c.args.pairs.now w t c.args.a c.args.b c.loop-number.invariant.grown turn) few
+    slots_on pause.fill set g h w.before.items w.after.items t c.args.a c.args.b c.loop-number.number (c.loop-number.invariant.search t s turn)
+    (turn_more pause.fill set g h c.args.pairs.now w t c.args.a c.args.b c.loop-number.invariant.grown turn) few
 
 pub returns-clause-paired : goal.returns-clause-paired
 returns-clause-paired c = λ n lt.
-    let g : Heap = c.args.before.now in
+    let g : Heap = c.args.pause.now.before.now in
     let here = has_slots g c.args.a c.object-old.result c.words.result.now c.slots-here.result.now c.object-old.ensures.value c.words.ensures c.slots-here.ensures.count c.slots-here.ensures.each in
     let few : (object_at g c.args.a).refs ≤ c.loop-number.number = omega (arith, here.count, c.loop-number-test.false) in
     c.loop-number.invariant.paired n (omega (arith, lt, few))

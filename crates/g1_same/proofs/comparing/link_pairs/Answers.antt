@@ -42,14 +42,14 @@ returns-in-Some-clause-until c =
     let m : ℕ = c.loop-place.place in
     let s : Stop = c.in-Some.stop in
     let grown : HasGrown w v = c.in_ok-stop.ensures.grown in
-    let k = some_then (λ (s : Stop). (s.from ≡ suc m) × LinksSlots g h v m s.number) c.in_ok-stop.field-0 s c.in-Some.is c.in_ok-stop.ensures.until in
-    let all : LinksTo g h v (suc m) s.number = (
+    let k = some_then (λ (s : Stop). (s.way.from ≡ suc m) × LinksSlots g h v m s.way.number) c.in_ok-stop.field-0 s c.in-Some.is c.in_ok-stop.ensures.until in
+    let all : LinksTo g h v (suc m) s.way.number = (
       roots_kept g h w v (length g.roots) grown c.loop-place.invariant.roots,
       pairs_kept g h w v m grown
           c.loop-place.invariant.within c.loop-place.invariant.pairs,
       k.1,
     ) in
-    subst (λ z. LinksTo g h v z s.number) (sym k.0) all
+    subst (λ z. LinksTo g h v z s.way.number) (sym k.0) all
 
 pub returns-in-Some-clause-roots : goal.returns-in-Some-clause-roots
 returns-in-Some-clause-roots c = roots_kept c.args.before.now c.args.after.now c.loop-place.walk c.link_slots.new.walk

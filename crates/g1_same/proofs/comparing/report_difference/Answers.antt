@@ -24,7 +24,7 @@ loop-from-preserved c =
           let e : (p ++ c.loop-from.number ∷ []) ++ reverse c.loop-from.slots.items ≡ p ++ reverse c.push.new.self.items =
           append_assoc p (c.loop-from.number ∷ []) (reverse c.loop-from.slots.items)
           ∙ ap (λ l. p ++ l) (sym (ap reverse c.in_ok-push.ensures.items ∙ reverse-append c.loop-from.slots.items (c.loop-from.number ∷ []))) in
-          subst (IsRoute w c.args.stop.from c.args.stop.number) e u;
+          subst (IsRoute w c.args.stop.way.from c.args.stop.way.number) e u;
     }
 
 pub returns : goal.returns
@@ -33,5 +33,6 @@ returns c =
     let n : ℕ = c.loop-from.number in
     let none : 0 ≡ c.loop-from.from = omega (arith, c.loop-from-test.false) in
     let u = c.loop-from.invariant.route (n ∷ []) (subst (λ z. IsRoute w z n (n ∷ [])) none (root n)) in
-    let v : IsRoute w c.args.stop.from c.args.stop.number (n ∷ c.reverse.new.self.items) = subst (λ l. IsRoute w c.args.stop.from c.args.stop.number (n ∷ l)) (sym c.reverse.ensures.items) u in
+    let v : IsRoute w c.args.stop.way.from c.args.stop.way.number (n ∷ c.reverse.new.self.items) =
+    subst (λ l. IsRoute w c.args.stop.way.from c.args.stop.way.number (n ∷ l)) (sym c.reverse.ensures.items) u in
     first c.args.before.now c.args.after.now c.valid.ensures c.valid-2.ensures w c.requires.walk c.args.stop n c.reverse.new.self c.requires.roots c.requires.until c.requires.stop v

@@ -5,7 +5,7 @@ use Rattle.g1_same.proofs.comparing.report_difference.Given as goal
 abbrev pub invariant-loop-from : goal.invariant-loop-from
 invariant-loop-from l = record {
   within : l.from ≤ length l.walk.before.items;
-  route : (p : List ℕ) → IsRoute l.walk l.from l.number p → IsRoute l.walk l.stop.from l.stop.number (p ++ reverse l.slots.items);
+  route : (p : List ℕ) → IsRoute l.walk l.from l.number p → IsRoute l.walk l.stop.way.from l.stop.way.number (p ++ reverse l.slots.items);
 }
 
 abbrev pub decreases-loop-from : goal.decreases-loop-from

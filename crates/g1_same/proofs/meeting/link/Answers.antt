@@ -30,7 +30,7 @@ returns-in_ok-add-in-New-clause-walk c =
     let y_in = c.requires.y b met.1 in
     let x_lt : a < length w.new_of.items = let o = object_in g a c.valid.ensures x_in in omega (arith, o.0, o.1, c.requires.walk.table_before) in
     let y_lt : b < length w.old_of.items = let o = object_in h b c.valid-2.ensures y_in in omega (arith, o.0, o.1, c.requires.walk.table_after) in
-    let e : IsAdded w v c.args.from c.args.number a b = record {
+    let e : IsAdded w v c.args.way.from c.args.way.number a b = record {
       before = c.in_ok-add-in-New.ensures.before;
       after = c.in_ok-add-in-New.ensures.after;
       from = c.in_ok-add-in-New.ensures.from;
@@ -38,10 +38,10 @@ returns-in_ok-add-in-New-clause-walk c =
       new_of = c.in_ok-add-in-New.ensures.new_of;
       old_of = c.in_ok-add-in-New.ensures.old_of;
     } in
-    let way : IsWay g h w.before.items w.after.items c.args.from c.args.number (suc a) (suc b) =
-    subst (λ z. IsWay g h w.before.items w.after.items c.args.from c.args.number z (suc b)) met.0
-    (subst (λ z. IsWay g h w.before.items w.after.items c.args.from c.args.number c.args.x z) met.1 c.requires.way) in
-    added_walk g h w v c.args.from c.args.number a b c.requires.walk e x_in y_in met.4 x_lt y_lt met.2 met.3 way c.requires.backward c.requires.below
+    let way : IsWay g h w.before.items w.after.items c.args.way.from c.args.way.number (suc a) (suc b) =
+    subst (λ z. IsWay g h w.before.items w.after.items c.args.way.from c.args.way.number z (suc b)) met.0
+    (subst (λ z. IsWay g h w.before.items w.after.items c.args.way.from c.args.way.number c.args.x z) met.1 c.requires.way) in
+    added_walk g h w v c.args.way.from c.args.way.number a b c.requires.walk e x_in y_in met.4 x_lt y_lt met.2 met.3 way c.requires.backward c.requires.below
 
 pub returns-in_ok-add-in-New-clause-linked : goal.returns-in_ok-add-in-New-clause-linked
 returns-in_ok-add-in-New-clause-linked c =
@@ -52,7 +52,7 @@ returns-in_ok-add-in-New-clause-linked c =
     let met = c.in-New.ensures in
     let a : ℕ = c.in-New.a in
     let b : ℕ = c.in-New.b in
-    let e : IsAdded w v c.args.from c.args.number a b = record {
+    let e : IsAdded w v c.args.way.from c.args.way.number a b = record {
       before = c.in_ok-add-in-New.ensures.before;
       after = c.in_ok-add-in-New.ensures.after;
       from = c.in_ok-add-in-New.ensures.from;
@@ -60,8 +60,8 @@ returns-in_ok-add-in-New-clause-linked c =
       new_of = c.in_ok-add-in-New.ensures.new_of;
       old_of = c.in_ok-add-in-New.ensures.old_of;
     } in
-    subst (λ z. IsLinked v c.args.from c.args.number z c.args.y) (sym met.0)
-    (subst (λ z. IsLinked v c.args.from c.args.number (suc a) z) (sym met.1) (added_linked g h w v c.args.from c.args.number a b c.requires.walk e))
+    subst (λ z. IsLinked v c.args.way.from c.args.way.number z c.args.y) (sym met.0)
+    (subst (λ z. IsLinked v c.args.way.from c.args.way.number (suc a) z) (sym met.1) (added_linked g h w v c.args.way.from c.args.way.number a b c.requires.walk e))
 
 pub returns-in_ok-add-in-New-clause-below : goal.returns-in_ok-add-in-New-clause-below
 returns-in_ok-add-in-New-clause-below c =
@@ -72,7 +72,7 @@ returns-in_ok-add-in-New-clause-below c =
     let met = c.in-New.ensures in
     let a : ℕ = c.in-New.a in
     let b : ℕ = c.in-New.b in
-    let e : IsAdded w v c.args.from c.args.number a b = record {
+    let e : IsAdded w v c.args.way.from c.args.way.number a b = record {
       before = c.in_ok-add-in-New.ensures.before;
       after = c.in_ok-add-in-New.ensures.after;
       from = c.in_ok-add-in-New.ensures.from;
@@ -80,7 +80,7 @@ returns-in_ok-add-in-New-clause-below c =
       new_of = c.in_ok-add-in-New.ensures.new_of;
       old_of = c.in_ok-add-in-New.ensures.old_of;
     } in
-    added_below g h w v c.args.from c.args.number a b c.requires.walk e c.requires.below
+    added_below g h w v c.args.way.from c.args.way.number a b c.requires.walk e c.requires.below
 
 pub returns-in-Known-clause-linked : goal.returns-in-Known-clause-linked
-returns-in-Known-clause-linked c = linked_by c.args.walk.now c.args.from c.args.number c.args.x c.args.y c.requires.below c.in-Known.ensures
+returns-in-Known-clause-linked c = linked_by c.args.walk.now c.args.way.from c.args.way.number c.args.x c.args.y c.requires.below c.in-Known.ensures

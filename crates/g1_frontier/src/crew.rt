@@ -1,0 +1,35 @@
+use g1_work::{Gate, Team};
+use std::alloc::Global;
+use std::thread::Threads;
+
+/// What a round runs with: threads and memory, how many workers draw how many items at once, and the
+/// gate to which they report.
+#[derive(Drop)]
+pub(crate) struct Crew<'a, R, G> {
+    pub rt: &'a R,
+    pub alloc: Global,
+    pub team: Team,
+    pub gate: &'a G,
+}
+
+// A thread takes as long to start as some 500 items to be looked at. So a round has a worker for
+// each 2,048 items; only the first rounds of a call, which are all that a small heap has, may have
+// two for fewer.
+const ITEMS_A_WORKER: usize = 2048;
+
+const ROUNDS_OF_TWO: u64 = 16;
+
+impl<'a, R: Threads + Sync, G: Gate + Sync> Crew<'a, R, G> {
+    /// Hires from the crew for a round of this many items.
+    pub fn hire(&self, items: usize, round: u64) -> Crew<'a, R, G> {
+        let fed = (items / ITEMS_A_WORKER) as u64;
+        let fewest = if round < ROUNDS_OF_TWO { 2 } else { 1 };
+        let workers = self.team.workers().min(fed.max(fewest));
+        Crew {
+            rt: self.rt,
+            alloc: self.alloc,
+            team: Team::new(workers, self.team.chunk()),
+            gate: self.gate,
+        }
+    }
+}
