@@ -203,12 +203,6 @@ front_dropped v h table roots log remembered left bytes e =
     let size : length bytes - length left ≡ length (front_text v h table roots log remembered []) = omega (arith, ap length same, length-append front left) in
     sym (ap (λ k. drop k bytes) size ∙ ap (drop (length front)) same ∙ drop-append_seam front left)
 
--- what follows a front in bytes is bytes
-pub front_suffix : (v : Version) (h : Heading) (table : List Entry) (roots log : List ℕ) (remembered : List (List ℕ)) (left bytes : List ℕ) →
-    bytes ≡ front_text v h table roots log remembered left → IsBytes bytes → IsBytes left
-front_suffix v h table roots log remembered left bytes e b =
-    suffix bytes (front_text v h table roots log remembered []) left (e ∙ front_text-flat v h table roots log remembered left) b
-
 -- a front with too few bytes behind it
 pub front_short : (v : Version) (h : Heading) (table : List Entry) (roots log : List ℕ) (remembered : List (List ℕ)) (left : List ℕ) →
     FrontFits v h table roots log remembered → length left < 8 * table_words table →

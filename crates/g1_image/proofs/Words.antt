@@ -1,6 +1,6 @@
 -- Words of 64 bits in bytes, and the words of regions.
 use Rattle.std.proofs.Common.{◌≡◌, ◌≤◌, ◌<◌, ℕ, zero, suc, ◌+◌, ◌-◌, ◌*◌, ◌^◌, List, [], ◌∷◌, ◌++◌, length, take, drop, replicate, arith, refl, sym, ap, ◌∙◌, append_assoc, length-append}
-use Rattle.std.proofs.Common.{length-drop, get_or-drop, slice_index, slice_index_or, add-one, drop-cons, min, flat_map}
+use Rattle.std.proofs.Common.{length-drop, get_or-drop, slice_index, slice_index_or, min, flat_map}
 use Rattle.std.proofs.lemmas.List.{append-nil, take_all, drop-drop, drop-take, drop_all, take_at}
 use borrow.Rule.Slice.PartMut.{put_mid, post_of}
 use Rattle.std.proofs.lemmas.List.Sums.{sum_by-append}
@@ -127,30 +127,3 @@ laid_front w e es rest =
     let others : drop e.top (words_of (table_words (e ∷ es)) rest) ≡ words_of (table_words es) (drop (8 * e.top) rest) =
     drop-words_of e.top (table_words (e ∷ es)) (table_words es) rest (table_words-cons e es) in
     λ t. some t ++ (replicate (w - e.top) 0 ++ all_words w es (others t))
-
-pub laid_step : (w i : ℕ) (table : List Entry) (d : Entry) (out read padded rest after all : List ℕ) (used : ℕ) → i < length table →
-    used ≡ min (slice_index_or table i d).top w → length rest ≡ 8 * table_words (drop i table) →
-    out ++ all_words w (drop i table) (words_of (table_words (drop i table)) rest) ≡ all →
-    read ≡ out ++ words_of used rest → padded ≡ read ++ replicate (w - used) 0 → after ≡ drop (8 * (slice_index_or table i d).top) rest →
-    (length after ≡ 8 * table_words (drop (i + 1) table)) × (padded ++ all_words w (drop (i + 1) table) (words_of (table_words (drop (i + 1) table)) after) ≡ all)
-laid_step w i table d out read padded rest after all used lt u len come r p a =
-    let e : Entry = slice_index_or table i d in
-    let es : List Entry = drop (i + 1) table in
-    let split : drop i table ≡ e ∷ es = drop-cons table i d lt ∙ ap (λ k. e ∷ drop k table) (sym (add-one i)) in
-    let sum : table_words (drop i table) ≡ e.top + table_words es = ap table_words split ∙ table_words-cons e es in
-    let pad : w - used ≡ w - e.top = omega (arith, u) in
-    let tail : List ℕ = all_words w es (words_of (table_words es) after) in
-    let front : all_words w (drop i table) (words_of (table_words (drop i table)) rest) ≡ words_of used rest ++ (replicate (w - used) 0 ++ tail) =
-    ap (λ l. all_words w l (words_of (table_words l) rest)) split ∙ laid_front w e es rest
-    ∙ (λ t. words_of (sym u t) rest ++ (replicate (sym pad t) 0 ++ all_words w es (words_of (table_words es) (sym a t)))) in (
-      omega (arith, ap length a, length-drop (8 * e.top) rest, sum),
-      ap (λ l. l ++ tail) p ∙ append_assoc read (replicate (w - used) 0) tail ∙ ap (λ l. l ++ (replicate (w - used) 0 ++ tail)) r
-          ∙ append_assoc out (words_of used rest) (replicate (w - used) 0 ++ tail) ∙ ap (λ l. out ++ l) (sym front) ∙ come,
-    )
-
-pub table_words-fits : (w : ℕ) (table : List Entry) (i : ℕ) (d : Entry) → i < length table → (slice_index_or table i d).top ≤ table_words (drop i table)
-table_words-fits w table i d lt =
-    let split : drop i table ≡ slice_index_or table i d ∷ drop (suc i) table = drop-cons table i d lt in
-    let sum : table_words (drop i table) ≡ (slice_index_or table i d).top + table_words (drop (suc i) table) =
-    ap table_words split ∙ table_words-cons (slice_index_or table i d) (drop (suc i) table) in
-    omega (arith, sum)
