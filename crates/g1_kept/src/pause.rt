@@ -4,7 +4,7 @@ use g1_words::Heap;
 /// What is said to be a pause: the heaps before and after it, the regions of its set, and whether its
 /// copies may fill regions.
 #[derive(Drop)]
-pub struct Pause<'a> {
+pub(crate) struct Pause<'a> {
     pub before: &'a Heap,
     pub after: &'a Heap,
     pub set: &'a RegionSet<'a>,
