@@ -4,7 +4,7 @@ use crate::watch::Watch;
 use g1_pause::Settings;
 use g1_trace::{Command, Mutator, Reply, Trace, parse_trace, run_text, run_trace};
 use g1_words::{Fault, Geometry};
-use g1_work::Open;
+use g1_work::{Open, Team};
 use std::alloc::Global;
 use std::thread::Threads;
 
@@ -55,10 +55,10 @@ fn run_whole<R: Threads + Sync>(
     bytes: &[u8],
     watch: &mut Watch,
 ) -> Result<(), Fault> {
-    let (workers, chunk) = (settings.workers(), settings.chunk());
+    let team = Team::new(settings.workers(), settings.chunk());
     let prices = settings.cost();
     watch.at("run_text");
-    let text = run_text(rt, alloc, bytes, &prices, workers, chunk, &Open)?;
+    let text = run_text(rt, alloc, bytes, &prices, team, &Open)?;
     watch.bytes(text.as_slice());
     Ok(())
 }

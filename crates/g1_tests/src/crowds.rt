@@ -12,7 +12,7 @@ use g1_rem::{Starts, Tracked, image, verify};
 use g1_testing::Sketch;
 use g1_trace::run_text;
 use g1_words::Fault;
-use g1_work::{Fill, Gate, Part, Task, each_chunk, each_region_mut};
+use g1_work::{Fill, Gate, Part, Task, Team, each_chunk, each_region_mut};
 use std::alloc::{AllocError, Global};
 use std::process::Abort;
 use std::test::Fail;
@@ -239,7 +239,7 @@ fn the_workers_of_a_trace_pause_at_once(rt: HostRuntime) -> Result<(), Fail> {
     let alloc = rt.alloc();
     for part in [Part::Deal, Part::Fill] {
         let gate = Crowd::new(&rt, part, 2);
-        let text = run_text(&rt, alloc, TRACE, &COST, 2, 1, &gate)?;
+        let text = run_text(&rt, alloc, TRACE, &COST, Team::new(2, 1), &gate)?;
         expect_equal(&rt, gate.most(), 2);
         expect_equal(&rt, text.as_slice(), b"ok\nok\nok\nok\n5\n".as_slice());
     }

@@ -13,7 +13,7 @@ use g1_same::compare;
 use g1_testing::Sketch;
 use g1_trace::{Mutator, parse_trace, run_text};
 use g1_words::{Fault, Geometry, Heap};
-use g1_work::Open;
+use g1_work::{Open, Team};
 use std::alloc::{AllocError, Global};
 use std::test::Fail;
 use std::thread::Threads;
@@ -217,7 +217,7 @@ fn a_million_commands_are_read(rt: HostRuntime) -> Result<(), Fail> {
 fn a_million_commands_are_answered(rt: HostRuntime) -> Result<(), Fail> {
     let alloc = rt.alloc();
     let trace = long_trace(alloc)?;
-    let found = run_text(&rt, alloc, &trace, &COST, 1, 1, &Open)?;
+    let found = run_text(&rt, alloc, &trace, &COST, Team::new(1, 1), &Open)?;
     let expected = repeated(alloc, b"", b"ok\n")?;
     assert!(rt; found.as_slice() == expected.as_slice());
     Ok(())
@@ -230,7 +230,7 @@ fn a_heap_has_all_regions_and_all_roots(rt: HostRuntime) -> Result<(), Fail> {
     let _mutator = Mutator::new(alloc, geometry, 65_536)?;
     let trace =
         b"heap 16 4 4096 65536\nnew 65535 0 65535\nsay 65535 65534\ndrop 65535\nsay 65535 0\n";
-    let found = run_text(&rt, alloc, trace, &COST, 1, 1, &Open)?;
+    let found = run_text(&rt, alloc, trace, &COST, Team::new(1, 1), &Open)?;
     expect_equal(&rt, found.as_slice(), b"ok\n0\nok\nnull\n".as_slice());
     Ok(())
 }

@@ -1,7 +1,7 @@
 use g1_choose::Cost;
 use g1_trace::{Command, Mutator, Reply, parse_trace, run_text, run_trace};
 use g1_words::{Fault, Geometry};
-use g1_work::Open;
+use g1_work::{Open, Team};
 use std::alloc::{AllocError, Global};
 use std::process::Abort;
 use std::test::Fail;
@@ -93,7 +93,7 @@ fn expect_fault<T: Threads + Abort + Sync>(
     text: &[u8],
     fault: Fault,
 ) -> Result<(), Fail> {
-    let told = run_text(rt, alloc, text, &COST, 1, 1, &Open).err();
+    let told = run_text(rt, alloc, text, &COST, Team::new(1, 1), &Open).err();
     assert!(rt; told == Some(fault), "{text:?}");
     let told = match parse_trace(alloc, text) {
         Ok(trace) => run_trace(rt, alloc, &trace, &COST, 1, 1, &Open).err(),

@@ -1,10 +1,9 @@
 -- A command's word tells which command it is.
-use Rattle.std.proofs.Common.{◌≡◌, ℕ, zero, suc, ◌+◌, ◌*◌, ◌<◌, ◌≤◌, List, [], ◌∷◌, length, get_or, take, drop, refl, ap, arith}
+use Rattle.std.proofs.Common.{◌≡◌, ℕ, zero, suc, ◌+◌, ◌*◌, List, [], ◌∷◌, refl, ap, arith}
 use Rattle.g1_trace.specs.declared.command.Command.{Command}
 use Rattle.g1_trace.specs.declared.command.Command.TheVariants.{New, Get, Put, Set, Say, Same, Copy, Drop, Pause}
-use Rattle.g1_trace.specs.TraceText.{spaced, name_of, numbers_of, command_line, heap_line}
-use Rattle.g1_trace.proofs.Numerals.{spaced_end}
-use Rattle.g1_trace.proofs.Words.{NoSpace, split_is}
+use Rattle.g1_trace.specs.TraceText.{name_of}
+use Rattle.g1_trace.proofs.Words.{NoSpace}
 
 -- one number for each list of bytes
 abbrev code : List ℕ → ℕ
@@ -146,20 +145,3 @@ name_word (Pause b) = word_by (112 ∷ 97 ∷ 117 ∷ 115 ∷ 101 ∷ []) (
       (omega (arith, e))),
   ((λ e. absurd (omega (arith, e))), ((λ e. absurd (omega (arith, e))), ((λ e. absurd (omega (arith, e))), ((λ e. absurd (omega (arith, e))), tt)))),
 )
-
--- a line's first word and the rest of it, where the line is a command's
-pub command_parts : (n : ℕ) (line : List ℕ) (c : Command) → n ≤ length line → ((k : ℕ) → k < n → get_or line k 0 ≡ 32 → ⊥) → (n < length line → get_or line n 0 ≡ 32) → line ≡ command_line c
-    → (take n line ≡ name_of c) × (drop n line ≡ spaced (numbers_of c))
-command_parts n line c le w end e = split_is n line (name_of c) (spaced (numbers_of c)) le w end (name_word c) (spaced_end (numbers_of c)) e
-
-pub heap_parts : (n : ℕ) (line : List ℕ) (w k m roots : ℕ) → n ≤ length line → ((k : ℕ) → k < n → get_or line k 0 ≡ 32 → ⊥) → (n < length line → get_or line n 0 ≡ 32) → line ≡ heap_line w k m roots
-    → (take n line ≡ 104 ∷ 101 ∷ 97 ∷ 112 ∷ []) × (drop n line ≡ spaced (w ∷ k ∷ m ∷ roots ∷ []))
-heap_parts n line w k m roots le p end e = split_is n line (104 ∷ 101 ∷ 97 ∷ 112 ∷ []) (spaced (w ∷ k ∷ m ∷ roots ∷ [])) le p end
-    (word_by (104 ∷ 101 ∷ 97 ∷ 112 ∷ []) (
-      (λ e. absurd (omega (arith, e))),
-      (
-        (λ e. absurd
-            (omega (arith, e))),
-        ((λ e. absurd (omega (arith, e))), ((λ e. absurd (omega (arith, e))), tt)),
-      ),
-    )) (spaced_end (w ∷ k ∷ m ∷ roots ∷ [])) e

@@ -1,7 +1,8 @@
 -- The lines of a trace that are read so far, and the first bad one.
-use Rattle.std.proofs.Common.{◌≡◌, ◌≢◌, ℕ, suc, ◌+◌, ◌<◌, ◌≤◌, ◌⊎◌, inl, inr, List, [], ◌∷◌, ◌++◌, length, get_or, map, flat_map, Contains, refl, sym, ◌∙◌, ap, subst, arith, append_assoc}
+use Rattle.std.proofs.Common.{◌≡◌, ◌≢◌, ℕ, zero, suc, ◌+◌, ◌<◌, ◌≤◌, ◌⊎◌, inl, inr, List, [], ◌∷◌, ◌++◌, length, get_or, map, flat_map, Contains, refl, sym, ◌∙◌, ap, subst, arith, append_assoc}
 use Rattle.std.proofs.Common.{length-append}
 use Rattle.std.specs.Prelude.{All}
+use Rattle.std.proofs.lemmas.Bool.{cases_order}
 use Rattle.std.proofs.lemmas.List.{get_or_default, length-map}
 use Rattle.std.proofs.lemmas.Grind.{flat_map-append}
 use Rattle.g1_words.specs.Geometry.{Geometry}
@@ -107,3 +108,37 @@ pub bad_line : (m : ℕ) (rest line more : List ℕ) → rest ≡ line ++ 10 ∷
 bad_line m rest line more e f b =
     let z : m + 1 ≡ suc m = omega arith in
     subst (λ x. IsBadRest x rest) (sym z) (inr (line, more, e, no_end line f, b))
+
+-- no byte of the list ends a line
+abbrev NoEnd : List ℕ → Type 0
+NoEnd xs = (k : ℕ) → k < length xs → get_or xs k 0 ≢ 10
+
+no_end_more : (x : ℕ) (xs : List ℕ) → x ≢ 10 → NoEnd xs → NoEnd (x ∷ xs)
+no_end_more x xs n f zero lt = n
+no_end_more x xs n f (suc k) lt = f k (omega (arith, lt))
+
+-- a line ends in the bytes, or none does
+first_end : (xs : List ℕ) → NoEnd xs ⊎ ((line : List ℕ) × (more : List ℕ) × (xs ≡ line ++ 10 ∷ more) × NoEnd line)
+first_end [] = inl (λ k lt. absurd (omega (arith, lt)))
+first_end (x ∷ xs) = by (same x) (first_end xs)
+  where
+    same : (y : ℕ) → (y ≡ 10) ⊎ (y ≢ 10)
+    same y = elim (cases_order y 10) [
+      | inl e ↦ inl e
+      | inr (inl lt) ↦ inr (λ e. absurd (omega (arith, lt, e)))
+      | inr (inr lt) ↦ inr (λ e. absurd (omega (arith, lt, e)))
+    ]
+
+    by : (x ≡ 10) ⊎ (x ≢ 10) → NoEnd xs ⊎ ((line : List ℕ) × (more : List ℕ) × (xs ≡ line ++ 10 ∷ more) × NoEnd line)
+        → NoEnd (x ∷ xs) ⊎ ((line : List ℕ) × (more : List ℕ) × (x ∷ xs ≡ line ++ 10 ∷ more) × NoEnd line)
+    by (inl e) r = inr ([], xs, ap (λ y. y ∷ xs) e, λ k lt. absurd (omega (arith, lt)))
+    by (inr n) (inl f) = inl (no_end_more x xs n f)
+    by (inr n) (inr (line, more, e, f)) = inr (x ∷ line, more, ap (λ ys. x ∷ ys) e, no_end_more x line n f)
+
+-- bytes that do not begin with a command's line and its end
+pub bad_command : (m : ℕ) (rest : List ℕ) → 0 < length rest → ((c : Command) (more : List ℕ) → AllFit (numbers_of c) → rest ≡ command_line c ++ 10 ∷ more → ⊥) → IsBadRest (m + 1) rest
+bad_command m rest some none = by (first_end rest)
+  where
+    by : NoEnd rest ⊎ ((line : List ℕ) × (more : List ℕ) × (rest ≡ line ++ 10 ∷ more) × NoEnd line) → IsBadRest (m + 1) rest
+    by (inl f) = bad_end m rest some f
+    by (inr (line, more, e, f)) = bad_line m rest line more e f (λ (c, fits, is). none c more fits (e ∙ ap (λ l. l ++ 10 ∷ more) is))

@@ -1,6 +1,11 @@
 -- A word at the beginning of some bytes, and what follows it.
 use Rattle.std.proofs.Common.{◌≡◌, ◌≢◌, ℕ, zero, suc, ◌<◌, ◌≤◌, List, [], ◌∷◌, ◌++◌, length, get_or, take, drop, refl, sym, ◌∙◌, ap, arith}
-use Rattle.g1_trace.specs.Lines.{IsWordEnd}
+use Rattle.std.specs.Prelude.{⊤}
+
+-- the bytes are at their end, or go on with a space
+abbrev pub IsWordEnd : List ℕ → Type 0
+IsWordEnd [] = ⊤
+IsWordEnd (b ∷ bs) = b ≡ 32
 
 -- no byte of the list is a space
 abbrev pub NoSpace : List ℕ → Type 0
@@ -26,22 +31,23 @@ take_drop zero xs = refl
 take_drop (suc i) [] = refl
 take_drop (suc i) (x ∷ xs) = ap (λ ys. x ∷ ys) (take_drop i xs)
 
-get_take : (i k : ℕ) (xs : List ℕ) → k < length (take i xs) → (get_or (take i xs) k 0 ≡ get_or xs k 0) × (k < i)
+pub get_take : (i k : ℕ) (xs : List ℕ) → k < length (take i xs) → (get_or (take i xs) k 0 ≡ get_or xs k 0) × (k < i)
 get_take zero k xs lt = absurd (omega (arith, lt))
 get_take (suc i) k [] lt = absurd (omega (arith, lt))
 get_take (suc i) zero (x ∷ xs) lt = (refl, omega arith)
 get_take (suc i) (suc k) (x ∷ xs) lt = let r = get_take i k xs (omega (arith, lt)) in (r.0, omega (arith, r.1))
 
-pub word_taken : (i : ℕ) (xs : List ℕ) → ((k : ℕ) → k < i → get_or xs k 0 ≢ 32) → NoSpace (take i xs)
-word_taken i xs n k lt e = let r = get_take i k xs lt in n k r.1 (sym r.0 ∙ e)
+-- bytes that agree with a word begin with it
+pub agree_word : (word bytes : List ℕ) → length word ≤ length bytes → ((k : ℕ) → k < length word → get_or bytes k 0 ≡ get_or word k 0) → bytes ≡ word ++ drop (length word) bytes
+agree_word [] bytes le f = refl
+agree_word (w ∷ word) [] le f = absurd (omega (arith, le))
+agree_word (w ∷ word) (b ∷ bytes) le f =
+    let first : b ≡ w = f 0 (omega arith) in
+    let rest = agree_word word bytes (omega (arith, le)) (λ k lt. f (suc k) (omega (arith, lt))) in
+    (λ t. first t ∷ rest t)
 
-pub word_ends : (i : ℕ) (xs : List ℕ) → i ≤ length xs → (i < length xs → get_or xs i 0 ≡ 32) → IsWordEnd (drop i xs)
-word_ends zero [] le e = tt
-word_ends zero (x ∷ xs) le e = e (omega arith)
-word_ends (suc i) [] le e = tt
-word_ends (suc i) (x ∷ xs) le e = word_ends i xs (omega (arith, le)) (λ lt. e (omega (arith, lt)))
-
--- the first word and the rest are what they are told to be
-pub split_is : (i : ℕ) (xs word rest : List ℕ) → i ≤ length xs → ((k : ℕ) → k < i → get_or xs k 0 ≢ 32) → (i < length xs → get_or xs i 0 ≡ 32) → NoSpace word → IsWordEnd rest → xs ≡ word ++ rest
-    → (take i xs ≡ word) × (drop i xs ≡ rest)
-split_is i xs word rest le n e m p q = one_split (take i xs) word (drop i xs) rest (word_taken i xs n) m (word_ends i xs le e) p (take_drop i xs ∙ q)
+-- what stands in a beginning stands in the whole
+pub get_front : (xs ys : List ℕ) (k : ℕ) → k < length xs → get_or (xs ++ ys) k 0 ≡ get_or xs k 0
+get_front [] ys k lt = absurd (omega (arith, lt))
+get_front (x ∷ xs) ys zero lt = refl
+get_front (x ∷ xs) ys (suc k) lt = get_front xs ys k (omega (arith, lt))

@@ -1,66 +1,82 @@
-ghost use Rattle.std.specs.Prelude.{◌≡◌, ◌≢◌, ◌⊎◌, ℕ, List, [], ◌∷◌, ◌++◌, ◌+◌, ◌<◌, ◌≤◌, ◌^◌, length, take, drop, slice_index, decimal, IsTrue, ◌↔◌, IfSome, IfNone, IfOk, IfErr};
+ghost use Rattle.std.specs.Prelude.{◌≡◌, ◌≢◌, ◌⊎◌, ℕ, List, [], ◌∷◌, ◌++◌, ◌+◌, ◌*◌, ◌<◌, ◌≤◌, ◌^◌, length, take, drop, slice_index, decimal, IsTrue, ◌↔◌, IfSome, IfNone, IfOk, IfErr};
 ghost use Rattle.g1_trace.specs.declared.command.Command.{Command as CommandOf};
+ghost use Rattle.g1_trace.specs.declared.parsing.Name.{Name as NameOf};
 ghost use Rattle.g1_trace.specs.TraceText.{spaced, AllFit, command_line, heap_line, name_of, numbers_of, IsHeapLine, IsCommandLine, IsBadRest, IsTraceText, IsFirstBadLine};
-ghost use Rattle.g1_trace.specs.Lines.{IsWordEnd};
+ghost use Rattle.g1_trace.specs.Lines.{AreDigits, IsLineEnd, IsNumberEnd, listed, read_on, spelled};
 
 use crate::command::Command;
 use crate::trace::Trace;
 use g1_words::Fault;
 use std::alloc::Global;
 
-/// The number that these bytes write in decimal digits, without a leading zero.
-fn number(word: &[u8]) -> Option<u64>
-    ensures some { IfSome result (λ x. word.now ≡ decimal x) }
+/// The number that is written with one more digit; None if it has more than 64 bits.
+fn append_digit(value: u64, digit: u64) -> Option<u64>
+    ensures some { IfSome result (λ x. x ≡ 10 * value + digit) }
     ensures fits { IfSome result (λ x. x < 2 ^ 64) }
-    ensures none { IfNone result ((x : ℕ) → x < 2 ^ 64 → word.now ≡ decimal x → ⊥) }
+    ensures none { IfNone result (2 ^ 64 ≤ 10 * value + digit) }
 {
-    if word.len() == 0 {
-        return None;
+    match value.checked_mul(10) {
+        Some(tens) => tens.checked_add(digit),
+        None => None,
     }
-    if word[0] == b'0' && word.len() > 1 {
-        return None;
-    }
-    let mut value: u64 = 0;
-    for b in word {
-        if *b < b'0' || *b > b'9' {
-            return None;
-        }
-        let digit = u64::from(*b - b'0');
-        if value > (u64::MAX - digit) / 10 {
-            return None;
-        }
-        value = value * 10 + digit;
-    }
-    Some(value)
 }
 
-/// How many bytes come before the first space, or the end.
-fn word_end(bytes: &[u8]) -> usize
-    ensures within { result ≤ length bytes.now }
-    ensures word { (k : ℕ) → k < result → slice_index bytes.now k ≢ 32 }
-    ensures end { result < length bytes.now → slice_index bytes.now result ≡ 32 }
+/// The number that the digits write with which the bytes begin, and how many they are; None if it has
+/// more than 64 bits.
+fn leading_digits(bytes: &[u8]) -> Option<(u64, usize)>
+    ensures within { IfSome result (λ r. r.1 ≤ length bytes.now) }
+    ensures digits { IfSome result (λ r. AreDigits (take r.1 bytes.now)) }
+    ensures end { IfSome result (λ r. IsNumberEnd (drop r.1 bytes.now)) }
+    ensures value { IfSome result (λ r. r.0 ≡ read_on 0 (take r.1 bytes.now)) }
+    ensures fits { IfSome result (λ r. r.0 < 2 ^ 64) }
+    ensures none { IfNone result ((x : ℕ) (more : List ℕ) → x < 2 ^ 64 → IsNumberEnd more → bytes.now ≡ decimal x ++ more → ⊥) }
 {
+    let mut value: u64 = 0;
     for (i, b) in bytes.iter().enumerate() {
-        if *b == b' ' {
-            return i;
+        if *b < b'0' || *b > b'9' {
+            return Some((value, i));
         }
+        value = match append_digit(value, u64::from(*b - b'0')) {
+            Some(longer) => longer,
+            None => return None,
+        };
     }
-    bytes.len()
+    Some((value, bytes.len()))
+}
+
+/// The number that the bytes begin with, in decimal digits without a leading zero, and the bytes
+/// after its digits.
+fn number(bytes: &[u8]) -> Option<(u64, &[u8])>
+    ensures some { IfSome result (λ r. (bytes.now ≡ decimal r.0 ++ r.1.now) × IsNumberEnd r.1.now) }
+    ensures fits { IfSome result (λ r. r.0 < 2 ^ 64) }
+    ensures none { IfNone result ((x : ℕ) (more : List ℕ) → x < 2 ^ 64 → IsNumberEnd more → bytes.now ≡ decimal x ++ more → ⊥) }
+{
+    let (value, count) = match leading_digits(bytes) {
+        Some(read) => read,
+        None => return None,
+    };
+    if count == 0 {
+        return None;
+    }
+    if bytes[0] == b'0' && count > 1 {
+        return None;
+    }
+    let (_, rest) = bytes.split_at(count);
+    Some((value, rest))
 }
 
 /// A space and a number that the bytes begin with, and the bytes after it.
 fn take_number(bytes: &[u8]) -> Option<(u64, &[u8])>
-    ensures some { IfSome result (λ r. (bytes.now ≡ 32 ∷ (decimal r.0 ++ r.1.now)) × IsWordEnd r.1.now) }
+    ensures some { IfSome result (λ r. (bytes.now ≡ 32 ∷ (decimal r.0 ++ r.1.now)) × IsNumberEnd r.1.now) }
     ensures fits { IfSome result (λ r. r.0 < 2 ^ 64) }
-    ensures none { IfNone result ((x : ℕ) (more : List ℕ) → x < 2 ^ 64 → IsWordEnd more → bytes.now ≡ 32 ∷ (decimal x ++ more) → ⊥) }
+    ensures none { IfNone result ((x : ℕ) (more : List ℕ) → x < 2 ^ 64 → IsNumberEnd more → bytes.now ≡ 32 ∷ (decimal x ++ more) → ⊥) }
 {
     if bytes.len() == 0 || bytes[0] != b' ' {
         return None;
     }
     let (_, after) = bytes.split_at(1);
-    let (word, rest) = after.split_at(word_end(after));
-    match number(word) {
-        Some(x) => Some((x, rest)),
+    match number(after) {
+        Some((x, rest)) => Some((x, rest)),
         None => None,
     }
 }
@@ -122,11 +138,21 @@ fn four(bytes: &[u8]) -> Option<(u64, u64, u64, u64)>
     }
 }
 
-/// Returns whether the bytes are a word's.
-fn is_word(name: &[u8], word: &[u8]) -> bool
-    ensures { IsTrue result ↔ (name.now ≡ word.now) }
+/// The bytes after a word that they begin with.
+fn after<'a>(bytes: &'a [u8], word: &[u8]) -> Option<&'a [u8]>
+    ensures some { IfSome result (λ rest. bytes.now ≡ word.now ++ rest.now) }
+    ensures none { IfNone result ((more : List ℕ) → bytes.now ≡ word.now ++ more → ⊥) }
 {
-    name == word
+    if bytes.len() < word.len() {
+        return None;
+    }
+    for (i, b) in word.iter().enumerate() {
+        if bytes[i] != *b {
+            return None;
+        }
+    }
+    let (_, rest) = bytes.split_at(word.len());
+    Some(rest)
 }
 
 /// The numbers of a trace's first line, without its end: words a region, words a card, regions and roots.
@@ -135,107 +161,207 @@ pub fn first_line(line: &[u8]) -> Option<(u64, u64, u64, u64)>
     ensures fits { IfSome result (λ r. AllFit (r.0 ∷ r.1 ∷ r.2 ∷ r.3 ∷ [])) }
     ensures none { IfNone result (IsHeapLine line.now → ⊥) }
 {
-    let (name, rest) = line.split_at(word_end(line));
-    if is_word(name, b"heap") {
-        four(rest)
-    } else {
-        None
+    match after(line, b"heap") {
+        Some(rest) => four(rest),
+        None => None,
     }
 }
 
-/// The command of this name that has one number.
-fn with_one(name: &[u8], number: u64) -> Option<Command>
-    ensures some { IfSome result (λ c. (name.now ≡ name_of c) × (numbers_of c ≡ number ∷ [])) }
-    ensures none { IfNone result ((c : CommandOf) → numbers_of c ≡ number ∷ [] → name.now ≡ name_of c → ⊥) }
+/// A command's name.
+#[derive(Clone, Copy)]
+enum Name {
+    New,
+    Get,
+    Put,
+    Set,
+    Say,
+    Same,
+    Copy,
+    Drop,
+    Pause,
+}
+
+/// One to three numbers.
+#[derive(Clone, Copy)]
+enum Numbers {
+    One(u64),
+    Two(u64, u64),
+    Three(u64, u64, u64),
+}
+
+/// The command's name that the bytes begin with, and the bytes after the space that follows it.
+fn take_name(bytes: &[u8]) -> Option<(Name, &[u8])>
+    ensures some { IfSome result (λ r. bytes.now ≡ spelled r.0 ++ 32 ∷ r.1.now) }
+    ensures none { IfNone result ((name : NameOf) (more : List ℕ) → bytes.now ≡ spelled name ++ 32 ∷ more → ⊥) }
 {
-    if is_word(name, b"drop") {
-        return Some(Command::Drop { root: number });
+    if let Some(rest) = after(bytes, b"get ") {
+        return Some((Name::Get, rest));
     }
-    if is_word(name, b"pause") {
-        return Some(Command::Pause { budget: number });
+    if let Some(rest) = after(bytes, b"put ") {
+        return Some((Name::Put, rest));
+    }
+    if let Some(rest) = after(bytes, b"set ") {
+        return Some((Name::Set, rest));
+    }
+    if let Some(rest) = after(bytes, b"new ") {
+        return Some((Name::New, rest));
+    }
+    if let Some(rest) = after(bytes, b"drop ") {
+        return Some((Name::Drop, rest));
+    }
+    if let Some(rest) = after(bytes, b"copy ") {
+        return Some((Name::Copy, rest));
+    }
+    if let Some(rest) = after(bytes, b"say ") {
+        return Some((Name::Say, rest));
+    }
+    if let Some(rest) = after(bytes, b"same ") {
+        return Some((Name::Same, rest));
+    }
+    if let Some(rest) = after(bytes, b"pause ") {
+        return Some((Name::Pause, rest));
     }
     None
 }
 
-/// The command of this name that has two numbers.
-fn with_two(name: &[u8], root: u64, second: u64) -> Option<Command>
-    ensures some { IfSome result (λ c. (name.now ≡ name_of c) × (numbers_of c ≡ root ∷ second ∷ [])) }
-    ensures none { IfNone result ((c : CommandOf) → numbers_of c ≡ root ∷ second ∷ [] → name.now ≡ name_of c → ⊥) }
+/// Returns whether the bytes are at their end, or at the end of a line.
+fn ends_line(bytes: &[u8]) -> bool
+    ensures { IsTrue result ↔ IsLineEnd bytes.now }
 {
-    if is_word(name, b"say") {
-        return Some(Command::Say { root, word: second });
-    }
-    if is_word(name, b"same") {
-        return Some(Command::Same {
-            root,
-            other: second,
-        });
-    }
-    if is_word(name, b"copy") {
-        return Some(Command::Copy { root, from: second });
-    }
-    None
+    bytes.len() == 0 || bytes[0] == b'\n'
 }
 
-/// The command of this name that has three numbers.
-fn with_three(name: &[u8], root: u64, second: u64, third: u64) -> Option<Command>
-    ensures some { IfSome result (λ c. (name.now ≡ name_of c) × (numbers_of c ≡ root ∷ second ∷ third ∷ [])) }
-    ensures none { IfNone result ((c : CommandOf) → numbers_of c ≡ root ∷ second ∷ third ∷ [] → name.now ≡ name_of c → ⊥) }
+/// The numbers from the first of them, after its space, to the end of a line, and the bytes from there on.
+fn take_numbers(bytes: &[u8]) -> Option<(Numbers, &[u8])>
+    ensures some { IfSome result (λ r. (32 ∷ bytes.now ≡ spaced (listed r.0) ++ r.1.now) × IsLineEnd r.1.now) }
+    ensures fits { IfSome result (λ r. AllFit (listed r.0)) }
+    ensures none { IfNone result ((xs : List ℕ) (more : List ℕ) → 0 < length xs → length xs ≤ 3 → AllFit xs → IsLineEnd more → 32 ∷ bytes.now ≡ spaced xs ++ more → ⊥) }
 {
-    if is_word(name, b"new") {
-        return Some(Command::New {
-            root,
-            refs: second,
-            words: third,
-        });
-    }
-    if is_word(name, b"get") {
-        return Some(Command::Get {
-            root,
-            from: second,
-            slot: third,
-        });
-    }
-    if is_word(name, b"put") {
-        return Some(Command::Put {
-            root,
-            slot: second,
-            from: third,
-        });
-    }
-    if is_word(name, b"set") {
-        return Some(Command::Set {
-            root,
-            word: second,
-            value: third,
-        });
-    }
-    None
-}
-
-/// The command of a trace's later line, without its end: how many numbers it has and its name say which.
-pub fn later_line(line: &[u8]) -> Option<Command>
-    ensures some { IfSome result (λ c. line.now ≡ command_line c) }
-    ensures fits { IfSome result (λ c. AllFit (numbers_of c)) }
-    ensures none { IfNone result (IsCommandLine line.now → ⊥) }
-{
-    let (name, numbers) = line.split_at(word_end(line));
-    let (first, others) = match take_number(numbers) {
-        Some(taken) => taken,
+    let (first, others) = match number(bytes) {
+        Some(read) => read,
         None => return None,
     };
-    if others.len() == 0 {
-        return with_one(name, first);
+    if ends_line(others) {
+        return Some((Numbers::One(first), others));
     }
     let (second, last) = match take_number(others) {
         Some(taken) => taken,
         None => return None,
     };
-    if last.len() == 0 {
-        return with_two(name, first, second);
+    if ends_line(last) {
+        return Some((Numbers::Two(first, second), last));
     }
-    match one(last) {
-        Some(third) => with_three(name, first, second, third),
+    match take_number(last) {
+        Some((third, rest)) => {
+            if ends_line(rest) {
+                Some((Numbers::Three(first, second, third), rest))
+            } else {
+                None
+            }
+        }
+        None => None,
+    }
+}
+
+/// The command of this name that has one number.
+fn with_one(name: Name, number: u64) -> Option<Command>
+    ensures some { IfSome result (λ c. (spelled name ≡ name_of c) × (numbers_of c ≡ number ∷ [])) }
+    ensures none { IfNone result ((c : CommandOf) → numbers_of c ≡ number ∷ [] → spelled name ≡ name_of c → ⊥) }
+{
+    match name {
+        Name::Drop => Some(Command::Drop { root: number }),
+        Name::Pause => Some(Command::Pause { budget: number }),
+        _ => None,
+    }
+}
+
+/// The command of this name that has two numbers.
+fn with_two(name: Name, root: u64, second: u64) -> Option<Command>
+    ensures some { IfSome result (λ c. (spelled name ≡ name_of c) × (numbers_of c ≡ root ∷ second ∷ [])) }
+    ensures none { IfNone result ((c : CommandOf) → numbers_of c ≡ root ∷ second ∷ [] → spelled name ≡ name_of c → ⊥) }
+{
+    match name {
+        Name::Say => Some(Command::Say { root, word: second }),
+        Name::Same => Some(Command::Same {
+            root,
+            other: second,
+        }),
+        Name::Copy => Some(Command::Copy { root, from: second }),
+        _ => None,
+    }
+}
+
+/// The command of this name that has three numbers.
+fn with_three(name: Name, root: u64, second: u64, third: u64) -> Option<Command>
+    ensures some { IfSome result (λ c. (spelled name ≡ name_of c) × (numbers_of c ≡ root ∷ second ∷ third ∷ [])) }
+    ensures none { IfNone result ((c : CommandOf) → numbers_of c ≡ root ∷ second ∷ third ∷ [] → spelled name ≡ name_of c → ⊥) }
+{
+    match name {
+        Name::New => Some(Command::New {
+            root,
+            refs: second,
+            words: third,
+        }),
+        Name::Get => Some(Command::Get {
+            root,
+            from: second,
+            slot: third,
+        }),
+        Name::Put => Some(Command::Put {
+            root,
+            slot: second,
+            from: third,
+        }),
+        Name::Set => Some(Command::Set {
+            root,
+            word: second,
+            value: third,
+        }),
+        _ => None,
+    }
+}
+
+/// The command of this name that has these numbers.
+fn named(name: Name, numbers: Numbers) -> Option<Command>
+    ensures some { IfSome result (λ c. (spelled name ≡ name_of c) × (numbers_of c ≡ listed numbers)) }
+    ensures none { IfNone result ((c : CommandOf) → numbers_of c ≡ listed numbers → spelled name ≡ name_of c → ⊥) }
+{
+    match numbers {
+        Numbers::One(number) => with_one(name, number),
+        Numbers::Two(root, second) => with_two(name, root, second),
+        Numbers::Three(root, second, third) => with_three(name, root, second, third),
+    }
+}
+
+/// The command whose line the bytes begin with, and the bytes from its end on: its name and how many
+/// numbers it has say which it is.
+fn take_command(bytes: &[u8]) -> Option<(Command, &[u8])>
+    ensures some { IfSome result (λ r. (bytes.now ≡ command_line r.0 ++ r.1.now) × IsLineEnd r.1.now) }
+    ensures fits { IfSome result (λ r. AllFit (numbers_of r.0)) }
+    ensures none { IfNone result ((c : CommandOf) (more : List ℕ) → AllFit (numbers_of c) → IsLineEnd more → bytes.now ≡ command_line c ++ more → ⊥) }
+{
+    let (name, after) = match take_name(bytes) {
+        Some(taken) => taken,
+        None => return None,
+    };
+    let (numbers, rest) = match take_numbers(after) {
+        Some(taken) => taken,
+        None => return None,
+    };
+    match named(name, numbers) {
+        Some(command) => Some((command, rest)),
+        None => None,
+    }
+}
+
+/// The command of a trace's later line, without its end.
+pub fn later_line(line: &[u8]) -> Option<Command>
+    ensures some { IfSome result (λ c. line.now ≡ command_line c) }
+    ensures fits { IfSome result (λ c. AllFit (numbers_of c)) }
+    ensures none { IfNone result (IsCommandLine line.now → ⊥) }
+{
+    match take_command(line) {
+        Some((command, rest)) => { if rest.len() == 0 { Some(command) } else { None } }
         None => None,
     }
 }
@@ -267,12 +393,14 @@ pub(crate) fn next_command(lines: &[u8], number: u64) -> Result<(Command, &[u8])
     ensures fault { IfErr result (λ e. e ≡ Fault.Line number) }
     ensures bad { IfErr result (λ e. (m : ℕ) → IsBadRest (m + 1) lines.now) }
 {
-    let (line, more) = match split_line(lines) {
-        Some(split) => split,
-        None => return Err(Fault::Line(number)),
-    };
-    match later_line(line) {
-        Some(command) => Ok((command, more)),
+    match take_command(lines) {
+        Some((command, end)) => {
+            if end.len() == 0 {
+                return Err(Fault::Line(number));
+            }
+            let (_, more) = end.split_at(1);
+            Ok((command, more))
+        }
         None => Err(Fault::Line(number)),
     }
 }

@@ -1,7 +1,6 @@
 ghost use Rattle.std.specs.Prelude.{◌≡◌, ◌⊎◌, ◌++◌, ◌∷◌, ◌+◌, ◌<◌, List, ℕ, length, OnOk, IfOk, IfErr};
 ghost use Rattle.g1_image.specs.Cards.{IsTracked};
 ghost use Rattle.g1_choose.specs.Cost.{IsCost};
-ghost use Rattle.g1_pause.specs.Settings.{AreWorkers, IsChunk};
 ghost use Rattle.g1_trace.specs.declared.command.Command.{Command as CommandOf};
 ghost use Rattle.g1_trace.specs.declared.command.Reply.{Reply as ReplyOf};
 ghost use Rattle.g1_trace.specs.Mutator.{IsStep};
@@ -16,7 +15,7 @@ use crate::parsing::{first_line, next_command, parse_trace, split_line};
 use crate::running::start;
 use g1_choose::Cost;
 use g1_words::Fault;
-use g1_work::Gate;
+use g1_work::{Gate, Team};
 use itoa::Buffer;
 use std::alloc::{AllocError, Global};
 use std::thread::Threads;
@@ -114,12 +113,9 @@ pub fn run_text<R: Threads + Sync, G: Gate + Sync>(
     alloc: Global,
     bytes: &[u8],
     cost: &Cost,
-    workers: u64,
-    chunk: u64,
+    team: Team,
     gate: &G,
 ) -> Result<Vec<u8>, Fault>
-    requires workers { AreWorkers workers }
-    requires chunk { IsChunk chunk }
     requires cost { IsCost cost.now }
     ensures told { IfOk result (λ text. IsTold cost.now bytes.now text.items) }
     ensures only { IfOk result (λ text. (other : List ℕ) → IsTold cost.now bytes.now other → other ≡ text.items) }
@@ -131,8 +127,8 @@ pub fn run_text<R: Threads + Sync, G: Gate + Sync>(
         rt,
         alloc,
         cost: *cost,
-        workers,
-        chunk,
+        workers: team.workers(),
+        chunk: team.chunk(),
         gate,
     };
     let (mut mutator, mut rest) = begin(alloc, bytes)?;

@@ -1,16 +1,14 @@
-use Rattle.std.proofs.Common.{◌∷◌, ◌++◌, ◌∙◌, ap}
-use Rattle.g1_trace.proofs.Texts.{bad_end, bad_line}
+use Rattle.std.proofs.Common.{◌∷◌, length, refl, sym, ◌∙◌, ap, arith}
+use Rattle.g1_trace.proofs.Texts.{bad_command}
+use Rattle.g1_trace.proofs.CommandLines.{one_end}
 use Rattle.g1_trace.proofs.parsing.next_command.Goals as goal
 
 pub returns-in-None-clause-bad : goal.returns-in-None-clause-bad
-returns-in-None-clause-bad c = λ m. bad_end m c.args.lines.now c.requires c.in-None.ensures.none
+returns-in-None-clause-bad c = λ m. bad_command m c.args.lines.now c.requires (λ command more fits e. c.in-None.ensures.none command (10 ∷ more) fits refl e)
 
-pub returns-in-Some-later_line-clause-text : goal.returns-in-Some-later_line-clause-text
-returns-in-Some-later_line-clause-text c = c.in-Some.ensures.some.0 ∙ ap (λ line. line ++ 10 ∷ c.in-Some.split.1.now) c.in-Some-later_line.ensures.some
-
-pub returns-in-Some-later_line-clause-fits : goal.returns-in-Some-later_line-clause-fits
-returns-in-Some-later_line-clause-fits c = c.in-Some-later_line.ensures.fits
-
-pub returns-in-None-later_line-clause-bad : goal.returns-in-None-later_line-clause-bad
-returns-in-None-later_line-clause-bad c = λ m. bad_line m c.args.lines.now c.in-Some.split.0.now c.in-Some.split.1.now c.in-Some.ensures.some.0
-    c.in-Some.ensures.some.1 c.in-None-later_line.ensures.none
+pub returns-then-end-eq0-clause-bad : goal.returns-then-end-eq0-clause-bad
+returns-then-end-eq0-clause-bad c = λ m.
+    let p = c.in-Some in
+    bad_command m c.args.lines.now c.requires (λ command more fits e.
+    let l = ap length (one_end p.command command p.end.now (10 ∷ more) p.ensures.fits fits p.ensures.some.1 refl (sym p.ensures.some.0 ∙ e)) in
+    absurd (omega (arith, l, c.if-end-eq0.true)))
