@@ -10,3 +10,6 @@ pub mod Fields
 pub mod OneImage
 pub mod OneText
 pub mod Gathering
+pub mod Adding
+pub mod Beyond
+pub mod Whole

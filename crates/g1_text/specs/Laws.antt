@@ -1,8 +1,14 @@
 -- The laws that public functions of this crate prove.
-use Rattle.std.specs.Prelude.{◌≡◌}
+use Rattle.std.specs.Prelude.{◌≡◌, List, ◌∷◌, map}
 use Rattle.g1_image.specs.Image.{Image, IsImage}
-use Rattle.g1_text.specs.Lines.{image_text}
+use Rattle.g1_text.specs.Lines.{image_text, image_lines, heading}
+use Rattle.g1_text.specs.Content.{Content, Line, Begins, Adds, IsContentOf, words_of}
 
 -- a full text is that of one image
 abbrev pub OneImage : Type 0
 OneImage = (i j : Image) → IsImage i → IsImage j → image_text i ≡ image_text j → i ≡ j
+
+-- the lines of an image are a heading and lines that add up to the image
+abbrev pub LinesAddUp : Type 0
+LinesAddUp = (i : Image) → IsImage i
+    → (b : Content) × (c : Content) × (lines : List Line) × Begins (heading i) b × (image_lines i ≡ heading i ∷ map words_of lines) × Adds b lines c × IsContentOf c i

@@ -1,6 +1,11 @@
-ghost use Rattle.g1_text.specs.Laws.{OneImage};
+ghost use Rattle.g1_text.specs.Laws.{OneImage, LinesAddUp};
 
 /// An image has one full text, and a full text is that of one image.
 pub fn one_full_text()
     ensures { OneImage }
+{}
+
+/// The lines of an image are a heading and lines that add up to the image.
+pub fn full_lines_add_up()
+    ensures { LinesAddUp }
 {}
