@@ -1,11 +1,10 @@
 -- What lines of an image say, as far as they were read, and that the lines of objects add the objects' words.
-use Rattle.std.proofs.Common.{◌≡◌, ℕ, zero, suc, ◌+◌, ◌-◌, ◌*◌, ◌^◌, ◌<◌, ◌≤◌, inl, inr, Bool, false, List, [], ◌∷◌, ◌++◌, length, get_or, take, drop, map, replicate, refl, sym, ◌∙◌, ap, subst, arith}
+use Rattle.std.proofs.Common.{◌≡◌, ℕ, zero, suc, ◌+◌, ◌-◌, ◌*◌, ◌^◌, ◌<◌, ◌≤◌, inl, inr, Bool, false, List, [], ◌∷◌, ◌++◌, length, get_or, take, drop, map, refl, sym, ◌∙◌, ap, subst, arith}
 use Rattle.std.proofs.Common.{append_assoc, append-nil, length-drop, length-take, length-take-le, drop-drop}
-use Rattle.std.specs.Prelude.{Some, All, decimal, codes, slice_index}
+use Rattle.std.specs.Prelude.{Some, All, decimal, codes}
 use Rattle.std.specs.List.{range_with_len}
 use Rattle.std.proofs.lemmas.List.{drop_more}
 use Rattle.std.proofs.Math.Seq.{take-add}
-use Rattle.g1_words.specs.Geometry.{Geometry}
 use Rattle.g1_words.specs.Heap.{top, objects_in}
 use Rattle.g1_words.specs.Valid.{Tiles}
 use Rattle.g1_words.specs.declared.object.Object.{Object}
@@ -16,8 +15,8 @@ use Rattle.g1_words.proofs.Members.{In}
 use Rattle.g1_words.proofs.Tiling.{Tiles-le}
 use Rattle.g1_image.specs.Image.{Image, IsImage, remembered_of}
 use Rattle.g1_text.specs.Lines.{reference_word, slot_values, data_values, object_line}
-use Rattle.g1_text.specs.Content.{Content, Counts, Line, Root, Dirty, Numbers, Remembered, Holds, Takes, Adds, HasRoom, size_with, words_of, top_behind, beyond_behind}
-use Rattle.g1_text.proofs.Splitting.{Small, small_at}
+use Rattle.g1_text.specs.Content.{Content, Counts, Line, Holds, Takes, Adds, HasRoom, size_with, words_of, top_behind, beyond_behind}
+use Rattle.g1_text.proofs.Splitting.{Small}
 use Rattle.g1_text.proofs.OneImage.{IsPlain}
 
 -- lines, and lines behind them
@@ -113,7 +112,7 @@ module _ (i : Image) (good : IsImage i) (r : ℕ) (below : r < i.heap.geometry.n
   pub object_adds : (k : Kind) (words : List ℕ) (beyond t found : ℕ) (o : Object) → IsPlain i.heap.words o → o.at ≡ r * i.heap.geometry.w + t → HasRoom k i.heap.geometry r t o.size
       → found + 1 < 2 ^ 64
       → Takes (within_region i r p remembered k words beyond t found) (said_object i.heap.words o)
-          (within_region i r p remembered k (words ++ take o.size (drop o.at i.heap.words)) (beyond_behind k i.heap.geometry beyond o.size) (top_behind k i.heap.geometry t o.size) (found + 1))
+      (within_region i r p remembered k (words ++ take o.size (drop o.at i.heap.words)) (beyond_behind k i.heap.geometry beyond o.size) (top_behind k i.heap.geometry t o.size) (found + 1))
   object_adds k words beyond t found o plain at room few =
       let size = size_is i.heap.words o plain in
       let added = all_words i.heap.words o plain in
@@ -139,7 +138,7 @@ module _ (i : Image) (good : IsImage i) (r : ℕ) (below : r < i.heap.geometry.n
   pub objects_add : (os : List Object) (words : List ℕ) (beyond t last found : ℕ) → Tiles i.heap.words (r * i.heap.geometry.w + t) os (r * i.heap.geometry.w + last) → last ≤ i.heap.geometry.w
       → ((o : Object) → In os o → IsPlain i.heap.words o × (4 * o.size ≤ 3 * i.heap.geometry.w)) → found + length os < 2 ^ 64
       → Adds (within_region i r p remembered Ordinary words beyond t found) (map (said_object i.heap.words) os)
-          (within_region i r p remembered Ordinary (words ++ take (last - t) (drop (r * i.heap.geometry.w + t) i.heap.words)) beyond last (found + length os))
+      (within_region i r p remembered Ordinary (words ++ take (last - t) (drop (r * i.heap.geometry.w + t) i.heap.words)) beyond last (found + length os))
   objects_add [] words beyond t last found tiles fits each few =
       let same : t ≡ last = omega (arith, tiles) in
       let none : 0 ≡ last - t = omega (arith, same) in

@@ -1,11 +1,11 @@
 -- How many words of a humongous object no region below a place has yet.
-use Rattle.std.proofs.Common.{◌≡◌, ℕ, zero, suc, ◌+◌, ◌-◌, ◌*◌, ◌<◌, ◌≤◌, inl, inr, min, refl, sym, ◌∙◌, ap, subst, arith}
-use Rattle.std.proofs.lemmas.Bool.{cases_lt, cases_order}
-use Rattle.g1_words.specs.Heap.{Heap, kind, start}
-use Rattle.g1_words.specs.Valid.{IsFirst, IsShapedBy, IsWholeRun}
+use Rattle.std.proofs.Common.{◌≡◌, ℕ, ◌+◌, ◌-◌, ◌*◌, ◌<◌, ◌≤◌, inl, inr, sym, ◌∙◌, ap, subst, arith}
+use Rattle.std.proofs.lemmas.Bool.{cases_lt}
+use Rattle.g1_words.specs.Heap.{Heap, kind}
+use Rattle.g1_words.specs.Valid.{IsFirst, IsWholeRun}
 use Rattle.g1_words.specs.declared.object.Object.{Object}
 use Rattle.g1_words.specs.declared.region.Kind.{Kind}
-use Rattle.g1_words.specs.declared.region.Kind.TheVariants.{Free, Ordinary, HumongousFirst, Continuation}
+use Rattle.g1_words.specs.declared.region.Kind.TheVariants.{HumongousFirst, Continuation}
 use Rattle.g1_words.proofs.Tiling.{same_object}
 
 next_run : (m w : ℕ) → (m + 1) * w ≡ m * w + w

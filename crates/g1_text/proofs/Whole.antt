@@ -1,35 +1,32 @@
 -- The lines of an image add up to the image.
-use Rattle.std.proofs.Common.{◌≡◌, ℕ, zero, suc, ◌+◌, ◌-◌, ◌*◌, ◌^◌, ◌<◌, ◌≤◌, inl, inr, Bool, true, false, List, [], ◌∷◌, ◌++◌, length, get_or, take, drop, map, flat_map, set, min, replicate, refl, sym, ◌∙◌, ap, subst, arith}
+use Rattle.std.proofs.Common.{◌≡◌, ℕ, zero, suc, ◌+◌, ◌-◌, ◌*◌, ◌^◌, ◌<◌, ◌≤◌, inl, inr, Bool, List, [], ◌∷◌, ◌++◌, length, get_or, take, drop, map, flat_map, set, min, replicate, refl, sym, ◌∙◌, ap, subst, arith}
 use Rattle.std.proofs.Common.{append_assoc, append-nil, length-append, length-take-le, drop-drop, take_all}
-use Rattle.std.specs.Prelude.{Option, Some, None, IfSome, IsTrue, All, slice_index, slice_index_or}
+use Rattle.std.specs.Prelude.{Option, Some, None, IfSome, All, slice_index, slice_index_or}
 use Rattle.std.specs.List.{range_with_len}
 use Rattle.std.proofs.lemmas.Bool.{cases_lt}
 use Rattle.std.proofs.lemmas.List.{map-append, set_at, get_or_at, take_more}
-use Rattle.std.proofs.lemmas.List.FromFn.{length-range_with_len, map-range_with_len_more, get_or-map-range_with_len, length-map-range_with_len}
+use Rattle.std.proofs.lemmas.List.FromFn.{map-range_with_len_more, get_or-map-range_with_len, length-map-range_with_len}
 use Rattle.std.proofs.lemmas.Simd.{map-map}
 use Rattle.std.proofs.Math.Seq.{take-add}
 use Rattle.std.proofs.Math.Nat.{mul-le-mul_left}
-use Rattle.g1_words.specs.Geometry.{most_roots}
 use Rattle.g1_words.specs.Kind.{MayHoldCards}
-use Rattle.g1_words.specs.Heap.{Heap, free_region, kind, top, pinned, region, regions, start, end, objects_in, objects_by, object_at}
+use Rattle.g1_words.specs.Heap.{free_region, kind, top, pinned, region, regions, start, end, objects_in, objects_by, object_at}
 use Rattle.g1_words.specs.Valid.{IsFirst, IsHumongous, IsWholeRun, HoldsBy, IsShapedBy, IsValid, Tiles}
 use Rattle.g1_words.specs.declared.object.Object.{Object}
 use Rattle.g1_words.specs.declared.region.Region.{Region}
 use Rattle.g1_words.specs.declared.region.Kind.{Kind}
 use Rattle.g1_words.specs.declared.region.Kind.TheVariants.{Free, Ordinary, HumongousFirst, Continuation}
-use Rattle.g1_words.proofs.Bounds.{object_within}
 use Rattle.g1_words.proofs.Computed.{object_is, holds_are, range_below}
 use Rattle.g1_words.proofs.Members.{In, Contains-from_in}
-use Rattle.g1_image.specs.Image.{Image, IsImage, IsUsedCard, remembered_of, used_words, file_of}
-use Rattle.g1_image.specs.declared.cursor.Version.TheVariants.{Two}
+use Rattle.g1_image.specs.Image.{Image, IsImage, IsUsedCard, remembered_of, used_words}
 use Rattle.g1_text.specs.Laws.{LinesAddUp}
-use Rattle.g1_text.specs.Lines.{heading, root_line, root_lines, log_lines, region_line, region_lines, remembered_lines, object_line, image_lines}
-use Rattle.g1_text.specs.Content.{Content, Counts, Line, Root, Dirty, Numbers, Remembered, Holds, Takes, Adds, MayFollow, words_of, words_beyond, begun, Begins, CountsAgree, Agrees, IsContentOf}
-use Rattle.g1_text.proofs.Splitting.{Small, small_at}
+use Rattle.g1_text.specs.Lines.{heading, root_lines, log_lines, region_line, region_lines, remembered_lines, object_line, image_lines}
+use Rattle.g1_text.specs.Content.{Content, Line, Root, Dirty, Numbers, Remembered, Adds, MayFollow, words_of, words_beyond, begun, Begins, CountsAgree, Agrees, IsContentOf}
+use Rattle.g1_text.proofs.Splitting.{small_at}
 use Rattle.g1_text.proofs.Bounded.{objects_few, roots_small, top_small}
 use Rattle.g1_text.proofs.OneImage.{IsPlain, plain}
-use Rattle.g1_text.proofs.Adding.{adds_both, adds_to, map_members, said_object, object_words, read_so_far, counts_with, counts_at, within_region, object_adds, objects_add}
-use Rattle.g1_text.proofs.Beyond.{GoesOn, none_goes_on, continues, none_left, none_before, past_plain, past_first, past_continuation}
+use Rattle.g1_text.proofs.Adding.{adds_both, adds_to, map_members, said_object, object_words, read_so_far, counts_at, within_region, object_adds, objects_add}
+use Rattle.g1_text.proofs.Beyond.{GoesOn, none_goes_on, none_left, none_before, past_plain, past_first, past_continuation}
 
 -- the line of the log, if there is one
 abbrev pub said_log : List ℕ → List Line
@@ -80,7 +77,8 @@ module _ (i : Image) (good : IsImage i) where
       ∙ map_members (λ o. words_of (said_object i.heap.words o)) (object_line i.heap.words) (objects_in i.heap r) (λ o m. object_words i.heap.words o (plain i good r o lt m)) in
       ap (λ ls. region_line i r ∷ ls) (map-append words_of (said_remembered r (remembered_of i r)) (map (said_object i.heap.words) (objects_in i.heap r)) ∙ (λ t. cards t ++ objects t))
 
-  image_words : image_lines i ≡ heading i ∷ map words_of (said_image i)
+  -- THE WORDS of the lines are the image's
+  pub image_words : image_lines i ≡ heading i ∷ map words_of (said_image i)
   image_words =
       let roots : List Line = map (said_root i) (range_with_len 0 (length i.heap.roots)) in
       let rows : List Line = flat_map (said_region i) (regions i.heap) in
@@ -433,7 +431,7 @@ module _ (i : Image) (good : IsImage i) where
         subst (CountsAgree (content_of i)) (sym (get_or-map-range_with_len (counts_at i) 0 n k k d there (omega arith))) (counts_agree k there);
   }
 
-  heading_begins : Begins (heading i) (begun i.heap.geometry i.heap.current (Some (length i.heap.roots)) (Some (length i.log)))
+  pub heading_begins : Begins (heading i) (begun i.heap.geometry i.heap.current (Some (length i.heap.roots)) (Some (length i.log)))
   heading_begins = record {
     geometry = i.heap.geometry;
     current = i.heap.current;
@@ -447,13 +445,21 @@ module _ (i : Image) (good : IsImage i) where
     says = refl;
   }
 
-  image_adds : Adds (begun i.heap.geometry i.heap.current (Some (length i.heap.roots)) (Some (length i.log))) (said_image i) (content_of i)
+  -- ITS LINES ADD UP to the content of the image
+  pub image_adds : Adds (begun i.heap.geometry i.heap.current (Some (length i.heap.roots)) (Some (length i.log))) (said_image i) (content_of i)
   image_adds =
       let first : Content = begun i.heap.geometry i.heap.current (Some (length i.heap.roots)) (Some (length i.log)) in
       let roots : List Line = map (said_root i) (range_with_len 0 (length i.heap.roots)) in
       adds_both (roots ++ said_log i.log) (flat_map (said_region i) (regions i.heap)) first (rooted i i.heap.roots i.log) (content_of i)
       (adds_both roots (said_log i.log) first (rooted i i.heap.roots []) (rooted i i.heap.roots i.log) (roots_add i good 0 (length i.heap.roots) (omega arith)) (log_adds i good i.log (log_small i good)))
       rows_add
+
+  pub is_content : IsContentOf (content_of i) i
+  is_content = record { image = good; agrees = agrees; uncovered = refl; same = refl }
+
+  -- each region was said, and no humongous object goes on
+  pub all_closed : ((content_of i).beyond ≡ 0) × ((content_of i).geometry.n ≤ length (content_of i).regions)
+  all_closed = (refl, omega (arith, (valid i good).region_count))
 
 -- THE LINES OF AN IMAGE ADD UP to the image
 pub lines_add_up : LinesAddUp
@@ -464,5 +470,5 @@ lines_add_up i good = (
   heading_begins i good,
   image_words i good,
   image_adds i good,
-  record { image = good; agrees = agrees i good; uncovered = refl; same = refl },
+  is_content i good,
 )
