@@ -13,3 +13,4 @@ pub mod Gathering
 pub mod Adding
 pub mod Beyond
 pub mod Whole
+pub mod OneLine

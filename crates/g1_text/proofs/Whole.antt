@@ -1,6 +1,6 @@
 -- The lines of an image add up to the image.
-use Rattle.std.proofs.Common.{◌≡◌, ℕ, zero, suc, ◌+◌, ◌-◌, ◌*◌, ◌^◌, ◌<◌, ◌≤◌, inl, inr, Bool, List, [], ◌∷◌, ◌++◌, length, get_or, take, drop, map, flat_map, set, min, replicate, refl, sym, ◌∙◌, ap, subst, arith}
-use Rattle.std.proofs.Common.{append_assoc, append-nil, length-append, length-take-le, drop-drop, take_all}
+use Rattle.std.proofs.Common.{◌≡◌, ℕ, zero, suc, ◌+◌, ◌-◌, ◌*◌, ◌^◌, ◌<◌, ◌≤◌, inl, inr, Bool, List, [], ◌∷◌, ◌++◌, length, get_or, take, drop, map, flat_map, set, min, replicate}
+use Rattle.std.proofs.Common.{refl, sym, ◌∙◌, ap, subst, arith, append_assoc, append-nil, length-append, length-take-le, drop-drop, take_all}
 use Rattle.std.specs.Prelude.{Option, Some, None, IfSome, All, slice_index, slice_index_or}
 use Rattle.std.specs.List.{range_with_len}
 use Rattle.std.proofs.lemmas.Bool.{cases_lt}
@@ -19,13 +19,14 @@ use Rattle.g1_words.specs.declared.region.Kind.TheVariants.{Free, Ordinary, Humo
 use Rattle.g1_words.proofs.Computed.{object_is, holds_are, range_below}
 use Rattle.g1_words.proofs.Members.{In, Contains-from_in}
 use Rattle.g1_image.specs.Image.{Image, IsImage, IsUsedCard, remembered_of, used_words}
-use Rattle.g1_text.specs.Laws.{LinesAddUp}
+use Rattle.g1_text.specs.Laws.{LinesAddUp, LinesSayImage}
 use Rattle.g1_text.specs.Lines.{heading, root_lines, log_lines, region_line, region_lines, remembered_lines, object_line, image_lines}
 use Rattle.g1_text.specs.Content.{Content, Line, Root, Dirty, Numbers, Remembered, Adds, MayFollow, words_of, words_beyond, begun, Begins, CountsAgree, Agrees, IsContentOf}
 use Rattle.g1_text.proofs.Splitting.{small_at}
 use Rattle.g1_text.proofs.Bounded.{objects_few, roots_small, top_small}
 use Rattle.g1_text.proofs.OneImage.{IsPlain, plain}
 use Rattle.g1_text.proofs.Adding.{adds_both, adds_to, map_members, said_object, object_words, read_so_far, counts_at, within_region, object_adds, objects_add}
+use Rattle.g1_text.proofs.OneLine.{heading_one, adds_one}
 use Rattle.g1_text.proofs.Beyond.{GoesOn, none_goes_on, none_left, none_before, past_plain, past_first, past_continuation}
 
 -- the line of the log, if there is one
@@ -86,7 +87,9 @@ module _ (i : Image) (good : IsImage i) where
       let second = log_words i.log in
       let third : map words_of rows ≡ flat_map (region_lines i) (regions i.heap) =
       flat_words (said_region i) (region_lines i) (regions i.heap) (λ r m. region_words r (let b = range_below 0 i.heap.geometry.n r m in omega (arith, b))) in
-      ap (λ ls. heading i ∷ ls) (sym (map-append words_of (roots ++ said_log i.log) rows ∙ ap (λ l. l ++ map words_of rows) (map-append words_of roots (said_log i.log)) ∙ (λ t. (first t ++ second t) ++ third t)))
+      let parts : map words_of (said_image i) ≡ (map words_of roots ++ map words_of (said_log i.log)) ++ map words_of rows =
+      map-append words_of (roots ++ said_log i.log) rows ∙ ap (λ l. l ++ map words_of rows) (map-append words_of roots (said_log i.log)) in
+      ap (λ ls. heading i ∷ ls) (sym (parts ∙ (λ t. (first t ++ second t) ++ third t)))
 
 -- ---- the roots and the log
 
@@ -263,7 +266,8 @@ module _ (i : Image) (good : IsImage i) (r : ℕ) (below : r < i.heap.geometry.n
       let tiles : Tiles i.heap.words (r * w) shaped.2 (r * w + top i.heap r) = subst (λ k. HoldsBy k i.heap r shaped.2) is shaped.3 in
       let are : shaped.2 ≡ os = holds_are Ordinary i.heap r shaped.2 tiles in
       let from : r * w ≡ r * w + 0 = omega arith in
-      let placed : Tiles i.heap.words (r * w + 0) os (r * w + top i.heap r) = subst (λ a. Tiles i.heap.words a os (r * w + top i.heap r)) from (subst (λ l. Tiles i.heap.words (r * w) l (r * w + top i.heap r)) are tiles) in
+      let placed : Tiles i.heap.words (r * w + 0) os (r * w + top i.heap r) =
+      subst (λ a. Tiles i.heap.words a os (r * w + top i.heap r)) from (subst (λ l. Tiles i.heap.words (r * w) l (r * w + top i.heap r)) are tiles) in
       let each : (o : Object) → In os o → IsPlain i.heap.words o × (4 * o.size ≤ 3 * w) =
       λ o m. (members Ordinary is o m, (let c = Contains-from_in shaped.2 o (subst (λ l. In l o) (sym are) m) in subst (λ (x : Object). 4 * x.size ≤ 3 * w) c.2 (shaped.4 c.0 o c.1))) in
       let few : 0 + length os < 2 ^ 64 = (let same : length os ≡ length (objects_in i.heap r) = ap (λ k. length (objects_by k i.heap r)) (sym is) in omega (arith, same, objects_small)) in
@@ -372,7 +376,8 @@ module _ (i : Image) (good : IsImage i) where
       let rest = regions_add (r + 1) count (omega (arith, e)) one.0 one.1 in (
         rest.0,
         rest.1,
-        adds_both (said_region i r) (flat_map (said_region i) (range_with_len (r + 1) count)) (after_regions i r b) (after_regions i (r + 1) one.0) (after_regions i i.heap.geometry.n rest.0) one.2 rest.2,
+        adds_both (said_region i r) (flat_map (said_region i) (range_with_len (r + 1) count)) (after_regions i r b) (after_regions i (r + 1) one.0) (after_regions i i.heap.geometry.n rest.0)
+            one.2 rest.2,
       )
 
   first_content : rooted i i.heap.roots i.log ≡ after_regions i 0 0
@@ -451,7 +456,8 @@ module _ (i : Image) (good : IsImage i) where
       let first : Content = begun i.heap.geometry i.heap.current (Some (length i.heap.roots)) (Some (length i.log)) in
       let roots : List Line = map (said_root i) (range_with_len 0 (length i.heap.roots)) in
       adds_both (roots ++ said_log i.log) (flat_map (said_region i) (regions i.heap)) first (rooted i i.heap.roots i.log) (content_of i)
-      (adds_both roots (said_log i.log) first (rooted i i.heap.roots []) (rooted i i.heap.roots i.log) (roots_add i good 0 (length i.heap.roots) (omega arith)) (log_adds i good i.log (log_small i good)))
+      (adds_both roots (said_log i.log) first (rooted i i.heap.roots []) (rooted i i.heap.roots i.log)
+      (roots_add i good 0 (length i.heap.roots) (omega arith)) (log_adds i good i.log (log_small i good)))
       rows_add
 
   pub is_content : IsContentOf (content_of i) i
@@ -472,3 +478,11 @@ lines_add_up i good = (
   image_adds i good,
   is_content i good,
 )
+
+-- LINES WITH THE WORDS of an image's lines say the image
+pub lines_say_image : LinesSayImage
+lines_say_image i b c lines good begins words adds =
+    let first = heading_one (heading i) (begun i.heap.geometry i.heap.current (Some (length i.heap.roots)) (Some (length i.log))) b (heading_begins i good) begins in
+    let below : map words_of (said_image i) ≡ map words_of lines = ap (drop 1) (sym (image_words i good) ∙ words) in
+    let last = adds_one (said_image i) lines b (content_of i) c below (subst (λ x. Adds x (said_image i) (content_of i)) first (image_adds i good)) adds in
+    subst (λ x. IsContentOf x i) last (is_content i good)

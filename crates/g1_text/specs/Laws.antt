@@ -1,8 +1,8 @@
 -- The laws that public functions of this crate prove.
-use Rattle.std.specs.Prelude.{◌≡◌, List, ◌∷◌, map}
+use Rattle.std.specs.Prelude.{◌≡◌, ℕ, List, ◌∷◌, Option, map}
 use Rattle.g1_image.specs.Image.{Image, IsImage}
 use Rattle.g1_text.specs.Lines.{image_text, image_lines, heading}
-use Rattle.g1_text.specs.Content.{Content, Line, Begins, Adds, IsContentOf, words_of}
+use Rattle.g1_text.specs.Content.{Content, Line, Begins, Says, Adds, IsContentOf, words_of}
 
 -- a full text is that of one image
 abbrev pub OneImage : Type 0
@@ -12,3 +12,11 @@ OneImage = (i j : Image) → IsImage i → IsImage j → image_text i ≡ image_
 abbrev pub LinesAddUp : Type 0
 LinesAddUp = (i : Image) → IsImage i
     → (b : Content) × (c : Content) × (lines : List Line) × Begins (heading i) b × (image_lines i ≡ heading i ∷ map words_of lines) × Adds b lines c × IsContentOf c i
+
+-- lines with the words of an image's lines say the image, and nothing else
+abbrev pub LinesSayImage : Type 0
+LinesSayImage = (i : Image) (b c : Content) (lines : List Line) → IsImage i → Begins (heading i) b → image_lines i ≡ heading i ∷ map words_of lines → Adds b lines c → IsContentOf c i
+
+-- the words of a line say at most one thing
+abbrev pub LinesSayOne : Type 0
+LinesSayOne = (before : Option Content) (words : List (List ℕ)) (c d : Content) → Says before words c → Says before words d → c ≡ d

@@ -1,11 +1,17 @@
-ghost use Rattle.g1_text.specs.Laws.{OneImage, LinesAddUp};
+ghost use Rattle.g1_text.specs.Laws.{OneImage, LinesAddUp, LinesSayImage, LinesSayOne};
 
 /// An image has one full text, and a full text is that of one image.
 pub fn one_full_text()
     ensures { OneImage }
 {}
 
-/// The lines of an image are a heading and lines that add up to the image.
+/// The lines of an image are a heading and lines that add up to the image, and to nothing else.
 pub fn full_lines_add_up()
-    ensures { LinesAddUp }
+    ensures image { LinesAddUp }
+    ensures only { LinesSayImage }
+{}
+
+/// The words of a line say at most one thing.
+pub fn one_meaning()
+    ensures { LinesSayOne }
 {}

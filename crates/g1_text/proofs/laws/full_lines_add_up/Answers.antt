@@ -1,5 +1,8 @@
-use Rattle.g1_text.proofs.Whole.{lines_add_up}
+use Rattle.g1_text.proofs.Whole.{lines_add_up, lines_say_image}
 use Rattle.g1_text.proofs.laws.full_lines_add_up.Goals as goal
 
-pub returns : goal.returns
-returns c = lines_add_up
+pub returns-clause-image : goal.returns-clause-image
+returns-clause-image c = lines_add_up
+
+pub returns-clause-only : goal.returns-clause-only
+returns-clause-only c = lines_say_image
