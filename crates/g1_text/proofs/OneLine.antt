@@ -7,7 +7,8 @@ use Rattle.g1_words.specs.declared.region.Region.{Region}
 use Rattle.g1_words.specs.declared.region.Kind.{Kind}
 use Rattle.g1_text.specs.Lines.{reference_word}
 use Rattle.g1_text.specs.Laws.{LinesSayOne}
-use Rattle.g1_text.specs.Content.{Content, Counts, Line, Root, Dirty, Numbers, Remembered, Holds, Takes, Adds, Says, Begins, begun, words_of, words_beyond, size_with, top_behind, beyond_behind, one_found}
+use Rattle.g1_text.specs.Content.{Content, Counts, Line, Root, Dirty, Numbers, Remembered, Holds, Takes, Adds, Says, Begins}
+use Rattle.g1_text.specs.Content.{begun, words_of, words_beyond, size_with, top_behind, beyond_behind, one_found}
 use Rattle.g1_text.proofs.Splitting.{Small}
 use Rattle.g1_text.proofs.Ends.{one_end}
 use Rattle.g1_text.proofs.Fields.{word_at, current_one, reference_one, kind_one, pin_one, numbers_one, references_one, fronts_one, sizes_one}
