@@ -14,3 +14,8 @@ pub mod Adding
 pub mod Beyond
 pub mod Whole
 pub mod OneLine
+pub mod White
+pub mod Parts
+pub mod Turns
+pub mod Statements
+pub mod FullText

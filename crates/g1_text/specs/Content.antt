@@ -183,6 +183,15 @@ abbrev pub Says : Option Content → List (List ℕ) → Content → Type 0
 Says None words d = Begins words d
 Says (Some c) words d = (line : Line) × (words ≡ words_of line) × Takes c line d
 
+-- what lines say, one after the other
+abbrev pub SaysAll : Option Content → List (List (List ℕ)) → Option Content → Type 0
+SaysAll before [] after = before ≡ after
+SaysAll before (line ∷ lines) after = (c : Content) × Says before line c × SaysAll (Some c) lines after
+
+-- each region was said, and no humongous object goes on
+abbrev pub IsClosed : Content → Type 0
+IsClosed c = (c.beyond ≡ 0) × (c.geometry.n ≤ length c.regions)
+
 -- a count in a line, if there is one, is this number
 abbrev pub IsCount : Option ℕ → ℕ → Type 0
 IsCount told n = IfSome told (λ m. m ≡ n)
