@@ -8,7 +8,7 @@ use Rattle.g1_words.specs.Kind.{kind_word}
 use Rattle.g1_words.specs.declared.region.Kind.{Kind}
 use Rattle.g1_words.specs.declared.region.Kind.TheVariants.{Free, Ordinary, HumongousFirst, Continuation}
 use Rattle.g1_text.specs.Lines.{reference_word, current_word, pinned_words}
-use Rattle.g1_text.specs.Content.{Content, Line, Root, Dirty, Numbers, Remembered, Holds, words_of, Takes, Adds, Begins, Says, SaysAll}
+use Rattle.g1_text.specs.Content.{Content, Line, Root, Dirty, Numbers, Remembered, Holds, words_of, Takes, Adds, Begins, Says, SaysAll, heading_words}
 use Rattle.g1_text.proofs.Splitting.{AreDigits, own}
 use Rattle.g1_text.proofs.Parts.{AllPrintable, IsPrintable, ArePrintable, IsStatement, AreStatements}
 
@@ -90,26 +90,32 @@ current_printable (Some r) fit = number r (omega (arith, fit))
 
 -- a line that adds something is such a line
 line_statement : (c : Content) (l : Line) (d : Content) → Takes c l d → IsStatement (words_of l)
-line_statement c (Root m x) d t = (refl, letters 114 (codes "oot") refl, number m (let most = t.1 in omega (arith, most)), reference x t.2, tt)
-line_statement c (Dirty cards) d t = (refl, letters 100 (codes "irty") refl, letters 99 (codes "ards") refl, short_numbers cards t.0)
-line_statement c (Numbers r k top o m p) d t = (
-  refl, letters 114 (codes "egion") refl, number r t.2, kind_printable k, letters 116 (codes "op") refl, number top t.4, letters 111 (codes "bjects") refl, number o t.5,
-  letters 99 (codes "ards") refl, number m t.6, pinned_printable p,
-)
-line_statement c (Remembered r cards) d t = (refl, letters 114 (codes "emembered") refl, number r t.1, letters 99 (codes "ards") refl, short_numbers cards t.2)
+line_statement c (Root m x) d t = (refl, (letters 114 (codes "oot") refl, (number m (let most = t.1 in omega (arith, most)), (reference x t.2, tt))))
+line_statement c (Dirty cards) d t = (refl, (letters 100 (codes "irty") refl, (letters 99 (codes "ards") refl, short_numbers cards t.0)))
+line_statement c (Numbers r k top o m p) d t =
+    let counts : ArePrintable (codes "cards" ∷ decimal m ∷ pinned_words p) = (letters 99 (codes "ards") refl, (number m t.6, pinned_printable p)) in
+    let objects : ArePrintable (codes "objects" ∷ decimal o ∷ codes "cards" ∷ decimal m ∷ pinned_words p) = (letters 111 (codes "bjects") refl, (number o t.5, counts)) in
+    (refl, (letters 114 (codes "egion") refl, (number r t.2, (kind_printable k, (letters 116 (codes "op") refl, (number top t.4, objects))))))
+line_statement c (Remembered r cards) d t = (refl, (letters 114 (codes "emembered") refl, (number r t.1, (letters 99 (codes "ards") refl, short_numbers cards t.2))))
 line_statement c (Holds at slots values) d t =
-    let size = t.10 in (
-      refl, letters 111 (codes "bject") refl, number at t.8, slashed (length slots + length values + 1) (length slots) (omega (arith, size)) (omega (arith, size)),
-      words_append (map reference_word slots) (map decimal values) (references slots t.11) (numbers values t.12),
-    )
+    let size = t.10 in
+    let words = words_append (map reference_word slots) (map decimal values) (references slots t.11) (numbers values t.12) in
+    (refl, (letters 111 (codes "bject") refl, (number at t.8, (slashed (length slots + length values + 1) (length slots) (omega (arith, size)) (omega (arith, size)), words))))
 
 heading_statement : (words : List (List ℕ)) (c : Content) → Begins words c → IsStatement words
 heading_statement words c b =
-    subst IsStatement (sym b.line) (
-      refl, letters 104 (codes "eap") refl, number b.geometry.w (let most = b.limits.w_most in omega (arith, most)), number b.geometry.k (let most = b.limits.k_most in omega (arith, most)),
-      number b.geometry.n (let most = b.limits.n_most in omega (arith, most)), letters 114 (codes "oots") refl, number b.roots b.root_count, letters 100 (codes "irty") refl,
-      number b.dirty b.dirty_count, letters 99 (codes "urrent") refl, current_printable b.current b.region, tt,
-    )
+    let w_most = b.limits.w_most in
+    let k_most = b.limits.k_most in
+    let n_most = b.limits.n_most in
+    let counts : ArePrintable (codes "roots" ∷ decimal b.roots ∷ codes "dirty" ∷ decimal b.dirty ∷ codes "current" ∷ current_word b.current ∷ []) = (
+      letters 114 (codes "oots") refl,
+      (number b.roots b.root_count, (letters 100 (codes "irty") refl, (number b.dirty b.dirty_count, (letters 99 (codes "urrent") refl, (current_printable b.current b.region, tt))))),
+    ) in
+    let line : IsStatement (heading_words b.geometry b.roots b.dirty b.current) = (
+      refl,
+      (letters 104 (codes "eap") refl, (number b.geometry.w (omega (arith, w_most)), (number b.geometry.k (omega (arith, k_most)), (number b.geometry.n (omega (arith, n_most)), counts)))),
+    ) in
+    subst IsStatement (sym b.line) line
 
 next_statement : (before : Option Content) (words : List (List ℕ)) (c : Content) → Says before words c → IsStatement words
 next_statement None words c b = heading_statement words c b

@@ -9,6 +9,7 @@ use Rattle.g1_words.specs.declared.region.Kind.TheVariants.{Ordinary, HumongousF
 use Rattle.g1_image.specs.Text.{File}
 use Rattle.g1_image.specs.Image.{Image, IsImage, entry_of, file_of}
 use Rattle.g1_image.specs.declared.cursor.Version.TheVariants.{Two}
+use Rattle.g1_text.specs.Reading.{HasLines}
 use Rattle.g1_text.specs.Lines.{root_line, reference_word, current_word, cards_words, pinned_words}
 
 -- the counts in a region's line, and how many objects' lines followed it
@@ -221,3 +222,12 @@ pub record IsContentOf (c : Content) (i : Image) : Type 0 where
   pub agrees : Agrees c
   pub uncovered : c.covered ≡ false
   pub same : file_with c ≡ file_of Two i
+
+-- A TEXT SAYS AN IMAGE: its lines say all of it, one after the other
+pub record SaysImage (text : List ℕ) (i : Image) : Type 0 where
+  pub lines : List (List (List ℕ))
+  pub content : Content
+  pub has : HasLines text lines
+  pub says : SaysAll None lines (Some content)
+  pub closed : IsClosed content
+  pub is : IsContentOf content i

@@ -2,7 +2,8 @@
 use Rattle.std.specs.Prelude.{◌≡◌, ℕ, List, ◌∷◌, Option, map}
 use Rattle.g1_image.specs.Image.{Image, IsImage}
 use Rattle.g1_text.specs.Lines.{image_text, image_lines, heading}
-use Rattle.g1_text.specs.Content.{Content, Line, Begins, Says, Adds, IsContentOf, words_of}
+use Rattle.g1_text.specs.Reading.{HasLines}
+use Rattle.g1_text.specs.Content.{Content, Line, Begins, Says, Adds, IsContentOf, SaysImage, words_of}
 
 -- a full text is that of one image
 abbrev pub OneImage : Type 0
@@ -16,6 +17,10 @@ LinesAddUp = (i : Image) → IsImage i
 -- lines with the words of an image's lines say the image, and nothing else
 abbrev pub LinesSayImage : Type 0
 LinesSayImage = (i : Image) (b c : Content) (lines : List Line) → IsImage i → Begins (heading i) b → image_lines i ≡ heading i ∷ map words_of lines → Adds b lines c → IsContentOf c i
+
+-- a text with the lines of an image says the image
+abbrev pub TextsSayImage : Type 0
+TextsSayImage = (i : Image) (text : List ℕ) → IsImage i → HasLines text (image_lines i) → SaysImage text i
 
 -- the words of a line say at most one thing
 abbrev pub LinesSayOne : Type 0

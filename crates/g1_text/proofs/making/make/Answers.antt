@@ -1,26 +1,24 @@
 use Rattle.std.proofs.Common.{rules, sym, subst}
-use Rattle.g1_text.specs.Lines.{image_lines}
 use Rattle.g1_text.specs.Content.{IsContentOf}
-use Rattle.g1_text.proofs.Whole.{content_of, is_content}
-use Rattle.g1_text.proofs.FullText.{image_said, image_closed, image_has}
+use Rattle.g1_text.proofs.FullText.{full_text_says}
 use Rattle.g1_text.proofs.making.make.Goals as goal
 
 pub returns-in_err-draft-clause-whole : goal.returns-in_err-draft-clause-whole
 returns-in_err-draft-clause-whole c = λ i good e.
-    let out = c.in_err-draft.ensures (image_lines i) (content_of i) (image_has i good c.args.text.now e) (image_said i good) (image_closed i good) in
+    let s = full_text_says i good c.args.text.now e in
+    let out = c.in_err-draft.ensures s.lines s.content s.has s.says s.closed in
     search rules
 
-pub returns-in_err-draft-clause-lines : goal.returns-in_err-draft-clause-lines
-returns-in_err-draft-clause-lines c = λ i good has.
-    let out = c.in_err-draft.ensures (image_lines i) (content_of i) has (image_said i good) (image_closed i good) in
+pub returns-in_err-draft-clause-says : goal.returns-in_err-draft-clause-says
+returns-in_err-draft-clause-says c = λ i s.
+    let out = c.in_err-draft.ensures s.lines s.content s.has s.says s.closed in
     search rules
 
 pub returns-clause-whole : goal.returns-clause-whole
 returns-clause-whole c = λ i good e.
-    let made = c.in_ok-draft.ensures (image_lines i) (content_of i) (image_has i good c.args.text.now e) (image_said i good) (image_closed i good) in
-    c.finish.ensures.text i (subst (λ s. IsContentOf s i) (sym made) (is_content i good))
+    let s = full_text_says i good c.args.text.now e in
+    c.finish.ensures.text i (subst (λ x. IsContentOf x i) (sym (c.in_ok-draft.ensures s.lines s.content s.has s.says s.closed)) s.is)
 
-pub returns-clause-lines : goal.returns-clause-lines
-returns-clause-lines c = λ i good has.
-    let made = c.in_ok-draft.ensures (image_lines i) (content_of i) has (image_said i good) (image_closed i good) in
-    c.finish.ensures.text i (subst (λ s. IsContentOf s i) (sym made) (is_content i good))
+pub returns-clause-says : goal.returns-clause-says
+returns-clause-says c = λ i s.
+    c.finish.ensures.text i (subst (λ x. IsContentOf x i) (sym (c.in_ok-draft.ensures s.lines s.content s.has s.says s.closed)) s.is)
