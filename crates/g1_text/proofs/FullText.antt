@@ -1,9 +1,8 @@
 -- The full text of an image says the image.
-use Rattle.std.proofs.Common.{◌≡◌, ℕ, List, length, map, subst, sym}
+use Rattle.std.proofs.Common.{◌≡◌, ℕ, List, length, subst, sym}
 use Rattle.std.specs.Prelude.{Some, None}
 use Rattle.g1_image.specs.Image.{Image, IsImage}
 use Rattle.g1_text.specs.Lines.{heading, image_lines, image_text}
-use Rattle.g1_text.specs.Reading.{HasLines}
 use Rattle.g1_text.specs.Content.{SaysAll, SaysImage, begun}
 use Rattle.g1_text.specs.Laws.{TextsSayImage}
 use Rattle.g1_text.proofs.Parts.{full_lines}

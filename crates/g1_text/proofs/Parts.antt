@@ -1,12 +1,11 @@
 -- The full text of lines is a text of these lines.
-use Rattle.std.proofs.Common.{◌≡◌, ◌≢◌, ℕ, zero, suc, ◌+◌, ◌<◌, ◌≤◌, Bool, true, false, List, [], ◌∷◌, ◌++◌, length, get_or, map, flat_map, filter, All, refl, sym, ◌∙◌, ap, subst, arith, append_assoc, append-nil, eqb, IsUtf8, not, cond}
-use Rattle.std.specs.List.{slice_split}
+use Rattle.std.proofs.Common.{◌≡◌, ℕ, ◌<◌, true, false, List, [], ◌∷◌, ◌++◌, length, get_or, map, filter, All, refl, sym, ◌∙◌, ap, subst, arith, append_assoc, append-nil, eqb, IsUtf8, not, cond}
 use Rattle.std.specs.Char.{is_ascii_whitespace}
 use Rattle.std.proofs.lemmas.Str.{IsUtf8-from_ascii, IsAscii-append}
 use Rattle.std.proofs.lemmas.Str.Ascii.{IsAscii-nil, IsAscii-cons}
 use Rattle.std.proofs.lemmas.List.Elements.{All-nil, All-cons, All-append}
 use Rattle.std.proofs.lemmas.Bool.Decides.{nat_tests}
-use Rattle.std.proofs.lemmas.List.Splits.{slice_split_none, slice_split_at}
+use Rattle.std.proofs.lemmas.List.Splits.{slice_split_at}
 use Rattle.std.specs.Str.{IsAscii}
 use Rattle.g1_text.specs.Lines.{line_text, further, text_of}
 use Rattle.g1_text.specs.Reading.{words_in, says_something, parts_of, lines_in, HasLines}

@@ -1,10 +1,10 @@
 -- The lines of a text that are read one after the other.
-use Rattle.std.proofs.Common.{◌≡◌, ℕ, zero, suc, ◌+◌, ◌<◌, ◌≤◌, Bool, true, false, cond, List, [], ◌∷◌, ◌++◌, length, get_or, map, drop, filter, All, IsUtf8, refl, sym, ◌∙◌, ap, subst, arith}
+use Rattle.std.proofs.Common.{◌≡◌, ℕ, zero, suc, ◌+◌, ◌<◌, Bool, true, false, cond, List, [], ◌∷◌, length, get_or, map, drop, filter, IsUtf8, refl, sym, ◌∙◌, ap, subst, arith}
 use Rattle.std.specs.Prelude.{Option, Some, None, Result, Ok, Err, MatchResult, unwrap_or}
 use Rattle.std.specs.Iterator.{Yields}
 use Rattle.std.proofs.lemmas.Iterator.{YieldsList}
 use Rattle.std.proofs.lemmas.Iterator.Consumers.{YieldsList-turn, YieldsList-end}
-use Rattle.g1_text.specs.Reading.{words_in, says_something, parts_of, lines_in, HasLines}
+use Rattle.g1_text.specs.Reading.{words_in, says_something, parts_of, HasLines}
 use Rattle.g1_text.specs.Content.{Content, Says, SaysAll}
 
 -- the lines from a part of the text on

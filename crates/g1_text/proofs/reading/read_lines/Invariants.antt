@@ -1,4 +1,4 @@
-use Rattle.std.proofs.Common.{All, IsUtf8, length, Some, List, ℕ}
+use Rattle.std.proofs.Common.{length, Some, List, ℕ}
 use Rattle.g1_text.specs.Reading.{HasLines}
 use Rattle.g1_text.specs.Content.{Content, SaysAll}
 use Rattle.g1_text.specs.Drafts.{said}

@@ -4,7 +4,7 @@ use Rattle.std.proofs.lemmas.Bool.{false≢true}
 use Rattle.std.proofs.lemmas.Bool.Decides.{nat_tests}
 use Rattle.std.proofs.lemmas.Str.Pattern.{starts_char}
 use Rattle.g1_text.specs.Reading.{says_something}
-use Rattle.g1_text.specs.Content.{Content, Says}
+use Rattle.g1_text.specs.Content.{Says}
 use Rattle.g1_text.specs.Drafts.{said}
 use Rattle.g1_text.proofs.reading.read_words.Goals as goal
 
