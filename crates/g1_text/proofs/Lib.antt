@@ -10,3 +10,12 @@ pub mod Fields
 pub mod OneImage
 pub mod OneText
 pub mod Gathering
+pub mod Adding
+pub mod Beyond
+pub mod Whole
+pub mod OneLine
+pub mod White
+pub mod Parts
+pub mod Turns
+pub mod Statements
+pub mod FullText

@@ -9,6 +9,7 @@ use Rattle.g1_words.specs.declared.region.Kind.TheVariants.{Ordinary, HumongousF
 use Rattle.g1_image.specs.Text.{File}
 use Rattle.g1_image.specs.Image.{Image, IsImage, entry_of, file_of}
 use Rattle.g1_image.specs.declared.cursor.Version.TheVariants.{Two}
+use Rattle.g1_text.specs.Reading.{HasLines}
 use Rattle.g1_text.specs.Lines.{root_line, reference_word, current_word, cards_words, pinned_words}
 
 -- the counts in a region's line, and how many objects' lines followed it
@@ -183,6 +184,15 @@ abbrev pub Says : Option Content → List (List ℕ) → Content → Type 0
 Says None words d = Begins words d
 Says (Some c) words d = (line : Line) × (words ≡ words_of line) × Takes c line d
 
+-- what lines say, one after the other
+abbrev pub SaysAll : Option Content → List (List (List ℕ)) → Option Content → Type 0
+SaysAll before [] after = before ≡ after
+SaysAll before (line ∷ lines) after = (c : Content) × Says before line c × SaysAll (Some c) lines after
+
+-- each region was said, and no humongous object goes on
+abbrev pub IsClosed : Content → Type 0
+IsClosed c = (c.beyond ≡ 0) × (c.geometry.n ≤ length c.regions)
+
 -- a count in a line, if there is one, is this number
 abbrev pub IsCount : Option ℕ → ℕ → Type 0
 IsCount told n = IfSome told (λ m. m ≡ n)
@@ -212,3 +222,12 @@ pub record IsContentOf (c : Content) (i : Image) : Type 0 where
   pub agrees : Agrees c
   pub uncovered : c.covered ≡ false
   pub same : file_with c ≡ file_of Two i
+
+-- A TEXT SAYS AN IMAGE: its lines say all of it, one after the other
+pub record SaysImage (text : List ℕ) (i : Image) : Type 0 where
+  pub lines : List (List (List ℕ))
+  pub content : Content
+  pub has : HasLines text lines
+  pub says : SaysAll None lines (Some content)
+  pub closed : IsClosed content
+  pub is : IsContentOf content i

@@ -1,5 +1,6 @@
 pub mod Made
 pub mod Lines
+pub mod Reading
 pub mod Content
 pub mod Drafts
 pub mod Laws

@@ -151,7 +151,9 @@ pub(crate) enum Refusal {
 
 impl Refusal {
     /// The same, of the line of this number.
-    pub(crate) fn at(self, number: u64) -> Wrong {
+    pub(crate) fn at(self, number: u64) -> Wrong
+        ensures { self ≡ Refusal.Memory → result ≡ Wrong.Fault Fault.Memory }
+    {
         match self {
             Refusal::Expected(expected) => Wrong::Line { number, expected },
             Refusal::Memory => Wrong::Fault(Fault::Memory),

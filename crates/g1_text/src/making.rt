@@ -1,7 +1,8 @@
 ghost use Rattle.std.specs.Prelude.{◌≡◌, IfOk, MatchResult};
-ghost use Rattle.g1_image.specs.Image.{Image as ImageOf, IsTextIn};
+ghost use Rattle.g1_image.specs.Image.{Image as ImageOf, IsImage, IsTextIn};
 ghost use Rattle.g1_image.specs.declared.cursor.Version.TheVariants.{Two};
-ghost use Rattle.g1_text.specs.Content.{IsContentOf};
+ghost use Rattle.g1_text.specs.Lines.{image_text};
+ghost use Rattle.g1_text.specs.Content.{IsContentOf, SaysImage};
 ghost use Rattle.g1_text.specs.Drafts.{content};
 ghost use Rattle.g1_text.specs.Made.{IsImageText};
 
@@ -24,6 +25,8 @@ use std::alloc::Global;
 /// when all have been read. `Fault::Memory` else.
 pub fn make(alloc: Global, text: &[u8]) -> Result<Vec<u8>, Wrong>
     ensures image { IfOk result (λ v. IsImageText v.items) }
+    ensures whole { (i : ImageOf) → IsImage i → text.now ≡ image_text i → MatchResult result (λ v. IsTextIn Two v.items i) (λ e. e ≡ Wrong.Fault Fault.Memory) }
+    ensures says { (i : ImageOf) → SaysImage text.now i → MatchResult result (λ v. IsTextIn Two v.items i) (λ e. e ≡ Wrong.Fault Fault.Memory) }
 {
     let mut draft = read(alloc, text)?;
     finish(alloc, &mut draft)

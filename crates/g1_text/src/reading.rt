@@ -1,64 +1,95 @@
-ghost use Rattle.std.specs.Prelude.{◌≡◌, ◌<◌, ◌+◌, ◌^◌, ℕ, Bool, List, [], ◌∷◌, ◌++◌, Option, Some, Ok, length, map, replicate, decimal, codes, All, IsTrue, IfSome, IfOk, IfErr, OnOk, MatchResult};
+ghost use Rattle.std.specs.Prelude.{◌≡◌, ◌<◌, ◌+◌, ◌^◌, ℕ, Bool, List, [], ◌∷◌, ◌++◌, Option, None, Some, Ok, true, false, IsUtf8, length, map, replicate, decimal, codes, All, IsTrue, IfSome, IfOk, IfErr, OnOk, MatchResult};
 ghost use Rattle.g1_words.specs.declared.region.Kind.{Kind as KindOf};
 ghost use Rattle.g1_words.specs.declared.region.Region.{Region as RegionOf};
 ghost use Rattle.g1_words.specs.Kind.{kind_word};
 ghost use Rattle.g1_text.specs.Lines.{reference_word, current_word, cards_words, pinned_words};
-ghost use Rattle.g1_text.specs.Content.{Content, Counts, Line, Root, Dirty, Numbers, Remembered, Holds, words_of, Takes, MayFollow, with_region, one_found, Begins, Says};
+ghost use Rattle.g1_text.specs.Reading.{words_in, says_something, HasLines};
+ghost use Rattle.g1_text.specs.Content.{Content, Counts, Line, Root, Dirty, Numbers, Remembered, Holds, words_of, Takes, MayFollow, with_region, one_found, Begins, Says, SaysAll, IsClosed};
 ghost use Rattle.g1_text.specs.Drafts.{content, counts_of, Becomes, said};
 
 use crate::draft::{Draft, Heading, Placed, Told};
 use crate::expected::{Expected, Refusal, Wrong};
 use crate::words::{Words, size_and_slots};
-use g1_words::{Geometry, Kind, MOST_ROOTS, Region, header_word};
+use g1_words::{Fault, Geometry, Kind, MOST_ROOTS, Region, header_word};
 use std::alloc::{AllocError, Global};
 use std::str;
 
 /// Reads lines one after the other.
-pub(crate) fn read(alloc: Global, text: &[u8]) -> Result<Draft, Wrong> {
+pub(crate) fn read(alloc: Global, text: &[u8]) -> Result<Draft, Wrong>
+    ensures { (lines : List (List (List ℕ))) (c : Content) → HasLines text.now lines → SaysAll None lines (Some c) → IsClosed c → MatchResult result (λ d. content d ≡ c) (λ e. e ≡ Wrong.Fault Fault.Memory) }
+{
     let mut draft = None;
-    let mut number = 0u64;
-    for line in text.split(|byte| *byte == b'\n') {
-        number = number.saturating_add(1);
-        if let Err(refusal) = read_line(alloc, &mut draft, number, line) {
-            return Err(refusal.at(number));
-        }
-    }
+    let parts = read_lines(alloc, &mut draft, text)?;
     let Some(mut draft) = draft else {
-        return Err(Refusal::Expected(Expected::Heading).at(last_line(text, number)));
+        return Err(Refusal::Expected(Expected::Heading).at(last_line(text, parts)));
     };
     draft.close()?;
     Ok(draft)
 }
 
+// Reads each line, and returns how many parts the text has: there is one behind the last LF.
+fn read_lines(alloc: Global, draft: &mut Option<Draft>, text: &[u8]) -> Result<u64, Wrong>
+    ensures { (lines : List (List (List ℕ))) (c : Content) → HasLines text.now lines → SaysAll (said draft.old) lines (Some c) → MatchResult result (λ _. said draft.new ≡ Some c) (λ e. e ≡ Wrong.Fault Fault.Memory) }
+{
+    let mut number = 0u64;
+    for line in text.split(|byte| *byte == b'\n') {
+        number = number.saturating_add(1);
+        if let Err(refusal) = read_line(alloc, draft, number, line) {
+            return Err(refusal.at(number));
+        }
+    }
+    Ok(number)
+}
+
 // The number of the last line. The LF that ends it begins no other one.
-fn last_line(text: &[u8], pieces: u64) -> u64 {
+fn last_line(text: &[u8], parts: u64) -> u64 {
     if text.ends_with(b"\n") {
-        pieces.saturating_sub(1)
+        parts.saturating_sub(1)
     } else {
-        pieces
+        parts
     }
 }
 
-// A line with no word says nothing, nor does one that begins with '#'.
+// Reads the words of a line.
 fn read_line(
     alloc: Global,
     draft: &mut Option<Draft>,
     number: u64,
     line: &[u8],
-) -> Result<(), Refusal> {
+) -> Result<(), Refusal>
+    ensures says { (c : Content) → IsUtf8 line.now → says_something (words_in line.now) ≡ true → Says (said draft.old) (words_in line.now) c → MatchResult result (λ _. said draft.new ≡ Some c) (λ e. e ≡ Refusal.Memory) }
+    ensures nothing { IsUtf8 line.now → says_something (words_in line.now) ≡ false → MatchResult result (λ _. said draft.new ≡ said draft.old) (λ e. e ≡ Refusal.Memory) }
+{
     let Ok(line) = str::from_utf8(line) else {
         return Err(Expected::Text.into());
     };
     let words = line.split_ascii_whitespace().collect::<Vec<&str>>(alloc)?;
-    let mut words = Words::new(words.as_slice());
-    match words.next() {
-        Some(first) if !first.starts_with('#') => read_words(alloc, draft, number, first, words),
-        _ => Ok(()),
+    let words = Words::new(words.as_slice());
+    read_words(alloc, draft, number, words)
+}
+
+// A line with no word says nothing, nor does one that begins with '#'.
+fn read_words(
+    alloc: Global,
+    draft: &mut Option<Draft>,
+    number: u64,
+    words: Words<'_>,
+) -> Result<(), Refusal>
+    ensures says { (c : Content) → says_something words.entry ≡ true → Says (said draft.old) words.entry c → MatchResult result (λ _. said draft.new ≡ Some c) (λ e. e ≡ Refusal.Memory) }
+    ensures nothing { says_something words.entry ≡ false → MatchResult result (λ _. said draft.new ≡ said draft.old) (λ e. e ≡ Refusal.Memory) }
+{
+    let mut words = words;
+    let Some(first) = words.next() else {
+        return Ok(());
+    };
+    if first.starts_with('#') {
+        return Ok(());
     }
+    begin_or_add(alloc, draft, number, first, words)
 }
 
 // The first line with words begins the draft.
-fn read_words(
+fn begin_or_add(
     alloc: Global,
     draft: &mut Option<Draft>,
     number: u64,

@@ -1,0 +1,15 @@
+use Rattle.std.proofs.Common.{◌≤◌, length, sym, ◌∙◌, ap, subst}
+use Rattle.std.specs.Option.{is_some}
+use Rattle.std.proofs.lemmas.Bool.{false≢true}
+use Rattle.g1_text.specs.Content.{Content}
+use Rattle.g1_text.specs.Drafts.{said}
+use Rattle.g1_text.proofs.Turns.{some_one}
+use Rattle.g1_text.proofs.reading.read.Goals as goal
+
+pub returns-in_default : goal.returns-in_default
+returns-in_default c = λ lines after has all closed. absurd (false≢true (ap is_some (sym (ap said c.in_default.is) ∙ c.in_ok-parts.ensures lines after has all)))
+
+pub returns : goal.returns
+returns c = λ lines after has all closed.
+    let e = some_one (sym (ap said c.in-Some.is) ∙ c.in_ok-parts.ensures lines after has all) in
+    c.in_ok-close.ensures (ap (λ s. s.beyond) e ∙ closed.0) (subst (λ (s : Content). s.geometry.n ≤ length s.regions) (sym e) closed.1) ∙ e

@@ -1,0 +1,41 @@
+use Rattle.std.proofs.Common.{◌≡◌, ℕ, Bool, true, false, List, ◌∷◌, get_or, eqb, eq-eqb, Decides, sym, ◌∙◌, ap, subst, refl, arith}
+use Rattle.std.specs.Prelude.{not}
+use Rattle.std.proofs.lemmas.Bool.{false≢true}
+use Rattle.std.proofs.lemmas.Bool.Decides.{nat_tests}
+use Rattle.std.proofs.lemmas.Str.Pattern.{starts_char}
+use Rattle.g1_text.specs.Reading.{says_something}
+use Rattle.g1_text.specs.Content.{Says}
+use Rattle.g1_text.specs.Drafts.{said}
+use Rattle.g1_text.proofs.reading.read_words.Goals as goal
+
+module _ (words rest : List (List ℕ)) (first : List ℕ) (r : Bool) (is : words ≡ first ∷ rest) (tests : Decides r (get_or first 0 0 ≡ 35)) where
+  comment : r ≡ true → says_something words ≡ false
+  comment t = ap says_something is ∙ ap not (eq-eqb (get_or first 0 0) 35 (tests.0 t))
+
+  other_byte : (b : ℕ) → (b ≡ 35 → ⊥) → eqb b 35 ≡ false
+  other_byte b n = grind (arith, nat_tests)
+
+  statement : r ≡ false → says_something words ≡ true
+  statement f = ap says_something is ∙ ap not (other_byte (get_or first 0 0) (λ e. false≢true (sym f ∙ tests.1 e)))
+
+pub returns-in_default-clause-says : goal.returns-in_default-clause-says
+returns-in_default-clause-says c = λ after some says. absurd (false≢true (sym (ap says_something c.in_default.ensures.0) ∙ some))
+
+pub returns-in_default-clause-nothing : goal.returns-in_default-clause-nothing
+returns-in_default-clause-nothing c = λ none. refl
+
+pub returns-then-starts_with-clause-says : goal.returns-then-starts_with-clause-says
+returns-then-starts_with-clause-says c = λ after some says.
+    let tests = starts_char 35 c.in-Some.first.now c.starts_with.result c.starts_with.ensures.cases (omega arith) (omega arith) in
+    absurd (false≢true (sym (comment c.args.words c.next.new.self c.in-Some.first.now c.starts_with.result c.in-Some.ensures tests c.if-starts_with.true) ∙ some))
+
+pub returns-then-starts_with-clause-nothing : goal.returns-then-starts_with-clause-nothing
+returns-then-starts_with-clause-nothing c = λ none. refl
+
+pub returns-clause-says : goal.returns-clause-says
+returns-clause-says c = λ after some says. c.begin_or_add.ensures after (subst (λ ws. Says (said c.args.draft.now) ws after) c.in-Some.ensures says)
+
+pub returns-clause-nothing : goal.returns-clause-nothing
+returns-clause-nothing c = λ none.
+    let tests = starts_char 35 c.in-Some.first.now c.starts_with.result c.starts_with.ensures.cases (omega arith) (omega arith) in
+    absurd (false≢true (sym none ∙ statement c.args.words c.next.new.self c.in-Some.first.now c.starts_with.result c.in-Some.ensures tests c.if-starts_with.false))
