@@ -1,13 +1,11 @@
 -- The starts of ranges that follow one another, joined.
 use Rattle.std.proofs.Common.{◌≡◌, ◌<◌, ℕ, zero, suc, ◌+◌, ◌-◌, ◌*◌, ◌/◌, inl, inr, List, [], ◌∷◌, ◌++◌, length, map, flat_map, slice_index, slice_index_or, arith, refl, sym, ap, subst, ◌∙◌}
-use Rattle.std.specs.Prelude.{Option, None, Ok, Err}
+use Rattle.std.specs.Prelude.{Option, None}
 use Rattle.std.specs.List.{range_with_len, AllZip}
 use Rattle.std.specs.Global.{Vec}
 use Rattle.std.proofs.lemmas.Bool.{cases_lt}
 use Rattle.std.proofs.lemmas.List.{get_or_append_left, get_or-append_right, length-append, map-append}
 use Rattle.std.proofs.Math.Nat.{mul-div_cancel}
-use Rattle.g1_words.specs.declared.fault.Fault.{Fault}
-use Rattle.g1_words.specs.declared.fault.Fault.TheVariants.{Memory}
 use Rattle.g1_words.specs.Heap.{Heap, start}
 use Rattle.g1_words.specs.Valid.{IsValid}
 use Rattle.g1_rem.specs.Starts.{IsOver, IsStartsOf, address_below}

@@ -1,5 +1,5 @@
 -- The starts of the cards in a range of regions.
-use Rattle.std.specs.Prelude.{◌≡◌, ◌≤◌, ◌<◌, ℕ, ◌+◌, ◌*◌, Option, None, List, length, slice_index_or}
+use Rattle.std.specs.Prelude.{◌≡◌, ◌<◌, ℕ, ◌+◌, ◌*◌, Option, None, List, length, slice_index_or}
 use Rattle.g1_words.specs.Heap.{Heap, start}
 pub use Rattle.g1_work.specs.Ranges.{IsRange, IsCut}
 use Rattle.g1_rem.specs.Starts.{IsOver}

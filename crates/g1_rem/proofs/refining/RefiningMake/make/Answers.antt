@@ -1,4 +1,4 @@
-use Rattle.std.proofs.Common.{◌≡◌, ◌<◌, ◌∙◌, [], length, map, arith, ap, sym, subst, slice_index_or}
+use Rattle.std.proofs.Common.{◌≡◌, ◌<◌, ◌∙◌, [], length, map, arith, sym, subst, slice_index_or}
 use Rattle.std.proofs.lemmas.List.{get_or-map, length-map}
 use Rattle.g1_rem.specs.Entering.{IsRefining}
 use Rattle.g1_rem.proofs.refining.RefiningMake.make.Goals as goal
