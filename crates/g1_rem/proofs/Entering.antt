@@ -2,11 +2,10 @@
 use Rattle.std.proofs.Common.{◌≡◌, ◌≢◌, ◌≤◌, ◌<◌, ℕ, zero, suc, ◌+◌, ◌-◌, inl, inr, Bool, true, false, not, cond, ◌&&◌, ◌||◌, List, [], ◌∷◌, ◌++◌, length, slice_index, slice_index_or}
 use Rattle.std.proofs.Common.{get_or, replicate, map, take, drop, filter, All, AllPairs, Contains, arith, refl, sym, ap, subst, ◌∙◌, eqb, eqb-true, eq-eqb, append-nil, get_or-set_same}
 use Rattle.std.proofs.Common.{get_or-set_other}
-use Rattle.std.specs.Prelude.{Some, None, Result, Ok, Err, IfOk, IfErr, MatchResult}
+use Rattle.std.specs.Prelude.{Some, None, Result, Ok, Err, IfOk}
 use Rattle.std.specs.Global.{Vec}
 use Rattle.std.proofs.lemmas.List.Kept.{IsStrictlyIncreasing-filter, AllPairs-filter}
 use Rattle.g1_words.specs.declared.fault.Fault.{Fault}
-use Rattle.g1_words.specs.declared.fault.Fault.TheVariants.{Memory}
 use Rattle.std.specs.List.{list_any, range_with_len, AllZip}
 use Rattle.std.specs.List.Sorted.{IsStrictlyIncreasing}
 use Rattle.std.proofs.Math.ListN.{set, length-set}
@@ -18,8 +17,7 @@ use Rattle.std.proofs.lemmas.Bool.Decides.{Decides-eqb}
 use Rattle.std.proofs.lemmas.List.Sorted.{Contains-permutation, IsPermutation-sym, IsNonDecreasingBy-from_sort}
 use Rattle.std.proofs.lemmas.Map.Keys.{IsDistinct-IsPermutation, IsStrictlyIncreasing-from_distinct}
 use Rattle.std.proofs.lemmas.Map.Made.{IsDistinct-from_AllPairs}
-use Rattle.std.proofs.lemmas.List.{get_or_push, take_all, take_more, map-append, length-append, length-replicate, get_or-replicate}
-use Rattle.std.proofs.lemmas.List.FromFn.{get_or-range_with_len, length-range_with_len}
+use Rattle.std.proofs.lemmas.List.{get_or_push, take_all, length-append, length-replicate, get_or-replicate}
 use Rattle.std.proofs.lemmas.List.Elements.{filter-append}
 use Rattle.std.proofs.lemmas.List.Folds.{list_any-append}
 use Rattle.std.proofs.Math.Nat.{mul-le-mul_right}
@@ -37,7 +35,7 @@ use Rattle.g1_image.specs.Cards.{leads_into, is_exact, is_refined, refined}
 use Rattle.g1_rem.specs.Starts.{card_count}
 use Rattle.g1_rem.specs.Slots.{slots_on, all_slots}
 use Rattle.g1_rem.specs.Leads.{IsLedInto}
-use Rattle.g1_rem.specs.Entering.{enters, with_card, IsGrown, AreEntering, IsRefining, AreRefining, IsRefinedRemembered}
+use Rattle.g1_rem.specs.Entering.{enters, with_card, IsGrown, AreEntering, IsRefining, AreRefining}
 use Rattle.g1_rem.specs.Merging.{IsMerged}
 use Rattle.g1_rem.proofs.Lists.{same_test, eqb_false}
 use Rattle.g1_rem.proofs.Rising.{Rises-range, Rises-filter, Rises-one, increasing-Rises}
@@ -307,53 +305,21 @@ refining_all i dirty lists rising same a = record {
 }
 
 -- a merged set is the refined one
-pub refined_answer : (i : Image) (r : ℕ) (set entering : List ℕ) (answer : Result (Vec ℕ) Fault) → IsImage i → r < i.heap.geometry.n → set ≡ remembered_of i r → IsRefining i r entering
-    → IfOk answer (λ v. IsMerged set entering v.items) → IfErr answer (λ e. e ≡ Memory) → IsRefinedRemembered i r answer
-refined_answer i r set entering (Ok v) valid lt e new ok err =
+pub refined_ok : (i : Image) (r : ℕ) (set entering : List ℕ) (answer : Result (Vec ℕ) Fault) → IsImage i → r < i.heap.geometry.n → set ≡ remembered_of i r → IsRefining i r entering
+    → IfOk answer (λ v. IsMerged set entering v.items) → IfOk answer (λ v. v.items ≡ refined i r)
+refined_ok i r set entering (Ok v) valid lt e new ok =
     refined_is i r v.items valid lt ok.rising (λ c. ok.members c ∙ ap (λ l. has l c || has entering c) e ∙ ap (λ b. has (remembered_of i r) c || b) (new.members c))
-refined_answer i r set entering (Err fault) valid lt e new ok err = err
+refined_ok i r set entering (Err fault) valid lt e new ok = tt
 
--- the refined sets, one more at a time
-pub refined_more : (i : Image) (r : ℕ) (sets : List (Vec ℕ)) (v : Vec ℕ) → r < i.heap.geometry.n → map (λ s. s.items) sets ≡ map (refined i) (take r (regions i.heap)) → v.items ≡ refined i r
-    → map (λ s. s.items) (sets ++ v ∷ []) ≡ map (refined i) (take (r + 1) (regions i.heap))
-refined_more i r sets v lt e f =
-    let size : length (regions i.heap) ≡ i.heap.geometry.n = length-range_with_len 0 i.heap.geometry.n in
-    let at : get_or (regions i.heap) r 0 ≡ r = get_or-range_with_len 0 i.heap.geometry.n r 0 lt ∙ (let e : 0 + r ≡ r = omega arith in e) in
-    let set : v.items ≡ refined i (get_or (regions i.heap) r 0) = f ∙ ap (refined i) (sym at) in
-    map-append (λ (s : Vec ℕ). s.items) sets (v ∷ []) ∙ (λ k. e k ++ set k ∷ []) ∙ sym (map-append (refined i) (take r (regions i.heap)) (get_or (regions i.heap) r 0 ∷ []))
-    ∙ ap (map (refined i)) (sym (take_more (regions i.heap) r 0 (omega (arith, lt, size))))
+-- where each list is the refined set of its region
+all_refined : (i : Image) (rs : List ℕ) (ys : List (Vec ℕ)) → AllZip (λ r y. y.items ≡ refined i r) rs ys → map (λ s. s.items) ys ≡ map (refined i) rs
+all_refined i [] [] z = refl
+all_refined i [] (y ∷ ys) z = absurd z
+all_refined i (r ∷ rs) [] z = absurd z
+all_refined i (r ∷ rs) (y ∷ ys) z = let rest = all_refined i rs ys z.1 in λ t. z.0 t ∷ rest t
 
-pub refined_whole : (i : Image) (r : ℕ) (sets : List (Vec ℕ)) → i.heap.geometry.n ≤ r →
-    map (λ s. s.items) sets ≡ map (refined i) (take r (regions i.heap)) → map (λ s. s.items) sets ≡ map (refined i) (regions i.heap)
-refined_whole i r sets le e =
-    let size : length (regions i.heap) ≡ i.heap.geometry.n = length-range_with_len 0 i.heap.geometry.n in
-    e ∙ ap (map (refined i)) (take_all r (regions i.heap) (omega (arith, le, size)))
-
--- the answers of all regions, gathered
-module _ (i : Image) where
-  -- where no region wants memory, each has its refined set
-  all_ok : (rs : List ℕ) (ys : List (Vec ℕ)) → AllZip (IsRefinedRemembered i) rs (map (λ y. Ok y) ys) → map (λ s. s.items) ys ≡ map (refined i) rs
-  all_ok [] [] z = refl
-  all_ok [] (y ∷ ys) z = absurd z
-  all_ok (r ∷ rs) [] z = absurd z
-  all_ok (r ∷ rs) (y ∷ ys) z = let rest = all_ok rs ys z.1 in λ t. z.0 t ∷ rest t
-
-  -- the only fault is a want of memory
-  a_fault : (rs : List ℕ) (xs : List (Result (Vec ℕ) Fault)) (e : Fault) → AllZip (IsRefinedRemembered i) rs xs → In xs (Err e) → e ≡ Memory
-  a_fault rs [] e z k = absurd k
-  a_fault [] (x ∷ xs) e z k = absurd z
-  a_fault (r ∷ rs) (x ∷ xs) e z (inl same) = let f : IsRefinedRemembered i r (Err e) = subst (IsRefinedRemembered i r) same z.0 in f
-  a_fault (r ∷ rs) (x ∷ xs) e z (inr k) = a_fault rs xs e z.1 k
-
-  module _ (rs : List ℕ) (xs : List (Result (Vec ℕ) Fault)) (z : AllZip (IsRefinedRemembered i) rs xs) where
-    -- the sets, as they were gathered
-    pub gathered_remembered : (answer : Result (Vec (Vec ℕ)) Fault) → MatchResult answer (λ v. (ys : List (Vec ℕ)) × (xs ≡ map (λ y. Ok y) ys) × (v.items ≡ ys)) (λ e. Contains xs (Err e))
-        → IfOk answer (λ v. map (λ s. s.items) v.items ≡ map (refined i) rs)
-    gathered_remembered (Ok v) (ys, e, f) = ap (map (λ s. s.items)) f ∙ all_ok rs ys (subst (AllZip (IsRefinedRemembered i) rs) e z)
-    gathered_remembered (Err fault) m = tt
-
-    -- the fault, as it was gathered
-    pub gathered_fault : (answer : Result (Vec (Vec ℕ)) Fault) → MatchResult answer (λ v. (ys : List (Vec ℕ)) × (xs ≡ map (λ y. Ok y) ys) × (v.items ≡ ys)) (λ e. Contains xs (Err e))
-        → IfErr answer (λ e. e ≡ Memory)
-    gathered_fault (Ok v) m = tt
-    gathered_fault (Err fault) m = a_fault rs xs fault z (In-from_contains xs (Err fault) m)
+-- the same of the answer for all regions
+pub refined_each : (i : Image) (n : ℕ) (answer : Result (Vec (Vec ℕ)) Fault) → n ≡ i.heap.geometry.n → IfOk answer (λ v. AllZip (λ r y. y.items ≡ refined i r) (range_with_len 0 n) v.items)
+    → IfOk answer (λ v. map (λ s. s.items) v.items ≡ map (refined i) (regions i.heap))
+refined_each i n (Ok v) e z = all_refined i (range_with_len 0 n) v.items z ∙ ap (λ k. map (refined i) (range_with_len 0 k)) e
+refined_each i n (Err fault) e z = tt

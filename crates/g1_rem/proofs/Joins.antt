@@ -1,17 +1,20 @@
 -- The starts of ranges that follow one another, joined.
 use Rattle.std.proofs.Common.{◌≡◌, ◌<◌, ℕ, zero, suc, ◌+◌, ◌-◌, ◌*◌, ◌/◌, inl, inr, List, [], ◌∷◌, ◌++◌, length, map, flat_map, slice_index, slice_index_or, arith, refl, sym, ap, subst, ◌∙◌}
-use Rattle.std.specs.Prelude.{Option, None, Ok, Err}
+use Rattle.std.specs.Prelude.{Option, None}
 use Rattle.std.specs.List.{range_with_len, AllZip}
 use Rattle.std.specs.Global.{Vec}
 use Rattle.std.proofs.lemmas.Bool.{cases_lt}
 use Rattle.std.proofs.lemmas.List.{get_or_append_left, get_or-append_right, length-append, map-append}
 use Rattle.std.proofs.Math.Nat.{mul-div_cancel}
-use Rattle.g1_words.specs.declared.fault.Fault.{Fault}
-use Rattle.g1_words.specs.declared.fault.Fault.TheVariants.{Memory}
 use Rattle.g1_words.specs.Heap.{Heap, start}
 use Rattle.g1_words.specs.Valid.{IsValid}
 use Rattle.g1_rem.specs.Starts.{IsOver, IsStartsOf, address_below}
-use Rattle.g1_rem.specs.Ranges.{IsCut, AreStartsBetween, AreStartsIn, AreStartsInEach}
+use Rattle.g1_rem.specs.Ranges.{IsCut, AreStartsBetween}
+
+-- the lists have them for each range, by where each range begins
+abbrev pub AreStartsInEach : Heap → List ℕ → ℕ → List (Vec ℕ) → Type 0
+AreStartsInEach h begins ranges lists =
+    AllZip (λ j v. AreStartsBetween h (slice_index begins j) (slice_index begins (j + 1)) (map address_below v.items)) (range_with_len 0 ranges) lists
 
 module _ (h : Heap) where
   -- those of no region
@@ -63,11 +66,3 @@ module _ (h : Heap) where
         one_each = sym (ap (λ x. x / h.geometry.k) (sym words) ∙ mul-div_cancel (length xs) some);
         each = λ c lt. (let z : start h 0 + c * h.geometry.k ≡ c * h.geometry.k = omega arith in subst (λ x. IsOver h x (slice_index_or xs c None)) z (s.each c lt));
       }
-
-  -- the answer for all regions is that for the heap
-  pub starts_ok : (n : ℕ) (v : Vec ℕ) → IsValid h → n ≡ h.geometry.n → AreStartsIn h 0 n (Ok v) → IsStartsOf h (map address_below v.items)
-  starts_ok n v valid e s = starts_whole n (map address_below v.items) valid e s
-
--- the only fault is a want of memory
-pub starts_fault : (h : Heap) (a b : ℕ) (fault : Fault) → AreStartsIn h a b (Err fault) → fault ≡ Memory
-starts_fault h a b fault e = e

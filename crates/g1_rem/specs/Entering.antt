@@ -1,15 +1,12 @@
 -- For each region the dirty cards that hold a slot of another region which names an object in it.
-use Rattle.std.specs.Prelude.{◌≡◌, ◌<◌, ℕ, Bool, ◌&&◌, Result, Ok, Err, List, [], ◌∷◌, ◌++◌, length, filter, slice_index_or, if◌then◌else◌}
+use Rattle.std.specs.Prelude.{◌≡◌, ◌<◌, ℕ, Bool, ◌&&◌, List, [], ◌∷◌, ◌++◌, length, filter, slice_index_or, if◌then◌else◌}
 use Rattle.std.specs.List.{list_any}
 use Rattle.std.specs.List.Sorted.{IsStrictlyIncreasing}
-use Rattle.std.specs.Global.{Vec}
-use Rattle.g1_words.specs.declared.fault.Fault.{Fault}
-use Rattle.g1_words.specs.declared.fault.Fault.TheVariants.{Memory}
 use Rattle.g1_words.specs.Lists.{has}
 use Rattle.g1_words.specs.Heap.{Heap}
 use Rattle.g1_words.specs.References.{refs_at}
 use Rattle.g1_image.specs.Image.{Image}
-use Rattle.g1_image.specs.Cards.{leads_into, is_exact, refined}
+use Rattle.g1_image.specs.Cards.{leads_into, is_exact}
 
 -- one of the slots leads into the region from another one
 abbrev pub enters : Heap → ℕ → List ℕ → Bool
@@ -38,8 +35,3 @@ pub record IsRefining (i : Image) (r : ℕ) (cards : List ℕ) : Type 0 where
 pub record AreRefining (i : Image) (lists : List (List ℕ)) : Type 0 where
   pub one_each : length lists ≡ i.heap.geometry.n
   pub each : (r : ℕ) → r < i.heap.geometry.n → IsRefining i r (slice_index_or lists r [])
-
--- the answer is the region's refined set, or a want of memory
-abbrev pub IsRefinedRemembered : Image → ℕ → Result (Vec ℕ) Fault → Type 0
-IsRefinedRemembered i r (Ok v) = v.items ≡ refined i r
-IsRefinedRemembered i r (Err fault) = fault ≡ Memory

@@ -4,9 +4,9 @@ ghost use Rattle.std.specs.List.Sorted.{IsStrictlyIncreasing};
 ghost use Rattle.g1_words.specs.Valid.{IsReference};
 ghost use Rattle.g1_image.specs.Cards.{uncovered};
 ghost use Rattle.g1_rem.specs.Marks.{objects_from};
-ghost use Rattle.g1_rem.specs.Cover.{is_bare, bare_in, bare_between, AreDirty, IsFirstOf, IsFirstAmong, AreFirstAmong};
+ghost use Rattle.g1_rem.specs.Cover.{is_bare, bare_in, bare_between, bare_in_range, AreDirty, IsFirstOf};
 ghost use Rattle.g1_rem.specs.Places.{IsBehind, AreBehind, AreReadyFor};
-ghost use Rattle.g1_rem.specs.Ranges.{IsCut, IsRange};
+ghost use Rattle.g1_rem.specs.Ranges.{IsRange};
 
 use crate::entry_cards::mark_each;
 use crate::leads::led_into;
@@ -15,8 +15,7 @@ use crate::rows::objects_end;
 use crate::tracked::Tracked;
 use g1_image::Image;
 use g1_words::{Fault, Marks, card_of, header};
-use g1_work::{WORDS_A_THREAD, threads_for};
-use rayon::prelude::*;
+use g1_work::{Make, WORDS_A_THREAD, make_each, threads_for};
 use std::alloc::{AllocError, Global};
 use std::thread::Threads;
 
@@ -176,36 +175,33 @@ fn first_among(
     requires dirty { AreDirty image.now dirty.now }
     requires order { from ≤ to }
     requires regions { to ≤ image.now.heap.geometry.n }
-    ensures { IsFirstAmong image.now from to result }
+    ensures ok { IfOk result (IsFirstOf (bare_between image.now from to)) }
+    ensures memory { IfErr result (λ e. e ≡ Fault.Memory) }
 {
     let mut places = places_at(alloc, image, from)?;
     Ok(first_of(image, dirty, &mut places, from, to))
 }
 
-/// For each range of regions the first slot that isn't covered, a thread a range.
-fn first_in_each(
-    rt: &(impl Threads + Sync),
-    alloc: Global,
-    image: &Image,
-    dirty: &Marks,
-    cut: &[u32],
-    ranges: usize,
-) -> Result<Vec<Option<u64>>, Fault>
-    requires dirty { AreDirty image.now dirty.now }
-    requires cut { IsCut image.now.heap.geometry.n ranges cut.now }
-    ensures ok { IfOk result (λ v. AreFirstAmong image.now cut.now ranges v.items) }
-    ensures memory { IfErr result (λ e. e ≡ Fault.Memory) }
-{
-    (0..ranges)
-        .into_par_iter()
-        .with_min_len(1)
-        .map(
-            |range: usize| -> Result<Option<u64>, Fault>
-                requires { AreDirty image.now dirty.now × IsRange image.now.heap.geometry.n cut.now range }
-                ensures { IsFirstAmong image.entry.now (slice_index cut.entry.now range) (slice_index cut.entry.now (range + 1)) result }
-            { first_among(alloc, image, dirty, cut[range], cut[range + 1]) },
-        )
-        .collect::<Result<Vec<Option<u64>>, Fault>>(rt, alloc)?
+/// The first slot of each range of regions that isn't covered.
+#[derive(Drop)]
+struct Covering<'a> {
+    image: &'a Image,
+    dirty: &'a Marks,
+    cut: &'a [u32],
+}
+
+impl Make for Covering<'_> {
+    type Made = Option<u64>;
+
+    ghost ready = { λ s j. AreDirty s.image.now s.dirty.now × IsRange s.image.now.heap.geometry.n s.cut.now j };
+
+    ghost makes = { λ s j found. IsFirstOf (bare_in_range s.image.now s.cut.now j) found };
+
+    fn make(&self, alloc: Global, range: usize) -> Result<Option<u64>, Fault> {
+        let from = self.cut[range];
+        let to = self.cut[range + 1];
+        first_among(alloc, self.image, self.dirty, from, to)
+    }
 }
 
 /// The first of the slots that were found in ranges that follow one another.
@@ -220,7 +216,7 @@ fn first_found(found: &[Option<u64>]) -> Option<u64>
     None
 }
 
-/// The lowest slot that isn't covered, by this many threads.
+/// The lowest slot that isn't covered, by this many threads, each with a range of the regions.
 fn first_by_threads(
     rt: &(impl Threads + Sync),
     alloc: Global,
@@ -230,10 +226,16 @@ fn first_by_threads(
 ) -> Result<Option<u64>, Fault>
     requires some { 0 < threads }
     requires dirty { AreDirty image.now dirty.now }
-    ensures { IsFirstAmong image.now 0 image.now.heap.geometry.n result }
+    ensures ok { IfOk result (IsFirstOf (bare_between image.now 0 image.now.heap.geometry.n)) }
+    ensures memory { IfErr result (λ e. e ≡ Fault.Memory) }
 {
     let cut = cut(alloc, image.heap(), threads)?;
-    let found = first_in_each(rt, alloc, image, dirty, &cut, threads)?;
+    let covering = Covering {
+        image,
+        dirty,
+        cut: &cut,
+    };
+    let found = make_each(rt, alloc, threads, threads, &covering)?;
     Ok(first_found(&found))
 }
 
@@ -262,13 +264,9 @@ fn first_uncovered_by(
     ensures lowest { IfOk result (λ found. (p q : ℕ) → found ≡ Some p → Contains (uncovered image.now) q → p ≤ q) }
     ensures memory { IfErr result (λ e. e ≡ Fault.Memory) }
 {
-    match threads_for(workers, image.heap().words().len(), WORDS_A_THREAD) {
-        1 => first_uncovered(alloc, image),
-        threads => {
-            let dirty = dirty_marks(alloc, image)?;
-            first_by_threads(rt, alloc, image, &dirty, threads)
-        }
-    }
+    let threads = threads_for(workers, image.heap().words().len(), WORDS_A_THREAD);
+    let dirty = dirty_marks(alloc, image)?;
+    first_by_threads(rt, alloc, image, &dirty, threads)
 }
 
 /// The image with its cover kept by the type, or the very image again with the fault.

@@ -23,6 +23,7 @@
 //! Collection", 2004.
 #![tactic(auto)]
 
+mod card_lists;
 mod cover;
 mod entry_cards;
 pub mod laws;
@@ -35,6 +36,7 @@ mod slots;
 mod starts;
 mod tracked;
 
+pub use card_lists::{no_cards, push_once};
 pub use cover::{first_uncovered, verify, verify_by};
 pub use entry_cards::cards_into;
 pub use leads::leads_into;

@@ -7,8 +7,9 @@ ghost use Rattle.g1_words.specs.Valid.{IsReference, IsValid};
 ghost use Rattle.g1_image.specs.Cards.{is_exact, refined};
 ghost use Rattle.g1_image.specs.Image.{IsImage};
 ghost use Rattle.g1_rem.specs.Starts.{IsStartsOf, card_count};
-ghost use Rattle.g1_rem.specs.Entering.{with_card, IsGrown, AreEntering, IsRefining, AreRefining, IsRefinedRemembered};
+ghost use Rattle.g1_rem.specs.Entering.{IsGrown, AreEntering, IsRefining, AreRefining};
 
+use crate::card_lists::{no_cards, push_once};
 use crate::leads::{leads_into, led_into};
 use crate::merging::merged;
 use crate::slots::slots_on;
@@ -16,7 +17,7 @@ use crate::starts::Starts;
 use crate::tracked::{Tracked, image};
 use g1_image::Image;
 use g1_words::{Fault, Heap};
-use g1_work::{MOST_WORKERS, threads_for};
+use g1_work::{MOST_WORKERS, Make, make_each, threads_for};
 use rayon::prelude::*;
 use std::alloc::{AllocError, Global};
 use std::thread::Threads;
@@ -66,18 +67,6 @@ fn dirty_cards(
     Ok(cards)
 }
 
-/// Adds a card to a list that ends below it, unless the card is there already.
-fn push_once(cards: &mut Vec<u32>, card: u32) -> Result<(), AllocError>
-    ensures { OnOk result ((before : List ℕ) (b : Bool) → All (λ c. c < card) before → cards.old.items ≡ with_card before card b → cards.new.items ≡ with_card before card true) }
-{
-    let count = cards.len();
-    if count > 0 && cards[count - 1] == card {
-        return Ok(());
-    }
-    cards.push(card)?;
-    Ok(())
-}
-
 /// Adds a card to the list of each region that a slot on it leads into.
 fn add_card(
     heap: &Heap,
@@ -120,17 +109,6 @@ fn add_cards(
     Ok(())
 }
 
-/// An empty list of cards for each region.
-fn no_cards(alloc: Global, regions: u64) -> Result<Vec<Vec<u32>>, AllocError>
-    ensures { IfOk result (λ v. map (λ s. s.items) v.items ≡ replicate regions []) }
-{
-    let mut remembered: Vec<Vec<u32>> = Vec::new(alloc);
-    for _i in 0..regions {
-        remembered.push(Vec::new(alloc))?;
-    }
-    Ok(remembered)
-}
-
 /// For each region the dirty cards, rising, that hold a slot which leads into it.
 fn entering_cards(
     rt: &(impl Threads + Sync),
@@ -158,54 +136,32 @@ fn refined_one(
 ) -> Result<Vec<u32>, Fault>
     requires region { region < image.now.heap.geometry.n }
     requires entering { IsRefining image.now region entering.now }
-    ensures { IsRefinedRemembered image.now region result }
+    ensures ok { IfOk result (λ v. v.items ≡ refined image.now region) }
+    ensures memory { IfErr result (λ e. e ≡ Fault.Memory) }
 {
     let heap = image.heap();
     merged(alloc, &image.remembered()[region as usize], entering)
 }
 
-/// Each region's remembered set with the dirty cards that lead into the region, by this thread alone.
-fn refined_alone(
-    alloc: Global,
-    image: &Image,
-    entering: &[Vec<u32>],
-) -> Result<Vec<Vec<u32>>, Fault>
-    requires { AreRefining image.now (map (λ s. s.items) entering.now) }
-    ensures ok { IfOk result (λ v. map (λ s. s.items) v.items ≡ map (refined image.now) (regions image.now.heap)) }
-    ensures memory { IfErr result (λ e. e ≡ Fault.Memory) }
-{
-    let count = image.heap().geometry().regions() as u32;
-    let mut sets = Vec::with_capacity(alloc, count as usize)?;
-    for region in 0..count {
-        sets.push(refined_one(alloc, image, region, &entering[region as usize])?)?;
-    }
-    Ok(sets)
+/// The refined remembered set of each region.
+#[derive(Drop)]
+struct Refining<'a> {
+    image: &'a Image,
+    /// For each region the dirty cards that lead into it.
+    entering: &'a [Vec<u32>],
 }
 
-/// Each region's remembered set with the dirty cards that lead into the region, by this many threads.
-fn refined_by_threads(
-    rt: &(impl Threads + Sync),
-    alloc: Global,
-    image: &Image,
-    entering: &[Vec<u32>],
-    threads: usize,
-) -> Result<Vec<Vec<u32>>, Fault>
-    requires some { 0 < threads }
-    requires entering { AreRefining image.now (map (λ s. s.items) entering.now) }
-    ensures ok { IfOk result (λ v. map (λ s. s.items) v.items ≡ map (refined image.now) (regions image.now.heap)) }
-    ensures memory { IfErr result (λ e. e ≡ Fault.Memory) }
-{
-    let count = image.heap().geometry().regions() as u32;
-    (0..count)
-        .into_par_iter()
-        .with_min_len((count as usize).div_ceil(threads))
-        .map(
-            |region: u32| -> Result<Vec<u32>, Fault>
-                requires { (region < image.now.heap.geometry.n) × AreRefining image.now (map (λ s. s.items) entering.now) }
-                ensures { IsRefinedRemembered image.entry.now region result }
-            { refined_one(alloc, image, region, &entering[region as usize]) },
-        )
-        .collect::<Result<Vec<Vec<u32>>, Fault>>(rt, alloc)?
+impl Make for Refining<'_> {
+    type Made = Vec<u32>;
+
+    ghost ready = { λ s r. (r < s.image.now.heap.geometry.n) × AreRefining s.image.now (map (λ v. v.items) s.entering.now) };
+
+    ghost makes = { λ s r v. v.items ≡ refined s.image.now r };
+
+    fn make(&self, alloc: Global, region: usize) -> Result<Vec<u32>, Fault> {
+        g1_words::laws::valid(self.image.heap());
+        refined_one(alloc, self.image, region as u32, &self.entering[region])
+    }
 }
 
 /// Each region's remembered set with the dirty cards that lead into the region.
@@ -221,10 +177,9 @@ fn refined_remembered(
     ensures memory { IfErr result (λ e. e ≡ Fault.Memory) }
 {
     let cards = cards_in(image.remembered()).saturating_add(cards_in(entering));
-    match threads_for(workers, cards, CARDS_A_THREAD) {
-        1 => refined_alone(alloc, image, entering),
-        threads => refined_by_threads(rt, alloc, image, entering, threads),
-    }
+    let threads = threads_for(workers, cards, CARDS_A_THREAD);
+    let regions = image.heap().geometry().regions() as usize;
+    make_each(rt, alloc, threads, regions, &Refining { image, entering })
 }
 
 /// The refined remembered set of each region: its remembered set with those dirty cards that hold a

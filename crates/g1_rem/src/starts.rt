@@ -4,13 +4,12 @@ ghost use Rattle.g1_words.specs.Heap.{kind, start};
 ghost use Rattle.g1_words.specs.declared.region.Kind.TheVariants.{Continuation};
 ghost use Rattle.g1_rem.specs.Starts.{IsStartsOf, address_below};
 ghost use Rattle.g1_rem.specs.Marks.{IsMarkedTo, Told, objects_from};
-ghost use Rattle.g1_rem.specs.Ranges.{IsCut, IsRange, AreStartsIn, AreStartsInEach};
+ghost use Rattle.g1_rem.specs.Ranges.{IsRange, AreStartsBetween};
 
 use crate::ranges::cut;
 use crate::rows::objects_end;
 use g1_words::{Fault, Heap, card_of, size_at};
-use g1_work::{WORDS_A_THREAD, threads_for};
-use rayon::prelude::*;
+use g1_work::{Make, WORDS_A_THREAD, make_each, threads_for};
 use std::alloc::{AllocError, Global};
 use std::marker::Model;
 use std::thread::Threads;
@@ -95,7 +94,8 @@ fn run_begin(heap: &Heap, region: u32) -> u32
 fn starts_between(alloc: Global, heap: &Heap, from: u32, to: u32) -> Result<Vec<u32>, Fault>
     requires order { from ≤ to }
     requires regions { to ≤ heap.now.geometry.n }
-    ensures { AreStartsIn heap.now from to result }
+    ensures ok { IfOk result (λ v. AreStartsBetween heap.now from to (map address_below v.items)) }
+    ensures memory { IfErr result (λ e. e ≡ Fault.Memory) }
 {
     let geometry = heap.geometry();
     let begin = geometry.start(from);
@@ -108,28 +108,23 @@ fn starts_between(alloc: Global, heap: &Heap, from: u32, to: u32) -> Result<Vec<
     Ok(firsts)
 }
 
-/// The starts of each range's cards, a thread a range.
-fn starts_in_each(
-    rt: &(impl Threads + Sync),
-    alloc: Global,
-    heap: &Heap,
-    cut: &[u32],
-    ranges: usize,
-) -> Result<Vec<Vec<u32>>, Fault>
-    requires { IsCut heap.now.geometry.n ranges cut.now }
-    ensures ok { IfOk result (λ v. AreStartsInEach heap.now cut.now ranges v.items) }
-    ensures memory { IfErr result (λ e. e ≡ Fault.Memory) }
-{
-    (0..ranges)
-        .into_par_iter()
-        .with_min_len(1)
-        .map(
-            |range: usize| -> Result<Vec<u32>, Fault>
-                requires { IsRange heap.now.geometry.n cut.now range }
-                ensures { AreStartsIn heap.entry.now (slice_index cut.entry.now range) (slice_index cut.entry.now (range + 1)) result }
-            { starts_between(alloc, heap, cut[range], cut[range + 1]) },
-        )
-        .collect::<Result<Vec<Vec<u32>>, Fault>>(rt, alloc)?
+/// The starts of the cards of each range of regions.
+#[derive(Drop)]
+struct Starting<'a> {
+    heap: &'a Heap,
+    cut: &'a [u32],
+}
+
+impl Make for Starting<'_> {
+    type Made = Vec<u32>;
+
+    ghost ready = { λ s j. IsRange s.heap.now.geometry.n s.cut.now j };
+
+    ghost makes = { λ s j v. AreStartsBetween s.heap.now (slice_index s.cut.now j) (slice_index s.cut.now (j + 1)) (map address_below v.items) };
+
+    fn make(&self, alloc: Global, range: usize) -> Result<Vec<u32>, Fault> {
+        starts_between(alloc, self.heap, self.cut[range], self.cut[range + 1])
+    }
 }
 
 /// Some lists, one after the other.
@@ -191,7 +186,8 @@ impl Starts {
         ensures memory { IfErr result (λ e. e ≡ Fault.Memory) }
     {
         let cut = cut(alloc, heap, threads)?;
-        let lists = starts_in_each(rt, alloc, heap, &cut, threads)?;
+        let starting = Starting { heap, cut: &cut };
+        let lists = make_each(rt, alloc, threads, threads, &starting)?;
         let firsts = join(alloc, &lists, heap.geometry().cards() as usize)?;
         Ok(Starts { firsts })
     }

@@ -12,8 +12,8 @@ loop-region-init c =
     begin_told c.args.heap.now c.geometry-geometry.ensures.valid c.run_begin-region.result c.args.from c.args.to c.start-begin.result
     c.start-end.result c.in_ok-firsts.firsts.items begin end c.run_begin-region.ensures.order c.requires.order c.requires.regions c.run_begin-region.ensures.kind c.in_ok-firsts.ensures.items
 
-pub returns : goal.returns
-returns c =
+pub returns-clause-ok : goal.returns-clause-ok
+returns-clause-ok c =
     let begin = c.start-begin.ensures.value ∙ ap (λ g. c.args.from * g.w) c.geometry-geometry.ensures.same in
     let end = c.start-end.ensures.value ∙ ap (λ g. c.args.to * g.w) c.geometry-geometry.ensures.same in
     let k : c.card_words.result ≡ c.args.heap.now.geometry.k = c.card_words.ensures.value ∙ ap (λ g. g.k) c.geometry-geometry.ensures.same in

@@ -6,4 +6,4 @@ use Rattle.g1_rem.proofs.starts.Starts.build.Goals as goal
 pub returns-clause-ok : goal.returns-clause-ok
 returns-clause-ok c =
     starts_whole c.args.heap.now c.regions-regions.result (map address_below c.in_ok-firsts.firsts.items) c.geometry.ensures.valid
-    (c.regions-regions.ensures.value ∙ ap (λ g. g.n) c.geometry.ensures.same) c.in_ok-firsts.ensures
+    (c.regions-regions.ensures.value ∙ ap (λ g. g.n) c.geometry.ensures.same) c.in_ok-firsts.ensures.ok

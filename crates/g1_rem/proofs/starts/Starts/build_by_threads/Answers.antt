@@ -1,8 +1,13 @@
 use Rattle.std.proofs.Common.{◌≡◌, ◌∙◌, ap, flat_map, map, refl, subst, sym}
 use Rattle.g1_rem.specs.Starts.{IsStartsOf, address_below}
-use Rattle.g1_rem.specs.Ranges.{AreStartsInEach}
-use Rattle.g1_rem.proofs.Joins.{joined_all, starts_whole}
+use Rattle.g1_rem.specs.Ranges.{IsCut}
+use Rattle.g1_rem.proofs.Joins.{AreStartsInEach, joined_all, starts_whole}
 use Rattle.g1_rem.proofs.starts.Starts.build_by_threads.Goals as goal
+
+pub make_each-requires-clause-ready : goal.make_each-requires-clause-ready
+make_each-requires-clause-ready g c κs within = λ i lt.
+    let cut : IsCut c.args.heap.now.geometry.n c.args.threads c.deref.result.now = subst (IsCut c.args.heap.now.geometry.n c.args.threads) (sym c.deref.ensures.value) c.in_ok-cut.ensures in
+    cut.each i lt
 
 pub returns-clause-ok : goal.returns-clause-ok
 returns-clause-ok g c =

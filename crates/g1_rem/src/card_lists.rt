@@ -1,0 +1,33 @@
+ghost use Rattle.std.specs.Prelude.{◌≡◌, ◌<◌, ℕ, List, [], Bool, true, All, map, replicate, OnOk, IfOk};
+ghost use Rattle.g1_rem.specs.Entering.{with_card};
+
+use std::alloc::{AllocError, Global};
+
+/// An empty list of cards for each region.
+///
+/// # Errors
+/// `AllocError` if a growth was refused.
+pub fn no_cards(alloc: Global, regions: u64) -> Result<Vec<Vec<u32>>, AllocError>
+    ensures { IfOk result (λ v. map (λ s. s.items) v.items ≡ replicate regions []) }
+{
+    let mut remembered: Vec<Vec<u32>> = Vec::new(alloc);
+    for _i in 0..regions {
+        remembered.push(Vec::new(alloc))?;
+    }
+    Ok(remembered)
+}
+
+/// Adds a card to a list that ends below it, unless the card is there already.
+///
+/// # Errors
+/// `AllocError` if a growth was refused.
+pub fn push_once(cards: &mut Vec<u32>, card: u32) -> Result<(), AllocError>
+    ensures { OnOk result ((before : List ℕ) (b : Bool) → All (λ c. c < card) before → cards.old.items ≡ with_card before card b → cards.new.items ≡ with_card before card true) }
+{
+    let count = cards.len();
+    if count > 0 && cards[count - 1] == card {
+        return Ok(());
+    }
+    cards.push(card)?;
+    Ok(())
+}
