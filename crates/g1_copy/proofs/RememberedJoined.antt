@@ -1,21 +1,19 @@
 -- Lists of cards put together, region by region.
-use Rattle.std.proofs.Common.{◌≡◌, ℕ, zero, suc, ◌+◌, ◌*◌, ◌/◌, ◌<◌, ◌≤◌, inl, inr, Bool, true, false, cond, not, ◌&&◌, ◌||◌, List, [], ◌∷◌, ◌++◌, length, get_or, map, filter, All, Contains}
-use Rattle.std.proofs.Common.{refl, sym, ◌∙◌, ap, subst, arith, length-append}
-use Rattle.std.specs.Prelude.{Result, Ok, Err, IfOk, IfErr, MatchResult}
+use Rattle.std.proofs.Common.{◌≡◌, ℕ, zero, suc, ◌+◌, ◌*◌, ◌/◌, ◌<◌, ◌≤◌, inl, inr, Bool, true, false, cond, not, ◌&&◌, ◌||◌, List, [], ◌∷◌, length, get_or, map, filter, All}
+use Rattle.std.proofs.Common.{refl, sym, ◌∙◌, ap, subst, arith}
+use Rattle.std.specs.Prelude.{Result, Ok, Err, IfOk}
 use Rattle.std.specs.Global.{Vec}
 use Rattle.std.specs.List.{range_with_len, AllZip}
 use Rattle.std.specs.List.Sorted.{IsStrictlyIncreasing}
 use Rattle.std.proofs.Math.Nat.{div-lt_iff_lt-mul, div-mul-le_self, mul-le-mul_right}
-use Rattle.std.proofs.lemmas.Bool.{cases_lt}
-use Rattle.std.proofs.lemmas.List.{ext_get_or, get_or-map, get_or_append_left, get_or_push, map-append}
+use Rattle.std.proofs.lemmas.List.{ext_get_or, get_or-map}
 use Rattle.std.proofs.lemmas.List.FromFn.{get_or-map-range_with_len, length-map-range_with_len}
 use Rattle.g1_words.specs.declared.fault.Fault.{Fault}
-use Rattle.g1_words.specs.declared.fault.Fault.TheVariants.{Memory}
 use Rattle.g1_words.specs.Heap.{Heap, regions}
 use Rattle.g1_words.specs.Lists.{has}
 use Rattle.g1_words.specs.Survivors.{AllOrdinary, Survivors}
 use Rattle.g1_words.specs.Layout.{free_regions, need, to_space}
-use Rattle.g1_words.proofs.Members.{In, In-from_contains, In-filter, filter_member, in_from_has, has_from_in, or_true}
+use Rattle.g1_words.proofs.Members.{In, In-filter, filter_member, in_from_has, has_from_in, or_true}
 use Rattle.g1_words.proofs.Indices.{get_or-In, range_bounds}
 use Rattle.g1_words.proofs.Shapes.{IsBuilt}
 use Rattle.g1_words.proofs.Standing.{card_positive, width_positive}
@@ -29,7 +27,7 @@ use Rattle.g1_rem.proofs.Rising.{Rises-range, Rises-filter, Rises-one, increasin
 use Rattle.g1_copy.specs.Links.{is_linked, cards_by_region, copied_slots}
 use Rattle.g1_copy.specs.Patches.{all_patches}
 use Rattle.g1_copy.specs.Fates.{AreFates, fate_at, fate_of}
-use Rattle.g1_copy.specs.Remembered.{is_kept_fate, stays, IsJoined, cards_at, AreSources, IsJoinedAt, AreJoined}
+use Rattle.g1_copy.specs.Remembered.{is_kept_fate, stays, IsJoined, cards_at, AreSources, AreJoined}
 use Rattle.g1_copy.specs.declared.fates.Fate.{Fate}
 use Rattle.g1_copy.specs.declared.fates.Fate.TheVariants.{Freed, Filled, Kept}
 use Rattle.g1_words.proofs.Firsts.{Distinct}
@@ -198,41 +196,14 @@ read_at xs r v lt e = ap (λ s. s.items) e ∙ sym (get_or-map (λ s. s.items) x
 
 -- ---- region by region
 
--- the first n regions have their sets
-pub record JoinedTo (h : Heap) (fates : List Fate) (remembered outer inner : List (List ℕ)) (n : ℕ) (news : List (List ℕ)) : Type 0 where
-  pub so_many : length news ≡ n
-  pub each : (r : ℕ) → r < n → IsJoined h fates (fate_at fates r) (cards_at remembered r) (cards_at outer r) (cards_at inner r) (cards_at news r)
+-- ---- the sets of all regions
 
 module _ (h : Heap) (fates : List Fate) (remembered outer inner : List (List ℕ)) where
-  pub JoinedTo-more : (n : ℕ) (sets : List (Vec ℕ)) (v : Vec ℕ) → JoinedTo h fates remembered outer inner n (map (λ s. s.items) sets)
-      → IsJoined h fates (fate_at fates n) (cards_at remembered n) (cards_at outer n) (cards_at inner n) v.items
-      → JoinedTo h fates remembered outer inner (n + 1) (map (λ s. s.items) (sets ++ v ∷ []))
-  JoinedTo-more n sets v m e = subst (JoinedTo h fates remembered outer inner (n + 1)) (sym (map-append (λ (s : Vec ℕ). s.items) sets (v ∷ []))) (record {
-    so_many = length-append (map (λ s. s.items) sets) (v.items ∷ []) ∙ ap (λ x. x + 1) m.so_many;
-    each = λ r lt. elim (cases_lt r n) [
-      | inl low ↦
-          let at : cards_at (map (λ s. s.items) sets) r ≡ cards_at (map (λ s. s.items) sets ++ v.items ∷ []) r =
-          sym (get_or_append_left (map (λ s. s.items) sets) (v.items ∷ []) [] r (omega (arith, low, m.so_many))) in
-          subst (IsJoined h fates (fate_at fates r) (cards_at remembered r) (cards_at outer r) (cards_at inner r)) at (m.each r low)
-      | inr ge ↦
-          let same : n ≡ r = omega (arith, ge, lt) in
-          let at : v.items ≡ cards_at (map (λ s. s.items) sets ++ v.items ∷ []) r = sym (get_or_push (map (λ s. s.items) sets) v.items [] r (m.so_many ∙ same)) in
-          subst (IsJoined h fates (fate_at fates r) (cards_at remembered r) (cards_at outer r) (cards_at inner r)) at
-          (subst (λ q. IsJoined h fates (fate_at fates q) (cards_at remembered q) (cards_at outer q) (cards_at inner q) v.items) same e)
-    ];
-  })
-
-  pub JoinedTo-all : (n : ℕ) (news : List (List ℕ)) → n ≡ h.geometry.n → JoinedTo h fates remembered outer inner n news → AreJoined h fates remembered outer inner news
-  JoinedTo-all n news e m = record { one_each = m.so_many ∙ e; each = λ r lt. m.each r (omega (arith, lt, e)) }
-
--- ---- the answers of all regions, gathered
-
-module _ (h : Heap) (fates : List Fate) (remembered outer inner : List (List ℕ)) where
-  abbrev IsAt : ℕ → Result (Vec ℕ) Fault → Type 0
-  IsAt r x = IsJoinedAt h fates remembered outer inner r x
+  abbrev IsAt : ℕ → Vec ℕ → Type 0
+  IsAt r v = IsJoined h fates (fate_at fates r) (cards_at remembered r) (cards_at outer r) (cards_at inner r) v.items
 
   -- what holds of each pair holds at each place
-  all_at : (from n : ℕ) (ys : List (Vec ℕ)) → AllZip IsAt (range_with_len from n) (map (λ y. Ok y) ys)
+  all_at : (from n : ℕ) (ys : List (Vec ℕ)) → AllZip IsAt (range_with_len from n) ys
       → (length (map (λ s. s.items) ys) ≡ n) × ((k : ℕ) → k < n → IsJoined h fates (fate_at fates (from + k)) (cards_at remembered (from + k))
       (cards_at outer (from + k)) (cards_at inner (from + k)) (cards_at (map (λ s. s.items) ys) k))
   all_at from zero [] z = (refl, λ k lt. absurd (omega (arith, lt)))
@@ -253,29 +224,18 @@ module _ (h : Heap) (fates : List Fate) (remembered outer inner : List (List ℕ
           let e : from + 1 + k ≡ from + suc k = omega arith in
           subst (λ r. IsJoined h fates (fate_at fates r) (cards_at remembered r) (cards_at outer r) (cards_at inner r) (cards_at (map (λ s. s.items) ys) k)) e (rest k (omega (arith, lt)))
 
-  -- the only fault is a want of memory
-  a_fault : (rs : List ℕ) (xs : List (Result (Vec ℕ) Fault)) (e : Fault) → AllZip IsAt rs xs → In xs (Err e) → e ≡ Memory
-  a_fault rs [] e z k = absurd k
-  a_fault [] (x ∷ xs) e z k = absurd z
-  a_fault (r ∷ rs) (x ∷ xs) e z (inl same) = let f : IsAt r (Err e) = subst (IsAt r) same z.0 in f
-  a_fault (r ∷ rs) (x ∷ xs) e z (inr k) = a_fault rs xs e z.1 k
-
-  -- the sets, as they were gathered
-  pub gathered_remembered : (xs : List (Result (Vec ℕ) Fault)) → AllZip IsAt (regions h) xs → (answer : Result (Vec (Vec ℕ)) Fault)
-      → MatchResult answer (λ v. (ys : List (Vec ℕ)) × (xs ≡ map (λ y. Ok y) ys) × (v.items ≡ ys)) (λ e. Contains xs (Err e))
-      → IfOk answer (λ v. AreJoined h fates remembered outer inner (map (λ s. s.items) v.items))
-  gathered_remembered xs z (Ok v) (ys, e, f) =
-      let all = all_at 0 h.geometry.n ys (subst (AllZip IsAt (regions h)) e z) in
-      let made : AreJoined h fates remembered outer inner (map (λ s. s.items) ys) = record {
+  -- each region has its set
+  pub all_joined : (ys : List (Vec ℕ)) → AllZip IsAt (regions h) ys → AreJoined h fates remembered outer inner (map (λ s. s.items) ys)
+  all_joined ys z =
+      let all = all_at 0 h.geometry.n ys z in
+      record {
         one_each = all.0;
         each = λ r lt. let zero_more : 0 + r ≡ r = omega arith in
             subst (λ q. IsJoined h fates (fate_at fates q) (cards_at remembered q) (cards_at outer q) (cards_at inner q) (cards_at (map (λ s. s.items) ys) r)) zero_more (all.1 r lt);
-      } in
-      subst (λ zs. AreJoined h fates remembered outer inner (map (λ s. s.items) zs)) (sym f) made
-  gathered_remembered xs z (Err fault) m = tt
+      }
 
-  -- the fault, as it was gathered
-  pub gathered_fault : (rs : List ℕ) (xs : List (Result (Vec ℕ) Fault)) → AllZip IsAt rs xs → (answer : Result (Vec (Vec ℕ)) Fault)
-      → MatchResult answer (λ v. (ys : List (Vec ℕ)) × (xs ≡ map (λ y. Ok y) ys) × (v.items ≡ ys)) (λ e. Contains xs (Err e)) → IfErr answer (λ e. e ≡ Memory)
-  gathered_fault rs xs z (Ok v) m = tt
-  gathered_fault rs xs z (Err fault) m = a_fault rs xs fault z (In-from_contains xs (Err fault) m)
+  -- the same of the answer for all regions
+  pub joined_each : (n : ℕ) (answer : Result (Vec (Vec ℕ)) Fault) → n ≡ h.geometry.n → IfOk answer (λ v. AllZip IsAt (range_with_len 0 n) v.items)
+      → IfOk answer (λ v. AreJoined h fates remembered outer inner (map (λ s. s.items) v.items))
+  joined_each n (Ok v) e z = all_joined v.items (subst (λ k. AllZip IsAt (range_with_len 0 k) v.items) e z)
+  joined_each n (Err fault) e z = tt

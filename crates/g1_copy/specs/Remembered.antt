@@ -1,9 +1,6 @@
 -- The remembered sets after a pause, put together of lists of cards.
-use Rattle.std.specs.Prelude.{◌≡◌, ◌<◌, ℕ, Bool, true, false, List, [], length, filter, slice_index_or, All, Result, Ok, Err, if◌then◌else◌}
+use Rattle.std.specs.Prelude.{◌≡◌, ◌<◌, ℕ, Bool, true, false, List, [], length, filter, slice_index_or, All, if◌then◌else◌}
 use Rattle.std.specs.List.Sorted.{IsStrictlyIncreasing}
-use Rattle.std.specs.Global.{Vec}
-use Rattle.g1_words.specs.declared.fault.Fault.{Fault}
-use Rattle.g1_words.specs.declared.fault.Fault.TheVariants.{Memory}
 use Rattle.g1_words.specs.Heap.{Heap}
 use Rattle.g1_image.specs.Image.{region_of_card}
 use Rattle.g1_rem.specs.Merging.{IsMerged}
@@ -40,11 +37,6 @@ pub record AreSources (h : Heap) (fates : List Fate) (remembered outer inner : L
   pub remembered_rise : (r : ℕ) → r < h.geometry.n → IsStrictlyIncreasing (cards_at remembered r)
   pub outer_rise : (r : ℕ) → r < h.geometry.n → IsStrictlyIncreasing (cards_at outer r)
   pub inner_rise : (r : ℕ) → r < h.geometry.n → IsStrictlyIncreasing (cards_at inner r)
-
--- the answer is the region's set, or a want of memory
-abbrev pub IsJoinedAt : Heap → List Fate → List (List ℕ) → List (List ℕ) → List (List ℕ) → ℕ → Result (Vec ℕ) Fault → Type 0
-IsJoinedAt h fates remembered outer inner r (Ok v) = IsJoined h fates (fate_at fates r) (cards_at remembered r) (cards_at outer r) (cards_at inner r) v.items
-IsJoinedAt h fates remembered outer inner r (Err fault) = fault ≡ Memory
 
 -- what is left of the set of a region of this fate: of a freed one nothing, of any other the cards that lie in no freed region
 abbrev pub left : Heap → List Fate → Fate → List ℕ → List ℕ

@@ -1,33 +1,10 @@
 ghost use Rattle.std.specs.Prelude.{◌≡◌, ◌<◌, ◌≤◌, ◌*◌, ◌++◌, ◌∷◌, [], ℕ, Bool, List, true, map, replicate, length, All, OnOk, IfOk, IfErr};
 ghost use Rattle.std.specs.List.Sorted.{IsStrictlyIncreasing};
-ghost use Rattle.g1_rem.specs.Entering.{with_card};
 ghost use Rattle.g1_copy.specs.Links.{cards_by_region};
 
+use g1_rem::{no_cards, push_once};
 use g1_words::{Heap, card_of, region_of};
 use std::alloc::{AllocError, Global};
-
-/// An empty list of cards for each region.
-pub(crate) fn no_cards(alloc: Global, regions: u64) -> Result<Vec<Vec<u32>>, AllocError>
-    ensures { IfOk result (λ v. map (λ s. s.items) v.items ≡ replicate regions []) }
-{
-    let mut lists: Vec<Vec<u32>> = Vec::new(alloc);
-    for _i in 0..regions {
-        lists.push(Vec::new(alloc))?;
-    }
-    Ok(lists)
-}
-
-/// Adds a card to a list that ends below it, unless the card is there already.
-fn push_once(cards: &mut Vec<u32>, card: u32) -> Result<(), AllocError>
-    ensures { OnOk result ((before : List ℕ) (b : Bool) → All (λ c. c < card) before → cards.old.items ≡ with_card before card b → cards.new.items ≡ with_card before card true) }
-{
-    let count = cards.len();
-    if count > 0 && cards[count - 1] == card {
-        return Ok(());
-    }
-    cards.push(card)?;
-    Ok(())
-}
 
 /// Adds a slot's card to the list of the region that its word leads into, if that is another one.
 /// If the lists are those of slots that don't lie above it, it goes to a list's end.

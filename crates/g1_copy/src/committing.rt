@@ -1,6 +1,6 @@
-ghost use Rattle.std.specs.Prelude.{ℕ, List, ◌<◌, ◌≤◌};
+ghost use Rattle.std.specs.Prelude.{ℕ, List};
 ghost use Rattle.g1_after.specs.Paused.{IsPaused};
-ghost use Rattle.g1_work.specs.Team.{most_workers};
+ghost use Rattle.g1_work.specs.Team.{AreWorkers};
 ghost use Rattle.g1_copy.specs.Prepared.{IsMadeFor};
 
 use crate::filling::write;
@@ -8,23 +8,8 @@ use crate::preparing::Prepared;
 use g1_image::Image;
 use g1_rem::Tracked;
 use g1_words::Heap;
-use g1_work::{Gate, threads_for};
+use g1_work::Gate;
 use std::thread::Threads;
-
-// A run of fewer words is filled in less time than its thread takes to start. Four may be hired for
-// any heap, so that threads write small heaps, too.
-const WORDS_A_RUN: usize = 8192;
-
-const FEW_WORKERS: u64 = 4;
-
-// How many of the workers write a heap of this many words.
-fn writers(workers: u64, words: usize) -> u64
-    requires workers { (0 < workers) × (workers ≤ most_workers) }
-    ensures { (0 < result) × (result ≤ most_workers) }
-{
-    let fed = threads_for(workers, words, WORDS_A_RUN) as u64;
-    fed.max(workers.min(FEW_WORKERS))
-}
 
 /// The image after the pause, from what was prepared for it, written in place in one pass over the
 /// regions. Takes no memory and refuses nothing.
@@ -35,7 +20,7 @@ pub fn commit<R: Threads + Sync, G: Gate + Sync>(
     prepared: Prepared,
     gate: &G,
 ) -> Tracked
-    requires workers { (0 < workers) × (workers ≤ most_workers) }
+    requires workers { AreWorkers workers }
     requires made { (set : List ℕ) × (l : List ℕ) × IsMadeFor prepared tracked set l }
     ensures paused { (set l : List ℕ) → IsMadeFor prepared tracked set l → IsPaused tracked set l result }
 {
@@ -48,7 +33,6 @@ pub fn commit<R: Threads + Sync, G: Gate + Sync>(
     } = image;
     let mut words = heap.words;
     let region_words = heap.geometry.region_words() as usize;
-    let workers = writers(workers, words.len());
     write(rt, workers, &mut words, region_words, &prepared, gate);
     log.clear();
     let heap = Heap {

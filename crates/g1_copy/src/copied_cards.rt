@@ -4,8 +4,9 @@ ghost use Rattle.g1_copy.specs.Gathered.{placed_words, to_space_words};
 ghost use Rattle.g1_copy.specs.Links.{cards_by_region, copied_slots, moved_slots};
 ghost use Rattle.g1_copy.specs.Filled.{filled_slots};
 
-use crate::cards_by_region::{add_slot, no_cards};
+use crate::cards_by_region::add_slot;
 use g1_layout::{Plan, Run};
+use g1_rem::no_cards;
 use g1_words::{Heap, header};
 use std::alloc::{AllocError, Global};
 

@@ -1,6 +1,7 @@
 ghost use Rattle.std.specs.Prelude.{◌≡◌, ◌≢◌, ◌<◌, length, replicate, slice_index, All, AllPairs, IfOk, IfErr};
 ghost use Rattle.g1_words.specs.Layout.{to_space};
 ghost use Rattle.g1_copy.specs.Plans.{IsPauseOf};
+ghost use Rattle.g1_copy.specs.Remembered.{stays};
 ghost use Rattle.g1_copy.specs.Fates.{AreFates, AreReplaced};
 ghost use Rattle.g1_copy.specs.declared.fates.Fate.TheVariants.{Freed, Filled, Kept};
 
@@ -67,4 +68,12 @@ pub(crate) fn fates(
     fill(&mut fates, plan.to_space());
     free(&mut fates, set);
     Ok(fates)
+}
+
+/// Whether a card lies in no freed region.
+pub(crate) fn stays(heap: &Heap, fates: &[Fate], card: u32) -> bool
+    ensures { result ≡ stays heap.now fates.now card }
+{
+    let region = heap.geometry().region_of_card(card);
+    !matches!(fates.get(region as usize), Some(Fate::Freed))
 }

@@ -1,14 +1,28 @@
 ghost use Rattle.std.specs.Prelude.{◌≡◌, ◌≤◌, ◌<◌, ◌+◌, ◌^◌, ◌%◌, ℕ, List, length, All};
 ghost use Rattle.g1_work.specs.Regions.{EverySlice};
-ghost use Rattle.g1_work.specs.Team.{most_workers};
+ghost use Rattle.g1_work.specs.Team.{AreWorkers};
 ghost use Rattle.g1_copy.specs.Fates.{fate_at};
 ghost use Rattle.g1_copy.specs.Prepared.{written};
 ghost use Rattle.g1_copy.specs.Slices.{IsWritable, by_fate, patched};
 
 use crate::fates::Fate;
 use crate::preparing::Prepared;
-use g1_work::{Fill, Gate, each_region_mut};
+use g1_work::{Fill, Gate, MOST_WORKERS, each_region_mut, threads_for};
 use std::thread::Threads;
+
+// A run of fewer words is filled in less time than its thread takes to start. Four may be hired for
+// any heap, so that threads write small heaps, too.
+const WORDS_A_RUN: usize = 8192;
+
+const FEW_WORKERS: u64 = 4;
+
+// How many of the workers write a heap of this many words.
+fn writers(workers: u64, words: usize) -> u64
+    ensures { AreWorkers result }
+{
+    let fed = threads_for(workers, words, WORDS_A_RUN) as u64;
+    fed.max(workers.min(FEW_WORKERS)).min(MOST_WORKERS)
+}
 
 /// Writes each patch's word at its slot, in words that begin at this address.
 fn write_patches(words: &mut [u64], start: usize, patches: &[(u64, u64)])
@@ -60,7 +74,6 @@ pub(crate) fn write<R: Threads + Sync, G: Gate + Sync>(
     prepared: &Prepared,
     gate: &G,
 )
-    requires workers { (0 < workers) × (workers ≤ most_workers) }
     requires width { 0 < region_words }
     requires whole { length words.old % region_words ≡ 0 }
     requires ready { EverySlice (IsWritable region_words prepared.now.fates prepared.now.gathered prepared.now.patches prepared.now.firsts) region_words words.old }
@@ -73,5 +86,6 @@ pub(crate) fn write<R: Threads + Sync, G: Gate + Sync>(
         patches: &prepared.patches,
         firsts: &prepared.firsts,
     };
-    each_region_mut(rt, workers, words, region_words, &filling, gate);
+    let writers = writers(workers, words.len());
+    each_region_mut(rt, writers, words, region_words, &filling, gate);
 }

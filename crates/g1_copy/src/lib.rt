@@ -31,5 +31,5 @@ mod unnamed;
 pub use committing::commit;
 pub use gathering::gather;
 pub use patching::patches;
-pub use preparing::{Prepared, prepare, prepare_on};
+pub use preparing::{Basis, Prepared, prepare, prepare_on};
 pub use remembering::new_rem;

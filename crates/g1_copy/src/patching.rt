@@ -44,24 +44,30 @@ fn push_patch(
     Ok(())
 }
 
+/// Where slots are found, and where what they reference goes.
+#[derive(Drop)]
+pub(crate) struct Moves<'a> {
+    pub(crate) heap: &'a Heap,
+    pub(crate) starts: &'a Starts,
+    pub(crate) plan: &'a Plan,
+}
+
 /// Adds the slots on a card that reference a survivor, each with its new word.
 fn push_card(
     alloc: Global,
-    heap: &Heap,
-    starts: &Starts,
-    plan: &Plan,
+    moves: &Moves<'_>,
     card: u32,
     patches: &mut Vec<(u64, u64)>,
 ) -> Result<(), AllocError>
-    requires heap { IsValid heap.now }
-    requires starts { IsStartsOf heap.now starts.now }
-    requires plan { IsPlanOf heap.now plan.now }
-    requires card { card < card_count heap.now }
-    ensures { OnOk result (patches.new.items ≡ patches.old.items ++ patches_at heap.now plan.now.survivors (slots_on heap.now card)) }
+    requires heap { IsValid moves.now.heap.now }
+    requires starts { IsStartsOf moves.now.heap.now moves.now.starts.now }
+    requires plan { IsPlanOf moves.now.heap.now moves.now.plan.now }
+    requires card { card < card_count moves.now.heap.now }
+    ensures { OnOk result (patches.new.items ≡ patches.old.items ++ patches_at moves.now.heap.now moves.now.plan.now.survivors (slots_on moves.now.heap.now card)) }
 {
-    let slots = slots_on(alloc, heap, starts, card);
+    let slots = slots_on(alloc, moves.heap, moves.starts, card);
     for slot in slots.as_slice() {
-        push_patch(heap, plan, *slot, patches)?;
+        push_patch(moves.heap, moves.plan, *slot, patches)?;
     }
     Ok(())
 }
@@ -69,20 +75,18 @@ fn push_card(
 /// The slots on some cards that reference a survivor, card by card, each with its new word.
 fn patches_alone(
     alloc: Global,
-    heap: &Heap,
-    starts: &Starts,
-    plan: &Plan,
+    moves: &Moves<'_>,
     cards: &[u32],
 ) -> Result<Vec<(u64, u64)>, AllocError>
-    requires heap { IsValid heap.now }
-    requires starts { IsStartsOf heap.now starts.now }
-    requires plan { IsPlanOf heap.now plan.now }
-    requires there { All (λ c. c < card_count heap.now) cards.now }
-    ensures { IfOk result (λ v. v.items ≡ patches_by_card heap.now plan.now.survivors cards.now) }
+    requires heap { IsValid moves.now.heap.now }
+    requires starts { IsStartsOf moves.now.heap.now moves.now.starts.now }
+    requires plan { IsPlanOf moves.now.heap.now moves.now.plan.now }
+    requires there { All (λ c. c < card_count moves.now.heap.now) cards.now }
+    ensures { IfOk result (λ v. v.items ≡ patches_by_card moves.now.heap.now moves.now.plan.now.survivors cards.now) }
 {
     let mut patches = Vec::new(alloc);
     for card in cards {
-        push_card(alloc, heap, starts, plan, *card, &mut patches)?;
+        push_card(alloc, moves, *card, &mut patches)?;
     }
     Ok(patches)
 }
@@ -91,18 +95,16 @@ fn patches_alone(
 fn patches_by_threads(
     rt: &(impl Threads + Sync),
     alloc: Global,
-    heap: &Heap,
-    starts: &Starts,
-    plan: &Plan,
+    moves: &Moves<'_>,
     cards: &[u32],
     threads: usize,
 ) -> Result<Vec<(u64, u64)>, AllocError>
     requires some { 0 < threads }
-    requires heap { IsValid heap.now }
-    requires starts { IsStartsOf heap.now starts.now }
-    requires plan { IsPlanOf heap.now plan.now }
-    requires there { All (λ c. c < card_count heap.now) cards.now }
-    ensures { IfOk result (λ v. v.items ≡ patches_by_card heap.now plan.now.survivors cards.now) }
+    requires heap { IsValid moves.now.heap.now }
+    requires starts { IsStartsOf moves.now.heap.now moves.now.starts.now }
+    requires plan { IsPlanOf moves.now.heap.now moves.now.plan.now }
+    requires there { All (λ c. c < card_count moves.now.heap.now) cards.now }
+    ensures { IfOk result (λ v. v.items ≡ patches_by_card moves.now.heap.now moves.now.plan.now.survivors cards.now) }
 {
     let size = cards.len().div_ceil(threads).max(1);
     let parts = thread::map_chunks(
@@ -111,9 +113,9 @@ fn patches_by_threads(
         cards,
         size,
         &|_start: usize, part: &[u32]| -> Result<Vec<(u64, u64)>, AllocError>
-            requires { IsValid heap.now × IsStartsOf heap.now starts.now × IsPlanOf heap.now plan.now × All (λ c. c < card_count heap.now) part.now }
-            ensures { IfOk result (λ v. v.items ≡ patches_by_card heap.entry.now plan.entry.now.survivors part.now) }
-        { patches_alone(alloc, heap, starts, plan, part) },
+            requires { IsValid moves.now.heap.now × IsStartsOf moves.now.heap.now moves.now.starts.now × IsPlanOf moves.now.heap.now moves.now.plan.now × All (λ c. c < card_count moves.now.heap.now) part.now }
+            ensures { IfOk result (λ v. v.items ≡ patches_by_card moves.entry.now.heap.now moves.entry.now.plan.now.survivors part.now) }
+        { patches_alone(alloc, moves, part) },
     )?;
     let mut patches = Vec::new(alloc);
     for part in &parts {
@@ -147,29 +149,28 @@ pub fn patches(
     ensures ok { IfOk result (λ v. v.items ≡ patches_on heap.now plan.now.survivors cards.now) }
     ensures memory { IfErr result (λ e. e ≡ Fault.Memory) }
 {
-    Ok(patches_by(rt, alloc, heap, starts, plan, cards, MOST_WORKERS)?)
+    let moves = Moves { heap, starts, plan };
+    Ok(patches_by(rt, alloc, &moves, cards, MOST_WORKERS)?)
 }
 
 /// As `patches`, with this many workers at most. One if it is 0.
 pub(crate) fn patches_by(
     rt: &(impl Threads + Sync),
     alloc: Global,
-    heap: &Heap,
-    starts: &Starts,
-    plan: &Plan,
+    moves: &Moves<'_>,
     cards: &[u32],
     workers: u64,
 ) -> Result<Vec<(u64, u64)>, AllocError>
-    requires starts { IsStartsOf heap.now starts.now }
-    requires plan { IsPlanOf heap.now plan.now }
+    requires starts { IsStartsOf moves.now.heap.now moves.now.starts.now }
+    requires plan { IsPlanOf moves.now.heap.now moves.now.plan.now }
     requires rising { IsStrictlyIncreasing cards.now }
-    requires there { All (λ c. c < card_count heap.now) cards.now }
-    ensures { IfOk result (λ v. v.items ≡ patches_on heap.now plan.now.survivors cards.now) }
+    requires there { All (λ c. c < card_count moves.now.heap.now) cards.now }
+    ensures { IfOk result (λ v. v.items ≡ patches_on moves.now.heap.now moves.now.plan.now.survivors cards.now) }
 {
-    g1_words::laws::valid(heap);
+    g1_words::laws::valid(moves.heap);
     match threads_for(workers, cards.len(), SCANNED_CARDS_A_THREAD) {
-        1 => patches_alone(alloc, heap, starts, plan, cards),
-        threads => patches_by_threads(rt, alloc, heap, starts, plan, cards, threads),
+        1 => patches_alone(alloc, moves, cards),
+        threads => patches_by_threads(rt, alloc, moves, cards, threads),
     }
 }
 

@@ -14,8 +14,8 @@ ghost use Rattle.g1_copy.specs.declared.fates.Fate.TheVariants.{Filled};
 use crate::fates::{Fate, fates, free};
 use crate::gathering::{gather_by, rename_reference};
 use crate::laws;
-use crate::patching::{firsts, patches_by};
-use crate::remembering::remembered_by_fate;
+use crate::patching::{Moves, firsts, patches_by};
+use crate::remembering::{Changes, remembered_by_fate};
 use crate::unnamed::{humongous_regions, leave_all, unnamed};
 use g1_layout::{Plan, Run};
 use g1_rem::{Starts, Tracked, cards_into, image};
@@ -179,17 +179,32 @@ pub fn prepare(
     ensures memory { IfErr result (λ e. e ≡ Fault.Memory) }
 {
     let cards = cards_into(alloc, image(tracked).heap(), remembered, set)?;
-    prepare_on(
-        rt,
-        alloc,
+    let basis = Basis {
         tracked,
         starts,
         remembered,
         set,
         plan,
-        &cards,
-        MOST_WORKERS,
-    )
+        cards: &cards,
+    };
+    prepare_on(rt, alloc, &basis, MOST_WORKERS)
+}
+
+/// What a pause is prepared on.
+#[derive(Clone, Copy)]
+pub struct Basis<'a> {
+    /// The image before.
+    pub tracked: &'a Tracked,
+    /// The starts of its heap.
+    pub starts: &'a Starts,
+    /// The refined remembered sets.
+    pub remembered: &'a [Vec<u32>],
+    /// The collection set.
+    pub set: &'a [u32],
+    /// Where the set's survivors go.
+    pub plan: &'a Plan,
+    /// The cards that lead into the set.
+    pub cards: &'a [u32],
 }
 
 /// As `prepare`, for a caller that has listed the cards that lead into the set, with one thread if
@@ -201,29 +216,37 @@ pub fn prepare(
 pub fn prepare_on(
     rt: &(impl Threads + Sync),
     alloc: Global,
-    tracked: &Tracked,
-    starts: &Starts,
-    remembered: &[Vec<u32>],
-    set: &[u32],
-    plan: &Plan,
-    cards: &[u32],
+    basis: &Basis<'_>,
     workers: u64,
 ) -> Result<Prepared, Fault>
-    requires starts { IsStartsOf tracked.now.heap starts.now }
-    requires remembered { map (λ s. s.items) remembered.now ≡ map (refined tracked.now) (regions tracked.now.heap) }
-    requires plan { IsPauseOf tracked.now.heap set.now plan.now }
-    requires cards { cards.now ≡ cards_into tracked.now.heap (map (λ s. s.items) remembered.now) set.now }
-    ensures ok { IfOk result (λ p. IsMadeFor p tracked.now set.now plan.now.survivors) }
+    requires starts { IsStartsOf basis.now.tracked.now.heap basis.now.starts.now }
+    requires remembered { map (λ s. s.items) basis.now.remembered.now ≡ map (refined basis.now.tracked.now) (regions basis.now.tracked.now.heap) }
+    requires plan { IsPauseOf basis.now.tracked.now.heap basis.now.set.now basis.now.plan.now }
+    requires cards { basis.now.cards.now ≡ cards_into basis.now.tracked.now.heap (map (λ s. s.items) basis.now.remembered.now) basis.now.set.now }
+    ensures ok { IfOk result (λ p. IsMadeFor p basis.now.tracked.now basis.now.set.now basis.now.plan.now.survivors) }
     ensures memory { IfErr result (λ e. e ≡ Fault.Memory) }
 {
     laws::all_patches();
+    let Basis {
+        tracked,
+        starts,
+        remembered,
+        set,
+        plan,
+        cards,
+    } = *basis;
     let heap = image(tracked).heap();
-    let patches = patches_by(rt, alloc, heap, starts, plan, cards, workers)?;
+    let moves = Moves { heap, starts, plan };
+    let patches = patches_by(rt, alloc, &moves, cards, workers)?;
     let gathered = gather_by(rt, alloc, heap, plan, workers)?;
     let mut fates = fates(alloc, heap, set, plan)?;
-    let mut sets = remembered_by_fate(
-        rt, alloc, tracked, remembered, &fates, plan, &patches, &gathered, workers,
-    )?;
+    let changes = Changes {
+        plan,
+        fates: &fates,
+        patches: &patches,
+        gathered: &gathered,
+    };
+    let mut sets = remembered_by_fate(rt, alloc, tracked, remembered, &changes, workers)?;
     let humongous = unnamed(alloc, tracked, starts, plan, &fates, &sets)?;
     let freed = humongous_regions(alloc, heap, &humongous)?;
     free(&mut fates, &freed);

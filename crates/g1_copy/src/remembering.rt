@@ -9,17 +9,16 @@ ghost use Rattle.g1_after.specs.Made.{heap_moved};
 ghost use Rattle.g1_copy.specs.Plans.{IsPauseOf};
 ghost use Rattle.g1_copy.specs.Gathered.{to_space_words};
 ghost use Rattle.g1_copy.specs.Patches.{all_patches};
-ghost use Rattle.g1_copy.specs.Fates.{AreFates};
-ghost use Rattle.g1_copy.specs.Remembered.{stays, IsJoined, AreSources, AreJoined, IsJoinedAt};
+ghost use Rattle.g1_copy.specs.Fates.{AreFates, fate_at};
+ghost use Rattle.g1_copy.specs.Remembered.{stays, IsJoined, AreSources, AreJoined, cards_at};
 
 use crate::cards_by_region::cards_by_region;
 use crate::copied_cards::copied_cards;
-use crate::fates::{Fate, fates};
+use crate::fates::{Fate, fates, stays};
 use g1_layout::Plan;
 use g1_rem::{CARDS_A_THREAD, Tracked, cards_in, image, merged};
 use g1_words::{Fault, Heap};
-use g1_work::{MOST_WORKERS, threads_for};
-use rayon::prelude::*;
+use g1_work::{MOST_WORKERS, Make, make_each, threads_for};
 use std::alloc::{AllocError, Global};
 use std::thread::Threads;
 
@@ -30,146 +29,110 @@ fn kept_cards(
     fates: &[Fate],
     cards: &[u32],
 ) -> Result<Vec<u32>, AllocError>
-    requires cards { All (λ c. region_of_card heap.now c < length fates.now) cards.now }
     ensures { IfOk result (λ v. v.items ≡ filter (stays heap.now fates.now) cards.now) }
 {
-    let geometry = heap.geometry();
     let mut kept = Vec::new(alloc);
     for card in cards {
-        let region = geometry.region_of_card(*card);
-        if !matches!(fates[region as usize], Fate::Freed) {
+        if stays(heap, fates, *card) {
             kept.push(*card)?;
         }
     }
     Ok(kept)
 }
 
-/// A region's remembered set after the pause, of its refined set, the cards of outer slots and those
-/// of copied slots.
+/// What a region's remembered set after the pause is made of: rising lists of cards.
+#[derive(Drop)]
+struct Cards<'a> {
+    /// Its refined set.
+    refined: &'a [u32],
+    /// The cards of outer slots.
+    outer: &'a [u32],
+    /// The cards of copied slots.
+    inner: &'a [u32],
+}
+
+/// A region's remembered set after the pause.
 fn join(
     alloc: Global,
     heap: &Heap,
     fates: &[Fate],
     fate: Fate,
-    refined: &[u32],
-    outer: &[u32],
-    inner: &[u32],
+    cards: &Cards<'_>,
 ) -> Result<Vec<u32>, Fault>
-    requires cards { All (λ c. region_of_card heap.now c < length fates.now) refined.now }
-    requires refined { IsStrictlyIncreasing refined.now }
-    requires outer { IsStrictlyIncreasing outer.now }
-    requires inner { IsStrictlyIncreasing inner.now }
-    ensures ok { IfOk result (λ v. IsJoined heap.now fates.now fate refined.now outer.now inner.now v.items) }
+    requires refined { IsStrictlyIncreasing cards.now.refined.now }
+    requires outer { IsStrictlyIncreasing cards.now.outer.now }
+    requires inner { IsStrictlyIncreasing cards.now.inner.now }
+    ensures ok { IfOk result (λ v. IsJoined heap.now fates.now fate cards.now.refined.now cards.now.outer.now cards.now.inner.now v.items) }
     ensures memory { IfErr result (λ e. e ≡ Fault.Memory) }
 {
     match fate {
         Fate::Freed => Ok(Vec::new(alloc)),
-        Fate::Filled(_) => merged(alloc, outer, inner),
+        Fate::Filled(_) => merged(alloc, cards.outer, cards.inner),
         Fate::Kept => {
-            let kept = kept_cards(alloc, heap, fates, refined)?;
-            merged(alloc, &kept, inner)
+            let kept = kept_cards(alloc, heap, fates, cards.refined)?;
+            merged(alloc, &kept, cards.inner)
         }
     }
 }
 
-/// The remembered set of the region of this number.
-fn join_at(
-    alloc: Global,
-    heap: &Heap,
-    fates: &[Fate],
-    remembered: &[Vec<u32>],
-    outer: &[Vec<u32>],
-    inner: &[Vec<u32>],
-    region: u32,
-) -> Result<Vec<u32>, Fault>
-    requires region { region < heap.now.geometry.n }
-    requires sources { AreSources heap.now fates.now (map (λ s. s.items) remembered.now) (map (λ s. s.items) outer.now) (map (λ s. s.items) inner.now) }
-    ensures { IsJoinedAt heap.now fates.now (map (λ s. s.items) remembered.now) (map (λ s. s.items) outer.now) (map (λ s. s.items) inner.now) region result }
-{
-    let at = region as usize;
-    join(
-        alloc,
-        heap,
-        fates,
-        fates[at],
-        &remembered[at],
-        &outer[at],
-        &inner[at],
-    )
+/// The remembered set of each region after the pause.
+#[derive(Drop)]
+struct Joining<'a> {
+    heap: &'a Heap,
+    fates: &'a [Fate],
+    /// For each region its refined set.
+    remembered: &'a [Vec<u32>],
+    /// For each region the cards of outer slots.
+    outer: &'a [Vec<u32>],
+    /// For each region the cards of copied slots.
+    inner: &'a [Vec<u32>],
 }
 
-/// The remembered sets after the pause, by this thread alone.
-fn join_alone(
-    alloc: Global,
-    heap: &Heap,
-    fates: &[Fate],
-    remembered: &[Vec<u32>],
-    outer: &[Vec<u32>],
-    inner: &[Vec<u32>],
-) -> Result<Vec<Vec<u32>>, Fault>
-    requires { AreSources heap.now fates.now (map (λ s. s.items) remembered.now) (map (λ s. s.items) outer.now) (map (λ s. s.items) inner.now) }
-    ensures ok { IfOk result (λ v. AreJoined heap.now fates.now (map (λ s. s.items) remembered.now) (map (λ s. s.items) outer.now) (map (λ s. s.items) inner.now) (map (λ s. s.items) v.items)) }
-    ensures memory { IfErr result (λ e. e ≡ Fault.Memory) }
-{
-    let count = heap.geometry().regions() as u32;
-    let mut sets = Vec::with_capacity(alloc, count as usize)?;
-    for region in 0..count {
-        sets.push(join_at(alloc, heap, fates, remembered, outer, inner, region)?)?;
+impl Make for Joining<'_> {
+    type Made = Vec<u32>;
+
+    ghost ready = { λ s r. (r < s.heap.now.geometry.n) × AreSources s.heap.now s.fates.now (map (λ v. v.items) s.remembered.now) (map (λ v. v.items) s.outer.now) (map (λ v. v.items) s.inner.now) };
+
+    ghost makes = { λ s r v. IsJoined s.heap.now s.fates.now (fate_at s.fates.now r) (cards_at (map (λ v. v.items) s.remembered.now) r) (cards_at (map (λ v. v.items) s.outer.now) r) (cards_at (map (λ v. v.items) s.inner.now) r) v.items };
+
+    fn make(&self, alloc: Global, region: usize) -> Result<Vec<u32>, Fault> {
+        let cards = Cards {
+            refined: &self.remembered[region],
+            outer: &self.outer[region],
+            inner: &self.inner[region],
+        };
+        join(alloc, self.heap, self.fates, self.fates[region], &cards)
     }
-    Ok(sets)
 }
 
-/// The remembered sets after the pause, by this many threads.
-fn join_by_threads(
-    rt: &(impl Threads + Sync),
-    alloc: Global,
-    heap: &Heap,
-    fates: &[Fate],
-    remembered: &[Vec<u32>],
-    outer: &[Vec<u32>],
-    inner: &[Vec<u32>],
-    threads: usize,
-) -> Result<Vec<Vec<u32>>, Fault>
-    requires some { 0 < threads }
-    requires sources { AreSources heap.now fates.now (map (λ s. s.items) remembered.now) (map (λ s. s.items) outer.now) (map (λ s. s.items) inner.now) }
-    ensures ok { IfOk result (λ v. AreJoined heap.now fates.now (map (λ s. s.items) remembered.now) (map (λ s. s.items) outer.now) (map (λ s. s.items) inner.now) (map (λ s. s.items) v.items)) }
-    ensures memory { IfErr result (λ e. e ≡ Fault.Memory) }
-{
-    let count = heap.geometry().regions() as u32;
-    (0..count)
-        .into_par_iter()
-        .with_min_len((count as usize).div_ceil(threads))
-        .map(
-            |region: u32| -> Result<Vec<u32>, Fault>
-                requires { (region < heap.now.geometry.n) × AreSources heap.now fates.now (map (λ s. s.items) remembered.now) (map (λ s. s.items) outer.now) (map (λ s. s.items) inner.now) }
-                ensures { IsJoinedAt heap.entry.now fates.entry.now (map (λ s. s.items) remembered.entry.now) (map (λ s. s.items) outer.entry.now) (map (λ s. s.items) inner.entry.now) region result }
-            { join_at(alloc, heap, fates, remembered, outer, inner, region) },
-        )
-        .collect::<Result<Vec<Vec<u32>>, Fault>>(rt, alloc)?
-}
-
-/// The remembered sets after the pause, of the refined sets, the cards of outer slots and those of
-/// copied slots, one list of each a region.
+/// The remembered sets after the pause, one a region.
 fn join_all(
     rt: &(impl Threads + Sync),
     alloc: Global,
-    heap: &Heap,
-    fates: &[Fate],
-    remembered: &[Vec<u32>],
-    outer: &[Vec<u32>],
-    inner: &[Vec<u32>],
+    joining: &Joining<'_>,
     workers: u64,
 ) -> Result<Vec<Vec<u32>>, Fault>
-    requires { AreSources heap.now fates.now (map (λ s. s.items) remembered.now) (map (λ s. s.items) outer.now) (map (λ s. s.items) inner.now) }
-    ensures ok { IfOk result (λ v. AreJoined heap.now fates.now (map (λ s. s.items) remembered.now) (map (λ s. s.items) outer.now) (map (λ s. s.items) inner.now) (map (λ s. s.items) v.items)) }
+    requires { AreSources joining.now.heap.now joining.now.fates.now (map (λ s. s.items) joining.now.remembered.now) (map (λ s. s.items) joining.now.outer.now) (map (λ s. s.items) joining.now.inner.now) }
+    ensures ok { IfOk result (λ v. AreJoined joining.now.heap.now joining.now.fates.now (map (λ s. s.items) joining.now.remembered.now) (map (λ s. s.items) joining.now.outer.now) (map (λ s. s.items) joining.now.inner.now) (map (λ s. s.items) v.items)) }
     ensures memory { IfErr result (λ e. e ≡ Fault.Memory) }
 {
-    let joining = cards_in(outer).saturating_add(cards_in(inner));
-    let cards = cards_in(remembered).saturating_add(joining);
-    match threads_for(workers, cards, CARDS_A_THREAD) {
-        1 => join_alone(alloc, heap, fates, remembered, outer, inner),
-        threads => join_by_threads(rt, alloc, heap, fates, remembered, outer, inner, threads),
-    }
+    let added = cards_in(joining.outer).saturating_add(cards_in(joining.inner));
+    let cards = cards_in(joining.remembered).saturating_add(added);
+    let threads = threads_for(workers, cards, CARDS_A_THREAD);
+    let regions = joining.heap.geometry().regions() as usize;
+    make_each(rt, alloc, threads, regions, joining)
+}
+
+/// What a pause does to a heap: the plan, and what was made of it.
+#[derive(Drop)]
+pub(crate) struct Changes<'a> {
+    pub(crate) plan: &'a Plan,
+    /// What is done with each region.
+    pub(crate) fates: &'a [Fate],
+    /// The slots outside the set that name a survivor, by address, each with its new word.
+    pub(crate) patches: &'a [(u64, u64)],
+    /// The words of to-space.
+    pub(crate) gathered: &'a [u64],
 }
 
 /// The remembered sets after the pause, by the fates of the regions.
@@ -178,24 +141,28 @@ pub(crate) fn remembered_by_fate(
     alloc: Global,
     tracked: &Tracked,
     remembered: &[Vec<u32>],
-    fates: &[Fate],
-    plan: &Plan,
-    patches: &[(u64, u64)],
-    gathered: &[u64],
+    changes: &Changes<'_>,
     workers: u64,
 ) -> Result<Vec<Vec<u32>>, Fault>
     requires remembered { map (λ s. s.items) remembered.now ≡ map (refined tracked.now) (regions tracked.now.heap) }
-    requires plan { IsPauseOf tracked.now.heap plan.now.set plan.now }
-    requires fates { AreFates tracked.now.heap plan.now.set (to_space tracked.now.heap plan.now.survivors) fates.now }
-    requires patches { patches.now ≡ all_patches tracked.now.heap plan.now.set plan.now.survivors }
-    requires gathered { gathered.now ≡ to_space_words tracked.now.heap plan.now.survivors }
-    ensures ok { IfOk result (λ v. map (λ s. s.items) v.items ≡ map (remembered_moved tracked.now plan.now.set plan.now.survivors (heap_moved tracked.now.heap plan.now.set plan.now.survivors)) (regions tracked.now.heap)) }
+    requires plan { IsPauseOf tracked.now.heap changes.now.plan.now.set changes.now.plan.now }
+    requires fates { AreFates tracked.now.heap changes.now.plan.now.set (to_space tracked.now.heap changes.now.plan.now.survivors) changes.now.fates.now }
+    requires patches { changes.now.patches.now ≡ all_patches tracked.now.heap changes.now.plan.now.set changes.now.plan.now.survivors }
+    requires gathered { changes.now.gathered.now ≡ to_space_words tracked.now.heap changes.now.plan.now.survivors }
+    ensures ok { IfOk result (λ v. map (λ s. s.items) v.items ≡ map (remembered_moved tracked.now changes.now.plan.now.set changes.now.plan.now.survivors (heap_moved tracked.now.heap changes.now.plan.now.set changes.now.plan.now.survivors)) (regions tracked.now.heap)) }
     ensures memory { IfErr result (λ e. e ≡ Fault.Memory) }
 {
     let heap = image(tracked).heap();
-    let outer = cards_by_region(alloc, heap, patches)?;
-    let inner = copied_cards(alloc, heap, plan, gathered)?;
-    join_all(rt, alloc, heap, fates, remembered, &outer, &inner, workers)
+    let outer = cards_by_region(alloc, heap, changes.patches)?;
+    let inner = copied_cards(alloc, heap, changes.plan, changes.gathered)?;
+    let joining = Joining {
+        heap,
+        fates: changes.fates,
+        remembered,
+        outer: &outer,
+        inner: &inner,
+    };
+    join_all(rt, alloc, &joining, workers)
 }
 
 /// The remembered sets after the pause, one a region: of a region of the set none; of one of
@@ -226,15 +193,11 @@ pub fn new_rem(
     ensures memory { IfErr result (λ e. e ≡ Fault.Memory) }
 {
     let fates = fates(alloc, image(tracked).heap(), set, plan)?;
-    remembered_by_fate(
-        rt,
-        alloc,
-        tracked,
-        remembered,
-        &fates,
+    let changes = Changes {
         plan,
+        fates: &fates,
         patches,
         gathered,
-        MOST_WORKERS,
-    )
+    };
+    remembered_by_fate(rt, alloc, tracked, remembered, &changes, MOST_WORKERS)
 }

@@ -13,7 +13,7 @@ ghost use Rattle.g1_copy.specs.Plans.{IsPauseOf};
 ghost use Rattle.g1_copy.specs.Remembered.{AreLeft, cards_at, left, stays};
 ghost use Rattle.g1_copy.specs.Unnamed.{is_naming, is_rooted, is_unnamed, humongous_regions};
 
-use crate::fates::Fate;
+use crate::fates::{Fate, stays};
 use g1_layout::Plan;
 use g1_rem::{Starts, Tracked, image, leads_into};
 use g1_words::{Heap, Kind, Marks, Object, header, region_of, size_at};
@@ -43,52 +43,48 @@ fn lies_in(heap: &Heap, region: u64, object: &Object) -> bool
     object.at < start + geometry.region_words() && start < object.at + object.size
 }
 
+/// What tells whether a slot references a humongous object: the heap, its starts, and the fates of its
+/// regions.
+#[derive(Drop)]
+struct Naming<'a> {
+    heap: &'a Heap,
+    starts: &'a Starts,
+    fates: &'a [Fate],
+}
+
 /// Whether a slot on a card of the remembered set, outside the object's own regions, references the
 /// humongous object that begins in a region.
-fn names(
-    alloc: Global,
-    heap: &Heap,
-    starts: &Starts,
-    fates: &[Fate],
-    region: u32,
-    object: &Object,
-    card: u32,
-) -> bool
-    requires starts { IsStartsOf heap.now starts.now }
-    requires fates { length fates.now ≡ heap.now.geometry.n }
-    requires object { object.now ≡ object_at heap.now (start heap.now region) }
+fn names(alloc: Global, naming: &Naming<'_>, region: u32, object: &Object, card: u32) -> bool
+    requires starts { IsStartsOf naming.now.heap.now naming.now.starts.now }
+    requires fates { length naming.now.fates.now ≡ naming.now.heap.now.geometry.n }
+    requires object { object.now ≡ object_at naming.now.heap.now (start naming.now.heap.now region) }
     requires small { object.now.at + object.now.size < 2 ^ 64 }
-    requires card { card < card_count heap.now }
-    ensures { result ≡ is_naming heap.now fates.now region card }
+    requires card { card < card_count naming.now.heap.now }
+    ensures { result ≡ is_naming naming.now.heap.now naming.now.fates.now region card }
 {
+    let heap = naming.heap;
     let home = heap.geometry().region_of_card(card);
-    match fates[home as usize] {
+    match naming.fates[home as usize] {
         // A card of to-space was put into the set for a slot on it that names the object.
         Fate::Filled(_) => true,
         Fate::Freed | Fate::Kept => {
-            !lies_in(heap, home, object) && leads_into(alloc, heap, starts, region, card)
+            !lies_in(heap, home, object) && leads_into(alloc, heap, naming.starts, region, card)
         }
     }
 }
 
 /// Whether one of the cards holds such a slot.
-fn one_names(
-    alloc: Global,
-    heap: &Heap,
-    starts: &Starts,
-    fates: &[Fate],
-    region: u32,
-    cards: &[u32],
-) -> bool
-    requires starts { IsStartsOf heap.now starts.now }
-    requires fates { length fates.now ≡ heap.now.geometry.n }
-    requires region { region < heap.now.geometry.n }
-    requires cards { All (λ c. c < card_count heap.now) cards.now }
-    ensures { result ≡ list_any (is_naming heap.now fates.now region) cards.now }
+fn one_names(alloc: Global, naming: &Naming<'_>, region: u32, cards: &[u32]) -> bool
+    requires starts { IsStartsOf naming.now.heap.now naming.now.starts.now }
+    requires fates { length naming.now.fates.now ≡ naming.now.heap.now.geometry.n }
+    requires region { region < naming.now.heap.now.geometry.n }
+    requires cards { All (λ c. c < card_count naming.now.heap.now) cards.now }
+    ensures { result ≡ list_any (is_naming naming.now.heap.now naming.now.fates.now region) cards.now }
 {
+    let heap = naming.heap;
     let object = header(heap.words(), heap.geometry().start(region));
     for card in cards {
-        if names(alloc, heap, starts, fates, region, &object, *card) {
+        if names(alloc, naming, region, &object, *card) {
             return true;
         }
     }
@@ -98,25 +94,23 @@ fn one_names(
 /// Whether a humongous object begins in a region, and nothing references it.
 fn is_unnamed(
     alloc: Global,
-    heap: &Heap,
-    starts: &Starts,
-    fates: &[Fate],
+    naming: &Naming<'_>,
     rooted: &Marks,
     remembered: &[Vec<u32>],
     region: u32,
 ) -> bool
-    requires starts { IsStartsOf heap.now starts.now }
-    requires fates { length fates.now ≡ heap.now.geometry.n }
-    requires rooted { AreMarked (is_rooted heap.now) (replicate heap.now.geometry.n false) rooted.now }
-    requires one_each { length remembered.now ≡ heap.now.geometry.n }
-    requires region { region < heap.now.geometry.n }
-    requires cards { All (λ c. c < card_count heap.now) (cards_at (map (λ s. s.items) remembered.now) region) }
-    ensures { result ≡ is_unnamed heap.now fates.now (map (λ s. s.items) remembered.now) region }
+    requires starts { IsStartsOf naming.now.heap.now naming.now.starts.now }
+    requires fates { length naming.now.fates.now ≡ naming.now.heap.now.geometry.n }
+    requires rooted { AreMarked (is_rooted naming.now.heap.now) (replicate naming.now.heap.now.geometry.n false) rooted.now }
+    requires one_each { length remembered.now ≡ naming.now.heap.now.geometry.n }
+    requires region { region < naming.now.heap.now.geometry.n }
+    requires cards { All (λ c. c < card_count naming.now.heap.now) (cards_at (map (λ s. s.items) remembered.now) region) }
+    ensures { result ≡ is_unnamed naming.now.heap.now naming.now.fates.now (map (λ s. s.items) remembered.now) region }
 {
     let at = region as usize;
-    match heap.region(region).kind {
+    match naming.heap.region(region).kind {
         Kind::HumongousFirst => {
-            !rooted.is_set(at) && !one_names(alloc, heap, starts, fates, region, &remembered[at])
+            !rooted.is_set(at) && !one_names(alloc, naming, region, &remembered[at])
         }
         Kind::Free | Kind::Ordinary | Kind::Continuation => false,
     }
@@ -125,22 +119,20 @@ fn is_unnamed(
 /// The regions in which such objects begin, rising.
 fn unnamed_firsts(
     alloc: Global,
-    heap: &Heap,
-    starts: &Starts,
-    fates: &[Fate],
+    naming: &Naming<'_>,
     rooted: &Marks,
     remembered: &[Vec<u32>],
 ) -> Result<Vec<u32>, AllocError>
-    requires starts { IsStartsOf heap.now starts.now }
-    requires fates { length fates.now ≡ heap.now.geometry.n }
-    requires rooted { AreMarked (is_rooted heap.now) (replicate heap.now.geometry.n false) rooted.now }
-    requires one_each { length remembered.now ≡ heap.now.geometry.n }
-    requires cards { (r : ℕ) → r < heap.now.geometry.n → All (λ c. c < card_count heap.now) (cards_at (map (λ s. s.items) remembered.now) r) }
-    ensures { IfOk result (λ v. v.items ≡ filter (is_unnamed heap.now fates.now (map (λ s. s.items) remembered.now)) (regions heap.now)) }
+    requires starts { IsStartsOf naming.now.heap.now naming.now.starts.now }
+    requires fates { length naming.now.fates.now ≡ naming.now.heap.now.geometry.n }
+    requires rooted { AreMarked (is_rooted naming.now.heap.now) (replicate naming.now.heap.now.geometry.n false) rooted.now }
+    requires one_each { length remembered.now ≡ naming.now.heap.now.geometry.n }
+    requires cards { (r : ℕ) → r < naming.now.heap.now.geometry.n → All (λ c. c < card_count naming.now.heap.now) (cards_at (map (λ s. s.items) remembered.now) r) }
+    ensures { IfOk result (λ v. v.items ≡ filter (is_unnamed naming.now.heap.now naming.now.fates.now (map (λ s. s.items) remembered.now)) (regions naming.now.heap.now)) }
 {
     let mut firsts = Vec::new(alloc);
-    for region in 0..heap.geometry().regions() as u32 {
-        if is_unnamed(alloc, heap, starts, fates, rooted, remembered, region) {
+    for region in 0..naming.heap.geometry().regions() as u32 {
+        if is_unnamed(alloc, naming, rooted, remembered, region) {
             firsts.push(region)?;
         }
     }
@@ -169,7 +161,12 @@ pub(crate) fn unnamed(
     let heap = image(tracked).heap();
     let mut rooted = Marks::none(alloc, heap.geometry().regions() as usize)?;
     mark_rooted(heap, &mut rooted);
-    unnamed_firsts(alloc, heap, starts, fates, &rooted, remembered)
+    let naming = Naming {
+        heap,
+        starts,
+        fates,
+    };
+    unnamed_firsts(alloc, &naming, &rooted, remembered)
 }
 
 /// Adds this many regions, from one on.
@@ -199,14 +196,6 @@ pub(crate) fn humongous_regions(
         push_regions(&mut regions, u64::from(*region), geometry.regions_for(size))?;
     }
     Ok(regions)
-}
-
-/// Whether a card lies in no freed region.
-fn stays(heap: &Heap, fates: &[Fate], card: u32) -> bool
-    ensures { result ≡ stays heap.now fates.now card }
-{
-    let region = heap.geometry().region_of_card(card);
-    !matches!(fates.get(region as usize), Some(Fate::Freed))
 }
 
 /// Leaves of the remembered set of a region of this fate: of a freed one nothing, of any other the

@@ -11,7 +11,7 @@ use crate::failure::Failure;
 use crate::form::Form;
 use crate::humongous::{keepers, push_humongous};
 use crate::places::{push_places, push_survivors, sizes_of, sum_of};
-use g1_copy::{Prepared, prepare_on};
+use g1_copy::{Basis, Prepared, prepare_on};
 use g1_frontier::discover;
 use g1_image::Image;
 use g1_layout::{Plan, place};
@@ -65,17 +65,15 @@ pub(crate) fn take_steps<R: Threads + Sync>(
     push_survivors(alloc, text, form, heap, &starts, &cards, &survivors)?;
     g1_layout::laws::placeable();
     let plan = place(alloc, heap, &set, &survivors)?;
-    let prepared = prepare_on(
-        rt,
-        alloc,
+    let basis = Basis {
         tracked,
-        &starts,
-        &remembered,
-        &set,
-        &plan,
-        &cards,
-        workers,
-    )?;
+        starts: &starts,
+        remembered: &remembered,
+        set: &set,
+        plan: &plan,
+        cards: &cards,
+    };
+    let prepared = prepare_on(rt, alloc, &basis, workers)?;
     let sizes = sizes_of(alloc, heap, &survivors)?;
     let steps = Steps {
         set,

@@ -11,7 +11,7 @@ use crate::choosing::collection_set;
 use crate::laws;
 use crate::report::{Report, report_of};
 use crate::settings::Settings;
-use g1_copy::{Prepared, commit, prepare_on};
+use g1_copy::{Basis, Prepared, commit, prepare_on};
 use g1_frontier::discover;
 use g1_layout::place;
 use g1_rem::{Starts, Tracked, cards_into, image, refine_by};
@@ -48,17 +48,15 @@ fn plan_pause<R: Threads + Sync, G: Gate + Sync>(
     let plan = place(alloc, heap, &set, &survivors)?;
     // The plan has them.
     drop(survivors);
-    let prepared = prepare_on(
-        rt,
-        alloc,
+    let basis = Basis {
         tracked,
-        &starts,
-        &remembered,
-        &set,
-        &plan,
-        &cards,
-        workers,
-    )?;
+        starts: &starts,
+        remembered: &remembered,
+        set: &set,
+        plan: &plan,
+        cards: &cards,
+    };
+    let prepared = prepare_on(rt, alloc, &basis, workers)?;
     let report = report_of(alloc, set, &plan, prepared.humongous())?;
     Ok((prepared, report))
 }

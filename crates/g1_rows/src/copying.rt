@@ -14,7 +14,7 @@ use crate::watch::Watch;
 use crate::{cards, placing};
 use g1_choose::given;
 use g1_claim::Claims;
-use g1_copy::{Prepared, commit, gather, new_rem, patches, prepare, prepare_on};
+use g1_copy::{Basis, Prepared, commit, gather, new_rem, patches, prepare, prepare_on};
 use g1_frontier::{claim_round, discover};
 use g1_layout::{Plan, place};
 use g1_pause::Choice;
@@ -132,7 +132,15 @@ fn made<R: Threads + Sync>(
 {
     if watch.is_of(&["prepare_on"]) {
         watch.at("prepare_on");
-        let prepared = prepare_on(rt, alloc, tracked, starts, remembered, set, plan, cards, 1)?;
+        let basis = Basis {
+            tracked,
+            starts,
+            remembered,
+            set,
+            plan,
+            cards,
+        };
+        let prepared = prepare_on(rt, alloc, &basis, 1)?;
         watch.done();
         return Ok(prepared);
     }

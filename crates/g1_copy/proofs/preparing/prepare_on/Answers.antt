@@ -24,25 +24,25 @@ use Rattle.g1_copy.proofs.preparing.prepare_on.Goals.{After-heap-heap, After-fre
 pub patches_by-requires-clause-rising : goal.patches_by-requires-clause-rising
 patches_by-requires-clause-rising g c κs within =
     let he = c.heap-heap.ensures.same ∙ ap (λ (x : Image). x.heap) c.image.ensures.same in
-    let here = c.requires.cards ∙ ap (λ h. cards_into h (map (λ s. s.items) c.args.remembered.now) c.args.set.now) (sym he) in
-    into_rise c.heap-heap.result.now (map (λ s. s.items) c.args.remembered.now) c.args.set.now c.args.cards.now here
+    let here = c.requires.cards ∙ ap (λ h. cards_into h (map (λ s. s.items) c.args.basis.now.remembered.now) c.args.basis.now.set.now) (sym he) in
+    into_rise c.heap-heap.result.now (map (λ s. s.items) c.args.basis.now.remembered.now) c.args.basis.now.set.now c.args.basis.now.cards.now here
 
 pub patches_by-requires-clause-there : goal.patches_by-requires-clause-there
 patches_by-requires-clause-there g c κs within =
     let he = c.heap-heap.ensures.same ∙ ap (λ (x : Image). x.heap) c.image.ensures.same in
-    let here = c.requires.cards ∙ ap (λ h. cards_into h (map (λ s. s.items) c.args.remembered.now) c.args.set.now) (sym he) in
-    into_there c.heap-heap.result.now (map (λ s. s.items) c.args.remembered.now) c.args.set.now c.args.cards.now here
+    let here = c.requires.cards ∙ ap (λ h. cards_into h (map (λ s. s.items) c.args.basis.now.remembered.now) c.args.basis.now.set.now) (sym he) in
+    into_there c.heap-heap.result.now (map (λ s. s.items) c.args.basis.now.remembered.now) c.args.basis.now.set.now c.args.basis.now.cards.now here
 
 pub remembered_by_fate-requires-clause-patches : goal.remembered_by_fate-requires-clause-patches
 remembered_by_fate-requires-clause-patches g c κs within =
-    let i : Image = c.args.tracked.now in
-    let p = c.args.plan.now in
+    let i : Image = c.args.basis.now.tracked.now in
+    let p = c.args.basis.now.plan.now in
     let he = c.heap-heap.ensures.same ∙ ap (λ (x : Image). x.heap) c.image.ensures.same in
     let image : IsImage i = subst IsImage c.image.ensures.same c.heap-heap.ensures.valid in
-    let here = c.requires.cards ∙ ap (λ h. cards_into h (map (λ s. s.items) c.args.remembered.now) c.args.set.now) (sym he) in
-    let found = all_found i c.args.set.now p c.requires.plan c.heap-heap.result.now (map (λ s. s.items) c.args.remembered.now) c.args.cards.now
+    let here = c.requires.cards ∙ ap (λ h. cards_into h (map (λ s. s.items) c.args.basis.now.remembered.now) c.args.basis.now.set.now) (sym he) in
+    let found = all_found i c.args.basis.now.set.now p c.requires.plan c.heap-heap.result.now (map (λ s. s.items) c.args.basis.now.remembered.now) c.args.basis.now.cards.now
     c.deref-2.result.now c.all_patches.ensures image c.image.ensures.covered he c.requires.remembered here (c.deref-2.ensures.value ∙ c.in_ok-patches.ensures) in
-    own_patches i c.args.set.now p c.requires.plan c.deref-2.result.now found
+    own_patches i c.args.basis.now.set.now p c.requires.plan c.deref-2.result.now found
 
 -- ---- the humongous objects that are freed
 
@@ -50,33 +50,36 @@ remembered_by_fate-requires-clause-patches g c κs within =
 told_fates : (h t : Heap) (set same l : List ℕ) (xs ys : List Fate) → h ≡ t → same ≡ set → ys ≡ xs → AreFates h set (to_space h l) xs → AreFates t same (to_space t l) ys
 told_fates h t set same l xs ys a b d k = subst (AreFates t same (to_space t l)) (sym d) (subst (λ s. AreFates t s (to_space t l) xs) (sym b) (subst (λ x. AreFates x set (to_space x l) xs) a k))
 
-the_tracked : (g : Over) (c : After-heap-heap g) → IsTracked c.args.tracked.now
+the_tracked : (g : Over) (c : After-heap-heap g) → IsTracked c.args.basis.now.tracked.now
 the_tracked g c = record { image = subst IsImage c.image.ensures.same c.heap-heap.ensures.valid; covered = c.image.ensures.covered }
 
-the_heap : (g : Over) (c : After-heap-heap g) → c.heap-heap.result.now ≡ c.args.tracked.now.heap
+the_heap : (g : Over) (c : After-heap-heap g) → c.heap-heap.result.now ≡ c.args.basis.now.tracked.now.heap
 the_heap g c = c.heap-heap.ensures.same ∙ ap (λ (x : Image). x.heap) c.image.ensures.same
 
 pub fates-requires : goal.fates-requires
-fates-requires g c = subst (λ h. IsPauseOf h c.args.set.now c.args.plan.now) (sym (the_heap g (goal.at.fates-requires g c).After-heap-heap)) c.requires.plan
+fates-requires g c = subst (λ h. IsPauseOf h c.args.basis.now.set.now c.args.basis.now.plan.now) (sym (the_heap g (goal.at.fates-requires g c).After-heap-heap)) c.requires.plan
 
 pub remembered_by_fate-requires-clause-plan : goal.remembered_by_fate-requires-clause-plan
-remembered_by_fate-requires-clause-plan g c κs within = subst (λ s. IsPauseOf c.args.tracked.now.heap s c.args.plan.now) (sym c.requires.plan.same) c.requires.plan
+remembered_by_fate-requires-clause-plan g c κs within = subst (λ s. IsPauseOf c.args.basis.now.tracked.now.heap s c.args.basis.now.plan.now) (sym c.requires.plan.same) c.requires.plan
 
 pub remembered_by_fate-requires-clause-fates : goal.remembered_by_fate-requires-clause-fates
 remembered_by_fate-requires-clause-fates g c κs within =
-    told_fates c.heap-heap.result.now c.args.tracked.now.heap c.args.set.now c.args.plan.now.set c.args.plan.now.survivors c.in_ok-fates.fates.items c.deref.result.now
+    told_fates c.heap-heap.result.now c.args.basis.now.tracked.now.heap c.args.basis.now.set.now c.args.basis.now.plan.now.set c.args.basis.now.plan.now.survivors c.in_ok-fates.fates.items
+    c.deref.result.now
     (the_heap g (goal.at.remembered_by_fate-requires-clause-fates g c).After-heap-heap) c.requires.plan.same c.deref.ensures.value c.in_ok-fates.ensures
 
 pub remembered_by_fate-requires-clause-gathered : goal.remembered_by_fate-requires-clause-gathered
 remembered_by_fate-requires-clause-gathered g c κs within =
-    c.deref-3.ensures.value ∙ c.in_ok-gathered.ensures ∙ ap (λ h. to_space_words h c.args.plan.now.survivors) (the_heap g (goal.at.remembered_by_fate-requires-clause-gathered g c).After-heap-heap)
+    c.deref-3.ensures.value ∙ c.in_ok-gathered.ensures ∙ ap (λ h. to_space_words h c.args.basis.now.plan.now.survivors)
+    (the_heap g (goal.at.remembered_by_fate-requires-clause-gathered g c).After-heap-heap)
 
 pub unnamed-requires-clause-plan : goal.unnamed-requires-clause-plan
-unnamed-requires-clause-plan g c = subst (λ s. IsPauseOf c.args.tracked.now.heap s c.args.plan.now) (sym c.requires.plan.same) c.requires.plan
+unnamed-requires-clause-plan g c = subst (λ s. IsPauseOf c.args.basis.now.tracked.now.heap s c.args.basis.now.plan.now) (sym c.requires.plan.same) c.requires.plan
 
 pub unnamed-requires-clause-fates : goal.unnamed-requires-clause-fates
 unnamed-requires-clause-fates g c =
-    told_fates c.heap-heap.result.now c.args.tracked.now.heap c.args.set.now c.args.plan.now.set c.args.plan.now.survivors c.in_ok-fates.fates.items c.deref-4.result.now
+    told_fates c.heap-heap.result.now c.args.basis.now.tracked.now.heap c.args.basis.now.set.now c.args.basis.now.plan.now.set c.args.basis.now.plan.now.survivors c.in_ok-fates.fates.items
+    c.deref-4.result.now
     (the_heap g (goal.at.unnamed-requires-clause-fates g c).After-heap-heap) c.requires.plan.same c.deref-4.ensures.value c.in_ok-fates.ensures
 
 pub unnamed-requires-clause-remembered : goal.unnamed-requires-clause-remembered
@@ -89,33 +92,34 @@ freed i set l = unnamed_regions (heap_moved i.heap set l)
 pub humongous_regions-requires : goal.humongous_regions-requires
 humongous_regions-requires g c =
     let b = (goal.at.humongous_regions-requires g c).After-heap-heap in
-    firsts_there c.args.tracked.now c.args.set.now c.args.plan.now c.requires.plan (the_tracked g b) c.heap-heap.result.now (the_heap g b)
+    firsts_there c.args.basis.now.tracked.now c.args.basis.now.set.now c.args.basis.now.plan.now c.requires.plan (the_tracked g b) c.heap-heap.result.now (the_heap g b)
     c.deref-6.result.now (c.deref-6.ensures.value ∙ c.in_ok-humongous.ensures)
 
 -- they are the runs that were found
-the_runs : (g : Over) (c : In_ok-freed g) → IsTracked c.args.tracked.now → c.heap-heap.result.now ≡ c.args.tracked.now.heap →
-    c.in_ok-freed.freed.items ≡ freed c.args.tracked.now c.args.set.now c.args.plan.now.survivors
+the_runs : (g : Over) (c : In_ok-freed g) → IsTracked c.args.basis.now.tracked.now → c.heap-heap.result.now ≡ c.args.basis.now.tracked.now.heap →
+    c.in_ok-freed.freed.items ≡ freed c.args.basis.now.tracked.now c.args.basis.now.set.now c.args.basis.now.plan.now.survivors
 the_runs g c tracked he =
-    regions_freed c.args.tracked.now c.args.set.now c.args.plan.now c.requires.plan tracked c.heap-heap.result.now he c.deref-6.result.now
+    regions_freed c.args.basis.now.tracked.now c.args.basis.now.set.now c.args.basis.now.plan.now c.requires.plan tracked c.heap-heap.result.now he c.deref-6.result.now
     (c.deref-6.ensures.value ∙ c.in_ok-humongous.ensures) c.in_ok-freed.freed.items c.in_ok-freed.ensures
 
 pub free-requires : goal.free-requires
 free-requires g c =
     let b = (goal.at.free-requires g c).After-heap-heap in
-    let count : length c.deref_mut.result.now ≡ c.args.tracked.now.heap.geometry.n =
+    let count : length c.deref_mut.result.now ≡ c.args.basis.now.tracked.now.heap.geometry.n =
     ap length c.deref_mut.ensures.value ∙ c.in_ok-fates.ensures.one_each ∙ ap (λ (h : Heap). h.geometry.n) (the_heap g b) in
-    runs_there c.args.tracked.now c.args.set.now c.args.plan.now c.requires.plan (the_tracked g b) c.deref-7.result.now (length c.deref_mut.result.now)
+    runs_there c.args.basis.now.tracked.now c.args.basis.now.set.now c.args.basis.now.plan.now c.requires.plan (the_tracked g b) c.deref-7.result.now (length c.deref_mut.result.now)
     (c.deref-7.ensures.value ∙ the_runs g (goal.at.free-requires g c).In_ok-freed (the_tracked g b) (the_heap g b)) count
 
 -- the table of fates afterwards
-the_fates : (g : Over) (c : After-free g) → IsTracked c.args.tracked.now → c.heap-heap.result.now ≡ c.args.tracked.now.heap →
-    c.in_ok-freed.freed.items ≡ freed c.args.tracked.now c.args.set.now c.args.plan.now.survivors
-    → AreFates c.args.tracked.now.heap (c.args.set.now ++ freed c.args.tracked.now c.args.set.now c.args.plan.now.survivors)
-    (to_space c.args.tracked.now.heap c.args.plan.now.survivors) c.free.new.fates
+the_fates : (g : Over) (c : After-free g) → IsTracked c.args.basis.now.tracked.now → c.heap-heap.result.now ≡ c.args.basis.now.tracked.now.heap →
+    c.in_ok-freed.freed.items ≡ freed c.args.basis.now.tracked.now c.args.basis.now.set.now c.args.basis.now.plan.now.survivors
+    → AreFates c.args.basis.now.tracked.now.heap (c.args.basis.now.set.now ++ freed c.args.basis.now.tracked.now c.args.basis.now.set.now c.args.basis.now.plan.now.survivors)
+    (to_space c.args.basis.now.tracked.now.heap c.args.basis.now.plan.now.survivors) c.free.new.fates
 the_fates g c tracked he runs =
     let h = c.heap-heap.result.now in
-    fates_after c.args.tracked.now c.args.set.now c.args.plan.now c.requires.plan tracked h c.deref-7.result.now c.deref_mut.result.now c.free.new.fates he (c.deref-7.ensures.value ∙ runs)
-    (subst (AreFates h c.args.set.now (to_space h c.args.plan.now.survivors)) (sym c.deref_mut.ensures.value) c.in_ok-fates.ensures) c.free.ensures
+    fates_after c.args.basis.now.tracked.now c.args.basis.now.set.now c.args.basis.now.plan.now c.requires.plan tracked h c.deref-7.result.now c.deref_mut.result.now c.free.new.fates he
+    (c.deref-7.ensures.value ∙ runs)
+    (subst (AreFates h c.args.basis.now.set.now (to_space h c.args.basis.now.plan.now.survivors)) (sym c.deref_mut.ensures.value) c.in_ok-fates.ensures) c.free.ensures
 
 -- it stands in its vector
 fates_back : (g : Over) (c : After-free g) → take c.in_ok-fates.fates.len (c.free.new.fates ++ drop (length c.free.new.fates) c.in_ok-fates.fates.items) ≡ c.free.new.fates
@@ -123,12 +127,12 @@ fates_back g c = lent_back c.in_ok-fates.fates.len c.deref_mut.result.now c.free
 
 pub leave_all-requires : goal.leave_all-requires
 leave_all-requires g c =
-    let i : Image = c.args.tracked.now in
-    let p = c.args.plan.now in
+    let i : Image = c.args.basis.now.tracked.now in
+    let p = c.args.basis.now.plan.now in
     let b = (goal.at.leave_all-requires g c).After-free in
     let e = (goal.at.leave_all-requires g c).After-heap-heap in
     let runs = the_runs g (goal.at.leave_all-requires g c).In_ok-freed (the_tracked g e) (the_heap g e) in
-    let sets : length c.deref_mut-2.result.now ≡ c.args.tracked.now.heap.geometry.n =
+    let sets : length c.deref_mut-2.result.now ≡ c.args.basis.now.tracked.now.heap.geometry.n =
     ap length c.deref_mut-2.ensures.value ∙ sym (length-map c.in_ok-sets.sets.items (λ s. s.items)) ∙ ap length c.in_ok-sets.ensures.ok
     ∙ length-map-range_with_len (remembered_moved i p.set p.survivors (heap_moved i.heap p.set p.survivors)) 0 i.heap.geometry.n in
     sets ∙ sym (the_fates g b (the_tracked g e) (the_heap g e) runs).one_each ∙ ap length (sym (c.deref-8.ensures.value ∙ fates_back g b))
@@ -137,31 +141,31 @@ leave_all-requires g c =
 
 pub new_regions-requires-clause-plan : goal.new_regions-requires-clause-plan
 new_regions-requires-clause-plan g c =
-    subst (λ h. IsPauseOf h c.args.plan.now.set c.args.plan.now) (sym (the_heap g (goal.at.new_regions-requires-clause-plan g c).After-heap-heap))
-    (subst (λ s. IsPauseOf c.args.tracked.now.heap s c.args.plan.now) (sym c.requires.plan.same) c.requires.plan)
+    subst (λ h. IsPauseOf h c.args.basis.now.plan.now.set c.args.basis.now.plan.now) (sym (the_heap g (goal.at.new_regions-requires-clause-plan g c).After-heap-heap))
+    (subst (λ s. IsPauseOf c.args.basis.now.tracked.now.heap s c.args.basis.now.plan.now) (sym c.requires.plan.same) c.requires.plan)
 
 pub new_roots-requires : goal.new_roots-requires
-new_roots-requires g c = subst (λ h. IsPauseOf h c.args.set.now c.args.plan.now) (sym (the_heap g (goal.at.new_roots-requires g c).After-heap-heap)) c.requires.plan
+new_roots-requires g c = subst (λ h. IsPauseOf h c.args.basis.now.set.now c.args.basis.now.plan.now) (sym (the_heap g (goal.at.new_roots-requires g c).After-heap-heap)) c.requires.plan
 
 pub firsts-requires : goal.firsts-requires
 firsts-requires g c =
-    let i : Image = c.args.tracked.now in
-    let p = c.args.plan.now in
+    let i : Image = c.args.basis.now.tracked.now in
+    let p = c.args.basis.now.plan.now in
     let he = c.heap-heap.ensures.same ∙ ap (λ (x : Image). x.heap) c.image.ensures.same in
     let image : IsImage i = subst IsImage c.image.ensures.same c.heap-heap.ensures.valid in
-    let here = c.requires.cards ∙ ap (λ h. cards_into h (map (λ s. s.items) c.args.remembered.now) c.args.set.now) (sym he) in
-    let found = all_found i c.args.set.now p c.requires.plan c.heap-heap.result.now (map (λ s. s.items) c.args.remembered.now) c.args.cards.now
+    let here = c.requires.cards ∙ ap (λ h. cards_into h (map (λ s. s.items) c.args.basis.now.remembered.now) c.args.basis.now.set.now) (sym he) in
+    let found = all_found i c.args.basis.now.set.now p c.requires.plan c.heap-heap.result.now (map (λ s. s.items) c.args.basis.now.remembered.now) c.args.basis.now.cards.now
     c.deref-10.result.now c.all_patches.ensures image c.image.ensures.covered he c.requires.remembered here (c.deref-10.ensures.value ∙ c.in_ok-patches.ensures) in
-    found_rise i c.args.set.now p c.requires.plan c.deref-10.result.now image found
+    found_rise i c.args.basis.now.set.now p c.requires.plan c.deref-10.result.now image found
 
 pub new_regions-requires-clause-fates : goal.new_regions-requires-clause-fates
 new_regions-requires-clause-fates g c =
     let b = (goal.at.new_regions-requires-clause-fates g c).After-free in
     let e = (goal.at.new_regions-requires-clause-fates g c).After-heap-heap in
     let runs = the_runs g (goal.at.new_regions-requires-clause-fates g c).In_ok-freed (the_tracked g e) (the_heap g e) in
-    let i : Image = c.args.tracked.now in
-    let p = c.args.plan.now in
-    let clears : List ℕ = c.args.set.now ++ freed i c.args.set.now p.survivors in (
+    let i : Image = c.args.basis.now.tracked.now in
+    let p = c.args.basis.now.plan.now in
+    let clears : List ℕ = c.args.basis.now.set.now ++ freed i c.args.basis.now.set.now p.survivors in (
       clears,
       subst (λ h. AreFates h clears (to_space h p.survivors) c.deref-11.result.now) (sym (the_heap g e))
           (subst (AreFates i.heap clears (to_space i.heap p.survivors)) (sym (c.deref-11.ensures.value ∙ fates_back g b)) (the_fates g b (the_tracked g e) (the_heap g e) runs)),
@@ -169,9 +173,9 @@ new_regions-requires-clause-fates g c =
 
 pub returns-clause-ok : goal.returns-clause-ok
 returns-clause-ok g c =
-    let i : Image = c.args.tracked.now in
-    let set = c.args.set.now in
-    let p = c.args.plan.now in
+    let i : Image = c.args.basis.now.tracked.now in
+    let set = c.args.basis.now.set.now in
+    let p = c.args.basis.now.plan.now in
     let pause = c.requires.plan in
     let h = c.heap-heap.result.now in
     let ps = c.in_ok-patches.patches.items in
@@ -181,10 +185,10 @@ returns-clause-ok g c =
     let he = the_heap g e in
     let runs = the_runs g (goal.at.returns-clause-ok g c).In_ok-freed tracked he in
     let fates = the_fates g b tracked he runs in
-    let clears : List ℕ = c.args.set.now ++ freed i c.args.set.now p.survivors in
+    let clears : List ℕ = c.args.basis.now.set.now ++ freed i c.args.basis.now.set.now p.survivors in
     let image : IsImage i = tracked.image in
-    let here = c.requires.cards ∙ ap (λ h. cards_into h (map (λ s. s.items) c.args.remembered.now) c.args.set.now) (sym he) in
-    let found = all_found i set p pause h (map (λ s. s.items) c.args.remembered.now) c.args.cards.now ps c.all_patches.ensures image
+    let here = c.requires.cards ∙ ap (λ h. cards_into h (map (λ s. s.items) c.args.basis.now.remembered.now) c.args.basis.now.set.now) (sym he) in
+    let found = all_found i set p pause h (map (λ s. s.items) c.args.basis.now.remembered.now) c.args.basis.now.cards.now ps c.all_patches.ensures image
     c.image.ensures.covered he c.requires.remembered here c.in_ok-patches.ensures in
     let firsts = subst (λ xs. AreFirsts h.geometry.w h.geometry.n xs c.in_ok-firsts.field-0.items) c.deref-10.ensures.value c.in_ok-firsts.ensures in
     let back : take c.in_ok-fates.fates.len (c.free.new.fates ++ drop (length c.free.new.fates) c.in_ok-fates.fates.items) ≡ c.free.new.fates = fates_back g b in

@@ -15,30 +15,32 @@ the_heap g c = c.heap-heap.ensures.same ∙ ap (λ (i : Image). i.heap) c.image.
 
 pub cards_by_region-requires-clause-rising : goal.cards_by_region-requires-clause-rising
 cards_by_region-requires-clause-rising g c =
-    subst (λ (xs : List (ℕ × ℕ)). IsStrictlyIncreasing (map (λ x. x.0) xs)) (sym c.requires.patches) (outer_rise c.args.tracked.now c.args.plan.now.set c.args.plan.now (the_image g c) c.requires.plan)
+    subst (λ (xs : List (ℕ × ℕ)). IsStrictlyIncreasing (map (λ x. x.0) xs)) (sym c.requires.patches)
+    (outer_rise c.args.tracked.now c.args.changes.now.plan.now.set c.args.changes.now.plan.now (the_image g (goal.at.cards_by_region-requires-clause-rising g c).After-heap-heap) c.requires.plan)
 
 pub cards_by_region-requires-clause-there : goal.cards_by_region-requires-clause-there
 cards_by_region-requires-clause-there g c =
-    subst (λ h. AreThere h c.args.patches.now) (sym (the_heap g c))
-    (subst (AreThere c.args.tracked.now.heap) (sym c.requires.patches) (outer_there c.args.tracked.now c.args.plan.now.set c.args.plan.now (the_image g c) c.requires.plan))
+    subst (λ h. AreThere h c.args.changes.now.patches.now) (sym (the_heap g (goal.at.cards_by_region-requires-clause-there g c).After-heap-heap))
+    (subst (AreThere c.args.tracked.now.heap) (sym c.requires.patches)
+    (outer_there c.args.tracked.now c.args.changes.now.plan.now.set c.args.changes.now.plan.now (the_image g (goal.at.cards_by_region-requires-clause-there g c).After-heap-heap) c.requires.plan))
 
 pub join_all-requires-after_bounds : goal.join_all-requires-after_bounds
 join_all-requires-after_bounds g c κs within =
     let b = (goal.at.join_all-requires-after_bounds g c).After-heap-heap in
     let h = c.heap-heap.result.now in
-    let outer = cards_lent h c.args.patches.now c.deref.result.now c.in_ok-outer.outer.items c.deref.ensures.value c.in_ok-outer.ensures in
-    let inner = cards_lent h (copied_slots h c.args.plan.now.survivors) c.deref-2.result.now c.in_ok-inner.inner.items c.deref-2.ensures.value c.in_ok-inner.ensures in
-    paused_sources c.args.tracked.now c.args.plan.now.set c.args.plan.now (the_image g b) c.requires.plan h (the_heap g b)
-    c.args.patches.now c.requires.patches c.args.fates.now c.requires.fates
+    let outer = cards_lent h c.args.changes.now.patches.now c.deref.result.now c.in_ok-outer.outer.items c.deref.ensures.value c.in_ok-outer.ensures in
+    let inner = cards_lent h (copied_slots h c.args.changes.now.plan.now.survivors) c.deref-2.result.now c.in_ok-inner.inner.items c.deref-2.ensures.value c.in_ok-inner.ensures in
+    paused_sources c.args.tracked.now c.args.changes.now.plan.now.set c.args.changes.now.plan.now (the_image g b) c.requires.plan h (the_heap g b)
+    c.args.changes.now.patches.now c.requires.patches c.args.changes.now.fates.now c.requires.fates
     (map (λ s. s.items) c.args.remembered.now) (map (λ s. s.items) c.deref.result.now) (map (λ s. s.items) c.deref-2.result.now) c.requires.remembered outer inner
 
 pub returns-clause-ok : goal.returns-clause-ok
 returns-clause-ok g c =
     let b = (goal.at.returns-clause-ok g c).After-heap-heap in
     let h = c.heap-heap.result.now in
-    let outer = cards_lent h c.args.patches.now c.deref.result.now c.in_ok-outer.outer.items c.deref.ensures.value c.in_ok-outer.ensures in
-    let inner = cards_lent h (copied_slots h c.args.plan.now.survivors) c.deref-2.result.now c.in_ok-inner.inner.items c.deref-2.ensures.value c.in_ok-inner.ensures in
-    paused_remembered c.args.tracked.now c.args.plan.now.set c.args.plan.now (the_image g b) c.requires.plan h (the_heap g b)
-    c.args.patches.now c.requires.patches c.args.fates.now c.requires.fates
+    let outer = cards_lent h c.args.changes.now.patches.now c.deref.result.now c.in_ok-outer.outer.items c.deref.ensures.value c.in_ok-outer.ensures in
+    let inner = cards_lent h (copied_slots h c.args.changes.now.plan.now.survivors) c.deref-2.result.now c.in_ok-inner.inner.items c.deref-2.ensures.value c.in_ok-inner.ensures in
+    paused_remembered c.args.tracked.now c.args.changes.now.plan.now.set c.args.changes.now.plan.now (the_image g b) c.requires.plan h (the_heap g b)
+    c.args.changes.now.patches.now c.requires.patches c.args.changes.now.fates.now c.requires.fates
     (map (λ s. s.items) c.args.remembered.now) (map (λ s. s.items) c.deref.result.now) (map (λ s. s.items) c.deref-2.result.now) c.requires.remembered outer inner
     c.join_all.result c.join_all.ensures.ok
