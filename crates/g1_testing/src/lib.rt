@@ -13,12 +13,14 @@
 
 mod drawing;
 pub mod pictures;
+mod refusal;
 mod sketch;
 mod stream;
 
 use drawing::drawn;
 use g1_image::{Image, decode};
 use g1_words::Fault;
+pub use refusal::is_refusal;
 pub use sketch::Sketch;
 use std::alloc::Global;
 pub use stream::{Stream, Trouble};
