@@ -1,5 +1,5 @@
 //! That all workers work at the same time, up to the 64 that there may be.
-ghost use Rattle.std.specs.Prelude.{◌≡◌, ◌<◌, ◌≤◌};
+ghost use Rattle.std.specs.Prelude.{◌≡◌, ◌<◌, ◌^◌};
 ghost use Rattle.g1_work.specs.Team.{AreWorkers};
 
 use crate::expecting::{UNIT, bytes_after, collecting, expect_equal};
@@ -80,7 +80,8 @@ fn expect_drawn<T: Threads + Clock + Abort + Sync>(
     workers: u64,
     chunks: u64,
 ) -> Result<(), Fail>
-    requires { AreWorkers workers }
+    requires workers { AreWorkers workers }
+    requires chunks { chunks < 2 ^ 32 }
 {
     let gate = Crowd::new(rt, Part::Deal, workers);
     let states = vec![in alloc; (); workers as usize]?;

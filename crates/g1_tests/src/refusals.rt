@@ -145,11 +145,10 @@ fn expect_devices<T: Abort>(
     left: usize,
     trouble: Trouble,
 ) -> Result<(), AllocError> {
-    let read = read_all(alloc, &mut failing(alloc, text, left, trouble)?);
-    match (read, outcome(text, left, Device::Input)) {
-        (Ok(bytes), Ok(())) => expect_equal(rt, bytes.as_slice(), text),
-        (Ok(_), Err(_)) => panic!(rt; "{left}"),
-        (Err(fault), expected) => expect_equal(rt, Err(fault), expected),
+    let expected = outcome(text, left, Device::Input);
+    match read_all(alloc, &mut failing(alloc, text, left, trouble)?) {
+        Ok(bytes) => expect_equal(rt, (bytes.as_slice(), Ok(())), (text, expected)),
+        Err(fault) => expect_equal(rt, Err(fault), expected),
     }
     let mut writer = failing(alloc, b"", left, trouble)?;
     let delivered = deliver(text, &mut writer);
