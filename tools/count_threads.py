@@ -3,8 +3,9 @@
 
 Counts the threads that calls of the library start which no gate is told of: those that merge remembered sets, sort
 the log and make a pause ready. DRIVER, the built crates/g1_rows, runs each on an image with more cards than one
-thread is given, and tells where the call begins and ends. The call has to start at least one thread, and no more than
-there may be workers; on an image of few cards it has to start none. On a machine of one processor nothing is counted.
+thread is given, as a row whose answer is written here, and tells where the call begins and ends. The call has to start
+at least one thread, and no more than there may be workers; on an image of few cards it has to start none. On a machine
+of one processor nothing is counted.
 It needs a C compiler. The last line is 'N passed, M failed'.
 """
 import argparse
@@ -15,8 +16,10 @@ import tempfile
 
 sys.path.insert(0, str(pathlib.Path(__file__).resolve().parent / "lib"))
 
-from images import SHARED, all_dirty, numbers  # noqa: E402
+from images import SHARED, SHARED_AFTER, all_dirty, numbers  # noqa: E402
+from image_text import in_version_two  # noqa: E402
 from refusing import BEGIN, END, Judge, compiled, run  # noqa: E402
+from rows import lists, row  # noqa: E402
 
 LIBRARY = r"""
 #define _GNU_SOURCE
@@ -55,25 +58,39 @@ int pthread_create(pthread_t *thread, const pthread_attr_t *how, void *(*work)(v
 }
 """
 WORKERS = 64
-TEAM = ["workers", str(WORKERS), "chunk", "1"]
-CALLS = ["refine", "new_rem", "prepare"]
+FULL = 96
 
 
-def all_remembered():
-    """Each of 96 regions, of one object without slots, remembers the 256 cards of each other: enough for 64 threads."""
-    full, cards = 96, range(96 * 256)
-    own = [(region * 256, region * 256 + 256) for region in range(full)]
-    sets = b"".join(numbers(len(cards) - 256, *cards[:first], *cards[last:]) for first, last in own)
-    front = numbers(1024, 4, full + 1, 0, 0, full + 1) + numbers(*[1, 1] * full, 0, 0)
-    return b"G1IMAGE1" + front + sets + numbers(0) + numbers(0, 1) * full
+def cards_of_others(region, first=0):
+    """The cards of the regions from the first one on, except one region's own."""
+    return [card for card in range(first * 256, FULL * 256) if card // 256 != region]
 
 
-def count(library, report, command, image):
-    """The threads that the call started, or nothing where the run failed."""
+def all_remembered(first=0):
+    """Each of 96 regions, of one object without slots, remembers the 256 cards of each other: enough for 64 threads. The
+    regions before the first one are free."""
+    sets = b"".join(numbers(len(cards), *cards) for cards in (cards_of_others(region, first) for region in range(first, FULL)))
+    front = numbers(1024, 4, FULL + 1, 0, 0, FULL + 1) + numbers(*[0, 0] * first, *[1, 1] * (FULL - first), 0, 0)
+    return b"G1IMAGE1" + front + numbers(*[0] * first) + sets + numbers(0) + numbers(0, 1) * (FULL - first)
+
+
+# Of a pause that collects region 0 of that image: the call, and what it answers.
+LARGE = {
+    "refine": lambda: lists(*(cards_of_others(region) for region in range(FULL)), []),
+    "new_rem": lambda: lists([], *(cards_of_others(region, 1) for region in range(1, FULL)), []),
+    "prepare": lambda: in_version_two(all_remembered(1)),
+}
+# Of one that collects region 1 of the shared objects.
+SMALL = {"refine": lists([], [0, 1], [], []), "new_rem": lists([], [], [0, 1], []), "prepare": SHARED_AFTER}
+
+
+def count(library, report, driver, call, image, answer):
+    """The threads that the call started, or nothing if it answered otherwise."""
     environment = dict(os.environ, LD_PRELOAD=str(library), THREADS_REPORT=str(report))
     report.unlink(missing_ok=True)
-    _, errors, status = run(command, image, environment)
-    return int(report.read_text()) if status == 0 and not errors and report.exists() else None
+    out, errors, status = run([driver, "rows"], row(f"{call} workers {WORKERS} chunk 1", image, answer), environment)
+    good = status == 0 and not errors and out.endswith(b"\n1 ok, 0 failed\n")
+    return int(report.read_text()) if good and report.exists() else None
 
 
 def main():
@@ -89,12 +106,14 @@ def main():
         folder = pathlib.Path(room)
         words = ["-shared", "-fPIC", f"-DBEGIN={BEGIN}", f"-DEND={END}"]
         library = compiled(folder, "count.so", LIBRARY, *words)
-        large = [(call, all_remembered()) for call in CALLS] + [("refine", all_dirty())]
-        for call, image in large:
-            started = count(library, folder / "threads", [driver, call, *TEAM, "regions", "0"], image)
+        counted = (library, folder / "threads", driver)
+        large = [(f"{call} regions 0", all_remembered(), answer()) for call, answer in LARGE.items()]
+        large.append(("refine regions 0", all_dirty(), lists([64 * 16_384], *[[]] * 64)))
+        for call, image, answer in large:
+            started = count(*counted, call, image, answer)
             judge.judge(f"{call} of many cards: {started} threads", started is not None and 1 <= started < WORKERS)
-        for call in CALLS:
-            started = count(library, folder / "threads", [driver, call, *TEAM, "regions", "1"], SHARED)
+        for call, answer in SMALL.items():
+            started = count(*counted, f"{call} regions 1", SHARED, answer)
             judge.judge(f"{call} of few cards: {started} threads", started == 0)
     return judge.end()
 

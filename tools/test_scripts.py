@@ -84,18 +84,21 @@ BROKEN = {
                             ["refuse_memory.py"]),
     "short_for_all": ('say("", 0, "g1pause: fault 3: short\\n", 3);', ["malicious_images.py"]),
 }
-# The same of the driver: another answer instead of Memory, and an image that is not the one handed in.
+# The same of the driver: it says that a row failed, makes no call in runs, says nothing, counts no Memory, or leaves a
+# call out.
 DRIVERS = {
-    "always_memory": 'say("watched\\nfault 13: memory\\n", 25, "", 0);',
-    "room_for_memory": 'real(words); if (memory()) say("watched\\nfault 11: room need 1 free 0\\n", 37, "", 0);',
-    "empty_set_for_memory": 'if (is(words, "choose")) { real(words); if (memory()) say("watched\\n-\\n", 10, "", 0); }',
-    "another_image_after_memory": "real(words); if (memory()) out[out_size - 1] ^= 1;"
-                                  "if (write(1, out, out_size) != out_size) _exit(96); return status;",
+    "says_that_a_row_failed": 'real(words); say("FAILED: a row\\n9 ok, 1 failed\\n", 29, "", 1);',
+    "meets_no_refusal": 'if (is(words, "refused")) words[1] = "rows";',
+    "says_nothing": 'say("", 0, "", 0);',
+    "counts_no_memory": 'real(words); char *at = out; while ((at = memmem(at, out + out_size - at, " memory, ", 9))) at[9] = \'0\', at[10] = \' \', at += 9;'
+                        'if (write(1, out, out_size) != out_size) _exit(96); return status;',
+    "leaves_a_call_out": 'real(words); char *at = memmem(out, out_size, "\\nverify: ", 9); if (at) at[1] = \'V\';'
+                         'if (write(1, out, out_size) != out_size) _exit(96); return status;',
 }
 
 # A driver that does its work without a thread: it asks for memory as one does that begins and ends.
-IDLE = f'void *volatile sign = malloc({BEGIN}); free(sign); sign = malloc({END}); free(sign); say("watched\\n", 8, "", 0);'
-
+IDLE = (f'void *volatile sign = malloc({BEGIN}); free(sign); sign = malloc({END}); free(sign);'
+        'say("ok: It is so.\\n1 ok, 0 failed\\n", 29, "", 0);')
 
 # A script ends with the first answer that it fails.
 FIRST = {script: ["--first"] for script in ("refuse_memory.py", "second_pause.py", "refuse_calls.py", "count_threads.py")}

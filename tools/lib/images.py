@@ -49,41 +49,6 @@ HELD = image("16 4 5 0 0 5  1 2 2 16 3 4 4*0  0 1 0 3*0  2/1 =17 20/0 19*=0")
 HELD_AFTER = image("16 4 5 0 0 5  10*0  5*0")
 UNNAMED_OWNER = image("16 4 6 0 0 6  2 16 3 16 3 8 1 2 4*0  3*0 1 4 0 0  40/20 16*=0 =49 22*=0 2/0 =4")
 UNNAMED_OWNER_AFTER = image("16 4 6 0 0 6  8*0 1 2 2*0  6*0  2/0 =4")
-MANY_DIRTY = b"G1IMAGE2" + struct.pack("<6I", 16, 4, 4, 0, (1 << 32) - 1, 4)
-TRACE = b"""heap 16 4 4 3
-new 0 1 1
-new 1 0 4
-set 0 0 11
-drop 1
-new 1 1 10
-put 0 0 1
-put 1 0 0
-set 1 9 77
-drop 1
-pause 1000
-say 0 0
-get 1 0 0
-say 1 9
-get 2 1 0
-same 0 2
-same 0 1
-new 2 0 4
-drop 2
-pause 1000
-new 2 0 4
-set 2 3 5
-copy 1 2
-drop 0
-pause 1000
-say 1 3
-same 1 2
-say 0 0
-new 0 0 39
-new 0 0 0
-say 0 39
-say 0 38
-"""
-REPLIES = ("ok ok ok ok ok ok ok ok ok ok 11 ok 77 ok 1 0 ok ok ok ok ok ok ok ok 5 1 null ok full range 0").split()
 
 
 def numbers(*values):

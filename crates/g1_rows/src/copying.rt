@@ -9,7 +9,7 @@ ghost use Rattle.g1_rem.specs.EntryCards.{cards_into};
 ghost use Rattle.g1_copy.specs.Plans.{IsPauseOf};
 ghost use Rattle.g1_copy.specs.Prepared.{IsMadeFor};
 
-use crate::subject::Subject;
+use crate::calling::Call;
 use crate::watch::Watch;
 use crate::{cards, placing};
 use g1_choose::given;
@@ -17,47 +17,28 @@ use g1_claim::Claims;
 use g1_copy::{Basis, Prepared, commit, gather, new_rem, patches, prepare, prepare_on};
 use g1_frontier::{claim_round, discover};
 use g1_layout::{Plan, place};
-use g1_pause::Choice;
 use g1_rem::{Starts, Tracked, cards_into, image, refine};
 use g1_words::{Fault, Heap};
 use g1_work::Open;
-use std::alloc::Global;
 use std::thread::Threads;
 
-/// The pause that collects the regions named; none where a budget stands in their place.
+/// The pause that collects the regions named.
 pub fn run<R: Threads + Sync>(
-    rt: &R,
-    alloc: Global,
-    subject: &Subject,
-    tracked: Tracked,
-    watch: &mut Watch,
-) -> Result<(), Fault> {
-    match subject.settings.choice() {
-        Choice::Given(list) => committed(rt, alloc, subject, tracked, list.as_slice(), watch),
-        Choice::Budget(_) => Ok(()),
-    }
-}
-
-fn committed<R: Threads + Sync>(
-    rt: &R,
-    alloc: Global,
-    subject: &Subject,
+    call: &Call<'_, R>,
     tracked: Tracked,
     list: &[u32],
     watch: &mut Watch,
 ) -> Result<(), Fault> {
-    let prepared = collected(rt, alloc, subject, &tracked, list, watch)?;
+    let prepared = collected(call, &tracked, list, watch)?;
     watch.at("commit");
-    let after = commit(rt, subject.settings.workers(), tracked, prepared, &Open);
+    let after = commit(call.rt, call.settings.workers(), tracked, prepared, &Open);
     watch.image(image(&after));
     Ok(())
 }
 
 /// What the pause that collects the regions named writes.
 fn collected<R: Threads + Sync>(
-    rt: &R,
-    alloc: Global,
-    subject: &Subject,
+    call: &Call<'_, R>,
     tracked: &Tracked,
     list: &[u32],
     watch: &mut Watch,
@@ -65,17 +46,15 @@ fn collected<R: Threads + Sync>(
     ensures { IfOk result (λ p. (s : List ℕ) × (l : List ℕ) × IsMadeFor p tracked.now s l) }
 {
     watch.at("given");
-    let chosen = given(alloc, image(tracked).heap(), list)?;
+    let chosen = given(call.alloc, image(tracked).heap(), list)?;
     let set = chosen.as_slice();
-    watch.regions(set);
-    prepared(rt, alloc, subject, tracked, set, watch)
+    watch.numbers(set);
+    prepared(call, tracked, set, watch)
 }
 
 /// What the pause of these regions writes.
 fn prepared<R: Threads + Sync>(
-    rt: &R,
-    alloc: Global,
-    subject: &Subject,
+    call: &Call<'_, R>,
     tracked: &Tracked,
     set: &[u32],
     watch: &mut Watch,
@@ -84,13 +63,12 @@ fn prepared<R: Threads + Sync>(
     requires ordinary { AllOrdinary tracked.now.heap set.now }
     ensures { IfOk result (λ p. (s : List ℕ) × (l : List ℕ) × IsMadeFor p tracked.now s l) }
 {
-    let (starts, remembered) = tables(rt, alloc, subject, tracked, watch)?;
+    let (starts, remembered) = tables(call, tracked, watch)?;
     let remembered = remembered.as_slice();
-    let (cards, survivors) = found(rt, alloc, subject, tracked, &starts, remembered, set, watch)?;
-    let plan = placed(alloc, subject, tracked, set, survivors.as_slice(), watch)?;
+    let (cards, survivors) = found(call, tracked, &starts, remembered, set, watch)?;
+    let plan = placed(call, tracked, set, survivors.as_slice(), watch)?;
     written(
-        rt,
-        alloc,
+        call,
         tracked,
         &starts,
         remembered,
@@ -100,8 +78,7 @@ fn prepared<R: Threads + Sync>(
         watch,
     )?;
     made(
-        rt,
-        alloc,
+        call,
         tracked,
         &starts,
         remembered,
@@ -114,8 +91,7 @@ fn prepared<R: Threads + Sync>(
 
 /// What the pause writes, made ready by the one call or by the other.
 fn made<R: Threads + Sync>(
-    rt: &R,
-    alloc: Global,
+    call: &Call<'_, R>,
     tracked: &Tracked,
     starts: &Starts,
     remembered: &[Vec<u32>],
@@ -130,7 +106,7 @@ fn made<R: Threads + Sync>(
     requires plan { IsPauseOf tracked.now.heap set.now plan.now }
     ensures { IfOk result (λ p. (s : List ℕ) × (l : List ℕ) × IsMadeFor p tracked.now s l) }
 {
-    if watch.is_of(&["prepare_on"]) {
+    if call.name == "prepare_on" {
         watch.at("prepare_on");
         let basis = Basis {
             tracked,
@@ -140,21 +116,19 @@ fn made<R: Threads + Sync>(
             plan,
             cards,
         };
-        let prepared = prepare_on(rt, alloc, &basis, 1)?;
+        let prepared = prepare_on(call.rt, call.alloc, &basis, 1)?;
         watch.done();
         return Ok(prepared);
     }
     watch.at("prepare");
-    let prepared = prepare(rt, alloc, tracked, starts, remembered, set, plan)?;
+    let prepared = prepare(call.rt, call.alloc, tracked, starts, remembered, set, plan)?;
     watch.done();
     Ok(prepared)
 }
 
 /// The table of starts and the refined remembered sets.
 fn tables<R: Threads + Sync>(
-    rt: &R,
-    alloc: Global,
-    subject: &Subject,
+    call: &Call<'_, R>,
     tracked: &Tracked,
     watch: &mut Watch,
 ) -> Result<(Starts, Vec<Vec<u32>>), Fault>
@@ -163,21 +137,19 @@ fn tables<R: Threads + Sync>(
 {
     let heap = image(tracked).heap();
     watch.at("starts");
-    let starts = Starts::build(alloc, heap)?;
+    let starts = Starts::build(call.alloc, heap)?;
     watch.done();
-    cards::run(alloc, heap, &starts, subject, watch)?;
-    round(rt, alloc, subject, heap, &starts, watch)?;
+    cards::run(call, heap, &starts, watch)?;
+    round(call, heap, &starts, watch)?;
     watch.at("refine");
-    let remembered = refine(rt, alloc, tracked, &starts)?;
+    let remembered = refine(call.rt, call.alloc, tracked, &starts)?;
     watch.lists(remembered.as_slice());
     Ok((starts, remembered))
 }
 
 /// The cards that lead into the set, and its survivors.
 fn found<R: Threads + Sync>(
-    rt: &R,
-    alloc: Global,
-    subject: &Subject,
+    call: &Call<'_, R>,
     tracked: &Tracked,
     starts: &Starts,
     remembered: &[Vec<u32>],
@@ -192,23 +164,24 @@ fn found<R: Threads + Sync>(
     ensures survivors { IfOk result (λ r. Survivors tracked.now.heap set.now r.1.items) }
 {
     let heap = image(tracked).heap();
-    let (workers, chunk) = (subject.settings.workers(), subject.settings.chunk());
+    let (workers, chunk) = (call.settings.workers(), call.settings.chunk());
     watch.at("cards_into");
-    let into = cards_into(alloc, heap, remembered, set)?;
-    watch.regions(into.as_slice());
+    let into = cards_into(call.alloc, heap, remembered, set)?;
+    watch.numbers(into.as_slice());
     g1_copy::laws::cards_lead_in();
     g1_frontier::laws::refined_lead_in();
     let cards = into.as_slice();
     watch.at("discover");
-    let survivors = discover(rt, alloc, heap, starts, set, cards, workers, chunk, &Open)?;
+    let survivors = discover(
+        call.rt, call.alloc, heap, starts, set, cards, workers, chunk, &Open,
+    )?;
     watch.numbers(survivors.as_slice());
     Ok((into, survivors))
 }
 
 /// Where the survivors go.
-fn placed(
-    alloc: Global,
-    subject: &Subject,
+fn placed<R>(
+    call: &Call<'_, R>,
     tracked: &Tracked,
     set: &[u32],
     survivors: &[u64],
@@ -222,16 +195,15 @@ fn placed(
     let heap = image(tracked).heap();
     g1_layout::laws::placeable();
     watch.at("place");
-    let plan = place(alloc, heap, set, survivors)?;
+    let plan = place(call.alloc, heap, set, survivors)?;
     watch.numbers(plan.places());
-    placing::forward(alloc, &plan, subject, watch)?;
+    placing::forward(call, &plan, watch);
     Ok(plan)
 }
 
 /// The pieces of what the pause writes.
 fn written<R: Threads + Sync>(
-    rt: &R,
-    alloc: Global,
+    call: &Call<'_, R>,
     tracked: &Tracked,
     starts: &Starts,
     remembered: &[Vec<u32>],
@@ -251,35 +223,35 @@ fn written<R: Threads + Sync>(
     g1_copy::laws::cards_lead_in();
     g1_copy::laws::all_patches();
     watch.at("patches");
-    let patches = patches(rt, alloc, heap, starts, plan, cards)?;
+    let patches = patches(call.rt, call.alloc, heap, starts, plan, cards)?;
     watch.pairs(patches.as_slice());
     watch.at("gather");
-    let gathered = gather(rt, alloc, heap, plan)?;
+    let gathered = gather(call.rt, call.alloc, heap, plan)?;
     watch.words(gathered.as_slice());
     let (slots, words) = (patches.as_slice(), gathered.as_slice());
     watch.at("new_rem");
-    let lists = new_rem(rt, alloc, tracked, remembered, set, plan, slots, words)?;
+    let lists = new_rem(
+        call.rt, call.alloc, tracked, remembered, set, plan, slots, words,
+    )?;
     watch.lists(lists.as_slice());
     Ok(())
 }
 
 /// A round of claims that looks at nothing.
 fn round<R: Threads + Sync>(
-    rt: &R,
-    alloc: Global,
-    subject: &Subject,
+    call: &Call<'_, R>,
     heap: &Heap,
     starts: &Starts,
     watch: &mut Watch,
 ) -> Result<(), Fault>
     requires { IsStartsOf heap.now starts.now }
 {
-    let (workers, chunk) = (subject.settings.workers(), subject.settings.chunk());
-    let (claims, seat) = Claims::new(alloc, 0)?;
+    let (workers, chunk) = (call.settings.workers(), call.settings.chunk());
+    let (claims, seat) = Claims::new(call.alloc, 0)?;
     watch.at("claim_round");
     let (claims, seat, won) = claim_round(
-        rt,
-        alloc,
+        call.rt,
+        call.alloc,
         heap,
         starts,
         &[],

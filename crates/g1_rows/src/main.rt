@@ -1,23 +1,22 @@
-//! Makes the public calls of the library by name, on images and traces: the tests that are data.
+//! Makes the public calls of the library by name, and calls the programs: the tests that are data.
 //!
-//! 1. `rows FILE ..` reads rows from files, or from standard input if none is named. A row is a text
-//!    block: what it shows, a call with its options, what the call is given, and what it has to return
-//!    (`rows`). Each row is tried with all its numbers of workers and chunks. Standard output has the
-//!    verdict of each row, and what was found if it is another answer.
-//! 2. `CALL OPTION ..` makes one call on what standard input gives, for `tools/refuse_calls.py`, which
-//!    refuses it memory. Standard output is `watched`, the fault if there was one, and what the call
-//!    returned. If `step` is named, `command` says which command is watched.
-//!
-//! Images are laid by `g1_testing`, never by the library's own writers (`parts`), and answers are
-//! compared as bytes. `reading`, `cards`, `pricing`, `copying`, `placing`, `pausing`, `tracing`,
-//! `comparing`, `sharing` and `filling` make the calls, in an order in which each has what it asks for;
-//! `watch` keeps what the named one returned.
+//! 1. A row is a text block in a file of data/: what it shows, a call with its options, what the call is given, and what
+//!    it has to return (`rows`), or a program with its words, its streams and its files (`program_rows`). A new case is a
+//!    row, and its line in stdout.
+//! 2. `rows FILE ..` tries the rows of files, or of standard input if none is named, each with all its numbers of workers
+//!    and chunks. Standard output has the verdict of each row, and what was found if it is another answer.
+//! 3. `refused FILE ..` is for `tools/refuse_calls.py`, which refuses the calls memory: each is made until no request of
+//!    it is left to refuse. Then standard output also counts the runs of each call.
+//! 4. `calling` is the table of calls. `reading`, `cards`, `pricing`, `copying`, `placing`, `pausing`, `tracing`,
+//!    `comparing` and `sharing` make them; `watch` keeps what the named one returned. A call is added there.
+//! 5. Images are laid by `g1_testing`, never by the library's own writers (`parts`), and answers are compared as bytes.
 #![tactic(auto)]
 
+mod calling;
 mod cards;
 mod comparing;
 mod copying;
-mod filling;
+mod given;
 mod parts;
 mod pausing;
 mod placing;
@@ -28,15 +27,12 @@ mod reading;
 mod rows;
 mod scene;
 mod sharing;
-mod subject;
 mod tracing;
-mod trying;
+mod verdicts;
 mod watch;
 
-use crate::rows::{Verdicts, judge};
-use crate::subject::numbers_of;
-use crate::trying::{Call, answer};
-use std::alloc::{AllocError, Global};
+use crate::rows::judge;
+use std::alloc::Global;
 use std::io::{Read, Write};
 use std::process::ExitCode;
 use std::rt::Files;
@@ -74,30 +70,27 @@ fn run<T: Threads + Files + Sync, R: Read, W: Write>(
     reader: &mut R,
     writer: &mut W,
 ) -> io::Result<bool> {
-    match words.split_first() {
-        Some((first, names)) if first.as_str() == "rows" => {
-            let verdicts = judge_files(rt, alloc, names, reader)?;
-            writer.write_all(verdicts.text.as_bytes())?;
-            Ok(verdicts.are_good())
-        }
-        Some((call, options)) => {
-            let mut bytes = Vec::new(alloc);
-            reader.read_to_end(&mut bytes)?;
-            let text = watch_call(rt, alloc, call.as_str(), options, bytes.as_slice())?;
-            writer.write_all(text.as_slice())?;
-            Ok(true)
-        }
-        None => Ok(false),
+    let Some((first, names)) = words.split_first() else {
+        return Ok(false);
+    };
+    let is_refused = first.as_str() == "refused";
+    if !is_refused && first.as_str() != "rows" {
+        return Ok(false);
     }
+    let text = text_of(rt, alloc, names, reader)?;
+    let verdicts = judge(rt, alloc, text.as_str(), is_refused)?;
+    let are_good = verdicts.are_good();
+    writer.write_all(verdicts.into_text()?.as_bytes())?;
+    Ok(are_good)
 }
 
-/// The verdicts on the rows of these files, or of the reader if there are none.
-fn judge_files<T: Threads + Files + Sync, R: Read>(
+/// The text of these files, or of the reader if there are none.
+fn text_of<T: Files, R: Read>(
     rt: &T,
     alloc: Global,
     names: &[String],
     reader: &mut R,
-) -> io::Result<Verdicts> {
+) -> io::Result<String> {
     let mut text = String::new(alloc);
     if names.is_empty() {
         reader.read_to_string(&mut text)?;
@@ -107,27 +100,5 @@ fn judge_files<T: Threads + Files + Sync, R: Read>(
         file.read_to_string(&mut text)?;
         text.push_str("\n\n")?;
     }
-    Ok(judge(rt, alloc, text.as_str())?)
-}
-
-/// What the watched call returns, given the bytes.
-fn watch_call<R: Threads + Sync>(
-    rt: &R,
-    alloc: Global,
-    name: &str,
-    options: &[String],
-    bytes: &[u8],
-) -> Result<Vec<u8>, AllocError> {
-    let mut parts = Vec::new(alloc);
-    parts.push(Vec::from_slice(alloc, bytes)?)?;
-    let call = Call {
-        name,
-        options,
-        parts: parts.as_slice(),
-    };
-    let workers = numbers_of(alloc, options, "workers")?;
-    let chunk = numbers_of(alloc, options, "chunk")?;
-    let workers = workers.first().copied().unwrap_or(1);
-    let chunk = chunk.first().copied().unwrap_or(64);
-    answer(rt, alloc, &call, workers, chunk, true)
+    Ok(text)
 }

@@ -7,7 +7,7 @@
 //! - `hex DIGITS`: these bytes, with spaces for the reader's eye;
 //! - `text TEXT`: the bytes of the text, in which `\n` ends a line and `\t` is a tab;
 //! - `raw MAGIC NUMBER ..`: the magic, and numbers of 4 bytes: `=N` is a word of 8 bytes, `S/R` the header of an object
-//!   of S words with R slots, and `0*N` stands for n words that are 0;
+//!   of S words with R slots, `A..B` the numbers from A up to B, `A,B` both, and `NUMBER*N` stands for n of that number;
 //! - `| LINE`: this line and its end, also if it looks like another part;
 //! - any other line: itself and its end.
 use g1_testing::text;
@@ -153,15 +153,42 @@ fn raw_bytes(alloc: Global, numbers: &str) -> Result<Vec<u8>, Fault> {
 
 /// Adds what a number says. Returns whether it says anything.
 fn push_raw(bytes: &mut Vec<u8>, number: &str) -> Result<bool, AllocError> {
-    if let Some(("0", count)) = number.split_once('*') {
-        let Ok(count) = count.parse::<u16>() else {
+    let (group, count) = number.split_once('*').unwrap_or((number, "1"));
+    let Ok(count) = count.parse::<u32>() else {
+        return Ok(false);
+    };
+    for _again in 0..count {
+        if !push_group(bytes, group)? {
             return Ok(false);
-        };
-        for _word in 0..count {
-            bytes.extend_from_slice(&[0; 8])?;
         }
-        return Ok(true);
     }
+    Ok(true)
+}
+
+fn push_group(bytes: &mut Vec<u8>, group: &str) -> Result<bool, AllocError> {
+    for number in group.split(',') {
+        let is_pushed = match number.split_once("..") {
+            Some((from, to)) => push_range(bytes, from, to)?,
+            None => push_one(bytes, number)?,
+        };
+        if !is_pushed {
+            return Ok(false);
+        }
+    }
+    Ok(true)
+}
+
+fn push_range(bytes: &mut Vec<u8>, from: &str, to: &str) -> Result<bool, AllocError> {
+    let (Ok(from), Ok(to)) = (from.parse::<u32>(), to.parse::<u32>()) else {
+        return Ok(false);
+    };
+    for number in from..to {
+        bytes.extend_from_slice(&number.to_le_bytes())?;
+    }
+    Ok(true)
+}
+
+fn push_one(bytes: &mut Vec<u8>, number: &str) -> Result<bool, AllocError> {
     if let Some((size, slots)) = number.split_once('/') {
         return Ok(push_number(bytes, slots)? && push_number(bytes, size)?);
     }

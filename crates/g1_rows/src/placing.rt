@@ -5,34 +5,28 @@ ghost use Rattle.g1_words.specs.Survivors.{AllOrdinary};
 ghost use Rattle.g1_layout.specs.Placed.{CanPlace};
 ghost use Rattle.g1_copy.specs.Plans.{IsPlanOf};
 
+use crate::calling::Call;
 use crate::cards::rises;
-use crate::subject::Subject;
 use crate::watch::Watch;
 use g1_copy::gather;
 use g1_image::decode;
 use g1_layout::{Plan, place};
 use g1_words::{Fault, Heap, Kind, object_at, region_of};
-use std::alloc::{AllocError, Global};
+use std::alloc::Global;
 use std::thread::Threads;
 
 /// Places the survivors that are named, and copies them.
-pub fn run<R: Threads + Sync>(
-    rt: &R,
-    alloc: Global,
-    subject: &Subject,
-    bytes: &[u8],
-    watch: &mut Watch,
-) -> Result<(), Fault> {
-    let read = decode(alloc, bytes)?;
+pub fn run<R: Threads + Sync>(call: &Call<'_, R>, watch: &mut Watch) -> Result<(), Fault> {
+    let read = decode(call.alloc, call.given.part(0))?;
     let heap = read.heap();
-    let set = subject.short_numbers(alloc, "regions")?;
-    let survivors = subject.numbers(alloc, "survivors")?;
+    let set = call.given.short_numbers(call.alloc, "regions")?;
     watch.at("plan");
-    let plan = place_named(alloc, heap, set.as_slice(), survivors.as_slice())?;
+    let survivors = call.given.numbers("survivors");
+    let plan = place_named(call.alloc, heap, set.as_slice(), survivors)?;
     print(&plan, watch);
-    forward(alloc, &plan, subject, watch)?;
+    forward(call, &plan, watch);
     watch.at("gather");
-    let gathered = gather(rt, alloc, heap, &plan)?;
+    let gathered = gather(call.rt, call.alloc, heap, &plan)?;
     watch.words(gathered.as_slice());
     Ok(())
 }
@@ -43,8 +37,8 @@ fn print(plan: &Plan, watch: &mut Watch) {
     if watch.is_over() {
         watch.named("survivors", plan.survivors());
         watch.named("places", plan.places());
-        watch.short_named("set", plan.set());
-        watch.short_named("to", plan.to_space());
+        watch.named("set", plan.set());
+        watch.named("to", plan.to_space());
         watch.named("need", &[plan.need()]);
         for run in plan.runs() {
             let (from, to) = (run.from as u64, run.to as u64);
@@ -54,18 +48,12 @@ fn print(plan: &Plan, watch: &mut Watch) {
 }
 
 /// Where the addresses that are named are after the pause.
-pub fn forward(
-    alloc: Global,
-    plan: &Plan,
-    subject: &Subject,
-    watch: &mut Watch,
-) -> Result<(), AllocError> {
-    for address in subject.numbers(alloc, "addresses")? {
+pub fn forward<R>(call: &Call<'_, R>, plan: &Plan, watch: &mut Watch) {
+    for address in call.given.numbers("addresses") {
         watch.at("forward");
-        let place = plan.forward(address);
+        let place = plan.forward(*address);
         watch.numbers(&[place]);
     }
-    Ok(())
 }
 
 /// Whether the regions are ordinary ones.

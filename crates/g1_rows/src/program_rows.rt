@@ -4,10 +4,8 @@
 //! - If there are several lines `PROGRAM WORD ..`, each of them has to leave the same.
 //! - In a row of many cases each line below `----` is `WORD .. => ANSWER`, for further words, or `PART => ANSWER`, for
 //!   what is on standard input: a `text`, an `image` or `raw` bytes.
-use crate::parts::Picture;
 use crate::programs::{Run, is_program, miss_of};
-use crate::rows::{push_words, words_of};
-use crate::subject::copy_words;
+use crate::rows::Trial;
 use g1_words::Fault;
 use std::alloc::{AllocError, Global};
 use std::rt::Files;
@@ -28,10 +26,8 @@ fn first_word(line: &str) -> &str {
 ///
 /// `Fault::Line` if a line is not understood; `Fault::Device` if a file cannot be written, read or removed; `Fault::Memory`.
 pub fn first_miss<R: Threads + Files + Sync>(
-    rt: &R,
-    alloc: Global,
+    trial: &Trial<'_, R>,
     body: &str,
-    pictures: &[Picture],
 ) -> Result<Option<String>, Fault> {
     let Some((above, expected)) = body.split_once("----\n") else {
         return Err(Fault::Line(0));
@@ -39,18 +35,12 @@ pub fn first_miss<R: Threads + Files + Sync>(
     if expected.is_empty() {
         return Err(Fault::Line(0));
     }
-    let given = without_runs(alloc, above)?;
+    let given = without_runs(trial.alloc, above)?;
     for line in above.split('\n') {
         if is_program(first_word(line)) {
-            let (name, words) = words_of(alloc, line)?;
-            let run = Run {
-                name: name.as_str(),
-                words: words.as_slice(),
-                given: given.as_str(),
-                expected,
-            };
-            if let Some(miss) = miss_of_cases(rt, alloc, &run, pictures)? {
-                return Ok(Some(miss));
+            let miss = miss_of_cases(trial, line, given.as_str(), expected)?;
+            if miss.is_some() {
+                return Ok(miss);
             }
         }
     }
@@ -70,67 +60,55 @@ fn without_runs(alloc: Global, above: &str) -> Result<String, AllocError> {
 
 /// What a program left in the first of its cases that is not as expected.
 fn miss_of_cases<R: Threads + Files + Sync>(
-    rt: &R,
-    alloc: Global,
-    run: &Run<'_>,
-    pictures: &[Picture],
+    trial: &Trial<'_, R>,
+    line: &str,
+    given: &str,
+    expected: &str,
 ) -> Result<Option<String>, Fault> {
-    if !run.expected.contains(" => ") {
-        return miss_text(rt, alloc, run, pictures);
+    if !expected.contains(" => ") {
+        return miss_text(trial, line, given, expected);
     }
-    for line in run.expected.trim_end_matches('\n').split('\n') {
-        if let Some(miss) = miss_of_line(rt, alloc, run, line, pictures)? {
-            return Ok(Some(miss));
+    for case in expected.trim_end_matches('\n').split('\n') {
+        let miss = miss_of_case(trial, line, given, case)?;
+        if miss.is_some() {
+            return Ok(miss);
         }
     }
     Ok(None)
 }
 
-/// What a program left in the case of a line, if it is not as expected.
-fn miss_of_line<R: Threads + Files + Sync>(
-    rt: &R,
-    alloc: Global,
-    run: &Run<'_>,
+/// What a program left in the case of a line below `----`, if it is not as expected.
+fn miss_of_case<R: Threads + Files + Sync>(
+    trial: &Trial<'_, R>,
     line: &str,
-    pictures: &[Picture],
+    given: &str,
+    case: &str,
 ) -> Result<Option<String>, Fault> {
-    let Some((left, expected)) = line.split_once(" => ") else {
+    let Some((left, expected)) = case.split_once(" => ") else {
         return Err(Fault::Line(0));
     };
-    let mut words = copy_words(alloc, run.words)?;
-    let mut given = String::from_str(alloc, run.given)?;
-    if is_part(left) {
-        write!(given, "stdin\n{left}\n")?;
-    } else {
-        push_words(alloc, &mut words, left)?;
+    if matches!(first_word(left), "text" | "image" | "raw") {
+        let given = format!(in trial.alloc; "{given}stdin\n{left}\n")?;
+        return miss_text(trial, line, given.as_str(), expected);
     }
-    let case = Run {
-        name: run.name,
-        words: words.as_slice(),
-        given: given.as_str(),
-        expected,
-    };
-    miss_text(rt, alloc, &case, pictures)
-}
-
-fn is_part(left: &str) -> bool {
-    matches!(first_word(left), "text" | "image" | "raw")
+    let line = format!(in trial.alloc; "{line} {left}")?;
+    miss_text(trial, line.as_str(), given, expected)
 }
 
 fn miss_text<R: Threads + Files + Sync>(
-    rt: &R,
-    alloc: Global,
-    run: &Run<'_>,
-    pictures: &[Picture],
+    trial: &Trial<'_, R>,
+    line: &str,
+    given: &str,
+    expected: &str,
 ) -> Result<Option<String>, Fault> {
-    let Some(left) = miss_of(rt, alloc, run, pictures)? else {
+    let run = Run {
+        line,
+        given,
+        expected,
+    };
+    let Some(left) = miss_of(trial, &run)? else {
         return Ok(None);
     };
-    let mut miss = String::from_str(alloc, run.name)?;
-    for word in run.words {
-        write!(miss, " {word}")?;
-    }
-    let expected = run.expected.trim_end_matches('\n');
-    write!(miss, "\n{left}in place of\n{expected}\n")?;
-    Ok(Some(miss))
+    let expected = expected.trim_end_matches('\n');
+    Ok(Some(format!(in trial.alloc; "{line}\n{left}in place of\n{expected}\n")?))
 }

@@ -2,7 +2,7 @@
 //!
 //! A program is called as its `main` calls it, over streams in memory. Its files are in the folder of the run. If a row
 //! gives no standard input, the program must not read it: each of its reads fails, and is reported.
-use crate::parts::Picture;
+use crate::rows::{Trial, push_shown};
 use crate::scene::{Content, Scene, fits};
 use g1_testing::{Stream, Trouble};
 use g1_words::{Device, Fault};
@@ -17,11 +17,10 @@ use std::{fs, io};
 /// The names of the programs.
 const NAMES: [&str; 3] = ["g1pause", "g1heap", "g1heap_at_terminal"];
 
-/// A program with its words, what it is given, and what it has to leave.
+/// A line with a program and its words, what the program is given, and what it has to leave.
 #[derive(Clone, Copy)]
 pub struct Run<'a> {
-    pub name: &'a str,
-    pub words: &'a [String],
+    pub line: &'a str,
     pub given: &'a str,
     pub expected: &'a str,
 }
@@ -45,30 +44,23 @@ pub fn is_program(name: &str) -> bool {
 ///
 /// `Fault::Line` if a line is not understood; `Fault::Device` if a file cannot be written, read or removed; `Fault::Memory`.
 pub fn miss_of<R: Threads + Files + Sync>(
-    rt: &R,
-    alloc: Global,
+    trial: &Trial<'_, R>,
     run: &Run<'_>,
-    pictures: &[Picture],
 ) -> Result<Option<String>, Fault> {
-    let before = Scene::of_lines(alloc, run.given)?;
-    let after = Scene::of_lines(alloc, run.expected)?;
-    write_files(rt, alloc, before.files.as_slice(), pictures)?;
-    let left = left_by(rt, alloc, run, &before, pictures)?;
-    let miss = compare(rt, alloc, &left, &after, pictures)?;
-    remove_files(rt, before.files.as_slice())?;
-    remove_files(rt, after.files.as_slice())?;
+    let before = Scene::of_lines(trial.alloc, run.given)?;
+    let after = Scene::of_lines(trial.alloc, run.expected)?;
+    write_files(trial, before.files.as_slice())?;
+    let left = left_by(trial, run.line, &before)?;
+    let miss = compare(trial, &left, &after)?;
+    remove_files(trial.rt, before.files.as_slice())?;
+    remove_files(trial.rt, after.files.as_slice())?;
     Ok(miss)
 }
 
-fn write_files<R: Files>(
-    rt: &R,
-    alloc: Global,
-    files: &[Content],
-    pictures: &[Picture],
-) -> Result<(), Fault> {
+fn write_files<R: Files>(trial: &Trial<'_, R>, files: &[Content]) -> Result<(), Fault> {
     for file in files {
-        let bytes = file.bytes(alloc, pictures)?;
-        done(write_file(rt, file.name.as_str(), bytes.as_slice()))?;
+        let bytes = file.bytes(trial.alloc, trial.pictures)?;
+        done(write_file(trial.rt, file.name.as_str(), bytes.as_slice()))?;
     }
     Ok(())
 }
@@ -95,66 +87,64 @@ fn remove_files<R: Files>(rt: &R, files: &[Content]) -> Result<(), Fault> {
 }
 
 fn left_by<R: Threads + Files + Sync>(
-    rt: &R,
-    alloc: Global,
-    run: &Run<'_>,
+    trial: &Trial<'_, R>,
+    line: &str,
     before: &Scene,
-    pictures: &[Picture],
 ) -> Result<Left, Fault> {
     if before.stream.is_there {
-        let bytes = before.stream.bytes(alloc, pictures)?;
-        let mut reader = bytes.as_slice();
-        return Ok(call(rt, alloc, run, &mut reader));
+        let bytes = before.stream.bytes(trial.alloc, trial.pictures)?;
+        return Ok(call(trial, line, &mut bytes.as_slice())?);
     }
-    let mut reader = Stream::new(Vec::new(alloc), 0, Trouble::Broken);
-    let mut left = call(rt, alloc, run, &mut reader);
+    let mut reader = Stream::new(Vec::new(trial.alloc), 0, Trouble::Broken);
+    let mut left = call(trial, line, &mut reader)?;
     if reader.calls > 0 {
         left.errors.extend_from_slice(b"standard input was read\n")?;
     }
     Ok(left)
 }
 
+/// The words of a line behind the first one.
+fn words_of(alloc: Global, line: &str) -> Result<Vec<String>, AllocError> {
+    let mut words = Vec::new(alloc);
+    for word in line.split(' ').skip(1) {
+        words.push(String::from_str(alloc, word)?)?;
+    }
+    Ok(words)
+}
+
 fn call<T: Threads + Files + Sync, R: Read>(
-    rt: &T,
-    alloc: Global,
-    run: &Run<'_>,
+    trial: &Trial<'_, T>,
+    line: &str,
     reader: &mut R,
-) -> Left {
+) -> Result<Left, AllocError> {
+    let (rt, alloc) = (trial.rt, trial.alloc);
+    let words = words_of(alloc, line)?;
+    let words = words.as_slice();
     let (mut out, mut errors) = (Vec::new(alloc), Vec::new(alloc));
-    let status = if run.name == "g1pause" {
-        g1pause_cli::program(rt, alloc, run.words, reader, &mut out, &mut errors)
+    let status = if line.starts_with("g1pause") {
+        g1pause_cli::program(rt, alloc, words, reader, &mut out, &mut errors)
     } else {
-        let is_at_terminal = run.name == "g1heap_at_terminal";
+        let is_at_terminal = line.starts_with("g1heap_at_terminal");
         let terminals = Terminals {
             input: is_at_terminal,
             output: is_at_terminal,
         };
-        g1heap_cli::program(
-            rt,
-            alloc,
-            run.words,
-            terminals,
-            reader,
-            &mut out,
-            &mut errors,
-        )
+        g1heap_cli::program(rt, alloc, words, terminals, reader, &mut out, &mut errors)
     };
-    Left {
+    Ok(Left {
         status,
         out,
         errors,
-    }
+    })
 }
 
 /// What was left, as lines, if it is not what has to be.
 fn compare<R: Files>(
-    rt: &R,
-    alloc: Global,
+    trial: &Trial<'_, R>,
     left: &Left,
     after: &Scene,
-    pictures: &[Picture],
 ) -> Result<Option<String>, Fault> {
-    let wanted = after.stream.bytes(alloc, pictures)?;
+    let wanted = after.stream.bytes(trial.alloc, trial.pictures)?;
     let errors = after.errors.as_slice();
     let is_told = if after.is_usage {
         left.errors.starts_with(b"error: ")
@@ -162,25 +152,20 @@ fn compare<R: Files>(
         fits(left.errors.as_slice(), errors)
     };
     if left.status != after.status || !is_told || !fits(left.out.as_slice(), wanted.as_slice()) {
-        return Ok(Some(left_text(alloc, left)?));
+        return Ok(Some(left_text(trial.alloc, left)?));
     }
     for file in after.files.iter() {
-        if !is_as_expected(rt, alloc, file, pictures)? {
+        if !is_as_expected(trial, file)? {
             let name = file.name.as_str();
-            return Ok(Some(format!(in alloc; "the file {name} is another one\n")?));
+            return Ok(Some(format!(in trial.alloc; "the file {name} is another one\n")?));
         }
     }
     Ok(None)
 }
 
-fn is_as_expected<R: Files>(
-    rt: &R,
-    alloc: Global,
-    file: &Content,
-    pictures: &[Picture],
-) -> Result<bool, Fault> {
-    let wanted = file.bytes(alloc, pictures)?;
-    match read_file(rt, alloc, file.name.as_str()) {
+fn is_as_expected<R: Files>(trial: &Trial<'_, R>, file: &Content) -> Result<bool, Fault> {
+    let wanted = file.bytes(trial.alloc, trial.pictures)?;
+    match read_file(trial.rt, trial.alloc, file.name.as_str()) {
         Ok(bytes) => Ok(file.is_there && bytes.as_slice() == wanted.as_slice()),
         Err(_) => Ok(!file.is_there),
     }
@@ -197,8 +182,8 @@ fn left_text(alloc: Global, left: &Left) -> Result<String, AllocError> {
     let mut text = String::new(alloc);
     let status = left.status;
     write!(text, "it left status {status}, standard error\n")?;
-    crate::rows::push_shown(&mut text, left.errors.as_slice())?;
+    push_shown(&mut text, left.errors.as_slice())?;
     text.push_str("and standard output\n")?;
-    crate::rows::push_shown(&mut text, left.out.as_slice())?;
+    push_shown(&mut text, left.out.as_slice())?;
     Ok(text)
 }

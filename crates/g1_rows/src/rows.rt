@@ -12,38 +12,24 @@
 //! In a row each further line that begins with `#` is a remark too. `CALL,CALL` stands for two calls that
 //! have to return the same, `workers 1 8` for few and for many workers, and `chunk 1 64` for small and for
 //! large chunks: all of them are tried.
+use crate::calling::answer;
+use crate::given::Given;
 use crate::parts::{Picture, join, parts_of, trace_of};
 use crate::program_rows;
-use crate::subject::{are_options, copy_words, numbers_of};
-use crate::trying::{Call, answer};
+use crate::verdicts::Verdicts;
+use g1_testing::is_refusal;
 use g1_words::Fault;
 use std::alloc::{AllocError, Global};
 use std::rt::Files;
 use std::thread::Threads;
 
-/// What came of the rows, as lines, and how many are so.
+/// What rows are tried with: the images that they name, and whether a script refuses their calls memory.
 #[derive(Drop)]
-pub struct Verdicts {
-    pub text: String,
-    good: u64,
-    bad: u64,
-}
-
-impl Verdicts {
-    /// Whether there are rows, and each of them is so.
-    pub fn are_good(&self) -> bool {
-        self.good > 0 && self.bad == 0
-    }
-
-    fn pass(&mut self, shows: &str) -> Result<(), AllocError> {
-        self.good = self.good.saturating_add(1);
-        write!(self.text, "ok: {shows}\n")
-    }
-
-    fn fail(&mut self, shows: &str, why: &str) -> Result<(), AllocError> {
-        self.bad = self.bad.saturating_add(1);
-        write!(self.text, "FAILED: {shows}\n{why}")
-    }
+pub struct Trial<'a, R> {
+    pub rt: &'a R,
+    pub alloc: Global,
+    pub pictures: &'a [Picture],
+    is_refused: bool,
 }
 
 /// A row whose lines were understood.
@@ -53,11 +39,10 @@ struct Row {
     cases: Vec<Case>,
 }
 
-/// The options of a row's calls, what they are given, and what they have to return.
+/// What a row's calls are given, and what they have to return.
 #[derive(Drop)]
 struct Case {
-    options: Vec<String>,
-    parts: Vec<Vec<u8>>,
+    given: Given,
     expected: Vec<u8>,
 }
 
@@ -66,21 +51,22 @@ pub fn judge<R: Threads + Files + Sync>(
     rt: &R,
     alloc: Global,
     text: &str,
+    is_refused: bool,
 ) -> Result<Verdicts, AllocError> {
-    let mut verdicts = Verdicts {
-        text: String::new(alloc),
-        good: 0,
-        bad: 0,
-    };
+    let mut verdicts = Verdicts::new(alloc);
     let pictures = draw_all(alloc, text, &mut verdicts)?;
+    let trial = Trial {
+        rt,
+        alloc,
+        pictures: pictures.as_slice(),
+        is_refused,
+    };
     for block in text.split("\n\n") {
         let block = block.trim_matches('\n');
         if !is_remark(block) && !block.starts_with("image ") {
-            judge_row(rt, alloc, block, pictures.as_slice(), &mut verdicts)?;
+            judge_row(&trial, block, &mut verdicts)?;
         }
     }
-    let (good, bad) = (verdicts.good, verdicts.bad);
-    write!(verdicts.text, "{good} ok, {bad} failed\n")?;
     Ok(verdicts)
 }
 
@@ -126,21 +112,16 @@ fn draw(alloc: Global, block: &str, pictures: &[Picture]) -> Result<Picture, Fau
 }
 
 fn first_line(block: &str) -> &str {
-    match block.split_once('\n') {
-        Some((first, _)) => first,
-        None => block,
-    }
+    block.split_once('\n').unwrap_or((block, "")).0
 }
 
 fn judge_row<R: Threads + Files + Sync>(
-    rt: &R,
-    alloc: Global,
+    trial: &Trial<'_, R>,
     block: &str,
-    pictures: &[Picture],
     verdicts: &mut Verdicts,
 ) -> Result<(), AllocError> {
     let shows = first_line(block).trim_start_matches("# ");
-    match why_not(rt, alloc, block, pictures) {
+    match why_not(trial, block, verdicts) {
         Ok(None) => verdicts.pass(shows),
         Ok(Some(why)) => verdicts.fail(shows, why.as_str()),
         Err(Fault::Memory) => Err(AllocError),
@@ -150,81 +131,106 @@ fn judge_row<R: Threads + Files + Sync>(
 
 /// What a call of a row returned, if it is not what the row expects.
 fn why_not<R: Threads + Files + Sync>(
-    rt: &R,
-    alloc: Global,
+    trial: &Trial<'_, R>,
     block: &str,
-    pictures: &[Picture],
+    verdicts: &mut Verdicts,
 ) -> Result<Option<String>, Fault> {
     if !block.starts_with("# ") {
         return Err(Fault::Line(0));
     }
-    let body = without_remarks(alloc, block)?;
+    let body = without_remarks(trial.alloc, block)?;
     if program_rows::is_run(body.as_str()) {
-        return program_rows::first_miss(rt, alloc, body.as_str(), pictures);
+        return program_rows::first_miss(trial, body.as_str());
     }
-    let row = row_of(alloc, body.as_str(), pictures)?;
+    let row = row_of(trial, body.as_str())?;
     for name in row.calls.as_str().split(',') {
-        if let Some(miss) = first_miss(rt, alloc, name, row.cases.as_slice())? {
-            return Ok(Some(miss));
+        for case in &row.cases {
+            if let Some(miss) = miss_of(trial, name, case, verdicts)? {
+                return Ok(Some(miss));
+            }
         }
     }
     Ok(None)
 }
 
-fn first_miss<R: Threads + Sync>(
-    rt: &R,
-    alloc: Global,
-    name: &str,
-    cases: &[Case],
-) -> Result<Option<String>, AllocError> {
-    for case in cases {
-        if let Some(miss) = miss_of(rt, alloc, name, case)? {
-            return Ok(Some(miss));
-        }
-    }
-    Ok(None)
-}
-
-/// What a call returned to the first team to which it is not what the case expects.
+/// What a call returned to the first team to which it is not what the case expects. A team is how many workers there are,
+/// and the size of a chunk: each with each.
 fn miss_of<R: Threads + Sync>(
-    rt: &R,
-    alloc: Global,
+    trial: &Trial<'_, R>,
     name: &str,
     case: &Case,
+    verdicts: &mut Verdicts,
 ) -> Result<Option<String>, AllocError> {
-    let call = Call {
-        name,
-        options: case.options.as_slice(),
-        parts: case.parts.as_slice(),
-    };
-    for (workers, chunk) in teams_of(alloc, call.options)? {
-        let found = answer(rt, alloc, &call, workers, chunk, false)?;
-        if found.as_slice() != case.expected.as_slice() {
-            return Ok(Some(miss_text(alloc, &call, workers, chunk, &found, &case.expected)?));
+    for workers in one_at_least(case.given.numbers("workers"), &[1]) {
+        for chunk in one_at_least(case.given.numbers("chunk"), &[64]) {
+            let miss = miss_of_team(trial, name, case, (*workers, *chunk), verdicts)?;
+            if miss.is_some() {
+                return Ok(miss);
+            }
         }
     }
     Ok(None)
+}
+
+fn one_at_least<'a>(numbers: &'a [u64], other: &'a [u64]) -> &'a [u64] {
+    if numbers.is_empty() { other } else { numbers }
+}
+
+/// No call asks for memory more often in one run.
+const MOST_RUNS: u32 = 1_000_000;
+
+/// What a call returned to a team, if it is not what the case expects. If requests are refused, all from the Nth on are, and
+/// then the Nth alone, for N from 1 until a run meets no refusal; before that none is.
+fn miss_of_team<R: Threads + Sync>(
+    trial: &Trial<'_, R>,
+    name: &str,
+    case: &Case,
+    team: (u64, u64),
+    verdicts: &mut Verdicts,
+) -> Result<Option<String>, AllocError> {
+    let mut rounds = if trial.is_refused { 3 } else { 1 };
+    for _run in 0..MOST_RUNS {
+        let found = answer(trial.rt, trial.alloc, name, &case.given, team)?;
+        let is_same = found.bytes.as_slice() == case.expected.as_slice();
+        let is_memory = found.is_refused
+            && is_refusal(
+                trial.alloc,
+                name,
+                &found.bytes,
+                &case.expected,
+                case.given.part(0),
+            )?;
+        if !is_same && !is_memory {
+            return Ok(Some(miss_text(trial.alloc, name, case, team, &found.bytes)?));
+        }
+        if trial.is_refused {
+            verdicts.count(trial.alloc, name, found.is_refused, !is_same)?;
+        }
+        rounds -= u32::from(!found.is_refused);
+        if rounds == 0 {
+            return Ok(None);
+        }
+    }
+    Ok(Some(String::from_str(trial.alloc, "its runs do not end\n")?))
 }
 
 fn miss_text(
     alloc: Global,
-    call: &Call<'_>,
-    workers: u64,
-    chunk: u64,
+    name: &str,
+    case: &Case,
+    team: (u64, u64),
     found: &[u8],
-    expected: &[u8],
 ) -> Result<String, AllocError> {
-    let mut miss = String::from_str(alloc, call.name)?;
-    for option in call.options {
-        write!(miss, " {option}")?;
-    }
+    let mut miss = String::from_str(alloc, name)?;
+    case.given.push_shown(&mut miss)?;
+    let (workers, chunk) = team;
     write!(
         miss,
         "\nby {workers} workers in chunks of {chunk} it returned\n"
     )?;
     push_shown(&mut miss, found)?;
     miss.push_str("in place of\n")?;
-    push_shown(&mut miss, expected)?;
+    push_shown(&mut miss, &case.expected)?;
     Ok(miss)
 }
 
@@ -248,37 +254,6 @@ fn push_digits(text: &mut String, bytes: &[u8]) -> Result<(), AllocError> {
     text.push_str("\n")
 }
 
-/// How many workers the calls of a row are given, and chunks of which size: each with each.
-fn teams_of(alloc: Global, options: &[String]) -> Result<Vec<(u64, u64)>, AllocError> {
-    let workers = numbers_of(alloc, options, "workers")?;
-    let chunks = numbers_of(alloc, options, "chunk")?;
-    let mut teams = Vec::new(alloc);
-    for workers in one_at_least(workers.as_slice(), &[1]) {
-        for chunk in one_at_least(chunks.as_slice(), &[64]) {
-            teams.push((*workers, *chunk))?;
-        }
-    }
-    Ok(teams)
-}
-
-fn one_at_least<'a>(numbers: &'a [u64], other: &'a [u64]) -> &'a [u64] {
-    if numbers.is_empty() { other } else { numbers }
-}
-
-/// The row of a block's lines, of which none is a remark.
-///
-/// # Errors
-///
-/// `Fault::Line` if it is not understood; `Fault::Memory`.
-fn row_of(alloc: Global, body: &str, pictures: &[Picture]) -> Result<Row, Fault> {
-    let Some((call, rest)) = body.split_once('\n') else {
-        return Err(Fault::Line(0));
-    };
-    let (calls, options) = words_of(alloc, call)?;
-    let cases = cases_of(alloc, options, rest, pictures)?;
-    Ok(Row { calls, cases })
-}
-
 fn without_remarks(alloc: Global, block: &str) -> Result<String, AllocError> {
     let mut body = String::new(alloc);
     for line in block.split('\n') {
@@ -290,113 +265,99 @@ fn without_remarks(alloc: Global, block: &str) -> Result<String, AllocError> {
     Ok(body)
 }
 
-/// The first word of a line, and the others.
-pub fn words_of(alloc: Global, line: &str) -> Result<(String, Vec<String>), AllocError> {
-    let (first, rest) = line.split_once(' ').unwrap_or((line, ""));
-    let mut others = Vec::new(alloc);
-    if !rest.is_empty() {
-        push_words(alloc, &mut others, rest)?;
+/// The row of a block's lines, of which none is a remark.
+///
+/// # Errors
+///
+/// `Fault::Line` if it is not understood; `Fault::Memory`.
+fn row_of<R>(trial: &Trial<'_, R>, body: &str) -> Result<Row, Fault> {
+    let Some((call, rest)) = body.split_once('\n') else {
+        return Err(Fault::Line(0));
+    };
+    let (name, options) = call.split_once(' ').unwrap_or((call, ""));
+    let mut given = Given::new(trial.alloc);
+    if !options.is_empty() {
+        given.push_words(trial.alloc, options)?;
     }
-    Ok((String::from_str(alloc, first)?, others))
+    let calls = String::from_str(trial.alloc, name)?;
+    let cases = cases_of(trial, &given, rest)?;
+    Ok(Row { calls, cases })
 }
 
 /// The cases of a row with these options, out of the lines below its call.
-fn cases_of(
-    alloc: Global,
-    options: Vec<String>,
-    rest: &str,
-    pictures: &[Picture],
-) -> Result<Vec<Case>, Fault> {
-    let mut cases = Vec::new(alloc);
+fn cases_of<R>(trial: &Trial<'_, R>, options: &Given, rest: &str) -> Result<Vec<Case>, Fault> {
+    let mut cases = Vec::new(trial.alloc);
     if let Some(lines) = rest.strip_prefix("trace\n") {
-        let (commands, expected) = trace_of(alloc, lines)?;
-        let mut parts = Vec::new(alloc);
-        parts.push(commands)?;
-        cases.push(case_of(options, parts, expected)?)?;
+        cases.push(trace_case(trial.alloc, options, lines)?)?;
         return Ok(cases);
     }
-    let Some((given, expected)) = rest.split_once("----\n") else {
+    let Some((lines, expected)) = rest.split_once("----\n") else {
         return Err(Fault::Line(0));
     };
-    let parts = parts_of(alloc, given, pictures)?;
+    let parts = parts_of(trial.alloc, lines, trial.pictures)?;
     if !expected.contains(" => ") {
-        let expected = expected_of(alloc, expected, &parts, pictures)?;
-        cases.push(case_of(options, parts, expected)?)?;
+        cases.push(case_of(trial, options, parts.as_slice(), expected)?)?;
         return Ok(cases);
     }
     for line in expected.trim_end_matches('\n').split('\n') {
-        cases.push(line_case(alloc, &options, line, &parts, pictures)?)?;
+        cases.push(line_case(trial, options, parts.as_slice(), line)?)?;
     }
     Ok(cases)
 }
 
-/// A case whose options are known, and which expects something.
-fn case_of(options: Vec<String>, parts: Vec<Vec<u8>>, expected: Vec<u8>) -> Result<Case, Fault> {
-    if expected.is_empty() || !are_options(options.as_slice()) {
-        return Err(Fault::Line(0));
-    }
-    Ok(Case {
-        options,
-        parts,
-        expected,
-    })
+/// The case of the lines of a trace.
+fn trace_case(alloc: Global, options: &Given, lines: &str) -> Result<Case, Fault> {
+    let (commands, expected) = trace_of(alloc, lines)?;
+    let mut given = options.copy(alloc)?;
+    given.parts.push(commands)?;
+    Ok(Case { given, expected })
+}
+
+/// The case of these options and parts.
+fn case_of<R>(
+    trial: &Trial<'_, R>,
+    options: &Given,
+    parts: &[Vec<u8>],
+    expected: &str,
+) -> Result<Case, Fault> {
+    let mut given = options.copy(trial.alloc)?;
+    given.push_parts(trial.alloc, parts)?;
+    let expected = expected_of(trial, expected, &given)?;
+    Ok(Case { given, expected })
 }
 
 /// The case of a line `OPTION .. => ANSWER` or `text TEXT => ANSWER`.
-fn line_case(
-    alloc: Global,
-    options: &[String],
-    line: &str,
+fn line_case<R>(
+    trial: &Trial<'_, R>,
+    options: &Given,
     parts: &[Vec<u8>],
-    pictures: &[Picture],
+    line: &str,
 ) -> Result<Case, Fault> {
     let Some((left, right)) = line.split_once(" => ") else {
         return Err(Fault::Line(0));
     };
-    let mut own = copy_words(alloc, options)?;
-    let mut given = Vec::new(alloc);
     if left.starts_with("text ") {
-        given = parts_of(alloc, left, pictures)?;
-    } else {
-        push_words(alloc, &mut own, left)?;
-        push_parts(alloc, &mut given, parts)?;
+        let parts = parts_of(trial.alloc, left, trial.pictures)?;
+        return case_of(trial, options, parts.as_slice(), right);
     }
-    let expected = expected_of(alloc, right, &given, pictures)?;
-    case_of(own, given, expected)
+    let mut options = options.copy(trial.alloc)?;
+    options.push_words(trial.alloc, left)?;
+    case_of(trial, &options, parts, right)
 }
 
-/// The bytes of an answer.
-fn expected_of(
-    alloc: Global,
-    lines: &str,
-    given: &[Vec<u8>],
-    pictures: &[Picture],
-) -> Result<Vec<u8>, Fault> {
-    let mut parts = Vec::new(alloc);
-    for part in parts_of(alloc, lines, pictures)? {
+/// The bytes of an answer. There are some.
+fn expected_of<R>(trial: &Trial<'_, R>, lines: &str, given: &Given) -> Result<Vec<u8>, Fault> {
+    let mut expected = Vec::new(trial.alloc);
+    for part in parts_of(trial.alloc, lines, trial.pictures)? {
         if part.as_slice() == b"given\n".as_slice() {
-            push_parts(alloc, &mut parts, given)?;
+            let same = join(trial.alloc, given.parts.as_slice())?;
+            expected.extend_from_slice(same.as_slice())?;
         } else {
-            parts.push(part)?;
+            expected.extend_from_slice(part.as_slice())?;
         }
     }
-    Ok(join(alloc, parts.as_slice())?)
-}
-
-fn push_parts(
-    alloc: Global,
-    parts: &mut Vec<Vec<u8>>,
-    others: &[Vec<u8>],
-) -> Result<(), AllocError> {
-    for other in others {
-        parts.push(other.to_vec(alloc)?)?;
+    if expected.is_empty() {
+        return Err(Fault::Line(0));
     }
-    Ok(())
-}
-
-pub fn push_words(alloc: Global, words: &mut Vec<String>, line: &str) -> Result<(), AllocError> {
-    for word in line.split(' ') {
-        words.push(String::from_str(alloc, word)?)?;
-    }
-    Ok(())
+    Ok(expected)
 }

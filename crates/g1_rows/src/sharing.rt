@@ -1,120 +1,57 @@
-//! Words that threads share.
-ghost use Rattle.std.specs.Prelude.{◌≡◌, ◌<◌, ◌≤◌};
-ghost use Rattle.g1_claim.specs.Claims.{IsSeatOf as IsClaimSeat};
-ghost use Rattle.g1_work.specs.Dealer.{IsSeatOf as IsSeat};
-
-use crate::subject::Subject;
+//! Words that threads share, and work that they share.
+use crate::calling::Call;
 use crate::watch::Watch;
-use g1_claim::{ClaimSeat, Claims};
+use g1_claim::Claims;
 use g1_words::Fault;
-use g1_work::{DealSeat, Dealer, Open, Task, each_chunk};
-use std::alloc::Global;
+use g1_work::{Dealer, Fill, Open, Task, each_chunk, each_region_mut};
 use std::thread::Threads;
 
-pub fn run<R: Threads + Sync>(
-    rt: &R,
-    alloc: Global,
-    subject: &Subject,
-    watch: &mut Watch,
-) -> Result<(), Fault> {
-    dealt(alloc, watch)?;
-    claimed(alloc, watch)?;
-    shared(rt, alloc, subject.settings.workers(), watch)
-}
-
-/// A dealer of one chunk, and two seats.
-fn dealt(alloc: Global, watch: &mut Watch) -> Result<(), Fault> {
-    watch.at("dealer_new");
-    let (dealer, mut seat) = Dealer::new(alloc, 1)?;
-    watch.numbers(&[u64::from(g1_work::shares(&seat))]);
-    dealt_to_two(&dealer, &mut seat, watch);
-    watch.at("dealer_close");
-    let cursor = dealer.close(seat);
-    watch.numbers(&[cursor]);
-    Ok(())
-}
-
-/// The seat gives a share to another, takes two times, and has its share back.
-fn dealt_to_two(dealer: &Dealer, seat: &mut DealSeat, watch: &mut Watch)
-    requires seat { IsSeat dealer.now seat.old }
-    requires whole { seat.old.shares ≡ 64 }
-    ensures seat { IsSeat dealer.now seat.new }
-    ensures whole { seat.new.shares ≡ 64 }
-{
-    watch.at("dealer_split");
-    let mut other = dealer.split(seat);
-    watch.numbers(&[
-        u64::from(g1_work::shares(seat)),
-        u64::from(g1_work::shares(&other)),
-    ]);
-    take(dealer, seat, watch);
-    take(dealer, seat, watch);
-    watch.at("drawn");
+/// A dealer of one chunk: the shares of its seat, those of that and of another one, and when it has its share back;
+/// whether the first draw gives the chunk and the second none; how many the other seat sees drawn; and the cursor.
+pub fn deal<R>(call: &Call<'_, R>, watch: &mut Watch) -> Result<(), Fault> {
+    watch.at("deal");
+    let (dealer, mut seat) = Dealer::new(call.alloc, 1)?;
+    let whole = g1_work::shares(&seat);
+    let mut other = dealer.split(&mut seat);
+    let parts = [g1_work::shares(&seat), g1_work::shares(&other)];
+    let first = dealer.take(&mut seat);
+    let second = dealer.take(&mut seat);
     let drawn = dealer.drawn(&mut other);
-    watch.numbers(&[drawn]);
-    watch.at("dealer_join");
-    dealer.join(seat, other);
-    watch.numbers(&[u64::from(g1_work::shares(seat))]);
-}
-
-/// What `take` answers. The seat keeps its dealer and its shares: no more of it is needed here.
-fn take(dealer: &Dealer, seat: &mut DealSeat, watch: &mut Watch)
-    requires { IsSeat dealer.now seat.old }
-    ensures seat { IsSeat dealer.now seat.new }
-    ensures shares { seat.new.shares ≡ seat.old.shares }
-{
-    watch.at("take");
-    let number = dealer.take(seat).unwrap_or(u64::MAX);
-    watch.numbers(&[number]);
-}
-
-/// A claim word, and two seats.
-fn claimed(alloc: Global, watch: &mut Watch) -> Result<(), Fault> {
-    watch.at("claims_new");
-    let (claims, mut seat) = Claims::new(alloc, 2)?;
-    watch.numbers(&[u64::from(g1_claim::shares(&seat))]);
-    claimed_by_two(&claims, &mut seat, watch);
-    watch.at("claims_close");
-    let words = claims.close(seat);
-    watch.numbers(words.as_slice());
+    dealer.join(&mut seat, other);
+    let joined = g1_work::shares(&seat);
+    let cursor = dealer.close(seat);
+    if watch.is_over() {
+        watch.list(&[whole, parts[0], parts[1], joined]);
+        watch.list(&[
+            u64::from(first == Some(0)),
+            u64::from(second.is_none()),
+            drawn,
+            cursor,
+        ]);
+    }
     Ok(())
 }
 
-/// The seat gives a share to another, offers two ranks, and has its share back.
-fn claimed_by_two(claims: &Claims, seat: &mut ClaimSeat, watch: &mut Watch)
-    requires seat { IsClaimSeat claims.now seat.old }
-    requires whole { seat.old.hand.shares ≡ 64 }
-    requires places { 0 < claims.now.places }
-    ensures seat { IsClaimSeat claims.now seat.new }
-    ensures whole { seat.new.hand.shares ≡ 64 }
-{
-    watch.at("claims_split");
-    let mut other = claims.split(seat);
-    watch.numbers(&[
-        u64::from(g1_claim::shares(seat)),
-        u64::from(g1_claim::shares(&other)),
-    ]);
-    offer(claims, seat, 9, watch);
-    offer(claims, seat, 12, watch);
-    watch.at("least");
+/// A table of two claim words: the shares of its seat; those of that and of another one, and when it has its share back;
+/// whether either of two ranks lowers the first word; what the other seat sees there; and the words.
+pub fn claim<R>(call: &Call<'_, R>, watch: &mut Watch) -> Result<(), Fault> {
+    watch.at("claim");
+    let (claims, mut seat) = Claims::new(call.alloc, 2)?;
+    let whole = g1_claim::shares(&seat);
+    let mut other = claims.split(&mut seat);
+    let parts = [g1_claim::shares(&seat), g1_claim::shares(&other)];
+    let first = claims.offer(&mut seat, 0, 9);
+    let second = claims.offer(&mut seat, 0, 12);
     let least = claims.least(&mut other, 0);
-    watch.numbers(&[least]);
-    watch.at("claims_join");
-    claims.join(seat, other);
-    watch.numbers(&[u64::from(g1_claim::shares(seat))]);
-}
-
-/// What `offer` answers, as 0 or 1. The seat keeps its table and its shares.
-fn offer(claims: &Claims, seat: &mut ClaimSeat, rank: u64, watch: &mut Watch)
-    requires seat { IsClaimSeat claims.now seat.old }
-    requires places { 0 < claims.now.places }
-    requires rank { rank < 16 }
-    ensures seat { IsClaimSeat claims.now seat.new }
-    ensures shares { seat.new.hand.shares ≡ seat.old.hand.shares }
-{
-    watch.at("offer");
-    let lowered = claims.offer(seat, 0, rank);
-    watch.numbers(&[u64::from(lowered)]);
+    claims.join(&mut seat, other);
+    let joined = g1_claim::shares(&seat);
+    let words = claims.close(seat);
+    if watch.is_over() {
+        watch.list(&[whole, parts[0], parts[1], joined]);
+        watch.list(&[u64::from(first), u64::from(second), least]);
+        watch.list(words.as_slice());
+    }
+    Ok(())
 }
 
 /// Gives the square of its chunk.
@@ -136,18 +73,40 @@ impl Task for Squares {
     }
 }
 
-/// Nine chunks.
-fn shared<R: Threads + Sync>(
-    rt: &R,
-    alloc: Global,
-    workers: u64,
-    watch: &mut Watch,
-) -> Result<(), Fault>
-    requires { (0 < workers) × (workers ≤ 64) }
-{
-    let states = vec![in alloc; (); workers as usize]?;
+/// The squares of this many chunks.
+pub fn square<R: Threads + Sync>(call: &Call<'_, R>, watch: &mut Watch) -> Result<(), Fault> {
+    let states = vec![in call.alloc; (); call.settings.workers() as usize]?;
+    let chunks = call.given.first("count", 0).min(1_000);
     watch.at("each_chunk");
-    let (_, outs) = each_chunk(rt, alloc, states, 9, &Squares, &Open)?;
+    let (_, outs) = each_chunk(call.rt, call.alloc, states, chunks, &Squares, &Open)?;
     watch.numbers(outs.as_slice());
     Ok(())
+}
+
+/// Writes a region's number over its words.
+struct Numbers;
+
+impl Fill for Numbers {
+    ghost ready = { λ _ _ _. Unit {0} };
+
+    ghost fills = { λ _ _ _ _. Unit {0} };
+
+    fn fill(&self, region: usize, words: &mut [u64]) {
+        words.fill(region as u64);
+    }
+}
+
+/// Seven regions of two words.
+pub fn number<R: Threads + Sync>(call: &Call<'_, R>, watch: &mut Watch) {
+    let mut words = [9; 14];
+    watch.at("each_region_mut");
+    each_region_mut(
+        call.rt,
+        call.settings.workers(),
+        &mut words,
+        2,
+        &Numbers,
+        &Open,
+    );
+    watch.numbers(&words);
 }

@@ -1,15 +1,27 @@
-//! Which call is watched, and what is printed of it.
+//! Which call is watched, and what it returned.
 //!
 //! A list is a line of numbers with a space between them, or `-` if it is empty. An image is its bytes.
+//!
+//! `tools/refuse_calls.py` places a library before the allocator. Requests of sizes that nothing else makes show it where
+//! the watched call begins and ends, and where a run of it ends. It refuses the request of the end if it refused another
+//! one in that run.
 use g1_image::{Image, encode};
 use g1_words::Fault;
 use std::alloc::{AllocError, Global};
+use std::fmt::Display;
 
-/// Requests for memory of these sizes show the script's library where the watched call begins and
-/// ends; it refuses neither.
 const BEGIN: usize = 7_000_003;
 
 const END: usize = 7_000_033;
+
+const END_OF_RUN: usize = 7_000_061;
+
+/// What a watched call returned, as bytes, and whether it was refused memory.
+#[derive(Drop)]
+pub struct Answer {
+    pub bytes: Vec<u8>,
+    pub is_refused: bool,
+}
 
 /// The call that is watched, whether it is under way, and what is printed of it.
 #[derive(Drop)]
@@ -17,179 +29,116 @@ pub struct Watch {
     alloc: Global,
     call: String,
     on: bool,
-    // Whether the beginning and the end of the call are marked, for a script that refuses it memory.
-    marked: bool,
     // Whether the next image is what the call returned.
     owed: bool,
     // Whether there was no memory for something that was to be printed: nothing is printed after it.
     lost: bool,
-    text: Vec<u8>,
+    bytes: Vec<u8>,
     // What was asked for last as a sign: it is kept, so that no compiler takes the request for idle.
     sign: Vec<u8>,
 }
 
 impl Watch {
-    /// Watches the call of this name, and marks where it begins and ends if that is asked for.
-    pub fn new(alloc: Global, call: &str, marked: bool) -> Result<Watch, AllocError> {
+    /// Watches the call of this name.
+    pub fn new(alloc: Global, call: &str) -> Result<Watch, AllocError> {
         Ok(Watch {
             alloc,
             call: String::from_str(alloc, call)?,
             on: false,
-            marked,
             owed: false,
             lost: false,
-            text: Vec::new(alloc),
+            bytes: Vec::new(alloc),
             sign: Vec::new(alloc),
         })
-    }
-
-    /// Whether it is one of these calls.
-    pub fn is_of(&self, calls: &[&str]) -> bool {
-        calls.iter().any(|call| self.call.as_str() == *call)
     }
 
     /// The call of this name comes next.
     pub fn at(&mut self, call: &str) {
         if self.call.as_str() == call && !self.lost {
             self.on = true;
-            self.mark();
+            self.lost = !self.signal(BEGIN);
         }
     }
 
     /// The call is over. Returns whether it was the one that is watched.
     pub fn is_over(&mut self) -> bool {
-        let on = self.on && !self.lost;
-        if on {
+        let was_on = self.on && !self.lost;
+        if was_on {
             self.on = false;
-            self.signal(END);
+            self.lost = !self.signal(END);
         }
-        on && !self.lost
+        was_on && !self.lost
     }
 
-    /// All that is printed, a fault that ended the run included.
-    pub fn end(mut self, fault: Option<Fault>) -> Result<Vec<u8>, AllocError> {
-        let fault = if self.lost {
-            Some(Fault::Memory)
-        } else {
-            fault
-        };
+    /// All that was printed, a fault that ended the watched call included.
+    pub fn end(mut self, fault: Option<Fault>) -> Result<Answer, AllocError> {
         if let Some(fault) = fault {
-            self.ended(&fault)?;
-        }
-        let Watch { text, .. } = self;
-        Ok(text)
-    }
-
-    fn mark(&mut self) {
-        if self.marked {
-            self.print(b"watched\n");
-            self.signal(BEGIN);
-        }
-    }
-
-    // A fault ended the run.
-    fn ended(&mut self, fault: &Fault) -> Result<(), AllocError> {
-        if self.on {
-            if self.marked {
-                self.sign = Vec::with_capacity(self.alloc, END)?;
+            if self.is_over() {
+                self.fault(&fault);
             }
-            let line = self.fault_line(fault)?;
-            self.text.extend_from_slice(line.as_bytes())?;
         }
-        Ok(())
+        let is_refused = !self.signal(END_OF_RUN);
+        let Watch { lost, bytes, .. } = self;
+        if lost {
+            return Err(AllocError);
+        }
+        Ok(Answer { bytes, is_refused })
     }
 
-    fn signal(&mut self, size: usize) {
-        if self.lost || !self.marked {
-            return;
-        }
+    /// Asks for memory as a sign. Returns whether it was given.
+    fn signal(&mut self, size: usize) -> bool {
         match Vec::with_capacity(self.alloc, size) {
-            Ok(sign) => self.sign = sign,
-            Err(_) => self.lost = true,
+            Ok(sign) => {
+                self.sign = sign;
+                true
+            }
+            Err(_) => false,
         }
     }
 
     fn print(&mut self, bytes: &[u8]) {
-        if !self.lost && self.text.extend_from_slice(bytes).is_err() {
+        if !self.lost && self.bytes.extend_from_slice(bytes).is_err() {
             self.lost = true;
         }
     }
 
-    // Prints this if there was memory for it.
-    fn print_made(&mut self, text: Result<String, AllocError>) {
+    /// Prints this if there was memory for it.
+    pub fn made(&mut self, text: Result<String, AllocError>) {
         match text {
             Ok(text) => self.print(text.as_bytes()),
             Err(_) => self.lost = true,
         }
     }
 
-    fn fault_line(&self, fault: &Fault) -> Result<String, AllocError> {
-        let number = fault.number();
-        format!(in self.alloc; "fault {number}: {fault}\n")
+    /// The same of bytes.
+    pub fn bytes_made(&mut self, bytes: Result<Vec<u8>, AllocError>) {
+        match bytes {
+            Ok(bytes) => self.print(bytes.as_slice()),
+            Err(_) => self.lost = true,
+        }
     }
 
     pub fn fault(&mut self, fault: &Fault) {
-        let line = self.fault_line(fault);
-        self.print_made(line);
-    }
-
-    // The number at this place of its line.
-    fn number(&mut self, place: usize, number: u64) {
-        let gap = if place == 0 { "" } else { " " };
-        let text = format!(in self.alloc; "{gap}{number}");
-        self.print_made(text);
-    }
-
-    // Ends a line of this many numbers.
-    fn end_list(&mut self, count: usize) {
-        if count == 0 {
-            self.print(b"-");
-        }
-        self.print(b"\n");
-    }
-
-    pub fn line(&mut self, line: &str) {
-        self.print(line.as_bytes());
-        self.print(b"\n");
-    }
-
-    /// A line with this number alone.
-    pub fn value(&mut self, value: u64) {
-        self.list(&[value]);
+        let number = fault.number();
+        let line = format!(in self.alloc; "fault {number}: {fault}\n");
+        self.made(line);
     }
 
     /// A line of these numbers.
-    pub fn list(&mut self, numbers: &[u64]) {
-        for (place, number) in numbers.iter().enumerate() {
-            self.number(place, *number);
-        }
-        self.end_list(numbers.len());
-    }
-
-    /// A line of these regions, or of these cards.
-    pub fn short_list(&mut self, numbers: &[u32]) {
-        for (place, number) in numbers.iter().enumerate() {
-            self.number(place, u64::from(*number));
-        }
-        self.end_list(numbers.len());
+    pub fn list<T: Display>(&mut self, numbers: &[T]) {
+        let line = line_of(self.alloc, numbers);
+        self.made(line);
     }
 
     /// A line of these numbers behind a word.
-    pub fn named(&mut self, name: &str, numbers: &[u64]) {
+    pub fn named<T: Display>(&mut self, name: &str, numbers: &[T]) {
         self.print(name.as_bytes());
         self.print(b" ");
         self.list(numbers);
     }
 
-    /// A line of these regions behind a word.
-    pub fn short_named(&mut self, name: &str, numbers: &[u32]) {
-        self.print(name.as_bytes());
-        self.print(b" ");
-        self.short_list(numbers);
-    }
-
     /// The call returned these numbers.
-    pub fn numbers(&mut self, numbers: &[u64]) {
+    pub fn numbers<T: Display>(&mut self, numbers: &[T]) {
         if self.is_over() {
             self.list(numbers);
         }
@@ -198,22 +147,8 @@ impl Watch {
     /// The call returned these words of a heap: a header as its size and its slots.
     pub fn words(&mut self, words: &[u64]) {
         if self.is_over() {
-            for (place, word) in words.iter().enumerate() {
-                let (size, slots) = (word >> 32, word & 0xFFFF_FFFF);
-                self.number(place, if size == 0 { slots } else { size });
-                if size != 0 {
-                    let text = format!(in self.alloc; "/{slots}");
-                    self.print_made(text);
-                }
-            }
-            self.end_list(words.len());
-        }
-    }
-
-    /// The call returned these regions, or these cards.
-    pub fn regions(&mut self, regions: &[u32]) {
-        if self.is_over() {
-            self.short_list(regions);
+            let line = line_of_words(self.alloc, words);
+            self.made(line);
         }
     }
 
@@ -221,7 +156,7 @@ impl Watch {
     pub fn lists(&mut self, lists: &[Vec<u32>]) {
         if self.is_over() {
             for list in lists {
-                self.short_list(list);
+                self.list(list.as_slice());
             }
         }
     }
@@ -233,15 +168,8 @@ impl Watch {
                 self.list(&[*slot, *word]);
             }
             if pairs.is_empty() {
-                self.end_list(0);
+                self.print(b"-\n");
             }
-        }
-    }
-
-    /// The call returned something that the next image shows.
-    pub fn done(&mut self) {
-        if self.is_over() {
-            self.owed = true;
         }
     }
 
@@ -252,22 +180,29 @@ impl Watch {
         }
     }
 
+    /// The call returned something that the next image shows.
+    pub fn done(&mut self) {
+        if self.is_over() {
+            self.owed = true;
+        }
+    }
+
     /// The call was refused, and handed this image back.
     pub fn refused(&mut self, fault: &Fault, back: &Image) {
         if self.is_over() {
             self.fault(fault);
-            self.shown(back);
+            self.print_image(back);
         }
     }
 
     /// The call returned this image.
     pub fn image(&mut self, image: &Image) {
         if self.is_over() || self.owed {
-            self.shown(image);
+            self.print_image(image);
         }
     }
 
-    fn shown(&mut self, image: &Image) {
+    fn print_image(&mut self, image: &Image) {
         match text_of(self.alloc, image) {
             Ok(bytes) => self.print(bytes.as_slice()),
             Err(_) => self.lost = true,
@@ -278,4 +213,29 @@ impl Watch {
 /// What `encode` promises is not needed here.
 pub fn text_of(alloc: Global, image: &Image) -> Result<Vec<u8>, Fault> {
     encode(alloc, image)
+}
+
+fn line_of<T: Display>(alloc: Global, numbers: &[T]) -> Result<String, AllocError> {
+    let mut line = String::new(alloc);
+    for number in numbers {
+        let gap = if line.is_empty() { "" } else { " " };
+        write!(line, "{gap}{number}")?;
+    }
+    line.push_str(if line.is_empty() { "-\n" } else { "\n" })?;
+    Ok(line)
+}
+
+fn line_of_words(alloc: Global, words: &[u64]) -> Result<String, AllocError> {
+    let mut line = String::new(alloc);
+    for word in words {
+        let (size, slots) = (word >> 32, word & 0xFFFF_FFFF);
+        let gap = if line.is_empty() { "" } else { " " };
+        if size == 0 {
+            write!(line, "{gap}{slots}")?;
+        } else {
+            write!(line, "{gap}{size}/{slots}")?;
+        }
+    }
+    line.push_str(if line.is_empty() { "-\n" } else { "\n" })?;
+    Ok(line)
 }

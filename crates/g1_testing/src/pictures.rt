@@ -18,15 +18,6 @@ pub fn one_object_after() -> &'static str {
      object 4/1 - 7 9"
 }
 
-/// Region 0 is current, its first card is dirty, and a root names its one object.
-pub fn dirty() -> &'static str {
-    "heap 16 4 4 current 0
-     root 0
-     dirty cards 0
-     region 0 ordinary
-     object 2/1 -"
-}
-
 /// The slot at 1 names the object at 16. There are no roots.
 pub fn outside_slot() -> &'static str {
     "heap 16 4 4
@@ -34,25 +25,6 @@ pub fn outside_slot() -> &'static str {
      object 2/1 16
      region 1 ordinary
      remembered 1 cards 0
-     object 3/0 1 2"
-}
-
-/// The slot at 1 names the object at 16, and no set or log holds its card.
-pub fn uncovered() -> &'static str {
-    "heap 16 4 4
-     region 0 ordinary
-     object 2/1 16
-     region 1 ordinary
-     object 3/0 1 2"
-}
-
-/// The same with the slot's card in the log.
-pub fn logged() -> &'static str {
-    "heap 16 4 4
-     dirty cards 0
-     region 0 ordinary
-     object 2/1 16
-     region 1 ordinary
      object 3/0 1 2"
 }
 
@@ -121,31 +93,6 @@ pub fn gap_after() -> &'static str {
      object 4/0 .."
 }
 
-/// Objects of 12, 4 and 1 words in regions 0 and 1, each named by a root.
-pub fn fitted() -> &'static str {
-    "heap 16 4 4
-     root 0
-     root 16
-     root 20
-     region 0 ordinary
-     object 12/0 ..
-     region 1 ordinary
-     object 4/0 ..
-     object 1/0"
-}
-
-/// Objects of 12 and 5 words, each named by a root, a dirty card and one free region.
-pub fn no_room() -> &'static str {
-    "heap 16 4 3
-     root 0
-     root 16
-     dirty cards 0
-     region 0 ordinary
-     object 12/0 ..
-     region 1 ordinary
-     object 5/0 .."
-}
-
 /// Three regions with live and dead objects, and a remembered card that is out of date.
 pub fn three_regions() -> &'static str {
     "heap 16 4 6
@@ -161,60 +108,5 @@ pub fn three_regions() -> &'static str {
      region 2 ordinary
      remembered 2 cards 0
      object 1/0
-     object 1/0"
-}
-
-/// The object at 0 names that at 16, which names it back.
-pub fn mutual() -> &'static str {
-    "heap 16 4 4
-     region 0 ordinary
-     remembered 0 cards 4
-     object 2/1 16
-     region 1 ordinary
-     remembered 1 cards 0
-     object 3/1 0 7"
-}
-
-/// Two humongous objects: nothing names that at 0, and it alone names that at 32.
-pub fn chain() -> &'static str {
-    "heap 16 4 6
-     root 64
-     region 0 humongous
-     object 20/1 32 ..
-     region 2 humongous
-     remembered 2 cards 0
-     object 20/0 ..
-     region 4 ordinary
-     object 2/1 -"
-}
-
-/// A humongous object over three regions that only its slot at 17 names.
-pub fn own_slot() -> &'static str {
-    "heap 16 4 3
-     region 0 humongous
-     remembered 0 cards 4
-     object 40/20 - - - - - - - - - - - - - - - - 0 .."
-}
-
-/// The object at 48 is named by a humongous object alone, which nothing names.
-pub fn unnamed_owner() -> &'static str {
-    "heap 16 4 6
-     region 0 humongous
-     object 40/20 - - - - - - - - - - - - - - - - 48 ..
-     region 3 ordinary
-     remembered 3 cards 4
-     object 2/0 4"
-}
-
-/// No region is free but those of the humongous object, which nothing names.
-pub fn full_of_garbage() -> &'static str {
-    "heap 16 4 4
-     root 32
-     root 48
-     region 0 humongous
-     object 20/0 ..
-     region 2 ordinary
-     object 2/0 5
-     region 3 ordinary
      object 1/0"
 }

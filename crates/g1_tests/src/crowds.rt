@@ -1,45 +1,24 @@
 //! That all workers work at the same time, up to the 64 that there may be.
-ghost use Rattle.std.specs.Prelude.{◌≡◌, ◌<◌, ◌≤◌, ℕ, length, replicate};
+ghost use Rattle.std.specs.Prelude.{◌≡◌, ◌<◌, ◌^◌};
 ghost use Rattle.g1_work.specs.Team.{AreWorkers};
 
-use crate::crowd::Crowd;
-use crate::expecting::expect_equal;
-use g1_choose::Cost;
-use g1_image::{Image, decode, encode};
+use crate::expecting::{UNIT, bytes_after, collecting, expect_equal};
+use crate::gates::Crowd;
+use crate::regions::Numbers;
+use g1_image::decode;
 use g1_mark::live_bytes;
-use g1_pause::{Choice, Settings, evacuate};
-use g1_rem::{Starts, Tracked, image, verify};
+use g1_rem::Starts;
 use g1_testing::Sketch;
 use g1_trace::run_text;
 use g1_words::Fault;
-use g1_work::{Fill, Gate, Part, Task, Team, each_chunk, each_region_mut};
+use g1_work::{Gate, Part, Task, Team, each_chunk, each_region_mut};
 use std::alloc::{AllocError, Global};
 use std::process::Abort;
 use std::test::Fail;
 use std::thread::Threads;
 use std::time::Clock;
 
-const COST: Cost = Cost {
-    fixed: 0,
-    dirty: 1,
-    card: 1,
-    byte: 1,
-};
-
-/// Writes a region's number over its words.
-struct Numbers;
-
-impl Fill for Numbers {
-    ghost ready = { λ _ _ _. Unit {0} };
-
-    ghost fills = { λ _ r xs ys. ys ≡ replicate (length xs) r };
-
-    fn fill(&self, region: usize, words: &mut [u64]) {
-        words.fill(region as u64);
-    }
-}
-
-/// Sees that so many workers fill regions at the same time.
+/// Sees that this many workers fill regions at the same time.
 fn expect_filled<T: Threads + Clock + Abort + Sync>(
     rt: &T,
     alloc: Global,
@@ -61,7 +40,15 @@ fn expect_filled<T: Threads + Clock + Abort + Sync>(
 #[test]
 fn all_workers_fill_regions_at_once(rt: HostRuntime) -> Result<(), Fail> {
     let alloc = rt.alloc();
-    for (workers, regions) in [(5, 5), (9, 64), (17, 17), (33, 100), (64, 64), (64, 1_000)] {
+    for (workers, regions) in [
+        (2, 8),
+        (5, 5),
+        (9, 64),
+        (17, 17),
+        (33, 100),
+        (64, 64),
+        (64, 1_000),
+    ] {
         expect_filled(&rt, alloc, workers, regions)?;
     }
     Ok(())
@@ -86,15 +73,32 @@ impl Task for Same {
     }
 }
 
+/// Sees that this many workers draw chunks at the same time.
+fn expect_drawn<T: Threads + Clock + Abort + Sync>(
+    rt: &T,
+    alloc: Global,
+    workers: u64,
+    chunks: u64,
+) -> Result<(), Fail>
+    requires workers { AreWorkers workers }
+    requires chunks { chunks < 2 ^ 32 }
+{
+    let gate = Crowd::new(rt, Part::Deal, workers);
+    let states = vec![in alloc; (); workers as usize]?;
+    let (_, outs) = each_chunk(rt, alloc, states, chunks, &Same, &gate)?;
+    expect_equal(rt, gate.most(), workers);
+    expect_equal(rt, outs.len() as u64, chunks);
+    Ok(())
+}
+
 #[test]
 fn all_workers_draw_chunks_at_once(rt: HostRuntime) -> Result<(), Fail> {
     let alloc = rt.alloc();
-    for (workers, chunks) in [(5, 5), (9, 9), (17, 100), (33, 33), (64, 64), (64, 1_000)] {
-        let gate = Crowd::new(&rt, Part::Deal, workers);
-        let states = vec![in alloc; (); workers as usize]?;
-        let (_, outs) = each_chunk(&rt, alloc, states, chunks, &Same, &gate)?;
-        expect_equal(&rt, gate.most(), workers);
-        expect_equal(&rt, outs.len() as u64, chunks);
+    for (workers, chunks) in [(2, 9), (2, 64), (2, 1_000), (3, 3), (4, 64), (5, 5)] {
+        expect_drawn(&rt, alloc, workers, chunks)?;
+    }
+    for (workers, chunks) in [(9, 9), (17, 100), (33, 33), (64, 64), (64, 1_000)] {
+        expect_drawn(&rt, alloc, workers, chunks)?;
     }
     Ok(())
 }
@@ -104,10 +108,10 @@ const OBJECTS: u64 = 131_072;
 
 const REGIONS: u32 = 32;
 
-/// How many regions the object takes that names them all.
+/// How many regions the object takes that references them all.
 const RUN: u32 = 33;
 
-/// The one root names a humongous object, whose slots name the objects of one word each that fill 32
+/// The one root references a humongous object, whose slots reference the objects of one word each that fill 32
 /// regions from this one on.
 fn field(alloc: Global, first: u32) -> Result<Sketch, AllocError> {
     let mut sketch = Sketch::new(alloc, 4_096, 64, 128);
@@ -143,33 +147,6 @@ fn field_after(alloc: Global) -> Result<Vec<u8>, AllocError> {
 /// The root and the cards of the slots are one chunk, and the objects of the field 64.
 const CHUNK: u64 = 2_060;
 
-/// The settings of a pause that collects the field, by so many workers.
-fn settings_of(alloc: Global, workers: u64) -> Result<Settings, Fault> {
-    let set = (RUN..RUN + REGIONS).collect::<Vec<u32>>(alloc)?;
-    Settings::new(workers, CHUNK, COST, Choice::Given(set))
-}
-
-fn tracked<R: Threads + Sync>(rt: &R, alloc: Global, image: Image) -> Result<Tracked, Fault> {
-    match verify(rt, alloc, image) {
-        Ok(tracked) => Ok(tracked),
-        Err((_, fault)) => Err(fault),
-    }
-}
-
-/// The bytes of an image after the pause.
-fn bytes_after<R: Threads + Sync, G: Gate + Sync>(
-    rt: &R,
-    alloc: Global,
-    before: Tracked,
-    settings: &Settings,
-    gate: &G,
-) -> Result<Vec<u8>, Fault> {
-    match evacuate(rt, alloc, before, settings, gate) {
-        Ok((after, _)) => encode(alloc, image(&after)),
-        Err((_, fault)) => Err(fault),
-    }
-}
-
 /// A crowd that searches, and one that writes.
 #[derive(Drop)]
 struct Both<'a, C: Clock> {
@@ -187,13 +164,13 @@ impl<'a, C: Clock> Gate for Both<'a, C> {
 #[test]
 fn all_workers_search_and_write_at_once(rt: HostRuntime) -> Result<(), Fail> {
     let alloc = rt.alloc();
-    let before = field_before(alloc)?;
-    let before = tracked(&rt, alloc, decode(alloc, &before)?)?;
+    let before = decode(alloc, &field_before(alloc)?)?;
     let gate = Both {
         deal: Crowd::new(&rt, Part::Deal, 64),
         fill: Crowd::new(&rt, Part::Fill, 64),
     };
-    let settings = settings_of(alloc, 64)?;
+    let set = (RUN..RUN + REGIONS).collect::<Vec<u32>>(alloc)?;
+    let settings = collecting(alloc, set.as_slice(), 64, CHUNK)?;
     let found = bytes_after(&rt, alloc, before, &settings, &gate)?;
     expect_equal(&rt, (gate.deal.most(), gate.fill.most()), (64, 64));
     let expected = field_after(alloc)?;
@@ -213,7 +190,7 @@ fn live_of<R: Threads + Sync, G: Gate + Sync>(
     live_bytes(rt, alloc, image.heap(), &starts, 64, CHUNK, gate)
 }
 
-/// They meet in the third round, after the root's and that of the object that it names.
+/// They meet in the third round, after the root's and that of the object that it references.
 #[test]
 fn all_workers_count_live_bytes_at_once(rt: HostRuntime) -> Result<(), Fail> {
     let gate = Crowd::new(&rt, Part::Deal, 64);
@@ -231,7 +208,7 @@ fn all_workers_count_live_bytes_at_once(rt: HostRuntime) -> Result<(), Fail> {
     Ok(())
 }
 
-/// Two roots name two objects when the pause comes.
+/// Two roots reference two objects when the pause comes.
 static TRACE: &[u8] = b"heap 16 4 4 2\nnew 0 0 1\nnew 1 0 1\nset 0 0 5\npause 1000\nsay 0 0\n";
 
 #[test]
@@ -239,7 +216,7 @@ fn the_workers_of_a_trace_pause_at_once(rt: HostRuntime) -> Result<(), Fail> {
     let alloc = rt.alloc();
     for part in [Part::Deal, Part::Fill] {
         let gate = Crowd::new(&rt, part, 2);
-        let text = run_text(&rt, alloc, TRACE, &COST, Team::new(2, 1), &gate)?;
+        let text = run_text(&rt, alloc, TRACE, &UNIT, Team::new(2, 1), &gate)?;
         expect_equal(&rt, gate.most(), 2);
         expect_equal(&rt, text.as_slice(), b"ok\nok\nok\nok\n5\n".as_slice());
     }

@@ -1,139 +1,21 @@
-ghost use Rattle.std.specs.Prelude.{◌≡◌, ◌+◌, ◌<◌, ◌≤◌, ◌∷◌, [], length, map, IfOk};
-ghost use Rattle.g1_words.specs.Survivors.{AllOrdinary};
+//! The words that two rounds of a search leave.
+ghost use Rattle.std.specs.Prelude.{◌≡◌, ◌+◌, ◌∷◌, [], length, map, IfOk};
 ghost use Rattle.g1_rem.specs.Starts.{IsStartsOf};
 ghost use Rattle.g1_frontier.specs.Items.{first_items, object_items};
 ghost use Rattle.g1_frontier.specs.Window.{AreRegions, AreCards, AreOutside, LeadIn};
 
-use crate::expecting::expect_equal;
-use crate::images::tracked;
-use g1_choose::given;
+use crate::expecting::{expect_equal, tracked};
 use g1_claim::{Claims, EMPTY};
-use g1_frontier::{Item, claim_round, discover};
-use g1_rem::{Starts, Tracked, cards_into, image, refine};
+use g1_frontier::{Item, claim_round};
+use g1_image::Image;
+use g1_rem::{Starts, image, refine};
+use g1_testing::image as drawn;
 use g1_testing::pictures::shared;
 use g1_words::{Fault, Heap, object_at};
-use g1_work::{Gate, Open, Part};
+use g1_work::Open;
 use std::alloc::{AllocError, Global};
-use std::process::Abort;
-use std::sync::atomic::{AtomicBool, AtomicU64, Ordering};
 use std::test::Fail;
 use std::thread::Threads;
-
-/// The survivors of a set of regions, by the cards that lead into it.
-fn found_in<R: Threads + Sync, G: Gate + Sync>(
-    rt: &R,
-    alloc: Global,
-    tracked: &Tracked,
-    set: &[u32],
-    workers: u64,
-    chunk: u64,
-    gate: &G,
-) -> Result<Vec<u64>, Fault>
-    requires regions { AreRegions tracked.now.heap set.now }
-    requires ordinary { AllOrdinary tracked.now.heap set.now }
-    requires workers { (0 < workers) × (workers ≤ 64) }
-    requires chunk { (0 < chunk) × (chunk ≤ 65536) }
-{
-    let heap = image(tracked).heap();
-    let starts = Starts::build(alloc, heap)?;
-    let remembered = refine(rt, alloc, tracked, &starts)?;
-    let cards = cards_into(alloc, heap, &remembered, set)?;
-    g1_copy::laws::cards_lead_in();
-    g1_frontier::laws::refined_lead_in();
-    discover(rt, alloc, heap, &starts, set, &cards, workers, chunk, gate)
-}
-
-/// The survivors of these regions of an image.
-fn survivors<R: Threads + Sync, G: Gate + Sync>(
-    rt: &R,
-    alloc: Global,
-    lines: &str,
-    regions: &[u32],
-    workers: u64,
-    chunk: u64,
-    gate: &G,
-) -> Result<Vec<u64>, Fault>
-    requires workers { (0 < workers) × (workers ≤ 64) }
-    requires chunk { (0 < chunk) × (chunk ≤ 65536) }
-{
-    let tracked = tracked(rt, alloc, lines)?;
-    let set = given(alloc, image(&tracked).heap(), regions)?;
-    found_in(rt, alloc, &tracked, &set, workers, chunk, gate)
-}
-
-/// A gate whose calls for the chunks 0 and 1 look for one another in a round, counted from 0.
-#[derive(Drop)]
-struct Meeting {
-    round: u64,
-    zeros: AtomicU64,
-    ones: AtomicU64,
-    zero: AtomicBool,
-    one: AtomicBool,
-    missed: AtomicBool,
-}
-
-const TURNS: u64 = 200_000_000;
-
-fn meeting_in(round: u64) -> Meeting {
-    Meeting {
-        round,
-        zeros: AtomicU64::new(0),
-        ones: AtomicU64::new(0),
-        zero: AtomicBool::new(false),
-        one: AtomicBool::new(false),
-        missed: AtomicBool::new(false),
-    }
-}
-
-fn waits_for(flag: &AtomicBool) -> bool {
-    for _ in 0..TURNS {
-        if flag.load(Ordering::SeqCst) {
-            return true;
-        }
-    }
-    false
-}
-
-impl Gate for Meeting {
-    fn at(&self, _part: Part, number: u64) {
-        let (rounds, mine, theirs) = match number {
-            0 => (&self.zeros, &self.zero, &self.one),
-            1 => (&self.ones, &self.one, &self.zero),
-            _ => return,
-        };
-        if rounds.fetch_add(1, Ordering::SeqCst) != self.round {
-            return;
-        }
-        mine.store(true, Ordering::SeqCst);
-        if !waits_for(theirs) {
-            self.missed.store(true, Ordering::SeqCst);
-        }
-    }
-}
-
-/// Sees that two workers are in a round at the same time, and the survivors are the right ones.
-fn expect_meeting<T: Threads + Abort + Sync>(
-    rt: &T,
-    alloc: Global,
-    round: u64,
-) -> Result<(), Fail> {
-    let gate = meeting_in(round);
-    let found = survivors(rt, alloc, shared(), &[1], 2, 1, &gate)?;
-    let both = gate.zero.load(Ordering::SeqCst) && gate.one.load(Ordering::SeqCst);
-    assert!(rt; both && !gate.missed.load(Ordering::SeqCst));
-    expect_equal(rt, found.as_slice(), [21, 16].as_slice());
-    Ok(())
-}
-
-#[test]
-fn together(rt: HostRuntime) -> Result<(), Fail> {
-    expect_meeting(&rt, rt.alloc(), 0)
-}
-
-#[test]
-fn together_in_a_later_round(rt: HostRuntime) -> Result<(), Fail> {
-    expect_meeting(&rt, rt.alloc(), 1)
-}
 
 /// What two rounds over region 1 leave: the ranks and addresses that each won, and the words of the
 /// claim table.
@@ -232,8 +114,8 @@ fn both_rounds<R: Threads + Sync>(
     })
 }
 
-fn two_rounds<R: Threads + Sync>(rt: &R, alloc: Global, lines: &str) -> Result<Rounds, Fault> {
-    let tracked = tracked(rt, alloc, lines)?;
+fn two_rounds<R: Threads + Sync>(rt: &R, alloc: Global, picture: Image) -> Result<Rounds, Fault> {
+    let tracked = tracked(rt, alloc, picture)?;
     let heap = image(&tracked).heap();
     if heap.geometry().regions() < 2 {
         return Err(Fault::Set(1));
@@ -246,7 +128,8 @@ fn two_rounds<R: Threads + Sync>(rt: &R, alloc: Global, lines: &str) -> Result<R
 
 #[test]
 fn the_least_rank_of_each_place_stays_its_word(rt: HostRuntime) -> Result<(), Fail> {
-    let two = two_rounds(&rt, rt.alloc(), shared())?;
+    let picture = drawn(rt.alloc(), shared())?;
+    let two = two_rounds(&rt, rt.alloc(), picture)?;
     expect_equal(&rt, two.first.as_slice(), [(0, 21), (1, 16)].as_slice());
     assert!(rt; two.second.is_empty());
     expect_equal(&rt, two.words.len(), 16);

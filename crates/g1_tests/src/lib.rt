@@ -1,31 +1,22 @@
-//! The tests of the libraries' public calls that are no rows of `g1_rows`, in one crate: a crate with
-//! tests is proved twice, so that here no library is proved a second time for its tests. A case of a call
-//! that an image or a trace and an answer say is a row there; here is what more has to be said.
+//! The tests that are code: what a row of `g1_rows` cannot say. A case that an image, a trace or a program's words and an
+//! answer say is a row there. They are one crate, since a crate with tests is proved twice: so no library is proved a second
+//! time for its tests.
 //!
-//! - `words`: the number and text of each fault and of each kind; sizes at the limits; addresses.
-//! - `work`: a dealer's numbers, drawn by one seat and by four threads; chunks whose outs come in order.
-//! - `regions`: regions that are filled in place, by runs.
-//! - `reading`, `writing`: images in pieces, at the edges of a piece, and with streams that have trouble.
-//! - `claim`: words that fall to the least rank, offered by one seat and by four threads.
-//! - `frontier`: the words that two rounds leave; two workers in a round.
-//! - `mark`: two workers that count live bytes.
-//! - `choose`: costs at the limits, and each parameter in its place; products beyond 64 bits.
-//! - `pause`: many objects that reference one, a run for each worker, two workers in a pause, and pauses
-//!   from stream to stream.
-//! - `trace`: a mutator step by step, and each line of a trace spoiled.
-//! - `sizes`: calls at sizes at which none may give up for memory.
-//! - `crowds`: up to 64 workers at the same time, in a gate that they leave together (`crowd`).
+//! 1. `words`: sizes at the limits, and addresses. `refusals`: each fault with its number, its text and its status; words and
+//!    numbers of a command line.
+//! 2. `work`, `regions`, `claim`: words and work that threads share. `frontier`: the words that two rounds leave.
+//! 3. `workers`, `crowds`: that workers work at the same time, two to four and up to 64. `gates` has the gates that see it:
+//!    a new case of threads begins with one of them.
+//! 4. `streams`: images and pauses over readers and writers that give a byte a call, fail, are interrupted or would block.
+//!    `programs`: the programs over such streams. A new case takes a `Stream` of g1_testing.
+//! 5. `sizes`: images and calls at sizes at which none may give up for memory. A new case lays its image by a `Sketch`.
+//! 6. `trace`: each line of a trace spoiled.
 //!
-//! Images are drawn as lines by `g1_testing`. Workers that work at the same time look for one another
-//! in a gate, here as in `g1_shown`.
+//! `expecting` has what tests begin with. Small images are drawn as lines by `g1_testing`.
 #![tactic(auto)]
 
 #[cfg(test)]
-mod choose;
-#[cfg(test)]
 mod claim;
-#[cfg(test)]
-mod crowd;
 #[cfg(test)]
 mod crowds;
 #[cfg(test)]
@@ -33,17 +24,17 @@ mod expecting;
 #[cfg(test)]
 mod frontier;
 #[cfg(test)]
-mod images;
+mod gates;
 #[cfg(test)]
-mod mark;
+mod programs;
 #[cfg(test)]
-mod pause;
-#[cfg(test)]
-mod reading;
+mod refusals;
 #[cfg(test)]
 mod regions;
 #[cfg(test)]
 mod sizes;
+#[cfg(test)]
+mod streams;
 #[cfg(test)]
 mod trace;
 #[cfg(test)]
@@ -51,4 +42,4 @@ mod words;
 #[cfg(test)]
 mod work;
 #[cfg(test)]
-mod writing;
+mod workers;

@@ -1,18 +1,12 @@
-use g1_choose::Cost;
-use g1_trace::{Command, Mutator, Reply, parse_trace, run_text, run_trace};
-use g1_words::{Fault, Geometry};
+//! Each line of a trace spoiled.
+use crate::expecting::UNIT;
+use g1_trace::{parse_trace, run_text, run_trace};
+use g1_words::Fault;
 use g1_work::{Open, Team};
 use std::alloc::{AllocError, Global};
 use std::process::Abort;
 use std::test::Fail;
 use std::thread::Threads;
-
-const COST: Cost = Cost {
-    fixed: 0,
-    dirty: 1,
-    card: 1,
-    byte: 1,
-};
 
 // A trace with each kind of command.
 static CYCLE: &str = "heap 16 4 4 3\n\
@@ -48,44 +42,6 @@ static CYCLE: &str = "heap 16 4 4 3\n\
     say 0 39\n\
     say 0 38";
 
-#[test]
-fn a_mutator_goes_step_by_step(rt: HostRuntime) -> Result<(), Fail> {
-    let alloc = rt.alloc();
-    let geometry = Geometry::new(16, 4, 2)?;
-    let fault = Mutator::new(alloc, geometry, 65_537).err();
-    assert!(rt; fault == Some(Fault::Geometry));
-    let mut mutator = Mutator::new(alloc, geometry, 65_536)?;
-    let root = 65_535;
-    for (command, expected) in [
-        (Command::Say { root, word: 0 }, Reply::Null),
-        (
-            Command::New {
-                root,
-                refs: 1,
-                words: 2,
-            },
-            Reply::Ok,
-        ),
-        (
-            Command::Set {
-                root,
-                word: 1,
-                value: u64::MAX,
-            },
-            Reply::Ok,
-        ),
-        (Command::Pause { budget: u64::MAX }, Reply::Ok),
-        (Command::Say { root, word: 1 }, Reply::Number(u64::MAX)),
-        (Command::Say { root, word: 2 }, Reply::Range),
-        (Command::Drop { root: 65_536 }, Reply::Range),
-    ] {
-        let (next, outcome) = mutator.step(&rt, alloc, &command, &COST, 1, 1, &Open);
-        mutator = next;
-        assert!(rt; outcome? == expected, "{command:?}");
-    }
-    Ok(())
-}
-
 // Both readers have to tell the same fault.
 fn expect_fault<T: Threads + Abort + Sync>(
     rt: &T,
@@ -93,10 +49,10 @@ fn expect_fault<T: Threads + Abort + Sync>(
     text: &[u8],
     fault: Fault,
 ) -> Result<(), Fail> {
-    let told = run_text(rt, alloc, text, &COST, Team::new(1, 1), &Open).err();
+    let told = run_text(rt, alloc, text, &UNIT, Team::new(1, 1), &Open).err();
     assert!(rt; told == Some(fault), "{text:?}");
     let told = match parse_trace(alloc, text) {
-        Ok(trace) => run_trace(rt, alloc, &trace, &COST, 1, 1, &Open).err(),
+        Ok(trace) => run_trace(rt, alloc, &trace, &UNIT, 1, 1, &Open).err(),
         Err(fault) => Some(fault),
     };
     assert!(rt; told == Some(fault), "{text:?}");

@@ -3,6 +3,7 @@ ghost use Rattle.g1_words.specs.declared.fault.Fault.TheVariants.{Line};
 ghost use Rattle.g1_work.specs.Dealer.{IsSeatOf};
 
 use crate::expecting::expect_equal;
+use crate::gates::{Counting, Noting};
 use g1_words::Fault;
 use g1_work::{DealSeat, Dealer, Gate, Open, Part, Task, each_chunk, shares};
 use std::alloc::{AllocError, Global};
@@ -211,40 +212,6 @@ fn squared_chunks<R: Threads + Sync, G: Gate + Sync>(
     Ok((states, outs))
 }
 
-// The states are as many as the workers, one of them saw the last chunk, and the outs are squares.
-fn are_squares(states: &[u64], outs: &[u64], workers: usize, chunks: u64) -> bool {
-    let mut right = states.len() == workers && outs.len() as u64 == chunks;
-    right &= states.iter().max().copied() == Some(chunks);
-    for (index, out) in outs.iter().enumerate() {
-        right &= *out == (index as u64).wrapping_mul(index as u64);
-    }
-    right
-}
-
-// Sees that these workers square these chunks.
-fn expect_squares<T: Threads + Abort + Sync>(
-    rt: &T,
-    alloc: Global,
-    workers: usize,
-    chunks: u64,
-) -> Result<(), Fail>
-    requires chunks { chunks < 2 ^ 32 }
-    requires workers { (0 < workers) × (workers ≤ 64) }
-{
-    let (states, outs) = squared_chunks(rt, alloc, workers, chunks, &Open)?;
-    assert!(rt; are_squares(&states, &outs, workers, chunks));
-    Ok(())
-}
-
-#[test]
-fn outs_stand_in_the_order_of_chunks(rt: HostRuntime) -> Result<(), Fail> {
-    expect_squares(&rt, rt.alloc(), 1, 100)?;
-    expect_squares(&rt, rt.alloc(), 3, 100)?;
-    expect_squares(&rt, rt.alloc(), 64, 100)?;
-    expect_squares(&rt, rt.alloc(), 64, 1)?;
-    expect_squares(&rt, rt.alloc(), 3, 0)
-}
-
 // Gives up on one chunk.
 struct Refuses;
 
@@ -277,43 +244,70 @@ fn a_failed_run_is_the_answer(rt: HostRuntime) -> Result<(), Fail> {
     Ok(())
 }
 
-// Counts the calls.
-#[derive(Drop)]
-struct Counting {
-    calls: AtomicU64,
+#[test]
+fn the_gate_is_told_of_each_chunk_once(rt: HostRuntime) -> Result<(), Fail> {
+    let gate = Counting::new(Part::Deal);
+    let (states, outs) = squared_chunks(&rt, rt.alloc(), 3, 8, &gate)?;
+    expect_equal(&rt, gate.calls(), 0x0101_0101_0101_0101);
+    // The states are as many as the workers, and one of them saw the last chunk.
+    expect_equal(
+        &rt,
+        (states.len(), states.iter().max().copied()),
+        (3, Some(8)),
+    );
+    expect_equal(
+        &rt,
+        outs.as_slice(),
+        [0, 1, 4, 9, 16, 25, 36, 49].as_slice(),
+    );
+    squared_chunks(&rt, rt.alloc(), 3, 1, &gate)?;
+    expect_equal(&rt, gate.calls(), 0x0101_0101_0101_0102);
+    Ok(())
 }
 
-impl Gate for Counting {
-    fn at(&self, part: Part, number: u64) {
-        if part == Part::Deal && number < 8 {
-            self.calls.fetch_add(1 << (number * 8), Ordering::SeqCst);
+// Gives 1 for a chunk that the gate was called for before, else 0.
+#[derive(Drop)]
+struct Late<'a> {
+    gate: &'a Noting,
+}
+
+impl<'a> Task for Late<'a> {
+    type State = ();
+
+    type Out = u64;
+
+    ghost ready = { λ _ _ _. Unit {0} };
+
+    ghost runs = { λ _ _ _ _ _. Unit {0} };
+
+    ghost may_fail = { λ _ _ _. ⊥ };
+
+    fn run(&self, _state: &mut (), chunk: u64) -> Result<u64, Fault> {
+        if chunk < 64 {
+            Ok(self.gate.noted() >> chunk & 1)
+        } else {
+            Ok(0)
         }
     }
 }
 
 #[test]
-fn the_gate_is_told_of_each_chunk_once(rt: HostRuntime) -> Result<(), Fail> {
-    let gate = Counting {
-        calls: AtomicU64::new(0),
-    };
-    squared_chunks(&rt, rt.alloc(), 3, 8, &gate)?;
-    expect_equal(
-        &rt,
-        gate.calls.load(Ordering::SeqCst),
-        0x0101_0101_0101_0101,
-    );
-    squared_chunks(&rt, rt.alloc(), 3, 1, &gate)?;
-    expect_equal(
-        &rt,
-        gate.calls.load(Ordering::SeqCst),
-        0x0101_0101_0101_0102,
-    );
+fn the_gate_is_told_before_the_run(rt: HostRuntime) -> Result<(), Fail> {
+    let alloc = rt.alloc();
+    for (workers, chunks) in [(1, 1), (1, 64), (3, 64)] {
+        let gate = Noting::new();
+        let states = vec![in alloc; (); workers]?;
+        let (_, told) = each_chunk(&rt, alloc, states, chunks, &Late { gate: &gate }, &gate)?;
+        for out in &told {
+            expect_equal(&rt, *out, 1);
+        }
+    }
     Ok(())
 }
 
 // Numbers 0 and 1 look for one another, and number 0 for all. Each number sets a bit.
 #[derive(Drop)]
-struct Meeting {
+struct Waiting {
     called: AtomicU64,
     missed: AtomicBool,
 }
@@ -330,7 +324,7 @@ fn all_come(called: &AtomicU64, bits: u64) -> bool {
     false
 }
 
-impl Gate for Meeting {
+impl Gate for Waiting {
     fn at(&self, _part: Part, number: u64) {
         if number < 8 {
             self.called.fetch_or(1 << number, Ordering::SeqCst);
@@ -348,7 +342,7 @@ impl Gate for Meeting {
 
 #[test]
 fn together(rt: HostRuntime) -> Result<(), Fail> {
-    let gate = Meeting {
+    let gate = Waiting {
         called: AtomicU64::new(0),
         missed: AtomicBool::new(false),
     };

@@ -1,2 +1,0 @@
-mod pauses;
-mod streams;

@@ -1,0 +1,287 @@
+//! Faults and kinds by their numbers and texts, how a program reports a refusal, and which words and numbers it takes.
+use crate::expecting::expect_equal;
+use g1_command::{Refusal, deliver, read_all, refuse, status, whole, words};
+use g1_testing::{Stream, Trouble, is_refusal};
+use g1_words::{Device, Fault, Kind, Place, Stand};
+use std::alloc::{AllocError, Global};
+use std::env::FillError;
+use std::io::ErrorKind;
+use std::process::Abort;
+use std::rt::Env;
+use std::test::Fail;
+
+// The refusal is reported as this line, in one write and a flush, and has this status.
+fn expect_refusal<T: Abort>(rt: &T, alloc: Global, refusal: &Refusal, line: &str, wanted: u8) {
+    let mut errors = Stream::of(Vec::new(alloc), usize::MAX);
+    let ended = refuse("the_name", refusal, &mut errors);
+    expect_equal(
+        rt,
+        (ended, errors.bytes.as_slice()),
+        (wanted, line.as_bytes()),
+    );
+    expect_equal(rt, errors.longest, line.len());
+}
+
+// A fault with this number and this text, with which a program ends with this status.
+fn expect_fault<T: Abort>(
+    rt: &T,
+    alloc: Global,
+    fault: Fault,
+    told: (u8, &str, u8),
+) -> Result<(), AllocError> {
+    let (number, text, wanted) = told;
+    let found = format!(in alloc; "{fault}")?;
+    expect_equal(
+        rt,
+        (text, fault.number(), status(&fault)),
+        (found.as_str(), number, wanted),
+    );
+    let line = format!(in alloc; "the_name: fault {number}: {text}\n")?;
+    expect_refusal(rt, alloc, &Refusal::Fault(fault), line.as_str(), wanted);
+    Ok(())
+}
+
+#[test]
+fn each_fault_of_bytes_has_a_number_a_text_and_a_status(rt: HostRuntime) -> Result<(), Fail> {
+    for (fault, number, text) in [
+        (Fault::Magic, 1, "magic"),
+        (Fault::Geometry, 2, "geometry"),
+        (Fault::Short, 3, "short"),
+        (Fault::Trailing, 4, "trailing"),
+        (Fault::Kind(7), 5, "kind of region 7"),
+        (Fault::Shape(7), 6, "shape of region 7"),
+        (Fault::Reference(Place::Root(3)), 7, "reference in root 3"),
+        (Fault::Reference(Place::Slot(21)), 7, "reference in slot 21"),
+        (Fault::Card(Stand::Dirty(2)), 8, "card in log place 2"),
+        (Fault::Card(Stand::Region(2)), 8, "card of region 2"),
+        (Fault::Flags(3), 16, "flags of region 3"),
+    ] {
+        expect_fault(&rt, rt.alloc(), fault, (number, text, 3))?;
+    }
+    Ok(())
+}
+
+const GREATEST: u64 = u64::MAX;
+
+#[test]
+fn each_fault_of_a_call_has_a_number_a_text_and_a_status(rt: HostRuntime) -> Result<(), Fail> {
+    let (need, free) = (GREATEST, GREATEST);
+    for (fault, told) in [
+        (Fault::Uncovered(17), (9, "uncovered slot 17", 4)),
+        (Fault::Set(4), (10, "set region 4", 5)),
+        (
+            Fault::Room { need: 2, free: 1 },
+            (11, "room need 2 free 1", 5),
+        ),
+        (
+            Fault::Room { need, free },
+            (
+                11,
+                "room need 18446744073709551615 free 18446744073709551615",
+                5,
+            ),
+        ),
+        (Fault::Settings(3), (12, "setting 3", 2)),
+        (Fault::Memory, (13, "memory", 6)),
+        (Fault::Device(Device::Input), (14, "input", 6)),
+        (Fault::Device(Device::Output), (14, "output", 6)),
+        (Fault::Line(12), (15, "line 12", 2)),
+        (Fault::Line(65_536), (15, "line 65536", 2)),
+        (Fault::Line(GREATEST), (15, "line 18446744073709551615", 2)),
+    ] {
+        expect_fault(&rt, rt.alloc(), fault, told)?;
+    }
+    Ok(())
+}
+
+#[test]
+fn a_usage_fault_is_one_write(rt: HostRuntime) -> Result<(), Fail> {
+    let text = "error: what is wrong\n\nUsage: how it is used\n";
+    let usage = Refusal::usage(String::from_str(rt.alloc(), text)?);
+    expect_refusal(&rt, rt.alloc(), &usage, text, 2);
+    Ok(())
+}
+
+#[test]
+fn each_kind_has_its_number_and_its_text(rt: HostRuntime) -> Result<(), Fail> {
+    for (kind, number, text) in [
+        (Kind::Free, 0, "free"),
+        (Kind::Ordinary, 1, "ordinary"),
+        (Kind::HumongousFirst, 2, "humongous"),
+        (Kind::Continuation, 3, "continuation"),
+    ] {
+        let found = format!(in rt.alloc(); "{kind}")?;
+        expect_equal(&rt, (found.as_str(), kind.number()), (text, number));
+        assert!(rt; Kind::of_number(number) == Some(kind), "{text}");
+    }
+    assert!(rt; Kind::of_number(4).is_none());
+    Ok(())
+}
+
+// Each second call is interrupted, and after this many others all fail.
+fn failing(
+    alloc: Global,
+    text: &[u8],
+    left: usize,
+    trouble: Trouble,
+) -> Result<Stream, AllocError> {
+    let stream = Stream::new(text.to_vec(alloc)?, left, trouble);
+    Ok(stream.with_errors(1, ErrorKind::Interrupted))
+}
+
+// What comes of this text and a device that fails after this many calls. The last one finds the end, or flushes.
+fn outcome(text: &[u8], left: usize, device: Device) -> Result<(), Fault> {
+    if left > text.len() {
+        Ok(())
+    } else {
+        Err(Fault::Device(device))
+    }
+}
+
+fn expect_devices<T: Abort>(
+    rt: &T,
+    alloc: Global,
+    text: &[u8],
+    left: usize,
+    trouble: Trouble,
+) -> Result<(), AllocError> {
+    let expected = outcome(text, left, Device::Input);
+    match read_all(alloc, &mut failing(alloc, text, left, trouble)?) {
+        Ok(bytes) => expect_equal(rt, (bytes.as_slice(), Ok(())), (text, expected)),
+        Err(fault) => expect_equal(rt, Err(fault), expected),
+    }
+    let mut writer = failing(alloc, b"", left, trouble)?;
+    let delivered = deliver(text, &mut writer);
+    expect_equal(rt, delivered, outcome(text, left, Device::Output));
+    expect_equal(rt, writer.bytes.as_slice(), &text[..left.min(text.len())]);
+    Ok(())
+}
+
+// A reader that is out of memory is an input that failed, and so is any other failure.
+#[test]
+fn devices_fail_at_each_call(rt: HostRuntime) -> Result<(), AllocError> {
+    let text = b"seven\nbytes".as_slice();
+    for left in 0..=text.len() + 1 {
+        expect_devices(&rt, rt.alloc(), text, left, Trouble::Broken)?;
+        expect_devices(&rt, rt.alloc(), text, left, Trouble::OutOfMemory)?;
+    }
+    Ok(())
+}
+
+#[test]
+fn a_number_has_digits_alone(rt: HostRuntime) {
+    for (text, value) in [
+        ("0", Some(0)),
+        ("007", Some(7)),
+        ("18446744073709551615", Some(u64::MAX)),
+        ("18446744073709551616", None),
+        ("", None),
+        ("+1", None),
+        ("-1", None),
+        (" 1", None),
+        ("0x1", None),
+        ("1_000", None),
+    ] {
+        expect_equal(&rt, (text, whole(text)), (text, value));
+    }
+}
+
+// A program that was called by these words, of which the first is its name.
+#[derive(Drop)]
+struct Called {
+    words: &'static [&'static [u8]],
+}
+
+impl Env for Called {
+    fn arg(&self, i: usize, buf: &mut [u8]) -> Result<usize, FillError> {
+        match self.words.get(i) {
+            None => Err(FillError::NotPresent),
+            Some(word) => {
+                let length = word.len();
+                if length > buf.len() {
+                    return Err(FillError::TooLong);
+                }
+                buf[..length].copy_from_slice(word);
+                Ok(length)
+            }
+        }
+    }
+
+    fn var(&self, _name: &str, _buf: &mut [u8]) -> Result<usize, FillError> {
+        Err(FillError::NotPresent)
+    }
+
+    fn var_at(&self, _i: usize, _buf: &mut [u8]) -> Result<usize, FillError> {
+        Err(FillError::NotPresent)
+    }
+}
+
+// Words with one that is not text are refused by these lines.
+fn expect_shown<T: Abort>(rt: &T, alloc: Global, called: &'static [&'static [u8]], line: &str) {
+    match words(&Called { words: called }, alloc) {
+        Ok(_) => panic!(rt; "{line}"),
+        Err(refusal) => expect_refusal(rt, alloc, &refusal, line, 2),
+    }
+}
+
+#[test]
+fn a_word_that_is_not_text_is_shown(rt: HostRuntime) {
+    let alloc = rt.alloc();
+    let line = "error: word 2 is not text: 'sho\\xff'\n";
+    expect_shown(&rt, alloc, &[b"name", b"sho\xff"], line);
+    let line = "error: word 3 is not text: '\u{e9}\\xc3'\n";
+    expect_shown(
+        &rt,
+        alloc,
+        &[b"name", b"show", b"\xc3\xa9\xc3", b"\xfe"],
+        line,
+    );
+    let line = "error: word 2 is not text: '\\xf0\\x9f\\x92x'\n";
+    expect_shown(&rt, alloc, &[b"name", b"\xf0\x9f\x92x"], line);
+}
+
+#[test]
+fn words_may_be_long_or_empty(rt: HostRuntime) -> Result<(), Refusal> {
+    let called = Called {
+        words: &[
+            b"\xff",
+            b"show",
+            b"\xc3\xa9",
+            b"",
+            &[b'x'; 300],
+            &[b'x'; 70_000],
+        ],
+    };
+    let words = words(&called, rt.alloc())?;
+    assert!(rt; words.len() == 5);
+    assert_eq!(rt; words[1].as_str(), "\u{e9}");
+    assert_eq!(rt; words[2].as_str(), "");
+    assert_eq!(rt; words[3].len(), 300);
+    assert_eq!(rt; words[4].len(), 70_000);
+    Ok(())
+}
+
+// What a call that was refused memory may leave, of an image and an answer.
+#[test]
+fn a_refusal_leaves_memory_alone(rt: HostRuntime) -> Result<(), Fail> {
+    let (image, answer) = (b"G1IMAGE2 ..".as_slice(), b"7\n8\n".as_slice());
+    for (call, found, is_so) in [
+        ("order", b"fault 13: memory\n".as_slice(), true),
+        ("order", b"7\nfault 13: memory\n", true),
+        ("order", b"8\nfault 13: memory\n", false),
+        ("order", b"fault 11: room need 1 free 0\n", false),
+        ("order", b"fault 13: memory\nG1IMAGE2 ..", false),
+        ("order", b"-\n", false),
+        ("order", b"", false),
+        ("evacuate", b"fault 13: memory\nG1IMAGE2 ..", true),
+        ("evacuate", b"fault 13: memory\nG1IMAGE2 .-", false),
+        ("evacuate", b"fault 13: memory\n", false),
+        ("verify", b"fault 13: memory\n7\n8\n", false),
+        ("step", b"7\nfault 13: memory\n8\n", true),
+        ("step", b"fault 13: memory\n8\n", false),
+    ] {
+        let found = is_refusal(rt.alloc(), call, found, answer, image)?;
+        assert!(rt; found == is_so, "{call}");
+    }
+    Ok(())
+}

@@ -1,0 +1,361 @@
+//! Images and pauses over readers and writers: in pieces of each length, and with streams that have trouble.
+use crate::expecting::{collecting, expect_equal};
+use g1_image::{FromReader, Image, Sink, Source, ToWriter, encode, read, read_by, write};
+use g1_pause::pause_run;
+use g1_testing::pictures::{humongous, one_object, one_object_after, three_regions};
+use g1_testing::{Sketch, Stream, Trouble, image, text};
+use g1_words::{Device, Fault};
+use g1_work::Open;
+use std::alloc::{AllocError, Global};
+use std::io::ErrorKind;
+use std::process::Abort;
+use std::test::Fail;
+use std::thread::Threads;
+
+const INPUT: Fault = Fault::Device(Device::Input);
+
+const OUTPUT: Fault = Fault::Device(Device::Output);
+
+fn read_from(alloc: Global, stream: &mut Stream) -> Result<Image, Fault> {
+    read(alloc, &mut FromReader::new(stream))
+}
+
+fn write_to(alloc: Global, image: &Image, stream: &mut Stream) -> Result<(), Fault> {
+    write(alloc, image, &mut ToWriter::new(stream))
+}
+
+/// The bytes of the image that a stream gives.
+fn bytes_from(alloc: Global, mut stream: Stream) -> Result<Vec<u8>, Fault> {
+    encode(alloc, &read_from(alloc, &mut stream)?)
+}
+
+/// A stream of a byte a call that gives these bytes, and then its end; after that it is broken.
+fn ending(alloc: Global, bytes: &[u8]) -> Result<Stream, AllocError> {
+    let own = bytes.to_vec(alloc)?;
+    Ok(Stream::new(own, bytes.len() + 1, Trouble::Broken))
+}
+
+#[test]
+fn images_pass_one_byte_at_a_time(rt: HostRuntime) -> Result<(), Fail> {
+    let alloc = rt.alloc();
+    for lines in [one_object(), humongous(), three_regions()] {
+        let bytes = text(alloc, lines)?;
+        let image = read_from(alloc, &mut ending(alloc, &bytes)?)?;
+        let mut writer = Stream::of(Vec::new(alloc), 1);
+        write_to(alloc, &image, &mut writer)?;
+        expect_equal(&rt, writer.bytes.as_slice(), bytes.as_slice());
+    }
+    Ok(())
+}
+
+#[test]
+fn bytes_that_are_refused_are_read_to_their_end(rt: HostRuntime) -> Result<(), Fail> {
+    let alloc = rt.alloc();
+    let bytes = vec![in alloc; 0u8; 300]?;
+    let stream = Stream::new(bytes.clone()?, 299, Trouble::Broken);
+    expect_equal(&rt, bytes_from(alloc, stream), Err(INPUT));
+    expect_equal(
+        &rt,
+        bytes_from(alloc, Stream::of(bytes, 300)),
+        Err(Fault::Magic),
+    );
+    let few = ending(alloc, &[0; 30])?;
+    expect_equal(&rt, bytes_from(alloc, few), Err(Fault::Magic));
+    Ok(())
+}
+
+#[test]
+fn a_beginning_is_short(rt: HostRuntime) -> Result<(), Fail> {
+    let alloc = rt.alloc();
+    let bytes = text(alloc, one_object())?;
+    for cut in 0..bytes.len() {
+        let found = bytes_from(alloc, ending(alloc, &bytes[..cut])?);
+        expect_equal(&rt, (cut, found), (cut, Err(Fault::Short)));
+    }
+    Ok(())
+}
+
+#[test]
+fn a_byte_more_trails(rt: HostRuntime) -> Result<(), Fail> {
+    let alloc = rt.alloc();
+    let mut bytes = text(alloc, one_object())?;
+    bytes.push(0)?;
+    let found = bytes_from(alloc, ending(alloc, &bytes)?);
+    expect_equal(&rt, found, Err(Fault::Trailing));
+    let mut writer = Stream::of(Vec::new(alloc), 1);
+    let found = pause(&rt, alloc, &mut ending(alloc, &bytes)?, &mut writer);
+    expect_equal(&rt, found, Err(Fault::Trailing));
+    expect_equal(&rt, writer.calls, 0);
+    Ok(())
+}
+
+/// More than two million bytes precede the words: 65,536 roots that reference the first object, and twelve remembered sets
+/// with every card of the other used regions. The words are a million bytes. The cards in the log are odd, so that a word
+/// lies across each end of a piece.
+fn long_front(alloc: Global) -> Result<Vec<u8>, AllocError> {
+    let mut sketch = Sketch::new(alloc, 4_096, 4, 64);
+    for _root in 0..65_536 {
+        sketch.root(1)?;
+    }
+    push_dirty(&mut sketch)?;
+    for region in 0..32 {
+        push_region(alloc, &mut sketch, region)?;
+    }
+    sketch.text(alloc)
+}
+
+fn push_dirty(sketch: &mut Sketch) -> Result<(), AllocError> {
+    for card in 0..1_023 {
+        sketch.dirty(card)?;
+    }
+    Ok(())
+}
+
+fn push_region(alloc: Global, sketch: &mut Sketch, region: u32) -> Result<(), AllocError> {
+    sketch.ordinary(alloc)?;
+    if region < 12 {
+        sketch.remember(0, region * 1_024)?;
+        sketch.remember((region + 1) * 1_024, (31 - region) * 1_024)?;
+    }
+    for _object in 0..2_048 {
+        sketch.words(&[2 << 32 | 1, 0])?;
+    }
+    Ok(())
+}
+
+#[test]
+fn a_long_front_is_read_and_written(rt: HostRuntime) -> Result<(), Fail> {
+    let alloc = rt.alloc();
+    let bytes = long_front(alloc)?;
+    let mut reader = Stream::of(bytes.clone()?, usize::MAX);
+    let image = read_from(alloc, &mut reader)?;
+    assert!(rt; reader.longest > 131_072, "{}", reader.longest);
+    let mut writer = Stream::of(Vec::new(alloc), usize::MAX);
+    write_to(alloc, &image, &mut writer)?;
+    assert!(rt; writer.longest > 1 << 20, "{}", writer.longest);
+    assert!(rt; writer.bytes.as_slice() == bytes.as_slice());
+    Ok(())
+}
+
+#[test]
+fn workers_read_the_same_image(rt: HostRuntime) -> Result<(), Fail> {
+    let alloc = rt.alloc();
+    let bytes = long_front(alloc)?;
+    for workers in [0, 1, 2, 64] {
+        let mut reader = bytes.as_slice();
+        let image = read_by(&rt, alloc, &mut FromReader::new(&mut reader), workers)?;
+        let again = encode(alloc, &image)?;
+        assert!(rt; again.as_slice() == bytes.as_slice(), "{workers}");
+    }
+    Ok(())
+}
+
+#[test]
+fn a_reader_is_asked_for_each_byte_once(rt: HostRuntime) -> Result<(), Fail> {
+    let alloc = rt.alloc();
+    let bytes = long_front(alloc)?;
+    let mut whole = Stream::of(bytes.clone()?, usize::MAX);
+    read_from(alloc, &mut whole)?;
+    assert!(rt; whole.calls < 32, "{} calls", whole.calls);
+    assert!(rt; whole.asked / 4 < bytes.len(), "{} bytes", whole.asked);
+    // A reader that begins the front again for each byte more doesn't end within a test's time.
+    let mut slow = Stream::of(bytes.clone()?, 1);
+    read_from(alloc, &mut slow)?;
+    expect_equal(&rt, slow.calls, bytes.len() + 1);
+    Ok(())
+}
+
+// Each call except the first is interrupted this often before it goes well.
+fn expect_patience<T: Abort>(
+    rt: &T,
+    alloc: Global,
+    bytes: &[u8],
+    often: usize,
+) -> Result<(), Fault> {
+    let interrupted = ErrorKind::Interrupted;
+    let mut reader = Stream::of(bytes.to_vec(alloc)?, usize::MAX).with_errors(often, interrupted);
+    let image = read_from(alloc, &mut reader)?;
+    assert!(rt; reader.calls > often, "{often}");
+    let mut writer = Stream::of(Vec::new(alloc), 65_536).with_errors(often, interrupted);
+    write_to(alloc, &image, &mut writer)?;
+    assert!(rt; writer.calls > often, "{often}");
+    assert!(rt; writer.bytes.as_slice() == bytes, "{often}");
+    Ok(())
+}
+
+#[test]
+fn a_call_that_is_interrupted_often_is_made_again(rt: HostRuntime) -> Result<(), Fail> {
+    let alloc = rt.alloc();
+    let bytes = long_front(alloc)?;
+    for often in [2, 3, 10] {
+        expect_patience(&rt, alloc, &bytes, often)?;
+    }
+    Ok(())
+}
+
+#[test]
+fn a_call_that_would_block_has_failed(rt: HostRuntime) -> Result<(), Fail> {
+    let alloc = rt.alloc();
+    // The second call would block, and the third would go well.
+    let bytes = text(alloc, one_object())?;
+    let mut reader = Stream::of(bytes, 1).with_errors(1, ErrorKind::WouldBlock);
+    let told = read_from(alloc, &mut reader).err();
+    assert!(rt; told == Some(INPUT));
+    expect_equal(&rt, reader.calls, 2);
+    let image = image(alloc, one_object())?;
+    let mut writer = Stream::of(Vec::new(alloc), 1).with_errors(1, ErrorKind::WouldBlock);
+    expect_equal(&rt, write_to(alloc, &image, &mut writer), Err(OUTPUT));
+    expect_equal(&rt, (writer.calls, writer.bytes.len()), (2, 1));
+    Ok(())
+}
+
+// The writer's first call has this trouble, and its second is the flush.
+fn flushed<T: Abort>(rt: &T, alloc: Global, trouble: Trouble) -> Result<(), Fault> {
+    let mut stream = Stream::new(Vec::new(alloc), 0, trouble);
+    let mut sink = ToWriter::new(&mut stream);
+    let failed = sink.write(&[7]);
+    assert!(rt; failed == Err(OUTPUT), "{trouble:?}");
+    let told = sink.flush();
+    expect_equal(rt, stream.calls, 2);
+    told
+}
+
+#[test]
+fn a_flush_is_made_after_a_write_that_failed(rt: HostRuntime) -> Result<(), Fail> {
+    let alloc = rt.alloc();
+    expect_equal(&rt, flushed(&rt, alloc, Trouble::Error), Ok(()));
+    expect_equal(&rt, flushed(&rt, alloc, Trouble::Nothing), Ok(()));
+    expect_equal(&rt, flushed(&rt, alloc, Trouble::Broken), Err(OUTPUT));
+    Ok(())
+}
+
+/// The pause that collects region 1, from the reader to the writer, which is flushed.
+fn pause<R: Threads + Sync>(
+    rt: &R,
+    alloc: Global,
+    reader: &mut Stream,
+    writer: &mut Stream,
+) -> Result<(), Fault> {
+    let settings = collecting(alloc, &[1], 1, 64)?;
+    let mut source = FromReader::new(reader);
+    let mut sink = ToWriter::new(writer);
+    pause_run(rt, alloc, &mut source, &mut sink, &settings, &Open)?;
+    sink.flush()
+}
+
+// The reader has this trouble at each of its calls in turn, of which the last finds the end.
+fn expect_input_faults<T: Threads + Abort + Sync>(
+    rt: &T,
+    alloc: Global,
+    trouble: Trouble,
+) -> Result<(), Fault> {
+    let bytes = text(alloc, one_object())?;
+    for at in 0..=bytes.len() {
+        let mut reader = Stream::new(bytes.clone()?, at, trouble);
+        let mut writer = Stream::of(Vec::new(alloc), 1);
+        let told = pause(rt, alloc, &mut reader, &mut writer);
+        expect_equal(rt, (at, told), (at, Err(INPUT)));
+        expect_equal(rt, (reader.calls, writer.calls), (at + 1, 0));
+        let told = bytes_from(alloc, Stream::new(bytes.clone()?, at, trouble));
+        expect_equal(rt, (at, told), (at, Err(INPUT)));
+    }
+    Ok(())
+}
+
+#[test]
+fn a_read_that_fails_is_told_and_nothing_is_written(rt: HostRuntime) -> Result<(), Fail> {
+    expect_input_faults(&rt, rt.alloc(), Trouble::Error)?;
+    expect_input_faults(&rt, rt.alloc(), Trouble::Broken)?;
+    Ok(())
+}
+
+// The writer has this trouble at each of its calls in turn. Both images have as many bytes.
+fn expect_output_faults<T: Threads + Abort + Sync>(
+    rt: &T,
+    alloc: Global,
+    trouble: Trouble,
+) -> Result<(), Fault> {
+    let before = text(alloc, one_object())?;
+    let after = text(alloc, one_object_after())?;
+    let image = image(alloc, one_object())?;
+    for at in 0..after.len() {
+        let mut writer = Stream::new(Vec::new(alloc), at, trouble);
+        let told = pause(rt, alloc, &mut ending(alloc, &before)?, &mut writer);
+        expect_equal(rt, (at, told), (at, Err(OUTPUT)));
+        expect_equal(rt, writer.bytes.as_slice(), &after[..at]);
+        expect_equal(rt, writer.calls, at + 1);
+        let mut writer = Stream::new(Vec::new(alloc), at, trouble);
+        let told = write_to(alloc, &image, &mut writer);
+        expect_equal(rt, (at, told), (at, Err(OUTPUT)));
+        assert!(rt;
+            before.starts_with(writer.bytes.as_slice()) && writer.bytes.len() == at,
+            "{at}"
+        );
+    }
+    Ok(())
+}
+
+#[test]
+fn a_write_that_fails_is_told_and_a_beginning_stands(rt: HostRuntime) -> Result<(), Fail> {
+    let alloc = rt.alloc();
+    for trouble in [Trouble::Error, Trouble::Broken, Trouble::Nothing] {
+        expect_output_faults(&rt, alloc, trouble)?;
+    }
+    let after = text(alloc, one_object_after())?;
+    let mut reader = ending(alloc, &text(alloc, one_object())?)?;
+    let mut writer = Stream::new(Vec::new(alloc), after.len(), Trouble::Broken);
+    let told = pause(&rt, alloc, &mut reader, &mut writer);
+    expect_equal(&rt, told, Err(OUTPUT));
+    expect_equal(&rt, writer.bytes.as_slice(), after.as_slice());
+    Ok(())
+}
+
+#[test]
+fn an_interrupted_call_is_made_again(rt: HostRuntime) -> Result<(), Fail> {
+    let alloc = rt.alloc();
+    let before = text(alloc, one_object())?;
+    let after = text(alloc, one_object_after())?;
+    for at in 0..=before.len() {
+        let mut reader = Stream::new(before.clone()?, at, Trouble::Interrupted);
+        let mut writer = Stream::new(Vec::new(alloc), at, Trouble::Interrupted);
+        let told = pause(&rt, alloc, &mut reader, &mut writer);
+        expect_equal(&rt, (at, told), (at, Ok(())));
+        expect_equal(&rt, writer.bytes.as_slice(), after.as_slice());
+        expect_equal(&rt, reader.calls, before.len() + 2);
+    }
+    Ok(())
+}
+
+/// Buffers of each length below this are tried.
+const LONGEST: usize = 70_000;
+
+// A reader of one byte gives it, and then no byte into a buffer of any length.
+fn expect_reads<T: Abort>(rt: &T, alloc: Global, buffer: &mut [u8]) -> Result<(), Fault> {
+    let mut source = FromReader::new(Stream::of(vec![in alloc; 7u8; 1]?, 1));
+    expect_equal(rt, source.read(&mut [0]), Ok(1));
+    for length in 0..LONGEST {
+        let end = length.min(buffer.len());
+        let given = source.read(&mut buffer[..end]);
+        assert!(rt; given == Ok(0), "{length}");
+    }
+    Ok(())
+}
+
+// A writer takes one byte of any that there are.
+fn expect_writes<T: Abort>(rt: &T, alloc: Global, bytes: &[u8]) {
+    let mut sink = ToWriter::new(Stream::of(Vec::new(alloc), 1));
+    for length in 0..LONGEST {
+        let taken = sink.write(&bytes[..length.min(bytes.len())]);
+        assert!(rt; taken == Ok(length.min(1)), "{length}");
+    }
+    expect_equal(rt, sink.into_inner().calls, LONGEST);
+}
+
+#[test]
+fn a_device_is_told_only_of_a_call_that_failed(rt: HostRuntime) -> Result<(), Fail> {
+    let alloc = rt.alloc();
+    let mut buffer = vec![in alloc; 0u8; LONGEST]?;
+    expect_reads(&rt, alloc, &mut buffer)?;
+    expect_writes(&rt, alloc, &buffer);
+    Ok(())
+}
