@@ -1,13 +1,12 @@
 -- The words of a line say at most one thing.
-use Rattle.std.proofs.Common.{◌≡◌, ℕ, zero, suc, ◌+◌, ◌-◌, ◌*◌, ◌^◌, ◌<◌, ◌≤◌, Bool, List, [], ◌∷◌, ◌++◌, length, get_or, drop, map, set, refl, sym, ◌∙◌, ap, subst, arith}
+use Rattle.std.proofs.Common.{◌≡◌, ℕ, suc, ◌+◌, ◌-◌, ◌*◌, ◌^◌, ◌<◌, Bool, List, [], ◌∷◌, ◌++◌, length, get_or, drop, map, set, refl, sym, ◌∙◌, ap, subst, arith}
 use Rattle.std.specs.Prelude.{Option, Some, None, IfSome, All, decimal, slice_index_or}
 use Rattle.std.proofs.lemmas.Fmt.{decimal_injective}
-use Rattle.g1_words.specs.Geometry.{Geometry}
 use Rattle.g1_words.specs.declared.region.Region.{Region}
 use Rattle.g1_words.specs.declared.region.Kind.{Kind}
 use Rattle.g1_text.specs.Lines.{reference_word}
 use Rattle.g1_text.specs.Laws.{LinesSayOne}
-use Rattle.g1_text.specs.Content.{Content, Counts, Line, Root, Dirty, Numbers, Remembered, Holds, Takes, Adds, Says, Begins}
+use Rattle.g1_text.specs.Content.{Content, Counts, Line, Root, Dirty, Numbers, Remembered, Holds, Takes, Adds, Begins}
 use Rattle.g1_text.specs.Content.{begun, words_of, words_beyond, size_with, top_behind, beyond_behind, one_found}
 use Rattle.g1_text.proofs.Splitting.{Small}
 use Rattle.g1_text.proofs.Ends.{one_end}
