@@ -68,7 +68,10 @@ references [] all = tt
 references (x ∷ xs) all = (reference x (all 0 0 (omega arith)), references xs (λ k d lt. all (suc k) d (omega (arith, lt))))
 
 slashed : (size slots : ℕ) → size < 2 ^ 64 → slots < 2 ^ 64 → IsPrintable (decimal size ++ 47 ∷ decimal slots)
-slashed size slots fs ft = (some (decimal size) (47 ∷ decimal slots) (number size fs).0, all_append (decimal size) (47 ∷ decimal slots) (number size fs).1 (omega arith, omega arith, (number slots ft).1))
+slashed size slots fs ft = (
+  some (decimal size) (47 ∷ decimal slots) (number size fs).0,
+  all_append (decimal size) (47 ∷ decimal slots) (number size fs).1 (omega arith, omega arith, (number slots ft).1),
+)
   where
     some : (xs ys : List ℕ) → 0 < length xs → 0 < length (xs ++ ys)
     some [] ys lt = absurd (omega (arith, lt))

@@ -24,7 +24,8 @@ part_end [] (suc k) e = refl
 part_end (x ∷ xs) zero e = absurd (omega (arith, e))
 part_end (x ∷ xs) (suc k) e = part_end xs k (omega (arith, e))
 
-module _ (text line : List ℕ) (lines : List (List (List ℕ))) (has : HasLines text lines) (k m : ℕ) (lt : k < length (parts_of text)) (is : line ≡ get_or (parts_of text) k line) (next : m ≡ k + 1) where
+module _ (text line : List ℕ) (lines : List (List (List ℕ))) (has : HasLines text lines) (k m : ℕ)
+    (lt : k < length (parts_of text)) (is : line ≡ get_or (parts_of text) k line) (next : m ≡ k + 1) where
   line_utf8 : IsUtf8 line
   line_utf8 = subst IsUtf8 (sym is) (has.utf8 k line lt)
 
@@ -38,7 +39,8 @@ module _ (text line : List ℕ) (lines : List (List (List ℕ))) (has : HasLines
   front_is b e = front ∙ ap (λ t. cond t (words_in line ∷ lines_from m text) (lines_from m text)) e
 
   module _ {E : Type 0} (M : E → Type 0) (old new : Option Content) (c : Content) where
-    added : (r : Result (Unit {0}) E) (d : Content) → MatchResult r (λ _. new ≡ Some d) M → SaysAll (Some d) (lines_from m text) (Some c) → MatchResult r (λ _. SaysAll new (lines_from m text) (Some c)) M
+    added : (r : Result (Unit {0}) E) (d : Content) → MatchResult r (λ _. new ≡ Some d) M → SaysAll (Some d) (lines_from m text) (Some c)
+        → MatchResult r (λ _. SaysAll new (lines_from m text) (Some c)) M
     added (Ok x) d e all = subst (λ s. SaysAll s (lines_from m text) (Some c)) (sym e) all
     added (Err x) d e all = e
 

@@ -15,7 +15,9 @@ pub returns-in-Err : goal.returns-in-Err
 returns-in-Err c = λ lines after has all.
     let k = length c.loop-line.yielded in
     let turn = in_turn c.loop-line.yielded _ c.loop-line.yielded_by _ _ c.in-Some.line c.in-Some.is c.next.ensures.steps
-    (YieldsList-at c.into_iter-line-iterator.ensures.into_iter_gives (YieldsList-from_slice_split _ (λ b. eqb b 10) c.args.text.now c.split-line-items.ensures.rest c.split-line-items.ensures.done c.split-line-items.ensures.closure (λ x b q k. search (rules, tests)))) in
+    (YieldsList-at c.into_iter-line-iterator.ensures.into_iter_gives
+    (YieldsList-from_slice_split _ (λ b. eqb b 10) c.args.text.now c.split-line-items.ensures.rest c.split-line-items.ensures.done c.split-line-items.ensures.closure
+    (λ x b q k. search (rules, tests)))) in
     c.at.ensures (at_err (λ _. SaysAll (said c.read_line.new.draft) (lines_from (k + 1) c.args.text.now) (Some after)) (λ e. e ≡ Memory) c.in-Err.is
     (turned c.args.text.now c.in-Some.line.now lines has k (k + 1) turn.0 turn.1 refl
     (λ e. e ≡ Memory) (said c.loop-line.draft) (said c.read_line.new.draft) after c.read_line.result c.read_line.ensures.says c.read_line.ensures.nothing (c.loop-line.invariant lines after has all)))
@@ -25,7 +27,9 @@ loop-line-preserved c = λ lines after has all.
     let k = length c.loop-line.yielded in
     let m = length (c.loop-line.yielded ++ c.in-Some.line ∷ []) in
     let turn = in_turn c.loop-line.yielded _ c.loop-line.yielded_by _ _ c.in-Some.line c.in-Some.is c.next.ensures.steps
-    (YieldsList-at c.into_iter-line-iterator.ensures.into_iter_gives (YieldsList-from_slice_split _ (λ b. eqb b 10) c.args.text.now c.split-line-items.ensures.rest c.split-line-items.ensures.done c.split-line-items.ensures.closure (λ x b q k. search (rules, tests)))) in
+    (YieldsList-at c.into_iter-line-iterator.ensures.into_iter_gives
+    (YieldsList-from_slice_split _ (λ b. eqb b 10) c.args.text.now c.split-line-items.ensures.rest c.split-line-items.ensures.done c.split-line-items.ensures.closure
+    (λ x b q k. search (rules, tests)))) in
     at_ok (λ _. SaysAll (said c.read_line.new.draft) (lines_from m c.args.text.now) (Some after)) (λ e. e ≡ Memory) c.in_default.is
     (turned c.args.text.now c.in-Some.line.now lines has k m turn.0 turn.1 (length_push c.loop-line.yielded c.in-Some.line)
     (λ e. e ≡ Memory) (said c.loop-line.draft) (said c.read_line.new.draft) after c.read_line.result c.read_line.ensures.says c.read_line.ensures.nothing (c.loop-line.invariant lines after has all))
@@ -33,5 +37,7 @@ loop-line-preserved c = λ lines after has all.
 pub returns : goal.returns
 returns c = λ lines after has all.
     let end = at_end c.loop-line.yielded _ c.loop-line.yielded_by _ _ c.in-None.is c.next.ensures.steps
-    (YieldsList-at c.into_iter-line-iterator.ensures.into_iter_gives (YieldsList-from_slice_split _ (λ b. eqb b 10) c.args.text.now c.split-line-items.ensures.rest c.split-line-items.ensures.done c.split-line-items.ensures.closure (λ x b q k. search (rules, tests)))) in
+    (YieldsList-at c.into_iter-line-iterator.ensures.into_iter_gives
+    (YieldsList-from_slice_split _ (λ b. eqb b 10) c.args.text.now c.split-line-items.ensures.rest c.split-line-items.ensures.done c.split-line-items.ensures.closure
+    (λ x b q k. search (rules, tests)))) in
     ended c.args.text.now (said c.loop-line.draft) (Some after) (length c.loop-line.yielded) end (c.loop-line.invariant lines after has all)
