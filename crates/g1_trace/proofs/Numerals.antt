@@ -122,7 +122,8 @@ some_number n bytes rest value back some le lead digits e small =
     sym (take_drop n bytes) ∙ ap (λ ds. ds ++ drop n bytes) word ∙ ap (λ xs. decimal value ++ xs) (sym back)
 
 -- a number and what follows it are told by the bytes
-pub one_number : (bytes rest more : List ℕ) (x y : ℕ) → x < 2 ^ 64 → y < 2 ^ 64 → IsNumberEnd rest → IsNumberEnd more → bytes ≡ 32 ∷ (decimal x ++ rest) → bytes ≡ 32 ∷ (decimal y ++ more) → rest ≡ more
+pub one_number : (bytes rest more : List ℕ) (x y : ℕ) → x < 2 ^ 64 → y < 2 ^ 64 → IsNumberEnd rest → IsNumberEnd more
+    → bytes ≡ 32 ∷ (decimal x ++ rest) → bytes ≡ 32 ∷ (decimal y ++ more) → rest ≡ more
 one_number bytes rest more x y fx fy p q e f =
     (digits_split (decimal x) (decimal y) rest more (digits_decimal own x fx) (digits_decimal own y fy) p q (ap (drop 1) (sym e ∙ f))).1
 
