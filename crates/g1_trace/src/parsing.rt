@@ -322,7 +322,7 @@ fn with_three(name: Name, root: u64, second: u64, third: u64) -> Option<Command>
 }
 
 /// The command of this name that has these numbers.
-fn named(name: Name, numbers: Numbers) -> Option<Command>
+fn with_numbers(name: Name, numbers: Numbers) -> Option<Command>
     ensures some { IfSome result (λ c. (spelled name ≡ name_of c) × (numbers_of c ≡ listed numbers)) }
     ensures none { IfNone result ((c : CommandOf) → numbers_of c ≡ listed numbers → spelled name ≡ name_of c → ⊥) }
 {
@@ -348,7 +348,7 @@ fn take_command(bytes: &[u8]) -> Option<(Command, &[u8])>
         Some(taken) => taken,
         None => return None,
     };
-    match named(name, numbers) {
+    match with_numbers(name, numbers) {
         Some(command) => Some((command, rest)),
         None => None,
     }
