@@ -10,3 +10,6 @@ pub mod OneRenaming
 pub mod Steps
 pub mod OneFirst
 pub mod First
+pub mod Made
+pub mod Meets
+pub mod Always

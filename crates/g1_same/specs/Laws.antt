@@ -1,5 +1,5 @@
 -- The laws that public functions of this crate prove.
-use Rattle.std.specs.Prelude.{◌≡◌, ℕ, List}
+use Rattle.std.specs.Prelude.{◌≡◌, ◌⊎◌, ℕ, List}
 use Rattle.g1_words.specs.Heap.{Heap}
 use Rattle.g1_words.specs.Valid.{IsValid}
 use Rattle.g1_words.specs.Graph.{SameGraph}
@@ -24,3 +24,7 @@ OneFirst = (g h : Heap) (d e : Difference) → IsFirstDifference g h d → IsFir
 -- two heaps have one renaming at most
 abbrev pub OneRenaming : Type 0
 OneRenaming = (g h : Heap) (olds news others images : List ℕ) → IsValid g → IsRenaming g h olds news → IsRenaming g h others images → (olds ≡ others) × (news ≡ images)
+
+-- two valid heaps show one graph, or have a first difference
+abbrev pub SameOrDiffers : Type 0
+SameOrDiffers = (g h : Heap) → IsValid g → IsValid h → SameGraph g h ⊎ ((d : Difference) × IsFirstDifference g h d)

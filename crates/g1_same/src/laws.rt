@@ -1,4 +1,4 @@
-ghost use Rattle.g1_same.specs.Laws.{NeverBoth, OneFirst, OneRenaming};
+ghost use Rattle.g1_same.specs.Laws.{NeverBoth, OneFirst, OneRenaming, SameOrDiffers};
 
 /// A difference shows that no renaming makes the one graph the other.
 pub fn never_both()
@@ -13,4 +13,9 @@ pub fn one_first()
 /// Two heaps have one renaming at most.
 pub fn one_renaming()
     ensures { OneRenaming }
+{}
+
+/// Two valid heaps show one graph or have a first difference.
+pub fn always_one()
+    ensures { SameOrDiffers }
 {}
