@@ -206,7 +206,7 @@ fn miss_of_team<R: Threads + Sync>(
         if trial.is_refused {
             verdicts.count(trial.alloc, name, found.is_refused, !is_same)?;
         }
-        rounds -= u32::from(!found.is_refused);
+        rounds = rounds.saturating_sub(u32::from(!found.is_refused));
         if rounds == 0 {
             return Ok(None);
         }

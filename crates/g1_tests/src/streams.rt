@@ -317,7 +317,9 @@ fn an_interrupted_call_is_made_again(rt: HostRuntime) -> Result<(), Fail> {
     let after = text(alloc, one_object_after())?;
     for at in 0..=before.len() {
         let mut reader = Stream::new(before.clone()?, at, Trouble::Interrupted);
-        let mut writer = Stream::new(Vec::new(alloc), at, Trouble::Interrupted);
+        // The call behind the last byte is the flush, which is not made again.
+        let writes = after.len().saturating_sub(1);
+        let mut writer = Stream::new(Vec::new(alloc), at.min(writes), Trouble::Interrupted);
         let told = pause(&rt, alloc, &mut reader, &mut writer);
         expect_equal(&rt, (at, told), (at, Ok(())));
         expect_equal(&rt, writer.bytes.as_slice(), after.as_slice());
