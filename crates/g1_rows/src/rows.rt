@@ -188,7 +188,7 @@ fn miss_of_team<R: Threads + Sync>(
     team: (u64, u64),
     verdicts: &mut Verdicts,
 ) -> Result<Option<String>, AllocError> {
-    let mut rounds = if trial.is_refused { 3 } else { 1 };
+    let mut rounds: u32 = if trial.is_refused { 3 } else { 1 };
     for _run in 0..MOST_RUNS {
         let found = answer(trial.rt, trial.alloc, name, &case.given, team)?;
         let is_same = found.bytes.as_slice() == case.expected.as_slice();
