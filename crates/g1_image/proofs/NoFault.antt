@@ -1,5 +1,5 @@
 -- An image's text has no fault.
-use Rattle.std.proofs.Common.{◌≡◌, ◌≤◌, ◌<◌, ℕ, zero, suc, inl, inr, Bool, true, false, List, [], ◌∷◌, length, slice_index, slice_index_or, map, arith, refl, sym, ap, subst}
+use Rattle.std.proofs.Common.{◌≡◌, ◌≤◌, ◌<◌, ℕ, zero, suc, inl, inr, Bool, true, false, List, [], ◌∷◌, length, slice_index_or, map, arith, refl, sym, ap, subst}
 use Rattle.std.specs.Prelude.{IsTrue}
 use Rattle.g1_words.specs.Heap.{Heap, free_region}
 use Rattle.g1_words.specs.Valid.{IsValid}
@@ -7,7 +7,6 @@ use Rattle.g1_words.specs.declared.region.Region.{Region}
 use Rattle.g1_words.specs.declared.region.Kind.{Kind}
 use Rattle.g1_words.specs.declared.region.Kind.TheVariants.{Free, Ordinary, HumongousFirst, Continuation}
 use Rattle.g1_words.specs.declared.fault.Fault.{Fault}
-use Rattle.g1_words.specs.declared.fault.Fault.TheVariants as fault
 use Rattle.g1_words.specs.declared.fault.Stand.{Stand}
 use Rattle.g1_words.specs.declared.fault.Stand.TheVariants as stand
 use Rattle.g1_image.specs.Text.{File, Version}
@@ -15,7 +14,7 @@ use Rattle.g1_words.specs.Kind.{kind_number}
 use Rattle.g1_image.specs.Image.{Image, IsImage, IsLog, IsTextOf, heap_of, file_of, flags_of, entry_of}
 use Rattle.g1_image.specs.Faults.{FileFault, FaultOf, IsKnownKind, HasKnownFlags, AreKnown, IsGoodRoot, IsGoodSlot, IsGoodHeap, IsGoodLogged, LogIsGood, IsGoodSet, SetsAreGood, CardFault}
 use Rattle.g1_image.proofs.FileOf.{file_fits, heap_of_file}
-use Rattle.g1_image.proofs.Stages.{Stages, stage_of}
+use Rattle.g1_image.proofs.Stages.{stage_of}
 use Rattle.g1_image.proofs.OneFault.{no_table_fault, no_heap_fault}
 use Rattle.g1_image.proofs.OneVerdict.{fault_of_whole}
 

@@ -1,5 +1,5 @@
 -- The stages in which a whole file is judged: its table, its heap, its cards.
-use Rattle.std.proofs.Common.{◌≡◌, ◌*◌, ◌⊎◌, ℕ, inl, inr, List, refl}
+use Rattle.std.proofs.Common.{◌≡◌, ◌⊎◌, ℕ, inl, inr, List, refl}
 use Rattle.g1_words.specs.declared.fault.Fault.{Fault}
 use Rattle.g1_words.specs.declared.fault.Fault.TheVariants as fault
 use Rattle.g1_words.specs.declared.fault.Stand.{Stand}
