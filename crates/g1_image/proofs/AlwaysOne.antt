@@ -4,22 +4,25 @@ use Rattle.std.specs.Prelude.{Some, None, IfSome, nat_lt, if◌then◌else◌}
 use Rattle.std.proofs.lemmas.Bool.{cases_lt, le-ltb}
 use Rattle.std.proofs.lemmas.List.{length-map}
 use Rattle.std.proofs.lemmas.Grind.{get_or_default_zero}
+use Rattle.g1_words.specs.Heap.{Heap}
 use Rattle.g1_words.specs.Valid.{IsShaped}
 use Rattle.g1_words.specs.declared.fault.Fault.{Fault}
 use Rattle.g1_words.specs.declared.fault.Fault.TheVariants as fault
 use Rattle.g1_words.specs.declared.fault.Place.TheVariants as place
+use Rattle.g1_words.specs.declared.fault.Stand.{Stand}
 use Rattle.g1_words.specs.declared.fault.Stand.TheVariants as stand
 use Rattle.g1_image.specs.declared.cursor.Heading.{Heading}
 use Rattle.g1_image.specs.Text.{File, Entry, Version, file_text, words_of, table_words}
 use Rattle.g1_image.specs.Reading.{IsBytes}
 use Rattle.g1_image.specs.Image.{Image, IsTextOf, heap_of, all_words, region_of_entry}
 use Rattle.g1_image.specs.Draft.{IsDraft}
-use Rattle.g1_image.specs.Judged.{IsGoodHeap}
 use Rattle.g1_image.specs.Plain.{plain_file, PlainIs}
-use Rattle.g1_image.specs.Faults.{FileFits, FileFault, FaultOf, entry, HasKnownFlags, KindKnown, FlagsKnown, TableKnown, RootGood, SlotGood, LogGood, RememberedGood}
+use Rattle.g1_image.specs.Faults.{FileFits, FileFault, FaultOf, AreKnown, TableFault, IsGoodHeap, HeapFault, CardFault}
+use Rattle.g1_image.specs.Faults.{entry, IsKnownKind, HasKnownFlags, IsGoodRoot, IsGoodSlot, IsGoodLogged, LogIsGood, IsGoodSet, SetsAreGood}
 use Rattle.g1_image.proofs.Drafts.{length-laid, bounded_laid}
 use Rattle.g1_image.proofs.Assembled.{is_image, can_tell, file_again}
 use Rattle.g1_image.proofs.NoFault.{IsGoodFile}
+use Rattle.g1_image.proofs.Stages.{of_table, of_heap, file_fault}
 use Rattle.g1_image.proofs.Decided.{Decided, decided_le, decided_eq, decided_both, decided_either, first_breach}
 use Rattle.g1_image.proofs.DecidedShapes.{decided_shaped}
 use Rattle.g1_image.proofs.DecidedReferences.{decided_reference, decided_good_slot}
@@ -32,13 +35,36 @@ decided_flags es r =
     let e : Entry = entry es r in
     decided_either (e.flags ≡ 0) ((e.flags ≡ 1) × (e.kind ≡ 1)) (decided_eq e.flags 0) (decided_both (e.flags ≡ 1) (e.kind ≡ 1) (decided_eq e.flags 1) (decided_eq e.kind 1))
 
--- the kinds and the flags of a file's regions have a meaning, or one has none
-told_table : (f : File) → TableKnown f ⊎ ((e : Fault) × FileFault f e)
-told_table f = elim (first_breach (KindKnown f) (λ r. decided_le (entry f.table r).kind 3) f.n) [
+-- the kinds and the flags of the first n regions have a meaning, or one has none
+told_table : (table : List Entry) (n : ℕ) → AreKnown table n ⊎ ((e : Fault) × TableFault table n e)
+told_table table n = elim (first_breach (IsKnownKind table) (λ r. decided_le (entry table r).kind 3) n) [
   | inr b ↦ inr (fault.Kind b.0, b.1)
-  | inl kinds ↦ elim (first_breach (FlagsKnown f) (decided_flags f.table) f.n) [
+  | inl kinds ↦ elim (first_breach (HasKnownFlags table) (decided_flags table) n) [
     | inr b ↦ inr (fault.Flags b.0, (kinds, b.1))
     | inl flags ↦ inl (record { kinds = kinds; flags = flags })
+  ]
+]
+
+-- a heap is good, or it breaks a first rule
+told_heap : (h : Heap) → 0 < h.geometry.w → IsGoodHeap h ⊎ ((e : Fault) × HeapFault h e)
+told_heap h wide = elim (first_breach (IsShaped h) (decided_shaped h wide) h.geometry.n) [
+  | inr b ↦ inr (fault.Shape b.0, b.1)
+  | inl shaped ↦ elim (first_breach (IsGoodRoot h) (λ i. decided_reference h shaped (slice_index h.roots i)) (length h.roots)) [
+    | inr b ↦ inr (fault.Reference (place.Root b.0), (shaped, b.1))
+    | inl roots ↦ elim (first_breach (IsGoodSlot h) (decided_good_slot h shaped) (h.geometry.n * h.geometry.w)) [
+      | inr b ↦ inr (fault.Reference (place.Slot b.0), (shaped, roots, b.1))
+      | inl slots ↦ inl (record { shaped = shaped; roots = roots; slots = slots })
+    ]
+  ]
+]
+
+-- the log and the remembered sets are good, or one of their cards is the first that isn't
+told_cards : (h : Heap) (log : List ℕ) (sets : List (List ℕ)) → (LogIsGood h log × SetsAreGood h sets) ⊎ ((s : Stand) × CardFault h log sets s)
+told_cards h log sets = elim (first_breach (IsGoodLogged h log) (decided_logged h log) (length log)) [
+  | inr b ↦ inr (stand.Dirty b.0, b.1)
+  | inl logged ↦ elim (first_breach (IsGoodSet h sets) (λ r. decided_set h r (slice_index_or sets r [])) h.geometry.n) [
+    | inr b ↦ inr (stand.Region b.0, (logged, b.1))
+    | inl good ↦ inl (logged, good)
   ]
 ]
 
@@ -46,33 +72,16 @@ told_table f = elim (first_breach (KindKnown f) (λ r. decided_le (entry f.table
 judged : (f : File) → FileFits f → IsGoodFile f ⊎ ((e : Fault) × FileFault f e)
 judged f fits =
     let wide : 0 < f.w = omega (arith, fits.limits.sizes.w_least) in
-    elim (told_table f) [
-      | inr b ↦ inr b
-      | inl known ↦ elim (first_breach (IsShaped (heap_of f)) (decided_shaped (heap_of f) wide) f.n) [
-        | inr b ↦ inr (fault.Shape b.0, (known, b.1))
-        | inl shaped ↦ elim (first_breach (RootGood f) (λ i. decided_reference (heap_of f) shaped (slice_index f.roots i)) (length f.roots)) [
-          | inr b ↦ inr (fault.Reference (place.Root b.0), (known, shaped, b.1))
-          | inl roots ↦ elim (first_breach (SlotGood f) (decided_good_slot (heap_of f) shaped) (f.n * f.w)) [
-            | inr b ↦ inr (fault.Reference (place.Slot b.0), (known, shaped, roots, b.1))
-            | inl slots ↦ elim (first_breach (LogGood f) (decided_logged (heap_of f) f.log) (length f.log)) [
-              | inr b ↦ inr (fault.Card (stand.Dirty b.0), (known, shaped, roots, slots, b.1))
-              | inl log ↦ elim (first_breach (RememberedGood f) (λ r. decided_set (heap_of f) r (slice_index_or f.remembered r [])) f.n) [
-                | inr b ↦ inr (fault.Card (stand.Region b.0), (known, shaped, roots, slots, log, b.1))
-                | inl remembered ↦ inl (record { known = known; shaped = shaped; roots = roots; slots = slots; log = log; remembered = remembered })
-              ]
-            ]
-          ]
+    elim (told_table f.table f.n) [
+      | inr x ↦ inr (x.0, of_table f x.0 x.1)
+      | inl known ↦ elim (told_heap (heap_of f) wide) [
+        | inr x ↦ inr (x.0, of_heap f x.0 known x.1)
+        | inl heap ↦ elim (told_cards (heap_of f) f.log f.remembered) [
+          | inr x ↦ inr (fault.Card x.0, (known, heap, x.1))
+          | inl cards ↦ inl (record { known = known; heap = heap; log = cards.0; remembered = cards.1 })
         ]
       ]
     ]
-
--- the fault of a whole file is its bytes'
-file_fault : (bytes : List ℕ) (f : File) (e : Fault) → FileFits f → bytes ≡ file_text f → FileFault f e → FaultOf bytes e
-file_fault bytes f fault.Magic fits text x = absurd x
-file_fault bytes f fault.Short fits text x = absurd x
-file_fault bytes f fault.Geometry fits text x = absurd x
-file_fault bytes f fault.Trailing fits text x = absurd x
-file_fault bytes f e fits text x = (f, fits, text, x)
 
 -- a current region is one of the regions
 current_in : (c n : ℕ) → IfSome (if nat_lt c n then Some c else None) (λ r. r < n)
@@ -101,9 +110,8 @@ module _ (bytes : List ℕ) (v : Version) (h : Heading) (table : List Entry) (ro
   image_of : IsGoodFile (plain_file v h table roots log remembered words) → (i : Image) × IsTextOf bytes i
   image_of g =
       let f : File = plain_file v h table roots log remembered words in
-      let good : IsGoodHeap (heap_of f) = record { shaped = g.shaped; roots = g.roots; slots = g.slots } in
       let i : Image = record { heap = heap_of f; remembered = remembered; log = log } in
-      (i, (v, (is_image f p.fits draft good g.known g.log g.remembered, can_tell f p.fits, p.text ∙ ap file_text (sym (file_again f p.fits good g.known)))))
+      (i, (v, (is_image f p.fits draft g.heap g.known g.log g.remembered, can_tell f p.fits, p.text ∙ ap file_text (sym (file_again f p.fits g.heap g.known)))))
 
   -- a whole file is an image's, or its bytes have a fault
   told_plain : ((i : Image) × IsTextOf bytes i) ⊎ AnyFault bytes

@@ -13,56 +13,39 @@ use Rattle.g1_words.specs.declared.region.Kind.{Kind}
 use Rattle.g1_words.specs.declared.region.Kind.TheVariants.{Free, Ordinary, HumongousFirst, Continuation}
 use Rattle.g1_words.specs.declared.fault.Fault.{Fault}
 use Rattle.g1_words.specs.declared.fault.Fault.TheVariants as fault
-use Rattle.g1_words.specs.declared.fault.Place.TheVariants as place
-use Rattle.g1_words.specs.declared.fault.Stand.TheVariants as stand
+use Rattle.g1_words.specs.declared.fault.Stand.{Stand}
 use Rattle.g1_image.specs.declared.cursor.Version.TheVariants.{One, Two}
 use Rattle.g1_image.specs.Text.{File, Entry, Version, file_text, table_words}
 use Rattle.g1_words.specs.Kind.{kind_of, kind_number}
-use Rattle.g1_image.specs.Image.{IsImage, CanTell, IsLog, IsUsedCard, IsRememberedSet, flags_of, all_words, used_words, heap_of, file_of, region_of_entry, entry_of}
-use Rattle.g1_image.specs.Faults.{FileFits, EntryFits, MayFail, entry, IsKnownKind, HasKnownFlags, TableKnown, IsFirstBreach, IsGoodLogged, LogGood, LogsGood, RememberedGood}
-use Rattle.g1_image.specs.Judged.{TableFault, IsGoodHeap, HeapFault}
+use Rattle.g1_image.specs.Image.{IsImage, CanTell, IsLog, IsUsedCard, flags_of, all_words, used_words, heap_of, file_of, region_of_entry, entry_of}
+use Rattle.g1_image.specs.Faults.{FileFits, EntryFits, MayFail, entry, IsKnownKind, HasKnownFlags, AreKnown, TableFault, IsGoodHeap, HeapFault, LogIsGood, SetsAreGood, CardFault}
+use Rattle.g1_image.proofs.Stages.{of_table, of_heap, file_fault}
 use Rattle.g1_image.specs.Draft.{IsDraft}
 use Rattle.g1_image.proofs.Words.{table_words-cons}
 
 -- the fault of a whole file's table is the bytes'
 pub table_fault : (bytes : List ℕ) (f : File) (e : Fault) → FileFits f → bytes ≡ file_text f → TableFault f.table f.n e → MayFail bytes e
-table_fault bytes f (fault.Kind r) fits text h = inr (f, fits, text, h)
-table_fault bytes f (fault.Flags r) fits text h = inr (f, fits, text, (h.0, h.1))
-table_fault bytes f _ fits text h = absurd h
+table_fault bytes f e fits text x = inr (file_fault bytes f e fits text (of_table f e x))
 
--- the fault of a whole file is the bytes'
-pub heap_fault : (bytes : List ℕ) (f : File) (e : Fault) → FileFits f → bytes ≡ file_text f → TableKnown f → HeapFault (heap_of f) e → MayFail bytes e
-heap_fault bytes f (fault.Shape r) fits text known h = inr (f, fits, text, (known, h))
-heap_fault bytes f (fault.Reference (place.Root i)) fits text known h = inr (f, fits, text, (known, h.0, h.1))
-heap_fault bytes f (fault.Reference (place.Slot p)) fits text known h = inr (f, fits, text, (known, h.0, h.1, h.2))
-heap_fault bytes f _ fits text known h = absurd h
+-- the fault of its heap is
+pub heap_fault : (bytes : List ℕ) (f : File) (e : Fault) → FileFits f → bytes ≡ file_text f → AreKnown f.table f.n → HeapFault (heap_of f) e → MayFail bytes e
+heap_fault bytes f e fits text known x = inr (file_fault bytes f e fits text (of_heap f e known x))
 
-pub log_fault : (bytes : List ℕ) (f : File) (h : Heap) (log : List ℕ) (e : Fault) (i : ℕ) → FileFits f → bytes ≡ file_text f → TableKnown f → h ≡ heap_of f → log ≡ f.log → IsGoodHeap h →
-    e ≡ fault.Card (stand.Dirty i) → IsFirstBreach (IsGoodLogged h log) (length log) i → MayFail bytes e
-log_fault bytes f h log e i fits text known same logs g is b =
-    let good : IsGoodHeap (heap_of f) = subst IsGoodHeap same g in
-    let first : IsFirstBreach (LogGood f) (length f.log) i = subst (λ l. IsFirstBreach (IsGoodLogged (heap_of f) l) (length l) i) logs
-    (subst (λ x. IsFirstBreach (IsGoodLogged x log) (length log) i) same b) in
-    subst (MayFail bytes) (sym is) (inr (f, fits, text, (known, good.shaped, good.roots, good.slots, first)))
+-- and so is that of its cards, if the heap, the log and the remembered sets that were checked are its own
+pub card_fault : (bytes : List ℕ) (f : File) (h : Heap) (log : List ℕ) (sets : List (List ℕ)) (e : Fault) (s : Stand) → FileFits f → bytes ≡ file_text f → AreKnown f.table f.n →
+    h ≡ heap_of f → log ≡ f.log → sets ≡ f.remembered → IsGoodHeap h → e ≡ fault.Card s → CardFault h log sets s → MayFail bytes e
+card_fault bytes f h log sets e s fits text known same logs own g is x =
+    let first : CardFault (heap_of f) f.log f.remembered s = subst (λ l. CardFault (heap_of f) f.log l s) own
+    (subst (λ l. CardFault (heap_of f) l sets s) logs (subst (λ y. CardFault y log sets s) same x)) in
+    subst (MayFail bytes) (sym is) (inr (f, fits, text, (known, subst IsGoodHeap same g, first)))
 
--- the log of a file is good where the one that was checked is its own
-pub logs_good : (f : File) (h : Heap) (log : List ℕ) → h ≡ heap_of f → log ≡ f.log → ((i : ℕ) → i < length log → IsGoodLogged h log i) → LogsGood f
-logs_good f h log same logs good = subst (λ l. (i : ℕ) → i < length l → IsGoodLogged (heap_of f) l i) logs (subst (λ x. (i : ℕ) → i < length log → IsGoodLogged x log i) same good)
+-- the log of a file is good if the one that was checked is its own
+pub logs_good : (f : File) (h : Heap) (log : List ℕ) → h ≡ heap_of f → log ≡ f.log → LogIsGood h log → LogIsGood (heap_of f) f.log
+logs_good f h log same logs good = subst (λ l. LogIsGood (heap_of f) l) logs (subst (λ x. LogIsGood x log) same good)
 
-pub remembered_fault : (bytes : List ℕ) (f : File) (h : Heap) (remembered : List (List ℕ)) (e : Fault) (r : ℕ) → FileFits f → bytes ≡ file_text f →
-    TableKnown f → h ≡ heap_of f → remembered ≡ f.remembered →
-    IsGoodHeap h → LogsGood f → e ≡ fault.Card (stand.Region r) → IsFirstBreach (λ q. IsRememberedSet h q (slice_index_or remembered q [])) h.geometry.n r → MayFail bytes e
-remembered_fault bytes f h remembered e r fits text known same own g logged is b =
-    let good : IsGoodHeap (heap_of f) = subst IsGoodHeap same g in
-    let first : IsFirstBreach (RememberedGood f) f.n r = subst (λ l. IsFirstBreach (λ q. IsRememberedSet (heap_of f) q (slice_index_or l q [])) f.n r) own
-    (subst (λ x. IsFirstBreach (λ q. IsRememberedSet x q (slice_index_or remembered q [])) x.geometry.n r) same b) in
-    subst (MayFail bytes) (sym is) (inr (f, fits, text, (known, good.shaped, good.roots, good.slots, logged, first)))
-
--- the remembered sets of a file are good where those that were checked are its own
-pub all_remembered_good : (f : File) (h : Heap) (remembered : List (List ℕ)) → h ≡ heap_of f → remembered ≡ f.remembered →
-    ((r : ℕ) → r < h.geometry.n → IsRememberedSet h r (slice_index_or remembered r [])) → (r : ℕ) → r < f.n → RememberedGood f r
-all_remembered_good f h remembered same own good = subst (λ l. (r : ℕ) → r < f.n → IsRememberedSet (heap_of f) r (slice_index_or l r [])) own
-    (subst (λ x. (r : ℕ) → r < x.geometry.n → IsRememberedSet x r (slice_index_or remembered r [])) same good)
+-- and so are its remembered sets
+pub sets_good : (f : File) (h : Heap) (sets : List (List ℕ)) → h ≡ heap_of f → sets ≡ f.remembered → SetsAreGood h sets → SetsAreGood (heap_of f) f.remembered
+sets_good f h sets same own good = subst (λ l. SetsAreGood (heap_of f) l) own (subst (λ x. SetsAreGood x sets) same good)
 
 -- no more words are used than a region has
 top_of : (k : Kind) (h : Heap) (r : ℕ) → IsShapedBy k h r → (region h r).top ≤ h.geometry.w
@@ -219,7 +202,7 @@ module _ (f : File) (fits : FileFits f) (g : IsGoodHeap (heap_of f)) where
       | inr ge ↦ (let s : n ≡ c = omega (arith, ge, le) in s)
     ]
 
-  pub file_again : TableKnown f → file_of f.version (record { heap = heap_of f; remembered = f.remembered; log = f.log }) ≡ f
+  pub file_again : AreKnown f.table f.n → file_of f.version (record { heap = heap_of f; remembered = f.remembered; log = f.log }) ≡ f
   file_again known = λ t. record {
     version = f.version;
     w = f.w;
@@ -233,7 +216,7 @@ module _ (f : File) (fits : FileFits f) (g : IsGoodHeap (heap_of f)) where
     words = used_all f.w f.table f.words fits.words.how_many tops t;
   }
 
-pub is_log : (h : Heap) (log : List ℕ) → length log < 2 ^ 32 → ((i : ℕ) → i < length log → IsGoodLogged h log i) → IsLog h log
+pub is_log : (h : Heap) (log : List ℕ) → length log < 2 ^ 32 → LogIsGood h log → IsLog h log
 is_log h log count good = record {
   used = λ i x lt. subst (IsUsedCard h) (sym (get_or_default_zero log i x lt)) (good i lt).0;
   distinct = λ i j d lt le e. (good j le).1 i lt (sym (get_or_default_zero log i d (omega (arith, lt, le))) ∙ e ∙ get_or_default_zero log j d le);
@@ -241,7 +224,7 @@ is_log h log count good = record {
 }
 
 -- where flags have a meaning, only ordinary regions are pinned
-pins_known : (f : File) → TableKnown f → (r : ℕ) → r < f.n → MayBePinned (heap_of f) r
+pins_known : (f : File) → AreKnown f.table f.n → (r : ℕ) → r < f.n → MayBePinned (heap_of f) r
 pins_known f known r lt = λ t.
     ap (λ (q : Region). q.kind) (region_is f.table r) ∙ pin_ordinary f.table r (known.flags r lt) (sym (ap (λ (q : Region). q.pinned) (region_is f.table r)) ∙ t)
 
@@ -255,7 +238,7 @@ can_tell f fits = by f.version fits.table.each where
       subst (λ (q : Region). IsFalse q.pinned) (sym (get_or-map region_of_entry f.table k none d within)) (ap (λ x. x == 1) (each k none within).2)
   by Two each = tt
 
-pub is_image : (f : File) → FileFits f → IsDraft (heap_of f) → IsGoodHeap (heap_of f) → TableKnown f → ((i : ℕ) → i < length f.log → LogGood f i) → ((r : ℕ) → r < f.n → RememberedGood f r) →
+pub is_image : (f : File) → FileFits f → IsDraft (heap_of f) → IsGoodHeap (heap_of f) → AreKnown f.table f.n → LogIsGood (heap_of f) f.log → SetsAreGood (heap_of f) f.remembered →
     IsImage (record { heap = heap_of f; remembered = f.remembered; log = f.log })
 is_image f fits d g known logged remembered = record {
   heap = valid_heap (heap_of f) d g (pins_known f known) (zeros f fits g);
@@ -266,13 +249,13 @@ is_image f fits d g known logged remembered = record {
 
 -- an image made of the heap, the remembered sets and the log of a file that keeps all rules
 pub made_image : (f : File) (h : Heap) (remembered : List (List ℕ)) (log : List ℕ) → FileFits f → IsDraft h → h ≡ heap_of f → remembered ≡ f.remembered → log ≡ f.log →
-    IsGoodHeap (heap_of f) → TableKnown f → LogsGood f → ((r : ℕ) → r < f.n → RememberedGood f r) → IsImage (record { heap = h; remembered = remembered; log = log })
+    IsGoodHeap (heap_of f) → AreKnown f.table f.n → LogIsGood (heap_of f) f.log → SetsAreGood (heap_of f) f.remembered → IsImage (record { heap = h; remembered = remembered; log = log })
 made_image f h remembered log fits d same own logs good known logged sets =
     subst (λ l. IsImage (record { heap = h; remembered = remembered; log = l })) (sym logs)
     (subst (λ l. IsImage (record { heap = h; remembered = l; log = f.log })) (sym own)
     (subst (λ x. IsImage (record { heap = x; remembered = f.remembered; log = f.log })) (sym same) (is_image f fits (subst IsDraft same d) good known logged sets)))
 
-pub made_text : (f : File) (h : Heap) (remembered : List (List ℕ)) (log : List ℕ) → FileFits f → h ≡ heap_of f → remembered ≡ f.remembered → log ≡ f.log → IsGoodHeap (heap_of f) → TableKnown f →
-    file_text f ≡ file_text (file_of f.version (record { heap = h; remembered = remembered; log = log }))
+pub made_text : (f : File) (h : Heap) (remembered : List (List ℕ)) (log : List ℕ) → FileFits f → h ≡ heap_of f → remembered ≡ f.remembered → log ≡ f.log →
+    IsGoodHeap (heap_of f) → AreKnown f.table f.n → file_text f ≡ file_text (file_of f.version (record { heap = h; remembered = remembered; log = log }))
 made_text f h remembered log fits same own logs good known =
     ap file_text (sym ((λ t. file_of f.version (record { heap = same t; remembered = own t; log = logs t })) ∙ file_again f fits good known))

@@ -14,6 +14,7 @@ pub mod Rows
 pub mod Slots
 pub mod Logs
 pub mod Drafts
+pub mod Stages
 pub mod Assembled
 pub mod OneFile
 pub mod FileOf

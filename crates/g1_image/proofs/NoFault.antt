@@ -1,42 +1,42 @@
 -- An image's text has no fault.
-use Rattle.std.proofs.Common.{◌≡◌, ◌≤◌, ◌<◌, ℕ, zero, suc, inl, inr, Bool, true, false, List, [], ◌∷◌, length, slice_index, slice_index_or, map, arith, refl, sym, ap, subst}
+use Rattle.std.proofs.Common.{◌≡◌, ◌≤◌, ◌<◌, ℕ, zero, suc, inl, inr, Bool, true, false, List, [], ◌∷◌, length, slice_index_or, map, arith, refl, sym, ap, subst}
 use Rattle.std.specs.Prelude.{IsTrue}
 use Rattle.g1_words.specs.Heap.{Heap, free_region}
-use Rattle.g1_words.specs.Valid.{IsValid, AllShaped, IsReference}
+use Rattle.g1_words.specs.Valid.{IsValid}
 use Rattle.g1_words.specs.declared.region.Region.{Region}
 use Rattle.g1_words.specs.declared.region.Kind.{Kind}
 use Rattle.g1_words.specs.declared.region.Kind.TheVariants.{Free, Ordinary, HumongousFirst, Continuation}
 use Rattle.g1_words.specs.declared.fault.Fault.{Fault}
-use Rattle.g1_words.specs.declared.fault.Fault.TheVariants as fault
-use Rattle.g1_words.specs.declared.fault.Place.TheVariants as place
+use Rattle.g1_words.specs.declared.fault.Stand.{Stand}
 use Rattle.g1_words.specs.declared.fault.Stand.TheVariants as stand
 use Rattle.g1_image.specs.Text.{File, Version}
 use Rattle.g1_words.specs.Kind.{kind_number}
-use Rattle.g1_image.specs.Image.{Image, IsImage, IsLog, IsRememberedSet, IsTextOf, heap_of, file_of, flags_of, entry_of}
-use Rattle.g1_image.specs.Judged.{IsGoodRoot}
-use Rattle.g1_image.specs.Faults.{FileFault, FaultOf, IsKnownKind, HasKnownFlags, TableKnown, Shaped, RootsGood, SlotsGood, LogsGood, RememberedGood, IsGoodSlot, IsGoodLogged}
+use Rattle.g1_image.specs.Image.{Image, IsImage, IsLog, IsTextOf, heap_of, file_of, flags_of, entry_of}
+use Rattle.g1_image.specs.Faults.{FileFault, FaultOf, IsKnownKind, HasKnownFlags, AreKnown, IsGoodRoot, IsGoodSlot, IsGoodHeap, IsGoodLogged, LogIsGood, IsGoodSet, SetsAreGood, CardFault}
 use Rattle.g1_image.proofs.FileOf.{file_fits, heap_of_file}
+use Rattle.g1_image.proofs.Stages.{stage_of}
+use Rattle.g1_image.proofs.OneFault.{no_table_fault, no_heap_fault}
 use Rattle.g1_image.proofs.OneVerdict.{fault_of_whole}
 
 -- a file that keeps the rules of every stage
 pub record IsGoodFile (f : File) : Type 0 where
-  pub known : TableKnown f
-  pub shaped : Shaped f
-  pub roots : RootsGood f
-  pub slots : SlotsGood f
-  pub log : LogsGood f
-  pub remembered : (r : ℕ) → r < f.n → RememberedGood f r
+  pub known : AreKnown f.table f.n
+  pub heap : IsGoodHeap (heap_of f)
+  pub log : LogIsGood (heap_of f) f.log
+  pub remembered : SetsAreGood (heap_of f) f.remembered
+
+-- good cards have no fault
+no_card_fault : (h : Heap) (log : List ℕ) (sets : List (List ℕ)) (s : Stand) → LogIsGood h log → SetsAreGood h sets → CardFault h log sets s → ⊥
+no_card_fault h log sets (stand.Dirty i) logged good x = x.breach (logged i x.within)
+no_card_fault h log sets (stand.Region r) logged good x = x.1.breach (good r x.1.within)
 
 -- a file that keeps all rules has no fault
 pub good_file : (f : File) (e : Fault) → IsGoodFile f → FileFault f e → ⊥
-good_file f (fault.Kind r) g x = x.breach (g.known.kinds r x.within)
-good_file f (fault.Flags r) g x = x.1.breach (g.known.flags r x.1.within)
-good_file f (fault.Shape r) g x = x.1.breach (g.shaped r x.1.within)
-good_file f (fault.Reference (place.Root i)) g x = x.2.breach (g.roots i x.2.within)
-good_file f (fault.Reference (place.Slot p)) g x = x.3.breach (g.slots p x.3.within)
-good_file f (fault.Card (stand.Dirty i)) g x = x.4.breach (g.log i x.4.within)
-good_file f (fault.Card (stand.Region r)) g x = x.5.breach (g.remembered r x.5.within)
-good_file f _ g x = x
+good_file f e g x = elim (stage_of f e x) [
+  | inl t ↦ no_table_fault f.table f.n e g.known t
+  | inr (inl h) ↦ no_heap_fault (heap_of f) e g.heap h.1
+  | inr (inr c) ↦ no_card_fault (heap_of f) f.log f.remembered c.0 g.log g.remembered c.4
+]
 
 -- a kind's number is at most 3
 kind_known : (k : Kind) → kind_number k ≤ 3
@@ -72,6 +72,10 @@ roots_good h v i lt = v.roots i 0 lt
 slots_good : (h : Heap) → IsValid h → (p : ℕ) → IsGoodSlot h p
 slots_good h v p o has slot = v.slots o p has slot
 
+-- a valid heap is good
+good_heap : (h : Heap) → IsValid h → IsGoodHeap h
+good_heap h v = record { shaped = v.shaped; roots = roots_good h v; slots = λ p lt. slots_good h v p }
+
 -- a log that an image may have is good at each place
 log_good : (h : Heap) (log : List ℕ) → IsLog h log → (i : ℕ) → i < length log → IsGoodLogged h log i
 log_good h log g i lt = (g.used i 0 lt, λ j le. g.distinct j i 0 le lt)
@@ -83,11 +87,9 @@ file_good v i g e = record {
     kinds = λ r lt. table_known i.heap.regions r;
     flags = λ r lt. table_flags i.heap.regions r (g.heap.pins r lt);
   };
-  shaped = subst AllShaped (sym e) g.heap.shaped;
-  roots = λ k lt. subst (λ h. IsReference h (slice_index i.heap.roots k)) (sym e) (roots_good i.heap g.heap k lt);
-  slots = λ p lt. subst (λ h. IsGoodSlot h p) (sym e) (slots_good i.heap g.heap p);
+  heap = subst IsGoodHeap (sym e) (good_heap i.heap g.heap);
   log = λ k lt. subst (λ h. IsGoodLogged h i.log k) (sym e) (log_good i.heap i.log g.log k lt);
-  remembered = λ r lt. subst (λ h. IsRememberedSet h r (slice_index_or i.remembered r [])) (sym e) (g.remembered r lt);
+  remembered = λ r lt. subst (λ h. IsGoodSet h i.remembered r) (sym e) (g.remembered r lt);
 }
 
 -- an image's text has no fault

@@ -3,14 +3,14 @@ use Rattle.std.specs.Prelude.{◌≡◌, ℕ, List, map}
 use Rattle.g1_image.specs.declared.decoding.DraftImage.{DraftImage}
 use Rattle.g1_image.specs.Text.{File, file_text}
 use Rattle.g1_image.specs.Image.{heap_of}
-use Rattle.g1_image.specs.Faults.{FileFits, TableKnown}
+use Rattle.g1_image.specs.Faults.{FileFits, AreKnown}
 
 -- the bytes are the text of a file whose kinds and flags have a meaning, and the image has this file's heap and cards
 pub record IsDraftOf (bytes : List ℕ) (d : DraftImage) : Type 0 where
   pub file : File
   pub fits : FileFits file
   pub text : bytes ≡ file_text file
-  pub known : TableKnown file
+  pub known : AreKnown file.table file.n
   pub heap : d.draft ≡ heap_of file
   pub log : d.log.items ≡ file.log
   pub remembered : map (λ s. s.items) d.remembered.items ≡ file.remembered

@@ -1,16 +1,17 @@
 -- The fault of bytes that are no image's text: that of the first stage of reading that finds one.
 use Rattle.std.specs.Prelude.{◌≡◌, ◌≢◌, ◌≤◌, ◌<◌, ℕ, ◌*◌, ◌^◌, ◌⊎◌, List, [], ◌++◌, length, slice_index, slice_index_or, All}
 use Rattle.g1_words.specs.Geometry.{IsWithinLimits, most_roots}
-use Rattle.g1_words.specs.Valid.{IsShaped, AllShaped, IsReference, HasObject, IsSlotOf}
-use Rattle.g1_image.specs.Text.{File, Entry, Version, magic, heading_text, heading_of, file_text, table_words}
 use Rattle.g1_words.specs.Heap.{Heap}
-use Rattle.g1_image.specs.Reading.{Are, IsU32, IsU64, EndsWithin}
-use Rattle.g1_image.specs.Image.{heap_of, IsUsedCard, IsRememberedSet}
+use Rattle.g1_words.specs.Valid.{IsShaped, AllShaped, IsReference, HasObject, IsSlotOf}
 use Rattle.g1_words.specs.declared.object.Object.{Object}
 use Rattle.g1_words.specs.declared.fault.Fault.{Fault}
 use Rattle.g1_words.specs.declared.fault.Fault.TheVariants as fault
 use Rattle.g1_words.specs.declared.fault.Place.TheVariants as place
+use Rattle.g1_words.specs.declared.fault.Stand.{Stand}
 use Rattle.g1_words.specs.declared.fault.Stand.TheVariants as stand
+use Rattle.g1_image.specs.Text.{File, Entry, Version, magic, heading_text, heading_of, file_text, table_words}
+use Rattle.g1_image.specs.Reading.{Are, IsU32, IsU64, EndsWithin}
+use Rattle.g1_image.specs.Image.{heap_of, IsUsedCard, IsRememberedSet}
 use Rattle.g1_image.specs.declared.cursor.Heading.{Heading}
 use Rattle.g1_image.specs.declared.cursor.Version.TheVariants.{One, Two}
 
@@ -62,7 +63,7 @@ pub record IsFirstBreach (P : ℕ → Type 0) (end at : ℕ) : Type 0 where
 abbrev pub entry : List Entry → ℕ → Entry
 entry es r = slice_index_or es r (record { kind = 0; top = 0; flags = 0 })
 
--- the region's kind has a meaning
+-- the region's kind has a meaning: it is one of the four
 abbrev pub IsKnownKind : List Entry → ℕ → Type 0
 IsKnownKind es r = (entry es r).kind ≤ 3
 
@@ -70,76 +71,78 @@ IsKnownKind es r = (entry es r).kind ≤ 3
 abbrev pub HasKnownFlags : List Entry → ℕ → Type 0
 HasKnownFlags es r = ((entry es r).flags ≡ 0) ⊎ (((entry es r).flags ≡ 1) × ((entry es r).kind ≡ 1))
 
--- the kind of region r is one of the four
-abbrev pub KindKnown : File → ℕ → Type 0
-KindKnown f r = IsKnownKind f.table r
-
--- every kind is one of the four
-abbrev pub KindsKnown : File → Type 0
-KindsKnown f = (r : ℕ) → r < f.n → KindKnown f r
-
--- the flags of region r have a meaning
-abbrev pub FlagsKnown : File → ℕ → Type 0
-FlagsKnown f r = HasKnownFlags f.table r
+-- the kinds of the first n regions have a meaning
+abbrev pub AreKnownKinds : List Entry → ℕ → Type 0
+AreKnownKinds table n = (r : ℕ) → r < n → IsKnownKind table r
 
 -- the kinds and the flags of the first n regions have a meaning
 pub record AreKnown (table : List Entry) (n : ℕ) : Type 0 where
-  pub kinds : (r : ℕ) → r < n → IsKnownKind table r
+  pub kinds : AreKnownKinds table n
   pub flags : (r : ℕ) → r < n → HasKnownFlags table r
 
--- the kinds and the flags of all regions have
-abbrev pub TableKnown : File → Type 0
-TableKnown f = AreKnown f.table f.n
+-- the first rule that the table of n regions breaks: kinds are judged first, then flags
+abbrev pub TableFault : List Entry → ℕ → Fault → Type 0
+TableFault table n (fault.Kind r) = IsFirstBreach (IsKnownKind table) n r
+TableFault table n (fault.Flags r) = AreKnownKinds table n × IsFirstBreach (HasKnownFlags table) n r
+TableFault _ _ _ = ⊥
 
--- every region keeps the rules of its kind
-abbrev pub Shaped : File → Type 0
-Shaped f = AllShaped (heap_of f)
+-- root i is null or references an object
+abbrev pub IsGoodRoot : Heap → ℕ → Type 0
+IsGoodRoot h i = IsReference h (slice_index h.roots i)
 
--- root i is null or names an object
-abbrev pub RootGood : File → ℕ → Type 0
-RootGood f i = IsReference (heap_of f) (slice_index f.roots i)
+-- every root is null or references an object
+abbrev pub RootsAreGood : Heap → Type 0
+RootsAreGood h = (i : ℕ) → i < length h.roots → IsGoodRoot h i
 
--- every root is null or names an object
-abbrev pub RootsGood : File → Type 0
-RootsGood f = (i : ℕ) → i < length f.roots → RootGood f i
-
--- if the address is a slot's, the slot is null or names an object
+-- if the address is a slot's, the slot is null or references an object
 abbrev pub IsGoodSlot : Heap → ℕ → Type 0
 IsGoodSlot h p = (o : Object) → HasObject h o → IsSlotOf o p → IsReference h (slice_index h.words p)
 
--- the same for the heap that a file tells
-abbrev pub SlotGood : File → ℕ → Type 0
-SlotGood f p = IsGoodSlot (heap_of f) p
+-- every slot is null or references an object
+abbrev pub SlotsAreGood : Heap → Type 0
+SlotsAreGood h = (p : ℕ) → p < h.geometry.n * h.geometry.w → IsGoodSlot h p
 
--- every slot is null or names an object
-abbrev pub SlotsGood : File → Type 0
-SlotsGood f = (p : ℕ) → p < f.n * f.w → SlotGood f p
+-- the regions keep their rules, and the roots and slots are null or reference objects
+pub record IsGoodHeap (h : Heap) : Type 0 where
+  pub shaped : AllShaped h
+  pub roots : RootsAreGood h
+  pub slots : SlotsAreGood h
+
+-- the first rule that the heap breaks: regions are judged first, then roots, then slots
+abbrev pub HeapFault : Heap → Fault → Type 0
+HeapFault h (fault.Shape r) = IsFirstBreach (IsShaped h) h.geometry.n r
+HeapFault h (fault.Reference (place.Root i)) = AllShaped h × IsFirstBreach (IsGoodRoot h) (length h.roots) i
+HeapFault h (fault.Reference (place.Slot p)) = AllShaped h × RootsAreGood h × IsFirstBreach (IsGoodSlot h) (h.geometry.n * h.geometry.w) p
+HeapFault _ _ = ⊥
 
 -- the log's card at this place stands in a used region, and not earlier in the log
 abbrev pub IsGoodLogged : Heap → List ℕ → ℕ → Type 0
 IsGoodLogged h log i = IsUsedCard h (slice_index log i) × ((j : ℕ) → j < i → slice_index log j ≢ slice_index log i)
 
--- the same for the log of a file
-abbrev pub LogGood : File → ℕ → Type 0
-LogGood f i = IsGoodLogged (heap_of f) f.log i
-
 -- every card of the log is good
-abbrev pub LogsGood : File → Type 0
-LogsGood f = (i : ℕ) → i < length f.log → LogGood f i
+abbrev pub LogIsGood : Heap → List ℕ → Type 0
+LogIsGood h log = (i : ℕ) → i < length log → IsGoodLogged h log i
 
 -- region r's remembered set is one that it may have
-abbrev pub RememberedGood : File → ℕ → Type 0
-RememberedGood f r = IsRememberedSet (heap_of f) r (slice_index_or f.remembered r [])
+abbrev pub IsGoodSet : Heap → List (List ℕ) → ℕ → Type 0
+IsGoodSet h remembered r = IsRememberedSet h r (slice_index_or remembered r [])
 
--- the fault that a file has which is read whole
+-- every region's remembered set is one that it may have
+abbrev pub SetsAreGood : Heap → List (List ℕ) → Type 0
+SetsAreGood h remembered = (r : ℕ) → r < h.geometry.n → IsGoodSet h remembered r
+
+-- where the first card stands that breaks a rule: the log is judged first, then the remembered sets
+abbrev pub CardFault : Heap → List ℕ → List (List ℕ) → Stand → Type 0
+CardFault h log remembered (stand.Dirty i) = IsFirstBreach (IsGoodLogged h log) (length log) i
+CardFault h log remembered (stand.Region r) = LogIsGood h log × IsFirstBreach (IsGoodSet h remembered) h.geometry.n r
+
+-- the first rule that a whole file breaks: the table is judged first, then the heap, then the cards
 abbrev pub FileFault : File → Fault → Type 0
-FileFault f (fault.Kind r) = IsFirstBreach (KindKnown f) f.n r
-FileFault f (fault.Flags r) = KindsKnown f × IsFirstBreach (FlagsKnown f) f.n r
-FileFault f (fault.Shape r) = TableKnown f × IsFirstBreach (IsShaped (heap_of f)) f.n r
-FileFault f (fault.Reference (place.Root i)) = TableKnown f × Shaped f × IsFirstBreach (RootGood f) (length f.roots) i
-FileFault f (fault.Reference (place.Slot p)) = TableKnown f × Shaped f × RootsGood f × IsFirstBreach (SlotGood f) (f.n * f.w) p
-FileFault f (fault.Card (stand.Dirty i)) = TableKnown f × Shaped f × RootsGood f × SlotsGood f × IsFirstBreach (LogGood f) (length f.log) i
-FileFault f (fault.Card (stand.Region r)) = TableKnown f × Shaped f × RootsGood f × SlotsGood f × LogsGood f × IsFirstBreach (RememberedGood f) f.n r
+FileFault f (fault.Kind r) = TableFault f.table f.n (fault.Kind r)
+FileFault f (fault.Flags r) = TableFault f.table f.n (fault.Flags r)
+FileFault f (fault.Shape r) = AreKnown f.table f.n × HeapFault (heap_of f) (fault.Shape r)
+FileFault f (fault.Reference p) = AreKnown f.table f.n × HeapFault (heap_of f) (fault.Reference p)
+FileFault f (fault.Card s) = AreKnown f.table f.n × IsGoodHeap (heap_of f) × CardFault (heap_of f) f.log f.remembered s
 FileFault _ _ = ⊥
 
 -- THE FAULT of bytes

@@ -8,7 +8,9 @@ use Rattle.g1_image.specs.Image.{Image, IsImage, remembered_of, region_of_card, 
 use Rattle.g1_image.specs.Cards.{cards_where, exact, refined, Covered, uncovered}
 use Rattle.g1_image.specs.Text.{File, Version, file_text}
 use Rattle.g1_image.specs.declared.cursor.Version.TheVariants.{One, Two}
-use Rattle.g1_image.specs.Faults.{FileFits}
+use Rattle.g1_image.specs.Reading.{IsBytes}
+use Rattle.g1_image.specs.Faults.{FileFits, FaultOf}
+use Rattle.g1_words.specs.declared.fault.Fault.{Fault}
 
 -- an address lies in the region of its card
 abbrev pub CardsInRegions : Type 0
@@ -62,3 +64,15 @@ OneText = (v : Version) (i : Image) (a b : List ℕ) → IsTextIn v a i → IsTe
 abbrev pub TextsExist : Type 0
 TextsExist = (i : Image) → IsImage i →
     ((a : List ℕ) × IsTextIn Two a i) × (((a : List ℕ) × IsTextIn One a i) ↔ ((r : ℕ) → r < i.heap.geometry.n → IsFalse (pinned i.heap r)))
+
+-- bytes have one fault at most
+abbrev pub OneFault : Type 0
+OneFault = (bytes : List ℕ) (e d : Fault) → FaultOf bytes e → FaultOf bytes d → e ≡ d
+
+-- an image's text has no fault
+abbrev pub NoFaultOfText : Type 0
+NoFaultOfText = (bytes : List ℕ) (i : Image) (e : Fault) → IsTextOf bytes i → FaultOf bytes e → ⊥
+
+-- bytes are an image's text or have a fault
+abbrev pub AlwaysOne : Type 0
+AlwaysOne = (bytes : List ℕ) → IsBytes bytes → ((i : Image) × IsTextOf bytes i) ⊎ ((e : Fault) × FaultOf bytes e)

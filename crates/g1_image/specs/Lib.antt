@@ -8,11 +8,9 @@ pub mod Growing
 pub mod Draft
 pub mod Marks
 pub mod Strays
-pub mod Judged
 pub mod Drafted
 pub mod Cards
 pub mod Laws
-pub mod Verdict
 pub mod Source
 pub mod Sink
 pub mod Buffer

@@ -1,6 +1,6 @@
 ghost use Rattle.std.specs.Prelude.{◌≡◌, ◌≤◌, ◌<◌, ◌+◌, ◌*◌, ◌/◌, ◌^◌, ◌⊎◌, ℕ, List, [], All, map, length, slice_index, slice_index_or, IsTrue, ◌↔◌, OnOk, IfOk, IfErr};
 ghost use Rattle.g1_image.specs.Image.{IsUsedCard, IsRememberedSet};
-ghost use Rattle.g1_image.specs.Faults.{IsFirstBreach, IsGoodLogged};
+ghost use Rattle.g1_image.specs.Faults.{IsFirstBreach, IsGoodLogged, LogIsGood, IsGoodSet, SetsAreGood};
 
 use crate::draft::Draft;
 use g1_words::{Fault, Stand};
@@ -23,7 +23,7 @@ fn is_used(draft: &Draft, c: u32) -> bool
 fn put_log(draft: &Draft, log: &[u32], cards: &mut IndexSet<u32>) -> Result<(), Fault>
     requires count { length log.now < 2 ^ 32 }
     requires none { cards.old.keys ≡ [] }
-    ensures ok { OnOk result ((cards.new.keys ≡ log.now) × ((i : ℕ) → i < length log.now → IsGoodLogged draft.now log.now i)) }
+    ensures ok { OnOk result ((cards.new.keys ≡ log.now) × LogIsGood draft.now log.now) }
     ensures err { IfErr result (λ e. (e ≡ Fault.Memory) ⊎ ((i : ℕ) × (e ≡ Fault.Card (Stand.Dirty i)) × IsFirstBreach (IsGoodLogged draft.now log.now) (length log.now) i)) }
 {
     for (i, c) in log.iter().enumerate() {
@@ -41,7 +41,7 @@ fn put_log(draft: &Draft, log: &[u32], cards: &mut IndexSet<u32>) -> Result<(), 
 /// The log's cards, or the first that isn't good.
 pub(crate) fn check_log(alloc: Global, draft: &Draft, log: &[u32]) -> Result<IndexSet<u32>, Fault>
     requires { length log.now < 2 ^ 32 }
-    ensures ok { IfOk result (λ s. (s.keys ≡ log.now) × ((i : ℕ) → i < length log.now → IsGoodLogged draft.now log.now i)) }
+    ensures ok { IfOk result (λ s. (s.keys ≡ log.now) × LogIsGood draft.now log.now) }
     ensures err { IfErr result (λ e. (e ≡ Fault.Memory) ⊎ ((i : ℕ) × (e ≡ Fault.Card (Stand.Dirty i)) × IsFirstBreach (IsGoodLogged draft.now log.now) (length log.now) i)) }
 {
     // A log with more cards than the heap has one of them twice.
@@ -80,8 +80,8 @@ fn is_remembered_set(draft: &Draft, r: u32, cards: &[u32]) -> bool
 pub(crate) fn check_remembered(draft: &Draft, remembered: &[Vec<u32>]) -> Result<(), Fault>
     requires one_each { length remembered.now ≡ draft.now.geometry.n }
     requires counts { All (λ s. length s < 2 ^ 32) (map (λ s. s.items) remembered.now) }
-    ensures ok { OnOk result ((r : ℕ) → r < draft.now.geometry.n → IsRememberedSet draft.now r (slice_index_or (map (λ s. s.items) remembered.now) r [])) }
-    ensures err { IfErr result (λ e. (r : ℕ) × (e ≡ Fault.Card (Stand.Region r)) × IsFirstBreach (λ r. IsRememberedSet draft.now r (slice_index_or (map (λ s. s.items) remembered.now) r [])) draft.now.geometry.n r) }
+    ensures ok { OnOk result (SetsAreGood draft.now (map (λ s. s.items) remembered.now)) }
+    ensures err { IfErr result (λ e. (r : ℕ) × (e ≡ Fault.Card (Stand.Region r)) × IsFirstBreach (IsGoodSet draft.now (map (λ s. s.items) remembered.now)) draft.now.geometry.n r) }
 {
     let regions = draft.geometry().regions() as u32;
     for r in 0..regions {

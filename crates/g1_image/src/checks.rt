@@ -1,7 +1,7 @@
 ghost use Rattle.std.specs.Prelude.{◌≡◌, ◌⊎◌, OnOk, IfOk, IfErr};
 ghost use Rattle.g1_image.specs.Draft.{ShapedBelow};
 ghost use Rattle.g1_image.specs.Marks.{StartsAre};
-ghost use Rattle.g1_image.specs.Judged.{IsGoodHeap, HeapFault, RootsAreGood};
+ghost use Rattle.g1_image.specs.Faults.{IsGoodHeap, HeapFault, RootsAreGood};
 
 use crate::draft::Draft;
 use crate::refs::{check_roots, starts};

@@ -1,10 +1,9 @@
 ghost use Rattle.std.specs.Prelude.{◌≡◌, ◌<◌, ◌*◌, ◌^◌, ◌⊎◌, ℕ, List, All, length, OnOk, IfOk, IfErr};
 ghost use Rattle.g1_image.specs.Image.{IsTextOf};
-ghost use Rattle.g1_image.specs.Faults.{MayFail, IsGoodHeading, AreKnown};
+ghost use Rattle.g1_image.specs.Faults.{MayFail, IsGoodHeading, IsGoodHeap, TableFault, AreKnown};
 ghost use Rattle.g1_image.specs.Plain.{heap_of_parts};
 ghost use Rattle.g1_image.specs.Front.{IsLaidOut};
 ghost use Rattle.g1_image.specs.Drafted.{IsDraftOf};
-ghost use Rattle.g1_image.specs.Judged.{IsGoodHeap, TableFault};
 
 use crate::cards::{check_log, check_remembered};
 use crate::checks::{check_heap, check_heap_by};

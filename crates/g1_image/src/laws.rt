@@ -1,5 +1,4 @@
-ghost use Rattle.g1_image.specs.Laws.{CardsInRegions, CardsRise, ExactRemembered, RefinedRemembered, CoveredImage, UncoveredSlots, UncoveredRise, OneFile, OneImage, OneText, TextsExist};
-ghost use Rattle.g1_image.specs.Verdict.{OneFault, NoFaultOfText, AlwaysOne};
+ghost use Rattle.g1_image.specs.Laws.{CardsInRegions, CardsRise, ExactRemembered, RefinedRemembered, CoveredImage, UncoveredSlots, UncoveredRise, OneFile, OneImage, OneText, TextsExist, OneFault, NoFaultOfText, AlwaysOne};
 
 /// What the cards of an image show.
 pub fn remembered_cards()

@@ -138,6 +138,13 @@ fn words_wanted(place: u64, taken: u64, left: u64) -> u64
     left.min((place / LENGTHENED).saturating_sub(taken))
 }
 
+/// How many of the words that the table announces were taken, and how many are left.
+#[derive(Clone, Copy)]
+struct Announced {
+    taken: u64,
+    left: u64,
+}
+
 /// Writes a region's words at the end: its used words, and zeros after them.
 fn push_region<S: Source>(
     source: &mut S,
@@ -145,24 +152,28 @@ fn push_region<S: Source>(
     laid: &mut Growing,
     w: u32,
     top: u32,
-    taken: u64,
-    left: u64,
+    words: Announced,
 ) -> Result<(), Fault>
     requires known { KnowsEnd ahead.old (S.left source.old) }
     requires sizes { laid.old.zeros + w ≤ 2 * most_words }
-    requires small { left ≤ 2 ^ 44 }
-    requires there { top ≤ left }
+    requires small { words.left ≤ 2 ^ 44 }
+    requires there { top ≤ words.left }
     ensures known { KnowsEnd ahead.new (S.left source.new) }
     ensures ok { OnOk result ((bs : List ℕ) × Takes (S.failed source.old) (S.failed source.new) (to_take ahead.old (S.left source.old)) (to_take ahead.new (S.left source.new)) bs × (length bs ≡ 8 * top) × (laid_words laid.new ≡ laid_words laid.old ++ region_words w top bs)) }
     ensures zeros { OnOk result (laid.new.zeros ≤ laid.old.zeros + w) }
-    ensures err { IfErr result (TakeFails (S.failed source.old) (S.failed source.new) (to_take ahead.old (S.left source.old)) (8 * left)) }
+    ensures err { IfErr result (TakeFails (S.failed source.old) (S.failed source.new) (to_take ahead.old (S.left source.old)) (8 * words.left)) }
 {
     if top == 0 {
         laid.zeros += w;
         return Ok(());
     }
     let place = laid.words.len() as u64 + u64::from(laid.zeros);
-    push_gap(source, ahead, laid, words_wanted(place, taken, left))?;
+    push_gap(
+        source,
+        ahead,
+        laid,
+        words_wanted(place, words.taken, words.left),
+    )?;
     let used = if top < w { top } else { w };
     push_next(source, ahead, &mut laid.words, used)?;
     skip_words(source, ahead, top - used)?;
@@ -193,7 +204,15 @@ pub(crate) fn lay_pieces<S: Source>(
     };
     let mut taken = 0;
     for e in table {
-        push_region(source, ahead, &mut laid, w, e.top, taken, total - taken)?;
+        let left = total - taken;
+        push_region(
+            source,
+            ahead,
+            &mut laid,
+            w,
+            e.top,
+            Announced { taken, left },
+        )?;
         taken += u64::from(e.top);
     }
     let Growing { mut words, zeros } = laid;

@@ -4,7 +4,7 @@ ghost use Rattle.g1_words.specs.Valid.{IsShaped, IsReference};
 ghost use Rattle.g1_words.specs.Walk.{Reaches};
 ghost use Rattle.g1_image.specs.Draft.{ShapedBelow};
 ghost use Rattle.g1_image.specs.Marks.{InRow, Marked, StartsAre};
-ghost use Rattle.g1_image.specs.Faults.{IsFirstBreach};
+ghost use Rattle.g1_image.specs.Faults.{IsFirstBreach, IsGoodRoot, RootsAreGood};
 
 use crate::draft::Draft;
 use g1_words::{Fault, Kind, Marks, Place, header};
@@ -68,8 +68,8 @@ fn is_reference(draft: &Draft, marks: &Marks, x: u64) -> bool
 /// Returns the first root that references no object.
 pub(crate) fn check_roots(draft: &Draft, marks: &Marks) -> Result<(), Fault>
     requires { StartsAre draft.now marks.now }
-    ensures ok { OnOk result ((i : ℕ) → i < length draft.now.roots → IsReference draft.now (slice_index draft.now.roots i)) }
-    ensures err { IfErr result (λ e. (i : ℕ) × (e ≡ Fault.Reference (Place.Root i)) × IsFirstBreach (λ i. IsReference draft.now (slice_index draft.now.roots i)) (length draft.now.roots) i) }
+    ensures ok { OnOk result (RootsAreGood draft.now) }
+    ensures err { IfErr result (λ e. (i : ℕ) × (e ≡ Fault.Reference (Place.Root i)) × IsFirstBreach (IsGoodRoot draft.now) (length draft.now.roots) i) }
 {
     for (i, x) in draft.roots().iter().enumerate() {
         if !is_reference(draft, marks, *x) {

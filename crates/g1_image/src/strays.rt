@@ -4,7 +4,7 @@ ghost use Rattle.g1_words.specs.Heap.{start};
 ghost use Rattle.g1_work.specs.Ranges.{IsCut, IsRange};
 ghost use Rattle.g1_image.specs.Draft.{ShapedBelow};
 ghost use Rattle.g1_image.specs.Marks.{StartsAre};
-ghost use Rattle.g1_image.specs.Faults.{IsFirstBreach, IsGoodSlot};
+ghost use Rattle.g1_image.specs.Faults.{IsFirstBreach, IsGoodSlot, SlotsAreGood};
 ghost use Rattle.g1_image.specs.Strays.{IsFirstStray, IsFirstStrayIn, AreFirstStrays, StartBefore, first_some as the_first};
 
 use crate::draft::Draft;
@@ -152,7 +152,7 @@ fn first_alone(draft: &Draft, marks: &Marks) -> Option<u64>
 /// The fault of the first slot that references no object, if there is one.
 fn fault_of(draft: &Draft, found: Option<u64>) -> Result<(), Fault>
     requires { IsFirstStray draft.now 0 (draft.now.geometry.n * draft.now.geometry.w) found }
-    ensures ok { OnOk result ((p : ℕ) → p < draft.now.geometry.n * draft.now.geometry.w → IsGoodSlot draft.now p) }
+    ensures ok { OnOk result (SlotsAreGood draft.now) }
     ensures err { IfErr result (λ e. (p : ℕ) × (e ≡ Fault.Reference (Place.Slot p)) × IsFirstBreach (IsGoodSlot draft.now) (draft.now.geometry.n * draft.now.geometry.w) p) }
 {
     match found {
@@ -165,7 +165,7 @@ fn fault_of(draft: &Draft, found: Option<u64>) -> Result<(), Fault>
 pub(crate) fn check_slots(draft: &Draft, marks: &Marks) -> Result<(), Fault>
     requires starts { StartsAre draft.now marks.now }
     requires shaped { ShapedBelow draft.now draft.now.geometry.n }
-    ensures ok { OnOk result ((p : ℕ) → p < draft.now.geometry.n * draft.now.geometry.w → IsGoodSlot draft.now p) }
+    ensures ok { OnOk result (SlotsAreGood draft.now) }
     ensures err { IfErr result (λ e. (p : ℕ) × (e ≡ Fault.Reference (Place.Slot p)) × IsFirstBreach (IsGoodSlot draft.now) (draft.now.geometry.n * draft.now.geometry.w) p) }
 {
     fault_of(draft, first_alone(draft, marks))
@@ -199,7 +199,7 @@ pub(crate) fn check_slots_by(
 ) -> Result<(), Fault>
     requires starts { StartsAre draft.now marks.now }
     requires shaped { ShapedBelow draft.now draft.now.geometry.n }
-    ensures ok { OnOk result ((p : ℕ) → p < draft.now.geometry.n * draft.now.geometry.w → IsGoodSlot draft.now p) }
+    ensures ok { OnOk result (SlotsAreGood draft.now) }
     ensures err { IfErr result (λ e. (e ≡ Fault.Memory) ⊎ ((p : ℕ) × (e ≡ Fault.Reference (Place.Slot p)) × IsFirstBreach (IsGoodSlot draft.now) (draft.now.geometry.n * draft.now.geometry.w) p)) }
 {
     let found = first_by(rt, alloc, draft, marks, workers)?;

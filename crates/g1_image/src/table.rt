@@ -2,7 +2,7 @@ ghost use Rattle.std.specs.Prelude.{◌≡◌, ◌≤◌, ◌<◌, ◌*◌, ◌^
 ghost use Rattle.g1_words.specs.Geometry.{most_regions};
 ghost use Rattle.g1_image.specs.Text.{table_words};
 ghost use Rattle.g1_image.specs.Image.{region_of_entry};
-ghost use Rattle.g1_image.specs.Faults.{IsFirstBreach, IsKnownKind, HasKnownFlags};
+ghost use Rattle.g1_image.specs.Faults.{IsFirstBreach, IsKnownKind, AreKnownKinds, HasKnownFlags};
 
 use crate::cursor::Entry;
 use g1_words::{Fault, Kind, Region};
@@ -24,7 +24,7 @@ pub(crate) fn table_words(table: &[Entry]) -> u64
 /// The regions of the table, or the first whose kind has no meaning.
 pub(crate) fn regions(alloc: Global, table: &[Entry]) -> Result<Vec<Region>, Fault>
     requires { length table.now ≤ most_regions }
-    ensures ok { IfOk result (λ v. (v.items ≡ map region_of_entry table.now) × ((r : ℕ) → r < length table.now → IsKnownKind table.now r)) }
+    ensures ok { IfOk result (λ v. (v.items ≡ map region_of_entry table.now) × AreKnownKinds table.now (length table.now)) }
     ensures err { IfErr result (λ e. (e ≡ Fault.Memory) ⊎ ((r : ℕ) × (e ≡ Fault.Kind r) × IsFirstBreach (IsKnownKind table.now) (length table.now) r)) }
 {
     let mut regions = Vec::with_capacity(alloc, table.len())?;

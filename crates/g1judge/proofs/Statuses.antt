@@ -4,8 +4,7 @@ use Rattle.g1_words.specs.Graph.{SameGraph}
 use Rattle.g1_words.specs.Valid.{IsValid}
 use Rattle.g1_image.specs.Cards.{Covered, uncovered}
 use Rattle.g1_image.specs.Image.{Image, IsTextOf}
-use Rattle.g1_image.specs.Laws.{OneImage}
-use Rattle.g1_image.specs.Verdict.{NoFaultOfText}
+use Rattle.g1_image.specs.Laws.{OneImage, NoFaultOfText}
 use Rattle.g1_choose.specs.Laws.{AcceptedNotBad}
 use Rattle.g1_choose.specs.Named.{AreTakeable}
 use Rattle.g1_kept.specs.Keeps.{Keeps}

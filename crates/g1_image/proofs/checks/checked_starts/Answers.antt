@@ -1,6 +1,6 @@
 use Rattle.std.proofs.Common.{inr, sym, subst}
 use Rattle.std.proofs.lemmas.Result.{err_from_is_err_and}
-use Rattle.g1_image.specs.Judged.{HeapFault}
+use Rattle.g1_image.specs.Faults.{HeapFault}
 use Rattle.g1_image.proofs.checks.checked_starts.Goals as goal
 
 pub returns-in_err-check_shapes-clause-err : goal.returns-in_err-check_shapes-clause-err

@@ -1,8 +1,7 @@
 use Rattle.std.proofs.Common.{◌*◌, map, length, inl, inr, refl, ap, subst, ◌∙◌}
 use Rattle.std.proofs.lemmas.Result.{err_from_is_err_and}
 use Rattle.g1_image.specs.Plain.{plain_file, heap_of_parts}
-use Rattle.g1_image.specs.Judged.{TableFault}
-use Rattle.g1_image.specs.Faults.{AreKnown}
+use Rattle.g1_image.specs.Faults.{TableFault, AreKnown}
 use Rattle.g1_image.proofs.Drafts.{length-laid}
 use Rattle.g1_image.proofs.Assembled.{table_fault}
 use Rattle.g1_image.proofs.decoding.draft_image.Goals as goal

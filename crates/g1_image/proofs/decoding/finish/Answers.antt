@@ -6,10 +6,10 @@ use Rattle.g1_words.specs.Geometry.{Geometry}
 use Rattle.g1_words.specs.Heap.{Heap}
 use Rattle.g1_words.specs.declared.region.Region.{Region}
 use Rattle.g1_image.specs.Image.{CanTell, heap_of}
-use Rattle.g1_image.specs.Judged.{IsGoodHeap}
+use Rattle.g1_words.specs.declared.fault.Stand.TheVariants as stand
+use Rattle.g1_image.specs.Faults.{IsGoodHeap, LogIsGood, SetsAreGood}
 use Rattle.g1_image.specs.Drafted.{IsDraftOf}
-use Rattle.g1_image.specs.Faults.{LogsGood, RememberedGood}
-use Rattle.g1_image.proofs.Assembled.{can_tell, log_fault, logs_good, remembered_fault, all_remembered_good, made_image, made_text}
+use Rattle.g1_image.proofs.Assembled.{can_tell, card_fault, logs_good, sets_good, made_image, made_text}
 use Rattle.g1_image.proofs.decoding.finish.Goals as goal
 use Rattle.g1_image.proofs.decoding.finish.Goals.{In_ok-check_remembered}
 
@@ -34,8 +34,8 @@ returns-in_err-log-clause-err c =
     let left = err_from_is_err_and c.from_residual.result c.from_residual.ensures.1 in
     rw (left.1, left.2) (λ bytes told. elim c.in_err-log.ensures.err [
       | inl m ↦ inl m
-      | inr h ↦ log_fault bytes told.file c.args.drafted.draft c.deref.result.now c.in_err-log.field-0.0 h.0 told.fits told.text
-          told.known told.heap (c.deref.ensures.value ∙ told.log) c.requires.good h.1 h.2
+      | inr h ↦ card_fault bytes told.file c.args.drafted.draft c.deref.result.now told.file.remembered c.in_err-log.field-0.0 (stand.Dirty h.0) told.fits told.text
+          told.known told.heap (c.deref.ensures.value ∙ told.log) refl c.requires.good h.1 h.2
     ])
 
 pub returns-in_err-check_remembered-clause-err : goal.returns-in_err-check_remembered-clause-err
@@ -43,18 +43,16 @@ returns-in_err-check_remembered-clause-err c =
     let left = err_from_is_err_and c.from_residual-in_err-check_remembered.result c.from_residual-in_err-check_remembered.ensures.1 in
     let h = c.in_err-check_remembered.ensures.err in
     rw (left.1, left.2) (λ bytes told.
-    let logged : LogsGood told.file = logs_good told.file c.args.drafted.draft c.deref.result.now told.heap (c.deref.ensures.value ∙ told.log) c.in_ok-log.ensures.ok.1 in
-    remembered_fault bytes told.file c.args.drafted.draft (map (λ s. s.items) c.deref-2.result.now) c.in_err-check_remembered.field-0.0 h.0
-    told.fits told.text told.known told.heap
-    (ap (λ l. map (λ s. s.items) l) c.deref-2.ensures.value ∙ told.remembered) c.requires.good logged h.1 h.2)
+    card_fault bytes told.file c.args.drafted.draft c.deref.result.now (map (λ s. s.items) c.deref-2.result.now) c.in_err-check_remembered.field-0.0 (stand.Region h.0) told.fits told.text
+    told.known told.heap (c.deref.ensures.value ∙ told.log) (ap (λ l. map (λ s. s.items) l) c.deref-2.ensures.value ∙ told.remembered) c.requires.good h.1 (c.in_ok-log.ensures.ok.1, h.2))
 
 -- the heap, the log and the remembered sets of the file are good
 checked : (c : In_ok-check_remembered) (bytes : List ℕ) (told : IsDraftOf bytes c.args.drafted) →
-    IsGoodHeap (heap_of told.file) × LogsGood told.file × ((r : ℕ) → r < told.file.n → RememberedGood told.file r)
+    IsGoodHeap (heap_of told.file) × LogIsGood (heap_of told.file) told.file.log × SetsAreGood (heap_of told.file) told.file.remembered
 checked c bytes told = (
   subst IsGoodHeap told.heap c.requires.good,
   logs_good told.file c.args.drafted.draft c.deref.result.now told.heap (c.deref.ensures.value ∙ told.log) c.in_ok-log.ensures.ok.1,
-  all_remembered_good told.file c.args.drafted.draft (map (λ s. s.items) c.deref-2.result.now) told.heap
+  sets_good told.file c.args.drafted.draft (map (λ s. s.items) c.deref-2.result.now) told.heap
       (ap (λ l. map (λ s. s.items) l) c.deref-2.ensures.value ∙ told.remembered) c.in_ok-check_remembered.ensures.ok,
 )
 

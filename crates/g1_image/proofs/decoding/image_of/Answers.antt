@@ -3,8 +3,7 @@ use Rattle.std.proofs.lemmas.Result.{err_from_is_err_and}
 use Rattle.g1_image.specs.Image.{IsTextOf}
 use Rattle.g1_image.specs.Front.{IsLaidOut}
 use Rattle.g1_image.specs.Drafted.{IsDraftOf}
-use Rattle.g1_image.specs.Faults.{MayFail}
-use Rattle.g1_image.specs.Judged.{HeapFault}
+use Rattle.g1_image.specs.Faults.{MayFail, HeapFault}
 use Rattle.g1_image.proofs.Assembled.{heap_fault}
 use Rattle.g1_image.proofs.Told.{if_ok, if_err}
 use Rattle.g1_image.proofs.decoding.image_of.Goals as goal
