@@ -17,6 +17,7 @@ mod cards;
 mod changes;
 mod checking;
 mod choosing;
+mod entering;
 mod explaining;
 mod failure;
 mod finders;
