@@ -1,5 +1,5 @@
 -- The cards of a search of one region.
-use Rattle.std.proofs.Common.{◌≡◌, ◌≢◌, ◌<◌, ℕ, inl, inr, ◌+◌, ◌*◌, ◌/◌, Bool, true, false, not, ◌&&◌, List, [], ◌∷◌, Contains, sym, ap, subst, ◌∙◌, arith, refl, eqb}
+use Rattle.std.proofs.Common.{◌≡◌, ◌≢◌, ◌<◌, ℕ, inl, inr, ◌+◌, ◌*◌, ◌/◌, Bool, true, false, not, ◌&&◌, List, [], ◌∷◌, Contains, sym, ap, subst, ◌∙◌, arith, refl, eqb, eq-eqb}
 use Rattle.std.specs.List.{range_with_len}
 use Rattle.std.proofs.lemmas.Bool.{false≢true}
 use Rattle.g1_words.specs.Heap.{Heap, card_of, region_of}
@@ -9,10 +9,10 @@ use Rattle.g1_words.specs.Lists.{has}
 use Rattle.g1_words.proofs.Computed.{range_below}
 use Rattle.g1_words.proofs.Members.{In, In-from_contains, Contains-from_in, filter_member, in_from_has, has_from_in}
 use Rattle.g1_image.specs.Image.{Image, IsImage, region_of_card}
-use Rattle.g1_image.specs.Cards.{is_refined, refined, exact}
+use Rattle.g1_image.specs.Cards.{leads_into, is_refined, refined}
 use Rattle.g1_image.proofs.Covers.{card_region, exact_tells, refined_tells}
 use Rattle.g1_rem.specs.Starts.{card_count}
-use Rattle.g1_rem.proofs.Entering.{in_all}
+use Rattle.g1_rem.proofs.Lists.{eqb_false}
 use Rattle.g1_frontier.specs.Window.{AreCards, AreOutside, LeadIn}
 use Rattle.g1_frontier.proofs.Places.{same_bool}
 use Rattle.g1_frontier.proofs.Scopes.{all_from_in}
@@ -31,6 +31,10 @@ module _ (i : Image) (good : IsImage i) (r : ℕ) (inside : r < i.heap.geometry.
       let b = range_below 0 (card_count i.heap) c (filter_member (is_refined i r) (range_with_len 0 (card_count i.heap)) c (In-from_contains (refined i r) c k)).0 in
       omega (arith, b)
 
+  -- a reference into the region from another one leads in
+  leads : (e : Ref) → region_of i.heap e.target ≡ r → region_of i.heap e.slot ≢ r → leads_into i.heap r e ≡ true
+  leads e into out = rw (eq-eqb (region_of i.heap e.target) r into, eqb_false (region_of i.heap e.slot) r out) refl
+
   single : (q : ℕ) → In (r ∷ []) q → q ≡ r
   single q (inl e) = sym e
   single q (inr k) = absurd k
@@ -44,11 +48,5 @@ module _ (i : Image) (good : IsImage i) (r : ℕ) (inside : r < i.heap.geometry.
     (λ e c t f.
         let into : region_of i.heap e.target ≡ r = single (region_of i.heap e.target) (in_from_has (r ∷ []) (region_of i.heap e.target) t) in
         let out : region_of i.heap e.slot ≢ r = λ z. false≢true (sym f ∙ has_from_in (r ∷ []) (region_of i.heap e.slot) (inl (sym z))) in
-        let there : Contains (exact i.heap r) (card_of i.heap e.slot) = (exact_tells i.heap good.heap r (card_of i.heap e.slot)).1 (e, c, into, out, refl) in
-        l.whole (card_of i.heap e.slot) (exact_below there) there),
+        elim (l.whole e c (leads e into out)) [ inl m ↦ m | inr m ↦ absurd (In-from_contains [] e.slot m) ]),
   )
-    where
-      exact_below : {c : ℕ} → Contains (exact i.heap r) c → c < card_count i.heap
-      exact_below {c} k =
-          let b = range_below 0 (card_count i.heap) c (filter_member (Rattle.g1_image.specs.Cards.is_exact i.heap r) (range_with_len 0 (card_count i.heap)) c (In-from_contains (exact i.heap r) c k)).0 in
-          omega (arith, b)
