@@ -13,7 +13,7 @@ returns c =
     let i = c.args.image.now in
     let set : c.as_slice-set.result.now ≡ remembered_of c.args.image.now c.args.region =
     c.as_slice-set.ensures.value ∙ set_read (λ s. s.items) c.args.image.now c.remembered.result.now c.args.region c.index-remembered-region.result
-        c.heap.ensures.valid c.remembered.ensures c.requires c.index-remembered-region.is in
+    c.heap.ensures.valid c.remembered.ensures c.requires c.index-remembered-region.is in
     let log : c.as_slice-log.result.now ≡ c.args.image.now.log = c.as_slice-log.ensures.keys ∙ c.log.ensures in
     let count : c.cards-cards.result ≡ card_count c.args.image.now.heap =
     c.cards-cards.ensures.value ∙ ap (λ g. g.n * g.w / g.k) c.geometry.ensures.same ∙ ap (λ (h : Heap). h.geometry.n * h.geometry.w / h.geometry.k) c.heap.ensures.same in

@@ -37,7 +37,7 @@ objects-init c =
     let row : Tiles c.args.self.now.image.now.heap.words (start c.args.self.now.image.now.heap c.args.region) (objects_in c.args.self.now.image.now.heap c.args.region) c.objects_end-end.result =
     subst (λ (h : Heap). Tiles h.words (start h c.args.region) (objects_in h c.args.region) c.objects_end-end.result) same c.objects_end-end.ensures in
     taking_start c.args.self.now.image.now c.args.self.now.region c.args.region c.start-at.result c.objects_end-end.result c.args.cards.now.items c.heap-heap.ensures.valid.heap
-        c.requires.other from row c.requires.ahead
+    c.requires.other from row c.requires.ahead
 
 pub header-object-requires : goal.header-object-requires
 header-object-requires c =
@@ -75,9 +75,9 @@ returns-in_err-take_slots-clause-fault c =
     let b = goal.at.returns-in_err-take_slots-clause-fault c in
     let p = err_from_is_err_and c.from_residual.result c.from_residual.ensures.1 in
     rw (p.1, p.2) (c.in_err-take_slots.ensures.fault (taking_rest c.args.self.now.image.now c.args.self.now.region c.args.region c.objects.at c.objects_end-end.result
-        c.objects.cards.items c.heap-heap.ensures.valid.heap c.requires.other c.objects.invariant c.objects-test.true)
+    c.objects.cards.items c.heap-heap.ensures.valid.heap c.requires.other c.objects.invariant c.objects-test.true)
     (taking_slots c.args.self.now.image.now c.args.self.now.region c.args.region c.objects.at c.objects_end-end.result c.objects.cards.items c.heap-heap.ensures.valid.heap
-        c.requires.other c.objects.invariant c.objects-test.true c.header-object.result.refs (refs_read b.After-header-object)))
+    c.requires.other c.objects.invariant c.objects-test.true c.header-object.result.refs (refs_read b.After-header-object)))
 
 pub overflow_add-at-in-objects-3 : goal.overflow_add-at-in-objects-3
 overflow_add-at-in-objects-3 c =
@@ -93,11 +93,11 @@ pub objects-preserved : goal.objects-preserved
 objects-preserved c =
     let b = goal.at.objects-preserved c in
     taking_step c.args.self.now.image.now c.args.self.now.region c.args.region c.objects.at c.objects_end-end.result c.objects.cards.items c.heap-heap.ensures.valid.heap c.requires.other
-        c.objects.invariant c.objects-test.true c.header-object.result.size c.take_slots.new.cards.items (size_read b.After-header-object)
+    c.objects.invariant c.objects-test.true c.header-object.result.size c.take_slots.new.cards.items (size_read b.After-header-object)
     (c.in_ok-take_slots.ensures.ahead (taking_rest c.args.self.now.image.now c.args.self.now.region c.args.region c.objects.at c.objects_end-end.result c.objects.cards.items
-        c.heap-heap.ensures.valid.heap c.requires.other c.objects.invariant c.objects-test.true)
+    c.heap-heap.ensures.valid.heap c.requires.other c.objects.invariant c.objects-test.true)
     (taking_slots c.args.self.now.image.now c.args.self.now.region c.args.region c.objects.at c.objects_end-end.result c.objects.cards.items c.heap-heap.ensures.valid.heap
-        c.requires.other c.objects.invariant c.objects-test.true c.header-object.result.refs (refs_read b.After-header-object)))
+    c.requires.other c.objects.invariant c.objects-test.true c.header-object.result.refs (refs_read b.After-header-object)))
 
 pub returns-clause-ahead : goal.returns-clause-ahead
 returns-clause-ahead c =

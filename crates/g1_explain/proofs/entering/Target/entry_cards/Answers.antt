@@ -10,8 +10,11 @@ the_cards : (c : After-loop-region) → AreEntryCards c.args.self.now.image.now 
 the_cards c =
     let n : c.regions-region-end.result ≡ c.args.self.now.image.now.heap.geometry.n =
     c.regions-region-end.ensures.value ∙ ap (λ g. g.n) c.geometry.ensures.same ∙ ap (λ (h : Heap). h.geometry.n) c.heap.ensures.same in
-    lead_end c.args.self.now.image.now c.heap.ensures.valid c.args.self.now.region c.requires.region c.loop-region.region c.loop-region.cards.items (omega (arith,
-        c.loop-region-test.false, n)) c.loop-region.invariant
+    lead_end c.args.self.now.image.now c.heap.ensures.valid c.args.self.now.region c.requires.region c.loop-region.region c.loop-region.cards.items (omega (
+      arith,
+      c.loop-region-test.false,
+      n,
+    )) c.loop-region.invariant
 
 pub loop-region-init : goal.loop-region-init
 loop-region-init c = lead_start c.args.self.now.image.now c.heap.ensures.valid c.args.self.now.region c.requires.region c.new-cards.result.items c.new-cards.ensures.items
