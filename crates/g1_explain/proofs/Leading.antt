@@ -1,7 +1,6 @@
 -- What leads into one region: the cards so far, the slots ahead, and the lowest slot that isn't covered.
-use Rattle.std.proofs.Common.{◌≡◌, ◌≢◌, ◌≤◌, ◌<◌, ◌⊎◌, inl, inr, ℕ, suc, ◌+◌, ◌-◌, ◌*◌, ◌/◌, ◌%◌, ◌^◌, Bool, true, false, not, ◌&&◌, ◌||◌, List, [], ◌∷◌, ◌++◌}
+use Rattle.std.proofs.Common.{◌≡◌, ◌≢◌, ◌≤◌, ◌<◌, ◌⊎◌, inl, inr, ℕ, suc, ◌+◌, ◌-◌, ◌/◌, ◌%◌, ◌^◌, Bool, true, false, not, ◌&&◌, ◌||◌, List, [], ◌∷◌, ◌++◌}
 use Rattle.std.proofs.Common.{map, filter, flat_map, length, slice_index, slice_index_or, replicate, drop, Contains, refl, sym, ap, subst, ◌∙◌, arith, eqb, eqb-true, eq-eqb}
-use Rattle.std.specs.Prelude.{IsTrue}
 use Rattle.std.specs.List.{range_with_len, list_any}
 use Rattle.std.specs.List.Sorted.{IsStrictlyIncreasing}
 use Rattle.std.proofs.lemmas.Bool.{cases_lt, false≢true}
@@ -9,7 +8,6 @@ use Rattle.std.proofs.lemmas.List.{get_or_default}
 use Rattle.std.proofs.lemmas.List.Kept.{AllPairs-from_increasing}
 use Rattle.std.proofs.lemmas.Nat.{le-div}
 use Rattle.std.proofs.Math.Nat.{div-mul-le_self}
-use Rattle.g1_words.specs.declared.fault.Fault.{Fault}
 use Rattle.g1_words.specs.declared.fault.Fault.TheVariants.{Uncovered}
 use Rattle.g1_words.specs.Geometry.{most_words}
 use Rattle.g1_words.specs.Heap.{Heap, word, region_of, card_of, start, objects, objects_in, object_at, slots}
@@ -21,7 +19,7 @@ use Rattle.g1_words.proofs.Members.{In-map, map_cases, In-filter, filter_member,
 use Rattle.g1_words.proofs.Ordered.{Ordered, Ordered-from_pairs, pairs_from_ordered}
 use Rattle.g1_words.proofs.Computed.{In-range, range_below, has_contains}
 use Rattle.g1_words.proofs.Rising.{Ordered-append, Ordered-filter, Ordered-map, refs_ordered, ref_tells}
-use Rattle.g1_image.specs.Image.{Image, IsImage, remembered_of, region_of_card}
+use Rattle.g1_image.specs.Image.{Image, IsImage, remembered_of}
 use Rattle.g1_image.specs.Cards.{leads_into, is_exact, exact, refined, is_covered}
 use Rattle.g1_image.proofs.Covers.{exact_tells, refined_tells}
 use Rattle.g1_rem.specs.EntryCards.{AreMarked}
@@ -35,7 +33,7 @@ use Rattle.g1_rem.proofs.Filled.{Tiles-none, row_front, row_rest, row_step}
 use Rattle.g1_rem.proofs.Lists.{eqb_false}
 use Rattle.g1_rem.proofs.Marks.{left_start}
 use Rattle.g1_rem.proofs.Next.{NextOf}
-use Rattle.g1_rem.proofs.Rising.{Rises, Rises-weaken, Rises-above, Rises-increasing, increasing-Rises}
+use Rattle.g1_rem.proofs.Rising.{Rises, Rises-above, Rises-increasing, increasing-Rises}
 use Rattle.g1_explain.specs.Entering.{is_entry, uncovered_into, AreKnown, LeadAhead, AreEntryCards, IsEntryFault}
 
 -- ---- lists

@@ -1,4 +1,4 @@
-use Rattle.std.proofs.Common.{◌≡◌, ◌≤◌, ◌∙◌, ap, arith}
+use Rattle.std.proofs.Common.{◌≡◌, ◌∙◌, ap, arith}
 use Rattle.g1_words.specs.Heap.{Heap}
 use Rattle.g1_explain.specs.Entering.{AreEntryCards}
 use Rattle.g1_explain.proofs.Leading.{all_covered, lead_start, lead_end}

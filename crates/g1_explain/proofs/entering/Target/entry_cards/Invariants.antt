@@ -1,4 +1,4 @@
-use Rattle.std.proofs.Common.{◌≤◌, flat_map}
+use Rattle.std.proofs.Common.{flat_map}
 use Rattle.g1_words.specs.Heap.{slots}
 use Rattle.g1_rem.specs.Marks.{objects_from}
 use Rattle.g1_explain.specs.Entering.{LeadAhead}
