@@ -52,13 +52,15 @@ class Heap:
                 offer(image.words[slot], ("object", at, number))
         return found
 
-    def uncovered(self):
-        """The lowest slot that leads into another region and whose card is neither remembered there nor dirty."""
+    def uncovered_into(self, region):
+        """The lowest slot of another region that leads into this one and whose card is neither remembered there nor
+        dirty."""
         image = self.image
         for slot in self.slots:
-            region, card = image.region_of(image.words[slot] - 1), slot // image.card_words
-            if region != image.region_of(slot) and card not in image.sets[region] and card not in image.log:
-                return slot
+            card = slot // image.card_words
+            if image.region_of(image.words[slot] - 1) == region != image.region_of(slot):
+                if card not in image.sets[region] and card not in image.log:
+                    return slot
         return None
 
     def numbers(self, at):
@@ -118,7 +120,7 @@ class Heap:
         if at in self.live:
             words, lines = self.path(self.live, at)
             return 0, "".join(f"{line}\n" for line in [f"live {at} {words}", *lines]), ""
-        slot = self.uncovered()
+        slot = self.uncovered_into(self.image.region_of(at))
         if slot is not None:
             return 4, "", f"g1heap: -: fault 9: uncovered slot {slot}\n"
         return 0, "".join(f"{line}\n" for line in self.dead(at)), ""

@@ -1,9 +1,10 @@
 //! What keeps an object.
-ghost use Rattle.std.specs.Prelude.{◌≡◌, ◌<◌};
-ghost use Rattle.g1_image.specs.Cards.{refined};
+ghost use Rattle.std.specs.Prelude.{◌<◌};
 ghost use Rattle.g1_rem.specs.Starts.{IsStartsOf};
+ghost use Rattle.g1_explain.specs.Entering.{AreEntryCards};
 
 use crate::cards::{mark_regions, word_at};
+use crate::entering::Target;
 use crate::failure::Failure;
 use crate::finders::{Finder, finders, size_in, slots_at};
 use crate::humongous::card_keeper;
@@ -11,7 +12,7 @@ use crate::places::{push_found, push_object};
 use g1_frontier::discover;
 use g1_image::Image;
 use g1_mark::live_objects;
-use g1_rem::{Starts, Tracked, image, refine_region, verify};
+use g1_rem::Starts;
 use g1_words::{Fault, Heap, region_of};
 use g1_work::{Open, Team};
 use std::alloc::{AllocError, Global};
@@ -27,8 +28,9 @@ const CHUNK: u64 = 64;
 ///
 /// # Errors
 ///
-/// `Fault::Uncovered` with the lowest slot that lacks cover, if no root leads to the object; `Fault::Memory`;
-/// `Failure::Contradiction` if the references don't lead to what the search found.
+/// `Fault::Uncovered` with the lowest slot that leads into the object's region from another one and isn't
+/// covered, if no root leads to the object; `Fault::Memory`; `Failure::Contradiction` if the references don't
+/// lead to what the search found.
 pub fn why<R: Threads + Sync>(
     rt: &R,
     alloc: Global,
@@ -38,7 +40,7 @@ pub fn why<R: Threads + Sync>(
     let starts = Starts::build(alloc, image.heap())?;
     match explain_live(rt, alloc, image.heap(), &starts, at)? {
         Some(text) => Ok(text),
-        None => explain_dead(rt, alloc, image, &starts, at),
+        None => explain_dead(rt, alloc, &image, &starts, at),
     }
 }
 
@@ -158,109 +160,102 @@ fn target_of(heap: &Heap, found: &[u64], finder: Finder) -> u64 {
 fn explain_dead<R: Threads + Sync>(
     rt: &R,
     alloc: Global,
-    image: Image,
+    image: &Image,
     starts: &Starts,
     at: u64,
 ) -> Result<String, Failure>
-    requires { IsStartsOf image.heap starts.now }
+    requires { IsStartsOf image.now.heap starts.now }
 {
-    match verify(rt, alloc, image) {
-        Ok(tracked) => explain_tracked(rt, alloc, &tracked, starts, at),
-        Err((_, fault)) => Err(Failure::Fault(fault)),
-    }
-}
-
-fn explain_tracked<R: Threads + Sync>(
-    rt: &R,
-    alloc: Global,
-    tracked: &Tracked,
-    starts: &Starts,
-    at: u64,
-) -> Result<String, Failure>
-    requires { IsStartsOf tracked.now.heap starts.now }
-{
-    let image = image(tracked);
     let heap = image.heap();
     let number = region_of(&heap.geometry(), at);
     if number >= heap.geometry().regions() {
         return Err(Failure::Contradiction);
     }
     let region = number as u32;
-    let cards = refine_region(alloc, tracked, starts, region)?;
+    let target = Target {
+        image,
+        starts,
+        region,
+        at,
+    };
+    let cards = target.entry_cards(alloc)?;
     if heap.region(region).kind.is_humongous_first() {
-        return explain_humongous(alloc, image, starts, region, &cards, at);
+        return explain_humongous(alloc, &target, &cards);
     }
-    let found = survivors_in(rt, alloc, tracked, starts, &cards, region)?;
-    explain_ordinary(alloc, image, starts, region, &cards, &found, at)
+    let found = survivors_in(rt, alloc, &target, &cards)?;
+    explain_ordinary(alloc, &target, &cards, &found)
 }
 
-// The objects that would survive if a region alone were collected, from the cards of its refined set.
+// The objects that would survive if the object's region alone were collected, from these cards.
 fn survivors_in<R: Threads + Sync>(
     rt: &R,
     alloc: Global,
-    tracked: &Tracked,
-    starts: &Starts,
+    target: &Target<'_>,
     cards: &[u32],
-    region: u32,
 ) -> Result<Vec<u64>, Fault>
-    requires starts { IsStartsOf tracked.now.heap starts.now }
-    requires cards { cards.now ≡ refined tracked.now region }
-    requires region { region < tracked.now.heap.geometry.n }
+    requires starts { IsStartsOf target.now.image.now.heap target.now.starts.now }
+    requires region { target.now.region < target.now.image.now.heap.geometry.n }
+    requires cards { AreEntryCards target.now.image.now target.now.region cards.now }
 {
-    let image = image(tracked);
-    let heap = image.heap();
-    let window = [region];
+    let heap = target.image.heap();
+    let window = [target.region];
     discover(
-        rt, alloc, heap, starts, &window, cards, WORKERS, CHUNK, &Open,
+        rt,
+        alloc,
+        heap,
+        target.starts,
+        &window,
+        cards,
+        WORKERS,
+        CHUNK,
+        &Open,
     )
 }
 
 // A humongous object: a slot of another object keeps it, or it is garbage.
-fn explain_humongous(
-    alloc: Global,
-    image: &Image,
-    starts: &Starts,
-    region: u32,
-    cards: &[u32],
-    at: u64,
-) -> Result<String, Failure>
-    requires { IsStartsOf image.now.heap starts.now }
+fn explain_humongous(alloc: Global, target: &Target<'_>, cards: &[u32]) -> Result<String, Failure>
+    requires { IsStartsOf target.now.image.now.heap target.now.starts.now }
 {
+    let Target {
+        image,
+        starts,
+        region,
+        at,
+    } = *target;
     let heap = image.heap();
     let none = mark_regions(alloc, heap, &[])?;
     match card_keeper(alloc, heap, starts, &none, u64::from(region), cards) {
-        Some(finder) => Ok(kept_lines(alloc, image, starts, region, &[at], &[finder], at)?),
-        None => Ok(garbage_line(alloc, image, region, at)?),
+        Some(finder) => Ok(kept_lines(alloc, target, &[at], &[finder])?),
+        None => Ok(garbage_line(alloc, target)?),
     }
 }
 
 // An object of an ordinary region, of whose objects these would survive.
 fn explain_ordinary(
     alloc: Global,
-    image: &Image,
-    starts: &Starts,
-    region: u32,
+    target: &Target<'_>,
     cards: &[u32],
     found: &[u64],
-    at: u64,
 ) -> Result<String, Failure>
-    requires { IsStartsOf image.now.heap starts.now }
+    requires { IsStartsOf target.now.image.now.heap target.now.starts.now }
 {
-    match path_to(alloc, image.heap(), starts, cards, found, at)? {
-        Some(path) => Ok(kept_lines(alloc, image, starts, region, found, &path, at)?),
-        None => Ok(garbage_line(alloc, image, region, at)?),
+    let heap = target.image.heap();
+    match path_to(alloc, heap, target.starts, cards, found, target.at)? {
+        Some(path) => Ok(kept_lines(alloc, target, found, &path)?),
+        None => Ok(garbage_line(alloc, target)?),
     }
 }
 
-fn garbage_line(alloc: Global, image: &Image, region: u32, at: u64) -> Result<String, AllocError> {
-    let mut text = format!(in alloc; "garbage {at}\n")?;
-    push_pin(&mut text, image, region)?;
+fn garbage_line(alloc: Global, target: &Target<'_>) -> Result<String, AllocError> {
+    let mut text = format!(in alloc; "garbage {}\n", target.at)?;
+    push_pin(&mut text, target)?;
     Ok(text)
 }
 
-// Adds that no pause takes a region, if it is pinned.
-fn push_pin(text: &mut String, image: &Image, region: u32) -> Result<(), AllocError> {
-    match image.heap().regions().get(region as usize) {
+// Adds that no pause takes the region, if it is pinned.
+fn push_pin(text: &mut String, target: &Target<'_>) -> Result<(), AllocError> {
+    let region = target.region;
+    match target.image.heap().regions().get(region as usize) {
         Some(entry) if entry.pinned => writeln!(text, "pinned {region}"),
         _ => Ok(()),
     }
@@ -268,28 +263,28 @@ fn push_pin(text: &mut String, image: &Image, region: u32) -> Result<(), AllocEr
 
 fn kept_lines(
     alloc: Global,
-    image: &Image,
-    starts: &Starts,
-    region: u32,
+    target: &Target<'_>,
     found: &[u64],
     path: &[Finder],
-    at: u64,
 ) -> Result<String, AllocError>
-    requires { IsStartsOf image.now.heap starts.now }
+    requires { IsStartsOf target.now.image.now.heap target.now.starts.now }
 {
-    let mut text = path_line(alloc, "kept", at, path)?;
+    let heap = target.image.heap();
+    let mut text = path_line(alloc, "kept", target.at, path)?;
     if let Some(Finder::Card { card, slot }) = path.first() {
-        push_card(&mut text, image, region, *card)?;
-        push_holder(&mut text, image.heap(), starts, *card, *slot)?;
+        push_card(&mut text, target, *card)?;
+        push_holder(&mut text, heap, target.starts, *card, *slot)?;
     }
-    push_path(&mut text, image.heap(), found, path)?;
-    push_pin(&mut text, image, region)?;
+    push_path(&mut text, heap, found, path)?;
+    push_pin(&mut text, target)?;
     Ok(text)
 }
 
-// Why a card is looked at if a region is collected.
-fn push_card(text: &mut String, image: &Image, region: u32, card: u32) -> Result<(), AllocError> {
-    let is_remembered = image
+// Why a card is looked at if the region is collected.
+fn push_card(text: &mut String, target: &Target<'_>, card: u32) -> Result<(), AllocError> {
+    let region = target.region;
+    let is_remembered = target
+        .image
         .remembered()
         .get(region as usize)
         .is_some_and(|set| set.as_slice().binary_search(&card).is_ok());

@@ -10,13 +10,15 @@
 //! 3. At the end `explain` lets `evacuate` make the pause of the same image, and compares its answer with
 //!    what was reported. If they differ, it returns no lines.
 //! 4. `why` asks the same search for all that the roots reach, and goes back from an object to a root. If no
-//!    root leads there, it asks for the survivors of the object's region alone.
+//!    root leads there, it asks for the survivors of the object's region alone, from the cards that lead into
+//!    it. A slot that leads into it and isn't covered is the refusal.
 #![tactic(auto)]
 
 mod cards;
 mod changes;
 mod checking;
 mod choosing;
+mod entering;
 mod explaining;
 mod failure;
 mod finders;

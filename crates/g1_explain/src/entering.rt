@@ -1,0 +1,187 @@
+//! The cards that lead into the region of one object.
+ghost use Rattle.std.specs.Prelude.{◌≡◌, ◌≤◌, ◌<◌, ◌+◌, ◌-◌, ℕ, List, [], ◌∷◌, ◌++◌, flat_map, length, slice_index_or, false, IsTrue, OnOk, IfOk, IfErr};
+ghost use Rattle.std.specs.List.{range_with_len};
+ghost use Rattle.g1_words.specs.Heap.{start, objects_in, slots};
+ghost use Rattle.g1_words.specs.Lists.{has};
+ghost use Rattle.g1_words.specs.Valid.{Tiles};
+ghost use Rattle.g1_image.specs.Image.{IsImage};
+ghost use Rattle.g1_rem.specs.EntryCards.{AreMarked};
+ghost use Rattle.g1_rem.specs.Marks.{objects_from};
+ghost use Rattle.g1_explain.specs.Entering.{is_entry, uncovered_into, AreKnown, LeadAhead, AreEntryCards, IsEntryFault};
+
+use g1_image::Image;
+use g1_rem::Starts;
+use g1_words::{Fault, Heap, Kind, Marks, Region, card_of, header, region_of, size_at};
+use std::alloc::{AllocError, Global};
+
+/// An object that is asked about: its address and its region, in an image with these starts.
+#[derive(Drop)]
+pub(crate) struct Target<'a> {
+    pub image: &'a Image,
+    pub starts: &'a Starts,
+    pub region: u32,
+    pub at: u64,
+}
+
+// The address after the last object that starts in a region; the region's own start if none does.
+fn objects_end(heap: &Heap, region: u32) -> u64
+    requires { region < heap.now.geometry.n }
+    ensures { Tiles heap.now.words (start heap.now region) (objects_in heap.now region) result }
+{
+    let start = heap.geometry().start(region);
+    let Region { kind, top, .. } = heap.region(region);
+    match kind {
+        Kind::Ordinary => start + u64::from(top),
+        Kind::HumongousFirst => start + size_at(heap, start),
+        Kind::Free => start,
+        Kind::Continuation => start,
+    }
+}
+
+// Sets the marks of these numbers. One past the last mark has none.
+fn mark_each(marks: &mut Marks, numbers: &[u32])
+    ensures { AreMarked (has numbers.now) marks.old marks.new }
+{
+    for number in numbers {
+        let place = *number as usize;
+        if place < marks.len() {
+            marks.set(place);
+        }
+    }
+}
+
+// A mark for each card, set if the region remembers it or it is dirty.
+fn known_cards(alloc: Global, image: &Image, region: u32) -> Result<Marks, AllocError>
+    requires { region < image.now.heap.geometry.n }
+    ensures { IfOk result (AreKnown image.now region) }
+{
+    let cards = image.heap().geometry().cards();
+    let mut known = Marks::none(alloc, cards as usize)?;
+    let set = image.remembered()[region as usize].as_slice();
+    mark_each(&mut known, set);
+    let log = image.log().as_slice();
+    mark_each(&mut known, log);
+    Ok(known)
+}
+
+// The region that slots may lead into, in an image, and the cards that it remembers or that are dirty.
+#[derive(Drop)]
+struct Entering<'a> {
+    image: &'a Image,
+    region: u32,
+    known: &'a Marks,
+}
+
+impl<'a> Entering<'a> {
+    // Whether a slot leads into the region from another one.
+    fn is_entry(&self, slot: u64) -> bool
+        requires { slot < length self.now.image.now.heap.words }
+        ensures same { result ≡ is_entry self.now.image.now.heap self.now.region slot }
+        ensures valid { IsImage self.now.image.now }
+    {
+        let heap = self.image.heap();
+        let geometry = heap.geometry();
+        let region = u64::from(self.region);
+        match heap.words()[slot as usize].checked_sub(1) {
+            Some(target) => {
+                region_of(&geometry, target) == region && region_of(&geometry, slot) != region
+            }
+            None => false,
+        }
+    }
+
+    // Whether the region remembers a card, or it is dirty.
+    fn is_known(&self, card: u32) -> bool
+        ensures { result ≡ slice_index_or self.now.known.now card false }
+    {
+        let place = card as usize;
+        place < self.known.len() && self.known.is_set(place)
+    }
+
+    // Adds the card of a slot that leads into the region, unless it was the last one.
+    fn take_entry(&self, slot: u64, cards: &mut Vec<u32>) -> Result<(), Fault>
+        requires region { self.now.region < self.now.image.now.heap.geometry.n }
+        requires known { AreKnown self.now.image.now self.now.region self.now.known.now }
+        requires slot { slot < length self.now.image.now.heap.words }
+        requires entry { IsTrue (is_entry self.now.image.now.heap self.now.region slot) }
+        ensures ahead { (rest : List ℕ) → LeadAhead self.now.image.now self.now.region (slot ∷ rest) cards.old.items → OnOk result (LeadAhead self.now.image.now self.now.region rest cards.new.items) }
+        ensures fault { (rest : List ℕ) → LeadAhead self.now.image.now self.now.region (slot ∷ rest) cards.old.items → IfErr result (IsEntryFault self.now.image.now self.now.region) }
+    {
+        let geometry = self.image.heap().geometry();
+        let card = card_of(&geometry, slot) as u32;
+        let count = cards.len();
+        if count > 0 && cards[count - 1] == card {
+            return Ok(());
+        }
+        if !self.is_known(card) {
+            return Err(Fault::Uncovered(slot));
+        }
+        cards.push(card)?;
+        Ok(())
+    }
+
+    // Adds the cards of the slots from one address on and before another that lead into the region.
+    fn take_slots(&self, from: u64, to: u64, cards: &mut Vec<u32>) -> Result<(), Fault>
+        requires region { self.now.region < self.now.image.now.heap.geometry.n }
+        requires known { AreKnown self.now.image.now self.now.region self.now.known.now }
+        requires order { from ≤ to }
+        requires slots { to ≤ length self.now.image.now.heap.words }
+        ensures ahead { (rest : List ℕ) → LeadAhead self.now.image.now self.now.region (range_with_len from (to - from) ++ rest) cards.old.items → OnOk result (LeadAhead self.now.image.now self.now.region rest cards.new.items) }
+        ensures fault { (rest : List ℕ) → LeadAhead self.now.image.now self.now.region (range_with_len from (to - from) ++ rest) cards.old.items → IfErr result (IsEntryFault self.now.image.now self.now.region) }
+    {
+        for slot in from..to {
+            if self.is_entry(slot) {
+                self.take_entry(slot, cards)?;
+            }
+        }
+        Ok(())
+    }
+
+    // Adds the cards of the slots of the objects in another region that lead into this one.
+    fn take_region(&self, region: u32, cards: &mut Vec<u32>) -> Result<(), Fault>
+        requires region { self.now.region < self.now.image.now.heap.geometry.n }
+        requires known { AreKnown self.now.image.now self.now.region self.now.known.now }
+        requires other { region < self.now.image.now.heap.geometry.n }
+        requires ahead { LeadAhead self.now.image.now self.now.region (flat_map slots (objects_from self.now.image.now.heap region)) cards.old.items }
+        ensures ahead { OnOk result (LeadAhead self.now.image.now self.now.region (flat_map slots (objects_from self.now.image.now.heap (region + 1))) cards.new.items) }
+        ensures fault { IfErr result (IsEntryFault self.now.image.now self.now.region) }
+    {
+        let heap = self.image.heap();
+        let end = objects_end(heap, region);
+        let mut at = heap.geometry().start(region);
+        'objects: while at < end {
+            let object = header(heap.words(), at);
+            self.take_slots(at + 1, at + 1 + object.refs, cards)?;
+            at += object.size;
+        }
+        Ok(())
+    }
+}
+
+impl<'a> Target<'a> {
+    /// The cards that lead into the region: all from which a slot of another region references an object in it.
+    ///
+    /// One pass over the slots of all objects, by rising address.
+    ///
+    /// # Errors
+    ///
+    /// `Fault::Uncovered` with the lowest slot that leads into the region and isn't covered; `Fault::Memory`.
+    pub(crate) fn entry_cards(&self, alloc: Global) -> Result<Vec<u32>, Fault>
+        requires region { self.now.region < self.now.image.now.heap.geometry.n }
+        ensures cards { IfOk result (λ v. AreEntryCards self.now.image.now self.now.region v.items) }
+        ensures covered { IfOk result (λ v. uncovered_into self.now.image.now self.now.region ≡ []) }
+        ensures fault { IfErr result (IsEntryFault self.now.image.now self.now.region) }
+    {
+        let known = known_cards(alloc, self.image, self.region)?;
+        let entering = Entering {
+            image: self.image,
+            region: self.region,
+            known: &known,
+        };
+        let mut cards = Vec::new(alloc);
+        for region in 0..self.image.heap().geometry().regions() as u32 {
+            entering.take_region(region, &mut cards)?;
+        }
+        Ok(cards)
+    }
+}
