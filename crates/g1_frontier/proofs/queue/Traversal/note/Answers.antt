@@ -23,7 +23,7 @@ returns-in_ok-push-in-Some c =
     let a : ℕ = x.address in
     let q : Queue = c.make_room.new.queue in
     let r : Queue = record { seat = c.make_room.new.queue.seat; found = c.make_room.new.queue.found; waiting = c.push.new.self } in
-    let there = begins s ok c.args.word a c.requires.reference f.0 f.1.0 in
+    let there = begins s ok c.args.word a c.requires.reference f.0 f.1 in
     let room : HasNoted s t [] c.args.queue.now q = c.in_ok-make_room-in-Some.ensures in
-    subst (λ l. HasNoted s t l c.args.queue.now r) (sym (names_inside s c.args.word a f.0 f.1.0))
-    (noted_append s ok t [] (a ∷ []) c.args.queue.now q r room (noted_waits s ok t q r x room.queue (there, f.1.1) refl refl c.in_ok-push-in-Some.ensures.items))
+    subst (λ l. HasNoted s t l c.args.queue.now r) (sym (names_inside s c.args.word a f.0 f.1))
+    (noted_append s ok t [] (a ∷ []) c.args.queue.now q r room (noted_waits s ok t q r x room.queue (there, f.2) refl refl c.in_ok-push-in-Some.ensures.items))
