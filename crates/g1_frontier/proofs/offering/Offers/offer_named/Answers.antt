@@ -1,4 +1,4 @@
-use Rattle.std.proofs.Common.{arith, ap, subst, sym, ◌≡◌, ◌+◌, ◌<◌, ◌++◌, ◌∙◌, ℕ, [], ◌∷◌, map}
+use Rattle.std.proofs.Common.{arith, ap, subst, sym, ◌+◌, ◌<◌, ◌++◌, ◌∙◌, ℕ, [], ◌∷◌, map}
 use Rattle.g1_claim.specs.declared.rule.Hand.{Hand}
 use Rattle.g1_claim.specs.Claims.{offer, least_rank}
 use Rattle.g1_frontier.specs.declared.offering.Holder.{Holder}

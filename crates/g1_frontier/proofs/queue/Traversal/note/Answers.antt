@@ -1,4 +1,4 @@
-use Rattle.std.proofs.Common.{◌≡◌, ◌∷◌, [], ℕ, refl, sym, subst}
+use Rattle.std.proofs.Common.{◌∷◌, [], ℕ, refl, sym, subst}
 use Rattle.g1_frontier.specs.declared.queue.Queue.{Queue}
 use Rattle.g1_frontier.specs.declared.scope.Target.{Target}
 use Rattle.g1_frontier.specs.Queue.{HasNoted}
