@@ -70,14 +70,6 @@ module _ (place : ℕ → ℕ) where
 
 -- ---- what a word offers
 
-pub aims_null : (h : Heap) (window : List ℕ) (rank x : ℕ) → x ≡ 0 → aims h window rank x ≡ []
-aims_null h window rank x e = ap (aims h window rank) e
-
-pub aims_outside : (h : Heap) (window : List ℕ) (rank x a : ℕ) → x ≡ a + 1 → in_set h window a ≡ false → aims h window rank x ≡ []
-aims_outside h window rank x a e t =
-    let s : x ≡ suc a = omega (arith, e) in
-    ap (aims h window rank) s ∙ ap (λ b. map (λ a. (rank, a)) (cond b (a ∷ []) [])) t
-
 pub aims_inside : (h : Heap) (window : List ℕ) (rank x a : ℕ) → x ≡ a + 1 → in_set h window a ≡ true → aims h window rank x ≡ (rank, a) ∷ []
 aims_inside h window rank x a e t =
     let s : x ≡ suc a = omega (arith, e) in

@@ -20,13 +20,13 @@ use Rattle.g1_words.proofs.OneToOne.{reached_object}
 use Rattle.g1_words.proofs.Sound.{sound}
 use Rattle.g1_rem.specs.Slots.{slots_on}
 use Rattle.g1_frontier.specs.declared.queue.Queue.{Queue}
-use Rattle.g1_frontier.specs.declared.queue.Target.{Target}
+use Rattle.g1_frontier.specs.declared.scope.Target.{Target}
 use Rattle.g1_frontier.specs.declared.scope.Scope.{Scope}
 use Rattle.g1_frontier.specs.Window.{AreCards, AreOutside, LeadIn}
 use Rattle.g1_frontier.specs.Numbers.{BeginsIn}
-use Rattle.g1_frontier.specs.Scope.{IsScope, inside, place_in}
+use Rattle.g1_frontier.specs.Scope.{IsScope, inside, names_in, place_in}
 use Rattle.g1_frontier.specs.Search.{places_of}
-use Rattle.g1_frontier.specs.Queue.{names_in, card_names, object_names, HasFound, IsTarget, addresses, IsQueue, noted, HasNoted, IsUnderWay}
+use Rattle.g1_frontier.specs.Queue.{card_names, object_names, HasFound, IsTarget, addresses, IsQueue, noted, HasNoted, IsUnderWay}
 use Rattle.g1_frontier.proofs.Finding.{same_test}
 use Rattle.g1_frontier.proofs.Links.{has_snoc}
 use Rattle.g1_frontier.proofs.Marks.{firsts_more}
@@ -188,17 +188,6 @@ module _ (s : Scope) (ok : IsScope s) where
           ap firsts ((λ i. found i ++ addresses (waits i)) ∙ ap (λ l. a.found.items ++ l)
           (map-append (λ (x : Target). x.address) a.waiting.items (x ∷ [])) ∙ sym (append_assoc a.found.items (addresses a.waiting.items) (x.address ∷ [])));
     }
-
--- ---- what a word names in the window
-
-pub names_null : (s : Scope) (x : ℕ) → x ≡ 0 → names_in s x ≡ []
-names_null s x e = ap (names_in s) e
-
-pub names_outside : (s : Scope) (x a : ℕ) → x ≡ a + 1 → inside s a ≡ false → names_in s x ≡ []
-names_outside s x a e t = let f : x ≡ suc a = omega (arith, e) in ap (names_in s) f ∙ ap (λ b. cond b (a ∷ []) []) t
-
-pub names_inside : (s : Scope) (x a : ℕ) → x ≡ a + 1 → inside s a ≡ true → names_in s x ≡ a ∷ []
-names_inside s x a e t = let f : x ≡ suc a = omega (arith, e) in ap (names_in s) f ∙ ap (λ b. cond b (a ∷ []) []) t
 
 -- ---- the whole search
 

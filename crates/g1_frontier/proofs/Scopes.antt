@@ -1,5 +1,5 @@
 -- What belongs together in a search, and what is read from it.
-use Rattle.std.proofs.Common.{◌≡◌, ◌≤◌, ◌<◌, ℕ, zero, suc, ◌+◌, ◌*◌, inl, inr, Bool, true, List, [], ◌∷◌, length, get_or, take, drop, map, flat_map, arith, refl, sym, ap, subst, ◌∙◌}
+use Rattle.std.proofs.Common.{◌≡◌, ◌≤◌, ◌<◌, ℕ, zero, suc, ◌+◌, ◌*◌, inl, inr, Bool, true, false, cond, List, [], ◌∷◌, length, get_or, take, drop, map, flat_map, arith, refl, sym, ap, subst, ◌∙◌}
 use Rattle.std.specs.List.{All}
 use Rattle.std.proofs.lemmas.List.Kept.{AllPairs-from_increasing}
 use Rattle.std.proofs.lemmas.List.{take_all}
@@ -15,8 +15,19 @@ use Rattle.g1_frontier.specs.declared.scope.Scope.{Scope}
 use Rattle.g1_frontier.specs.declared.scope.Numbering.{Numbering}
 use Rattle.g1_frontier.specs.declared.scope.Numbering.TheVariants.{Words, Objects}
 use Rattle.g1_frontier.specs.Numbers.{BeginsIn}
-use Rattle.g1_frontier.specs.Scope.{IsScope, Covers, count_by_numbering, inside, place_in, place_count}
+use Rattle.g1_frontier.specs.Scope.{IsScope, Covers, count_by_numbering, inside, names_in, place_in, place_count}
 use Rattle.g1_frontier.specs.Window.{AreRising}
+
+-- ---- what a word names in the window
+
+pub names_null : (s : Scope) (x : ℕ) → x ≡ 0 → names_in s x ≡ []
+names_null s x e = ap (names_in s) e
+
+pub names_outside : (s : Scope) (x a : ℕ) → x ≡ a + 1 → inside s a ≡ false → names_in s x ≡ []
+names_outside s x a e t = let f : x ≡ suc a = omega (arith, e) in ap (names_in s) f ∙ ap (λ b. cond b (a ∷ []) []) t
+
+pub names_inside : (s : Scope) (x a : ℕ) → x ≡ a + 1 → inside s a ≡ true → names_in s x ≡ a ∷ []
+names_inside s x a e t = let f : x ≡ suc a = omega (arith, e) in ap (names_in s) f ∙ ap (λ b. cond b (a ∷ []) []) t
 
 -- ---- reading lists
 

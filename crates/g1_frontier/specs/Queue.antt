@@ -1,23 +1,18 @@
 -- What the search of one worker holds.
-use Rattle.std.specs.Prelude.{◌≡◌, ◌<◌, ◌≤◌, ℕ, true, List, [], ◌++◌, ◌⊎◌, map, filter, flat_map, take, length, Contains}
+use Rattle.std.specs.Prelude.{◌≡◌, ◌<◌, ◌≤◌, ℕ, true, List, [], ◌++◌, ◌⊎◌, map, flat_map, take, length, Contains}
 use Rattle.std.specs.List.{All}
 use Rattle.g1_claim.specs.Claims.{all_shares, TableView, SeatView, IsSeatOf}
 use Rattle.g1_words.specs.Heap.{word, object_at, slots}
 use Rattle.g1_words.specs.Lists.{has}
 use Rattle.g1_words.specs.Live.{Reached}
-use Rattle.g1_words.specs.References.{named}
 use Rattle.g1_words.specs.Survivors.{firsts, seeds, children}
 use Rattle.g1_rem.specs.Slots.{slots_on}
 use Rattle.g1_frontier.specs.declared.queue.Queue.{Queue}
-use Rattle.g1_frontier.specs.declared.queue.Target.{Target}
+use Rattle.g1_frontier.specs.declared.scope.Target.{Target}
 use Rattle.g1_frontier.specs.declared.scope.Scope.{Scope}
 use Rattle.g1_frontier.specs.Numbers.{BeginsIn}
-use Rattle.g1_frontier.specs.Scope.{inside, place_in}
+use Rattle.g1_frontier.specs.Scope.{inside, names_in, place_in}
 use Rattle.g1_frontier.specs.Search.{places_of}
-
--- what a word names in the window
-abbrev pub names_in : Scope → ℕ → List ℕ
-names_in s x = filter (inside s) (named x)
 
 -- what the slots on a card name in the window, by slot
 abbrev pub card_names : Scope → ℕ → List ℕ

@@ -1,6 +1,7 @@
 -- What a search goes over.
-use Rattle.std.specs.Prelude.{◌≡◌, ◌≤◌, ℕ, ◌*◌, List, Bool, length}
+use Rattle.std.specs.Prelude.{◌≡◌, ◌≤◌, ℕ, ◌*◌, List, Bool, filter, length}
 use Rattle.g1_words.specs.Geometry.{most_words}
+use Rattle.g1_words.specs.References.{named}
 use Rattle.g1_words.specs.Valid.{IsValid}
 use Rattle.g1_words.specs.Survivors.{in_set}
 use Rattle.g1_rem.specs.Starts.{IsStartsOf}
@@ -48,6 +49,10 @@ pub record IsScope (s : Scope) : Type 0 where
 -- whether an address lies in the window
 abbrev pub inside : Scope → ℕ → Bool
 inside s a = in_set s.heap.now s.window.now a
+
+-- what a word names in the window
+abbrev pub names_in : Scope → ℕ → List ℕ
+names_in s x = filter (inside s) (named x)
 
 -- what a reference word names in the window, with a rank
 abbrev pub aims_in : Scope → ℕ → ℕ → List (ℕ × ℕ)

@@ -1,3 +1,5 @@
+ghost use Rattle.g1_work.specs.Team.{AreWorkers};
+
 use g1_work::{Gate, Team};
 use std::alloc::Global;
 use std::thread::Threads;
@@ -31,5 +33,13 @@ impl<'a, R: Threads + Sync, G: Gate + Sync> Crew<'a, R, G> {
             team: Team::new(workers, self.team.chunk()),
             gate: self.gate,
         }
+    }
+
+    /// As many workers of the crew as there are chunks of items, but one in any case.
+    pub fn team_for(&self, chunks: usize) -> Team
+        ensures { AreWorkers result.workers }
+    {
+        let workers = self.team.workers().min(chunks as u64).max(1);
+        Team::new(workers, self.team.chunk())
     }
 }

@@ -74,16 +74,12 @@ impl<'a> Offers<'a> {
         requires ranks { AreRanks (aims_in self.now.scope.now (base + offset) word) }
         ensures { OnOk result (HasTried (place_in self.now.scope.now) (aims_in self.now.scope.now (base + offset) word) holder.old holder.new) }
     {
-        if word == 0 {
-            return Ok(());
-        }
-        let address = word - 1;
-        match self.scope.place(address) {
+        match self.scope.target(word) {
             None => Ok(()),
-            Some(place) => {
+            Some(target) => {
                 let rank = base + offset;
-                let answered_true = self.claims.offer(&mut holder.seat, place, rank);
-                keep_if(&mut holder.kept, answered_true, rank, address)?;
+                let answered_true = self.claims.offer(&mut holder.seat, target.place, rank);
+                keep_if(&mut holder.kept, answered_true, rank, target.address)?;
                 Ok(())
             }
         }

@@ -1,27 +1,8 @@
-ghost use Rattle.std.specs.Prelude.{◌≡◌, ◌<◌, ◌+◌, ◌++◌, ◌∷◌, [], OnOk, IfOk, flat_map, Contains, vec_len};
-ghost use Rattle.std.specs.List.{All};
-ghost use Rattle.g1_words.specs.Heap.{object_at, objects};
-ghost use Rattle.g1_words.specs.Survivors.{Survivors, firsts};
-ghost use Rattle.g1_words.specs.Valid.{IsReference};
-ghost use Rattle.g1_rem.specs.Starts.{card_count};
-ghost use Rattle.g1_claim.specs.Claims.{IsSeatOf};
-ghost use Rattle.g1_claim.specs.Rule.{first_hand};
-ghost use Rattle.g1_frontier.specs.Window.{AreCards, AreOutside, LeadIn};
-ghost use Rattle.g1_frontier.specs.Offering.{HasPlaces};
-ghost use Rattle.g1_frontier.specs.Queue.{names_in, card_names, object_names, HasFound, IsTarget, addresses, IsQueue, HasNoted, IsUnderWay};
-
-use crate::scope::Scope;
+use crate::scope::{Scope, Target};
 use g1_claim::{ClaimSeat, Claims, EMPTY};
 use g1_rem::slots_on;
 use g1_words::Fault;
 use std::alloc::{AllocError, Global};
-
-/// Where an object of the window begins that a slot references, and its place in the claim table.
-#[derive(Debug, Clone, Copy, PartialEq, Eq, Drop)]
-pub struct Target {
-    pub place: u64,
-    pub address: u64,
-}
 
 /// What one worker has found, which is also the queue of what it searches, and the targets that
 /// wait to be claimed.
@@ -53,7 +34,8 @@ impl<'a> Traversal<'a> {
     ghost use Rattle.g1_claim.specs.Rule.{first_hand};
     ghost use Rattle.g1_frontier.specs.Window.{AreCards, AreOutside, LeadIn};
     ghost use Rattle.g1_frontier.specs.Offering.{HasPlaces};
-    ghost use Rattle.g1_frontier.specs.Queue.{names_in, card_names, object_names, HasFound, IsTarget, addresses, IsQueue, HasNoted, IsUnderWay};
+    ghost use Rattle.g1_frontier.specs.Scope.{names_in};
+    ghost use Rattle.g1_frontier.specs.Queue.{card_names, object_names, HasFound, IsTarget, addresses, IsQueue, HasNoted, IsUnderWay};
 
     // Loads the words of all targets, one load beside the other.
     fn load_all(&self, seat: &mut ClaimSeat, targets: &[Target])
@@ -142,15 +124,11 @@ impl<'a> Traversal<'a> {
         requires queue { IsQueue self.now.scope.now self.now.claims.now queue.old }
         ensures { OnOk result (HasNoted self.now.scope.now self.now.claims.now (names_in self.now.scope.now word) queue.old queue.new) }
     {
-        if word == 0 {
-            return Ok(());
-        }
-        let address = word - 1;
-        match self.scope.place(address) {
+        match self.scope.target(word) {
             None => Ok(()),
-            Some(place) => {
+            Some(target) => {
                 self.make_room(queue)?;
-                queue.waiting.push(Target { place, address })?;
+                queue.waiting.push(target)?;
                 Ok(())
             }
         }

@@ -1,7 +1,7 @@
 ghost use Rattle.std.specs.Prelude.{◌≡◌, ◌<◌, ◌≤◌, ◌^◌, ◌*◌, ◌++◌, ◌∷◌, [], ℕ, List, IfOk, IfErr, length, vec_len, map, flat_map, sum_by, OnOk, ◌+◌, IsPermutation, true};
 ghost use Rattle.std.specs.List.{All};
 ghost use Rattle.g1_words.specs.declared.fault.Fault.TheVariants.{Memory};
-ghost use Rattle.g1_work.specs.Team.{AreWorkers, IsTeam};
+ghost use Rattle.g1_work.specs.Team.{IsTeam};
 ghost use Rattle.g1_rem.specs.Starts.{IsStartsOf};
 ghost use Rattle.g1_claim.specs.Claims.{all_shares, IsSeatOf, IsSettled};
 ghost use Rattle.g1_frontier.specs.Window.{AreRegions, place};
@@ -23,18 +23,18 @@ use itertools::Itertools;
 use std::alloc::{AllocError, Global};
 use std::thread::Threads;
 
-// A seat for each of so many workers. The last one keeps the shares that are left, and what the
-// whole seat offered before.
+// A seat for each worker. The last one keeps the shares that are left, and what the whole seat
+// offered before.
 fn give_out(
     alloc: Global,
     claims: &Claims,
     mut seat: ClaimSeat,
-    count: usize,
+    team: Team,
 ) -> Result<Vec<Holder>, AllocError>
-    requires count { AreWorkers count }
     requires seat { IsSeatOf claims.now seat × (seat.hand.shares ≡ all_shares) }
-    ensures { IfOk result (λ v. IsGivenOut claims.now seat count v.items) }
+    ensures { IfOk result (λ v. IsGivenOut claims.now seat team.workers v.items) }
 {
+    let count = team.workers() as usize;
     let mut holders = Vec::with_capacity(alloc, count)?;
     for _i in 1..count {
         let theirs = claims.split(&mut seat);
@@ -142,8 +142,7 @@ fn offer_all<R: Threads + Sync, G: Gate + Sync>(
     let alloc = crew.alloc;
     let chunk = crew.team.chunk() as usize;
     let count = (items.len() + chunk - 1) / chunk;
-    let workers = crew.team.workers() as usize;
-    let holders = give_out(alloc, claims, seat, workers.min(count).max(1))?;
+    let holders = give_out(alloc, claims, seat, crew.team_for(count))?;
     let round = Round {
         offers: Offers { scope, claims },
         items,

@@ -27,6 +27,13 @@ pub enum Numbering {
     Objects(Numbers),
 }
 
+/// Where an object of the window begins that a slot references, and its place in the claim table.
+#[derive(Debug, Clone, Copy, PartialEq, Eq, Drop)]
+pub struct Target {
+    pub place: u64,
+    pub address: u64,
+}
+
 /// By region number, one more than where the region stands in the window, or 0.
 ///
 /// # Errors
@@ -45,9 +52,9 @@ pub(crate) fn positions(alloc: Global, regions: u64, window: &[u32]) -> Result<V
 }
 
 impl<'a> Scope<'a> {
-    ghost use Rattle.std.specs.Prelude.{◌≡◌, ◌<◌, ◌*◌, true, false, length, IfSome, IfNone};
+    ghost use Rattle.std.specs.Prelude.{◌≡◌, ◌<◌, ◌+◌, ◌*◌, true, false, [], length, IfSome, IfNone};
     ghost use Rattle.g1_frontier.specs.Window.{place};
-    ghost use Rattle.g1_frontier.specs.Scope.{IsScope, inside, place_in, place_count};
+    ghost use Rattle.g1_frontier.specs.Scope.{IsScope, inside, names_in, place_in, place_count};
 
     /// How many places a claim table needs.
     pub fn places(&self) -> u64
@@ -92,5 +99,19 @@ impl<'a> Scope<'a> {
             Numbering::Words => Some(word),
             Numbering::Objects(numbers) => Some(numbers.number(word)),
         }
+    }
+
+    /// The object of the window that a reference word names.
+    pub fn target(&self, word: u64) -> Option<Target>
+        requires scope { IsScope self.now }
+        ensures found { IfSome result (λ t. (word ≡ t.address + 1) × (inside self.now t.address ≡ true) × (t.place ≡ place_in self.now t.address)) }
+        ensures none { IfNone result (names_in self.now word ≡ []) }
+    {
+        if word == 0 {
+            return None;
+        }
+        let address = word - 1;
+        let place = self.place(address)?;
+        Some(Target { place, address })
     }
 }

@@ -168,6 +168,33 @@ fn search_alone(alloc: Global, scope: &Scope, cards: &[u32]) -> Result<Vec<u64>,
     Ok(found)
 }
 
+// The survivors of the window of a scope: by one worker alone, or by rounds.
+fn survivors_in<R: Threads + Sync, G: Gate + Sync>(
+    crew: &Crew<'_, R, G>,
+    scope: &Scope,
+    cards: &[u32],
+) -> Result<Vec<u64>, Fault>
+    requires scope { IsScope scope.now }
+    requires cards { AreCards scope.now.heap.now cards.now }
+    requires outside { AreOutside scope.now.heap.now scope.now.window.now cards.now }
+    requires lead_in { LeadIn scope.now.heap.now scope.now.window.now cards.now }
+    ensures ok { IfOk result (λ v. Survivors scope.now.heap.now scope.now.window.now v.items) }
+    ensures only { IfOk result (λ v. (l : List ℕ) → Survivors scope.now.heap.now scope.now.window.now l → l ≡ v.items) }
+    ensures memory { IfErr result (λ e. e ≡ Memory) }
+{
+    if crew.team.workers() == 1 {
+        return search_alone(crew.alloc, scope, cards);
+    }
+    let mut search = first_round(crew, scope, cards)?;
+    let mut round: u64 = 1;
+    while search.from < search.found.len() {
+        let hired = crew.hire(search.found.len() - search.from, round);
+        search = next_round(&hired, scope, search)?;
+        round = round.saturating_add(1);
+    }
+    Ok(search.found)
+}
+
 /// The survivors of a window of regions: the addresses of the objects in it that are reached from
 /// the roots, or from slots outside the window, over references within it. They are in the order
 /// in which a breadth-first search finds them: what the roots name, by root number, what the slots
@@ -211,21 +238,11 @@ pub fn discover<R: Threads + Sync, G: Gate + Sync>(
         positions: positions.as_slice(),
         numbering: &numbering,
     };
-    if workers == 1 {
-        return search_alone(alloc, &scope, cards);
-    }
     let crew = Crew {
         rt,
         alloc,
         team: Team::new(workers, chunk),
         gate,
     };
-    let mut search = first_round(&crew, &scope, cards)?;
-    let mut round: u64 = 1;
-    while search.from < search.found.len() {
-        let hired = crew.hire(search.found.len() - search.from, round);
-        search = next_round(&hired, &scope, search)?;
-        round = round.saturating_add(1);
-    }
-    Ok(search.found)
+    survivors_in(&crew, &scope, cards)
 }

@@ -1,6 +1,7 @@
 ghost use Rattle.std.specs.Prelude.{◌≡◌, ◌≤◌, ◌<◌, ◌+◌, ◌*◌, ◌^◌, ℕ, length, slice_index, IfOk, IfErr};
-ghost use Rattle.g1_words.specs.Layout.{need, free_regions, sizes_of, to_space as to_space_of, places as places_of};
-ghost use Rattle.g1_layout.specs.Placed.{CanLay, CanPlace};
+ghost use Rattle.g1_words.specs.Layout.{need, free_regions, places as places_of};
+ghost use Rattle.g1_layout.specs.Placed.{CanPlace};
+ghost use Rattle.g1_layout.specs.Batch.{IsBatch};
 ghost use Rattle.g1_layout.specs.Plan.{laid_before, run_at, runs, plan_of};
 
 use crate::measuring::{Measured, free_count, free_regions, measure, next_fit};
@@ -9,20 +10,26 @@ use crate::plan::{Plan, Run};
 use g1_words::{Fault, Heap, region_of};
 use std::alloc::{AllocError, Global};
 
+/// What is placed: the survivors of a heap with their sizes, and the regions that have room for them.
+#[derive(Clone, Copy)]
+pub struct Batch<'a> {
+    pub heap: &'a Heap,
+    pub survivors: &'a [u64],
+    pub sizes: &'a [u32],
+    pub to_space: &'a [u32],
+}
+
 /// The survivors' new addresses.
-fn places(
-    alloc: Global,
-    heap: &Heap,
-    to_space: &[u32],
-    survivors: &[u64],
-    sizes: &[u32],
-) -> Result<Vec<u64>, AllocError>
-    requires fits { CanLay heap.now survivors.now }
-    requires sizes { sizes.now ≡ sizes_of heap.now survivors.now }
-    requires regions { to_space.now ≡ to_space_of heap.now survivors.now }
-    requires room { need heap.now survivors.now ≤ length (free_regions heap.now) }
-    ensures { IfOk result (λ v. v.items ≡ places_of heap.now survivors.now) }
+fn places(alloc: Global, batch: &Batch<'_>) -> Result<Vec<u64>, AllocError>
+    requires { IsBatch batch.now }
+    ensures { IfOk result (λ v. v.items ≡ places_of batch.now.heap.now batch.now.survivors.now) }
 {
+    let Batch {
+        heap,
+        survivors,
+        sizes,
+        to_space,
+    } = *batch;
     let geometry = heap.geometry();
     let mut places = Vec::with_capacity(alloc, survivors.len())?;
     let mut end: u64 = 0;
@@ -38,20 +45,17 @@ fn places(
 }
 
 /// The run of a region of to-space, whose first survivor has this index.
-fn run_from(
-    heap: &Heap,
-    survivors: &[u64],
-    sizes: &[u32],
-    places: &[u64],
-    region: u32,
-    from: usize,
-) -> Run
-    requires fits { CanLay heap.now survivors.now }
-    requires sizes { sizes.now ≡ sizes_of heap.now survivors.now }
-    requires placed { places.now ≡ places_of heap.now survivors.now }
-    requires room { need heap.now survivors.now ≤ length (free_regions heap.now) }
-    ensures { (t : ℕ) → t < need heap.now survivors.now → region ≡ slice_index (free_regions heap.now) t → from ≡ laid_before heap.now survivors.now t → result ≡ run_at heap.now survivors.now t }
+fn run_from(batch: &Batch<'_>, places: &[u64], region: u32, from: usize) -> Run
+    requires batch { IsBatch batch.now }
+    requires placed { places.now ≡ places_of batch.now.heap.now batch.now.survivors.now }
+    ensures { let h = batch.now.heap.now in let l = batch.now.survivors.now in (t : ℕ) → t < need h l → region ≡ slice_index (free_regions h) t → from ≡ laid_before h l t → result ≡ run_at h l t }
 {
+    let Batch {
+        heap,
+        survivors,
+        sizes,
+        ..
+    } = *batch;
     let geometry = heap.geometry();
     let start = geometry.start(region);
     let mut to = from;
@@ -72,25 +76,16 @@ fn run_from(
 }
 
 /// The runs of the regions of to-space.
-fn runs(
-    alloc: Global,
-    heap: &Heap,
-    to_space: &[u32],
-    survivors: &[u64],
-    sizes: &[u32],
-    places: &[u64],
-) -> Result<Vec<Run>, AllocError>
-    requires fits { CanLay heap.now survivors.now }
-    requires sizes { sizes.now ≡ sizes_of heap.now survivors.now }
-    requires regions { to_space.now ≡ to_space_of heap.now survivors.now }
-    requires placed { places.now ≡ places_of heap.now survivors.now }
-    requires room { need heap.now survivors.now ≤ length (free_regions heap.now) }
-    ensures { IfOk result (λ v. v.items ≡ runs heap.now survivors.now) }
+fn runs(alloc: Global, batch: &Batch<'_>, places: &[u64]) -> Result<Vec<Run>, AllocError>
+    requires batch { IsBatch batch.now }
+    requires placed { places.now ≡ places_of batch.now.heap.now batch.now.survivors.now }
+    ensures { IfOk result (λ v. v.items ≡ runs batch.now.heap.now batch.now.survivors.now) }
 {
+    let to_space = batch.to_space;
     let mut runs = Vec::with_capacity(alloc, to_space.len())?;
     let mut from: usize = 0;
     for region in to_space {
-        let run = run_from(heap, survivors, sizes, places, *region, from);
+        let run = run_from(batch, places, *region, from);
         from = run.to;
         runs.push(run)?;
     }
@@ -121,8 +116,14 @@ pub fn place(alloc: Global, heap: &Heap, set: &[u32], survivors: &[u64]) -> Resu
     };
     let mut to_space = free_regions(alloc, heap)?;
     to_space.truncate(need as usize);
-    let places = places(alloc, heap, &to_space, survivors, &sizes)?;
-    let runs = runs(alloc, heap, &to_space, survivors, &sizes, &places)?;
+    let batch = Batch {
+        heap,
+        survivors,
+        sizes: &sizes,
+        to_space: &to_space,
+    };
+    let places = places(alloc, &batch)?;
+    let runs = runs(alloc, &batch, &places)?;
     let table = Table::new(alloc, &geometry, set, survivors, &places)?;
     Ok(Plan {
         set: set.to_vec(alloc)?,

@@ -4,7 +4,7 @@ use Rattle.std.specs.List.{sum_by}
 use Rattle.std.proofs.lemmas.List.{map-append, reverse-append, append-nil}
 use Rattle.std.proofs.lemmas.List.Sums.{sum_by_push}
 use Rattle.std.proofs.lemmas.List.Elements.{All-push, All-nil}
-use Rattle.g1_work.specs.Dealer.{DealerView, SeatView, IsSeatOf}
+use Rattle.g1_work.specs.Dealer.{DealerView, SeatView, IsSeatOf, first_seat}
 use Rattle.g1_work.specs.Worker.{IsHired}
 use Rattle.g1_work.specs.declared.worker.Worker.{Worker}
 
@@ -19,9 +19,9 @@ module _ {S : Type 0} where
     pub count : length ws + length rest ≡ length all
     pub seats : All (λ w. IsSeatOf dealer w.seat × (w.seat.draws ≡ [])) ws
 
-  pub starts : (dealer : DealerView) (all : List S) (seat : SeatView) (ws : List (Worker S)) → ws ≡ [] → IsSeatOf dealer seat → seat.shares ≡ 64 → seat.draws ≡ [] → IsHiring dealer all all seat ws
-  starts dealer all seat ws e of shares none = subst (λ (l : List (Worker S)). IsHiring dealer all all seat l) (sym e)
-      record { of_states = refl; seat_of = of; none = none; kept = omega arith; shares = refl; count = omega arith; seats = All-nil (λ w. IsSeatOf dealer w.seat × (w.seat.draws ≡ [])) }
+  pub starts : (dealer : DealerView) (all : List S) (seat : SeatView) (ws : List (Worker S)) → ws ≡ [] → seat ≡ first_seat dealer → IsHiring dealer all all seat ws
+  starts dealer all seat ws e first = subst (λ (t : SeatView × List (Worker S)). IsHiring dealer all all t.0 t.1) (λ i. (sym first i, sym e i))
+      record { of_states = refl; seat_of = (refl, refl); none = refl; kept = omega arith; shares = refl; count = omega arith; seats = All-nil (λ w. IsSeatOf dealer w.seat × (w.seat.draws ≡ [])) }
 
   moved : (all rest next : List S) (ws : List (Worker S)) (w : Worker S) → map (λ w. w.state) ws ++ reverse rest ≡ reverse all →
       rest ≡ next ++ w.state ∷ [] → map (λ w. w.state) (ws ++ w ∷ []) ++ reverse next ≡ reverse all

@@ -1,7 +1,7 @@
-ghost use Rattle.std.specs.Prelude.{◌≡◌, ◌<◌, ◌≤◌, ◌^◌, [], IfOk, IfErr, vec_len, All, ℕ};
-ghost use Rattle.g1_work.specs.Dealer.{IsSeatOf};
+ghost use Rattle.std.specs.Prelude.{◌≡◌, ◌<◌, ◌^◌, IfOk, IfErr, vec_len, All, ℕ};
+ghost use Rattle.g1_work.specs.Dealer.{first_seat};
 ghost use Rattle.g1_work.specs.Each.{IsEachRun, IsFaultOf};
-ghost use Rattle.g1_work.specs.Team.{AreWorkers, most_workers};
+ghost use Rattle.g1_work.specs.Team.{AreWorkers};
 ghost use Rattle.g1_work.specs.Worker.{IsFresh, IsDone, IsHired, AreBack};
 
 use crate::dealer::{DealSeat, Dealer};
@@ -16,26 +16,32 @@ use std::collections::VecDeque;
 use std::thread;
 use std::thread::Threads;
 
+// What each worker of a call runs: the task, on the chunks of one dealer.
+#[derive(Drop)]
+struct Job<'a, T, G> {
+    alloc: Global,
+    dealer: &'a Dealer,
+    task: &'a T,
+    gate: &'a G,
+}
+
 // Draws chunks and runs the task on each, until none is left.
 fn work<T: Task, G: Gate>(
-    alloc: Global,
-    dealer: &Dealer,
-    task: &T,
-    gate: &G,
+    job: &Job<'_, T, G>,
     worker: Worker<T::State>,
 ) -> Result<Worked<T::State, T::Out>, Fault>
-    requires { IsFresh (T.ready task.now) dealer.now worker }
-    ensures ok { IfOk result (IsDone (T.runs task.now) dealer.now worker) }
-    ensures err { IfErr result (IsFaultOf (T.may_fail task.now) dealer.now.chunks) }
+    requires { IsFresh (T.ready job.now.task.now) job.now.dealer.now worker }
+    ensures ok { IfOk result (IsDone (T.runs job.now.task.now) job.now.dealer.now worker) }
+    ensures err { IfErr result (IsFaultOf (T.may_fail job.now.task.now) job.now.dealer.now.chunks) }
 {
     let Worker {
         mut seat,
         mut state,
     } = worker;
-    let mut outs = VecDeque::new(alloc);
-    while let Some(chunk) = dealer.take(&mut seat) {
-        gate.at(Part::Deal, chunk);
-        let out = task.run(&mut state, chunk)?;
+    let mut outs = VecDeque::new(job.alloc);
+    while let Some(chunk) = job.dealer.take(&mut seat) {
+        job.gate.at(Part::Deal, chunk);
+        let out = job.task.run(&mut state, chunk)?;
         outs.push_back((chunk, out))?;
     }
     Ok(Worked { seat, state, outs })
@@ -50,7 +56,7 @@ fn hire<S: Drop>(
     mut states: Vec<S>,
 ) -> Result<Vec<Worker<S>>, AllocError>
     requires count { AreWorkers (vec_len states) }
-    requires seat { IsSeatOf dealer.now seat × (seat.shares ≡ most_workers) × (seat.draws ≡ []) }
+    requires seat { seat ≡ first_seat dealer.now }
     ensures { IfOk result (λ v. IsHired dealer.now states.items v.items) }
 {
     let mut workers = Vec::new(alloc);
@@ -71,65 +77,33 @@ fn hire<S: Drop>(
     Ok(workers)
 }
 
-// Each worker in turn, on the thread that asked.
-fn run_in_turn<T: Task, G: Gate>(
-    alloc: Global,
-    dealer: &Dealer,
-    task: &T,
-    gate: &G,
+// Each worker in a thread of its own if one can be made, and else on the thread that asked. A thread
+// costs more than a chunk, so with at most one chunk none is started.
+fn run_all<R: Threads + Sync, T: Task + Sync, G: Gate + Sync>(
+    rt: &R,
+    job: &Job<'_, T, G>,
     workers: Vec<Worker<T::State>>,
 ) -> Result<Vec<Result<Worked<T::State, T::Out>, Fault>>, AllocError>
-    requires { All (IsFresh (T.ready task.now) dealer.now) workers.items }
-    ensures { IfOk result (λ v. AreBack (T.runs task.now) (T.may_fail task.now) dealer.now workers.items v.items) }
+    requires { All (IsFresh (T.ready job.now.task.now) job.now.dealer.now) workers.items }
+    ensures { IfOk result (λ v. AreBack (T.runs job.now.task.now) (T.may_fail job.now.task.now) job.now.dealer.now workers.items v.items) }
 {
-    let mut results = Vec::new(alloc);
+    if job.dealer.chunks() > 1 {
+        return thread::map_vec(
+            rt,
+            workers,
+            &|worker: Worker<T::State>| -> Result<Worked<T::State, T::Out>, Fault>
+                requires { IsFresh (T.ready job.now.task.now) job.now.dealer.now worker }
+                ensures ok { IfOk result (IsDone (T.runs job.entry.now.task.now) job.entry.now.dealer.now worker) }
+                ensures err { IfErr result (IsFaultOf (T.may_fail job.entry.now.task.now) job.entry.now.dealer.now.chunks) }
+            { work(job, worker) },
+        );
+    }
+    let mut results = Vec::new(job.alloc);
     for worker in workers {
-        let result = work(alloc, dealer, task, gate, worker);
+        let result = work(job, worker);
         results.push(result)?;
     }
     Ok(results)
-}
-
-// Each worker in a thread of its own where one can be made, and else on the thread that asked.
-fn run_by_threads<R: Threads + Sync, T: Task + Sync, G: Gate + Sync>(
-    rt: &R,
-    alloc: Global,
-    dealer: &Dealer,
-    task: &T,
-    gate: &G,
-    workers: Vec<Worker<T::State>>,
-) -> Result<Vec<Result<Worked<T::State, T::Out>, Fault>>, AllocError>
-    requires { All (IsFresh (T.ready task.now) dealer.now) workers.items }
-    ensures { IfOk result (λ v. AreBack (T.runs task.now) (T.may_fail task.now) dealer.now workers.items v.items) }
-{
-    thread::map_vec(
-        rt,
-        workers,
-        &|worker: Worker<T::State>| -> Result<Worked<T::State, T::Out>, Fault>
-            requires { IsFresh (T.ready task.now) dealer.now worker }
-            ensures ok { IfOk result (IsDone (T.runs task.entry.now) dealer.entry.now worker) }
-            ensures err { IfErr result (IsFaultOf (T.may_fail task.entry.now) dealer.entry.now.chunks) }
-        { work(alloc, dealer, task, gate, worker) },
-    )
-}
-
-// A thread costs more than a chunk, so with at most one chunk none is started.
-fn run_all<R: Threads + Sync, T: Task + Sync, G: Gate + Sync>(
-    rt: &R,
-    alloc: Global,
-    dealer: &Dealer,
-    task: &T,
-    gate: &G,
-    workers: Vec<Worker<T::State>>,
-) -> Result<Vec<Result<Worked<T::State, T::Out>, Fault>>, AllocError>
-    requires { All (IsFresh (T.ready task.now) dealer.now) workers.items }
-    ensures { IfOk result (λ v. AreBack (T.runs task.now) (T.may_fail task.now) dealer.now workers.items v.items) }
-{
-    if dealer.chunks() <= 1 {
-        run_in_turn(alloc, dealer, task, gate, workers)
-    } else {
-        run_by_threads(rt, alloc, dealer, task, gate, workers)
-    }
 }
 
 /// Runs the task once on each chunk below `chunks`, and gives the states and the outs.
@@ -158,7 +132,13 @@ pub fn each_chunk<R: Threads + Sync, T: Task + Sync, G: Gate + Sync>(
 {
     let (dealer, seat) = Dealer::new(alloc, chunks)?;
     let workers = hire(alloc, &dealer, seat, states)?;
-    let results = run_all(rt, alloc, &dealer, task, gate, workers)?;
+    let job = Job {
+        alloc,
+        dealer: &dealer,
+        task,
+        gate,
+    };
+    let results = run_all(rt, &job, workers)?;
     let Gathered {
         seat,
         states,

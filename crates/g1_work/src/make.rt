@@ -45,31 +45,6 @@ fn make_in_turn<M: Make>(alloc: Global, count: usize, maker: &M) -> Result<Vec<M
     Ok(made)
 }
 
-// The numbers are cut into pieces of the same size, at most one a thread.
-fn make_by_threads<R: Threads + Sync, M: Make + Sync>(
-    rt: &R,
-    alloc: Global,
-    threads: usize,
-    count: usize,
-    maker: &M,
-) -> Result<Vec<M::Made>, Fault>
-    requires threads { 0 < threads }
-    requires ready { (i : ℕ) → i < count → M.ready maker.now i }
-    ensures ok { IfOk result (λ v. AreMade (M.makes maker.now) count v.items) }
-    ensures memory { IfErr result (λ e. e ≡ Memory) }
-{
-    (0..count)
-        .into_par_iter()
-        .with_min_len(count.div_ceil(threads))
-        .map(
-            |number: usize| -> Result<M::Made, Fault>
-                requires { M.ready maker.now number }
-                ensures { IsMade (M.makes maker.entry.now) number result }
-            { maker.make(alloc, number) },
-        )
-        .collect::<Result<Vec<M::Made>, Fault>>(rt, alloc)?
-}
-
 /// What is made of each number below `count`, in order.
 ///
 /// At most this many threads run, and no more than there are processors. With one thread none is
@@ -89,8 +64,18 @@ pub fn make_each<R: Threads + Sync, M: Make + Sync>(
     ensures ok { IfOk result (λ v. AreMade (M.makes maker.now) count v.items) }
     ensures memory { IfErr result (λ e. e ≡ Memory) }
 {
-    match threads {
-        1 => make_in_turn(alloc, count, maker),
-        _ => make_by_threads(rt, alloc, threads, count, maker),
+    if threads == 1 {
+        return make_in_turn(alloc, count, maker);
     }
+    // Pieces of the same size, at most one a thread.
+    (0..count)
+        .into_par_iter()
+        .with_min_len(count.div_ceil(threads))
+        .map(
+            |number: usize| -> Result<M::Made, Fault>
+                requires { M.ready maker.now number }
+                ensures { IsMade (M.makes maker.entry.now) number result }
+            { maker.make(alloc, number) },
+        )
+        .collect::<Result<Vec<M::Made>, Fault>>(rt, alloc)?
 }

@@ -1,5 +1,5 @@
 ghost use Rattle.std.specs.Prelude.{◌≡◌, ◌<◌, ◌≤◌, ◌/◌, min, max};
-ghost use Rattle.g1_work.specs.Team.{AreWorkers, IsChunk};
+ghost use Rattle.g1_work.specs.Team.{AreWorkers, IsChunk, IsTeam};
 
 use std::marker::Model;
 
@@ -48,8 +48,7 @@ impl Copy for Team {}
 impl Team {
     /// A team of this many workers that draw this many items at once.
     pub fn new(workers: u64, chunk: u64) -> Team
-        requires workers { AreWorkers workers }
-        requires chunk { IsChunk chunk }
+        requires { IsTeam workers chunk }
         ensures workers { result.workers ≡ workers }
         ensures chunk { result.chunk ≡ chunk }
     {

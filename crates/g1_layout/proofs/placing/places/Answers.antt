@@ -12,25 +12,25 @@ offset : (a w n v : ℕ) → n ≡ a / w → v ≡ n * w → a - v ≡ a % w
 offset a w n v e f = let parts : a / w * w + a % w ≡ a = div-add-mod' a w in let whole : v ≡ a / w * w = f ∙ ap (λ x. x * w) e in omega (arith, parts, whole)
 
 pub bounds-sizes-i : goal.bounds-sizes-i
-bounds-sizes-i c = let count = one_each c.args.heap.now c.args.survivors.now c.args.sizes.now c.requires.sizes in omega (arith, count, c.loop-i-test.true)
+bounds-sizes-i c = let count = one_each c.args.batch.now.heap.now c.args.batch.now.survivors.now c.args.batch.now.sizes.now c.requires.sizes in omega (arith, count, c.loop-i-test.true)
 
 pub bounds-to_space-number : goal.bounds-to_space-number
 bounds-to_space-number c =
-    let h = c.args.heap.now in
-    let l = c.args.survivors.now in
+    let h = c.args.batch.now.heap.now in
+    let l = c.args.batch.now.survivors.now in
     let size = c.from-size.result in
-    let read : size ≡ (object_at h (get_or l c.loop-i.i 0)).size = c.from-size.ensures ∙ size_read h l c.args.sizes.now c.loop-i.i c.requires.sizes c.loop-i-test.true in
+    let read : size ≡ (object_at h (get_or l c.loop-i.i 0)).size = c.from-size.ensures ∙ size_read h l c.args.batch.now.sizes.now c.loop-i.i c.requires.sizes c.loop-i-test.true in
     let same = c.geometry-geometry.ensures.same in
     let at : c.next_fit-at.result ≡ next_fit h.geometry.w c.loop-i.end size = c.next_fit-at.ensures ∙ ap (λ g. next_fit g.w c.loop-i.end size) same in
     let region : c.region_of-number.result ≡ next_fit h.geometry.w c.loop-i.end size / h.geometry.w = c.region_of-number.ensures ∙ (λ t. at t / (same t).w) in
-    let count : length c.args.to_space.now ≡ need h l = ap length c.requires.regions ∙ length-take-le (need h l) (free_regions h) c.requires.room in
+    let count : length c.args.batch.now.to_space.now ≡ need h l = ap length c.requires.regions ∙ length-take-le (need h l) (free_regions h) c.requires.room in
     let below = Laying-in_need h l c.loop-i.i c.loop-i.end size (omega (arith, c.geometry-geometry.ensures.valid.limits.w_least))
     c.requires.fits c.loop-i.invariant.laying c.loop-i-test.true read in
     omega (arith, region, count, below)
 
 pub overflow_add-start : goal.overflow_add-start
 overflow_add-start c =
-    let r = get_or c.args.to_space.now c.region_of-number.result 0 in
+    let r = get_or c.args.batch.now.to_space.now c.region_of-number.result 0 in
     let left = offset c.next_fit-at.result c.geometry-geometry.result.w c.region_of-number.result c.words_of.result c.region_of-number.ensures c.words_of.ensures.value in
     let most : r * c.geometry-geometry.result.w ≤ (2 ^ 32 - 1) * c.geometry-geometry.result.w =
     mul-le-mul_right c.geometry-geometry.result.w (omega (arith, c.type_inv.to_space c.region_of-number.result)) in
@@ -38,13 +38,13 @@ overflow_add-start c =
 
 pub loop-i-preserved : goal.loop-i-preserved
 loop-i-preserved c =
-    let h = c.args.heap.now in
-    let l = c.args.survivors.now in
+    let h = c.args.batch.now.heap.now in
+    let l = c.args.batch.now.survivors.now in
     let i = c.loop-i.i in
     let size = c.from-size.result in
-    let read : size ≡ (object_at h (get_or l c.loop-i.i 0)).size = c.from-size.ensures ∙ size_read h l c.args.sizes.now c.loop-i.i c.requires.sizes c.loop-i-test.true in
+    let read : size ≡ (object_at h (get_or l c.loop-i.i 0)).size = c.from-size.ensures ∙ size_read h l c.args.batch.now.sizes.now c.loop-i.i c.requires.sizes c.loop-i-test.true in
     let same = c.geometry-geometry.ensures.same in
-    let r = get_or c.args.to_space.now c.region_of-number.result 0 in
+    let r = get_or c.args.batch.now.to_space.now c.region_of-number.result 0 in
     let ps = c.loop-i.places.items in
     let at : c.next_fit-at.result ≡ next_fit h.geometry.w c.loop-i.end size = c.next_fit-at.ensures ∙ ap (λ g. next_fit g.w c.loop-i.end size) same in
     let number : c.region_of-number.result ≡ next_fit h.geometry.w c.loop-i.end size / h.geometry.w = c.region_of-number.ensures ∙ (λ t. at t / (same t).w) in

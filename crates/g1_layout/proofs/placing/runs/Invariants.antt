@@ -5,6 +5,6 @@ use Rattle.g1_layout.proofs.placing.runs.Given as goal
 
 abbrev pub invariant-loop-region : goal.invariant-loop-region
 invariant-loop-region l = record {
-  reached : l.from ≡ laid_before l.heap l.survivors l.region-index;
-  listed : l.runs.items ≡ map (run_at l.heap l.survivors) (range_with_len 0 l.region-index);
+  reached : l.from ≡ laid_before l.batch.heap.now l.batch.survivors.now l.region-index;
+  listed : l.runs.items ≡ map (run_at l.batch.heap.now l.batch.survivors.now) (range_with_len 0 l.region-index);
 }

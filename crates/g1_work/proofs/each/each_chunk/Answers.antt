@@ -21,19 +21,19 @@ gather-requires-clause-seats g c = are_of _ _ _ _ _ c.in_ok-results.ensures
 pub close-requires-clause-whole : goal.close-requires-clause-whole
 close-requires-clause-whole g c = has_all _ _ _ _ _ _ _ c.in_ok-workers.ensures c.in_ok-results.ensures c.in_ok-seat.ensures.ok
 
-pub in_order-requires-clause-few : goal.in_order-requires-clause-few
-in_order-requires-clause-few g c =
+pub in_order-requires : goal.in_order-requires
+in_order-requires g c =
+    let n = c.in_ok-dealer.ensures.chunks in
+    let brought = c.in_ok-seat.field-0.parts in
     let few = few_parts _ _ _ _ _ _ _ c.in_ok-workers.ensures c.in_ok-results.ensures c.in_ok-seat.ensures.ok (omega (arith, c.requires.workers.1, c.args.states.ok.0)) in
-    omega (arith, few, c.in_ok-seat.field-0.parts.ok.0)
-
-pub in_order-requires-clause-each : goal.in_order-requires-clause-each
-in_order-requires-clause-each g c = let n = c.in_ok-dealer.ensures.chunks in
-    subst (λ (m : ℕ). IsEachBelow m (chunks_of (flat_map (λ p. p.items) c.in_ok-seat.field-0.parts.items))) n
-    (each_below _ _ _ _ _ _ _ c.in_ok-workers.ensures c.in_ok-results.ensures c.in_ok-seat.ensures.ok _ (omega arith) c.close.ensures.known c.close.ensures.draws)
-
-pub in_order-requires-clause-rise : goal.in_order-requires-clause-rise
-in_order-requires-clause-rise g c = subst (λ (m : ℕ). All (λ p. RisesBelow m (chunks_of p.items)) c.in_ok-seat.field-0.parts.items) c.in_ok-dealer.ensures.chunks
-    (all_rise _ _ _ _ _ _ _ c.in_ok-workers.ensures c.in_ok-results.ensures c.in_ok-seat.ensures.ok)
+    let each = each_below _ _ _ _ _ _ _ c.in_ok-workers.ensures c.in_ok-results.ensures c.in_ok-seat.ensures.ok _ (omega arith) c.close.ensures.known c.close.ensures.draws in
+    let rise = all_rise _ _ _ _ _ _ _ c.in_ok-workers.ensures c.in_ok-results.ensures c.in_ok-seat.ensures.ok in
+    record {
+      few = few;
+      counted = c.requires.chunks;
+      each = subst (λ (m : ℕ). IsEachBelow m (chunks_of (flat_map (λ p. p.items) brought.items))) n each;
+      rise = subst (λ (m : ℕ). All (λ p. RisesBelow m (chunks_of p.items)) brought.items) n rise;
+    }
 
 pub returns-clause-ok : goal.returns-clause-ok
 returns-clause-ok g c = subst (λ (n : ℕ). IsEachRun (g.T.Task.runs c.args.task.now) n c.args.states.items c.in_ok-seat.field-0.states.items c.in_ok-outs.outs.items) c.in_ok-dealer.ensures.chunks

@@ -4,7 +4,7 @@ use Rattle.g1_work.proofs.Hiring.{starts, goes_on, ends}
 use Rattle.g1_work.proofs.each.hire.Goals as goal
 
 pub loop-states-init : goal.loop-states-init
-loop-states-init g c = (starts _ _ _ _ c.new-workers.ensures.items c.requires.seat.0 c.requires.seat.1 c.requires.seat.2, c.requires.count.0)
+loop-states-init g c = (starts _ _ _ _ c.new-workers.ensures.items c.requires.seat, c.requires.count.0)
 
 pub split-theirs-requires-clause-dealer : goal.split-theirs-requires-clause-dealer
 split-theirs-requires-clause-dealer g c = c.loop-states.invariant.0.seat_of

@@ -1,59 +1,51 @@
-use Rattle.std.proofs.Common.{arith, ap, subst, sym, ◌≡◌, ◌+◌, ◌-◌, ◌<◌, ◌++◌, ◌∙◌, ℕ, [], ◌∷◌}
+use Rattle.std.proofs.Common.{arith, ap, subst, sym, ◌+◌, ◌<◌, ◌++◌, ◌∙◌, ℕ, [], ◌∷◌, map}
 use Rattle.g1_claim.specs.declared.rule.Hand.{Hand}
 use Rattle.g1_claim.specs.Claims.{offer, least_rank}
 use Rattle.g1_frontier.specs.declared.offering.Holder.{Holder}
 use Rattle.g1_frontier.specs.Offering.{HasTried}
 use Rattle.g1_frontier.specs.Scope.{place_in}
-use Rattle.g1_frontier.proofs.Offerings.{tried_none, tried_one, aims_null, aims_outside, aims_inside, aims_small}
+use Rattle.g1_frontier.proofs.Offerings.{tried_none, tried_one, aims_inside, aims_small}
 use Rattle.g1_frontier.proofs.Scopes.{below, begins}
 use Rattle.g1_frontier.proofs.offering.Offers.offer_named.Goals as goal
 
 pub overflow_add-rank : goal.overflow_add-rank
 overflow_add-rank c =
     let s = c.args.self.now.scope.now in
-    let low = aims_small s.heap.now s.window.now (c.args.base + c.args.offset) c.args.word (c.args.word - 1) (omega (arith, c.if-word-eq0.false))
-    c.in-Some.ensures.found.0 c.requires.ranks in omega (arith, low)
+    let f = c.in-Some.ensures.found in
+    let low = aims_small s.heap.now s.window.now (c.args.base + c.args.offset) c.args.word c.in-Some.target.address f.0 f.1 c.requires.ranks in omega (arith, low)
 
 pub offer-answered_true-requires-clause-place : goal.offer-answered_true-requires-clause-place
 offer-answered_true-requires-clause-place c =
     let s = c.args.self.now.scope.now in
     let f = c.in-Some.ensures.found in
-    let a : ℕ = c.args.word - 1 in
-    let low = below s c.requires.places.scope a (begins s c.requires.places.scope c.args.word a c.requires.reference (omega (arith, c.if-word-eq0.false)) f.0) in
-    omega (arith, low, f.1, c.requires.places.places)
+    let a : ℕ = c.in-Some.target.address in
+    let low = below s c.requires.places.scope a (begins s c.requires.places.scope c.args.word a c.requires.reference f.0 f.1) in
+    omega (arith, low, f.2, c.requires.places.places)
 
 pub offer-answered_true-requires-clause-rank : goal.offer-answered_true-requires-clause-rank
 offer-answered_true-requires-clause-rank c =
     let s = c.args.self.now.scope.now in
-    aims_small s.heap.now s.window.now (c.args.base + c.args.offset) c.args.word (c.args.word - 1) (omega (arith, c.if-word-eq0.false)) c.in-Some.ensures.found.0 c.requires.ranks
+    let f = c.in-Some.ensures.found in
+    aims_small s.heap.now s.window.now (c.args.base + c.args.offset) c.args.word c.in-Some.target.address f.0 f.1 c.requires.ranks
 
 pub returns-in_ok-keep_if-in-Some : goal.returns-in_ok-keep_if-in-Some
 returns-in_ok-keep_if-in-Some c =
     let s = c.args.self.now.scope.now in
-    let a : ℕ = c.args.word - 1 in
+    let a : ℕ = c.in-Some.target.address in
     let rank : ℕ = c.args.base + c.args.offset in
-    let e : c.args.word ≡ a + 1 = omega (arith, c.if-word-eq0.false) in
     let f = c.in-Some.ensures.found in
     let t : Holder = record { seat = c.offer-answered_true.new.seat; kept = c.keep_if.new.kept } in
-    subst (λ ps. HasTried (place_in s) ps c.args.holder.now t) (sym (aims_inside s.heap.now s.window.now rank c.args.word a e f.0))
+    subst (λ ps. HasTried (place_in s) ps c.args.holder.now t) (sym (aims_inside s.heap.now s.window.now rank c.args.word a f.0 f.1))
     (tried_one (place_in s) rank a c.offer-answered_true.result c.args.holder.now t
-    (ap (λ (h : Hand). h.offers) c.offer-answered_true.ensures.offered ∙ ap (λ p. c.args.holder.now.seat.hand.offers ++ offer p rank c.offer-answered_true.result ∷ []) f.1)
+    (ap (λ (h : Hand). h.offers) c.offer-answered_true.ensures.offered ∙ ap (λ p. c.args.holder.now.seat.hand.offers ++ offer p rank c.offer-answered_true.result ∷ []) f.2)
     c.in_ok-keep_if-in-Some.ensures
     (c.offer-answered_true.ensures.table ∙ sym c.requires.seat)
     (ap (λ (h : Hand). h.shares) c.offer-answered_true.ensures.offered)
-    (λ all yes. subst (λ p. rank < least_rank p c.args.holder.now.seat.hand.offers) f.1 ((c.offer-answered_true.ensures.least all).0 yes)))
+    (λ all yes. subst (λ p. rank < least_rank p c.args.holder.now.seat.hand.offers) f.2 ((c.offer-answered_true.ensures.least all).0 yes)))
 
 pub returns-in-None : goal.returns-in-None
 returns-in-None c =
     let s = c.args.self.now.scope.now in
-    let a : ℕ = c.args.word - 1 in
     let rank : ℕ = c.args.base + c.args.offset in
-    let e : c.args.word ≡ a + 1 = omega (arith, c.if-word-eq0.false) in
     subst (λ ps. HasTried (place_in s) ps c.args.holder.now c.args.holder.now)
-    (sym (aims_outside s.heap.now s.window.now rank c.args.word a e c.in-None.ensures.none)) (tried_none (place_in s) c.args.holder.now)
-
-pub returns-then-word-eq0 : goal.returns-then-word-eq0
-returns-then-word-eq0 c =
-    let s = c.args.self.now.scope.now in
-    subst (λ ps. HasTried (place_in s) ps c.args.holder.now c.args.holder.now)
-    (sym (aims_null s.heap.now s.window.now (c.args.base + c.args.offset) c.args.word c.if-word-eq0.true)) (tried_none (place_in s) c.args.holder.now)
+    (sym (ap (λ l. map (λ a. (rank, a)) l) c.in-None.ensures.none)) (tried_none (place_in s) c.args.holder.now)

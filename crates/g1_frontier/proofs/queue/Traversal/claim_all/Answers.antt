@@ -1,6 +1,6 @@
 use Rattle.std.proofs.Common.{◌+◌, ◌∙◌, ◌∷◌, [], ℕ, List, ap, sym, take, get_or}
 use Rattle.std.proofs.lemmas.List.{map-append, take_more}
-use Rattle.g1_frontier.specs.declared.queue.Target.{Target}
+use Rattle.g1_frontier.specs.declared.scope.Target.{Target}
 use Rattle.g1_frontier.specs.Queue.{IsTarget, addresses}
 use Rattle.g1_frontier.proofs.Marks.{noted_more}
 use Rattle.g1_frontier.proofs.Scopes.{all_in, In-get}

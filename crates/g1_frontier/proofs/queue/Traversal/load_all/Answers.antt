@@ -1,5 +1,5 @@
 use Rattle.std.proofs.Common.{arith, get_or}
-use Rattle.g1_frontier.specs.declared.queue.Target.{Target}
+use Rattle.g1_frontier.specs.declared.scope.Target.{Target}
 use Rattle.g1_frontier.specs.Queue.{IsTarget}
 use Rattle.g1_frontier.proofs.Scopes.{all_in, In-get, below}
 use Rattle.g1_frontier.proofs.queue.Traversal.load_all.Goals as goal

@@ -2,7 +2,8 @@ use Rattle.std.proofs.Common.{arith, ◌∙◌, ap, sym, subst, ℕ, length, get
 use Rattle.g1_words.specs.Heap.{word}
 use Rattle.g1_words.specs.Valid.{IsReference}
 use Rattle.g1_words.proofs.Members.{In}
-use Rattle.g1_frontier.specs.Queue.{names_in, HasNoted}
+use Rattle.g1_frontier.specs.Scope.{names_in}
+use Rattle.g1_frontier.specs.Queue.{HasNoted}
 use Rattle.g1_frontier.proofs.Names.{slot_in_words, card_reference}
 use Rattle.g1_frontier.proofs.Queues.{noted_more}
 use Rattle.g1_frontier.proofs.Scopes.{In-get}

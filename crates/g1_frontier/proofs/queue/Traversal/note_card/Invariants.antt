@@ -1,6 +1,7 @@
 use Rattle.std.proofs.Common.{take, flat_map}
 use Rattle.g1_words.specs.Heap.{word}
-use Rattle.g1_frontier.specs.Queue.{names_in, HasNoted}
+use Rattle.g1_frontier.specs.Scope.{names_in}
+use Rattle.g1_frontier.specs.Queue.{HasNoted}
 use Rattle.g1_frontier.proofs.queue.Traversal.note_card.Given as goal
 
 abbrev pub invariant-loop-slot : goal.invariant-loop-slot

@@ -5,7 +5,8 @@ use Rattle.g1_words.specs.Heap.{word, object_at, slots}
 use Rattle.g1_words.specs.Valid.{IsReference}
 use Rattle.g1_words.proofs.Computed.{In-range}
 use Rattle.g1_words.proofs.Members.{In}
-use Rattle.g1_frontier.specs.Queue.{names_in, HasNoted}
+use Rattle.g1_frontier.specs.Scope.{names_in}
+use Rattle.g1_frontier.specs.Queue.{HasNoted}
 use Rattle.g1_frontier.proofs.Names.{object_in_words, object_reference, range_more}
 use Rattle.g1_frontier.proofs.Queues.{noted_none, noted_append}
 use Rattle.g1_frontier.proofs.queue.Traversal.note_object.Goals as goal

@@ -1,7 +1,8 @@
 use Rattle.std.proofs.Common.{◌-◌, flat_map}
 use Rattle.std.specs.List.{range_with_len}
 use Rattle.g1_words.specs.Heap.{word}
-use Rattle.g1_frontier.specs.Queue.{names_in, HasNoted}
+use Rattle.g1_frontier.specs.Scope.{names_in}
+use Rattle.g1_frontier.specs.Queue.{HasNoted}
 use Rattle.g1_frontier.proofs.queue.Traversal.note_object.Given as goal
 
 abbrev pub invariant-loop-slot : goal.invariant-loop-slot

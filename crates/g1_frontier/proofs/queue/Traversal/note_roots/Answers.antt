@@ -1,6 +1,6 @@
 use Rattle.std.proofs.Common.{arith, ap, sym, subst, ℕ, get_or, length}
 use Rattle.g1_words.specs.Valid.{IsReference}
-use Rattle.g1_frontier.specs.Queue.{names_in}
+use Rattle.g1_frontier.specs.Scope.{names_in}
 use Rattle.g1_frontier.proofs.Names.{root_reference}
 use Rattle.g1_frontier.proofs.Queues.{noted_more}
 use Rattle.g1_frontier.proofs.queue.Traversal.note_roots.Goals as goal

@@ -1,5 +1,6 @@
 use Rattle.std.proofs.Common.{take, flat_map}
-use Rattle.g1_frontier.specs.Queue.{names_in, HasNoted}
+use Rattle.g1_frontier.specs.Scope.{names_in}
+use Rattle.g1_frontier.specs.Queue.{HasNoted}
 use Rattle.g1_frontier.proofs.queue.Traversal.note_roots.Given as goal
 
 abbrev pub invariant-loop-word : goal.invariant-loop-word

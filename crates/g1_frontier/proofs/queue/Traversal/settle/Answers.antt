@@ -1,7 +1,7 @@
 use Rattle.std.proofs.Common.{◌∙◌, ◌++◌, List, ap}
 use Rattle.g1_words.specs.Survivors.{firsts}
 use Rattle.g1_frontier.specs.declared.queue.Queue.{Queue}
-use Rattle.g1_frontier.specs.declared.queue.Target.{Target}
+use Rattle.g1_frontier.specs.declared.scope.Target.{Target}
 use Rattle.g1_frontier.specs.Queue.{addresses}
 use Rattle.g1_frontier.proofs.Queues.{noted_settled}
 use Rattle.g1_frontier.proofs.queue.Traversal.settle.Goals as goal

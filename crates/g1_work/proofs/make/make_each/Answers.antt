@@ -4,7 +4,7 @@ use Rattle.rayon.specs.Numbers.{nat_range}
 use Rattle.rayon.proofs.ToStd.{nat_range-All}
 use Rattle.g1_work.specs.Make.{IsMade}
 use Rattle.g1_work.proofs.Gathered.{gathered, gathered_memory}
-use Rattle.g1_work.proofs.make.make_by_threads.Goals as goal
+use Rattle.g1_work.proofs.make.make_each.Goals as goal
 
 pub collect-requires-clause-ready : goal.collect-requires-clause-ready
 collect-requires-clause-ready g c κs within =
