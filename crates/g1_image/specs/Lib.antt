@@ -1,4 +1,5 @@
 pub mod Text
+pub mod Parts
 pub mod Reading
 pub mod Image
 pub mod Faults

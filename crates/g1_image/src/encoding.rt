@@ -1,14 +1,30 @@
-ghost use Rattle.std.specs.Prelude.{◌≡◌, ◌≤◌, ◌<◌, ◌*◌, ◌^◌, ◌++◌, ℕ, List, [], length, map, All, OnOk, IfOk, IfErr};
-ghost use Rattle.g1_image.specs.Text.{table_text, words_text, magic};
+ghost use Rattle.std.specs.Prelude.{◌≡◌, ◌++◌, ℕ, List, map, OnOk, IfOk};
+ghost use Rattle.g1_image.specs.Text.{table_text, words_text, file_text, heading_of};
+ghost use Rattle.g1_image.specs.Parts.{file_of_parts, CountsFit};
 ghost use Rattle.g1_image.specs.Image.{flags_of, entry_of, file_of, IsTextIn};
 
 use crate::cursor::{Heading, Version};
 use crate::image::Image;
 use crate::writing::{
-    push_heading, push_magic, push_number, push_numbers, push_remembered, push_words,
+    count, push_heading, push_magic, push_number, push_numbers, push_remembered, push_words,
 };
-use g1_words::Region;
-use std::alloc::AllocError;
+use g1_words::{Geometry, Region};
+use std::alloc::{AllocError, Global};
+
+/// What precedes the words in the text of an image. Parts that are no image's can be written too.
+#[derive(Clone, Copy)]
+pub struct FileParts<'a> {
+    pub geometry: Geometry,
+    /// The number of the current region.
+    pub current: Option<u32>,
+    pub regions: &'a [Region],
+    /// References as words.
+    pub roots: &'a [u64],
+    /// The dirty cards.
+    pub log: &'a [u32],
+    /// The remembered cards of each region.
+    pub remembered: &'a [Vec<u32>],
+}
 
 /// The flags of a region that is pinned or isn't.
 fn flags_of(pinned: bool) -> u32
@@ -28,27 +44,63 @@ fn push_table(out: &mut Vec<u8>, regions: &[Region]) -> Result<(), AllocError>
     Ok(())
 }
 
+fn heading_of(parts: &FileParts<'_>) -> Heading
+    ensures { (words : List ℕ) → CountsFit (file_of_parts parts.now words) → result ≡ heading_of (file_of_parts parts.now words) }
+{
+    let geometry = parts.geometry;
+    let regions = geometry.regions() as u32;
+    Heading {
+        w: geometry.region_words() as u32,
+        k: geometry.card_words() as u32,
+        n: regions,
+        roots: count(parts.roots.len()),
+        dirty: count(parts.log.len()),
+        current: parts.current.unwrap_or(regions),
+    }
+}
+
+/// Writes parts at the end. Their words follow.
+fn push_parts(out: &mut Vec<u8>, parts: &FileParts<'_>) -> Result<(), AllocError>
+    ensures { (words : List ℕ) → CountsFit (file_of_parts parts.now words) → OnOk result (out.new.items ++ words_text words ≡ out.old.items ++ file_text (file_of_parts parts.now words)) }
+{
+    push_magic(out, Version::Two)?;
+    push_heading(out, &heading_of(parts))?;
+    push_table(out, parts.regions)?;
+    push_words(out, parts.roots)?;
+    push_numbers(out, parts.log)?;
+    push_remembered(out, parts.remembered)?;
+    Ok(())
+}
+
+/// The bytes of parts and of the used words behind them, of version 2. They are good only if the parts are an
+/// image's; `decode` finds the fault of others.
+pub fn encode_parts(
+    alloc: Global,
+    parts: &FileParts<'_>,
+    words: &[u64],
+) -> Result<Vec<u8>, AllocError>
+    ensures { CountsFit (file_of_parts parts.now words.now) → IfOk result (λ v. v.items ≡ file_text (file_of_parts parts.now words.now)) }
+{
+    let mut out = Vec::new(alloc);
+    push_parts(&mut out, parts)?;
+    push_words(&mut out, words)?;
+    Ok(out)
+}
+
 /// Writes what precedes the words of an image, instead of the bytes that a list has.
 pub(crate) fn write_front(out: &mut Vec<u8>, image: &Image) -> Result<(), AllocError>
     ensures { OnOk result (IsTextIn Version.Two (out.new.items ++ words_text (file_of Version.Two image.now).words) image.now) }
 {
     let heap = image.heap();
-    let geometry = heap.geometry();
-    let log = image.log().as_slice();
-    let heading = Heading {
-        w: geometry.region_words() as u32,
-        k: geometry.card_words() as u32,
-        n: geometry.regions() as u32,
-        roots: heap.roots().len() as u32,
-        dirty: log.len() as u32,
-        current: heap.current().unwrap_or(geometry.regions() as u32),
+    let parts = FileParts {
+        geometry: heap.geometry(),
+        current: heap.current(),
+        regions: heap.regions(),
+        roots: heap.roots(),
+        log: image.log().as_slice(),
+        remembered: image.remembered(),
     };
     out.clear();
-    push_magic(out, Version::Two)?;
-    push_heading(out, &heading)?;
-    push_table(out, heap.regions())?;
-    push_words(out, heap.roots())?;
-    push_numbers(out, log)?;
-    push_remembered(out, image.remembered())?;
+    push_parts(out, &parts)?;
     Ok(())
 }

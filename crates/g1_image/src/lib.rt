@@ -13,7 +13,7 @@
 //! regions, and the first range with a slot that references no object has the lowest.
 //!
 //! `write` sends the text of an image to a sink: what precedes the words whole, and the words in
-//! pieces. `encode` writes it into a list.
+//! pieces. `encode` writes it into a list. `encode_parts` writes parts that need not be an image's.
 #![tactic(auto)]
 
 mod ahead;
@@ -42,6 +42,7 @@ mod table;
 mod writing;
 
 pub use cursor::MAGIC;
+pub use encoding::{FileParts, encode_parts};
 pub use image::Image;
 pub use sending::{encode, write};
 pub use sink::Sink;

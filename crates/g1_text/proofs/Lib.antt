@@ -16,6 +16,7 @@ pub mod Whole
 pub mod OneLine
 pub mod White
 pub mod Parts
+pub mod Cutting
 pub mod Turns
 pub mod Statements
 pub mod FullText

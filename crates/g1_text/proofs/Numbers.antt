@@ -1,9 +1,7 @@
 -- Decimal numbers that are read back.
-use Rattle.std.proofs.Common.{◌≡◌, ◌≢◌, ◌&&◌, ℕ, ◌<◌, ◌^◌, true, List, [], ◌∷◌, ◌++◌, length, get_or, refl, sym, ◌∙◌, ap, subst, arith}
+use Rattle.std.proofs.Common.{◌≡◌, ◌≢◌, ℕ, ◌<◌, ◌^◌, true, List, [], ◌∷◌, ◌++◌, length, get_or, sym, ◌∙◌, ap, subst, arith}
 use Rattle.std.specs.Prelude.{Option, MatchOption, Result, Ok, decimal}
 use Rattle.std.specs.Borrow.{Bor}
-use Rattle.std.specs.List.{list_all}
-use Rattle.std.specs.Char.{is_ascii_digit}
 use Rattle.std.specs.Str.{all_ascii_digits}
 use Rattle.std.specs.Str.Parse.{ParsesUnsigned, digits_value}
 use Rattle.std.proofs.lemmas.Str.Parse.{IsNumeralModel, numerals_by_value, tells_all_ascii_digits, parse_gives, not_in_digits}
@@ -13,15 +11,12 @@ use Rattle.std.proofs.lemmas.Fmt.{digits_decimal, digits_value-decimal, decimal_
 own : IsNumeralModel (λ ds. all_ascii_digits ds ≡ true) (digits_value 10)
 own = numerals_by_value (λ ds. all_ascii_digits ds ≡ true) tells_all_ascii_digits
 
-all_same : (bs : List ℕ) → list_all is_ascii_digit bs ≡ all_ascii_digits bs
-all_same [] = refl
-all_same (c ∷ cs) = ap (λ r. is_ascii_digit c && r) (all_same cs)
+-- a decimal number does not begin with a plus
+pub no_plus : (n : ℕ) (bs : List ℕ) → n < 2 ^ 64 → bs ≡ decimal n → get_or bs 0 0 ≢ 43
+no_plus n bs small e f =
+    not_in_digits own (decimal n) 43 (digits_decimal own n small) (λ q. let low = q.0 in absurd (omega (arith, low))) 0 (decimal_nonempty n small) (sym (ap (λ xs. get_or xs 0 0) e) ∙ f)
 
--- a decimal number has digits alone
-pub all_digits : (n : ℕ) (bs : List ℕ) → n < 2 ^ 64 → bs ≡ decimal n → list_all is_ascii_digit bs ≡ true
-all_digits n bs small e = ap (list_all is_ascii_digit) e ∙ all_same (decimal n) ∙ digits_decimal own n small
-
--- and is read as what it was written from
+-- a decimal number is read as what it was written from
 pub parsed : {E : Type 0} (n : ℕ) (bs : List ℕ) (r : Result ℕ E) → ParsesUnsigned 64 10 bs r → n < 2 ^ 64 → bs ≡ decimal n → r ≡ Ok n
 parsed n bs r h small e =
     let there : 0 < length bs = subst (λ x. 0 < length x) (sym e) (decimal_nonempty n small) in

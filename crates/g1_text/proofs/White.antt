@@ -1,8 +1,7 @@
 -- The words of a line.
-use Rattle.std.proofs.Common.{◌≡◌, ℕ, suc, ◌<◌, ◌≤◌, true, false, List, [], ◌∷◌, ◌++◌, length, get_or, map, All, refl, sym, ◌∙◌, ap, subst, arith, append-nil, ◌⊎◌, inl, inr}
+use Rattle.std.proofs.Common.{◌≡◌, ℕ, suc, ◌<◌, ◌≤◌, true, false, List, [], ◌∷◌, ◌++◌, length, get_or, All, refl, sym, ◌∙◌, ap, subst, arith, append-nil, ◌⊎◌, inl, inr}
 use Rattle.std.specs.Prelude.{filter}
 use Rattle.std.specs.List.{slice_split, AllPass}
-use Rattle.std.specs.Borrow.{Bor}
 use Rattle.std.proofs.lemmas.Bool.Decides.{nat_tests}
 use Rattle.std.proofs.lemmas.List.{get_or_default}
 use Rattle.std.proofs.lemmas.Bool.{cases_lt}
@@ -74,7 +73,3 @@ YieldsList-from_words {s} line e =
     (YieldsList-from_shown split_ascii_whitespace_steps (λ x. x.now) (λ t. words_in (split_ascii_whitespace_text t))
     (λ t u h. no_words (split_ascii_whitespace_text t) h.0)
     (λ t x u h. let cut = h.3 in cut_first (split_ascii_whitespace_text t) x.now cut.0 cut.1 (split_ascii_whitespace_text u) cut.2 h.0 (no_white x.now h.1) cut.3 cut.4) s)
-
--- the words of a line that were collected
-pub collected : {words found : List (List ℕ)} (items xs ys : List (Bor (List ℕ))) → words ≡ map (λ t. t.now) ys → ys ≡ items → items ≡ xs → map (λ t. t.now) xs ≡ found → words ≡ found
-collected items xs ys e f g h = e ∙ ap (map (λ (t : Bor (List ℕ)). t.now)) (f ∙ g) ∙ h

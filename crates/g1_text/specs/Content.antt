@@ -51,12 +51,6 @@ file_with c = record {
   words = c.words;
 }
 
--- counts that a file has room for
-pub record CountsFit (c : Content) : Type 0 where
-  pub roots : length c.roots < 2 ^ 32
-  pub log : length c.log < 2 ^ 32
-  pub remembered : All (λ cards. length cards < 2 ^ 32) c.remembered
-
 -- a line below the heading: a root by number, logged cards, the numbers of a region, a region's remembered cards, or an
 -- object by address with its slots' words and its data words
 pub data Line : Type 0 where

@@ -261,6 +261,13 @@ fn fill_roots<'a>(
     Ok(())
 }
 
+// An object with a name, and its address.
+#[derive(Clone, Copy)]
+struct Named<'a> {
+    entry: Entry<'a>,
+    at: u64,
+}
+
 // The words of the objects, in the order of their addresses.
 fn fill_objects<'a>(
     alloc: Global,
@@ -273,16 +280,11 @@ fn fill_objects<'a>(
         let Some(entry) = lines.entries.get(*place as usize) else {
             continue;
         };
-        let at = places.addresses.get(*place as usize).copied().unwrap_or(0);
-        if let Err(refusal) = fill_object(
-            alloc,
-            graph,
-            &mut draft.words,
-            lines,
-            places,
-            entry,
-            at,
-        ) {
+        let object = Named {
+            entry: *entry,
+            at: places.addresses.get(*place as usize).copied().unwrap_or(0),
+        };
+        if let Err(refusal) = fill_object(alloc, graph, &mut draft.words, lines, places, object) {
             return Err(refusal.at(entry.number));
         }
     }
@@ -295,10 +297,10 @@ fn fill_object<'a>(
     out: &mut Vec<u64>,
     lines: &Lines<'a>,
     places: &Places,
-    entry: &Entry<'a>,
-    at: u64,
+    object: Named<'a>,
 ) -> Result<(), Refusal> {
-    graph.names.push((at, entry.name))?;
+    let entry = object.entry;
+    graph.names.push((object.at, entry.name))?;
     let content = entry
         .line
         .split_ascii_whitespace()
@@ -318,7 +320,7 @@ fn fill_object<'a>(
         let word = if place < slots {
             let _ = words.next();
             let name = content.get(place as usize).copied().unwrap_or("-");
-            slot_word(graph, lines, places, entry, at, place, name)?
+            slot_word(graph, lines, places, object, place, name)?
         } else {
             words.number("data word")?
         };
@@ -334,17 +336,16 @@ fn slot_word<'a>(
     graph: &mut Graph<'a>,
     lines: &Lines<'a>,
     places: &Places,
-    entry: &Entry<'a>,
-    at: u64,
+    object: Named<'a>,
     slot: u64,
     name: &'a str,
 ) -> Result<u64, Refusal> {
     if let Some(word) = lines.reference(places, name) {
         return Ok(word);
     }
-    let address = at.saturating_add(1).saturating_add(slot);
+    let address = object.at.saturating_add(1).saturating_add(slot);
     graph.stale_slots.push((address, name))?;
-    graph.expect(entry.number, Expected::NamedSlot(slot));
+    graph.expect(object.entry.number, Expected::NamedSlot(slot));
     Ok(0)
 }
 

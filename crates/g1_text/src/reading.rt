@@ -1,16 +1,17 @@
-ghost use Rattle.std.specs.Prelude.{◌≡◌, ◌<◌, ◌+◌, ◌^◌, ℕ, Bool, List, [], ◌∷◌, ◌++◌, Option, None, Some, Ok, true, false, IsUtf8, length, map, replicate, decimal, codes, All, IsTrue, IfSome, IfOk, IfErr, OnOk, MatchResult};
+ghost use Rattle.std.specs.Prelude.{◌≡◌, ◌<◌, ◌+◌, ◌^◌, ℕ, Bool, List, [], ◌∷◌, ◌++◌, Option, None, Some, Ok, true, false, IsUtf8, length, map, replicate, decimal, codes, All, IsTrue, IfSome, IfOk, IfErr, OnOk, MatchOption, MatchResult};
 ghost use Rattle.g1_words.specs.declared.region.Kind.{Kind as KindOf};
 ghost use Rattle.g1_words.specs.declared.region.Region.{Region as RegionOf};
 ghost use Rattle.g1_words.specs.Kind.{kind_word};
 ghost use Rattle.g1_text.specs.Lines.{reference_word, current_word, cards_words, pinned_words};
-ghost use Rattle.g1_text.specs.Reading.{words_in, says_something, HasLines};
+ghost use Rattle.g1_text.specs.Reading.{words_in, says_something, parts_of, HasLines};
 ghost use Rattle.g1_text.specs.Content.{Content, Counts, Line, Root, Dirty, Numbers, Remembered, Holds, words_of, Takes, MayFollow, with_region, one_found, Begins, Says, SaysAll, IsClosed};
 ghost use Rattle.g1_text.specs.Drafts.{content, counts_of, Becomes, said};
 
 use crate::draft::{Draft, Heading, Placed, Told};
 use crate::expected::{Expected, Refusal, Wrong};
-use crate::words::{Words, size_and_slots};
+use crate::words::{Words, cut_words, size_and_slots};
 use g1_words::{Fault, Geometry, Kind, MOST_ROOTS, Region, header_word};
+use memchr::memchr;
 use std::alloc::{AllocError, Global};
 use std::str;
 
@@ -32,13 +33,31 @@ fn read_lines(alloc: Global, draft: &mut Option<Draft>, text: &[u8]) -> Result<u
     ensures { (lines : List (List (List ℕ))) (c : Content) → HasLines text.now lines → SaysAll (said draft.old) lines (Some c) → MatchResult result (λ _. said draft.new ≡ Some c) (λ e. e ≡ Wrong.Fault Fault.Memory) }
 {
     let mut number = 0u64;
-    for line in text.split(|byte| *byte == b'\n') {
+    let mut words = Vec::new(alloc);
+    let mut rest = Some(text);
+    'lines: while let Some(left) = rest {
+        let (line, behind) = first_line(left);
         number = number.saturating_add(1);
-        if let Err(refusal) = read_line(alloc, draft, number, line) {
+        if let Err(refusal) = read_line(alloc, draft, &mut words, number, line) {
             return Err(refusal.at(number));
         }
+        rest = behind;
     }
     Ok(number)
+}
+
+// The bytes up to the first LF, and those behind it. `split` would look at one byte after the other.
+fn first_line(text: &[u8]) -> (&[u8], Option<&[u8]>)
+    ensures { MatchOption result.1 (parts_of text.now ≡ result.0.now ∷ []) (λ left. (length left.now < length text.now) × (parts_of text.now ≡ result.0.now ∷ parts_of left.now)) }
+{
+    match memchr(b'\n', text) {
+        Some(end) => {
+            let (line, behind) = text.split_at(end);
+            let (_, left) = behind.split_at(1);
+            (line, Some(left))
+        }
+        None => (text, None),
+    }
 }
 
 // The number of the last line. The LF that ends it begins no other one.
@@ -50,12 +69,13 @@ fn last_line(text: &[u8], parts: u64) -> u64 {
     }
 }
 
-// Reads the words of a line.
-fn read_line(
+// Reads the words of a line. All lines share one list of words, so few of them ask for memory.
+fn read_line<'a>(
     alloc: Global,
     draft: &mut Option<Draft>,
+    words: &mut Vec<&'a str>,
     number: u64,
-    line: &[u8],
+    line: &'a [u8],
 ) -> Result<(), Refusal>
     ensures says { (c : Content) → IsUtf8 line.now → says_something (words_in line.now) ≡ true → Says (said draft.old) (words_in line.now) c → MatchResult result (λ _. said draft.new ≡ Some c) (λ e. e ≡ Refusal.Memory) }
     ensures nothing { IsUtf8 line.now → says_something (words_in line.now) ≡ false → MatchResult result (λ _. said draft.new ≡ said draft.old) (λ e. e ≡ Refusal.Memory) }
@@ -63,9 +83,8 @@ fn read_line(
     let Ok(line) = str::from_utf8(line) else {
         return Err(Expected::Text.into());
     };
-    let words = line.split_ascii_whitespace().collect::<Vec<&str>>(alloc)?;
-    let words = Words::new(words.as_slice());
-    read_words(alloc, draft, number, words)
+    cut_words(words, line)?;
+    read_words(alloc, draft, number, Words::new(words.as_slice()))
 }
 
 // A line with no word says nothing, nor does one that begins with '#'.

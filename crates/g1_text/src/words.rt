@@ -1,7 +1,17 @@
-ghost use Rattle.std.specs.Prelude.{◌≡◌, ◌<◌, ◌^◌, ℕ, ◌∷◌, ◌++◌, Some, decimal};
+ghost use Rattle.std.specs.Prelude.{◌≡◌, ◌<◌, ◌^◌, ℕ, ◌∷◌, ◌++◌, Some, map, decimal, OnOk};
+ghost use Rattle.g1_text.specs.Reading.{words_in};
 
 use crate::expected::Expected;
+use std::alloc::AllocError;
 use std::marker::Model;
+
+/// Puts the words of a line into a list, instead of those that are there.
+pub(crate) fn cut_words<'a>(words: &mut Vec<&'a str>, line: &'a str) -> Result<(), AllocError>
+    ensures { OnOk result (map (λ t. t.now) words.new.items ≡ words_in line.now) }
+{
+    words.clear();
+    words.extend(line.split_ascii_whitespace())
+}
 
 /// The words of a line that are not read yet: those from one place up to another.
 #[derive(Drop)]
@@ -156,11 +166,11 @@ impl<'a> Words<'a> {
     }
 }
 
-// A whole number in decimal digits alone.
+// A whole number in decimal digits alone. `parse` takes a plus in front of them, too.
 fn whole(text: &str) -> Option<u64>
     ensures { (n : ℕ) → n < 2 ^ 64 → text.now ≡ decimal n → result ≡ Some n }
 {
-    if !text.bytes().all(|b| b.is_ascii_digit()) {
+    if text.starts_with('+') {
         return None;
     }
     text.parse::<u64>().ok()

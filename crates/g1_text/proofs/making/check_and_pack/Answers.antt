@@ -1,31 +1,25 @@
-use Rattle.std.proofs.Common.{◌≡◌, ◌<◌, ◌^◌, List, ℕ, inl, inr, length, sym, ◌∙◌, ap, subst, arith}
-use Rattle.std.specs.Prelude.{All}
+use Rattle.std.proofs.Common.{◌≡◌, List, ℕ, inl, inr, sym, ◌∙◌, ap, subst}
 use Rattle.g1_words.specs.declared.fault.Fault.{Fault}
 use Rattle.g1_words.specs.declared.fault.Fault.TheVariants.{Memory}
 use Rattle.g1_image.specs.declared.cursor.Version.TheVariants.{Two}
-use Rattle.g1_image.specs.Text.{File, file_text}
+use Rattle.g1_image.specs.Text.{file_text}
 use Rattle.g1_image.specs.Image.{Image, IsTextIn}
+use Rattle.g1_image.specs.Parts.{CountsFit}
 use Rattle.g1_image.specs.Faults.{MayFail}
-use Rattle.g1_image.proofs.Images.{counts_fit}
+use Rattle.g1_image.proofs.Images.{file_fits}
 use Rattle.g1_image.proofs.NoFault.{no_fault}
-use Rattle.g1_text.specs.Content.{Content, CountsFit, IsContentOf, file_with}
+use Rattle.g1_text.specs.Content.{Content, IsContentOf, file_with}
 use Rattle.g1_text.specs.Drafts.{content}
 use Rattle.g1_text.proofs.making.check_and_pack.Goals as goal
 
 module _ (s : Content) (i : Image) (is : IsContentOf s i) where
-  fits : CountsFit s
-  fits =
-      let roots = ap (λ (f : File). length f.roots) is.same in
-      let log = ap (λ (f : File). length f.log) is.same in record {
-        roots = omega (arith, roots, is.image.heap.root_count);
-        log = omega (arith, log, is.image.log.count);
-        remembered = subst (All (λ cards. length cards < 2 ^ 32)) (sym (ap (λ (f : File). f.remembered) is.same)) (counts_fit i is.image);
-      }
+  fits : CountsFit (file_with s)
+  fits = subst CountsFit (sym is.same) (file_fits i is.image)
 
-  pub packed : (bytes : List ℕ) → (CountsFit s → bytes ≡ file_text (file_with s)) → IsTextIn Two bytes i
+  pub packed : (bytes : List ℕ) → (CountsFit (file_with s) → bytes ≡ file_text (file_with s)) → IsTextIn Two bytes i
   packed bytes text = (is.image, tt, text fits ∙ ap file_text is.same)
 
-  pub memory : (bytes seen : List ℕ) (e : Fault) → seen ≡ bytes → (CountsFit s → bytes ≡ file_text (file_with s)) → MayFail seen e → e ≡ Memory
+  pub memory : (bytes seen : List ℕ) (e : Fault) → seen ≡ bytes → (CountsFit (file_with s) → bytes ≡ file_text (file_with s)) → MayFail seen e → e ≡ Memory
   memory bytes seen e same text (inl m) = m
   memory bytes seen e same text (inr f) = absurd (no_fault seen i e (Two, subst (λ b. IsTextIn Two b i) (sym same) (packed bytes text)) f)
 
