@@ -10,8 +10,8 @@ ghost use Rattle.g1_rem.specs.Marks.{objects_from};
 ghost use Rattle.g1_explain.specs.Entering.{is_entry, uncovered_into, AreKnown, LeadAhead, AreEntryCards, IsEntryFault};
 
 use g1_image::Image;
-use g1_rem::Starts;
-use g1_words::{Fault, Heap, Kind, Marks, Region, card_of, header, region_of, size_at};
+use g1_rem::{Starts, mark_each, objects_end};
+use g1_words::{Fault, Marks, card_of, header, region_of};
 use std::alloc::{AllocError, Global};
 
 /// An object that is asked about: its address and its region, in an image with these starts.
@@ -21,33 +21,6 @@ pub(crate) struct Target<'a> {
     pub starts: &'a Starts,
     pub region: u32,
     pub at: u64,
-}
-
-// The address after the last object that starts in a region; the region's own start if none does.
-fn objects_end(heap: &Heap, region: u32) -> u64
-    requires { region < heap.now.geometry.n }
-    ensures { Tiles heap.now.words (start heap.now region) (objects_in heap.now region) result }
-{
-    let start = heap.geometry().start(region);
-    let Region { kind, top, .. } = heap.region(region);
-    match kind {
-        Kind::Ordinary => start + u64::from(top),
-        Kind::HumongousFirst => start + size_at(heap, start),
-        Kind::Free => start,
-        Kind::Continuation => start,
-    }
-}
-
-// Sets the marks of these numbers. One past the last mark has none.
-fn mark_each(marks: &mut Marks, numbers: &[u32])
-    ensures { AreMarked (has numbers.now) marks.old marks.new }
-{
-    for number in numbers {
-        let place = *number as usize;
-        if place < marks.len() {
-            marks.set(place);
-        }
-    }
 }
 
 // A mark for each card, set if the region remembers it or it is dirty.

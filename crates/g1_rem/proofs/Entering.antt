@@ -282,16 +282,6 @@ module _ (log sorted : List ℕ) (moved : IsPermutation log sorted) where
 pub log_inside : (i : Image) → IsImage i → All (λ c. c < card_count i.heap) i.log
 log_inside i valid = all_in (λ c. c < card_count i.heap) i.log (λ c k. card_inside i.heap c valid.heap (in_all (IsUsedCard i.heap) i.log c valid.log.used k))
 
--- ---- one region
-
--- the dirty cards that lead into it, sorted
-pub refining_one : (i : Image) (r : ℕ) (leading sorted : List ℕ) → IsImage i → leading ≡ filter (is_exact i.heap r) i.log → IsPermutation leading sorted → IsSorted nat_cmp sorted
-    → IsRefining i r sorted
-refining_one i r leading sorted valid e moved s = record {
-  rising = sorted_rising leading sorted moved (subst (AllPairs (λ c d. c ≢ d)) (sym e) (AllPairs-filter (λ c d. c ≢ d) (is_exact i.heap r) i.log valid.log.distinct)) s;
-  members = λ c. sorted_same leading sorted moved c ∙ ap (λ l. has l c) e ∙ has_filter (is_exact i.heap r) i.log c;
-}
-
 -- ---- all regions
 
 -- the lists that were made are those that refine the sets

@@ -8,7 +8,7 @@ use g1_words::{Fault, Heap, Marks};
 use std::alloc::{AllocError, Global};
 
 /// Sets the marks of these numbers. One past the last mark has none.
-pub(crate) fn mark_each(marks: &mut Marks, numbers: &[u32])
+pub fn mark_each(marks: &mut Marks, numbers: &[u32])
     ensures { AreMarked (has numbers.now) marks.old marks.new }
 {
     for number in numbers {

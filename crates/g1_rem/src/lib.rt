@@ -12,7 +12,7 @@
 //!    in the same ranges, and the first range with such a slot has the lowest.
 //! 4. `refine` looks at the dirty cards alone: it adds to each region's remembered set those that
 //!    hold a slot of another region that references an object in it. `refine_by` does so with this
-//!    many workers at most, `refine_region` for one region.
+//!    many workers at most.
 //! 5. `merged` makes one rising list of two, each card once: a set and the cards that join it.
 //! 6. `cards_into` lists the cards that lead into a set of regions: those of the remembered sets of
 //!    its regions that lie outside it.
@@ -38,10 +38,11 @@ mod tracked;
 
 pub use card_lists::{no_cards, push_once};
 pub use cover::{first_uncovered, verify, verify_by};
-pub use entry_cards::cards_into;
+pub use entry_cards::{cards_into, mark_each};
 pub use leads::leads_into;
 pub use merging::merged;
-pub use refining::{CARDS_A_THREAD, cards_in, refine, refine_by, refine_region};
+pub use refining::{CARDS_A_THREAD, cards_in, refine, refine_by};
+pub use rows::objects_end;
 pub use slots::slots_on;
 pub use starts::Starts;
 pub use tracked::{Tracked, image};

@@ -10,7 +10,7 @@ ghost use Rattle.g1_rem.specs.Starts.{IsStartsOf, card_count};
 ghost use Rattle.g1_rem.specs.Entering.{IsGrown, AreEntering, IsRefining, AreRefining};
 
 use crate::card_lists::{no_cards, push_once};
-use crate::leads::{leads_into, led_into};
+use crate::leads::led_into;
 use crate::merging::merged;
 use crate::slots::slots_on;
 use crate::starts::Starts;
@@ -220,63 +220,4 @@ pub fn refine_by(
     let image = image(tracked);
     let entering = entering_cards(rt, alloc, image, starts, workers)?;
     refined_remembered(rt, alloc, image, &entering, workers)
-}
-
-/// Those of some cards that lead into a region, in their order.
-fn leading_cards(
-    alloc: Global,
-    heap: &Heap,
-    starts: &Starts,
-    region: u32,
-    cards: &[u32],
-) -> Result<Vec<u32>, AllocError>
-    requires starts { IsStartsOf heap.now starts.now }
-    requires inside { All (λ c. c < card_count heap.now) cards.now }
-    ensures { IfOk result (λ v. v.items ≡ filter (is_exact heap.now region) cards.now) }
-{
-    let mut leading = Vec::new(alloc);
-    for card in cards {
-        if leads_into(alloc, heap, starts, region, *card) {
-            leading.push(*card)?;
-        }
-    }
-    Ok(leading)
-}
-
-/// The dirty cards that lead into a region, rising.
-fn leading_dirty_cards(
-    alloc: Global,
-    image: &Image,
-    starts: &Starts,
-    region: u32,
-) -> Result<Vec<u32>, AllocError>
-    requires { IsStartsOf image.now.heap starts.now }
-    ensures { IfOk result (λ v. IsRefining image.now region v.items) }
-{
-    let log = image.log().as_slice();
-    let mut cards = leading_cards(alloc, image.heap(), starts, region, log)?;
-    cards.sort_unstable();
-    Ok(cards)
-}
-
-/// The refined remembered set of one region, as `refine` has it for each.
-///
-/// Looks at the slots on the dirty cards, and copies this one set.
-///
-/// # Errors
-/// `Fault::Memory` if a growth was refused.
-pub fn refine_region(
-    alloc: Global,
-    tracked: &Tracked,
-    starts: &Starts,
-    region: u32,
-) -> Result<Vec<u32>, Fault>
-    requires starts { IsStartsOf tracked.now.heap starts.now }
-    requires region { region < tracked.now.heap.geometry.n }
-    ensures ok { IfOk result (λ v. v.items ≡ refined tracked.now region) }
-    ensures memory { IfErr result (λ e. e ≡ Fault.Memory) }
-{
-    let image = image(tracked);
-    let entering = leading_dirty_cards(alloc, image, starts, region)?;
-    refined_one(alloc, image, region, &entering)
 }

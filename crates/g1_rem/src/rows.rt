@@ -5,7 +5,7 @@ ghost use Rattle.g1_words.specs.Valid.{Tiles};
 use g1_words::{Heap, Kind, Region, size_at};
 
 /// The address after the last object that starts in a region; the region's own start if none does.
-pub(crate) fn objects_end(heap: &Heap, region: u32) -> u64
+pub fn objects_end(heap: &Heap, region: u32) -> u64
     requires { region < heap.now.geometry.n }
     ensures { Tiles heap.now.words (start heap.now region) (objects_in heap.now region) result }
 {
