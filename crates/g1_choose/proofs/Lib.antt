@@ -2,8 +2,8 @@ pub mod Ratios
 pub mod Bounds
 pub mod Filtered
 pub mod Sorting
-pub mod Budget
 pub mod Rising
+pub mod Budget
 pub mod Naming
 pub mod Insertion
 pub mod OneChoice

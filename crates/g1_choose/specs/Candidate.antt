@@ -1,5 +1,5 @@
 -- The candidates as `order` lists them, with the numbers that they are compared by.
-use Rattle.std.specs.Prelude.{◌≡◌, ℕ, Bool, ◌&&◌, ◌||◌, ◌+◌, ◌*◌, ◌<◌, ◌≤◌, List, map, take, length, sum_by, All, ◌==◌, nat_lt}
+use Rattle.std.specs.Prelude.{◌≡◌, ℕ, Bool, ◌&&◌, ◌||◌, ◌*◌, List, map, All, ◌==◌, nat_lt}
 use Rattle.g1_words.specs.Heap.{Heap}
 use Rattle.g1_choose.specs.declared.candidate.Candidate.{Candidate}
 use Rattle.g1_choose.specs.declared.parameters.Cost.{Cost}
@@ -22,9 +22,3 @@ module _ (c : Cost) (h : Heap) (remembered : List (List ℕ)) (lives : List ℕ)
   pub record IsCandidateOrder (xs : List Candidate) : Type 0 where
     pub order : IsOrder c h remembered lives (map (λ x. x.region) xs)
     pub tells : All TellsRegion xs
-
--- the first m candidates are the longest beginning that the budget pays, where this much is spent in any case
-pub record IsPaid (order : List Candidate) (fixed budget m : ℕ) : Type 0 where
-  pub within : m ≤ length order
-  pub paid : 0 < m → fixed + sum_by (λ x. x.cost) (take m order) ≤ budget
-  pub no_more : m < length order → budget < fixed + sum_by (λ x. x.cost) (take (m + 1) order)

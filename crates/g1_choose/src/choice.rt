@@ -1,67 +1,68 @@
-ghost use Rattle.std.specs.Prelude.{◌≡◌, ◌<◌, ◌^◌, ℕ, length, map, take, All, IsTrue, IfSome, IfNone, IfOk, IfErr};
+ghost use Rattle.std.specs.Prelude.{◌≡◌, ◌<◌, length, map, All, IsTrue, IfSome, IfNone, IfOk, IfErr};
 ghost use Rattle.g1_words.specs.Valid.{IsValid};
 ghost use Rattle.g1_choose.specs.Cost.{IsCost};
 ghost use Rattle.g1_choose.specs.Choice.{MayBeLive, is_candidate, candidates, IsChosen};
-ghost use Rattle.g1_choose.specs.Candidate.{TellsRegion, IsCandidateOrder, IsPaid};
+ghost use Rattle.g1_choose.specs.Candidate.{TellsRegion, IsCandidateOrder};
 
+use crate::buying::{buy, rising_regions};
 use crate::candidate::Candidate;
 use crate::parameters::Cost;
-use crate::pricing::{cost, total};
+use crate::pricing::cost;
 use g1_words::{Fault, Heap, Region};
 use std::alloc::{AllocError, Global};
 
+/// What the regions of a heap are priced by.
+#[derive(Clone, Copy)]
+struct Pricing<'a> {
+    heap: &'a Heap,
+    /// The remembered set of each region.
+    remembered: &'a [Vec<u32>],
+    /// The live bytes of each region.
+    live: &'a [u64],
+    parameters: &'a Cost,
+}
+
 /// The candidate that a region is, if it is one.
-fn candidate(
-    heap: &Heap,
-    remembered: &[Vec<u32>],
-    live: &[u64],
-    parameters: &Cost,
-    region: u32,
-) -> Option<Candidate>
-    requires parameters { IsCost parameters.now }
-    requires remembered { length remembered.now ≡ heap.now.geometry.n }
-    requires live_bytes { MayBeLive heap.now live.now }
-    requires there { region < heap.now.geometry.n }
-    requires valid { IsValid heap.now }
+fn candidate(pricing: &Pricing<'_>, region: u32) -> Option<Candidate>
+    requires parameters { IsCost pricing.now.parameters.now }
+    requires remembered { length pricing.now.remembered.now ≡ pricing.now.heap.now.geometry.n }
+    requires live_bytes { MayBeLive pricing.now.heap.now pricing.now.live.now }
+    requires there { region < pricing.now.heap.now.geometry.n }
+    requires valid { IsValid pricing.now.heap.now }
     ensures same { IfSome result (λ x. x.region ≡ region) }
-    ensures found { IfSome result (λ x. IsTrue (is_candidate parameters.now heap.now (map (λ s. s.items) remembered.now) live.now region)) }
-    ensures tells { IfSome result (TellsRegion parameters.now heap.now (map (λ s. s.items) remembered.now) live.now) }
-    ensures none { IfNone result (IsTrue (is_candidate parameters.now heap.now (map (λ s. s.items) remembered.now) live.now region) → ⊥) }
+    ensures found { IfSome result (λ x. IsTrue (is_candidate pricing.now.parameters.now pricing.now.heap.now (map (λ s. s.items) pricing.now.remembered.now) pricing.now.live.now region)) }
+    ensures tells { IfSome result (TellsRegion pricing.now.parameters.now pricing.now.heap.now (map (λ s. s.items) pricing.now.remembered.now) pricing.now.live.now) }
+    ensures none { IfNone result (IsTrue (is_candidate pricing.now.parameters.now pricing.now.heap.now (map (λ s. s.items) pricing.now.remembered.now) pricing.now.live.now region) → ⊥) }
 {
-    let Region { kind, top, pinned } = heap.region(region);
+    let Region { kind, top, pinned } = pricing.heap.region(region);
     if !kind.is_ordinary() || pinned {
         return None;
     }
     let place = region as usize;
-    let garbage = 8 * u64::from(top) - live[place];
+    let live = pricing.live[place];
+    let garbage = 8 * u64::from(top) - live;
     if garbage == 0 {
         return None;
     }
-    let cost = cost(parameters, remembered[place].len() as u64, live[place]);
+    let cards = pricing.remembered[place].len() as u64;
     Some(Candidate {
         region,
-        cost,
+        cost: cost(pricing.parameters, cards, live),
         garbage,
     })
 }
 
 /// The ordinary regions with garbage that aren't pinned, by number.
-fn candidates(
-    alloc: Global,
-    heap: &Heap,
-    remembered: &[Vec<u32>],
-    live: &[u64],
-    parameters: &Cost,
-) -> Result<Vec<Candidate>, AllocError>
-    requires parameters { IsCost parameters.now }
-    requires remembered { length remembered.now ≡ heap.now.geometry.n }
-    requires live_bytes { MayBeLive heap.now live.now }
-    ensures all { IfOk result (λ v. map (λ x. x.region) v.items ≡ candidates parameters.now heap.now (map (λ s. s.items) remembered.now) live.now) }
-    ensures tells { IfOk result (λ v. All (TellsRegion parameters.now heap.now (map (λ s. s.items) remembered.now) live.now) v.items) }
+fn candidates(alloc: Global, pricing: &Pricing<'_>) -> Result<Vec<Candidate>, AllocError>
+    requires parameters { IsCost pricing.now.parameters.now }
+    requires remembered { length pricing.now.remembered.now ≡ pricing.now.heap.now.geometry.n }
+    requires live_bytes { MayBeLive pricing.now.heap.now pricing.now.live.now }
+    ensures all { IfOk result (λ v. map (λ x. x.region) v.items ≡ candidates pricing.now.parameters.now pricing.now.heap.now (map (λ s. s.items) pricing.now.remembered.now) pricing.now.live.now) }
+    ensures tells { IfOk result (λ v. All (TellsRegion pricing.now.parameters.now pricing.now.heap.now (map (λ s. s.items) pricing.now.remembered.now) pricing.now.live.now) v.items) }
 {
     let mut candidates = Vec::new(alloc);
-    for region in 0..heap.geometry().regions() as u32 {
-        if let Some(found) = candidate(heap, remembered, live, parameters, region) {
+    for region in 0..pricing.heap.geometry().regions() as u32 {
+        if let Some(found) = candidate(pricing, region) {
             candidates.push(found)?;
         }
     }
@@ -87,31 +88,15 @@ pub fn order(
     ensures ok { IfOk result (λ v. IsCandidateOrder parameters.now heap.now (map (λ s. s.items) remembered.now) live.now v.items) }
     ensures memory { IfErr result (λ e. e ≡ Fault.Memory) }
 {
-    let mut candidates = candidates(alloc, heap, remembered, live, parameters)?;
+    let pricing = Pricing {
+        heap,
+        remembered,
+        live,
+        parameters,
+    };
+    let mut candidates = candidates(alloc, &pricing)?;
     candidates.sort_unstable_by(|a, b| a.efficiency(b));
     Ok(candidates)
-}
-
-/// The regions of the longest beginning that the budget pays, if this much is spent in any case.
-fn affordable(
-    alloc: Global,
-    order: &[Candidate],
-    fixed: u128,
-    budget: u64,
-) -> Result<Vec<u32>, AllocError>
-    requires { fixed < 2 ^ 97 }
-    ensures { IfOk result (λ v. (m : ℕ) × (v.items ≡ map (λ x. x.region) (take m order.now)) × IsPaid order.now fixed budget m) }
-{
-    let mut set = Vec::new(alloc);
-    let mut spent = fixed;
-    for candidate in order {
-        spent += candidate.cost;
-        if spent > u128::from(budget) {
-            break;
-        }
-        set.push(candidate.region)?;
-    }
-    Ok(set)
 }
 
 /// The collection set that the budget pays, rising: the longest beginning of the order whose total is
@@ -136,7 +121,6 @@ pub fn choose(
     ensures memory { IfErr result (λ e. e ≡ Fault.Memory) }
 {
     let order = order(alloc, heap, remembered, live, parameters)?;
-    let mut set = affordable(alloc, &order, total(parameters, d, &[]), budget)?;
-    set.sort_unstable();
-    Ok(set)
+    let purchase = buy(&order, parameters, d, budget);
+    rising_regions(alloc, &order[..purchase.taken])
 }

@@ -7,11 +7,13 @@
 //! 2. `order` lists the candidates, the ordinary regions with garbage that aren't pinned, by
 //!    efficiency: garbage for the cost. Two candidates are compared by products, never by a quotient
 //!    that is rounded; if they are equal, the lower region comes first.
-//! 3. `choose` takes the longest beginning of that order whose total is within the budget. A region
-//!    that doesn't fit ends the choice, even if a later one would fit.
+//! 3. `buy` finds the longest beginning of that order whose total is within the budget. A region
+//!    that doesn't fit ends it, even if a later one would fit. `choose` is `order`, then `buy`, then the
+//!    regions of that beginning by number.
 //! 4. `given` takes a list of regions from the caller.
 #![tactic(auto)]
 
+mod buying;
 mod candidate;
 mod choice;
 pub mod laws;
@@ -19,6 +21,7 @@ mod named;
 mod parameters;
 mod pricing;
 
+pub use buying::{Purchase, buy, rising_regions};
 pub use candidate::Candidate;
 pub use choice::{choose, order};
 pub use named::given;

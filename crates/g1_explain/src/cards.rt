@@ -3,6 +3,7 @@ ghost use Rattle.g1_rem.specs.Starts.{IsStartsOf};
 
 use crate::form::Form;
 use g1_image::Image;
+use g1_pause::Before;
 use g1_rem::{Starts, slots_on};
 use g1_words::{Heap, Marks, region_of};
 use smallvec::SmallVec;
@@ -127,22 +128,22 @@ pub(crate) fn push_cards(
     alloc: Global,
     text: &mut String,
     form: Form,
-    heap: &Heap,
-    starts: &Starts,
+    before: &Before<'_>,
     set: &[u32],
     cards: &[u32],
 ) -> Result<(), AllocError>
-    requires { IsStartsOf heap.now starts.now }
+    requires { IsStartsOf before.now.image.now.heap before.now.starts.now }
 {
     if form == Form::Map {
         return Ok(());
     }
+    let heap = before.image.heap();
     text.push_str("set")?;
     push_numbers(text, set)?;
     let marks = mark_regions(alloc, heap, set)?;
     for card in cards {
         write!(text, "card {card} slots")?;
-        let slots = card_slots(alloc, heap, starts, *card);
+        let slots = card_slots(alloc, heap, before.starts, *card);
         push_leading(text, heap, &marks, slots.as_slice())?;
     }
     Ok(())

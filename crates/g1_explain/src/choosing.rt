@@ -4,14 +4,11 @@ ghost use Rattle.g1_words.specs.Heap.{regions};
 ghost use Rattle.g1_image.specs.Cards.{refined};
 ghost use Rattle.g1_rem.specs.Starts.{IsStartsOf};
 ghost use Rattle.g1_choose.specs.Cost.{IsCost};
-ghost use Rattle.g1_choose.specs.Choice.{MayBeLive};
+ghost use Rattle.g1_choose.specs.Choice.{MayBeLive, IsChosen};
 ghost use Rattle.g1_pause.specs.Answer.{IsSetFor};
 
-use g1_choose::{Candidate, Cost, choose, given, order, total};
-use g1_image::Image;
-use g1_mark::live_bytes;
-use g1_pause::{Choice, Settings};
-use g1_rem::Starts;
+use g1_choose::{Candidate, Cost, buy, given, order, rising_regions, total};
+use g1_pause::{Before, Choice, Settings, count_live};
 use g1_words::{Fault, Heap, Kind, Region};
 use g1_work::Open;
 use std::alloc::{AllocError, Global};
@@ -22,64 +19,47 @@ pub(crate) fn choose_set<R: Threads + Sync>(
     rt: &R,
     alloc: Global,
     text: &mut String,
-    image: &Image,
-    starts: &Starts,
-    remembered: &[Vec<u32>],
+    before: &Before<'_>,
     settings: &Settings,
 ) -> Result<Vec<u32>, Fault>
-    requires starts { IsStartsOf image.now.heap starts.now }
-    requires remembered { map (λ s. s.items) remembered.now ≡ map (refined image.now) (regions image.now.heap) }
-    ensures { IfOk result (λ v. IsSetFor settings.now.cost image.now settings.now.choice v.items) }
+    requires starts { IsStartsOf before.now.image.now.heap before.now.starts.now }
+    requires remembered { map (λ s. s.items) before.now.remembered.now ≡ map (refined before.now.image.now) (regions before.now.image.now.heap) }
+    ensures { IfOk result (λ v. IsSetFor settings.now.cost before.now.image.now settings.now.choice v.items) }
 {
-    let heap = image.heap();
+    let heap = before.image.heap();
     match settings.choice() {
         Choice::Given(list) => given(alloc, heap, list),
         Choice::Budget(budget) => {
-            let (workers, chunk) = (settings.workers(), settings.chunk());
-            let live = live_bytes(rt, alloc, heap, starts, workers, chunk, &Open)?;
-            let dirty = image.log().len() as u64;
-            let cost = settings.cost();
-            g1_choose::laws::live_within_used();
-            let set = choose(alloc, heap, dirty, remembered, &live, &cost, *budget)?;
-            push_choice(
-                alloc,
-                text,
-                heap,
-                dirty,
-                remembered,
-                &live,
-                &cost,
-                *budget,
-                set.len(),
-            )?;
-            Ok(set)
+            let live = count_live(rt, alloc, before, settings, &Open)?;
+            buy_set(alloc, text, before, &live, &settings.cost(), *budget)
         }
     }
 }
 
-// The lines of a choice: what each region has, and how far the budget goes.
-fn push_choice(
+// What a budget buys, rising; with the lines of what each region has, and of how far the budget goes.
+fn buy_set(
     alloc: Global,
     text: &mut String,
-    heap: &Heap,
-    dirty: u64,
-    remembered: &[Vec<u32>],
+    before: &Before<'_>,
     live: &[u64],
     cost: &Cost,
     budget: u64,
-    taken: usize,
-) -> Result<(), Fault>
+) -> Result<Vec<u32>, Fault>
     requires cost { IsCost cost.now }
-    requires remembered { length remembered.now ≡ heap.now.geometry.n }
-    requires live_bytes { MayBeLive heap.now live.now }
+    requires remembered { length before.now.remembered.now ≡ before.now.image.now.heap.geometry.n }
+    requires live_bytes { MayBeLive before.now.image.now.heap live.now }
+    ensures { IfOk result (λ v. IsChosen cost.now before.now.image.now.heap (map (λ s. s.items) before.now.remembered.now) live.now (length before.now.image.now.log) budget v.items) }
 {
-    let order = order(alloc, heap, remembered, live, cost)?;
+    let heap = before.image.heap();
+    let dirty = before.image.log().len() as u64;
+    let order = order(alloc, heap, before.remembered, live, cost)?;
+    let purchase = buy(&order, cost, dirty, budget);
     let base = total(cost, dirty, &[]);
     writeln!(text, "budget {budget} base {base}")?;
-    push_live(text, heap, remembered, live)?;
+    push_live(text, heap, before.remembered, live)?;
     push_excluded(text, heap, live)?;
-    push_candidates(text, &order, base, taken)?;
-    Ok(())
+    push_candidates(text, &order, base, purchase.taken)?;
+    rising_regions(alloc, &order[..purchase.taken])
 }
 
 fn push_live(

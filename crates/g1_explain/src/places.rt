@@ -5,7 +5,7 @@ use crate::failure::Failure;
 use crate::finders::{Finder, finders, object_in, push_finder, size_in};
 use crate::form::Form;
 use g1_layout::Plan;
-use g1_rem::Starts;
+use g1_pause::Before;
 use g1_words::{Heap, Object, region_of};
 use std::alloc::{AllocError, Global};
 
@@ -18,17 +18,17 @@ pub(crate) fn push_survivors(
     alloc: Global,
     text: &mut String,
     form: Form,
-    heap: &Heap,
-    starts: &Starts,
+    before: &Before<'_>,
     cards: &[u32],
     survivors: &[u64],
 ) -> Result<(), Failure>
-    requires { IsStartsOf heap.now starts.now }
+    requires { IsStartsOf before.now.image.now.heap before.now.starts.now }
 {
     if form == Form::Map {
         return Ok(());
     }
-    let finders = finders(alloc, heap, starts, cards, survivors)?;
+    let heap = before.image.heap();
+    let finders = finders(alloc, heap, before.starts, cards, survivors)?;
     if finders.len() < survivors.len() {
         return Err(Failure::Contradiction);
     }

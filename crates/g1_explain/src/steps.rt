@@ -13,9 +13,8 @@ use crate::humongous::{keepers, push_humongous};
 use crate::places::{push_places, push_survivors, sizes_of, sum_of};
 use g1_copy::{Basis, Prepared, prepare_on};
 use g1_frontier::discover;
-use g1_image::Image;
 use g1_layout::{Plan, place};
-use g1_pause::Settings;
+use g1_pause::{Before, Settings};
 use g1_rem::{Starts, Tracked, cards_into, image, refine_by};
 use g1_words::Heap;
 use g1_work::Open;
@@ -54,15 +53,20 @@ pub(crate) fn take_steps<R: Threads + Sync>(
     let starts = Starts::build(alloc, heap)?;
     let remembered = refine_by(rt, alloc, tracked, &starts, workers)?;
     push_dirty(alloc, text, image, &remembered)?;
-    let set = choose_set(rt, alloc, text, image, &starts, &remembered, settings)?;
+    let before = Before {
+        image,
+        starts: &starts,
+        remembered: &remembered,
+    };
+    let set = choose_set(rt, alloc, text, &before, settings)?;
     let cards = cards_into(alloc, heap, &remembered, &set)?;
-    push_cards(alloc, text, form, heap, &starts, &set, &cards)?;
+    push_cards(alloc, text, form, &before, &set, &cards)?;
     g1_copy::laws::cards_lead_in();
     g1_frontier::laws::refined_lead_in();
     let survivors = discover(
         rt, alloc, heap, &starts, &set, &cards, workers, chunk, &Open,
     )?;
-    push_survivors(alloc, text, form, heap, &starts, &cards, &survivors)?;
+    push_survivors(alloc, text, form, &before, &cards, &survivors)?;
     g1_layout::laws::placeable();
     let plan = place(alloc, heap, &set, &survivors)?;
     let basis = Basis {
@@ -81,7 +85,7 @@ pub(crate) fn take_steps<R: Threads + Sync>(
         prepared,
         sizes,
     };
-    push_writes(alloc, text, form, image, &starts, &remembered, &steps)?;
+    push_writes(alloc, text, form, &before, &steps)?;
     push_totals(text, heap, &steps, cards.len())?;
     Ok(steps)
 }
@@ -91,16 +95,19 @@ fn push_writes(
     alloc: Global,
     text: &mut String,
     form: Form,
-    image: &Image,
-    starts: &Starts,
-    refined: &[Vec<u32>],
+    before: &Before<'_>,
     steps: &Steps,
 ) -> Result<(), Failure>
-    requires { IsStartsOf image.now.heap starts.now }
+    requires { IsStartsOf before.now.image.now.heap before.now.starts.now }
 {
     if form == Form::Map {
         return Ok(());
     }
+    let Before {
+        image,
+        starts,
+        remembered,
+    } = *before;
     let heap = image.heap();
     let (plan, prepared) = (&steps.plan, &steps.prepared);
     push_room(text, plan.need(), free_count(heap.regions()) as u64)?;
@@ -108,9 +115,9 @@ fn push_writes(
     push_patches(text, heap, prepared)?;
     let set = mark_regions(alloc, heap, &steps.set)?;
     let survivors = plan.survivors();
-    let keepers = keepers(alloc, heap, starts, refined, &set, survivors)?;
+    let keepers = keepers(alloc, heap, starts, remembered, &set, survivors)?;
     push_humongous(text, heap, survivors, &keepers, prepared.humongous())?;
-    push_remembered(alloc, text, refined, prepared.remembered())?;
+    push_remembered(alloc, text, remembered, prepared.remembered())?;
     push_regions(text, heap.regions(), prepared.regions())?;
     push_heading_changes(text, image)?;
     Ok(())

@@ -1,7 +1,9 @@
 ghost use Rattle.std.specs.Prelude.{◌≡◌, ◌⊎◌, map, Err, IfOk, IfErr};
 ghost use Rattle.g1_words.specs.Heap.{regions};
+ghost use Rattle.g1_words.specs.Live.{IsLiveBytes};
 ghost use Rattle.g1_image.specs.Cards.{refined};
 ghost use Rattle.g1_rem.specs.Starts.{IsStartsOf};
+ghost use Rattle.g1_choose.specs.Choice.{MayBeLive};
 ghost use Rattle.g1_pause.specs.Answer.{IsSetFor, IsEvacuated};
 
 use crate::settings::{Choice, Settings};
@@ -14,8 +16,18 @@ use g1_work::Gate;
 use std::alloc::Global;
 use std::thread::Threads;
 
-/// The collection set, rising: what the budget buys, or the regions that are given. `remembered`
-/// are the refined sets. Only a budget asks for the live bytes.
+/// An image before its pause, and what the steps of the pause go by.
+#[derive(Clone, Copy)]
+pub struct Before<'a> {
+    pub image: &'a Image,
+    /// The starts of its heap.
+    pub starts: &'a Starts,
+    /// Its refined remembered sets.
+    pub remembered: &'a [Vec<u32>],
+}
+
+/// The collection set, rising: what the budget buys, or the regions that are given. Only a budget
+/// asks for the live bytes.
 ///
 /// # Errors
 ///
@@ -23,34 +35,53 @@ use std::thread::Threads;
 pub(crate) fn collection_set<R: Threads + Sync, G: Gate + Sync>(
     rt: &R,
     alloc: Global,
-    image: &Image,
-    starts: &Starts,
-    remembered: &[Vec<u32>],
+    before: &Before<'_>,
     settings: &Settings,
     gate: &G,
 ) -> Result<Vec<u32>, Fault>
-    requires starts { IsStartsOf image.now.heap starts.now }
-    requires remembered { map (λ s. s.items) remembered.now ≡ map (refined image.now) (regions image.now.heap) }
-    ensures set { IfOk result (λ v. IsSetFor settings.now.cost image.now settings.now.choice v.items) }
-    ensures refused { IfErr result (λ e. (e ≡ Fault.Memory) ⊎ IsEvacuated settings.now.cost settings.now.choice image.now (Err e)) }
+    requires starts { IsStartsOf before.now.image.now.heap before.now.starts.now }
+    requires remembered { map (λ s. s.items) before.now.remembered.now ≡ map (refined before.now.image.now) (regions before.now.image.now.heap) }
+    ensures set { IfOk result (λ v. IsSetFor settings.now.cost before.now.image.now settings.now.choice v.items) }
+    ensures refused { IfErr result (λ e. (e ≡ Fault.Memory) ⊎ IsEvacuated settings.now.cost settings.now.choice before.now.image.now (Err e)) }
 {
-    let heap = image.heap();
+    let heap = before.image.heap();
     match settings.choice() {
         Choice::Given(list) => given(alloc, heap, list),
         Choice::Budget(budget) => {
-            let (workers, chunk) = (settings.workers(), settings.chunk());
-            let live = live_bytes(rt, alloc, heap, starts, workers, chunk, gate)?;
-            let dirty = image.log().len() as u64;
-            g1_choose::laws::live_within_used();
-            choose(
-                alloc,
-                heap,
-                dirty,
-                remembered,
-                &live,
-                &settings.cost(),
-                *budget,
-            )
+            let live = count_live(rt, alloc, before, settings, gate)?;
+            let dirty = before.image.log().len() as u64;
+            let cost = settings.cost();
+            choose(alloc, heap, dirty, before.remembered, &live, &cost, *budget)
         }
     }
+}
+
+/// The live bytes of each region, which a choice by a budget goes by.
+///
+/// # Errors
+///
+/// `Fault::Memory` alone.
+pub fn count_live<R: Threads + Sync, G: Gate + Sync>(
+    rt: &R,
+    alloc: Global,
+    before: &Before<'_>,
+    settings: &Settings,
+    gate: &G,
+) -> Result<Vec<u64>, Fault>
+    requires starts { IsStartsOf before.now.image.now.heap before.now.starts.now }
+    ensures counted { IfOk result (λ v. IsLiveBytes before.now.image.now.heap v.items) }
+    ensures within_used { IfOk result (λ v. MayBeLive before.now.image.now.heap v.items) }
+    ensures memory { IfErr result (λ e. e ≡ Fault.Memory) }
+{
+    let (workers, chunk) = (settings.workers(), settings.chunk());
+    g1_choose::laws::live_within_used();
+    live_bytes(
+        rt,
+        alloc,
+        before.image.heap(),
+        before.starts,
+        workers,
+        chunk,
+        gate,
+    )
 }

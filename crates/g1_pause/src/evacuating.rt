@@ -7,7 +7,7 @@ ghost use Rattle.g1_pause.specs.Follows.{Follows};
 ghost use Rattle.g1_pause.specs.Planned.{IsPlanned};
 ghost use Rattle.g1_pause.specs.Report.{IsReport};
 
-use crate::choosing::collection_set;
+use crate::choosing::{Before, collection_set};
 use crate::laws;
 use crate::report::{Report, report_of};
 use crate::settings::Settings;
@@ -39,7 +39,12 @@ fn plan_pause<R: Threads + Sync, G: Gate + Sync>(
     let (workers, chunk) = (settings.workers(), settings.chunk());
     let starts = Starts::build_by(rt, alloc, heap, workers)?;
     let remembered = refine_by(rt, alloc, tracked, &starts, workers)?;
-    let set = collection_set(rt, alloc, image, &starts, &remembered, settings, gate)?;
+    let before = Before {
+        image,
+        starts: &starts,
+        remembered: &remembered,
+    };
+    let set = collection_set(rt, alloc, &before, settings, gate)?;
     let cards = cards_into(alloc, heap, &remembered, &set)?;
     g1_copy::laws::cards_lead_in();
     g1_frontier::laws::refined_lead_in();

@@ -1,22 +1,16 @@
 -- What is written of a choice.
-use Rattle.std.proofs.Common.{◌≡◌, ◌≢◌, ℕ, zero, suc, ◌<◌, ◌≤◌, ◌⊎◌, inl, inr, List, [], ◌∷◌, ◌++◌, map, flat_map, take, drop, length, All, IsTrue, refl, sym, ◌∙◌, ap, subst, arith, ltb}
-use Rattle.std.proofs.Common.{lt-ltb, ltb-true}
-use Rattle.std.proofs.Common.{Vec}
+use Rattle.std.proofs.Common.{◌≡◌, ℕ, zero, suc, ◌≤◌, inl, inr, List, [], ◌∷◌, ◌++◌, map, flat_map, take, drop, length, All, refl, sym, ◌∙◌, ap, arith, Vec}
 use Rattle.std.specs.Prelude.{min, codes, slice_index, Result, Ok, Err, IfOk}
 use Rattle.std.specs.List.{range_with_len}
-use Rattle.std.specs.List.Sorted.{IsPermutation}
-use Rattle.std.proofs.lemmas.Bool.{cases_lt, cases_order}
-use Rattle.std.proofs.lemmas.List.Sums.{sum-map}
-use Rattle.std.proofs.lemmas.List.Sorted.{sum_by-IsPermutation, length_permutation}
+use Rattle.std.proofs.lemmas.Bool.{cases_lt}
 use Rattle.g1_words.specs.Heap.{Heap}
-use Rattle.g1_words.proofs.Ordered.{Ordered, Ordered-from_pairs}
 use Rattle.g1_choose.specs.declared.parameters.Cost.{Cost}
 use Rattle.g1_choose.specs.declared.candidate.Candidate.{Candidate}
-use Rattle.g1_choose.specs.Choice.{cost_of, pause_cost, IsChosen}
+use Rattle.g1_choose.specs.declared.buying.Purchase.{Purchase}
+use Rattle.g1_choose.specs.Choice.{pause_cost}
 use Rattle.g1_choose.specs.Candidate.{TellsRegion, IsCandidateOrder}
-use Rattle.g1_choose.proofs.Insertion.{sorted, sorted_moves, sorted_ordered}
-use Rattle.g1_choose.proofs.Rising.{rising_is, order_apart, order_within}
-use Rattle.g1_choose.proofs.OneChoice.{one_order}
+use Rattle.g1_choose.specs.Bought.{IsPurchase}
+use Rattle.g1_choose.proofs.Budget.{longest_from_paid, pause_cost-told}
 use Rattle.g1_text.specs.Lines.{line_text, text_of}
 use Rattle.g1_text.proofs.Printed.{text_append, text_map, take_all}
 use Rattle.g1pause_cli.specs.Tables.{live_line, live_lines, candidate_line, line_of, choice_lines, total_line, region_line_of, ListsChoice}
@@ -89,59 +83,25 @@ module _ (c : Cost) (h : Heap) (remembered : List (List ℕ)) (lives : List ℕ)
       let back = left_lines (codes "left") n xs tells in
       (λ t. front t ++ back t ++ total_line total ∷ [])
 
-  -- the set has the regions of the beginning, each once
-  moved : (d budget : ℕ) (set : List ℕ) (a : IsChosen c h remembered lives d budget set) → IsPermutation (take a.taken a.order) set
-  moved d budget set a =
-      let front = take a.taken a.order in
-      let up = sorted ltb front in
-      let moves = sorted_moves ltb front in
-      let Any : ℕ → Type 0 = λ r. Unit {0} in
-      let rises : Ordered (λ r q. IsTrue (ltb r q)) up =
-      sorted_ordered ltb Any (λ r q x y ne. either r q ne) (λ r q s x y z e f. lt-ltb r s (omega (arith, ltb-true r q e, ltb-true q s f)))
-      front (λ r i. tt) (Ordered-from_pairs (λ r q. r ≢ q) front (order_apart c h remembered lives a.order a.taken a.is_order)) in
-      let is : up ≡ set = rising_is h front up moves (weaker up rises) (λ r i. order_within c h remembered lives a.order a.taken r a.is_order i) ∙ sym a.rising in
-      subst (IsPermutation front) is moves
-    where
-      either : (r q : ℕ) → r ≢ q → IsTrue (ltb r q) ⊎ IsTrue (ltb q r)
-      either r q ne = elim (cases_order r q) [
-        | inl e ↦ absurd (ne e)
-        | inr o ↦ elim o [ inl lt ↦ inl (lt-ltb r q lt) | inr gt ↦ inr (lt-ltb q r gt) ]
-      ]
-
-      weaker : (xs : List ℕ) → Ordered (λ r q. IsTrue (ltb r q)) xs → Ordered (λ r q. r < q) xs
-      weaker [] o = tt
-      weaker (x ∷ xs) o = ((λ y i. ltb-true x y (o.0 y i)), weaker xs o.1)
-
-  length_take : (n : ℕ) (xs : List ℕ) → n ≤ length xs → length (take n xs) ≡ n
-  length_take zero xs le = refl
-  length_take (suc n) [] le = absurd (omega (arith, le))
-  length_take (suc n) (x ∷ xs) le = let r = length_take n xs (omega (arith, le)) in omega (arith, r)
-
-  -- the lines of the order, of how many are taken, and of what they cost
-  pub lists_choice : (d budget : ℕ) (xs : List Candidate) (set : List ℕ) (taken total : ℕ) (text : List ℕ) → IsCandidateOrder c h remembered lives xs → IsChosen c h remembered lives d budget set
-      → taken ≡ length set → total ≡ pause_cost c h remembered lives d set → text ≡ text_of (choice_lines line_of xs taken total) → ListsChoice c h remembered lives d budget text
-  lists_choice d budget xs set taken total text o a et ec e =
-      let front = take a.taken a.order in
-      let move = moved d budget set a in
-      let count : taken ≡ a.taken = (let l = length_permutation front set move in let k = length_take a.taken a.order a.longest.within in omega (arith, et, l, k)) in
-      let sums = sum_by-IsPermutation (cost_of c h remembered lives) front set move in
-      let paid : total ≡ pause_cost c h remembered lives d front = omega (arith, ec, sums, sum-map (cost_of c h remembered lives) front, sum-map (cost_of c h remembered lives) set) in
-      let same : map (λ x. x.region) xs ≡ a.order = one_order c h remembered lives (map (λ x. x.region) xs) a.order o.order a.is_order in
+  -- the lines of the order, and of how far the budget goes in it
+  lists_choice : (d budget : ℕ) (xs : List Candidate) (p : Purchase) (text : List ℕ) → IsCandidateOrder c h remembered lives xs → IsPurchase c d budget xs p
+      → text ≡ text_of (choice_lines line_of xs p.taken p.total) → ListsChoice c h remembered lives d budget text
+  lists_choice d budget xs p text o bought e =
+      let numbers : List ℕ = map (λ x. x.region) xs in
+      let paid : p.total ≡ pause_cost c h remembered lives d (take p.taken numbers) = bought.total ∙ sym (pause_cost-told c h remembered lives d p.taken xs o.tells) in
       record {
-        order = a.order;
-        is_order = a.is_order;
-        taken = a.taken;
-        longest = a.longest;
-        printed = e ∙ ap text_of (by_number taken total xs o.tells) ∙ (λ t. text_of (choice_lines (region_line_of c h remembered lives) (same t) (count t) (paid t)));
+        order = numbers;
+        is_order = o.order;
+        taken = p.taken;
+        longest = longest_from_paid c h remembered lives d budget p.taken xs o.tells bought.paid;
+        printed = e ∙ ap text_of (by_number p.taken p.total xs o.tells) ∙ ap (λ total. text_of (choice_lines (region_line_of c h remembered lives) numbers p.taken total)) paid;
       }
 
   -- the same of an answer that may be out of memory
-  pub lists_if_ok : {Z E : Type 0} (d budget : ℕ) (xs : List Candidate) (set : List ℕ) (taken total : ℕ) (r : Result (Vec ℕ Z) E) →
-      IsCandidateOrder c h remembered lives xs → IsChosen c h remembered lives d budget set
-      → taken ≡ length set → total ≡ pause_cost c h remembered lives d set → IfOk r (λ v. v.items ≡ text_of (choice_lines line_of xs taken total)) →
-      IfOk r (λ v. ListsChoice c h remembered lives d budget v.items)
-  lists_if_ok d budget xs set taken total (Ok v) o a et ec e = lists_choice d budget xs set taken total v.items o a et ec e
-  lists_if_ok d budget xs set taken total (Err f) o a et ec e = tt
+  pub lists_if_ok : {Z E : Type 0} (d budget : ℕ) (xs : List Candidate) (p : Purchase) (r : Result (Vec ℕ Z) E) → IsCandidateOrder c h remembered lives xs
+      → IsPurchase c d budget xs p → IfOk r (λ v. v.items ≡ text_of (choice_lines line_of xs p.taken p.total)) → IfOk r (λ v. ListsChoice c h remembered lives d budget v.items)
+  lists_if_ok d budget xs p (Ok v) o bought e = lists_choice d budget xs p v.items o bought e
+  lists_if_ok d budget xs p (Err f) o bought e = tt
 
 -- the lines of all live bytes
 pub live_end : (lives text : List ℕ) (n : ℕ) → n ≡ length lives → text ≡ flat_map (λ r. line_text (live_line r (slice_index lives r))) (range_with_len 0 n) → text ≡ text_of (live_lines lives)

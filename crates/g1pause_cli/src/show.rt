@@ -1,5 +1,5 @@
 //! The table of an image: a line with its numbers, and a line for each region.
-ghost use Rattle.std.specs.Prelude.{◌≡◌, ◌≤◌, ◌<◌, ◌-◌, ◌*◌, ◌++◌, ℕ, map, flat_map, string_bytes, OnOk, IfOk};
+ghost use Rattle.std.specs.Prelude.{◌≡◌, ◌≤◌, ◌<◌, ◌-◌, ◌*◌, ◌++◌, ℕ, map, flat_map, string_bytes, OnOk, IfOk, IfErr};
 ghost use Rattle.std.specs.List.{range_with_len};
 ghost use Rattle.g1_text.specs.Lines.{line_text, text_of, heading, region_line, table_lines};
 ghost use Rattle.g1pause_cli.specs.Rows.{AreRows};
@@ -13,6 +13,10 @@ use std::alloc::{AllocError, Global};
 use std::thread::Threads;
 
 /// The table of an image. The workers draw chunks of its regions.
+///
+/// # Errors
+///
+/// `Fault::Memory` alone.
 pub fn table<T: Threads + Sync>(
     rt: &T,
     alloc: Global,
@@ -20,6 +24,7 @@ pub fn table<T: Threads + Sync>(
     image: &Image,
 ) -> Result<Vec<u8>, Fault>
     ensures text { IfOk result (λ v. v.items ≡ text_of (table_lines image.now)) }
+    ensures memory { IfErr result (λ e. e ≡ Fault.Memory) }
 {
     let regions = image.heap().geometry().regions();
     let rows = Rows {
@@ -58,7 +63,8 @@ impl<'a> Task for Rows<'a> {
 
     type Out = String;
 
-    ghost use Rattle.std.specs.Prelude.{◌≡◌, ◌≤◌, ◌<◌, ◌*◌, ℕ, ⊤, string_bytes};
+    ghost use Rattle.std.specs.Prelude.{◌≡◌, ◌≤◌, ◌<◌, ◌*◌, ℕ, string_bytes};
+    ghost use Rattle.g1_words.specs.declared.fault.Fault.TheVariants.{Memory};
     ghost use Rattle.g1_work.specs.Team.{most_chunk};
     ghost use Rattle.g1pause_cli.specs.Rows.{AreRows};
 
@@ -66,7 +72,7 @@ impl<'a> Task for Rows<'a> {
 
     ghost runs = { λ s _ k _ out. AreRows s.image.now s.chunk k (string_bytes out) };
 
-    ghost may_fail = { λ _ _ _. ⊤ };
+    ghost may_fail = { λ _ _ e. e ≡ Memory };
 
     fn run(&self, _state: &mut (), chunk: u64) -> Result<String, Fault> {
         let regions = self.image.heap().geometry().regions();
@@ -80,7 +86,8 @@ impl<'a> Task for Rows<'a> {
 fn lines(alloc: Global, image: &Image, from: u32, to: u32) -> Result<String, Fault>
     requires order { from ≤ to }
     requires within { to ≤ image.now.heap.geometry.n }
-    ensures { IfOk result (λ s. string_bytes s ≡ text_of (map (region_line image.now) (range_with_len from (to - from)))) }
+    ensures text { IfOk result (λ s. string_bytes s ≡ text_of (map (region_line image.now) (range_with_len from (to - from)))) }
+    ensures memory { IfErr result (λ e. e ≡ Fault.Memory) }
 {
     let mut text = String::new(alloc);
     for region in from..to {
@@ -91,7 +98,8 @@ fn lines(alloc: Global, image: &Image, from: u32, to: u32) -> Result<String, Fau
 
 fn push_row(alloc: Global, image: &Image, region: u32, text: &mut String) -> Result<(), Fault>
     requires { region < image.now.heap.geometry.n }
-    ensures { OnOk result (string_bytes text.new ≡ string_bytes text.old ++ line_text (region_line image.now region)) }
+    ensures text { OnOk result (string_bytes text.new ≡ string_bytes text.old ++ line_text (region_line image.now region)) }
+    ensures memory { IfErr result (λ e. e ≡ Fault.Memory) }
 {
     let objects = objects_in(alloc, image.heap(), region)?.len();
     push_region_line(text, image, region, objects)?;

@@ -9,9 +9,9 @@ use Rattle.g1_choose.proofs.choice.candidates.Goals.{in-Some+in_ok-push, in_defa
 
 pub loop-region-preserved : goal.loop-region-preserved
 loop-region-preserved c =
-    let remembered : List (List ℕ) = map (λ s. s.items) c.args.remembered.now in
-    let test : ℕ → Bool = is_candidate c.args.parameters.now c.args.heap.now remembered c.args.live.now in
-    let True : Candidate → Type 0 = TellsRegion c.args.parameters.now c.args.heap.now remembered c.args.live.now in
+    let remembered : List (List ℕ) = map (λ s. s.items) c.args.pricing.now.remembered.now in
+    let test : ℕ → Bool = is_candidate c.args.pricing.now.parameters.now c.args.pricing.now.heap.now remembered c.args.pricing.now.live.now in
+    let True : Candidate → Type 0 = TellsRegion c.args.pricing.now.parameters.now c.args.pricing.now.heap.now remembered c.args.pricing.now.live.now in
     let old : List Candidate = c.loop-region.candidates.items in
     let new : List Candidate = c.match-candidate.candidates.items in
     elim c.match-candidate.branch [

@@ -1,17 +1,24 @@
-use Rattle.std.proofs.Common.{ℕ, List, map, sym, subst}
+use Rattle.std.proofs.Common.{◌≡◌, ℕ, List, length, map, ◌∙◌, ap, subst}
+use Rattle.std.specs.Prelude.{IfOk}
+use Rattle.g1_choose.specs.declared.candidate.Candidate.{Candidate}
+use Rattle.g1_choose.specs.declared.buying.Purchase.{Purchase}
 use Rattle.g1_choose.specs.Candidate.{IsCandidateOrder}
+use Rattle.g1_choose.specs.Bought.{IsPurchase}
+use Rattle.g1_text.specs.Lines.{text_of}
+use Rattle.g1pause_cli.specs.Tables.{choice_lines, line_of}
 use Rattle.g1pause_cli.proofs.Choosing.{lists_if_ok}
 use Rattle.g1pause_cli.proofs.listing.candidate_lines.Goals as goal
 
-pub returns : goal.returns
-returns c =
+pub returns-clause-text : goal.returns-clause-text
+returns-clause-text c =
+    let i = c.args.before.now.image.now in
     let p = c.args.parameters.now in
-    let h = c.args.heap.now in
-    let remembered : List (List ℕ) = map (λ s. s.items) c.args.remembered.now in
     let lives = c.args.live.now in
-    let bought = c.in_ok-taken.ensures.bought in
-    let order = subst (λ xs. IsCandidateOrder p h remembered lives xs) (sym c.deref.ensures.value) c.in_ok-order.ensures.ok in
-    record {
-      text = lists_if_ok p h remembered lives c.args.dirty c.args.budget c.deref.result.now bought.0 c.in_ok-taken.taken c.in_ok-taken.total
-          c.choice_lines.result order bought.1 bought.2 bought.3 c.choice_lines.ensures;
-    }
+    let remembered : List (List ℕ) = map (λ s. s.items) c.args.before.now.remembered.now in
+    let order : List Candidate = c.in_ok-order.order.items in
+    let purchase : Purchase = c.buy-purchase.result in
+    let dirty : c.len-dirty.result ≡ length i.log = c.len-dirty.ensures.len ∙ ap length c.log.ensures in
+    lists_if_ok p i.heap remembered lives (length i.log) c.args.budget order purchase c.choice_lines.result
+    (subst (λ h. IsCandidateOrder p h remembered lives order) c.heap-heap.ensures.same c.in_ok-order.ensures.ok)
+    (subst (λ d. IsPurchase p d c.args.budget order purchase) dirty (subst (λ xs. IsPurchase p c.len-dirty.result c.args.budget xs purchase) c.deref.ensures.value c.buy-purchase.ensures))
+    (subst (λ xs. IfOk c.choice_lines.result (λ v. v.items ≡ text_of (choice_lines line_of xs purchase.taken purchase.total))) c.deref-2.ensures.value c.choice_lines.ensures.text)

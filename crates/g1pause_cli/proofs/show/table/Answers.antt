@@ -7,8 +7,8 @@ use Rattle.g1_text.specs.Lines.{line_text, heading}
 use Rattle.g1pause_cli.proofs.TableText.{rows_joined}
 use Rattle.g1pause_cli.proofs.show.table.Goals as goal
 
-pub returns : goal.returns
-returns g c =
+pub returns-clause-text : goal.returns-clause-text
+returns-clause-text g c =
     let i = c.args.image.now in
     let chunk : ℕ = c.chunk.result in
     let regions : ℕ = c.regions-regions.result in
@@ -18,4 +18,4 @@ returns g c =
     let reached : i.heap.geometry.n ≤ div_ceil regions chunk * chunk = omega (arith, over.0, c.regions-regions.ensures.value, sizes, same) in
     let enough : i.heap.geometry.n ≤ c.div_ceil-chunks.result * chunk = subst (λ x. i.heap.geometry.n ≤ x * chunk) (sym c.div_ceil-chunks.ensures) reached in
     let rows = rows_joined i chunk c.div_ceil-chunks.result c.in_ok-workers.workers.items c.in_ok-outs.field-0-0.items c.in_ok-outs.outs.items c.in_ok-outs.ensures.ok enough in
-    record { text = c.in_ok-join.ensures ∙ ap (λ xs. line_text (heading i) ++ xs) (ap (flat_map string_bytes) c.deref.ensures.value ∙ rows) }
+    c.in_ok-join.ensures ∙ ap (λ xs. line_text (heading i) ++ xs) (ap (flat_map string_bytes) c.deref.ensures.value ∙ rows)
