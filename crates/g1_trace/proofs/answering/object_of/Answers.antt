@@ -1,4 +1,4 @@
-use Rattle.std.proofs.Common.{◌≡◌, ◌-◌, Contains, sym, ◌∙◌, subst}
+use Rattle.std.proofs.Common.{◌-◌, Contains, sym, ◌∙◌, subst}
 use Rattle.g1_words.specs.Heap.{Heap, object_at, objects}
 use Rattle.g1_trace.proofs.Told.{root_named}
 use Rattle.g1_trace.proofs.answering.object_of.Goals as goal
