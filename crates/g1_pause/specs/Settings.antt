@@ -1,8 +1,8 @@
 -- How a pause is run, and what it is to collect.
-use Rattle.std.specs.Prelude.{ℕ, ◌≤◌}
+use Rattle.std.specs.Prelude.{ℕ}
 use Rattle.g1_choose.specs.declared.parameters.Cost.{Cost}
 use Rattle.g1_choose.specs.Cost.{IsCost}
-use Rattle.g1_work.specs.Team.{most_chunk, most_workers}
+use Rattle.g1_work.specs.Team.{AreWorkers, IsChunk}
 use Rattle.g1_pause.specs.declared.settings.Choice.{Choice}
 
 -- the workers, the items that one draws at once, the cost parameters, and which regions to collect
@@ -11,16 +11,6 @@ pub record Settings : Type 0 where
   pub chunk : ℕ
   pub cost : Cost
   pub choice : Choice
-
--- a pause may have so many workers
-pub record AreWorkers (workers : ℕ) : Type 0 where
-  pub some : 1 ≤ workers
-  pub most : workers ≤ most_workers
-
--- a worker may draw so many items at once
-pub record IsChunk (chunk : ℕ) : Type 0 where
-  pub some : 1 ≤ chunk
-  pub most : chunk ≤ most_chunk
 
 -- the number under which settings are refused: the lowest of what is out of range
 pub data IsRefused (workers chunk : ℕ) (cost : Cost) : ℕ → Type 0 where

@@ -1,10 +1,11 @@
 ghost use Rattle.std.specs.Prelude.{◌≡◌, ℕ, IfOk, IfErr, OnOk, ◌↔◌, IsTrue};
 ghost use Rattle.g1_choose.specs.Cost.{IsCost};
-ghost use Rattle.g1_pause.specs.Settings.{AreWorkers, IsChunk, IsRefused};
+ghost use Rattle.g1_work.specs.Team.{AreWorkers, IsChunk};
+ghost use Rattle.g1_pause.specs.Settings.{IsRefused};
 
 use g1_choose::Cost;
 use g1_words::Fault;
-use g1_work::{MOST_CHUNK, MOST_WORKERS};
+use g1_work::{MOST_CHUNK, MOST_WORKERS, Team};
 use std::marker::Model;
 
 /// Which regions a pause collects.
@@ -19,22 +20,20 @@ pub enum Choice {
 /// How a pause is run, and what it is to collect.
 #[derive(Drop)]
 pub struct Settings {
-    workers: u64,
-    chunk: u64,
+    team: Team,
     cost: Cost,
     choice: Choice,
 }
 
 impl Model for Settings {
     ghost use Rattle.g1_pause.specs.Settings.{Settings as SettingsOf};
-    ghost use Rattle.g1_pause.specs.Settings.{AreWorkers, IsChunk};
     ghost use Rattle.g1_choose.specs.Cost.{IsCost};
 
     ghost Value = { SettingsOf };
 
-    ghost view = { λ s. record { workers = s.workers; chunk = s.chunk; cost = s.cost; choice = s.choice } };
+    ghost view = { λ s. record { workers = s.team.workers; chunk = s.team.chunk; cost = s.cost; choice = s.choice } };
 
-    ghost invariant = { λ s. AreWorkers s.workers × IsChunk s.chunk × IsCost s.cost };
+    ghost invariant = { λ s. IsCost s.cost };
 }
 
 fn are_workers(workers: u64) -> bool
@@ -81,12 +80,16 @@ impl Settings {
         if !is_cost(&cost) {
             return Err(Fault::Settings(3));
         }
-        Ok(Settings {
-            workers,
-            chunk,
-            cost,
-            choice,
-        })
+        let team = Team::new(workers, chunk);
+        Ok(Settings { team, cost, choice })
+    }
+
+    /// How many workers share the pause, and how many items one of them draws at once.
+    pub fn team(&self) -> Team
+        ensures workers { result.workers ≡ self.now.workers }
+        ensures chunk { result.chunk ≡ self.now.chunk }
+    {
+        self.team
     }
 
     /// How many workers share the pause.
@@ -94,7 +97,7 @@ impl Settings {
         ensures value { result ≡ self.now.workers }
         ensures range { AreWorkers self.now.workers }
     {
-        self.workers
+        self.team.workers()
     }
 
     /// How many items a worker draws at once.
@@ -102,7 +105,7 @@ impl Settings {
         ensures value { result ≡ self.now.chunk }
         ensures range { IsChunk self.now.chunk }
     {
-        self.chunk
+        self.team.chunk()
     }
 
     /// What the parts of a pause cost.

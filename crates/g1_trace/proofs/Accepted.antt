@@ -6,7 +6,8 @@ use Rattle.g1_words.specs.declared.fault.Fault.{Fault}
 use Rattle.g1_words.specs.declared.fault.Fault.TheVariants.{Settings}
 use Rattle.g1_choose.specs.declared.parameters.Cost.{Cost}
 use Rattle.g1_choose.specs.Cost.{IsCost}
-use Rattle.g1_pause.specs.Settings.{AreWorkers, IsChunk, IsRefused, by_workers, by_chunk, by_cost}
+use Rattle.g1_work.specs.Team.{AreWorkers, IsChunk}
+use Rattle.g1_pause.specs.Settings.{IsRefused, by_workers, by_chunk, by_cost}
 
 module _ {workers chunk : ℕ} {cost : Cost} (w : AreWorkers workers) (k : IsChunk chunk) (c : IsCost cost) where
   not_refused : {which : ℕ} → IsRefused workers chunk cost which → ⊥

@@ -1,6 +1,7 @@
 -- The line of a command is read number by number, and its name and its numbers tell the command.
 use Rattle.std.proofs.Common.{◌≡◌, ℕ, ◌<◌, ◌≤◌, ◌^◌, List, [], ◌∷◌, ◌++◌, length, get_or, drop, refl, sym, ◌∙◌, ap, subst, arith, append_assoc}
 use Rattle.std.specs.Fmt.{decimal}
+use Rattle.std.proofs.lemmas.List.{append-nil}
 use Rattle.g1_trace.specs.declared.command.Command.{Command}
 use Rattle.g1_trace.specs.declared.command.Command.TheVariants.{New, Get, Put, Set, Say, Same, Copy, Drop, Pause}
 use Rattle.g1_trace.specs.TraceText.{spaced, name_of, numbers_of, AllFit, command_line}
@@ -123,6 +124,15 @@ name_for (Pause b) = (name.Pause, refl)
 
 spelled_word : (n : Name) → NoSpace (spelled n)
 spelled_word n = let k = named_so n in subst NoSpace k.1 (name_word k.0)
+
+-- bytes begin with no name and a space: they have no space, or their first word is no name
+pub no_spaced : (bytes : List ℕ) → NoSpace bytes → (n : Name) (more : List ℕ) → bytes ≡ spelled n ++ 32 ∷ more → ⊥
+no_spaced bytes none n more e =
+    let l = ap length (one_split bytes (spelled n) [] (32 ∷ more) none (spelled_word n) tt refl (append-nil bytes ∙ e)).1 in
+    absurd (omega (arith, l))
+
+pub no_spelled : (bytes word rest : List ℕ) → bytes ≡ word ++ 32 ∷ rest → NoSpace word → ((n : Name) → word ≡ spelled n → ⊥) → (n : Name) (more : List ℕ) → bytes ≡ spelled n ++ 32 ∷ more → ⊥
+no_spelled bytes word rest split one none n more e = none n (one_split word (spelled n) (32 ∷ rest) (32 ∷ more) one (spelled_word n) refl refl (sym split ∙ e)).0
 
 after_name : (xs more : List ℕ) → 0 < length xs → IsWordEnd (spaced xs ++ more)
 after_name [] more some = absurd (omega (arith, some))

@@ -9,6 +9,7 @@ use Rattle.g1_words.proofs.Bounds.{object_within}
 use Rattle.g1_words.proofs.Computed.{has_contains}
 use Rattle.g1_words.proofs.Sound.{has_is, sound}
 use Rattle.g1_trace.specs.declared.command.Command.TheVariants.{Get, Put, Set, Say}
+use Rattle.g1_trace.specs.declared.command.Reply.{Reply}
 use Rattle.g1_trace.specs.declared.command.Reply.TheVariants.{Ok, Range, Number}
 use Rattle.g1_trace.specs.Commands.{View, Nothing, SetRoot, SetSlot, SetValue, Answer, answer, answer_of, in_range, not_null, within}
 use Rattle.g1_trace.specs.Mutator.{heap_view}
@@ -71,12 +72,14 @@ module _ (h : Heap) (r q m : ℕ) (o : Object) (lr : r < length h.roots) (lq : q
   refs_is : o.refs ≡ (object_at h o.at).refs
   refs_is = ap (λ (x : Object). x.refs) is
 
-  pub get_range : get_or h.roots q 0 ≡ o.at + 1 → o.refs ≤ m → answer Range Nothing ≡ answer_of (heap_view h) (Get r q m)
-  get_range n le =
+  pub get_range : (reply : Reply) → get_or h.roots q 0 ≡ o.at + 1 → (reply ≡ Range) × (o.refs ≤ m) → answer reply Nothing ≡ answer_of (heap_view h) (Get r q m)
+  get_range reply n out =
       let e : get_or h.roots q 0 ≡ suc o.at = omega (arith, n) in
       let c = slot_count h o.at in
       let f = refs_is in
-      sym (range_yes (heap_view h) r _ lr ∙ range_yes (heap_view h) q _ lq ∙ names (heap_view h) (get_or h.roots q 0) o.at _ e
+      let le = out.1 in
+      ap (λ x. answer x Nothing) out.0
+      ∙ sym (range_yes (heap_view h) r _ lr ∙ range_yes (heap_view h) q _ lq ∙ names (heap_view h) (get_or h.roots q 0) o.at _ e
       ∙ within_no (heap_view h) m ((heap_view h).slots o.at) _ (omega (arith, c, f, le)))
 
   pub get_done : (x : ℕ) → get_or h.roots q 0 ≡ o.at + 1 → m < o.refs → x ≡ word h (o.at + 1 + m) → answer Ok (SetRoot r x) ≡ answer_of (heap_view h) (Get r q m)
@@ -88,12 +91,14 @@ module _ (h : Heap) (r q m : ℕ) (o : Object) (lr : r < length h.roots) (lq : q
       ∙ sym (range_yes (heap_view h) r _ lr ∙ range_yes (heap_view h) q _ lq ∙ names (heap_view h) (get_or h.roots q 0) o.at _ e
       ∙ within_yes (heap_view h) m ((heap_view h).slots o.at) _ (omega (arith, c, f, lt)))
 
-  pub put_range : get_or h.roots r 0 ≡ o.at + 1 → o.refs ≤ m → answer Range Nothing ≡ answer_of (heap_view h) (Put r m q)
-  put_range n le =
+  pub put_range : (reply : Reply) → get_or h.roots r 0 ≡ o.at + 1 → (reply ≡ Range) × (o.refs ≤ m) → answer reply Nothing ≡ answer_of (heap_view h) (Put r m q)
+  put_range reply n out =
       let e : get_or h.roots r 0 ≡ suc o.at = omega (arith, n) in
       let c = slot_count h o.at in
       let f = refs_is in
-      sym (range_yes (heap_view h) r _ lr ∙ range_yes (heap_view h) q _ lq ∙ names (heap_view h) (get_or h.roots r 0) o.at _ e
+      let le = out.1 in
+      ap (λ x. answer x Nothing) out.0
+      ∙ sym (range_yes (heap_view h) r _ lr ∙ range_yes (heap_view h) q _ lq ∙ names (heap_view h) (get_or h.roots r 0) o.at _ e
       ∙ within_no (heap_view h) m ((heap_view h).slots o.at) _ (omega (arith, c, f, le)))
 
   pub put_done : (x : ℕ) → get_or h.roots r 0 ≡ o.at + 1 → m < o.refs → x ≡ get_or h.roots q 0 → answer Ok (SetSlot o.at m x) ≡ answer_of (heap_view h) (Put r m q)
@@ -114,20 +119,24 @@ module _ (h : Heap) (r m : ℕ) (o : Object) (lr : r < length h.roots) (is : o �
   count_is : length ((heap_view h).values o.at) ≡ o.size - 1 - o.refs
   count_is = value_count h o.at ∙ ap (λ (x : Object). x.size - 1 - x.refs) (sym is)
 
-  pub set_range : (x : ℕ) → o.size - 1 - o.refs ≤ m → answer Range Nothing ≡ answer_of (heap_view h) (Set r m x)
-  set_range x le =
+  pub set_range : (reply : Reply) (x : ℕ) → (reply ≡ Range) × (o.size - 1 - o.refs ≤ m) → answer reply Nothing ≡ answer_of (heap_view h) (Set r m x)
+  set_range reply x out =
       let c = count_is in
-      sym (range_yes (heap_view h) r _ lr ∙ names (heap_view h) (get_or h.roots r 0) o.at _ there ∙ within_no (heap_view h) m ((heap_view h).values o.at) _ (omega (arith, c, le)))
+      let le = out.1 in
+      ap (λ y. answer y Nothing) out.0
+      ∙ sym (range_yes (heap_view h) r _ lr ∙ names (heap_view h) (get_or h.roots r 0) o.at _ there ∙ within_no (heap_view h) m ((heap_view h).values o.at) _ (omega (arith, c, le)))
 
   pub set_done : (x : ℕ) → m < o.size - 1 - o.refs → answer Ok (SetValue o.at m x) ≡ answer_of (heap_view h) (Set r m x)
   set_done x lt =
       let c = count_is in
       sym (range_yes (heap_view h) r _ lr ∙ names (heap_view h) (get_or h.roots r 0) o.at _ there ∙ within_yes (heap_view h) m ((heap_view h).values o.at) _ (omega (arith, c, lt)))
 
-  pub say_range : o.size - 1 - o.refs ≤ m → answer Range Nothing ≡ answer_of (heap_view h) (Say r m)
-  say_range le =
+  pub say_range : (reply : Reply) → (reply ≡ Range) × (o.size - 1 - o.refs ≤ m) → answer reply Nothing ≡ answer_of (heap_view h) (Say r m)
+  say_range reply out =
       let c = count_is in
-      sym (range_yes (heap_view h) r _ lr ∙ names (heap_view h) (get_or h.roots r 0) o.at _ there ∙ within_no (heap_view h) m ((heap_view h).values o.at) _ (omega (arith, c, le)))
+      let le = out.1 in
+      ap (λ y. answer y Nothing) out.0
+      ∙ sym (range_yes (heap_view h) r _ lr ∙ names (heap_view h) (get_or h.roots r 0) o.at _ there ∙ within_no (heap_view h) m ((heap_view h).values o.at) _ (omega (arith, c, le)))
 
   pub say_done : (x : ℕ) → m < o.size - 1 - o.refs → x ≡ word h (o.at + 1 + o.refs + m) → answer (Number x) Nothing ≡ answer_of (heap_view h) (Say r m)
   say_done x lt w =

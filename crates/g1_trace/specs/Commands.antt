@@ -1,5 +1,6 @@
 -- What each command answers and does, told once for all stores: by the roots, and by the slots and data words of the objects that they name.
-use Rattle.std.specs.Prelude.{ℕ, zero, suc, List, length, slice_index, nat_lt, ◌==◌, if◌then◌else◌}
+use Rattle.std.specs.Prelude.{ℕ, zero, suc, List, length, slice_index, nat_lt, ◌==◌, if◌then◌else◌, Result}
+use Rattle.std.specs.Prelude.{Ok as Passed, Err as Refused}
 use Rattle.g1_trace.specs.declared.command.Command.{Command}
 use Rattle.g1_trace.specs.declared.command.Command.TheVariants.{New, Get, Put, Set, Say, Same, Copy, Drop, Pause}
 use Rattle.g1_trace.specs.declared.command.Reply.{Reply}
@@ -17,6 +18,11 @@ pub record View : Type 0 where
 -- a reply with what is done
 abbrev pub answer : Reply → Effect → Answer
 answer r e = record { reply = r; effect = e }
+
+-- the answer of a command that passed its checks, or the reply of the check that refused it, and then nothing is done
+abbrev pub answer_from : Result Answer Reply → Answer
+answer_from (Passed a) = a
+answer_from (Refused reply) = answer reply Nothing
 
 module _ (v : View) where
   -- the value of a root

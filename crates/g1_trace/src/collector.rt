@@ -1,6 +1,5 @@
 ghost use Rattle.std.specs.Prelude.{◌≡◌, IfOk, IfErr};
 ghost use Rattle.g1_choose.specs.Cost.{IsCost};
-ghost use Rattle.g1_pause.specs.Settings.{AreWorkers, IsChunk};
 ghost use Rattle.g1_trace.specs.Mutator.{IsEffect};
 
 use crate::command::Reply;
@@ -9,23 +8,42 @@ use g1_choose::Cost;
 use g1_pause::{Choice, Settings, evacuate};
 use g1_rem::Tracked;
 use g1_words::Fault;
-use g1_work::Gate;
+use g1_work::{Gate, Team};
 use std::alloc::Global;
 use std::thread::Threads;
 
-/// What makes the pauses of a trace: threads and memory, what a pause costs, how many workers share
-/// it and how many items one of them draws at once.
+/// What makes the pauses of a trace: threads and memory, what a pause costs, and the team that shares
+/// it.
 #[derive(Drop)]
 pub(crate) struct Collector<'a, R, G> {
     pub rt: &'a R,
     pub alloc: Global,
     pub cost: Cost,
-    pub workers: u64,
-    pub chunk: u64,
+    pub team: Team,
     pub gate: &'a G,
-    ghost are_workers: { AreWorkers workers },
-    ghost is_chunk: { IsChunk chunk },
     ghost is_cost: { IsCost cost },
+}
+
+impl<'a, R: Threads + Sync, G: Gate + Sync> Collector<'a, R, G> {
+    /// A collector whose pauses have this cost, which a team shares.
+    pub(crate) fn new(
+        rt: &'a R,
+        alloc: Global,
+        cost: &Cost,
+        team: Team,
+        gate: &'a G,
+    ) -> Collector<'a, R, G>
+        requires cost { IsCost cost.now }
+        ensures { result.cost ≡ cost.now }
+    {
+        Collector {
+            rt,
+            alloc,
+            cost: *cost,
+            team,
+            gate,
+        }
+    }
 }
 
 /// Makes one pause by a budget.
@@ -42,13 +60,8 @@ pub(crate) fn pause<R: Threads + Sync, G: Gate + Sync>(
     ensures memory { IfErr result.1 (λ e. e ≡ Fault.Memory) }
     ensures same { IfErr result.1 (λ e. result.0 ≡ tracked) }
 {
-    let Collector {
-        workers,
-        chunk,
-        cost,
-        ..
-    } = *collector;
-    let settings = Settings::new(workers, chunk, cost, Choice::Budget(budget)).unwrap();
+    let (workers, chunk) = (collector.team.workers(), collector.team.chunk());
+    let settings = Settings::new(workers, chunk, collector.cost, Choice::Budget(budget)).unwrap();
     match evacuate(
         collector.rt,
         collector.alloc,

@@ -3,7 +3,7 @@ ghost use Rattle.g1_words.specs.Geometry.{most_roots};
 ghost use Rattle.g1_image.specs.Cards.{IsTracked};
 ghost use Rattle.g1_image.specs.Image.{Image as ImageOf};
 ghost use Rattle.g1_choose.specs.Cost.{IsCost};
-ghost use Rattle.g1_pause.specs.Settings.{AreWorkers, IsChunk};
+ghost use Rattle.g1_work.specs.Team.{IsTeam};
 ghost use Rattle.g1_trace.specs.declared.command.Reply.{Reply as ReplyOf};
 ghost use Rattle.g1_trace.specs.Mutator.{heap_view, value_address, with_words, IsStep, IsEffect};
 ghost use Rattle.g1_trace.specs.Run.{empty_image};
@@ -21,7 +21,7 @@ use g1_choose::Cost;
 use g1_image::Image;
 use g1_rem::{Tracked, image};
 use g1_words::{Fault, Geometry, Heap, Kind, MOST_ROOTS, Region, header};
-use g1_work::Gate;
+use g1_work::{Gate, Team};
 use indexmap::IndexSet;
 use std::alloc::Global;
 use std::marker::Model;
@@ -184,8 +184,7 @@ impl Mutator {
         chunk: u64,
         gate: &G,
     ) -> (Mutator, Result<Reply, Fault>)
-        requires workers { AreWorkers workers }
-        requires chunk { IsChunk chunk }
+        requires team { IsTeam workers chunk }
         requires cost { IsCost cost.now }
         ensures tracked { IsTracked self }
         ensures replied { IfOk result.1 (λ r. IsStep cost.now self command.now r result.0) }
@@ -196,14 +195,8 @@ impl Mutator {
     {
         laws::traces();
         laws::one_run();
-        let collector = Collector {
-            rt,
-            alloc,
-            cost: *cost,
-            workers,
-            chunk,
-            gate,
-        };
+        let team = Team::new(workers, chunk);
+        let collector = Collector::new(rt, alloc, cost, team, gate);
         self.execute(command, &collector)
     }
 

@@ -189,39 +189,38 @@ enum Numbers {
     Three(u64, u64, u64),
 }
 
+/// The command's name that a word spells.
+fn name_from(word: &[u8]) -> Option<Name>
+    ensures some { IfSome result (λ name. word.now ≡ spelled name) }
+    ensures none { IfNone result ((name : NameOf) → word.now ≡ spelled name → ⊥) }
+{
+    match word {
+        b"get" => Some(Name::Get),
+        b"put" => Some(Name::Put),
+        b"set" => Some(Name::Set),
+        b"new" => Some(Name::New),
+        b"drop" => Some(Name::Drop),
+        b"copy" => Some(Name::Copy),
+        b"say" => Some(Name::Say),
+        b"same" => Some(Name::Same),
+        b"pause" => Some(Name::Pause),
+        _ => None,
+    }
+}
+
 /// The command's name that the bytes begin with, and the bytes after the space that follows it.
 fn take_name(bytes: &[u8]) -> Option<(Name, &[u8])>
     ensures some { IfSome result (λ r. bytes.now ≡ spelled r.0 ++ 32 ∷ r.1.now) }
     ensures none { IfNone result ((name : NameOf) (more : List ℕ) → bytes.now ≡ spelled name ++ 32 ∷ more → ⊥) }
 {
-    if let Some(rest) = after(bytes, b"get ") {
-        return Some((Name::Get, rest));
+    let (word, rest) = match split_at_byte(bytes, b' ') {
+        Some(split) => split,
+        None => return None,
+    };
+    match name_from(word) {
+        Some(name) => Some((name, rest)),
+        None => None,
     }
-    if let Some(rest) = after(bytes, b"put ") {
-        return Some((Name::Put, rest));
-    }
-    if let Some(rest) = after(bytes, b"set ") {
-        return Some((Name::Set, rest));
-    }
-    if let Some(rest) = after(bytes, b"new ") {
-        return Some((Name::New, rest));
-    }
-    if let Some(rest) = after(bytes, b"drop ") {
-        return Some((Name::Drop, rest));
-    }
-    if let Some(rest) = after(bytes, b"copy ") {
-        return Some((Name::Copy, rest));
-    }
-    if let Some(rest) = after(bytes, b"say ") {
-        return Some((Name::Say, rest));
-    }
-    if let Some(rest) = after(bytes, b"same ") {
-        return Some((Name::Same, rest));
-    }
-    if let Some(rest) = after(bytes, b"pause ") {
-        return Some((Name::Pause, rest));
-    }
-    None
 }
 
 /// Returns whether the bytes are at their end, or at the end of a line.
@@ -366,19 +365,27 @@ pub fn later_line(line: &[u8]) -> Option<Command>
     }
 }
 
+/// The bytes before the first byte of a value, and those after it; None if no byte has the value.
+fn split_at_byte(bytes: &[u8], value: u8) -> Option<(&[u8], &[u8])>
+    ensures some { IfSome result (λ r. (bytes.now ≡ r.0.now ++ value ∷ r.1.now) × ((k : ℕ) → k < length r.0.now → slice_index r.0.now k ≢ value)) }
+    ensures none { IfNone result ((k : ℕ) → k < length bytes.now → slice_index bytes.now k ≢ value) }
+{
+    for (i, b) in bytes.iter().enumerate() {
+        if *b == value {
+            let (before, more) = bytes.split_at(i);
+            let (_, rest) = more.split_at(1);
+            return Some((before, rest));
+        }
+    }
+    None
+}
+
 /// The first line of the bytes without its end, and the bytes after it; None if no line is ended.
 pub(crate) fn split_line(bytes: &[u8]) -> Option<(&[u8], &[u8])>
     ensures some { IfSome result (λ r. (bytes.now ≡ r.0.now ++ 10 ∷ r.1.now) × ((k : ℕ) → k < length r.0.now → slice_index r.0.now k ≢ 10)) }
     ensures none { IfNone result ((k : ℕ) → k < length bytes.now → slice_index bytes.now k ≢ 10) }
 {
-    for (i, b) in bytes.iter().enumerate() {
-        if *b == b'\n' {
-            let (line, more) = bytes.split_at(i);
-            let (_, rest) = more.split_at(1);
-            return Some((line, rest));
-        }
-    }
-    None
+    split_at_byte(bytes, b'\n')
 }
 
 /// The command of the first of some later lines, and the lines after it.

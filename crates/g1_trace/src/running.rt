@@ -1,7 +1,7 @@
 ghost use Rattle.std.specs.Prelude.{◌≡◌, ◌⊎◌, List, [], ◌∷◌, ◌++◌, Ok, OnOk, IfOk, IfErr};
 ghost use Rattle.g1_image.specs.Cards.{IsTracked};
 ghost use Rattle.g1_choose.specs.Cost.{IsCost};
-ghost use Rattle.g1_pause.specs.Settings.{AreWorkers, IsChunk};
+ghost use Rattle.g1_work.specs.Team.{IsTeam};
 ghost use Rattle.g1_trace.specs.declared.command.Reply.{Reply as ReplyOf};
 ghost use Rattle.g1_trace.specs.Mutator.{IsStep};
 ghost use Rattle.g1_trace.specs.Run.{IsRun, empty_image};
@@ -15,7 +15,7 @@ use crate::mutator::Mutator;
 use crate::trace::Trace;
 use g1_choose::Cost;
 use g1_words::{Fault, Geometry};
-use g1_work::Gate;
+use g1_work::{Gate, Team};
 use std::alloc::Global;
 use std::thread::Threads;
 
@@ -70,8 +70,7 @@ pub fn run_trace<R: Threads + Sync, G: Gate + Sync>(
     chunk: u64,
     gate: &G,
 ) -> Result<Vec<Reply>, Fault>
-    requires workers { AreWorkers workers }
-    requires chunk { IsChunk chunk }
+    requires team { IsTeam workers chunk }
     requires cost { IsCost cost.now }
     ensures run { IfOk result (λ replies. IsRun cost.now (sizes trace.now) trace.now.roots trace.now.commands.items replies.items) }
     ensures only { IfOk result (λ replies. (told : List ReplyOf) → IsRun cost.now (sizes trace.now) trace.now.roots trace.now.commands.items told → told ≡ replies.items) }
@@ -80,14 +79,8 @@ pub fn run_trace<R: Threads + Sync, G: Gate + Sync>(
 {
     laws::traces();
     laws::one_run();
-    let collector = Collector {
-        rt,
-        alloc,
-        cost: *cost,
-        workers,
-        chunk,
-        gate,
-    };
+    let team = Team::new(workers, chunk);
+    let collector = Collector::new(rt, alloc, cost, team, gate);
     let mut mutator = start(alloc, trace.w, trace.k, trace.n, trace.roots)?;
     let mut replies = Vec::new(alloc);
     for command in &trace.commands {

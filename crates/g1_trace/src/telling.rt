@@ -123,14 +123,7 @@ pub fn run_text<R: Threads + Sync, G: Gate + Sync>(
 {
     laws::traces();
     laws::one_answer();
-    let collector = Collector {
-        rt,
-        alloc,
-        cost: *cost,
-        workers: team.workers(),
-        chunk: team.chunk(),
-        gate,
-    };
+    let collector = Collector::new(rt, alloc, cost, team, gate);
     let (mut mutator, mut rest) = begin(alloc, bytes)?;
     let mut text: Vec<u8> = Vec::new(alloc);
     let mut lines: u64 = 1;

@@ -9,7 +9,7 @@ use g1_pause::{Choice, Settings, pause_run};
 use g1_rem::{Tracked, verify_by};
 use g1_trace::run_text;
 use g1_words::Fault;
-use g1_work::{Open, Team};
+use g1_work::Open;
 use std::alloc::Global;
 use std::io::{Read, Write};
 use std::thread::Threads;
@@ -231,8 +231,8 @@ fn run<T: Threads + Sync, R: Read>(
     reader: &mut R,
 ) -> Result<Vec<u8>, Fault> {
     let bytes = read_all(alloc, reader)?;
-    let team = Team::new(settings.workers(), settings.chunk());
-    run_text(rt, alloc, bytes.as_slice(), &settings.cost(), team, &Open)
+    let cost = settings.cost();
+    run_text(rt, alloc, bytes.as_slice(), &cost, settings.team(), &Open)
 }
 
 fn read_image<T: Threads + Sync, R: Read>(

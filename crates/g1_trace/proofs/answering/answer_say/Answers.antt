@@ -1,16 +1,18 @@
-use Rattle.std.proofs.Common.{◌+◌, ◌<◌, length, get_or, ◌∙◌, ap, arith}
+use Rattle.std.proofs.Common.{◌+◌, get_or, ◌∙◌, ap}
+use Rattle.std.proofs.lemmas.Result.{err_from_is_err_and}
 use Rattle.g1_trace.proofs.Told.{say_range, say_done}
 use Rattle.g1_trace.proofs.answering.answer_say.Goals as goal
 
-pub returns-then-word-object : goal.returns-then-word-object
-returns-then-word-object c =
-    let n = ap length c.roots.ensures in
-    let r : c.args.root < length c.args.heap.now.roots = omega (arith, c.if-root-roots.false, n) in
-    c.refuse-then-word-object.ensures ∙ say_range c.args.heap.now c.args.root c.args.word c.in-Some.object r c.in-Some.ensures.object c.in-Some.ensures.named (omega (arith, c.if-word-object.true))
+pub returns-in_err-check_index : goal.returns-in_err-check_index
+returns-in_err-check_index c =
+    let s = c.in_ok-source in
+    let e = c.in_err-check_index in
+    let p = err_from_is_err_and c.from_residual-in_err-check_index.result c.from_residual-in_err-check_index.ensures.1 in
+    rw (p.1, p.2) (say_range c.args.heap.now c.args.root c.args.word s.source s.ensures.root s.ensures.object s.ensures.named
+    e.field-0.0 e.ensures.refused)
 
-pub returns-else-word-object : goal.returns-else-word-object
-returns-else-word-object c =
-    let n = ap length c.roots.ensures in
-    let r : c.args.root < length c.args.heap.now.roots = omega (arith, c.if-root-roots.false, n) in
-    c.refuse-in-Some.ensures ∙ say_done c.args.heap.now c.args.root c.args.word c.in-Some.object r c.in-Some.ensures.object c.in-Some.ensures.named _ (omega (arith, c.if-word-object.false))
-    (ap (λ ws. get_or ws (c.in-Some.object.at + 1 + c.in-Some.object.refs + c.args.word) 0) c.words.ensures)
+pub returns : goal.returns
+returns c =
+    let s = c.in_ok-source in
+    c.number.ensures ∙ say_done c.args.heap.now c.args.root c.args.word s.source s.ensures.root s.ensures.object s.ensures.named
+    _ c.in_ok-check_index.ensures.below (ap (λ ws. get_or ws (s.source.at + 1 + s.source.refs + c.args.word) 0) c.words.ensures)

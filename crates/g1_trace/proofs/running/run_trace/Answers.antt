@@ -38,10 +38,11 @@ loop-command-preserved g c =
     let answered = c.in_ok-mutator-2.ensures.answered in
     let longer : List Reply = c.answer_command.new.replies.items in
     let lt : k < length all = omega (arith, c.loop-command-test.true) in
-    let plain = c.traces.ensures.step c.args.cost.now inv.plain.0 i (get_or all k d) answered.0 next c.in_ok-mutator-2.ensures.tracked inv.plain.1 answered.1 in
+    let step = subst (λ k. IsStep k i (get_or all c.loop-command.command-index d) answered.0 next) c.new-collector.ensures answered.1 in
+    let plain = c.traces.ensures.step c.args.cost.now inv.plain.0 i (get_or all k d) answered.0 next c.in_ok-mutator-2.ensures.tracked inv.plain.1 step in
     record {
       heap = leads_on (IsStep c.args.cost.now) (empty_image (sizes c.args.trace.now) c.args.trace.now.roots) all c.loop-command.replies.items i next k
-          d answered.0 longer lt inv.heap answered.1 answered.2;
+          d answered.0 longer lt inv.heap step answered.2;
       plain = (
         plain.0,
         plain.2,

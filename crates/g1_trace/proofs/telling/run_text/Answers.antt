@@ -1,5 +1,6 @@
 use Rattle.std.proofs.lemmas.Result.{err_from_is_err_and}
-use Rattle.std.proofs.Common.{arith}
+use Rattle.std.proofs.Common.{arith, subst}
+use Rattle.g1_trace.specs.Mutator.{IsStep}
 use Rattle.g1_trace.specs.TraceText.{command_line}
 use Rattle.g1_trace.proofs.Texts.{shorter}
 use Rattle.g1_trace.proofs.Tellings.{so_far_start, so_far_answered, so_far_end, so_far_refused}
@@ -12,8 +13,10 @@ loop-rest-init g c = so_far_start c.args.cost.now c.args.bytes.now c.in_ok-mutat
 pub loop-rest-preserved : goal.loop-rest-preserved
 loop-rest-preserved g c =
     let l = c.loop-rest in
+    let a = c.in_ok-next.ensures.answered in
+    let step = subst (λ k. IsStep k l.mutator a.0 a.1 c.in_ok-next.next) c.new-collector.ensures a.4 in
     so_far_answered c.args.cost.now c.args.bytes.now l.mutator c.in_ok-next.next l.rest.now l.text.items c.in_ok-next.more.now c.answer_line.new.text.items l.lines
-    c.traces.ensures.step c.in_ok-next.ensures.tracked l.invariant c.in_ok-next.ensures.answered
+    c.traces.ensures.step c.in_ok-next.ensures.tracked l.invariant (a.0, a.1, a.2, a.3, step, a.5)
 
 pub loop-rest-smaller : goal.loop-rest-smaller
 loop-rest-smaller g c =

@@ -1,4 +1,4 @@
-use Rattle.std.proofs.Common.{◌≡◌}
+use Rattle.std.proofs.Common.{◌≡◌, IfOk, subst}
 use Rattle.g1_image.specs.Image.{Image}
 use Rattle.g1_trace.specs.declared.command.Reply.{Reply}
 use Rattle.g1_trace.specs.Mutator.{IsStep}
@@ -11,7 +11,8 @@ pub returns-clause-tracked : goal.returns-clause-tracked
 returns-clause-tracked g c = c.execute.ensures.tracked
 
 pub returns-clause-replied : goal.returns-clause-replied
-returns-clause-replied g c = c.execute.ensures.replied
+returns-clause-replied g c =
+    subst (λ k. IfOk c.execute.result.1 (λ r. IsStep k c.args.self c.args.command.now r c.execute.result.0)) c.new-collector.ensures c.execute.ensures.replied
 
 pub returns-clause-only : goal.returns-clause-only
 returns-clause-only g c =
