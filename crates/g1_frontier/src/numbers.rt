@@ -1,12 +1,11 @@
 ghost use Rattle.std.specs.Prelude.{◌≡◌, ◌<◌, ◌≤◌, ◌+◌, ◌*◌, length, set, replicate, true, false, IfOk, sum_by, count_ones};
 ghost use Rattle.g1_words.specs.Geometry.{most_words};
-ghost use Rattle.g1_words.specs.Heap.{start, objects_in};
 ghost use Rattle.g1_words.specs.Marks.{marks_of};
-ghost use Rattle.g1_words.specs.Valid.{Tiles};
 ghost use Rattle.g1_frontier.specs.Window.{AreRegions};
 ghost use Rattle.g1_frontier.specs.Numbers.{AreStarts, and_marked, places_from};
 
-use g1_words::{Heap, Kind, Region, size_at};
+use g1_rem::objects_end;
+use g1_words::{Heap, size_at};
 use std::alloc::{AllocError, Global};
 use std::marker::Model;
 
@@ -37,21 +36,6 @@ impl Model for Numbers {
     ghost view = { λ n. starts_of n.blocks.items };
 
     ghost invariant = { λ n. AreCounted 0 n.blocks.items × (64 * length n.blocks.items ≤ most_words) × (n.count ≡ counted_on 0 n.blocks.items) };
-}
-
-/// The address after the last object that begins in a region; the region's own start if none does.
-fn objects_end(heap: &Heap, region: u32) -> u64
-    requires { region < heap.now.geometry.n }
-    ensures { Tiles heap.now.words (start heap.now region) (objects_in heap.now region) result }
-{
-    let start = heap.geometry().start(region);
-    let Region { kind, top, .. } = heap.region(region);
-    match kind {
-        Kind::Ordinary => start + u64::from(top),
-        Kind::HumongousFirst => start + size_at(heap, start),
-        Kind::Free => start,
-        Kind::Continuation => start,
-    }
 }
 
 /// Sets the bit of a word.

@@ -16,7 +16,8 @@ pub returns-clause-ok : goal.returns-clause-ok
 returns-clause-ok g c =
     let s = c.loop-search.search in
     let i = c.loop-search.invariant in
-    ends (seeds c.args.scope.now.heap.now c.args.scope.now.window.now) (children c.args.scope.now.heap.now c.args.scope.now.window.now) s.found.items s.from (omega (arith, c.loop-search-test.false, c.len.ensures, s.found.ok)) i.in_order
+    ends (seeds c.args.scope.now.heap.now c.args.scope.now.window.now) (children c.args.scope.now.heap.now c.args.scope.now.window.now) s.found.items
+    s.from (omega (arith, c.loop-search-test.false, c.len.ensures, s.found.ok)) i.in_order
     (λ a k. i.reached a (Contains-from_in s.found.items a k))
 
 pub returns-clause-only : goal.returns-clause-only
@@ -24,5 +25,6 @@ returns-clause-only g c l b =
     let s = c.loop-search.search in
     let i = c.loop-search.invariant in
     breadth_first_unique (seeds c.args.scope.now.heap.now c.args.scope.now.window.now) (children c.args.scope.now.heap.now c.args.scope.now.window.now) l s.found.items b
-    (ends (seeds c.args.scope.now.heap.now c.args.scope.now.window.now) (children c.args.scope.now.heap.now c.args.scope.now.window.now) s.found.items s.from (omega (arith, c.loop-search-test.false, c.len.ensures, s.found.ok)) i.in_order
+    (ends (seeds c.args.scope.now.heap.now c.args.scope.now.window.now) (children c.args.scope.now.heap.now c.args.scope.now.window.now) s.found.items
+    s.from (omega (arith, c.loop-search-test.false, c.len.ensures, s.found.ok)) i.in_order
     (λ a k. i.reached a (Contains-from_in s.found.items a k)))

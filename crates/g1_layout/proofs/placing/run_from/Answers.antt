@@ -61,7 +61,8 @@ returns-then-from-to c =
     let start = c.start-start.ensures.value ∙ ap (λ g. c.args.region * g.w) c.geometry-geometry.ensures.same in
     let before : ℕ = get_or c.args.places.now (c.loop-to.to - 1) 0 in
     let last = Running-last h c.args.places.now c.args.region c.args.from c.loop-to.to c.loop-to.invariant c.if-from-to.true in
-    let count = ap length c.requires.placed ∙ count_places h c.args.batch.now.survivors.now (omega (arith, c.geometry-geometry.ensures.valid.limits.w_least)) c.requires.batch.fits c.requires.batch.room in
+    let count = ap length c.requires.placed ∙ count_places h c.args.batch.now.survivors.now
+    (omega (arith, c.geometry-geometry.ensures.valid.limits.w_least)) c.requires.batch.fits c.requires.batch.room in
     let read = c.from-then-from-to.ensures ∙ size_read h c.args.batch.now.survivors.now c.args.batch.now.sizes.now (c.loop-to.to - 1) c.requires.batch.sizes (omega (arith, count, last.0)) in
     Running-end h c.args.batch.now.survivors.now c.args.places.now c.args.region c.args.from c.loop-to.to (before + c.from-then-from-to.result - c.start-start.result)
     (omega (arith, c.geometry-geometry.ensures.valid.limits.w_least))
