@@ -1,20 +1,28 @@
-//! What the programs have in common: their words, the values among them, the streams, and how a
-//! refusal is reported.
+//! What the programs have in common: their words, their commands as tables, the values among the words,
+//! the streams, and how a refusal is reported.
 //!
 //! 1. `words` gives the words behind a program's name, as text.
-//! 2. `number`, `region` and `regions` read the whole numbers among the values that clap found; a
-//!    `Misuse` is reported with the usage of its command.
-//! 3. `read_all` reads the whole input, `deliver` writes the whole answer; `deliver_text` writes one
+//! 2. A `Program` is a table of commands, and each command one of arguments. `match_words` gives what clap
+//!    finds in the words by such a table, and `find_command` the command in that.
+//! 3. `number`, `region` and `regions` read the whole numbers among the values that clap found, `cost_of`
+//!    the costs of a pause; a `Misuse` is reported with the usage of its command.
+//! 4. `read_all` reads the whole input, `deliver` writes the whole answer; `deliver_text` writes one
 //!    that a person reads, who may stop.
-//! 4. `refuse` reports a refusal, in one write, and gives its exit status.
+//! 5. `refuse` reports a refusal, in one write, and gives its exit status.
 #![tactic(auto)]
 
 mod arguments;
+mod costs;
 mod refusal;
 mod streams;
+mod table;
 mod values;
 
 pub use arguments::words;
+pub use costs::{BUDGET, BYTE, CARD, DIRTY, FIXED, cost_of};
 pub use refusal::{Refusal, refuse, status};
 pub use streams::{BROKEN_PIPE, LineReader, deliver, deliver_text, read_all};
-pub use values::{Argument, Misuse, explain, number, number_in, region, region_in, regions, whole};
+pub use table::{Argument, FILE, FLAG, Form, Program, Usage, VALUE, find_command, match_words};
+pub use values::{
+    Misuse, explain, number, number_in, region, region_in, regions, required_number, whole,
+};

@@ -1,29 +1,24 @@
 //! Whole numbers among the values that clap found.
 use crate::refusal::Refusal;
+use crate::table::{Argument, Program, Usage, build_command};
 use clap::error::ErrorKind;
 use clap::{ArgMatches, Command, Error};
 use g1_words::Fault;
 use std::alloc::{AllocError, AllocFailed, Global};
 
-/// An argument that takes whole numbers: its name for clap, how messages show it, and the range that
-/// they say.
-#[derive(Debug, Clone, Copy)]
-pub struct Argument {
-    pub id: &'static str,
-    pub shown: &'static str,
-    pub range: &'static str,
-}
-
 impl Argument {
-    /// A value that is no number of this argument's.
-    pub fn refuse(&self, alloc: Global, value: &str) -> Misuse {
-        let Argument { shown, range, .. } = *self;
-        match format!(in alloc;
+    /// What is wrong with a value that is no number of this argument's.
+    pub fn refuse(&self, alloc: Global, value: &str) -> Result<Misuse, AllocError> {
+        let (shown, range) = (self.shown(alloc)?, self.range);
+        Ok(Misuse::Value(format!(in alloc;
             "invalid value '{value}' for '{shown}': not a whole number ({range})"
-        ) {
-            Ok(message) => Misuse::Value(message),
-            Err(_) => Misuse::Memory,
-        }
+        )?))
+    }
+
+    /// What is wrong with a use of this argument without another one, which it needs.
+    pub fn needs(&self, alloc: Global, other: &Argument) -> Result<Misuse, AllocError> {
+        let (shown, other) = (self.shown(alloc)?, other.shown(alloc)?);
+        Ok(Misuse::Value(format!(in alloc; "'{shown}' needs '{other}'")?))
     }
 }
 
@@ -50,11 +45,11 @@ impl<T: Drop> From<AllocFailed<T>> for Misuse {
 
 impl Misuse {
     /// The refusal, with the usage of the command whose values these are.
-    pub fn refusal(self, alloc: Global, program: &str, command: Command<'_>) -> Refusal {
+    pub fn refusal(self, alloc: Global, program: &Program, usage: &Usage) -> Refusal {
         match self {
-            Misuse::Value(message) => match with_usage(alloc, program, command, message.as_str()) {
+            Misuse::Value(message) => match with_usage(alloc, program, usage, message.as_str()) {
                 Ok(text) => Refusal::usage(text),
-                Err(_) => Refusal::Fault(Fault::Memory),
+                Err(error) => error.into(),
             },
             Misuse::Memory => Refusal::Fault(Fault::Memory),
         }
@@ -63,13 +58,12 @@ impl Misuse {
 
 fn with_usage(
     alloc: Global,
-    program: &str,
-    command: Command<'_>,
+    program: &Program,
+    usage: &Usage,
     message: &str,
 ) -> Result<String, AllocError> {
-    let name = command.get_name();
-    let path = format!(in alloc; "{program} {name}")?;
-    let usage = usage_of(command, path.as_str())?;
+    let path = format!(in alloc; "{} {}", program.name, usage.name)?;
+    let usage = usage_of(build_command(alloc, usage)?, path.as_str())?;
     format!(in alloc; "error: {message}\n\n{usage}\n\nFor more information, try '{path} --help'.\n")
 }
 
@@ -111,11 +105,20 @@ pub fn number(
     }
 }
 
+/// The number of an argument that always has one, be it by default.
+pub fn required_number(
+    alloc: Global,
+    values: &ArgMatches<'_>,
+    argument: &Argument,
+) -> Result<u64, Misuse> {
+    Ok(number(alloc, values, argument)?.unwrap_or(0))
+}
+
 /// The number that a part of an argument's value is.
 pub fn number_in(alloc: Global, argument: &Argument, text: &str) -> Result<u64, Misuse> {
     match whole(text) {
         Some(number) => Ok(number),
-        None => Err(argument.refuse(alloc, text)),
+        None => Err(argument.refuse(alloc, text)?),
     }
 }
 
@@ -148,6 +151,6 @@ pub fn regions(
 pub fn region_in(alloc: Global, argument: &Argument, text: &str) -> Result<u32, Misuse> {
     match whole(text).map(u32::try_from) {
         Some(Ok(region)) => Ok(region),
-        _ => Err(argument.refuse(alloc, text)),
+        _ => Err(argument.refuse(alloc, text)?),
     }
 }

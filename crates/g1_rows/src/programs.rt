@@ -129,7 +129,8 @@ fn call<T: Threads + Files + Sync, R: Read>(
             input: is_at_terminal,
             output: is_at_terminal,
         };
-        g1heap_cli::program(rt, alloc, words, terminals, reader, &mut out, &mut errors)
+        let call = g1heap_cli::Call { words, terminals };
+        g1heap_cli::program(rt, alloc, call, reader, &mut out, &mut errors)
     };
     Ok(Left {
         status,

@@ -1,7 +1,7 @@
 //! The programs over streams in memory: streams that fail, bytes that are nearly an image, and sizes.
 use crate::expecting::expect_equal;
 use g1_testing::{Sketch, Stream, Trouble, pictures, text};
-use g1heap_cli::Terminals;
+use g1heap_cli::{Call, Terminals};
 use g1pause_cli::choice_lines;
 use std::alloc::{AllocError, Global};
 use std::io;
@@ -39,7 +39,11 @@ fn run<R: Read, W: Write>(
     let status = if line.starts_with("g1pause") {
         g1pause_cli::program(rt, alloc, words, reader, writer, &mut errors)
     } else {
-        g1heap_cli::program(rt, alloc, words, PIPES, reader, writer, &mut errors)
+        let call = Call {
+            words,
+            terminals: PIPES,
+        };
+        g1heap_cli::program(rt, alloc, call, reader, writer, &mut errors)
     };
     Ok((status, errors))
 }

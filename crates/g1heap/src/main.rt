@@ -3,7 +3,7 @@
 #![tactic(auto)]
 
 use g1_command::{refuse, words};
-use g1heap_cli::{NAME, Terminals, program};
+use g1heap_cli::{Call, NAME, Terminals, program};
 use std::io::IsTerminal;
 use std::process::ExitCode;
 
@@ -15,15 +15,13 @@ fn main(rt: HostRuntime) -> ExitCode {
         output: writer.is_terminal(),
     };
     let status = match words(&rt, alloc) {
-        Ok(words) => program(
-            &rt,
-            alloc,
-            words.as_slice(),
-            terminals,
-            &mut reader,
-            &mut writer,
-            &mut errors,
-        ),
+        Ok(words) => {
+            let call = Call {
+                words: words.as_slice(),
+                terminals,
+            };
+            program(&rt, alloc, call, &mut reader, &mut writer, &mut errors)
+        }
         Err(refusal) => refuse(NAME, &refusal, &mut errors),
     };
     ExitCode::from(status)

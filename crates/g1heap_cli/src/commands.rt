@@ -3,8 +3,8 @@ use crate::comparing::{Sides, difference_line, same_line, stale_line};
 use crate::explaining::{explain_object, explain_pause};
 use crate::files::{read_bytes, read_image, read_side};
 use crate::listing::all_lines;
-use crate::names::{Names, Wrong as WrongName};
-use crate::options::{NAME, Part, Request, Same, parse};
+use crate::names::Names;
+use crate::options::{Part, Request, Same, parse};
 use crate::output::{Output, write_file};
 use crate::reaching::{Path, first_stale};
 use crate::refusal::{no_object, no_region, not_for_lines, of_file, wrong_name};
@@ -13,13 +13,14 @@ use crate::stale::Stale;
 use crate::summary::summary;
 use crate::terminals::{Terminals, allow, announce};
 use crate::tracing::answer_trace;
+use crate::usage::NAME;
 use crate::young::with_dirty;
 use g1_choose::given;
 use g1_command::{Refusal, deliver, deliver_text, refuse};
 use g1_image::Image;
 use g1_kept::{Lost, kept};
 use g1_rem::verify;
-use g1_same::{Difference, Renaming, compare};
+use g1_same::{Difference, compare};
 use g1_text::{image_lines, is_graph, make, make_graph, object_line, region_lines};
 use g1_words::{Fault, Heap, Kind, object_at};
 use std::alloc::{AllocError, Global};
@@ -28,38 +29,43 @@ use std::rt::Files;
 use std::str;
 use std::thread::Threads;
 
-/// Runs the program on the words after its name, and gives its exit status: 0, 1 if two heaps
-/// differ, 141 if the reader of a text went away, or that of the refusal which is then reported on
-/// `errors`. Files and the reader are read when the words were found to be a request. The writer is
-/// written last, and not at all if there is a refusal, unless it was the writer that failed.
+/// A call of the program: the words after its name, and which of its streams are terminals.
+#[derive(Debug, Clone, Copy)]
+pub struct Call<'a> {
+    pub words: &'a [String],
+    pub terminals: Terminals,
+}
+
+/// Runs the program, and gives its exit status: 0, 1 if two heaps differ, 141 if the reader of a text
+/// went away, or that of the refusal which is then reported on `errors`. Files and the reader are read
+/// when the words were found to be a request. The writer is written last, and not at all if there is a
+/// refusal, unless it was the writer that failed.
 pub fn program<T: Threads + Sync + Files, R: Read, W: Write, E: Write>(
     rt: &T,
     alloc: Global,
-    words: &[String],
-    terminals: Terminals,
+    call: Call<'_>,
     reader: &mut R,
     writer: &mut W,
     errors: &mut E,
 ) -> u8 {
-    match perform(rt, alloc, words, terminals, reader, writer, errors) {
+    let outcome = match read_call(alloc, call) {
+        Ok(request) => {
+            announce(call.terminals, &request, errors);
+            answer(rt, alloc, &request, reader, writer)
+        }
+        Err(refusal) => Err(refusal),
+    };
+    match outcome {
         Ok(status) => status,
         Err(refusal) => refuse(NAME, &refusal, errors),
     }
 }
 
-fn perform<T: Threads + Sync + Files, R: Read, W: Write, E: Write>(
-    rt: &T,
-    alloc: Global,
-    words: &[String],
-    terminals: Terminals,
-    reader: &mut R,
-    writer: &mut W,
-    errors: &mut E,
-) -> Result<u8, Refusal> {
-    let request = parse(alloc, words)?;
-    allow(alloc, terminals, &request)?;
-    announce(terminals, &request, errors);
-    answer(rt, alloc, &request, reader, writer)
+// What a call asks for, if it may.
+fn read_call(alloc: Global, call: Call<'_>) -> Result<Request, Refusal> {
+    let request = parse(alloc, call.words)?;
+    allow(alloc, call.terminals, &request)?;
+    Ok(request)
 }
 
 // Does what is asked, and returns the status.
@@ -72,7 +78,10 @@ fn answer<T: Threads + Sync + Files, R: Read, W: Write>(
 ) -> Result<u8, Refusal> {
     match request {
         Request::Help(text) => Ok(deliver_text(0, text.as_bytes(), writer)?),
-        Request::Same(same) => answer_same(rt, alloc, same, reader, writer),
+        Request::Same(same) => {
+            let (status, text) = compare_files(rt, alloc, same, reader)?;
+            Ok(deliver_text(status, text.as_bytes(), writer)?)
+        }
         Request::Print {
             image,
             part,
@@ -130,19 +139,8 @@ fn hand_over<T: Files, W: Write>(
     Ok(0)
 }
 
-// Reports whether two images show the same. The status is 1 if they differ.
-fn answer_same<T: Threads + Sync + Files, R: Read, W: Write>(
-    rt: &T,
-    alloc: Global,
-    same: &Same,
-    reader: &mut R,
-    writer: &mut W,
-) -> Result<u8, Refusal> {
-    let (status, text) = same_answer(rt, alloc, same, reader)?;
-    Ok(deliver_text(status, text.as_bytes(), writer)?)
-}
-
-fn same_answer<T: Threads + Sync + Files, R: Read>(
+// The status and the lines for two files. The status is 1 if they differ.
+fn compare_files<T: Threads + Sync + Files, R: Read>(
     rt: &T,
     alloc: Global,
     same: &Same,
@@ -155,11 +153,11 @@ fn same_answer<T: Threads + Sync + Files, R: Read>(
     let after = open(alloc, same.after.as_str(), found, lines.as_slice())?;
     check_asked(alloc, same, &before, &after)?;
     match &same.names {
-        None => same_sides(rt, alloc, same, None, &before, after),
+        None => compare_sides(rt, alloc, same, None, &before, after),
         Some(name) => {
             let text = read_bytes(rt, alloc, name.as_str(), reader)?;
             let names = names_in(alloc, name.as_str(), text.as_slice())?;
-            same_sides(rt, alloc, same, Some(&names), &before, after)
+            compare_sides(rt, alloc, same, Some(&names), &before, after)
         }
     }
 }
@@ -184,18 +182,14 @@ fn check_asked(
     Ok(())
 }
 
-fn names_in<'a>(alloc: Global, name: &str, text: &'a [u8]) -> Result<Names<'a>, Refusal> {
-    let Ok(text) = str::from_utf8(text) else {
-        return Err(wrong_name(alloc, name, 1, "text in UTF-8"));
-    };
-    match Names::read(alloc, text) {
-        Ok(names) => Ok(names),
-        Err(WrongName::Line(number, expected)) => Err(wrong_name(alloc, name, number, expected)),
-        Err(WrongName::Memory) => Err(Fault::Memory.into()),
+fn names_in<'a>(alloc: Global, file: &str, text: &'a [u8]) -> Result<Names<'a>, Refusal> {
+    match str::from_utf8(text) {
+        Ok(text) => Names::read(alloc, file, text),
+        Err(_) => Err(wrong_name(alloc, file, 1, "text in UTF-8")),
     }
 }
 
-fn same_sides<T: Threads + Sync>(
+fn compare_sides<T: Threads + Sync>(
     rt: &T,
     alloc: Global,
     same: &Same,
@@ -203,7 +197,11 @@ fn same_sides<T: Threads + Sync>(
     before: &Side<'_>,
     after: Side<'_>,
 ) -> Result<(u8, String), Refusal> {
-    let (status, text) = compare_sides(alloc, same, names, before, &after)?;
+    let sides = sides_of(names, before, &after);
+    let (status, text) = match &after.stale {
+        None => compare_heaps(alloc, same, sides)?,
+        Some(strays) => compare_stale(alloc, same, sides, strays)?,
+    };
     if status == 0 && same.covered {
         let Side { image, .. } = after;
         let image = with_young(alloc, same, image)?;
@@ -213,25 +211,17 @@ fn same_sides<T: Threads + Sync>(
     }
 }
 
-fn compare_sides<'x>(
-    alloc: Global,
-    same: &Same,
+fn sides_of<'x>(
     names: Option<&'x Names<'x>>,
     before: &'x Side<'x>,
     after: &'x Side<'x>,
-) -> Result<(u8, String), Refusal> {
-    let labels = [labels_of(before), labels_of(after)];
-    let stale_names = stale_names_of(after);
-    let sides = Sides {
+) -> Sides<'x> {
+    Sides {
         before: before.image.heap(),
         after: after.image.heap(),
         names,
-        labels,
-        stale_names,
-    };
-    match &after.stale {
-        None => compare_heaps(alloc, same, sides),
-        Some(strays) => compare_stale(alloc, same, sides, strays),
+        labels: [labels_of(before), labels_of(after)],
+        stale_names: stale_names_of(after),
     }
 }
 
@@ -268,7 +258,11 @@ pub fn compare_images<'x>(
 
 fn compare_heaps(alloc: Global, same: &Same, sides: Sides<'_>) -> Result<(u8, String), Refusal> {
     match &compare(alloc, sides.before, sides.after) {
-        Ok(Ok(renaming)) => same_text(alloc, same, sides.before, sides.after, renaming),
+        Ok(Ok(renaming)) => {
+            let mut text = same_line(alloc, sides.before, renaming)?;
+            let status = push_kept(alloc, same, sides, &mut text)?;
+            Ok((status, text))
+        }
         Ok(Err(difference)) => {
             let line = difference_line(alloc, sides, difference)?;
             Ok((1, with_all(alloc, same, sides, None, line)?))
@@ -322,30 +316,17 @@ fn with_all(
     }
 }
 
-fn same_text(
-    alloc: Global,
-    same: &Same,
-    old: &Heap,
-    new: &Heap,
-    renaming: &Renaming,
-) -> Result<(u8, String), Refusal> {
-    let mut text = same_line(alloc, old, renaming)?;
-    let status = push_kept(alloc, same, old, new, &mut text)?;
-    Ok((status, text))
-}
-
 // What a pause of the set keeps, if a set is given. If something is lost, only that is reported.
 fn push_kept(
     alloc: Global,
     same: &Same,
-    old: &Heap,
-    new: &Heap,
+    sides: Sides<'_>,
     text: &mut String,
 ) -> Result<u8, Refusal> {
     if same.set.is_empty() {
         return Ok(0);
     }
-    match lost(alloc, same, old, new)? {
+    match lost(alloc, same, sides.before, sides.after)? {
         None => {
             text.push_str("kept\n")?;
             Ok(0)

@@ -28,6 +28,7 @@ mod tracing;
 mod usage;
 mod young;
 
-pub use commands::{compare_images, program};
-pub use options::{NAME, Same};
+pub use commands::{Call, compare_images, program};
+pub use options::Same;
 pub use terminals::Terminals;
+pub use usage::NAME;

@@ -1,6 +1,7 @@
 //! What a program calls its roots, its objects and the words in them.
-use g1_command::whole;
-use std::alloc::{AllocError, AllocFailed, Global};
+use crate::refusal::wrong_name;
+use g1_command::{Refusal, whole};
+use std::alloc::{AllocError, Global};
 
 /// The names in a text of lines:
 ///
@@ -35,28 +36,9 @@ pub struct Word<'a> {
     pub number: Option<u64>,
 }
 
-/// Why a text has no names.
-#[derive(Clone, Copy)]
-pub enum Wrong {
-    /// What is expected in the line of this number, from 1.
-    Line(u64, &'static str),
-    Memory,
-}
-
-impl From<AllocError> for Wrong {
-    fn from(_error: AllocError) -> Wrong {
-        Wrong::Memory
-    }
-}
-
-impl<T: Drop> From<AllocFailed<T>> for Wrong {
-    fn from(_error: AllocFailed<T>) -> Wrong {
-        Wrong::Memory
-    }
-}
-
 impl<'a> Names<'a> {
-    pub fn read(alloc: Global, text: &'a str) -> Result<Names<'a>, Wrong> {
+    /// The names in the text of the file of this name.
+    pub fn read(alloc: Global, file: &str, text: &'a str) -> Result<Names<'a>, Refusal> {
         let mut names = Names {
             roots: Vec::new(alloc),
             types: Vec::new(alloc),
@@ -71,7 +53,7 @@ impl<'a> Names<'a> {
                 .split_ascii_whitespace()
                 .collect::<Vec<&'a str>>(alloc)?;
             if let Some(expected) = names.add(alloc, words.as_slice())? {
-                return Err(Wrong::Line(number, expected));
+                return Err(wrong_name(alloc, file, number, expected));
             }
         }
         names.objects.sort_unstable();

@@ -91,7 +91,7 @@ fn push_part(
         Some((first, last)) => {
             let (first, last) = (region_in(alloc, set, first)?, region_in(alloc, set, last)?);
             if last < first || last - first >= MOST {
-                return Err(no_range(alloc, set, part));
+                return Err(no_range(alloc, set, part)?);
             }
             push_range(first, last, regions)?;
         }
@@ -109,12 +109,9 @@ fn push_range(first: u32, last: u32, regions: &mut Vec<u32>) -> Result<(), Alloc
     Ok(())
 }
 
-fn no_range(alloc: Global, set: &Argument, part: &str) -> Misuse {
-    let shown = set.shown;
-    match format!(in alloc;
+fn no_range(alloc: Global, set: &Argument, part: &str) -> Result<Misuse, AllocError> {
+    let shown = set.shown(alloc)?;
+    Ok(Misuse::Value(format!(in alloc;
         "invalid value '{part}' for '{shown}': a range rises, over at most {MOST} regions"
-    ) {
-        Ok(message) => Misuse::Value(message),
-        Err(error) => error.into(),
-    }
+    )?))
 }

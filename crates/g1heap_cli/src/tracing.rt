@@ -21,6 +21,15 @@ const WORKERS: u64 = 1;
 
 const CHUNK: u64 = 64;
 
+// A trace to answer, and what its commands are answered with.
+#[derive(Drop)]
+struct Job<'a, T> {
+    rt: &'a T,
+    alloc: Global,
+    trace: &'a Trace,
+    settings: Settings,
+}
+
 // What is answered and not written yet.
 #[derive(Drop)]
 struct Unwritten {
@@ -38,13 +47,18 @@ pub fn answer_trace<T: Threads + Sync + Files, R: Read, W: Write>(
     reader: &mut R,
     writer: &mut W,
 ) -> Result<u8, Refusal> {
-    let settings = settings_with(trace, 0)?;
+    let job = Job {
+        rt,
+        alloc,
+        trace,
+        settings: settings_with(trace, 0)?,
+    };
     let name = trace.name.as_str();
     if name == STANDARD_STREAM {
-        return answer_lines(rt, alloc, trace, &settings, reader, writer);
+        return answer_lines(&job, reader, writer);
     }
     let mut file = open_file(rt, alloc, name)?;
-    answer_lines(rt, alloc, trace, &settings, &mut file, writer)
+    answer_lines(&job, &mut file, writer)
 }
 
 fn settings_with(trace: &Trace, budget: u64) -> Result<Settings, Fault> {
@@ -52,13 +66,11 @@ fn settings_with(trace: &Trace, budget: u64) -> Result<Settings, Fault> {
 }
 
 fn answer_lines<T: Threads + Sync + Files, R: Read, W: Write>(
-    rt: &T,
-    alloc: Global,
-    trace: &Trace,
-    settings: &Settings,
+    job: &Job<'_, T>,
     reader: &mut R,
     writer: &mut W,
 ) -> Result<u8, Refusal> {
+    let (alloc, trace) = (job.alloc, job.trace);
     let mut lines = LineReader::new(alloc, reader)?;
     let mut session = Session::new();
     let mut unwritten = Unwritten {
@@ -73,38 +85,26 @@ fn answer_lines<T: Threads + Sync + Files, R: Read, W: Write>(
             break;
         }
         number = number.saturating_add(1);
-        let bytes = line.as_slice();
-        session = take_line(
-            rt,
-            alloc,
-            trace,
-            settings,
-            session,
-            bytes,
-            number,
-            &mut unwritten,
-        )?;
+        session = take_line(job, session, line.as_slice(), number, &mut unwritten)?;
         if trace.live {
-            let status = write_all(rt, alloc, trace, &mut unwritten, writer)?;
+            let status = write_all(job, &mut unwritten, writer)?;
             if status != 0 {
                 return Ok(status);
             }
         }
     }
     check_end(alloc, trace, &session, number)?;
-    write_all(rt, alloc, trace, &mut unwritten, writer)
+    write_all(job, &mut unwritten, writer)
 }
 
 // Writes what is not written yet, the image first, and gives the status.
 fn write_all<T: Files, W: Write>(
-    rt: &T,
-    alloc: Global,
-    trace: &Trace,
+    job: &Job<'_, T>,
     unwritten: &mut Unwritten,
     writer: &mut W,
 ) -> Result<u8, Refusal> {
-    if let (Some(wanted), Some(bytes)) = (&trace.image, unwritten.image.take()) {
-        write_file(rt, alloc, wanted.file.as_str(), bytes.as_slice())?;
+    if let (Some(wanted), Some(bytes)) = (&job.trace.image, unwritten.image.take()) {
+        write_file(job.rt, job.alloc, wanted.file.as_str(), bytes.as_slice())?;
     }
     let status = deliver_text(0, unwritten.replies.as_slice(), writer)?;
     unwritten.replies.clear();
@@ -126,15 +126,13 @@ fn read_line<R: Read>(
 
 // Does a line, and adds what it is answered to what is not written yet.
 fn take_line<T: Threads + Sync + Files>(
-    rt: &T,
-    alloc: Global,
-    trace: &Trace,
-    settings: &Settings,
+    job: &Job<'_, T>,
     session: Session,
     line: &[u8],
     number: u64,
     unwritten: &mut Unwritten,
 ) -> Result<Session, Refusal> {
+    let (rt, alloc, trace) = (job.rt, job.alloc, job.trace);
     if number == 1 && is_image(line) {
         return Err(image_for_trace(alloc, trace.name.as_str()));
     }
@@ -142,9 +140,9 @@ fn take_line<T: Threads + Sync + Files>(
         return Err(wrong(alloc, trace, number, Expected::End));
     };
     if trace.explain {
-        push_explanation(rt, alloc, trace, &session, content, &mut unwritten.replies)?;
+        push_explanation(job, &session, content, &mut unwritten.replies)?;
     }
-    let (session, outcome) = session.take(rt, alloc, content, settings);
+    let (session, outcome) = session.take(rt, alloc, content, &job.settings);
     match outcome {
         Ok(Answer::Nothing) => Ok(session),
         Ok(Answer::Reply(reply)) => {
@@ -179,13 +177,12 @@ fn push_numbered(
 
 // The lines of the pause that a line asks for, on a copy of the heap.
 fn push_explanation<T: Threads + Sync>(
-    rt: &T,
-    alloc: Global,
-    trace: &Trace,
+    job: &Job<'_, T>,
     session: &Session,
     line: &[u8],
     replies: &mut Vec<u8>,
 ) -> Result<(), Refusal> {
+    let (rt, alloc, trace) = (job.rt, job.alloc, job.trace);
     let (Some(budget), Some(image)) = (session.budget(line), session.image()) else {
         return Ok(());
     };

@@ -1,4 +1,6 @@
 //! The commands and their arguments, and what help says of them.
+use crate::files::STANDARD_STREAM;
+use g1_command::{Argument, BYTE, CARD, DIRTY, FILE, FIXED, FLAG, Form, Program, Usage, VALUE};
 
 // The end of each command's help.
 const AFTER_SAME: &str = "\
@@ -74,7 +76,7 @@ Statuses:
 
 Example: g1heap trace --live < TRACE";
 
-pub const AFTER_ALL: &str = "\
+const AFTER_ALL: &str = "\
 Statuses:
   0  done
   1  two images differ
@@ -89,291 +91,249 @@ Statuses:
 
 Example: g1heap print < IMAGE";
 
-/// A command: its name, and what its help says before and after its arguments.
-pub struct Usage {
-    pub name: &'static str,
-    pub about: &'static str,
-    pub after_help: &'static str,
-}
+/// The program's name.
+pub const NAME: &str = "g1heap";
 
-pub static SAME_USAGE: Usage = Usage {
+/// The program and its commands.
+pub static PROGRAM: Program = Program {
+    name: NAME,
+    version: "1.0.0",
+    about: "Compares, prints and makes heap images, explains pauses and answers traces",
+    after_help: AFTER_ALL,
+    commands: &[SAME, PRINT, MAKE, EXPLAIN, WHY, TRACE],
+};
+
+const SAME: Usage = Usage {
     name: "same",
     about: "Reports whether two images show the same graph from their roots, or where they differ",
     after_help: AFTER_SAME,
+    arguments: &[BEFORE, AFTER, COVERED, KEPT_SET, FILL, YOUNG, NAMES, ALL],
 };
 
-pub static PRINT_USAGE: Usage = Usage {
+const PRINT: Usage = Usage {
     name: "print",
     about: "Prints an image as lines",
     after_help: AFTER_PRINT,
+    arguments: &[IMAGE_OR_INPUT, REGION, OBJECT, SUMMARY, OUTPUT],
 };
 
-pub static MAKE_USAGE: Usage = Usage {
+const MAKE: Usage = Usage {
     name: "make",
     about: "Writes the image that lines describe",
     after_help: AFTER_MAKE,
+    arguments: &[LINES, OUTPUT],
 };
 
-pub static EXPLAIN_USAGE: Usage = Usage {
+const EXPLAIN: Usage = Usage {
     name: "explain",
     about: "Reports what a pause of an image does, one fact a line",
     after_help: AFTER_EXPLAIN,
+    arguments: &[
+        IMAGE_OR_INPUT,
+        BUDGET,
+        SET,
+        FIXED,
+        DIRTY,
+        CARD,
+        BYTE,
+        MAP,
+        OUTPUT,
+    ],
 };
 
-pub static WHY_USAGE: Usage = Usage {
+const WHY: Usage = Usage {
     name: "why",
     about: "Reports what keeps an object: the shortest path from a root, or a card",
     after_help: AFTER_WHY,
+    arguments: &[IMAGE, ADDRESS],
 };
 
-pub static TRACE_USAGE: Usage = Usage {
+const TRACE: Usage = Usage {
     name: "trace",
     about: "Answers a trace, each line at once if asked to",
     after_help: AFTER_TRACE,
+    arguments: &[
+        TRACED,
+        LIVE,
+        NUMBERED,
+        EXPLAINED,
+        IMAGE_AFTER,
+        FIXED,
+        DIRTY,
+        CARD,
+        BYTE,
+    ],
 };
 
-/// How an argument is given.
-#[derive(Clone, Copy)]
-pub enum Form {
-    /// By its place.
-    File,
-    /// By its place, or not at all, which means standard input.
-    FileOrNone,
-    /// By its name alone.
-    Flag,
-    /// By its name and a value.
-    Value,
-    /// By its name and a value, or not at all, which means this value.
-    ValueOrDefault(&'static str),
-    /// By its name and a value, if the option `region` isn't.
-    ValueWithoutRegion,
-    /// By its name and a value, if the option `set` isn't.
-    ValueWithoutSet,
-    /// By its name alone, if no part is asked for.
-    FlagWithoutPart,
-    /// By its name, or by its first letter, and a value.
-    Output,
-    /// By its name and one value or more.
-    Values,
-    /// By its name and two values.
-    Pair,
-}
-
-/// What help calls the two values of a pair.
-pub static PAIR: [&str; 2] = ["N", "FILE"];
-
-/// An argument of a command: its name, what help calls its value, and what help says of it.
-pub struct Row {
-    pub id: &'static str,
-    pub value: &'static str,
-    pub help: &'static str,
-    pub form: Form,
-}
-
-pub static SAME_ROWS: [Row; 8] = [
-    Row {
-        id: "before",
-        value: "BEFORE",
-        help: "An image or lines of objects by name, or - for standard input",
-        form: Form::File,
-    },
-    Row {
-        id: "after",
-        value: "AFTER",
-        help: "Another one, or -",
-        form: Form::File,
-    },
-    Row {
-        id: "covered",
-        value: "",
-        help: "Also asks that every reference of AFTER into another region is covered",
-        form: Form::Flag,
-    },
-    Row {
-        id: "set",
-        value: "REGION",
-        help: "Also asks that AFTER keeps all that a pause of these regions keeps, as in 1,2,5-9",
-        form: Form::Values,
-    },
-    Row {
-        id: "fill",
-        value: "",
-        help: "With --set: copies may also be behind the old tops of ordinary regions",
-        form: Form::Flag,
-    },
-    Row {
-        id: "young",
-        value: "REGIONS",
-        help: "With --covered: slots in these regions need no cover, as in 1,2,5-9",
-        form: Form::Value,
-    },
-    Row {
-        id: "names",
-        value: "MAP",
-        help: "Reports a difference in the names of this file, which has lines of BEFORE's objects",
-        form: Form::Value,
-    },
-    Row {
-        id: "all",
-        value: "N",
-        help: "Also lists the first N differences, and counts all that a walk of both heaps finds",
-        form: Form::Value,
-    },
-];
-
-pub static PRINT_ROWS: [Row; 5] = [
-    Row {
-        id: "image",
-        value: "IMAGE",
-        help: "An image, or - for standard input",
-        form: Form::FileOrNone,
-    },
-    Row {
-        id: "region",
-        value: "R",
-        help: "Only the lines of this region",
-        form: Form::Value,
-    },
-    Row {
-        id: "object",
-        value: "A",
-        help: "Only the line of the object at this address",
-        form: Form::ValueWithoutRegion,
-    },
-    Row {
-        id: "summary",
-        value: "",
-        help: "Only how many regions, words, cards and roots there are",
-        form: Form::FlagWithoutPart,
-    },
-    OUTPUT_ROW,
-];
-
-pub static MAKE_ROWS: [Row; 2] = [
-    Row {
-        id: "lines",
-        value: "LINES",
-        help: "The lines, or - for standard input",
-        form: Form::FileOrNone,
-    },
-    OUTPUT_ROW,
-];
-
-pub static EXPLAIN_ROWS: [Row; 9] = [
-    Row {
-        id: "image",
-        value: "IMAGE",
-        help: "An image, or - for standard input",
-        form: Form::FileOrNone,
-    },
-    Row {
-        id: "budget",
-        value: "N",
-        help: "What the pause may cost in all",
-        form: Form::ValueWithoutSet,
-    },
-    Row {
-        id: "set",
-        value: "REGION",
-        help: "The regions to collect, as in 1,2,5-9",
-        form: Form::Values,
-    },
-    FIXED_ROW,
-    DIRTY_ROW,
-    CARD_ROW,
-    BYTE_ROW,
-    Row {
-        id: "map",
-        value: "",
-        help: "Only a line OLD NEW SIZE for each survivor",
-        form: Form::Flag,
-    },
-    OUTPUT_ROW,
-];
-
-pub static TRACE_ROWS: [Row; 9] = [
-    Row {
-        id: "trace",
-        value: "TRACE",
-        help: "A trace, or - for standard input",
-        form: Form::FileOrNone,
-    },
-    Row {
-        id: "live",
-        value: "",
-        help: "Writes each reply as soon as its line is there",
-        form: Form::Flag,
-    },
-    Row {
-        id: "numbered",
-        value: "",
-        help: "Puts the number of its command before each reply",
-        form: Form::Flag,
-    },
-    Row {
-        id: "explain",
-        value: "",
-        help: "Puts the lines of each pause before its reply",
-        form: Form::Flag,
-    },
-    Row {
-        id: "image",
-        value: "",
-        help: "Also writes the image after command N to this file",
-        form: Form::Pair,
-    },
-    FIXED_ROW,
-    DIRTY_ROW,
-    CARD_ROW,
-    BYTE_ROW,
-];
-
-pub static WHY_ROWS: [Row; 2] = [
-    Row {
-        id: "image",
-        value: "IMAGE",
-        help: "An image, or - for standard input",
-        form: Form::File,
-    },
-    Row {
-        id: "address",
-        value: "A",
-        help: "The address of an object",
-        form: Form::File,
-    },
-];
-
-const FIXED_ROW: Row = Row {
-    id: "fixed",
-    value: "N",
-    help: "What a pause costs in any case",
-    form: Form::ValueOrDefault("0"),
+pub const BEFORE: Argument = Argument {
+    id: "before",
+    values: &["BEFORE"],
+    help: "An image or lines of objects by name, or - for standard input",
+    ..FILE
 };
 
-const DIRTY_ROW: Row = Row {
-    id: "dirty",
-    value: "N",
-    help: "What a dirty card costs",
-    form: Form::ValueOrDefault("1"),
+pub const AFTER: Argument = Argument {
+    id: "after",
+    values: &["AFTER"],
+    help: "Another one, or -",
+    ..FILE
 };
 
-const CARD_ROW: Row = Row {
-    id: "card",
-    value: "N",
-    help: "What a remembered card costs",
-    form: Form::ValueOrDefault("1"),
+pub const COVERED: Argument = Argument {
+    id: "covered",
+    help: "Also asks that every reference of AFTER into another region is covered",
+    ..FLAG
 };
 
-const BYTE_ROW: Row = Row {
-    id: "byte",
-    value: "N",
-    help: "What a live byte costs",
-    form: Form::ValueOrDefault("1"),
+// What messages say of numbers.
+const REGION_RANGE: &str = "a region's number, below 4294967296";
+
+const KEPT_SET: Argument = Argument {
+    help: "Also asks that AFTER keeps all that a pause of these regions keeps, as in 1,2,5-9",
+    ..SET
 };
 
-const OUTPUT_ROW: Row = Row {
+pub const FILL: Argument = Argument {
+    id: "fill",
+    help: "With --set: copies may also be behind the old tops of ordinary regions",
+    ..FLAG
+};
+
+pub const YOUNG: Argument = Argument {
+    id: "young",
+    values: &["REGIONS"],
+    help: "With --covered: slots in these regions need no cover, as in 1,2,5-9",
+    range: REGION_RANGE,
+    ..VALUE
+};
+
+pub const NAMES: Argument = Argument {
+    id: "names",
+    values: &["MAP"],
+    help: "Reports a difference in the names of this file, which has lines of BEFORE's objects",
+    ..VALUE
+};
+
+pub const ALL: Argument = Argument {
+    id: "all",
+    help: "Also lists the first N differences, and counts all that a walk of both heaps finds",
+    range: "at least 1",
+    ..VALUE
+};
+
+pub const IMAGE: Argument = Argument {
+    id: "image",
+    values: &["IMAGE"],
+    help: "An image, or - for standard input",
+    ..FILE
+};
+
+const IMAGE_OR_INPUT: Argument = Argument {
+    form: Form::PlaceOr(STANDARD_STREAM),
+    ..IMAGE
+};
+
+pub const REGION: Argument = Argument {
+    id: "region",
+    values: &["R"],
+    help: "Only the lines of this region",
+    range: REGION_RANGE,
+    ..VALUE
+};
+
+const ADDRESS_RANGE: &str = "an address, below 18446744073709551616";
+
+pub const OBJECT: Argument = Argument {
+    id: "object",
+    values: &["A"],
+    help: "Only the line of the object at this address",
+    range: ADDRESS_RANGE,
+    conflicts: &["region"],
+    ..VALUE
+};
+
+pub const SUMMARY: Argument = Argument {
+    id: "summary",
+    help: "Only how many regions, words, cards and roots there are",
+    conflicts: &["region", "object"],
+    ..FLAG
+};
+
+pub const LINES: Argument = Argument {
+    id: "lines",
+    form: Form::PlaceOr(STANDARD_STREAM),
+    values: &["LINES"],
+    help: "The lines, or - for standard input",
+    ..FILE
+};
+
+pub const OUTPUT: Argument = Argument {
     id: "output",
-    value: "FILE",
+    form: Form::ValueByLetter('o'),
+    values: &["FILE"],
     help: "Writes this file, once the answer is whole, or - for standard output",
-    form: Form::Output,
+    ..VALUE
+};
+
+pub const BUDGET: Argument = Argument {
+    conflicts: &["set"],
+    ..g1_command::BUDGET
+};
+
+pub const SET: Argument = Argument {
+    id: "set",
+    form: Form::ManyValues,
+    values: &["REGION"],
+    help: "The regions to collect, as in 1,2,5-9",
+    range: REGION_RANGE,
+    ..VALUE
+};
+
+pub const MAP: Argument = Argument {
+    id: "map",
+    help: "Only a line OLD NEW SIZE for each survivor",
+    ..FLAG
+};
+
+pub const ADDRESS: Argument = Argument {
+    id: "address",
+    form: Form::Place,
+    values: &["A"],
+    help: "The address of an object",
+    range: ADDRESS_RANGE,
+    ..VALUE
+};
+
+pub const TRACED: Argument = Argument {
+    id: "trace",
+    form: Form::PlaceOr(STANDARD_STREAM),
+    values: &["TRACE"],
+    help: "A trace, or - for standard input",
+    ..FILE
+};
+
+pub const LIVE: Argument = Argument {
+    id: "live",
+    help: "Writes each reply as soon as its line is there",
+    ..FLAG
+};
+
+pub const NUMBERED: Argument = Argument {
+    id: "numbered",
+    help: "Puts the number of its command before each reply",
+    ..FLAG
+};
+
+pub const EXPLAINED: Argument = Argument {
+    id: "explain",
+    help: "Puts the lines of each pause before its reply",
+    ..FLAG
+};
+
+pub const IMAGE_AFTER: Argument = Argument {
+    id: "image",
+    values: &["N", "FILE"],
+    help: "Also writes the image after command N to this file",
+    range: "below 18446744073709551616",
+    ..VALUE
 };

@@ -1,7 +1,8 @@
 //! What the program does with a request.
 use crate::listing::{candidates, live_lines};
-use crate::options::{NAME, Pause, Question, Request, Sharing, parse};
+use crate::options::{Pause, Question, Request, Sharing, parse};
 use crate::show::table;
+use crate::usage::NAME;
 use g1_choose::Cost;
 use g1_command::{Refusal, deliver, read_all, refuse};
 use g1_image::{FromReader, Image, ToWriter, read_by, write};
@@ -81,7 +82,7 @@ fn compute_answer<T: Threads + Sync, R: Read>(
     let settings = question_settings(question)?;
     match question {
         Question::Show(_) => show(rt, alloc, &settings, reader),
-        Question::Live(_) => live(rt, alloc, &settings, reader),
+        Question::Live(_) => list_live(rt, alloc, &settings, reader),
         Question::Choose { budget, .. } => choose(rt, alloc, &settings, budget, reader),
         Question::Run { .. } => run(rt, alloc, &settings, reader),
     }
@@ -178,7 +179,7 @@ fn check<T: Threads + Sync, R: Read, W: Write>(
     deliver(b"covered\n", writer)
 }
 
-fn live<T: Threads + Sync, R: Read>(
+fn list_live<T: Threads + Sync, R: Read>(
     rt: &T,
     alloc: Global,
     settings: &Settings,

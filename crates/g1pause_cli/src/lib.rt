@@ -11,7 +11,8 @@ mod commands;
 mod listing;
 mod options;
 mod show;
+mod usage;
 
 pub use commands::program;
 pub use listing::choice_lines;
-pub use options::NAME;
+pub use usage::NAME;

@@ -1,0 +1,59 @@
+//! The options of a pause that both programs have: its budget, and what costs how much.
+use crate::table::{Argument, Form, VALUE};
+use crate::values::{Misuse, required_number};
+use clap::ArgMatches;
+use g1_choose::Cost;
+use std::alloc::Global;
+
+/// What a pause may cost.
+pub const BUDGET: Argument = Argument {
+    id: "budget",
+    help: "What the pause may cost in all",
+    range: "below 18446744073709551616",
+    ..VALUE
+};
+
+const COST: Argument = Argument {
+    form: Form::ValueOr("1"),
+    range: "below 4294967296",
+    ..VALUE
+};
+
+/// The cost of each pause.
+pub const FIXED: Argument = Argument {
+    id: "fixed",
+    form: Form::ValueOr("0"),
+    help: "What a pause costs in any case",
+    ..COST
+};
+
+/// The cost of a dirty card.
+pub const DIRTY: Argument = Argument {
+    id: "dirty",
+    help: "What a dirty card costs",
+    ..COST
+};
+
+/// The cost of a remembered card.
+pub const CARD: Argument = Argument {
+    id: "card",
+    help: "What a remembered card costs",
+    ..COST
+};
+
+/// The cost of a live byte.
+pub const BYTE: Argument = Argument {
+    id: "byte",
+    help: "What a live byte costs",
+    ..COST
+};
+
+/// The costs that `FIXED`, `DIRTY`, `CARD` and `BYTE` give.
+pub fn cost_of(alloc: Global, values: &ArgMatches<'_>) -> Result<Cost, Misuse> {
+    Ok(Cost {
+        fixed: required_number(alloc, values, &FIXED)?,
+        dirty: required_number(alloc, values, &DIRTY)?,
+        card: required_number(alloc, values, &CARD)?,
+        byte: required_number(alloc, values, &BYTE)?,
+    })
+}

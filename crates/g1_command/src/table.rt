@@ -1,0 +1,197 @@
+//! A program's commands as a table, and what clap makes of it.
+use crate::refusal::Refusal;
+use clap::{Arg, ArgAction, ArgMatches, Command, Error};
+use std::alloc::{AllocError, Global};
+
+/// A program: its name, its version, what its help says before and after its commands, and these.
+#[derive(Debug, Clone, Copy)]
+pub struct Program {
+    pub name: &'static str,
+    pub version: &'static str,
+    pub about: &'static str,
+    pub after_help: &'static str,
+    pub commands: &'static [Usage],
+}
+
+/// A command: its name, what its help says before and after its arguments, and these.
+#[derive(Debug, Clone, Copy)]
+pub struct Usage {
+    pub name: &'static str,
+    pub about: &'static str,
+    pub after_help: &'static str,
+    pub arguments: &'static [Argument],
+}
+
+/// An argument of a command. Most are written as `FLAG`, `VALUE` or `FILE` with a few fields of their own.
+#[derive(Debug, Clone, Copy)]
+pub struct Argument {
+    /// Its name for clap. An option is given by it.
+    pub id: &'static str,
+    pub form: Form,
+    /// What help and messages call its values, one after the other.
+    pub values: &'static [&'static str],
+    pub help: &'static str,
+    /// The range that messages say, if its values are whole numbers.
+    pub range: &'static str,
+    /// The arguments beside which it cannot be given.
+    pub conflicts: &'static [&'static str],
+}
+
+/// How an argument is given.
+#[derive(Debug, Clone, Copy, PartialEq, Eq)]
+pub enum Form {
+    /// By its name alone.
+    Flag,
+    /// By its name and its values, or not at all.
+    Value,
+    /// By its name and a value.
+    NeededValue,
+    /// By its name and a value, or not at all, which means this value.
+    ValueOr(&'static str),
+    /// By its name, or by this letter, and a value, or not at all.
+    ValueByLetter(char),
+    /// By its name and one value or more, or not at all.
+    ManyValues,
+    /// By its place.
+    Place,
+    /// By its place, or not at all, which means this value.
+    PlaceOr(&'static str),
+    /// By its place, any number of times.
+    ManyPlaces,
+}
+
+/// An option without a value.
+pub const FLAG: Argument = Argument {
+    id: "",
+    form: Form::Flag,
+    values: &[],
+    help: "",
+    range: "",
+    conflicts: &[],
+};
+
+/// An option with a value, which is a number unless it is called otherwise.
+pub const VALUE: Argument = Argument {
+    form: Form::Value,
+    values: &["N"],
+    ..FLAG
+};
+
+/// A file that has to be given.
+pub const FILE: Argument = Argument {
+    form: Form::Place,
+    values: &["FILE"],
+    ..FLAG
+};
+
+impl Argument {
+    /// The argument as messages show it.
+    pub fn shown(&self, alloc: Global) -> Result<String, AllocError> {
+        let argument = arg_of(alloc, self)?;
+        format!(in alloc; "{argument}")
+    }
+}
+
+fn arg_of<'a>(alloc: Global, argument: &Argument) -> Result<Arg<'a>, AllocError> {
+    let arg = Arg::new(alloc, argument.id)
+        .help(argument.help)
+        .num_args(argument.values.len())
+        .conflicts_with_all(argument.conflicts)?;
+    match argument.form {
+        Form::Flag => Ok(arg.long(argument.id).action(ArgAction::SetTrue)),
+        form => {
+            let arg = arg.value_names(argument.values).action(ArgAction::Set);
+            Ok(with_form(arg, argument.id, form))
+        }
+    }
+}
+
+fn with_form<'a>(arg: Arg<'a>, id: &'a str, form: Form) -> Arg<'a> {
+    match form {
+        Form::Flag | Form::Value => arg.long(id),
+        Form::NeededValue => arg.long(id).required(true),
+        Form::ValueOr(value) => arg.long(id).default_value(value),
+        Form::ValueByLetter(letter) => arg.long(id).short(letter),
+        Form::ManyValues => arg.long(id).num_args(1..).action(ArgAction::Append),
+        Form::Place => arg.required(true),
+        Form::PlaceOr(value) => arg.default_value(value),
+        Form::ManyPlaces => arg.num_args(0..).action(ArgAction::Append),
+    }
+}
+
+/// clap's command of a command of the table.
+pub fn build_command<'a>(alloc: Global, usage: &Usage) -> Result<Command<'a>, AllocError> {
+    let mut command = Command::new(alloc, usage.name)
+        .about(usage.about)
+        .after_help(usage.after_help);
+    for argument in usage.arguments {
+        command = with_argument(alloc, command, argument)?;
+    }
+    Ok(command)
+}
+
+fn with_argument<'a>(
+    alloc: Global,
+    command: Command<'a>,
+    argument: &Argument,
+) -> Result<Command<'a>, AllocError> {
+    let arg = arg_of(alloc, argument)?;
+    command.arg(arg)
+}
+
+fn build_program<'a>(alloc: Global, program: &Program) -> Result<Command<'a>, AllocError> {
+    let mut command = without_commands(alloc, program)?;
+    for usage in program.commands {
+        command = with_command(alloc, command, usage)?;
+    }
+    Ok(command)
+}
+
+fn without_commands<'a>(alloc: Global, program: &Program) -> Result<Command<'a>, AllocError> {
+    Command::new(alloc, program.name)
+        .no_binary_name(true)
+        .version(program.version)
+        .about(program.about)
+        .after_help(program.after_help)
+        .subcommand_required(true)
+        .bin_name(program.name)
+}
+
+fn with_command<'a>(
+    alloc: Global,
+    command: Command<'a>,
+    usage: &Usage,
+) -> Result<Command<'a>, AllocError> {
+    let added = build_command(alloc, usage)?;
+    command.subcommand(added)
+}
+
+/// What clap finds in the words after the program's name.
+pub fn match_words<'a>(
+    alloc: Global,
+    program: &Program,
+    words: &'a [String],
+) -> Result<ArgMatches<'a>, Error> {
+    build_program(alloc, program)?.try_get_matches_from(words)
+}
+
+/// The command among the matches, and its values.
+///
+/// # Errors
+///
+/// A usage text if there is none, and `Fault::Memory`.
+pub fn find_command<'m, 'a>(
+    alloc: Global,
+    program: &Program,
+    matches: &'m ArgMatches<'a>,
+) -> Result<(Usage, &'m ArgMatches<'a>), Refusal> {
+    if let Some((name, values)) = matches.subcommand() {
+        for usage in program.commands {
+            if usage.name == name {
+                return Ok((*usage, values));
+            }
+        }
+    }
+    let text = String::from_str(alloc, "error: a command is required\n")?;
+    Err(Refusal::usage(text))
+}

@@ -1,0 +1,166 @@
+//! The commands and their arguments, and what help says of them.
+use g1_command::{Argument, BUDGET, BYTE, CARD, DIRTY, FIXED, FLAG, Form, Program, Usage, VALUE};
+
+/// The program's name.
+pub const NAME: &str = "g1pause";
+
+/// The program and its commands.
+pub static PROGRAM: Program = Program {
+    name: NAME,
+    version: "1.0.0",
+    about: "Runs Garbage-First evacuation pauses on heap images",
+    after_help: "\
+Statuses:
+  0  done
+  2  wrong words, a number out of its range, or a wrong line of a trace
+  3  the input is no image
+  4  a slot of the image is not covered
+  5  a region that cannot be collected, or no room for the survivors
+  6  no memory, or a read or a write that failed
+
+Example: g1pause show < IMAGE",
+    commands: &[SHOW, CHECK, LIVE, CHOOSE, PAUSE, RUN],
+};
+
+const SHOW: Usage = Usage {
+    name: "show",
+    about: "Prints the regions of the image on standard input",
+    after_help: "\
+Statuses:
+  0  done
+  2  wrong words, or a number out of its range
+  3  the input is no image
+  6  no memory, or a read or a write that failed
+
+Example: g1pause show < IMAGE",
+    arguments: &[WORKERS, CHUNK_OF_REGIONS, REPACK],
+};
+
+const CHECK: Usage = Usage {
+    name: "check",
+    about: "Reports whether every reference into another region is covered",
+    after_help: "\
+Statuses:
+  0  covered
+  2  wrong words
+  3  the input is no image
+  4  a slot is not covered
+  6  no memory, or a read or a write that failed
+
+Example: g1pause check < IMAGE",
+    arguments: &[],
+};
+
+const LIVE: Usage = Usage {
+    name: "live",
+    about: "Prints the live bytes of each region",
+    after_help: "\
+Statuses:
+  0  done
+  2  wrong words, or a number out of its range
+  3  the input is no image
+  6  no memory, or a read or a write that failed
+
+Example: g1pause live < IMAGE",
+    arguments: &[WORKERS, CHUNK_OF_OBJECTS],
+};
+
+const CHOOSE: Usage = Usage {
+    name: "choose",
+    about: "Prints the candidates in order, and which of them the budget buys",
+    after_help: "\
+Statuses:
+  0  done
+  2  wrong words, or a number out of its range
+  3  the input is no image
+  4  a slot of the image is not covered
+  6  no memory, or a read or a write that failed
+
+Example: g1pause choose --budget 1000 < IMAGE",
+    arguments: &[
+        WORKERS,
+        CHUNK_OF_OBJECTS,
+        FIXED,
+        DIRTY,
+        CARD,
+        BYTE,
+        NEEDED_BUDGET,
+    ],
+};
+
+const PAUSE: Usage = Usage {
+    name: "pause",
+    about: "Collects regions of the image on standard input, and writes the image after",
+    after_help: "\
+Statuses:
+  0  done
+  2  wrong words, a number out of its range, or a budget beside regions
+  3  the input is no image
+  4  a slot of the image is not covered
+  5  a region that cannot be collected, or no room for the survivors
+  6  no memory, or a read or a write that failed
+
+Example: g1pause pause --budget 1000 < IMAGE > AFTER",
+    arguments: &[WORKERS, CHUNK, FIXED, DIRTY, CARD, BYTE, BUDGET, REGIONS],
+};
+
+const RUN: Usage = Usage {
+    name: "run",
+    about: "Runs the trace on standard input, and prints what each command replies",
+    after_help: "\
+Statuses:
+  0  done
+  2  wrong words, a number out of its range, or a line that is not of its form
+  3  the sizes of the trace's heap are out of their ranges
+  6  no memory, or a read or a write that failed
+
+Example: g1pause run < TRACE",
+    arguments: &[WORKERS, CHUNK, FIXED, DIRTY, CARD, BYTE],
+};
+
+pub const WORKERS: Argument = Argument {
+    id: "workers",
+    form: Form::ValueOr("1"),
+    help: "How many workers share the work, 1 to 64",
+    range: "1 to 64",
+    ..VALUE
+};
+
+/// How many items a worker draws at once. What an item is depends on the command.
+pub const CHUNK: Argument = Argument {
+    id: "chunk",
+    form: Form::ValueOr("64"),
+    help: "How many roots, cards or objects a worker draws at once, 1 to 65536",
+    range: "1 to 65536",
+    ..VALUE
+};
+
+const CHUNK_OF_OBJECTS: Argument = Argument {
+    help: "How many roots or objects a worker draws at once, 1 to 65536",
+    ..CHUNK
+};
+
+const CHUNK_OF_REGIONS: Argument = Argument {
+    help: "How many regions a worker draws at once, 1 to 65536",
+    ..CHUNK
+};
+
+pub const REPACK: Argument = Argument {
+    id: "repack",
+    help: "Writes the image's text instead of the table",
+    ..FLAG
+};
+
+const NEEDED_BUDGET: Argument = Argument {
+    form: Form::NeededValue,
+    ..BUDGET
+};
+
+pub const REGIONS: Argument = Argument {
+    id: "regions",
+    form: Form::ManyPlaces,
+    values: &["REGION"],
+    help: "The regions to collect, if there is no budget",
+    range: "a region's number, below 4294967296; the image comes on standard input",
+    ..VALUE
+};
