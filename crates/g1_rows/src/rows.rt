@@ -3,7 +3,7 @@
 //! - a row: a line `# WHAT IT SHOWS`, a line `CALL OPTION ..`, what the call is given, a line `----`, and
 //!   what it has to return (`parts`), where `given` stands for what it was given;
 //! - a row of many cases: below its `----` each line is `OPTION .. => ANSWER`, for one more option, or
-//!   `text TEXT => ANSWER`, for a text that the call is given;
+//!   `text TEXT => ANSWER`, for a text that the call is given, behind the one above the `----` if there is one;
 //! - a row of a trace: `# WHAT IT SHOWS`, `CALL OPTION ..`, `trace`, and lines `COMMAND [REPLY]`;
 //! - a row of a program (`program_rows`);
 //! - an image that rows may name: `image NAME`, and its lines, or other parts;
@@ -14,7 +14,7 @@
 //! large chunks: all of them are tried.
 use crate::calling::answer;
 use crate::given::Given;
-use crate::parts::{Picture, join, parts_of, trace_of};
+use crate::parts::{BAD, Picture, join, parts_of, trace_of};
 use crate::program_rows;
 use crate::verdicts::Verdicts;
 use g1_testing::is_refusal;
@@ -98,12 +98,10 @@ fn draw_all(
 
 /// The image of a name and its lines. No other has the name.
 fn draw(alloc: Global, block: &str, pictures: &[Picture]) -> Result<Picture, Fault> {
-    let Some((name, lines)) = block.split_once('\n') else {
-        return Err(Fault::Line(0));
-    };
+    let (name, lines) = block.split_once('\n').ok_or(BAD)?;
     for picture in pictures {
         if picture.name.as_str() == name {
-            return Err(Fault::Line(0));
+            return Err(BAD);
         }
     }
     let bytes = join(alloc, parts_of(alloc, lines, pictures)?.as_slice())?;
@@ -136,7 +134,7 @@ fn why_not<R: Threads + Files + Sync>(
     verdicts: &mut Verdicts,
 ) -> Result<Option<String>, Fault> {
     if !block.starts_with("# ") {
-        return Err(Fault::Line(0));
+        return Err(BAD);
     }
     let body = without_remarks(trial.alloc, block)?;
     if program_rows::is_run(body.as_str()) {
@@ -271,9 +269,7 @@ fn without_remarks(alloc: Global, block: &str) -> Result<String, AllocError> {
 ///
 /// `Fault::Line` if it is not understood; `Fault::Memory`.
 fn row_of<R>(trial: &Trial<'_, R>, body: &str) -> Result<Row, Fault> {
-    let Some((call, rest)) = body.split_once('\n') else {
-        return Err(Fault::Line(0));
-    };
+    let (call, rest) = body.split_once('\n').ok_or(BAD)?;
     let (name, options) = call.split_once(' ').unwrap_or((call, ""));
     let mut given = Given::new(trial.alloc);
     if !options.is_empty() {
@@ -291,9 +287,7 @@ fn cases_of<R>(trial: &Trial<'_, R>, options: &Given, rest: &str) -> Result<Vec<
         cases.push(trace_case(trial.alloc, options, lines)?)?;
         return Ok(cases);
     }
-    let Some((lines, expected)) = rest.split_once("----\n") else {
-        return Err(Fault::Line(0));
-    };
+    let (lines, expected) = rest.split_once("----\n").ok_or(BAD)?;
     let parts = parts_of(trial.alloc, lines, trial.pictures)?;
     if !expected.contains(" => ") {
         cases.push(case_of(trial, options, parts.as_slice(), expected)?)?;
@@ -308,8 +302,7 @@ fn cases_of<R>(trial: &Trial<'_, R>, options: &Given, rest: &str) -> Result<Vec<
 /// The case of the lines of a trace.
 fn trace_case(alloc: Global, options: &Given, lines: &str) -> Result<Case, Fault> {
     let (commands, expected) = trace_of(alloc, lines)?;
-    let mut given = options.copy(alloc)?;
-    given.parts.push(commands)?;
+    let given = options.with(alloc, &[commands])?;
     Ok(Case { given, expected })
 }
 
@@ -320,27 +313,26 @@ fn case_of<R>(
     parts: &[Vec<u8>],
     expected: &str,
 ) -> Result<Case, Fault> {
-    let mut given = options.copy(trial.alloc)?;
-    given.push_parts(trial.alloc, parts)?;
+    let given = options.with(trial.alloc, parts)?;
     let expected = expected_of(trial, expected, &given)?;
     Ok(Case { given, expected })
 }
 
-/// The case of a line `OPTION .. => ANSWER` or `text TEXT => ANSWER`.
+/// The case of a line `OPTION .. => ANSWER` or `text TEXT => ANSWER`. The text goes on behind the parts.
 fn line_case<R>(
     trial: &Trial<'_, R>,
     options: &Given,
     parts: &[Vec<u8>],
     line: &str,
 ) -> Result<Case, Fault> {
-    let Some((left, right)) = line.split_once(" => ") else {
-        return Err(Fault::Line(0));
-    };
+    let (left, right) = line.split_once(" => ").ok_or(BAD)?;
     if left.starts_with("text ") {
-        let parts = parts_of(trial.alloc, left, trial.pictures)?;
-        return case_of(trial, options, parts.as_slice(), right);
+        let mut text = join(trial.alloc, parts)?;
+        let rest = parts_of(trial.alloc, left, trial.pictures)?;
+        text.extend_from_slice(join(trial.alloc, rest.as_slice())?.as_slice())?;
+        return case_of(trial, options, &[text], right);
     }
-    let mut options = options.copy(trial.alloc)?;
+    let mut options = options.with(trial.alloc, &[])?;
     options.push_words(trial.alloc, left)?;
     case_of(trial, &options, parts, right)
 }
@@ -357,7 +349,7 @@ fn expected_of<R>(trial: &Trial<'_, R>, lines: &str, given: &Given) -> Result<Ve
         }
     }
     if expected.is_empty() {
-        return Err(Fault::Line(0));
+        return Err(BAD);
     }
     Ok(expected)
 }

@@ -5,47 +5,14 @@ ghost use Rattle.g1_work.specs.Dealer.{IsSeatOf};
 use crate::expecting::expect_equal;
 use crate::gates::{Counting, Noting};
 use g1_words::Fault;
-use g1_work::{DealSeat, Dealer, Gate, Open, Part, Task, each_chunk, shares};
+use g1_work::{DealSeat, Dealer, Gate, Open, Part, Task, each_chunk};
 use std::alloc::{AllocError, Global};
 use std::process::Abort;
 use std::sync::Wait;
-use std::sync::atomic::{AtomicBool, AtomicU64, Ordering};
+use std::sync::atomic::{AtomicBool, Ordering};
 use std::test::Fail;
 use std::thread;
 use std::thread::{Promise, Threads};
-
-fn expect_draw<T: Abort>(rt: &T, dealer: &Dealer, seat: &mut DealSeat, expected: Option<u64>)
-    requires { IsSeatOf dealer.now seat.old }
-    ensures seat { IsSeatOf dealer.now seat.new }
-    ensures shares { seat.new.shares ≡ seat.old.shares }
-{
-    expect_equal(rt, dealer.take(seat), expected);
-}
-
-#[test]
-fn one_seat_draws_each_number_and_then_none(rt: HostRuntime) -> Result<(), Fail> {
-    let (dealer, mut seat) = Dealer::new(rt.alloc(), 3)?;
-    expect_draw(&rt, &dealer, &mut seat, Some(0));
-    expect_draw(&rt, &dealer, &mut seat, Some(1));
-    expect_draw(&rt, &dealer, &mut seat, Some(2));
-    expect_draw(&rt, &dealer, &mut seat, None);
-    expect_draw(&rt, &dealer, &mut seat, None);
-    expect_equal(&rt, dealer.close(seat), 4);
-    Ok(())
-}
-
-#[test]
-fn another_seat_sees_a_draw(rt: HostRuntime) -> Result<(), Fail> {
-    let (dealer, mut seat) = Dealer::new(rt.alloc(), 3)?;
-    let mut other = dealer.split(&mut seat);
-    expect_equal(&rt, (shares(&seat), shares(&other)), (63, 1));
-    expect_draw(&rt, &dealer, &mut seat, Some(0));
-    expect_equal(&rt, dealer.drawn(&mut other), 1);
-    dealer.join(&mut seat, other);
-    expect_equal(&rt, shares(&seat), 64);
-    expect_equal(&rt, dealer.close(seat), 1);
-    Ok(())
-}
 
 // The numbers that one thread drew, and its seat.
 #[derive(Drop)]
@@ -305,45 +272,40 @@ fn the_gate_is_told_before_the_run(rt: HostRuntime) -> Result<(), Fail> {
     Ok(())
 }
 
-// Numbers 0 and 1 look for one another, and number 0 for all. Each number sets a bit.
+// Keeps number 0 inside until the numbers up to 7 have come.
 #[derive(Drop)]
 struct Waiting {
-    called: AtomicU64,
+    noting: Noting,
     missed: AtomicBool,
 }
 
 const TURNS: u64 = 200_000_000;
 
-// Whether all of these bits come within the turns.
-fn all_come(called: &AtomicU64, bits: u64) -> bool {
-    for _ in 0..TURNS {
-        if called.load(Ordering::SeqCst) & bits == bits {
-            return true;
+impl Waiting {
+    fn wait(&self) {
+        for _ in 0..TURNS {
+            if self.noting.noted() == 0xff {
+                return;
+            }
         }
+        self.missed.store(true, Ordering::SeqCst);
     }
-    false
 }
 
 impl Gate for Waiting {
-    fn at(&self, _part: Part, number: u64) {
-        if number < 8 {
-            self.called.fetch_or(1 << number, Ordering::SeqCst);
-        }
-        let met = match number {
-            0 => all_come(&self.called, 0b1111_1110),
-            1 => all_come(&self.called, 0b0000_0001),
-            _ => true,
-        };
-        if !met {
-            self.missed.store(true, Ordering::SeqCst);
+    fn at(&self, part: Part, number: u64) {
+        self.noting.at(part, number);
+        if number == 0 {
+            self.wait();
         }
     }
 }
 
+// A worker that is kept at its chunk leaves the others to another one.
 #[test]
-fn together(rt: HostRuntime) -> Result<(), Fail> {
+fn one_worker_draws_while_another_waits(rt: HostRuntime) -> Result<(), Fail> {
     let gate = Waiting {
-        called: AtomicU64::new(0),
+        noting: Noting::new(),
         missed: AtomicBool::new(false),
     };
     let (_, outs) = squared_chunks(&rt, rt.alloc(), 2, 8, &gate)?;
