@@ -67,59 +67,44 @@ fn prepared<R: Threads + Sync>(
     let remembered = remembered.as_slice();
     let (cards, survivors) = found(call, tracked, &starts, remembered, set, watch)?;
     let plan = placing::placed(call, tracked, set, survivors.as_slice(), watch)?;
-    written(
-        call,
+    let basis = Basis {
         tracked,
-        &starts,
+        starts: &starts,
         remembered,
         set,
-        cards.as_slice(),
-        &plan,
-        watch,
-    )?;
-    made(
-        call,
-        tracked,
-        &starts,
-        remembered,
-        set,
-        cards.as_slice(),
-        &plan,
-        watch,
-    )
+        plan: &plan,
+        cards: cards.as_slice(),
+    };
+    written(call, &basis, watch)?;
+    made(call, &basis, watch)
 }
 
 /// What the pause writes, made ready by the one call or by the other.
 fn made<R: Threads + Sync>(
     call: &Call<'_, R>,
-    tracked: &Tracked,
-    starts: &Starts,
-    remembered: &[Vec<u32>],
-    set: &[u32],
-    cards: &[u32],
-    plan: &Plan,
+    basis: &Basis<'_>,
     watch: &mut Watch,
 ) -> Result<Prepared, Fault>
-    requires starts { IsStartsOf tracked.now.heap starts.now }
-    requires remembered { map (λ s. s.items) remembered.now ≡ map (refined tracked.now) (regions tracked.now.heap) }
-    requires cards { cards.now ≡ cards_into tracked.now.heap (map (λ s. s.items) remembered.now) set.now }
-    requires plan { IsPauseOf tracked.now.heap set.now plan.now }
-    ensures { IfOk result (λ p. (s : List ℕ) × (l : List ℕ) × IsMadeFor p tracked.now s l) }
+    requires starts { IsStartsOf basis.now.tracked.now.heap basis.now.starts.now }
+    requires remembered { map (λ s. s.items) basis.now.remembered.now ≡ map (refined basis.now.tracked.now) (regions basis.now.tracked.now.heap) }
+    requires cards { basis.now.cards.now ≡ cards_into basis.now.tracked.now.heap (map (λ s. s.items) basis.now.remembered.now) basis.now.set.now }
+    requires plan { IsPauseOf basis.now.tracked.now.heap basis.now.set.now basis.now.plan.now }
+    ensures { IfOk result (λ p. (s : List ℕ) × (l : List ℕ) × IsMadeFor p basis.now.tracked.now s l) }
 {
     if call.name == "prepare_on" {
         watch.at("prepare_on");
-        let basis = Basis {
-            tracked,
-            starts,
-            remembered,
-            set,
-            plan,
-            cards,
-        };
-        let prepared = prepare_on(call.rt, call.alloc, &basis, 1)?;
+        let prepared = prepare_on(call.rt, call.alloc, basis, 1)?;
         watch.done();
         return Ok(prepared);
     }
+    let Basis {
+        tracked,
+        starts,
+        remembered,
+        set,
+        plan,
+        ..
+    } = *basis;
     watch.at("prepare");
     let prepared = prepare(call.rt, call.alloc, tracked, starts, remembered, set, plan)?;
     watch.done();
@@ -182,21 +167,24 @@ fn found<R: Threads + Sync>(
 /// The pieces of what the pause writes.
 fn written<R: Threads + Sync>(
     call: &Call<'_, R>,
-    tracked: &Tracked,
-    starts: &Starts,
-    remembered: &[Vec<u32>],
-    set: &[u32],
-    cards: &[u32],
-    plan: &Plan,
+    basis: &Basis<'_>,
     watch: &mut Watch,
 ) -> Result<(), Fault>
-    requires starts { IsStartsOf tracked.now.heap starts.now }
-    requires remembered { map (λ s. s.items) remembered.now ≡ map (refined tracked.now) (regions tracked.now.heap) }
-    requires regions { AreRegions tracked.now.heap set.now }
-    requires ordinary { AllOrdinary tracked.now.heap set.now }
-    requires cards { cards.now ≡ cards_into tracked.now.heap (map (λ s. s.items) remembered.now) set.now }
-    requires plan { IsPauseOf tracked.now.heap set.now plan.now }
+    requires starts { IsStartsOf basis.now.tracked.now.heap basis.now.starts.now }
+    requires remembered { map (λ s. s.items) basis.now.remembered.now ≡ map (refined basis.now.tracked.now) (regions basis.now.tracked.now.heap) }
+    requires regions { AreRegions basis.now.tracked.now.heap basis.now.set.now }
+    requires ordinary { AllOrdinary basis.now.tracked.now.heap basis.now.set.now }
+    requires cards { basis.now.cards.now ≡ cards_into basis.now.tracked.now.heap (map (λ s. s.items) basis.now.remembered.now) basis.now.set.now }
+    requires plan { IsPauseOf basis.now.tracked.now.heap basis.now.set.now basis.now.plan.now }
 {
+    let Basis {
+        tracked,
+        starts,
+        remembered,
+        set,
+        plan,
+        cards,
+    } = *basis;
     let heap = image(tracked).heap();
     g1_copy::laws::cards_lead_in();
     g1_copy::laws::all_patches();
@@ -241,7 +229,17 @@ fn round<R: Threads + Sync>(
     let (claims, seat) = Claims::new(alloc, places)?;
     watch.at("claim_round");
     let (claims, seat, won) = claim_round(
-        rt, alloc, heap, starts, window, claims, seat, &[], workers, chunk, &Open,
+        rt,
+        alloc,
+        heap,
+        starts,
+        window,
+        claims,
+        seat,
+        &[],
+        workers,
+        chunk,
+        &Open,
     )?;
     watch.pairs(won.as_slice());
     claims.close(seat);

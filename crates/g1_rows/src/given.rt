@@ -49,18 +49,25 @@ pub struct Given {
 }
 
 impl Given {
-    pub fn new(alloc: Global) -> Given {
-        Given {
-            settings: Vec::new(alloc),
-            parts: Vec::new(alloc),
-        }
+    fn new(alloc: Global) -> Given {
+        let (settings, parts) = (Vec::new(alloc), Vec::new(alloc));
+        Given { settings, parts }
     }
 
-    /// Adds the options that these words say.
+    /// The options that these words say, without parts.
     ///
     /// # Errors
     ///
     /// `Fault::Line` if a word is no option, or one that is there; `Fault::Memory`.
+    pub fn of_words(alloc: Global, words: &str) -> Result<Given, Fault> {
+        let mut given = Given::new(alloc);
+        if !words.is_empty() {
+            given.push_words(alloc, words)?;
+        }
+        Ok(given)
+    }
+
+    /// Adds the options that these words say.
     pub fn push_words(&mut self, alloc: Global, words: &str) -> Result<(), Fault> {
         for word in words.split(' ') {
             self.push_word(alloc, word)?;

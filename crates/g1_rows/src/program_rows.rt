@@ -5,7 +5,7 @@
 //! - In a row of many cases each line below `----` is `WORD .. => ANSWER`, for further words, or `PART => ANSWER`, for
 //!   what is on standard input: a `text`, an `image` or `raw` bytes.
 use crate::parts::{BAD, first_word};
-use crate::programs::{Run, is_program, miss_of};
+use crate::programs::{is_program, miss_of};
 use crate::rows::Trial;
 use g1_words::Fault;
 use std::alloc::{AllocError, Global};
@@ -94,12 +94,7 @@ fn miss_text<R: Threads + Files + Sync>(
     given: &str,
     expected: &str,
 ) -> Result<Option<String>, Fault> {
-    let run = Run {
-        line,
-        given,
-        expected,
-    };
-    let Some(left) = miss_of(trial, &run)? else {
+    let Some(left) = miss_of(trial, line, given, expected)? else {
         return Ok(None);
     };
     let expected = expected.trim_end_matches('\n');

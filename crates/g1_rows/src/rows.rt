@@ -32,13 +32,6 @@ pub struct Trial<'a, R> {
     is_refused: bool,
 }
 
-/// A row whose lines were understood.
-#[derive(Drop)]
-struct Row {
-    calls: String,
-    cases: Vec<Case>,
-}
-
 /// What a row's calls are given, and what they have to return.
 #[derive(Drop)]
 struct Case {
@@ -140,9 +133,11 @@ fn why_not<R: Threads + Files + Sync>(
     if program_rows::is_run(body.as_str()) {
         return program_rows::first_miss(trial, body.as_str());
     }
-    let row = row_of(trial, body.as_str())?;
-    for name in row.calls.as_str().split(',') {
-        for case in &row.cases {
+    let (call, rest) = body.as_str().split_once('\n').ok_or(BAD)?;
+    let (names, options) = call.split_once(' ').unwrap_or((call, ""));
+    let cases = cases_of(trial, options, rest)?;
+    for name in names.split(',') {
+        for case in &cases {
             if let Some(miss) = miss_of(trial, name, case, verdicts)? {
                 return Ok(Some(miss));
             }
@@ -263,47 +258,30 @@ fn without_remarks(alloc: Global, block: &str) -> Result<String, AllocError> {
     Ok(body)
 }
 
-/// The row of a block's lines, of which none is a remark.
+/// The cases of a row with these options, out of the lines below its call, of which none is a remark.
 ///
 /// # Errors
 ///
-/// `Fault::Line` if it is not understood; `Fault::Memory`.
-fn row_of<R>(trial: &Trial<'_, R>, body: &str) -> Result<Row, Fault> {
-    let (call, rest) = body.split_once('\n').ok_or(BAD)?;
-    let (name, options) = call.split_once(' ').unwrap_or((call, ""));
-    let mut given = Given::new(trial.alloc);
-    if !options.is_empty() {
-        given.push_words(trial.alloc, options)?;
-    }
-    let calls = String::from_str(trial.alloc, name)?;
-    let cases = cases_of(trial, &given, rest)?;
-    Ok(Row { calls, cases })
-}
-
-/// The cases of a row with these options, out of the lines below its call.
-fn cases_of<R>(trial: &Trial<'_, R>, options: &Given, rest: &str) -> Result<Vec<Case>, Fault> {
+/// `Fault::Line` if a line is not understood; `Fault::Memory`.
+fn cases_of<R>(trial: &Trial<'_, R>, options: &str, rest: &str) -> Result<Vec<Case>, Fault> {
+    let options = Given::of_words(trial.alloc, options)?;
     let mut cases = Vec::new(trial.alloc);
     if let Some(lines) = rest.strip_prefix("trace\n") {
-        cases.push(trace_case(trial.alloc, options, lines)?)?;
+        let (commands, expected) = trace_of(trial.alloc, lines)?;
+        let given = options.with(trial.alloc, &[commands])?;
+        cases.push(Case { given, expected })?;
         return Ok(cases);
     }
     let (lines, expected) = rest.split_once("----\n").ok_or(BAD)?;
     let parts = parts_of(trial.alloc, lines, trial.pictures)?;
     if !expected.contains(" => ") {
-        cases.push(case_of(trial, options, parts.as_slice(), expected)?)?;
+        cases.push(case_of(trial, &options, parts.as_slice(), expected)?)?;
         return Ok(cases);
     }
     for line in expected.trim_end_matches('\n').split('\n') {
-        cases.push(line_case(trial, options, parts.as_slice(), line)?)?;
+        cases.push(line_case(trial, &options, parts.as_slice(), line)?)?;
     }
     Ok(cases)
-}
-
-/// The case of the lines of a trace.
-fn trace_case(alloc: Global, options: &Given, lines: &str) -> Result<Case, Fault> {
-    let (commands, expected) = trace_of(alloc, lines)?;
-    let given = options.with(alloc, &[commands])?;
-    Ok(Case { given, expected })
 }
 
 /// The case of these options and parts.

@@ -26,8 +26,7 @@ pub fn deal<R>(call: &Call<'_, R>, watch: &mut Watch) -> Result<(), Fault> {
     let cursor = dealer.close(seat);
     if watch.is_over() {
         watch.list(&[whole, parts[0], parts[1], joined]);
-        let draws = [first, second, third, fourth, fifth];
-        for draw in draws {
+        for draw in [first, second, third, fourth, fifth] {
             watch.list(&[draw.unwrap_or(chunks)]);
         }
         watch.list(&[drawn, cursor]);

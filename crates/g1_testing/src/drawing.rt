@@ -6,11 +6,8 @@ use std::str::SplitAsciiWhitespace;
 /// A line that draws nothing.
 const BAD: Fault = Fault::Line(0);
 
+/// The kinds of region that no line draws: 0 is free, and 3 goes on with a humongous object.
 const FREE: u32 = 0;
-
-const ORDINARY: u32 = 1;
-
-const HUMONGOUS: u32 = 2;
 
 const CONTINUATION: u32 = 3;
 
@@ -109,8 +106,8 @@ impl Drawing {
             self.begin(FREE, 0)?;
         }
         let kind = match words.next() {
-            Some("ordinary") => ORDINARY,
-            Some("humongous") => HUMONGOUS,
+            Some("ordinary") => 1,
+            Some("humongous") => 2,
             _ => return Err(BAD),
         };
         match words.next() {
@@ -164,7 +161,10 @@ impl Drawing {
 
     fn bytes(&self) -> Result<Vec<u8>, AllocError> {
         let mut out = Vec::from_slice(self.alloc, b"G1IMAGE2")?;
-        push_all(&mut out, &[self.region_words, self.card_words, self.regions])?;
+        push_all(
+            &mut out,
+            &[self.region_words, self.card_words, self.regions],
+        )?;
         push_count(&mut out, self.roots.len())?;
         push_count(&mut out, self.dirty.len())?;
         push_all(&mut out, &[self.current.unwrap_or(self.regions)])?;

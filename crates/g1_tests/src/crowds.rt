@@ -1,18 +1,18 @@
 //! That workers work at the same time, up to the 64 that there may be.
-ghost use Rattle.std.specs.Prelude.{◌≡◌, ◌<◌, ◌^◌};
+ghost use Rattle.std.specs.Prelude.{◌<◌, ◌^◌};
 ghost use Rattle.g1_work.specs.Team.{AreWorkers};
 
 use crate::expecting::{UNIT, bytes_after, collecting, expect_equal};
 use crate::gates::{Counting, Crowd};
-use crate::regions::Numbers;
+use crate::work::{Numbers, squared_chunks};
 use g1_image::{Image, decode};
 use g1_mark::live_bytes;
 use g1_rem::Starts;
-use g1_testing::pictures::{gap, gap_after, shared, shared_after};
+use g1_testing::pictures::{shared, shared_after};
 use g1_testing::{image, raw, text};
 use g1_trace::run_text;
 use g1_words::Fault;
-use g1_work::{Gate, Part, Task, Team, each_chunk, each_region_mut};
+use g1_work::{Gate, Part, Team, each_region_mut};
 use std::alloc::Global;
 use std::process::Abort;
 use std::test::Fail;
@@ -55,25 +55,6 @@ fn all_workers_fill_regions_at_once(rt: HostRuntime) -> Result<(), Fail> {
     Ok(())
 }
 
-/// Gives the chunk.
-struct Same;
-
-impl Task for Same {
-    type State = ();
-
-    type Out = u64;
-
-    ghost ready = { λ _ _ _. Unit {0} };
-
-    ghost runs = { λ _ _ chunk _ out. out ≡ chunk };
-
-    ghost may_fail = { λ _ _ _. ⊥ };
-
-    fn run(&self, _state: &mut (), chunk: u64) -> Result<u64, Fault> {
-        Ok(chunk)
-    }
-}
-
 /// Sees that this many workers draw chunks at the same time.
 fn expect_drawn<T: Threads + Clock + Abort + Sync>(
     rt: &T,
@@ -85,17 +66,19 @@ fn expect_drawn<T: Threads + Clock + Abort + Sync>(
     requires chunks { chunks < 2 ^ 32 }
 {
     let gate = Crowd::new(rt, Part::Deal, workers, 1);
-    let states = vec![in alloc; (); workers as usize]?;
-    let (_, outs) = each_chunk(rt, alloc, states, chunks, &Same, &gate)?;
+    let (_, outs) = squared_chunks(rt, alloc, workers as usize, chunks, &gate)?;
     expect_equal(rt, gate.met(), 1);
     expect_equal(rt, outs.len() as u64, chunks);
+    for (chunk, out) in outs.iter().enumerate() {
+        expect_equal(rt, *out, (chunk as u64).wrapping_mul(chunk as u64));
+    }
     Ok(())
 }
 
 #[test]
 fn all_workers_draw_chunks_at_once(rt: HostRuntime) -> Result<(), Fail> {
     let alloc = rt.alloc();
-    for (workers, chunks) in [(2, 9), (2, 64), (2, 1_000), (3, 3), (4, 64), (5, 5)] {
+    for (workers, chunks) in [(2, 9), (2, 64), (2, 1_000), (3, 3), (4, 1_000), (5, 5)] {
         expect_drawn(&rt, alloc, workers, chunks)?;
     }
     for (workers, chunks) in [(9, 9), (17, 100), (33, 33), (64, 64), (64, 1_000)] {
@@ -135,7 +118,7 @@ fn workers_meet_in_each_round(rt: HostRuntime) -> Result<(), Fail> {
 #[test]
 fn a_commit_fills_a_run_for_each_worker(rt: HostRuntime) -> Result<(), Fail> {
     let gate = Counting::new(Part::Fill);
-    expect_pause(&rt, rt.alloc(), (gap(), gap_after()), &[0, 1], 3, &gate)?;
+    expect_pause(&rt, rt.alloc(), (shared(), shared_after()), &[1], 3, &gate)?;
     expect_equal(&rt, gate.calls(), 0x01_0101);
     Ok(())
 }

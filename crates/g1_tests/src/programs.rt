@@ -91,11 +91,9 @@ fn expect_device_faults<T: Threads + Abort + Sync + Files>(
 }
 
 // Images of version 1: one object that a root references, and an object that a slot outside references.
-const OLD_ONE_OBJECT: &str =
-    "G1IMAGE1 16 4 4 1 0 4 0 0 1 4 0 0 0 0 =17 0 0 0 0 4/1 =0 =7 =9";
+const OLD_ONE_OBJECT: &str = "G1IMAGE1 16 4 4 1 0 4 0 0 1 4 0 0 0 0 =17 0 0 0 0 4/1 =0 =7 =9";
 
-const OLD_OUTSIDE_SLOT: &str =
-    "G1IMAGE1 16 4 4 0 0 4 1 2 1 3 0 0 0 0 0 1 0 0 0 2/1 =17 3/0 =1 =2";
+const OLD_OUTSIDE_SLOT: &str = "G1IMAGE1 16 4 4 0 0 4 1 2 1 3 0 0 0 0 0 1 0 0 0 2/1 =17 3/0 =1 =2";
 
 const NO_ROOM: &[u8] =
     b"heap 16 4 2 2\nnew 0 0 11\nnew 1 0 2\ndrop 1\nnew 1 0 11\npause 1000\nsay 0 10\n";
@@ -226,9 +224,12 @@ fn expect_kept_or_refused<T: Threads + Abort + Sync + Files>(
     Ok(())
 }
 
+// The same object that a slot outside references, in version 2.
+const OUTSIDE_SLOT: &str = "G1IMAGE2 16 4 4 0 0 4 1,2,0 1,3,0 0,0,0*2 0 1 0 0 0 2/1 =17 3/0 =1 =2";
+
 #[test]
 fn a_changed_byte_is_refused_or_kept(rt: HostRuntime) -> Result<(), Fail> {
-    let mut image = text(rt.alloc(), pictures::outside_slot())?;
+    let mut image = raw(rt.alloc(), OUTSIDE_SLOT)?;
     expect_kept_or_refused(&rt, rt.alloc(), image.as_mut_slice())?;
     Ok(())
 }

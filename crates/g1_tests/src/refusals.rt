@@ -107,7 +107,11 @@ fn devices_fail_at_each_call(rt: HostRuntime) -> Result<(), AllocError> {
 // Others are in rows of `g1_rows`, whose words have no spaces.
 #[test]
 fn a_number_has_no_space(rt: HostRuntime) {
-    expect_equal(&rt, (whole(" 1"), whole("1 "), whole("1")), (None, None, Some(1)));
+    expect_equal(
+        &rt,
+        (whole(" 1"), whole("1 "), whole("1")),
+        (None, None, Some(1)),
+    );
 }
 
 // A program that was called by these words, of which the first is its name.

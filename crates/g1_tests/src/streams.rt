@@ -2,7 +2,7 @@
 use crate::expecting::{collecting, expect_equal};
 use g1_image::{FromReader, Image, Sink, Source, ToWriter, encode, read, read_by, write};
 use g1_pause::pause_run;
-use g1_testing::pictures::{humongous, one_object, one_object_after, three_regions};
+use g1_testing::pictures::{humongous, one_object, one_object_after, shared};
 use g1_testing::{Stream, Trouble, image, raw, text};
 use g1_words::{Device, Fault};
 use g1_work::Open;
@@ -38,7 +38,7 @@ fn ending(alloc: Global, bytes: &[u8]) -> Result<Stream, AllocError> {
 #[test]
 fn images_pass_one_byte_at_a_time(rt: HostRuntime) -> Result<(), Fail> {
     let alloc = rt.alloc();
-    for lines in [one_object(), humongous(), three_regions()] {
+    for lines in [one_object(), humongous(), shared()] {
         let bytes = text(alloc, lines)?;
         let image = read_from(alloc, &mut ending(alloc, &bytes)?)?;
         let mut writer = Stream::of(Vec::new(alloc), 1);

@@ -39,18 +39,12 @@ fn an_object_by_its_header(rt: HostRuntime) {
 }
 
 #[test]
-fn starts_of_regions(rt: HostRuntime) -> Result<(), Fail> {
+fn starts_of_regions_and_cards(rt: HostRuntime) -> Result<(), Fail> {
     let geometry = Geometry::new(32, 8, 6)?;
     expect_equal(&rt, geometry.words(), 192);
     for (region, start) in [(0, 0), (1, 32), (5, 160)] {
         expect_equal(&rt, geometry.start(region), start);
     }
-    Ok(())
-}
-
-#[test]
-fn starts_of_cards(rt: HostRuntime) -> Result<(), Fail> {
-    let geometry = Geometry::new(32, 8, 6)?;
     expect_equal(&rt, geometry.cards(), 24);
     for (card, start, region) in [(0, 0, 0), (3, 24, 0), (4, 32, 1), (23, 184, 5)] {
         expect_equal(&rt, geometry.card_start(card), start);
