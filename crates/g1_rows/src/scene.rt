@@ -129,9 +129,12 @@ impl Scene {
     }
 
     fn push_part(&mut self, line: &str) -> Result<(), AllocError> {
+        if !self.is_in_file {
+            return self.stream.push(line);
+        }
         match self.files.last_mut() {
-            Some(file) if self.is_in_file => file.push(line),
-            _ => self.stream.push(line),
+            Some(file) => file.push(line),
+            None => Ok(()),
         }
     }
 }
