@@ -16,7 +16,6 @@ use g1_choose::given;
 use g1_claim::Claims;
 use g1_copy::{Basis, Prepared, commit, gather, new_rem, patches, prepare, prepare_on};
 use g1_frontier::{claim_round, discover};
-use g1_layout::Plan;
 use g1_rem::{Starts, Tracked, cards_into, image, refine};
 use g1_words::{Fault, Heap};
 use g1_work::Open;
