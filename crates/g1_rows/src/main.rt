@@ -35,25 +35,40 @@ use crate::rows::judge;
 use std::alloc::Global;
 use std::io::{Read, Write};
 use std::process::ExitCode;
-use std::rt::{Env, Files};
+use std::rt::Files;
 use std::thread::Threads;
 use std::{env, fs, io};
 
 fn main(rt: HostRuntime) -> ExitCode {
-    match run(&rt, rt.alloc(), &mut rt.stdin(), &mut rt.stdout()) {
+    let alloc = rt.alloc();
+    let Ok(words) = words(&rt, alloc) else {
+        return ExitCode::FAILURE;
+    };
+    match run(
+        &rt,
+        alloc,
+        words.as_slice(),
+        &mut rt.stdin(),
+        &mut rt.stdout(),
+    ) {
         Ok(true) => ExitCode::SUCCESS,
         Ok(false) | Err(_) => ExitCode::FAILURE,
     }
 }
 
+/// The words after the program's name.
+fn words(rt: &HostRuntime, alloc: Global) -> io::Result<Vec<String>> {
+    Ok(env::args(rt)?.skip(1).collect::<Vec<String>>(alloc)?)
+}
+
 /// Does what the words say, and returns whether all is well.
-fn run<T: Threads + Files + Env + Sync, R: Read, W: Write>(
+fn run<T: Threads + Files + Sync, R: Read, W: Write>(
     rt: &T,
     alloc: Global,
+    words: &[String],
     reader: &mut R,
     writer: &mut W,
 ) -> io::Result<bool> {
-    let words = env::args(rt)?.skip(1).collect::<Vec<String>>(alloc)?;
     let Some((first, names)) = words.split_first() else {
         return Ok(false);
     };
