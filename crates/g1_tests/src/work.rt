@@ -81,6 +81,8 @@ fn a_failed_run_is_the_answer(rt: HostRuntime) -> Result<(), Fail> {
     Ok(())
 }
 
+const FIRST_EIGHT: [u64; 8] = [0, 1, 4, 9, 16, 25, 36, 49];
+
 #[test]
 fn the_gate_is_told_of_each_chunk_once(rt: HostRuntime) -> Result<(), Fail> {
     let gate = Counting::new(Part::Deal);
@@ -92,11 +94,7 @@ fn the_gate_is_told_of_each_chunk_once(rt: HostRuntime) -> Result<(), Fail> {
         (states.len(), states.iter().max().copied()),
         (3, Some(8)),
     );
-    expect_equal(
-        &rt,
-        outs.as_slice(),
-        [0, 1, 4, 9, 16, 25, 36, 49].as_slice(),
-    );
+    expect_equal(&rt, outs.as_slice(), FIRST_EIGHT.as_slice());
     squared_chunks(&rt, rt.alloc(), 3, 1, &gate)?;
     expect_equal(&rt, gate.calls(), 0x0101_0101_0101_0102);
     Ok(())
@@ -180,11 +178,7 @@ fn one_worker_draws_while_another_waits(rt: HostRuntime) -> Result<(), Fail> {
     };
     let (_, outs) = squared_chunks(&rt, rt.alloc(), 2, 8, &gate)?;
     assert!(rt; !gate.missed.load(Ordering::SeqCst), "a gate gave up");
-    expect_equal(
-        &rt,
-        outs.as_slice(),
-        [0, 1, 4, 9, 16, 25, 36, 49].as_slice(),
-    );
+    expect_equal(&rt, outs.as_slice(), FIRST_EIGHT.as_slice());
     Ok(())
 }
 
