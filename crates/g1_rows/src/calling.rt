@@ -1,7 +1,7 @@
 //! One call by its name.
 use crate::given::Given;
 use crate::watch::{Answer, Watch};
-use crate::{comparing, copying, pausing, placing, pricing, reading, sharing, tracing};
+use crate::{comparing, copying, pausing, pricing, reading, sharing, tracing};
 use g1_pause::{Choice, Settings};
 use g1_words::Fault;
 use std::alloc::{AllocError, Global};
@@ -67,7 +67,6 @@ fn make<R: Threads + Sync>(call: &Call<'_, R>, watch: &mut Watch) -> Result<(), 
         "evacuate" | "report" => pausing::evacuated(call, watch)?,
         "pause_bytes" => pausing::from_bytes(call, watch)?,
         "pause_run" => pausing::from_stream(call, watch)?,
-        _ if call.given.has("survivors") => placing::run(call, watch)?,
         _ => take_steps(call, watch)?,
     }
     Ok(())

@@ -4,7 +4,7 @@ use crate::watch::Watch;
 use g1_image::decode;
 use g1_same::{Difference, compare};
 use g1_words::{Fault, Heap};
-use std::alloc::{AllocError, Global};
+use std::alloc::Global;
 
 /// Compares the image of one part with that of another.
 pub fn run<R>(call: &Call<'_, R>, watch: &mut Watch) -> Result<(), Fault> {
@@ -20,17 +20,14 @@ pub fn run<R>(call: &Call<'_, R>, watch: &mut Watch) -> Result<(), Fault> {
 
 /// What `compare` returns, as a line.
 fn line_of_both(alloc: Global, before: &Heap, after: &Heap) -> Result<String, Fault> {
-    match compare(alloc, before, after)? {
-        Ok(same) => Ok(format!(in alloc; "same {:?} {:?}\n", same.before, same.after)?),
-        Err(difference) => Ok(line_of(alloc, &difference)?),
-    }
-}
-
-fn line_of(alloc: Global, difference: &Difference) -> Result<String, AllocError> {
-    match difference {
-        Difference::Roots { before, after } => format!(in alloc; "differ roots {before} {after}\n"),
-        Difference::At { root, slots, how } => {
-            format!(in alloc; "differ root {root} slots {slots:?} {how:?}\n")
+    let line = match compare(alloc, before, after)? {
+        Ok(same) => format!(in alloc; "same {:?} {:?}\n", same.before, same.after)?,
+        Err(Difference::Roots { before, after }) => {
+            format!(in alloc; "differ roots {before} {after}\n")?
         }
-    }
+        Err(Difference::At { root, slots, how }) => {
+            format!(in alloc; "differ root {root} slots {slots:?} {how:?}\n")?
+        }
+    };
+    Ok(line)
 }

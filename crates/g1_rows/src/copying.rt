@@ -16,7 +16,6 @@ use g1_choose::given;
 use g1_claim::Claims;
 use g1_copy::{Basis, Prepared, commit, gather, new_rem, patches, prepare, prepare_on};
 use g1_frontier::{claim_round, discover};
-use g1_layout::{Plan, place};
 use g1_rem::{Starts, Tracked, cards_into, image, refine};
 use g1_words::{Fault, Heap};
 use g1_work::Open;
@@ -66,60 +65,45 @@ fn prepared<R: Threads + Sync>(
     let (starts, remembered) = tables(call, tracked, watch)?;
     let remembered = remembered.as_slice();
     let (cards, survivors) = found(call, tracked, &starts, remembered, set, watch)?;
-    let plan = placed(call, tracked, set, survivors.as_slice(), watch)?;
-    written(
-        call,
+    let plan = placing::placed(call, tracked, set, survivors.as_slice(), watch)?;
+    let basis = Basis {
         tracked,
-        &starts,
+        starts: &starts,
         remembered,
         set,
-        cards.as_slice(),
-        &plan,
-        watch,
-    )?;
-    made(
-        call,
-        tracked,
-        &starts,
-        remembered,
-        set,
-        cards.as_slice(),
-        &plan,
-        watch,
-    )
+        plan: &plan,
+        cards: cards.as_slice(),
+    };
+    written(call, &basis, watch)?;
+    made(call, &basis, watch)
 }
 
 /// What the pause writes, made ready by the one call or by the other.
 fn made<R: Threads + Sync>(
     call: &Call<'_, R>,
-    tracked: &Tracked,
-    starts: &Starts,
-    remembered: &[Vec<u32>],
-    set: &[u32],
-    cards: &[u32],
-    plan: &Plan,
+    basis: &Basis<'_>,
     watch: &mut Watch,
 ) -> Result<Prepared, Fault>
-    requires starts { IsStartsOf tracked.now.heap starts.now }
-    requires remembered { map (λ s. s.items) remembered.now ≡ map (refined tracked.now) (regions tracked.now.heap) }
-    requires cards { cards.now ≡ cards_into tracked.now.heap (map (λ s. s.items) remembered.now) set.now }
-    requires plan { IsPauseOf tracked.now.heap set.now plan.now }
-    ensures { IfOk result (λ p. (s : List ℕ) × (l : List ℕ) × IsMadeFor p tracked.now s l) }
+    requires starts { IsStartsOf basis.now.tracked.now.heap basis.now.starts.now }
+    requires remembered { map (λ s. s.items) basis.now.remembered.now ≡ map (refined basis.now.tracked.now) (regions basis.now.tracked.now.heap) }
+    requires cards { basis.now.cards.now ≡ cards_into basis.now.tracked.now.heap (map (λ s. s.items) basis.now.remembered.now) basis.now.set.now }
+    requires plan { IsPauseOf basis.now.tracked.now.heap basis.now.set.now basis.now.plan.now }
+    ensures { IfOk result (λ p. (s : List ℕ) × (l : List ℕ) × IsMadeFor p basis.now.tracked.now s l) }
 {
     if call.name == "prepare_on" {
         watch.at("prepare_on");
-        let basis = Basis {
-            tracked,
-            starts,
-            remembered,
-            set,
-            plan,
-            cards,
-        };
-        let prepared = prepare_on(call.rt, call.alloc, &basis, 1)?;
+        let prepared = prepare_on(call.rt, call.alloc, basis, 1)?;
         watch.done();
         return Ok(prepared);
     }
+    let Basis {
+        tracked,
+        starts,
+        remembered,
+        set,
+        plan,
+        ..
+    } = *basis;
     watch.at("prepare");
     let prepared = prepare(call.rt, call.alloc, tracked, starts, remembered, set, plan)?;
     watch.done();
@@ -140,7 +124,6 @@ fn tables<R: Threads + Sync>(
     let starts = Starts::build(call.alloc, heap)?;
     watch.done();
     cards::run(call, heap, &starts, watch)?;
-    round(call, heap, &starts, watch)?;
     watch.at("refine");
     let remembered = refine(call.rt, call.alloc, tracked, &starts)?;
     watch.lists(remembered.as_slice());
@@ -168,6 +151,7 @@ fn found<R: Threads + Sync>(
     watch.at("cards_into");
     let into = cards_into(call.alloc, heap, remembered, set)?;
     watch.numbers(into.as_slice());
+    round(call, heap, starts, set, watch)?;
     g1_copy::laws::cards_lead_in();
     g1_frontier::laws::refined_lead_in();
     let cards = into.as_slice();
@@ -179,46 +163,27 @@ fn found<R: Threads + Sync>(
     Ok((into, survivors))
 }
 
-/// Where the survivors go.
-fn placed<R>(
-    call: &Call<'_, R>,
-    tracked: &Tracked,
-    set: &[u32],
-    survivors: &[u64],
-    watch: &mut Watch,
-) -> Result<Plan, Fault>
-    requires regions { AreRegions tracked.now.heap set.now }
-    requires ordinary { AllOrdinary tracked.now.heap set.now }
-    requires survivors { Survivors tracked.now.heap set.now survivors.now }
-    ensures { IfOk result (λ p. IsPauseOf tracked.now.heap set.now p) }
-{
-    let heap = image(tracked).heap();
-    g1_layout::laws::placeable();
-    watch.at("place");
-    let plan = place(call.alloc, heap, set, survivors)?;
-    watch.numbers(plan.places());
-    placing::forward(call, &plan, watch);
-    Ok(plan)
-}
-
 /// The pieces of what the pause writes.
 fn written<R: Threads + Sync>(
     call: &Call<'_, R>,
-    tracked: &Tracked,
-    starts: &Starts,
-    remembered: &[Vec<u32>],
-    set: &[u32],
-    cards: &[u32],
-    plan: &Plan,
+    basis: &Basis<'_>,
     watch: &mut Watch,
 ) -> Result<(), Fault>
-    requires starts { IsStartsOf tracked.now.heap starts.now }
-    requires remembered { map (λ s. s.items) remembered.now ≡ map (refined tracked.now) (regions tracked.now.heap) }
-    requires regions { AreRegions tracked.now.heap set.now }
-    requires ordinary { AllOrdinary tracked.now.heap set.now }
-    requires cards { cards.now ≡ cards_into tracked.now.heap (map (λ s. s.items) remembered.now) set.now }
-    requires plan { IsPauseOf tracked.now.heap set.now plan.now }
+    requires starts { IsStartsOf basis.now.tracked.now.heap basis.now.starts.now }
+    requires remembered { map (λ s. s.items) basis.now.remembered.now ≡ map (refined basis.now.tracked.now) (regions basis.now.tracked.now.heap) }
+    requires regions { AreRegions basis.now.tracked.now.heap basis.now.set.now }
+    requires ordinary { AllOrdinary basis.now.tracked.now.heap basis.now.set.now }
+    requires cards { basis.now.cards.now ≡ cards_into basis.now.tracked.now.heap (map (λ s. s.items) basis.now.remembered.now) basis.now.set.now }
+    requires plan { IsPauseOf basis.now.tracked.now.heap basis.now.set.now basis.now.plan.now }
 {
+    let Basis {
+        tracked,
+        starts,
+        remembered,
+        set,
+        plan,
+        cards,
+    } = *basis;
     let heap = image(tracked).heap();
     g1_copy::laws::cards_lead_in();
     g1_copy::laws::all_patches();
@@ -237,24 +202,37 @@ fn written<R: Threads + Sync>(
     Ok(())
 }
 
-/// A round of claims that looks at nothing.
+/// As many places as a claim table may have.
+const MOST_PLACES: u64 = 16_777_216;
+
+/// A round of claims in these regions that looks at nothing.
 fn round<R: Threads + Sync>(
     call: &Call<'_, R>,
     heap: &Heap,
     starts: &Starts,
+    window: &[u32],
     watch: &mut Watch,
 ) -> Result<(), Fault>
-    requires { IsStartsOf heap.now starts.now }
+    requires starts { IsStartsOf heap.now starts.now }
+    requires window { AreRegions heap.now window.now }
 {
+    let Call { rt, alloc, .. } = *call;
     let (workers, chunk) = (call.settings.workers(), call.settings.chunk());
-    let (claims, seat) = Claims::new(call.alloc, 0)?;
+    let words = heap.geometry().region_words();
+    let Some(places) = (window.len() as u64).checked_mul(words) else {
+        return Err(Fault::Memory);
+    };
+    if places > MOST_PLACES {
+        return Err(Fault::Memory);
+    }
+    let (claims, seat) = Claims::new(alloc, places)?;
     watch.at("claim_round");
     let (claims, seat, won) = claim_round(
-        call.rt,
-        call.alloc,
+        rt,
+        alloc,
         heap,
         starts,
-        &[],
+        window,
         claims,
         seat,
         &[],

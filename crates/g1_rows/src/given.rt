@@ -1,32 +1,29 @@
 //! What a row gives to its call: options, and parts as bytes.
 //!
-//! A word that is no number is an option, and the numbers behind it are its own:
+//! A word that is no number is an option, and the numbers behind it are its own. `A..B` is the numbers from A up to B:
 //!
 //! - `workers`, `chunk`: who does it; 1 and 64 if they are left out;
 //! - `prices FIXED DIRTY CARD BYTE`: what a pause costs; 0 1 1 1 if they are left out;
 //! - `budget`, or `regions` in any order: what is collected; nothing if both are left out;
-//! - `live`: each region's live bytes, for `order` and `choose`; else they are counted;
-//! - `survivors`: addresses, for `plan`, `forward` and `gather`; else they are searched for;
 //! - `addresses`: for `forward`;
 //! - `cards`: for `first`, `slots_on` and `leads_into`, which asks about the region behind `into`;
 //! - `left`, `right`: two rising lists, for `merged`;
-//! - `count`, `bytes`: how many cards and live bytes, for `cost`; how many dirty cards, for `total`, and chunks, for
-//!   `each_chunk`;
+//! - `count`, `bytes`: how many cards and live bytes, for `cost`; how many dirty cards, for `total`; how many chunks, for
+//!   `deal` and `each_chunk`;
 //! - `costs`: of two regions, for `total`.
+use crate::parts::BAD;
 use g1_choose::Cost;
 use g1_pause::{Choice, Settings};
 use g1_words::Fault;
 use std::alloc::{AllocError, Global};
 
 /// The options that there are.
-const OPTIONS: [&str; 15] = [
+const OPTIONS: [&str; 13] = [
     "workers",
     "chunk",
     "prices",
     "budget",
     "regions",
-    "live",
-    "survivors",
     "addresses",
     "cards",
     "into",
@@ -52,18 +49,25 @@ pub struct Given {
 }
 
 impl Given {
-    pub fn new(alloc: Global) -> Given {
-        Given {
-            settings: Vec::new(alloc),
-            parts: Vec::new(alloc),
-        }
+    fn new(alloc: Global) -> Given {
+        let (settings, parts) = (Vec::new(alloc), Vec::new(alloc));
+        Given { settings, parts }
     }
 
-    /// Adds the options that these words say.
+    /// The options that these words say, without parts.
     ///
     /// # Errors
     ///
     /// `Fault::Line` if a word is no option, or one that is there; `Fault::Memory`.
+    pub fn of_words(alloc: Global, words: &str) -> Result<Given, Fault> {
+        let mut given = Given::new(alloc);
+        if !words.is_empty() {
+            given.push_words(alloc, words)?;
+        }
+        Ok(given)
+    }
+
+    /// Adds the options that these words say.
     pub fn push_words(&mut self, alloc: Global, words: &str) -> Result<(), Fault> {
         for word in words.split(' ') {
             self.push_word(alloc, word)?;
@@ -72,42 +76,42 @@ impl Given {
     }
 
     fn push_word(&mut self, alloc: Global, word: &str) -> Result<(), Fault> {
-        if is_option(word) && !self.has(word) {
+        if OPTIONS.iter().any(|option| *option == word) {
             return self.push_option(alloc, word);
         }
-        match (word.parse::<u64>(), self.settings.last_mut()) {
-            (Ok(number), Some(last)) => Ok(last.numbers.push(number)?),
-            _ => Err(Fault::Line(0)),
+        let last = self.settings.last_mut().ok_or(BAD)?;
+        let (from, to) = word.split_once("..").unwrap_or((word, ""));
+        let from = from.parse::<u64>().ok().ok_or(BAD)?;
+        if to.is_empty() {
+            return Ok(last.numbers.push(from)?);
         }
+        for number in from..to.parse::<u64>().ok().ok_or(BAD)? {
+            last.numbers.push(number)?;
+        }
+        Ok(())
     }
 
     fn push_option(&mut self, alloc: Global, name: &str) -> Result<(), Fault> {
+        if self.settings.iter().any(|it| it.name.as_str() == name) {
+            return Err(BAD);
+        }
         let name = String::from_str(alloc, name)?;
         let numbers = Vec::new(alloc);
         Ok(self.settings.push(Setting { name, numbers })?)
     }
 
-    pub fn push_parts(&mut self, alloc: Global, parts: &[Vec<u8>]) -> Result<(), AllocError> {
-        for part in parts {
-            self.parts.push(part.to_vec(alloc)?)?;
-        }
-        Ok(())
-    }
-
-    /// The same options, without parts.
-    pub fn copy(&self, alloc: Global) -> Result<Given, AllocError> {
+    /// The same options with these parts.
+    pub fn with(&self, alloc: Global, parts: &[Vec<u8>]) -> Result<Given, AllocError> {
         let mut same = Given::new(alloc);
         for setting in &self.settings {
             let name = String::from_str(alloc, setting.name.as_str())?;
             let numbers = setting.numbers.to_vec(alloc)?;
             same.settings.push(Setting { name, numbers })?;
         }
+        for part in parts {
+            same.parts.push(part.to_vec(alloc)?)?;
+        }
         Ok(same)
-    }
-
-    /// Whether the option is there.
-    pub fn has(&self, option: &str) -> bool {
-        self.settings.iter().any(|it| it.name.as_str() == option)
     }
 
     /// The numbers of an option; none if it is not there.
@@ -179,8 +183,4 @@ impl Given {
         }
         Ok(())
     }
-}
-
-fn is_option(word: &str) -> bool {
-    OPTIONS.iter().any(|option| *option == word)
 }

@@ -41,17 +41,16 @@ use std::{env, fs, io};
 
 fn main(rt: HostRuntime) -> ExitCode {
     let alloc = rt.alloc();
-    let done = match words(&rt, alloc) {
-        Ok(words) => run(
-            &rt,
-            alloc,
-            words.as_slice(),
-            &mut rt.stdin(),
-            &mut rt.stdout(),
-        ),
-        Err(error) => Err(error),
+    let Ok(words) = words(&rt, alloc) else {
+        return ExitCode::FAILURE;
     };
-    match done {
+    match run(
+        &rt,
+        alloc,
+        words.as_slice(),
+        &mut rt.stdin(),
+        &mut rt.stdout(),
+    ) {
         Ok(true) => ExitCode::SUCCESS,
         Ok(false) | Err(_) => ExitCode::FAILURE,
     }

@@ -6,16 +6,21 @@
 //! - `image NAME`: the bytes of an image that a block has drawn;
 //! - `hex DIGITS`: these bytes, with spaces for the reader's eye;
 //! - `text TEXT`: the bytes of the text, in which `\n` ends a line and `\t` is a tab;
+//! - `times N TEXT`: the bytes of the text n times, behind those of the line above;
 //! - `raw MAGIC NUMBER ..`: the magic, and numbers of 4 bytes: `=N` is a word of 8 bytes, `S/R` the header of an object
-//!   of S words with R slots, `A..B` the numbers from A up to B, `A,B` both, and `NUMBER*N` stands for n of that number;
+//!   of S words with R slots, `A..B` the numbers from A up to B, `A,B` both. `NUMBER*N` stands for n of that number, and
+//!   `NUMBER*N*M` for those m times. `N+STEP` is n in the first of them, and a step more in each other;
 //! - `| LINE`: this line and its end, also if it looks like another part;
 //! - any other line: itself and its end.
-use g1_testing::text;
+use g1_testing::{raw, text};
 use g1_words::Fault;
 use std::alloc::{AllocError, Global};
 
 /// The words that a line of an image begins with, below its heading.
 const DRAWN: [&str; 5] = ["root", "dirty", "region", "remembered", "object"];
+
+/// A line that is not understood.
+pub const BAD: Fault = Fault::Line(0);
 
 /// An image that has a name.
 #[derive(Drop)]
@@ -42,8 +47,23 @@ impl Laying {
             self.drawing.push_str("\n")?;
             return Ok(());
         }
+        if let Some(times) = line.strip_prefix("times ") {
+            return self.push_times(alloc, times);
+        }
         let part = part_of(alloc, line, pictures)?;
         Ok(self.parts.push(part)?)
+    }
+
+    /// Adds a text to the last part, as often as the number before it says.
+    fn push_times(&mut self, alloc: Global, line: &str) -> Result<(), Fault> {
+        let (count, text) = line.split_once(' ').ok_or(BAD)?;
+        let count = count.parse::<u32>().ok().ok_or(BAD)?;
+        let text = unescape(alloc, text)?;
+        let last = self.parts.last_mut().ok_or(BAD)?;
+        for _again in 0..count {
+            last.extend_from_slice(text.as_slice())?;
+        }
+        Ok(())
     }
 
     /// Lays the image whose lines end here, if there is one.
@@ -80,11 +100,9 @@ fn is_drawn(word: &str) -> bool {
     DRAWN.iter().any(|drawn| *drawn == word)
 }
 
-fn first_word(line: &str) -> &str {
-    match line.split_once(' ') {
-        Some((word, _)) => word,
-        None => line,
-    }
+/// What a line begins with, up to a space.
+pub fn first_word(line: &str) -> &str {
+    line.split_once(' ').unwrap_or((line, "")).0
 }
 
 fn part_of(alloc: Global, line: &str, pictures: &[Picture]) -> Result<Vec<u8>, Fault> {
@@ -92,7 +110,7 @@ fn part_of(alloc: Global, line: &str, pictures: &[Picture]) -> Result<Vec<u8>, F
         Some(("image", name)) => bytes_of_picture(alloc, name, pictures),
         Some(("hex", digits)) => bytes_of(alloc, digits),
         Some(("text", text)) => Ok(unescape(alloc, text)?),
-        Some(("raw", numbers)) => raw_bytes(alloc, numbers),
+        Some(("raw", numbers)) => raw(alloc, numbers),
         Some(("|", text)) => Ok(line_of(alloc, text)?),
         _ if line == "|" => Ok(line_of(alloc, "")?),
         _ => Ok(line_of(alloc, line)?),
@@ -111,7 +129,7 @@ fn bytes_of_picture(alloc: Global, name: &str, pictures: &[Picture]) -> Result<V
             return Ok(picture.bytes.to_vec(alloc)?);
         }
     }
-    Err(Fault::Line(0))
+    Err(BAD)
 }
 
 /// The bytes with these hexadecimal digits, two for each.
@@ -122,9 +140,7 @@ fn bytes_of(alloc: Global, digits: &str) -> Result<Vec<u8>, Fault> {
         if digit == ' ' {
             continue;
         }
-        let Some(value) = digit.to_digit(16) else {
-            return Err(Fault::Line(0));
-        };
+        let value = digit.to_digit(16).ok_or(BAD)?;
         high = match high {
             None => Some(value),
             Some(high) => {
@@ -135,86 +151,7 @@ fn bytes_of(alloc: Global, digits: &str) -> Result<Vec<u8>, Fault> {
     }
     match high {
         None => Ok(bytes),
-        Some(_) => Err(Fault::Line(0)),
-    }
-}
-
-/// The bytes of a magic and the numbers behind it.
-fn raw_bytes(alloc: Global, numbers: &str) -> Result<Vec<u8>, Fault> {
-    let (magic, numbers) = numbers.split_once(' ').unwrap_or((numbers, ""));
-    let mut bytes = Vec::from_slice(alloc, magic.as_bytes())?;
-    for number in numbers.split_ascii_whitespace() {
-        if !push_raw(&mut bytes, number)? {
-            return Err(Fault::Line(0));
-        }
-    }
-    Ok(bytes)
-}
-
-/// Adds what a number says. Returns whether it says anything.
-fn push_raw(bytes: &mut Vec<u8>, number: &str) -> Result<bool, AllocError> {
-    let (group, count) = number.split_once('*').unwrap_or((number, "1"));
-    let Ok(count) = count.parse::<u32>() else {
-        return Ok(false);
-    };
-    for _again in 0..count {
-        if !push_group(bytes, group)? {
-            return Ok(false);
-        }
-    }
-    Ok(true)
-}
-
-fn push_group(bytes: &mut Vec<u8>, group: &str) -> Result<bool, AllocError> {
-    for number in group.split(',') {
-        let is_pushed = match number.split_once("..") {
-            Some((from, to)) => push_range(bytes, from, to)?,
-            None => push_one(bytes, number)?,
-        };
-        if !is_pushed {
-            return Ok(false);
-        }
-    }
-    Ok(true)
-}
-
-fn push_range(bytes: &mut Vec<u8>, from: &str, to: &str) -> Result<bool, AllocError> {
-    let (Ok(from), Ok(to)) = (from.parse::<u32>(), to.parse::<u32>()) else {
-        return Ok(false);
-    };
-    for number in from..to {
-        bytes.extend_from_slice(&number.to_le_bytes())?;
-    }
-    Ok(true)
-}
-
-fn push_one(bytes: &mut Vec<u8>, number: &str) -> Result<bool, AllocError> {
-    if let Some((size, slots)) = number.split_once('/') {
-        return Ok(push_number(bytes, slots)? && push_number(bytes, size)?);
-    }
-    match number.strip_prefix("=") {
-        Some(word) => push_word(bytes, word),
-        None => push_number(bytes, number),
-    }
-}
-
-fn push_number(bytes: &mut Vec<u8>, number: &str) -> Result<bool, AllocError> {
-    match number.parse::<u32>() {
-        Ok(number) => {
-            bytes.extend_from_slice(&number.to_le_bytes())?;
-            Ok(true)
-        }
-        Err(_) => Ok(false),
-    }
-}
-
-fn push_word(bytes: &mut Vec<u8>, word: &str) -> Result<bool, AllocError> {
-    match word.parse::<u64>() {
-        Ok(word) => {
-            bytes.extend_from_slice(&word.to_le_bytes())?;
-            Ok(true)
-        }
-        Err(_) => Ok(false),
+        Some(_) => Err(BAD),
     }
 }
 

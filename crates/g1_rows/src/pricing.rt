@@ -1,5 +1,5 @@
 //! What regions cost and give, and which of them are collected.
-ghost use Rattle.std.specs.Prelude.{◌≡◌, ◌≤◌, ◌*◌, length, IsTrue};
+ghost use Rattle.std.specs.Prelude.{◌≡◌, length};
 ghost use Rattle.g1_choose.specs.Choice.{MayBeLive};
 
 use crate::calling::Call;
@@ -7,7 +7,7 @@ use crate::watch::Watch;
 use g1_choose::{Candidate, choose, cost, order, total};
 use g1_mark::live_bytes;
 use g1_rem::{Starts, Tracked, image, refine};
-use g1_words::{Fault, Heap, Kind, Region};
+use g1_words::{Fault, Heap};
 use g1_work::Open;
 use std::thread::Threads;
 
@@ -32,22 +32,8 @@ pub fn add<R>(call: &Call<'_, R>, watch: &mut Watch) {
     watch.numbers(&[price]);
 }
 
-/// The live bytes, and what the budget buys.
+/// The live bytes, and what the budget buys by them and by the refined sets.
 pub fn run<R: Threads + Sync>(
-    call: &Call<'_, R>,
-    tracked: &Tracked,
-    budget: u64,
-    watch: &mut Watch,
-) -> Result<(), Fault> {
-    if call.given.has("live") {
-        buy_named(call, tracked, budget, watch)
-    } else {
-        buy(call, tracked, budget, watch)
-    }
-}
-
-/// What the budget buys by the live bytes that are counted and by the refined sets.
-fn buy<R: Threads + Sync>(
     call: &Call<'_, R>,
     tracked: &Tracked,
     budget: u64,
@@ -64,39 +50,6 @@ fn buy<R: Threads + Sync>(
     let dirty = image(tracked).log().len() as u64;
     g1_choose::laws::live_within_used();
     choose_by(call, heap, dirty, &remembered, &live, budget, watch)
-}
-
-/// What the budget buys by live bytes that a row names, and by the remembered sets as they are. No card
-/// counts as dirty.
-fn buy_named<R>(
-    call: &Call<'_, R>,
-    tracked: &Tracked,
-    budget: u64,
-    watch: &mut Watch,
-) -> Result<(), Fault> {
-    let heap = image(tracked).heap();
-    let remembered = image(tracked).remembered();
-    let live = call.given.numbers("live");
-    if !may_be_live(heap, live) || remembered.len() as u64 != heap.geometry().regions() {
-        return Err(Fault::Geometry);
-    }
-    choose_by(call, heap, 0, remembered, live, budget, watch)
-}
-
-/// Whether these may be the live bytes of the regions.
-fn may_be_live(heap: &Heap, live: &[u64]) -> bool
-    ensures { IsTrue result → MayBeLive heap.now live.now }
-{
-    if live.len() as u64 != heap.geometry().regions() {
-        return false;
-    }
-    for (region, bytes) in live.iter().enumerate() {
-        let Region { kind, top, .. } = heap.region(region as u32);
-        if matches!(kind, Kind::Ordinary) && *bytes > 8 * u64::from(top) {
-            return false;
-        }
-    }
-    true
 }
 
 /// The order of the candidates, and the set.

@@ -4,7 +4,8 @@
 //! - If there are several lines `PROGRAM WORD ..`, each of them has to leave the same.
 //! - In a row of many cases each line below `----` is `WORD .. => ANSWER`, for further words, or `PART => ANSWER`, for
 //!   what is on standard input: a `text`, an `image` or `raw` bytes.
-use crate::programs::{Run, is_program, miss_of};
+use crate::parts::{BAD, first_word};
+use crate::programs::{is_program, miss_of};
 use crate::rows::Trial;
 use g1_words::Fault;
 use std::alloc::{AllocError, Global};
@@ -16,10 +17,6 @@ pub fn is_run(body: &str) -> bool {
     is_program(first_word(body.split_once('\n').unwrap_or((body, "")).0))
 }
 
-fn first_word(line: &str) -> &str {
-    line.split_once(' ').unwrap_or((line, "")).0
-}
-
 /// What a program left, if it is not what the row expects.
 ///
 /// # Errors
@@ -29,11 +26,9 @@ pub fn first_miss<R: Threads + Files + Sync>(
     trial: &Trial<'_, R>,
     body: &str,
 ) -> Result<Option<String>, Fault> {
-    let Some((above, expected)) = body.split_once("----\n") else {
-        return Err(Fault::Line(0));
-    };
+    let (above, expected) = body.split_once("----\n").ok_or(BAD)?;
     if expected.is_empty() {
-        return Err(Fault::Line(0));
+        return Err(BAD);
     }
     let given = without_runs(trial.alloc, above)?;
     for line in above.split('\n') {
@@ -84,9 +79,7 @@ fn miss_of_case<R: Threads + Files + Sync>(
     given: &str,
     case: &str,
 ) -> Result<Option<String>, Fault> {
-    let Some((left, expected)) = case.split_once(" => ") else {
-        return Err(Fault::Line(0));
-    };
+    let (left, expected) = case.split_once(" => ").ok_or(BAD)?;
     if matches!(first_word(left), "text" | "image" | "raw") {
         let given = format!(in trial.alloc; "{given}stdin\n{left}\n")?;
         return miss_text(trial, line, given.as_str(), expected);
@@ -101,12 +94,7 @@ fn miss_text<R: Threads + Files + Sync>(
     given: &str,
     expected: &str,
 ) -> Result<Option<String>, Fault> {
-    let run = Run {
-        line,
-        given,
-        expected,
-    };
-    let Some(left) = miss_of(trial, &run)? else {
+    let Some(left) = miss_of(trial, line, given, expected)? else {
         return Ok(None);
     };
     let expected = expected.trim_end_matches('\n');

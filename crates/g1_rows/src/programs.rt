@@ -17,14 +17,6 @@ use std::{fs, io};
 /// The names of the programs.
 const NAMES: [&str; 3] = ["g1pause", "g1heap", "g1heap_at_terminal"];
 
-/// A line with a program and its words, what the program is given, and what it has to leave.
-#[derive(Clone, Copy)]
-pub struct Run<'a> {
-    pub line: &'a str,
-    pub given: &'a str,
-    pub expected: &'a str,
-}
-
 /// What a program left on its streams.
 #[derive(Drop)]
 struct Left {
@@ -38,19 +30,21 @@ pub fn is_program(name: &str) -> bool {
     NAMES.iter().any(|program| *program == name)
 }
 
-/// What a run left, if it is not what the row expects.
+/// What a program left that is called by a line of its words, if it is not what the row expects.
 ///
 /// # Errors
 ///
 /// `Fault::Line` if a line is not understood; `Fault::Device` if a file cannot be written, read or removed; `Fault::Memory`.
 pub fn miss_of<R: Threads + Files + Sync>(
     trial: &Trial<'_, R>,
-    run: &Run<'_>,
+    line: &str,
+    given: &str,
+    expected: &str,
 ) -> Result<Option<String>, Fault> {
-    let before = Scene::of_lines(trial.alloc, run.given)?;
-    let after = Scene::of_lines(trial.alloc, run.expected)?;
+    let before = Scene::of_lines(trial.alloc, given)?;
+    let after = Scene::of_lines(trial.alloc, expected)?;
     write_files(trial, before.files.as_slice())?;
-    let left = left_by(trial, run.line, &before)?;
+    let left = left_by(trial, line, &before)?;
     let miss = compare(trial, &left, &after)?;
     remove_files(trial.rt, before.files.as_slice())?;
     remove_files(trial.rt, after.files.as_slice())?;

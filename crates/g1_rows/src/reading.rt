@@ -17,8 +17,7 @@ pub fn run<R: Threads + Sync>(call: &Call<'_, R>, watch: &mut Watch) -> Result<T
     let read = decode(call.alloc, call.given.part(0))?;
     watch.image(&read);
     write_back(call.alloc, &read, watch)?;
-    list_objects(call.alloc, read.heap(), watch)?;
-    list_pins(read.heap(), watch);
+    list_regions(call.alloc, read.heap(), watch)?;
     watch.at("verify");
     match verified(call, read) {
         Ok(tracked) => {
@@ -79,23 +78,17 @@ fn sent(alloc: Global, read: &Image, room: Vec<u8>) -> Result<Vec<u8>, Fault> {
     Ok(sink.into_inner())
 }
 
-/// The starts of the objects of each region.
-fn list_objects(alloc: Global, heap: &Heap, watch: &mut Watch) -> Result<(), Fault> {
+/// The starts of the objects of each region, and whether it is pinned.
+fn list_regions(alloc: Global, heap: &Heap, watch: &mut Watch) -> Result<(), Fault> {
     for region in 0..heap.geometry().regions() as u32 {
         watch.at("objects_in");
         let starts = objects_in(alloc, heap, region)?;
         watch.numbers(starts.as_slice());
-    }
-    Ok(())
-}
-
-/// Whether each region is pinned.
-fn list_pins(heap: &Heap, watch: &mut Watch) {
-    for region in 0..heap.geometry().regions() as u32 {
         watch.at("pinned");
         let is_pinned = pinned(heap, region);
         watch.numbers(&[u8::from(is_pinned)]);
     }
+    Ok(())
 }
 
 /// Two rising lists of cards as one.

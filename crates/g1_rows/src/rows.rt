@@ -3,7 +3,7 @@
 //! - a row: a line `# WHAT IT SHOWS`, a line `CALL OPTION ..`, what the call is given, a line `----`, and
 //!   what it has to return (`parts`), where `given` stands for what it was given;
 //! - a row of many cases: below its `----` each line is `OPTION .. => ANSWER`, for one more option, or
-//!   `text TEXT => ANSWER`, for a text that the call is given;
+//!   `text TEXT => ANSWER`, for a text that the call is given, behind the one above the `----` if there is one;
 //! - a row of a trace: `# WHAT IT SHOWS`, `CALL OPTION ..`, `trace`, and lines `COMMAND [REPLY]`;
 //! - a row of a program (`program_rows`);
 //! - an image that rows may name: `image NAME`, and its lines, or other parts;
@@ -14,7 +14,7 @@
 //! large chunks: all of them are tried.
 use crate::calling::answer;
 use crate::given::Given;
-use crate::parts::{Picture, join, parts_of, trace_of};
+use crate::parts::{BAD, Picture, join, parts_of, trace_of};
 use crate::program_rows;
 use crate::verdicts::Verdicts;
 use g1_testing::is_refusal;
@@ -30,13 +30,6 @@ pub struct Trial<'a, R> {
     pub alloc: Global,
     pub pictures: &'a [Picture],
     is_refused: bool,
-}
-
-/// A row whose lines were understood.
-#[derive(Drop)]
-struct Row {
-    calls: String,
-    cases: Vec<Case>,
 }
 
 /// What a row's calls are given, and what they have to return.
@@ -98,12 +91,10 @@ fn draw_all(
 
 /// The image of a name and its lines. No other has the name.
 fn draw(alloc: Global, block: &str, pictures: &[Picture]) -> Result<Picture, Fault> {
-    let Some((name, lines)) = block.split_once('\n') else {
-        return Err(Fault::Line(0));
-    };
+    let (name, lines) = block.split_once('\n').ok_or(BAD)?;
     for picture in pictures {
         if picture.name.as_str() == name {
-            return Err(Fault::Line(0));
+            return Err(BAD);
         }
     }
     let bytes = join(alloc, parts_of(alloc, lines, pictures)?.as_slice())?;
@@ -136,15 +127,17 @@ fn why_not<R: Threads + Files + Sync>(
     verdicts: &mut Verdicts,
 ) -> Result<Option<String>, Fault> {
     if !block.starts_with("# ") {
-        return Err(Fault::Line(0));
+        return Err(BAD);
     }
     let body = without_remarks(trial.alloc, block)?;
     if program_rows::is_run(body.as_str()) {
         return program_rows::first_miss(trial, body.as_str());
     }
-    let row = row_of(trial, body.as_str())?;
-    for name in row.calls.as_str().split(',') {
-        for case in &row.cases {
+    let (call, rest) = body.as_str().split_once('\n').ok_or(BAD)?;
+    let (names, options) = call.split_once(' ').unwrap_or((call, ""));
+    let cases = cases_of(trial, options, rest)?;
+    for name in names.split(',') {
+        for case in &cases {
             if let Some(miss) = miss_of(trial, name, case, verdicts)? {
                 return Ok(Some(miss));
             }
@@ -265,52 +258,30 @@ fn without_remarks(alloc: Global, block: &str) -> Result<String, AllocError> {
     Ok(body)
 }
 
-/// The row of a block's lines, of which none is a remark.
+/// The cases of a row with these options, out of the lines below its call, of which none is a remark.
 ///
 /// # Errors
 ///
-/// `Fault::Line` if it is not understood; `Fault::Memory`.
-fn row_of<R>(trial: &Trial<'_, R>, body: &str) -> Result<Row, Fault> {
-    let Some((call, rest)) = body.split_once('\n') else {
-        return Err(Fault::Line(0));
-    };
-    let (name, options) = call.split_once(' ').unwrap_or((call, ""));
-    let mut given = Given::new(trial.alloc);
-    if !options.is_empty() {
-        given.push_words(trial.alloc, options)?;
-    }
-    let calls = String::from_str(trial.alloc, name)?;
-    let cases = cases_of(trial, &given, rest)?;
-    Ok(Row { calls, cases })
-}
-
-/// The cases of a row with these options, out of the lines below its call.
-fn cases_of<R>(trial: &Trial<'_, R>, options: &Given, rest: &str) -> Result<Vec<Case>, Fault> {
+/// `Fault::Line` if a line is not understood; `Fault::Memory`.
+fn cases_of<R>(trial: &Trial<'_, R>, options: &str, rest: &str) -> Result<Vec<Case>, Fault> {
+    let options = Given::of_words(trial.alloc, options)?;
     let mut cases = Vec::new(trial.alloc);
     if let Some(lines) = rest.strip_prefix("trace\n") {
-        cases.push(trace_case(trial.alloc, options, lines)?)?;
+        let (commands, expected) = trace_of(trial.alloc, lines)?;
+        let given = options.with(trial.alloc, &[commands])?;
+        cases.push(Case { given, expected })?;
         return Ok(cases);
     }
-    let Some((lines, expected)) = rest.split_once("----\n") else {
-        return Err(Fault::Line(0));
-    };
+    let (lines, expected) = rest.split_once("----\n").ok_or(BAD)?;
     let parts = parts_of(trial.alloc, lines, trial.pictures)?;
     if !expected.contains(" => ") {
-        cases.push(case_of(trial, options, parts.as_slice(), expected)?)?;
+        cases.push(case_of(trial, &options, parts.as_slice(), expected)?)?;
         return Ok(cases);
     }
     for line in expected.trim_end_matches('\n').split('\n') {
-        cases.push(line_case(trial, options, parts.as_slice(), line)?)?;
+        cases.push(line_case(trial, &options, parts.as_slice(), line)?)?;
     }
     Ok(cases)
-}
-
-/// The case of the lines of a trace.
-fn trace_case(alloc: Global, options: &Given, lines: &str) -> Result<Case, Fault> {
-    let (commands, expected) = trace_of(alloc, lines)?;
-    let mut given = options.copy(alloc)?;
-    given.parts.push(commands)?;
-    Ok(Case { given, expected })
 }
 
 /// The case of these options and parts.
@@ -320,27 +291,26 @@ fn case_of<R>(
     parts: &[Vec<u8>],
     expected: &str,
 ) -> Result<Case, Fault> {
-    let mut given = options.copy(trial.alloc)?;
-    given.push_parts(trial.alloc, parts)?;
+    let given = options.with(trial.alloc, parts)?;
     let expected = expected_of(trial, expected, &given)?;
     Ok(Case { given, expected })
 }
 
-/// The case of a line `OPTION .. => ANSWER` or `text TEXT => ANSWER`.
+/// The case of a line `OPTION .. => ANSWER` or `text TEXT => ANSWER`. The text goes on behind the parts.
 fn line_case<R>(
     trial: &Trial<'_, R>,
     options: &Given,
     parts: &[Vec<u8>],
     line: &str,
 ) -> Result<Case, Fault> {
-    let Some((left, right)) = line.split_once(" => ") else {
-        return Err(Fault::Line(0));
-    };
+    let (left, right) = line.split_once(" => ").ok_or(BAD)?;
     if left.starts_with("text ") {
-        let parts = parts_of(trial.alloc, left, trial.pictures)?;
-        return case_of(trial, options, parts.as_slice(), right);
+        let mut text = join(trial.alloc, parts)?;
+        let rest = parts_of(trial.alloc, left, trial.pictures)?;
+        text.extend_from_slice(join(trial.alloc, rest.as_slice())?.as_slice())?;
+        return case_of(trial, options, &[text], right);
     }
-    let mut options = options.copy(trial.alloc)?;
+    let mut options = options.with(trial.alloc, &[])?;
     options.push_words(trial.alloc, left)?;
     case_of(trial, &options, parts, right)
 }
@@ -357,7 +327,7 @@ fn expected_of<R>(trial: &Trial<'_, R>, lines: &str, given: &Given) -> Result<Ve
         }
     }
     if expected.is_empty() {
-        return Err(Fault::Line(0));
+        return Err(BAD);
     }
     Ok(expected)
 }

@@ -7,7 +7,7 @@
 //! - `status N`: the exit status, which is 0 if the line is left out. Another line of this list may follow in it.
 //! - `! TEXT`: a line of standard error, in which `\n` ends a line, too. A first or a last line `! ..` stands for any text.
 //! - `usage`: status 2, and a standard error that begins with `error: `.
-use crate::parts::{Picture, join, parts_of, unescape};
+use crate::parts::{BAD, Picture, join, parts_of, unescape};
 use g1_words::Fault;
 use std::alloc::{AllocError, Global};
 
@@ -84,10 +84,7 @@ impl Scene {
             return self.push_line(alloc, line);
         };
         let (number, rest) = rest.split_once(' ').unwrap_or((rest, ""));
-        match number.parse::<u8>() {
-            Ok(status) => self.status = status,
-            Err(_) => return Err(Fault::Line(0)),
-        }
+        self.status = number.parse::<u8>().ok().ok_or(BAD)?;
         self.push_line(alloc, rest)
     }
 
@@ -132,13 +129,12 @@ impl Scene {
     }
 
     fn push_part(&mut self, line: &str) -> Result<(), AllocError> {
-        if self.is_in_file {
-            match self.files.last_mut() {
-                Some(file) => file.push(line),
-                None => Ok(()),
-            }
-        } else {
-            self.stream.push(line)
+        if !self.is_in_file {
+            return self.stream.push(line);
+        }
+        match self.files.last_mut() {
+            Some(file) => file.push(line),
+            None => Ok(()),
         }
     }
 }

@@ -6,49 +6,55 @@ use g1_words::Fault;
 use g1_work::{Dealer, Fill, Open, Task, each_chunk, each_region_mut};
 use std::thread::Threads;
 
-/// A dealer of one chunk: the shares of its seat, those of that and of another one, and when it has its share back;
-/// whether the first draw gives the chunk and the second none; how many the other seat sees drawn; and the cursor.
+/// A dealer: the shares of its seat, those of that and of another one, and when it has its share back; what each of
+/// five draws gives, as the count of chunks if there is none left; how many the other seat sees drawn after the first; and the cursor.
 pub fn deal<R>(call: &Call<'_, R>, watch: &mut Watch) -> Result<(), Fault> {
+    let chunks = call.given.first("count", 1).min(1_000);
     watch.at("deal");
-    let (dealer, mut seat) = Dealer::new(call.alloc, 1)?;
+    let (dealer, mut seat) = Dealer::new(call.alloc, chunks)?;
     let whole = g1_work::shares(&seat);
     let mut other = dealer.split(&mut seat);
     let parts = [g1_work::shares(&seat), g1_work::shares(&other)];
     let first = dealer.take(&mut seat);
-    let second = dealer.take(&mut seat);
     let drawn = dealer.drawn(&mut other);
     dealer.join(&mut seat, other);
     let joined = g1_work::shares(&seat);
+    let second = dealer.take(&mut seat);
+    let third = dealer.take(&mut seat);
+    let fourth = dealer.take(&mut seat);
+    let fifth = dealer.take(&mut seat);
     let cursor = dealer.close(seat);
     if watch.is_over() {
         watch.list(&[whole, parts[0], parts[1], joined]);
-        watch.list(&[
-            u64::from(first == Some(0)),
-            u64::from(second.is_none()),
-            drawn,
-            cursor,
-        ]);
+        for draw in [first, second, third, fourth, fifth] {
+            watch.list(&[draw.unwrap_or(chunks)]);
+        }
+        watch.list(&[drawn, cursor]);
     }
     Ok(())
 }
 
 /// A table of two claim words: the shares of its seat; those of that and of another one, and when it has its share back;
-/// whether either of two ranks lowers the first word; what the other seat sees there; and the words.
+/// whether each of four ranks lowers the first word; what the other seat sees there, before and after; and the words.
 pub fn claim<R>(call: &Call<'_, R>, watch: &mut Watch) -> Result<(), Fault> {
     watch.at("claim");
     let (claims, mut seat) = Claims::new(call.alloc, 2)?;
     let whole = g1_claim::shares(&seat);
     let mut other = claims.split(&mut seat);
     let parts = [g1_claim::shares(&seat), g1_claim::shares(&other)];
+    let before = claims.least(&mut other, 0);
     let first = claims.offer(&mut seat, 0, 9);
-    let second = claims.offer(&mut seat, 0, 12);
-    let least = claims.least(&mut other, 0);
+    let second = claims.offer(&mut seat, 0, 9);
+    let third = claims.offer(&mut seat, 0, 12);
+    let fourth = claims.offer(&mut seat, 0, 4);
+    let after = claims.least(&mut other, 0);
     claims.join(&mut seat, other);
     let joined = g1_claim::shares(&seat);
     let words = claims.close(seat);
     if watch.is_over() {
         watch.list(&[whole, parts[0], parts[1], joined]);
-        watch.list(&[u64::from(first), u64::from(second), least]);
+        watch.list(&[first, second, third, fourth]);
+        watch.list(&[before, after]);
         watch.list(words.as_slice());
     }
     Ok(())

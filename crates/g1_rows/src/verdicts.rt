@@ -75,11 +75,8 @@ impl Verdicts {
             bad,
             tallies,
         } = self;
-        for Tally {
-            call,
-            refused,
-            memory,
-        } in &tallies {
+        for tally in &tallies {
+            let (call, refused, memory) = (tally.call.as_str(), tally.refused, tally.memory);
             write!(
                 text,
                 "{call}: {refused} runs were refused memory, {memory} returned Memory\n"

@@ -1,176 +1,232 @@
-use crate::sketch::Sketch;
+//! Images as lines: they are read into a drawing, and its bytes are laid by hand.
 use g1_words::Fault;
-use std::alloc::Global;
+use std::alloc::{AllocError, Global};
 use std::str::SplitAsciiWhitespace;
 
-/// The sketch that the lines tell.
+/// A line that draws nothing.
+const BAD: Fault = Fault::Line(0);
+
+/// The kinds of region that no line draws: 0 is free, and 3 goes on with a humongous object.
+const FREE: u32 = 0;
+
+const CONTINUATION: u32 = 3;
+
+/// A region: its kind and flags, the cards that it remembers, and all words of its objects.
+#[derive(Drop)]
+struct Part {
+    kind: u32,
+    flags: u32,
+    remembered: Vec<u32>,
+    words: Vec<u64>,
+}
+
+/// An image as far as its lines are read. It may break any rule of images.
+#[derive(Drop)]
+struct Drawing {
+    alloc: Global,
+    region_words: u32,
+    card_words: u32,
+    regions: u32,
+    current: Option<u32>,
+    roots: Vec<u64>,
+    dirty: Vec<u32>,
+    parts: Vec<Part>,
+}
+
+/// The bytes, of version 2, of the image that the lines draw.
 ///
 /// # Errors
 ///
 /// `Fault::Line` with the number of the first line that draws nothing, counted from 1; `Fault::Memory`.
-pub(crate) fn drawn(alloc: Global, lines: &str) -> Result<Sketch, Fault> {
-    let mut sketch = Sketch::new(alloc, 0, 0, 0);
-    draw(alloc, lines, &mut sketch)?;
-    Ok(sketch)
-}
-
-fn draw(alloc: Global, lines: &str, sketch: &mut Sketch) -> Result<(), Fault> {
+pub(crate) fn bytes_of(alloc: Global, lines: &str) -> Result<Vec<u8>, Fault> {
+    let mut drawing = Drawing::new(alloc);
     let mut number = 0u64;
     for line in lines.split('\n') {
         number = number.saturating_add(1);
+        match drawing.read(line) {
+            Err(Fault::Line(_)) => return Err(Fault::Line(number)),
+            outcome => outcome?,
+        }
+    }
+    Ok(drawing.bytes()?)
+}
+
+impl Drawing {
+    fn new(alloc: Global) -> Drawing {
+        Drawing {
+            alloc,
+            region_words: 0,
+            card_words: 0,
+            regions: 0,
+            current: None,
+            roots: Vec::new(alloc),
+            dirty: Vec::new(alloc),
+            parts: Vec::new(alloc),
+        }
+    }
+
+    fn read(&mut self, line: &str) -> Result<(), Fault> {
         let mut words = line.split_ascii_whitespace();
-        if !read(alloc, sketch, &mut words)? || words.next().is_some() {
-            return Err(Fault::Line(number));
+        match words.next() {
+            None => {}
+            Some("heap") => self.read_heap(&mut words)?,
+            Some("root") => {
+                let word = words.next().and_then(reference).ok_or(BAD)?;
+                self.roots.push(word)?;
+            }
+            Some("dirty") => push_cards(&mut self.dirty, &mut words)?,
+            Some("region") => self.read_region(&mut words)?,
+            Some("remembered") => self.read_remembered(&mut words)?,
+            Some("object") => self.read_object(&mut words)?,
+            Some(_) => return Err(BAD),
+        }
+        match words.next() {
+            None => Ok(()),
+            Some(_) => Err(BAD),
+        }
+    }
+
+    /// heap W K N [current C]
+    fn read_heap(&mut self, words: &mut SplitAsciiWhitespace<'_>) -> Result<(), Fault> {
+        self.region_words = number(words)?;
+        self.card_words = number(words)?;
+        self.regions = number(words)?;
+        match words.next() {
+            None => {}
+            Some("current") => self.current = Some(number(words)?),
+            Some(_) => return Err(BAD),
+        }
+        Ok(())
+    }
+
+    /// region R KIND [pinned]; those before it that no line draws are free, or hold the rest of a humongous object.
+    fn read_region(&mut self, words: &mut SplitAsciiWhitespace<'_>) -> Result<(), Fault> {
+        let region = number(words)?;
+        for _free in self.parts.len()..region as usize {
+            self.begin(FREE, 0)?;
+        }
+        let kind = match words.next() {
+            Some("ordinary") => 1,
+            Some("humongous") => 2,
+            _ => return Err(BAD),
+        };
+        match words.next() {
+            None => Ok(self.begin(kind, 0)?),
+            Some("pinned") => Ok(self.begin(kind, 1)?),
+            Some(_) => Err(BAD),
+        }
+    }
+
+    fn begin(&mut self, kind: u32, flags: u32) -> Result<(), AllocError> {
+        let remembered = Vec::new(self.alloc);
+        let words = Vec::new(self.alloc);
+        self.parts.push(Part {
+            kind,
+            flags,
+            remembered,
+            words,
+        })?;
+        Ok(())
+    }
+
+    /// remembered R cards CARD .., below the line of region R
+    fn read_remembered(&mut self, words: &mut SplitAsciiWhitespace<'_>) -> Result<(), Fault> {
+        let region = number(words)? as usize;
+        let last = self.parts.len().saturating_sub(1);
+        match self.parts.last_mut() {
+            Some(part) if region == last => push_cards(&mut part.remembered, words),
+            _ => Err(BAD),
+        }
+    }
+
+    /// object SIZE/SLOTS REFERENCE .. WORD .., with ".." for null slots and data words of 0
+    fn read_object(&mut self, words: &mut SplitAsciiWhitespace<'_>) -> Result<(), Fault> {
+        let (size, slots) = words.next().and_then(size_and_slots).ok_or(BAD)?;
+        let part = self.parts.last_mut().ok_or(BAD)?;
+        part.words.push(u64::from(size) << 32 | u64::from(slots))?;
+        let mut is_rest = false;
+        for place in 1..size {
+            let word = if is_rest { None } else { words.next() };
+            is_rest |= word == Some("..");
+            let value = match word {
+                _ if is_rest => Some(0),
+                Some(word) if place <= slots => reference(word),
+                Some(word) => word.parse::<u64>().ok(),
+                None => None,
+            };
+            part.words.push(value.ok_or(BAD)?)?;
+        }
+        Ok(())
+    }
+
+    fn bytes(&self) -> Result<Vec<u8>, AllocError> {
+        let mut out = Vec::from_slice(self.alloc, b"G1IMAGE2")?;
+        push_all(
+            &mut out,
+            &[self.region_words, self.card_words, self.regions],
+        )?;
+        push_count(&mut out, self.roots.len())?;
+        push_count(&mut out, self.dirty.len())?;
+        push_all(&mut out, &[self.current.unwrap_or(self.regions)])?;
+        self.push_table(&mut out)?;
+        push_words(&mut out, &self.roots)?;
+        push_all(&mut out, &self.dirty)?;
+        self.push_remembered(&mut out)?;
+        for part in &self.parts {
+            push_words(&mut out, &part.words)?;
+        }
+        Ok(out)
+    }
+
+    /// The kind, the used words and the flags of each region. What is left of a humongous object goes on in the regions
+    /// behind it.
+    fn push_table(&self, out: &mut Vec<u8>) -> Result<(), AllocError> {
+        let width = self.region_words as usize;
+        let mut left = 0usize;
+        for region in 0..self.regions as usize {
+            let (kind, used, flags) = match self.parts.get(region) {
+                Some(part) if part.kind != FREE => (part.kind, part.words.len(), part.flags),
+                _ if left > 0 => (CONTINUATION, left, 0),
+                _ => (FREE, 0, 0),
+            };
+            push_all(out, &[kind])?;
+            push_count(out, used.min(width))?;
+            push_all(out, &[flags])?;
+            left = used.saturating_sub(width);
+        }
+        Ok(())
+    }
+
+    fn push_remembered(&self, out: &mut Vec<u8>) -> Result<(), AllocError> {
+        for region in 0..self.regions as usize {
+            let cards = match self.parts.get(region) {
+                Some(part) => part.remembered.as_slice(),
+                None => &[],
+            };
+            push_count(out, cards.len())?;
+            push_all(out, cards)?;
+        }
+        Ok(())
+    }
+}
+
+fn number(words: &mut SplitAsciiWhitespace<'_>) -> Result<u32, Fault> {
+    let number = words.next().and_then(|word| word.parse::<u32>().ok());
+    number.ok_or(BAD)
+}
+
+/// cards CARD ..
+fn push_cards(cards: &mut Vec<u32>, words: &mut SplitAsciiWhitespace<'_>) -> Result<(), Fault> {
+    if words.next() != Some("cards") {
+        return Err(BAD);
+    }
+    for word in words {
+        match word.parse::<u32>() {
+            Ok(card) => cards.push(card)?,
+            Err(_) => return Err(BAD),
         }
     }
     Ok(())
-}
-
-/// Reads a line, and tells whether it draws something.
-fn read(
-    alloc: Global,
-    sketch: &mut Sketch,
-    words: &mut SplitAsciiWhitespace<'_>,
-) -> Result<bool, Fault> {
-    match words.next() {
-        Some(first) => read_rest(alloc, sketch, first, words),
-        None => Ok(true),
-    }
-}
-
-fn read_rest(
-    alloc: Global,
-    sketch: &mut Sketch,
-    first: &str,
-    words: &mut SplitAsciiWhitespace<'_>,
-) -> Result<bool, Fault> {
-    match first {
-        "heap" => Ok(heap(alloc, sketch, words)),
-        "root" => root(sketch, words),
-        "dirty" => dirty(sketch, words),
-        "region" => region(alloc, sketch, words),
-        "remembered" => remembered(sketch, words),
-        "object" => object(sketch, words),
-        _ => Ok(false),
-    }
-}
-
-/// heap W K N [current C]
-fn heap(alloc: Global, sketch: &mut Sketch, words: &mut SplitAsciiWhitespace<'_>) -> bool {
-    let (Some(w), Some(k), Some(n)) = (number(words), number(words), number(words)) else {
-        return false;
-    };
-    *sketch = Sketch::new(alloc, w, k, n);
-    match words.next() {
-        None => true,
-        Some("current") => match number(words) {
-            Some(region) => {
-                sketch.current(region);
-                true
-            }
-            None => false,
-        },
-        Some(_) => false,
-    }
-}
-
-/// root REFERENCE
-fn root(sketch: &mut Sketch, words: &mut SplitAsciiWhitespace<'_>) -> Result<bool, Fault> {
-    match words.next().and_then(reference) {
-        Some(word) => {
-            sketch.root(word)?;
-            Ok(true)
-        }
-        None => Ok(false),
-    }
-}
-
-/// dirty cards CARD ..
-fn dirty(sketch: &mut Sketch, words: &mut SplitAsciiWhitespace<'_>) -> Result<bool, Fault> {
-    if words.next() != Some("cards") {
-        return Ok(false);
-    }
-    for word in words {
-        match word.parse::<u32>() {
-            Ok(card) => sketch.dirty(card)?,
-            Err(_) => return Ok(false),
-        }
-    }
-    Ok(true)
-}
-
-/// region R KIND [pinned]; those before it that no line tells are free, or hold the rest of a humongous object.
-fn region(
-    alloc: Global,
-    sketch: &mut Sketch,
-    words: &mut SplitAsciiWhitespace<'_>,
-) -> Result<bool, Fault> {
-    let Some(region) = number(words) else {
-        return Ok(false);
-    };
-    for _free in sketch.begun()..region as usize {
-        sketch.free(alloc)?;
-    }
-    match words.next() {
-        Some("ordinary") => sketch.ordinary(alloc)?,
-        Some("humongous") => sketch.humongous(alloc)?,
-        _ => return Ok(false),
-    }
-    match words.next() {
-        None => Ok(true),
-        Some("pinned") => {
-            sketch.pin();
-            Ok(true)
-        }
-        Some(_) => Ok(false),
-    }
-}
-
-/// remembered R cards CARD .., below the line of region R
-fn remembered(sketch: &mut Sketch, words: &mut SplitAsciiWhitespace<'_>) -> Result<bool, Fault> {
-    let last = sketch.begun().saturating_sub(1);
-    let is_last = number(words).is_some_and(|region| region as usize == last);
-    if !is_last || words.next() != Some("cards") {
-        return Ok(false);
-    }
-    for word in words {
-        match word.parse::<u32>() {
-            Ok(card) => sketch.remember(card, 1)?,
-            Err(_) => return Ok(false),
-        }
-    }
-    Ok(true)
-}
-
-/// object SIZE/SLOTS REFERENCE .. WORD .., with ".." for null slots and data words of 0
-fn object(sketch: &mut Sketch, words: &mut SplitAsciiWhitespace<'_>) -> Result<bool, Fault> {
-    let Some((size, slots)) = words.next().and_then(size_and_slots) else {
-        return Ok(false);
-    };
-    // Written by hand, so that the tests don't lay images by the writers that they test.
-    sketch.words(&[u64::from(size) << 32 | u64::from(slots)])?;
-    let mut rest = false;
-    for place in 1..size {
-        let word = match words.next() {
-            None if rest => Some(0),
-            Some("..") => {
-                rest = true;
-                Some(0)
-            }
-            Some(word) if place <= slots => reference(word),
-            Some(word) => word.parse::<u64>().ok(),
-            None => None,
-        };
-        match word {
-            Some(word) => sketch.words(&[word])?,
-            None => return Ok(false),
-        }
-    }
-    Ok(true)
-}
-
-fn number(words: &mut SplitAsciiWhitespace<'_>) -> Option<u32> {
-    words.next()?.parse::<u32>().ok()
 }
 
 /// A dash for null or an address, as a slot holds it.
@@ -184,4 +240,23 @@ fn reference(word: &str) -> Option<u64> {
 fn size_and_slots(word: &str) -> Option<(u32, u32)> {
     let (size, slots) = word.split_once('/')?;
     Some((size.parse::<u32>().ok()?, slots.parse::<u32>().ok()?))
+}
+
+/// Adds how many there are; a test has no more than fit.
+fn push_count(out: &mut Vec<u8>, count: usize) -> Result<(), AllocError> {
+    push_all(out, &[u32::try_from(count).unwrap_or(u32::MAX)])
+}
+
+fn push_all(out: &mut Vec<u8>, numbers: &[u32]) -> Result<(), AllocError> {
+    for number in numbers {
+        out.extend_from_slice(&number.to_le_bytes())?;
+    }
+    Ok(())
+}
+
+fn push_words(out: &mut Vec<u8>, words: &[u64]) -> Result<(), AllocError> {
+    for word in words {
+        out.extend_from_slice(&word.to_le_bytes())?;
+    }
+    Ok(())
 }

@@ -2,7 +2,7 @@
 //! and cards have 4. Each picture is a function, so that a proof that names one doesn't have it before
 //! it. Of a picture and the one named `after` it, the second is by hand what a pause makes of the first.
 
-/// Region 1 holds one object of four words, which the one root names.
+/// Region 1 holds one object of four words, which the one root references.
 pub fn one_object() -> &'static str {
     "heap 16 4 4
      root 16
@@ -18,17 +18,7 @@ pub fn one_object_after() -> &'static str {
      object 4/1 - 7 9"
 }
 
-/// The slot at 1 names the object at 16. There are no roots.
-pub fn outside_slot() -> &'static str {
-    "heap 16 4 4
-     region 0 ordinary
-     object 2/1 16
-     region 1 ordinary
-     remembered 1 cards 0
-     object 3/0 1 2"
-}
-
-/// The roots name 21 and 16, two slots outside name 21, and so do all three slots of 16.
+/// The roots reference 21 and 16, two slots outside reference 21, and so do all three slots of 16.
 pub fn shared() -> &'static str {
     "heap 16 4 4
      root 21
@@ -56,7 +46,7 @@ pub fn shared_after() -> &'static str {
      object 5/3 32 32 32 1"
 }
 
-/// A humongous object over three regions has its slot at 17 name the object at 48.
+/// The slot at 17 of a humongous object over three regions references the object at 48.
 pub fn humongous() -> &'static str {
     "heap 16 4 6
      root 0
@@ -65,48 +55,4 @@ pub fn humongous() -> &'static str {
      region 3 ordinary
      remembered 3 cards 4
      object 2/0 4"
-}
-
-/// Objects of 12, 5 and 4 words in regions 0 and 1, each named by a root.
-pub fn gap() -> &'static str {
-    "heap 16 4 4
-     root 0
-     root 16
-     root 21
-     region 0 ordinary
-     object 12/0 ..
-     region 1 ordinary
-     object 5/0 ..
-     object 4/0 .."
-}
-
-/// The object of 12 words alone in region 2, the others in region 3.
-pub fn gap_after() -> &'static str {
-    "heap 16 4 4
-     root 32
-     root 48
-     root 53
-     region 2 ordinary
-     object 12/0 ..
-     region 3 ordinary
-     object 5/0 ..
-     object 4/0 .."
-}
-
-/// Three regions with live and dead objects, and a remembered card that is out of date.
-pub fn three_regions() -> &'static str {
-    "heap 16 4 6
-     root 0
-     root 16
-     root 32
-     region 0 ordinary
-     object 2/0 1
-     object 2/0 1
-     region 1 ordinary
-     object 2/0 1
-     object 2/0 1
-     region 2 ordinary
-     remembered 2 cards 0
-     object 1/0
-     object 1/0"
 }

@@ -1,59 +1,25 @@
-ghost use Rattle.std.specs.Prelude.{◌≡◌, ◌<◌, ◌≤◌, ◌^◌, IfOk};
+ghost use Rattle.std.specs.Prelude.{◌≡◌, ◌<◌, ◌≤◌, IfOk};
 ghost use Rattle.g1_claim.specs.Claims.{IsSeatOf};
 
 use crate::expecting::expect_equal;
 use g1_claim::{ClaimSeat, Claims, EMPTY, shares};
 use std::alloc::AllocError;
-use std::process::Abort;
 use std::sync::Wait;
 use std::test::Fail;
 use std::thread;
 use std::thread::{Promise, Threads};
 
-// The word of the first place.
-fn expect_least<T: Abort>(rt: &T, claims: &Claims, seat: &mut ClaimSeat, word: u64)
-    requires seat { IsSeatOf claims.now seat.old }
-    requires place { 0 < claims.now.places }
-    ensures seat { IsSeatOf claims.now seat.new }
-    ensures shares { seat.new.hand.shares ≡ seat.old.hand.shares }
-{
-    expect_equal(rt, claims.least(seat, 0), word);
-}
-
-// Whether a rank lowers the word of the first place.
-fn expect_offer<T: Abort>(rt: &T, claims: &Claims, seat: &mut ClaimSeat, rank: u64, lowers: bool)
-    requires seat { IsSeatOf claims.now seat.old }
-    requires place { 0 < claims.now.places }
-    requires rank { rank < 2 ^ 32 }
-    ensures seat { IsSeatOf claims.now seat.new }
-    ensures shares { seat.new.hand.shares ≡ seat.old.hand.shares }
-{
-    expect_equal(rt, claims.offer(seat, 0, rank), lowers);
-}
+// As many places as there are words in the largest heap.
+const PLACES: u64 = 16_777_216;
 
 #[test]
-fn a_word_falls_to_the_least_rank(rt: HostRuntime) -> Result<(), Fail> {
-    let (claims, mut seat) = Claims::new(rt.alloc(), 1)?;
-    expect_least(&rt, &claims, &mut seat, EMPTY);
-    expect_offer(&rt, &claims, &mut seat, 9, true);
-    expect_offer(&rt, &claims, &mut seat, 9, false);
-    expect_offer(&rt, &claims, &mut seat, 12, false);
-    expect_offer(&rt, &claims, &mut seat, 4, true);
-    expect_least(&rt, &claims, &mut seat, 4);
-    expect_equal(&rt, claims.close(seat).as_slice(), [4].as_slice());
-    Ok(())
-}
-
-#[test]
-fn another_seat_sees_an_offer(rt: HostRuntime) -> Result<(), Fail> {
-    let (claims, mut seat) = Claims::new(rt.alloc(), 2)?;
-    let mut other = claims.split(&mut seat);
-    expect_equal(&rt, (shares(&seat), shares(&other)), (63, 1));
-    expect_offer(&rt, &claims, &mut seat, 4, true);
-    expect_least(&rt, &claims, &mut other, 4);
-    claims.join(&mut seat, other);
+fn the_largest_table_is_made(rt: HostRuntime) -> Result<(), Fail> {
+    let (claims, mut seat) = Claims::new(rt.alloc(), PLACES)?;
     expect_equal(&rt, shares(&seat), 64);
-    expect_equal(&rt, claims.close(seat).as_slice(), [4, EMPTY].as_slice());
+    expect_equal(&rt, claims.least(&mut seat, PLACES - 1), EMPTY);
+    assert!(rt; claims.offer(&mut seat, PLACES - 1, 7));
+    expect_equal(&rt, claims.least(&mut seat, PLACES - 1), 7);
+    expect_equal(&rt, claims.least(&mut seat, 4_194_304), EMPTY);
     Ok(())
 }
 

@@ -1,18 +1,19 @@
-//! That all workers work at the same time, up to the 64 that there may be.
-ghost use Rattle.std.specs.Prelude.{◌≡◌, ◌<◌, ◌^◌};
+//! That workers work at the same time, up to the 64 that there may be.
+ghost use Rattle.std.specs.Prelude.{◌<◌, ◌^◌};
 ghost use Rattle.g1_work.specs.Team.{AreWorkers};
 
 use crate::expecting::{UNIT, bytes_after, collecting, expect_equal};
-use crate::gates::Crowd;
-use crate::regions::Numbers;
-use g1_image::decode;
+use crate::gates::{Counting, Crowd};
+use crate::work::{Numbers, squared_chunks};
+use g1_image::{Image, decode};
 use g1_mark::live_bytes;
 use g1_rem::Starts;
-use g1_testing::Sketch;
+use g1_testing::pictures::{shared, shared_after};
+use g1_testing::{image, raw, text};
 use g1_trace::run_text;
 use g1_words::Fault;
-use g1_work::{Gate, Part, Task, Team, each_chunk, each_region_mut};
-use std::alloc::{AllocError, Global};
+use g1_work::{Gate, Part, Team, each_region_mut};
+use std::alloc::Global;
 use std::process::Abort;
 use std::test::Fail;
 use std::thread::Threads;
@@ -27,10 +28,10 @@ fn expect_filled<T: Threads + Clock + Abort + Sync>(
 ) -> Result<(), Fail>
     requires { AreWorkers workers }
 {
-    let gate = Crowd::new(rt, Part::Fill, workers);
+    let gate = Crowd::new(rt, Part::Fill, workers, 1);
     let mut words = vec![in alloc; u64::MAX; regions as usize]?;
     each_region_mut(rt, workers, &mut words, 1, &Numbers, &gate);
-    expect_equal(rt, gate.most(), workers);
+    expect_equal(rt, gate.met(), 1);
     for (region, word) in words.iter().enumerate() {
         expect_equal(rt, *word, region as u64);
     }
@@ -54,25 +55,6 @@ fn all_workers_fill_regions_at_once(rt: HostRuntime) -> Result<(), Fail> {
     Ok(())
 }
 
-/// Gives the chunk.
-struct Same;
-
-impl Task for Same {
-    type State = ();
-
-    type Out = u64;
-
-    ghost ready = { λ _ _ _. Unit {0} };
-
-    ghost runs = { λ _ _ chunk _ out. out ≡ chunk };
-
-    ghost may_fail = { λ _ _ _. ⊥ };
-
-    fn run(&self, _state: &mut (), chunk: u64) -> Result<u64, Fault> {
-        Ok(chunk)
-    }
-}
-
 /// Sees that this many workers draw chunks at the same time.
 fn expect_drawn<T: Threads + Clock + Abort + Sync>(
     rt: &T,
@@ -83,18 +65,20 @@ fn expect_drawn<T: Threads + Clock + Abort + Sync>(
     requires workers { AreWorkers workers }
     requires chunks { chunks < 2 ^ 32 }
 {
-    let gate = Crowd::new(rt, Part::Deal, workers);
-    let states = vec![in alloc; (); workers as usize]?;
-    let (_, outs) = each_chunk(rt, alloc, states, chunks, &Same, &gate)?;
-    expect_equal(rt, gate.most(), workers);
+    let gate = Crowd::new(rt, Part::Deal, workers, 1);
+    let (_, outs) = squared_chunks(rt, alloc, workers as usize, chunks, &gate)?;
+    expect_equal(rt, gate.met(), 1);
     expect_equal(rt, outs.len() as u64, chunks);
+    for (chunk, out) in outs.iter().enumerate() {
+        expect_equal(rt, *out, (chunk as u64).wrapping_mul(chunk as u64));
+    }
     Ok(())
 }
 
 #[test]
 fn all_workers_draw_chunks_at_once(rt: HostRuntime) -> Result<(), Fail> {
     let alloc = rt.alloc();
-    for (workers, chunks) in [(2, 9), (2, 64), (2, 1_000), (3, 3), (4, 64), (5, 5)] {
+    for (workers, chunks) in [(2, 9), (2, 64), (2, 1_000), (3, 3), (4, 1_000), (5, 5)] {
         expect_drawn(&rt, alloc, workers, chunks)?;
     }
     for (workers, chunks) in [(9, 9), (17, 100), (33, 33), (64, 64), (64, 1_000)] {
@@ -103,46 +87,52 @@ fn all_workers_draw_chunks_at_once(rt: HostRuntime) -> Result<(), Fail> {
     Ok(())
 }
 
-/// How many objects a field has, and the regions that they fill.
-const OBJECTS: u64 = 131_072;
-
-const REGIONS: u32 = 32;
-
-/// How many regions the object takes that references them all.
-const RUN: u32 = 33;
-
-/// The one root references a humongous object, whose slots reference the objects of one word each that fill 32
-/// regions from this one on.
-fn field(alloc: Global, first: u32) -> Result<Sketch, AllocError> {
-    let mut sketch = Sketch::new(alloc, 4_096, 64, 128);
-    sketch.root(1)?;
-    let mut targets = Vec::new(alloc);
-    for object in 0..OBJECTS {
-        targets.push(u64::from(first) * 4_096 + object)?;
-    }
-    sketch.humongous(alloc)?;
-    sketch.object(&targets, &[])?;
-    for _free in 1..first {
-        sketch.free(alloc)?;
-    }
-    for region in 0..REGIONS {
-        sketch.ordinary(alloc)?;
-        sketch.remember(region * 64, 65)?;
-        for _ in 0..4_096 {
-            sketch.object(&[], &[])?;
-        }
-    }
-    Ok(sketch)
+/// Sees that a pause that collects these regions makes the one picture of the other.
+fn expect_pause<T: Threads + Abort + Sync, G: Gate + Sync>(
+    rt: &T,
+    alloc: Global,
+    pictures: (&str, &str),
+    regions: &[u32],
+    workers: u64,
+    gate: &G,
+) -> Result<(), Fail> {
+    let settings = collecting(alloc, regions, workers, 1)?;
+    let found = bytes_after(rt, alloc, image(alloc, pictures.0)?, &settings, gate)?;
+    let expected = text(alloc, pictures.1)?;
+    expect_equal(rt, found.as_slice(), expected.as_slice());
+    Ok(())
 }
 
-fn field_before(alloc: Global) -> Result<Vec<u8>, AllocError> {
-    field(alloc, RUN)?.text(alloc)
+/// Two workers meet in both rounds of the search, and two and four when they write.
+#[test]
+fn workers_meet_in_each_round(rt: HostRuntime) -> Result<(), Fail> {
+    let alloc = rt.alloc();
+    for (part, workers, times) in [(Part::Deal, 2, 2), (Part::Fill, 2, 1), (Part::Fill, 4, 1)] {
+        let gate = Crowd::new(&rt, part, workers, times);
+        expect_pause(&rt, alloc, (shared(), shared_after()), &[1], workers, &gate)?;
+        expect_equal(&rt, gate.met(), times);
+    }
+    Ok(())
 }
 
-/// The objects stand behind the regions that were theirs.
-fn field_after(alloc: Global) -> Result<Vec<u8>, AllocError> {
-    field(alloc, RUN + REGIONS)?.text(alloc)
+#[test]
+fn a_commit_fills_a_run_for_each_worker(rt: HostRuntime) -> Result<(), Fail> {
+    let gate = Counting::new(Part::Fill);
+    expect_pause(&rt, rt.alloc(), (shared(), shared_after()), &[1], 3, &gate)?;
+    expect_equal(&rt, gate.calls(), 0x01_0101);
+    Ok(())
 }
+
+/// The one root references a humongous object of 33 regions, whose slots reference the 131,072 objects of one word each that
+/// fill the 32 regions behind it.
+const FIELD: &str = "G1IMAGE2 4096 64 128 1 0 128 \
+    2,4096,0 3,4096,0*31 3,1,0 1,4096,0*32 0,0,0*63 =1 0*33 65,0+64..65+64*32 0*63 \
+    131073/131072 =135169+1*131072 1/0*131072";
+
+/// The objects of the field stand behind the regions that were theirs.
+const FIELD_AFTER: &str = "G1IMAGE2 4096 64 128 1 0 128 \
+    2,4096,0 3,4096,0*31 3,1,0 0,0,0*32 1,4096,0*32 0,0,0*31 =1 0*65 65,0+64..65+64*32 0*31 \
+    131073/131072 =266241+1*131072 1/0*131072";
 
 /// The root and the cards of the slots are one chunk, and the objects of the field 64.
 const CHUNK: u64 = 2_060;
@@ -164,42 +154,55 @@ impl<'a, C: Clock> Gate for Both<'a, C> {
 #[test]
 fn all_workers_search_and_write_at_once(rt: HostRuntime) -> Result<(), Fail> {
     let alloc = rt.alloc();
-    let before = decode(alloc, &field_before(alloc)?)?;
+    let before = decode(alloc, &raw(alloc, FIELD)?)?;
     let gate = Both {
-        deal: Crowd::new(&rt, Part::Deal, 64),
-        fill: Crowd::new(&rt, Part::Fill, 64),
+        deal: Crowd::new(&rt, Part::Deal, 64, 1),
+        fill: Crowd::new(&rt, Part::Fill, 64, 1),
     };
-    let set = (RUN..RUN + REGIONS).collect::<Vec<u32>>(alloc)?;
+    let set = (33..65).collect::<Vec<u32>>(alloc)?;
     let settings = collecting(alloc, set.as_slice(), 64, CHUNK)?;
     let found = bytes_after(&rt, alloc, before, &settings, &gate)?;
-    expect_equal(&rt, (gate.deal.most(), gate.fill.most()), (64, 64));
-    let expected = field_after(alloc)?;
+    expect_equal(&rt, (gate.deal.met(), gate.fill.met()), (1, 1));
+    let expected = raw(alloc, FIELD_AFTER)?;
     assert!(rt; found.as_slice() == expected.as_slice());
     Ok(())
 }
 
-/// The live bytes of each region of the field.
+/// The live bytes of each region of an image.
 fn live_of<R: Threads + Sync, G: Gate + Sync>(
     rt: &R,
     alloc: Global,
+    image: &Image,
+    team: Team,
     gate: &G,
 ) -> Result<Vec<u64>, Fault> {
-    let bytes = field_before(alloc)?;
-    let image = decode(alloc, &bytes)?;
+    let (workers, chunk) = (team.workers(), team.chunk());
     let starts = Starts::build(alloc, image.heap())?;
-    live_bytes(rt, alloc, image.heap(), &starts, 64, CHUNK, gate)
+    live_bytes(rt, alloc, image.heap(), &starts, workers, chunk, gate)
+}
+
+#[test]
+fn workers_meet_when_live_bytes_are_counted(rt: HostRuntime) -> Result<(), Fail> {
+    let alloc = rt.alloc();
+    let gate = Crowd::new(&rt, Part::Deal, 2, 2);
+    let live = live_of(&rt, alloc, &image(alloc, shared())?, Team::new(2, 1), &gate)?;
+    expect_equal(&rt, gate.met(), 2);
+    expect_equal(&rt, live.as_slice(), [0, 56, 0, 0].as_slice());
+    Ok(())
 }
 
 /// They meet in the third round, after the root's and that of the object that it references.
 #[test]
 fn all_workers_count_live_bytes_at_once(rt: HostRuntime) -> Result<(), Fail> {
-    let gate = Crowd::new(&rt, Part::Deal, 64);
-    let live = live_of(&rt, rt.alloc(), &gate)?;
-    expect_equal(&rt, gate.most(), 64);
+    let alloc = rt.alloc();
+    let gate = Crowd::new(&rt, Part::Deal, 64, 1);
+    let field = decode(alloc, &raw(alloc, FIELD)?)?;
+    let live = live_of(&rt, alloc, &field, Team::new(64, CHUNK), &gate)?;
+    expect_equal(&rt, gate.met(), 1);
     expect_equal(&rt, live.len(), 128);
     for (region, bytes) in live.iter().enumerate() {
         let expected = match region {
-            0 => 8 * (OBJECTS + 1),
+            0 => 8 * 131_073,
             33..=64 => 8 * 4_096,
             _ => 0,
         };
@@ -215,9 +218,9 @@ static TRACE: &[u8] = b"heap 16 4 4 2\nnew 0 0 1\nnew 1 0 1\nset 0 0 5\npause 10
 fn the_workers_of_a_trace_pause_at_once(rt: HostRuntime) -> Result<(), Fail> {
     let alloc = rt.alloc();
     for part in [Part::Deal, Part::Fill] {
-        let gate = Crowd::new(&rt, part, 2);
+        let gate = Crowd::new(&rt, part, 2, 1);
         let text = run_text(&rt, alloc, TRACE, &UNIT, Team::new(2, 1), &gate)?;
-        expect_equal(&rt, gate.most(), 2);
+        assert!(rt; gate.met() > 0, "{part:?}");
         expect_equal(&rt, text.as_slice(), b"ok\nok\nok\nok\n5\n".as_slice());
     }
     Ok(())

@@ -4,14 +4,14 @@ use std::sync::atomic::{AtomicBool, AtomicU64, Ordering};
 use std::thread;
 use std::time::{Clock, Duration};
 
-/// Keeps those who come to one part of the work inside until this many are there at once.
+/// Keeps the numbers of one part below `wanted` inside until all of them are there, this many times.
 #[derive(Drop)]
 pub(crate) struct Crowd<'a, C: Clock> {
     clock: &'a C,
     part: Part,
     wanted: u64,
-    inside: AtomicU64,
-    most: AtomicU64,
+    times: u64,
+    come: AtomicU64,
     missed: AtomicBool,
 }
 
@@ -19,29 +19,30 @@ pub(crate) struct Crowd<'a, C: Clock> {
 const NAPS: u64 = 10_000;
 
 impl<'a, C: Clock> Crowd<'a, C> {
-    pub(crate) fn new(clock: &'a C, part: Part, wanted: u64) -> Crowd<'a, C> {
+    pub(crate) fn new(clock: &'a C, part: Part, wanted: u64, times: u64) -> Crowd<'a, C> {
         Crowd {
             clock,
             part,
             wanted,
-            inside: AtomicU64::new(0),
-            most: AtomicU64::new(0),
+            times,
+            come: AtomicU64::new(0),
             missed: AtomicBool::new(false),
         }
     }
 
-    /// How many were inside at once.
-    pub(crate) fn most(&self) -> u64 {
-        self.most.load(Ordering::SeqCst)
+    /// How often all were inside at once; 0 if one waited in vain.
+    pub(crate) fn met(&self) -> u64 {
+        if self.missed.load(Ordering::SeqCst) {
+            return 0;
+        }
+        let come = self.come.load(Ordering::SeqCst);
+        come.checked_div(self.wanted).unwrap_or(0)
     }
 
-    fn is_over(&self) -> bool {
-        self.most() >= self.wanted || self.missed.load(Ordering::SeqCst)
-    }
-
-    fn wait(&self) {
+    /// Waits until this many have come.
+    fn wait(&self, count: u64) {
         for _ in 0..NAPS {
-            if self.is_over() {
+            if self.come.load(Ordering::SeqCst) >= count || self.missed.load(Ordering::SeqCst) {
                 return;
             }
             thread::sleep(self.clock, Duration::from_millis(1));
@@ -51,79 +52,15 @@ impl<'a, C: Clock> Crowd<'a, C> {
 }
 
 impl<'a, C: Clock> Gate for Crowd<'a, C> {
-    fn at(&self, part: Part, _number: u64) {
-        if part != self.part {
-            return;
-        }
-        let inside = self.inside.fetch_add(1, Ordering::SeqCst).wrapping_add(1);
-        self.most.fetch_max(inside, Ordering::SeqCst);
-        self.wait();
-        self.inside.fetch_sub(1, Ordering::SeqCst);
-    }
-}
-
-const TURNS: u64 = 200_000_000;
-
-/// Has the numbers 0 to 3 of a part look for one another: the Nth call of one for the Nth calls of the others below
-/// `parties`.
-#[derive(Drop)]
-pub(crate) struct Meeting {
-    part: Part,
-    parties: u64,
-    calls: [AtomicU64; 4],
-    missed: AtomicBool,
-}
-
-/// Whether this many calls come within the turns.
-fn come(calls: &AtomicU64, count: u64) -> bool {
-    for _ in 0..TURNS {
-        if calls.load(Ordering::SeqCst) >= count {
-            return true;
-        }
-    }
-    false
-}
-
-impl Gate for Meeting {
     fn at(&self, part: Part, number: u64) {
-        if part != self.part || number >= self.parties || number >= 4 {
+        if part != self.part || number >= self.wanted {
             return;
         }
-        let count = self.calls[number as usize]
-            .fetch_add(1, Ordering::SeqCst)
-            .wrapping_add(1);
-        for other in 0..4u64 {
-            if other < self.parties && !come(&self.calls[other as usize], count) {
-                self.missed.store(true, Ordering::SeqCst);
-            }
+        let before = self.come.fetch_add(1, Ordering::SeqCst);
+        let met = before.checked_div(self.wanted).unwrap_or(0);
+        if met < self.times {
+            self.wait(met.saturating_add(1).saturating_mul(self.wanted));
         }
-    }
-}
-
-impl Meeting {
-    pub(crate) fn new(part: Part, parties: u64) -> Meeting {
-        Meeting {
-            part,
-            parties,
-            calls: [
-                AtomicU64::new(0),
-                AtomicU64::new(0),
-                AtomicU64::new(0),
-                AtomicU64::new(0),
-            ],
-            missed: AtomicBool::new(false),
-        }
-    }
-
-    /// Whether all have met this often, and nobody waited in vain.
-    pub(crate) fn met(&self, times: u64) -> bool {
-        let mut all = !self.missed.load(Ordering::SeqCst);
-        for party in 0..4u64 {
-            if party < self.parties {
-                all &= self.calls[party as usize].load(Ordering::SeqCst) == times;
-            }
-        }
-        all
     }
 }
 

@@ -2,17 +2,16 @@
 //! answer say is a row there. They are one crate, since a crate with tests is proved twice: so no library is proved a second
 //! time for its tests.
 //!
-//! 1. `words`: sizes at the limits, and addresses. `refusals`: each fault with its number, its text and its status; words and
-//!    numbers of a command line.
-//! 2. `work`, `regions`, `claim`: words and work that threads share. `frontier`: the words that two rounds leave.
-//! 3. `workers`, `crowds`: that workers work at the same time, two to four and up to 64. `gates` has the gates that see it:
-//!    a new case of threads begins with one of them.
+//! 1. `words`: addresses, and where regions and cards start. `refusals`: the line and the status of a refusal; words of a
+//!    command line.
+//! 2. `work`, `claim`: work and words that threads share. `frontier`: the words that two rounds leave.
+//! 3. `crowds`: that workers work at the same time, up to 64. `gates` has the gates that see it: a new case of threads
+//!    begins with one of them.
 //! 4. `streams`: images and pauses over readers and writers that give a byte a call, fail, are interrupted or would block.
-//!    `programs`: the programs over such streams. A new case takes a `Stream` of g1_testing.
-//! 5. `sizes`: images and calls at sizes at which none may give up for memory. A new case lays its image by a `Sketch`.
-//! 6. `trace`: each line of a trace spoiled.
+//!    `programs`: the programs over such streams, and bytes that are nearly an image. A new case takes a `Stream` of
+//!    g1_testing.
 //!
-//! `expecting` has what tests begin with. Small images are drawn as lines by `g1_testing`.
+//! `expecting` has what tests begin with. Small images are drawn as lines by `g1_testing`, and large ones laid by numbers.
 #![tactic(auto)]
 
 #[cfg(test)]
@@ -30,16 +29,8 @@ mod programs;
 #[cfg(test)]
 mod refusals;
 #[cfg(test)]
-mod regions;
-#[cfg(test)]
-mod sizes;
-#[cfg(test)]
 mod streams;
-#[cfg(test)]
-mod trace;
 #[cfg(test)]
 mod words;
 #[cfg(test)]
 mod work;
-#[cfg(test)]
-mod workers;

@@ -1,6 +1,6 @@
 //! The programs over streams in memory: streams that fail, bytes that are nearly an image, and sizes.
 use crate::expecting::expect_equal;
-use g1_testing::{Sketch, Stream, Trouble, pictures, text};
+use g1_testing::{Stream, Trouble, pictures, raw, text};
 use g1heap_cli::{Call, Terminals};
 use g1pause_cli::choice_lines;
 use std::alloc::{AllocError, Global};
@@ -95,19 +95,9 @@ fn expect_device_faults<T: Threads + Abort + Sync + Files>(
 }
 
 // Images of version 1: one object that a root references, and an object that a slot outside references.
-const OLD_ONE_OBJECT: &[u8] = b"G1IMAGE1\
-    \x10\0\0\0\x04\0\0\0\x04\0\0\0\x01\0\0\0\0\0\0\0\x04\0\0\0\
-    \0\0\0\0\0\0\0\0\x01\0\0\0\x04\0\0\0\0\0\0\0\0\0\0\0\
-    \0\0\0\0\0\0\0\0\x11\0\0\0\0\0\0\0\0\0\0\0\0\0\0\0\
-    \0\0\0\0\0\0\0\0\x01\0\0\0\x04\0\0\0\0\0\0\0\0\0\0\0\
-    \x07\0\0\0\0\0\0\0\x09\0\0\0\0\0\0\0";
+const OLD_ONE_OBJECT: &str = "G1IMAGE1 16 4 4 1 0 4 0 0 1 4 0 0 0 0 =17 0 0 0 0 4/1 =0 =7 =9";
 
-const OLD_OUTSIDE_SLOT: &[u8] = b"G1IMAGE1\
-    \x10\0\0\0\x04\0\0\0\x04\0\0\0\0\0\0\0\0\0\0\0\x04\0\0\0\
-    \x01\0\0\0\x02\0\0\0\x01\0\0\0\x03\0\0\0\0\0\0\0\0\0\0\0\
-    \0\0\0\0\0\0\0\0\0\0\0\0\x01\0\0\0\0\0\0\0\0\0\0\0\
-    \0\0\0\0\x01\0\0\0\x02\0\0\0\x11\0\0\0\0\0\0\0\0\0\0\0\
-    \x03\0\0\0\x01\0\0\0\0\0\0\0\x02\0\0\0\0\0\0\0";
+const OLD_OUTSIDE_SLOT: &str = "G1IMAGE1 16 4 4 0 0 4 1 2 1 3 0 0 0 0 0 1 0 0 0 2/1 =17 3/0 =1 =2";
 
 const NO_ROOM: &[u8] =
     b"heap 16 4 2 2\nnew 0 0 11\nnew 1 0 2\ndrop 1\nnew 1 0 11\npause 1000\nsay 0 10\n";
@@ -117,11 +107,12 @@ const NO_ROOM_REPLIES: &[u8] = b"ok\nok\nok\nok\nroom\n0\n";
 #[test]
 fn devices_fail_at_each_byte(rt: HostRuntime) -> Result<(), Fail> {
     let alloc = rt.alloc();
+    let old = raw(alloc, OLD_ONE_OBJECT)?;
     let same = text(alloc, pictures::one_object())?;
     let moved = text(alloc, pictures::one_object_after())?;
     for (line, input, answer) in [
-        ("g1pause show --repack", OLD_ONE_OBJECT, same.as_slice()),
-        ("g1pause pause 1", OLD_ONE_OBJECT, moved.as_slice()),
+        ("g1pause show --repack", old.as_slice(), same.as_slice()),
+        ("g1pause pause 1", old.as_slice(), moved.as_slice()),
         ("g1pause run", b"heap 16 4 4 3\nsame 0 1\n", b"1\n"),
         ("g1pause run", NO_ROOM, NO_ROOM_REPLIES),
     ] {
@@ -158,43 +149,26 @@ impl Write for Closed {
     }
 }
 
-// Sees how a program ends whose reader has gone away.
-fn expect_gone<T: Threads + Abort + Sync + Files>(
-    rt: &T,
-    alloc: Global,
-    line: &str,
-    input: &[u8],
-    status: u8,
-    error: &str,
-) -> Result<(), AllocError> {
-    let mut reader = input;
-    let found = run(rt, alloc, line, &mut reader, &mut Closed)?;
-    expect_end(rt, line, found, status, error);
-    Ok(())
-}
-
 #[test]
 fn a_reader_of_text_may_go_away(rt: HostRuntime) -> Result<(), Fail> {
     let alloc = rt.alloc();
     let image = text(alloc, pictures::one_object())?;
     let lines = pictures::one_object().as_bytes();
-    for line in ["g1heap --help", "g1heap --version"] {
-        expect_gone(&rt, alloc, line, lines, 141, "")?;
+    for (line, input, status, error) in [
+        ("g1heap --help", lines, 141, ""),
+        ("g1heap --version", lines, 141, ""),
+        ("g1heap print", image.as_slice(), 141, ""),
+        ("g1heap print --summary", image.as_slice(), 141, ""),
+        ("g1heap make", lines, 6, "g1heap: fault 14: output\n"),
+    ] {
+        let mut reader = input;
+        let found = run(&rt, alloc, line, &mut reader, &mut Closed)?;
+        expect_end(&rt, line, found, status, error);
     }
-    for line in ["g1heap print", "g1heap print --summary"] {
-        expect_gone(&rt, alloc, line, image.as_slice(), 141, "")?;
-    }
-    expect_gone(
-        &rt,
-        alloc,
-        "g1heap make",
-        lines,
-        6,
-        "g1heap: fault 14: output\n",
-    )?;
     Ok(())
 }
 
+// Both ways to show an image name it malformed by this line.
 fn expect_malformed<T: Threads + Abort + Sync + Files>(
     rt: &T,
     alloc: Global,
@@ -209,23 +183,18 @@ fn expect_malformed<T: Threads + Abort + Sync + Files>(
     Ok(())
 }
 
-fn expect_one_length<T: Threads + Abort + Sync + Files>(
-    rt: &T,
-    alloc: Global,
-    image: &[u8],
-) -> Result<(), AllocError> {
-    for cut in 0..image.len() {
-        expect_malformed(rt, alloc, &image[..cut], "g1pause: fault 3: short\n")?;
-    }
-    let mut longer = Vec::from_slice(alloc, image)?;
-    longer.push(0)?;
-    expect_malformed(rt, alloc, longer.as_slice(), "g1pause: fault 4: trailing\n")
-}
-
 #[test]
-fn an_image_has_one_length(rt: HostRuntime) -> Result<(), AllocError> {
-    expect_one_length(&rt, rt.alloc(), OLD_ONE_OBJECT)?;
-    expect_one_length(&rt, rt.alloc(), OLD_OUTSIDE_SLOT)
+fn an_image_has_one_length(rt: HostRuntime) -> Result<(), Fail> {
+    let alloc = rt.alloc();
+    for numbers in [OLD_ONE_OBJECT, OLD_OUTSIDE_SLOT] {
+        let mut image = raw(alloc, numbers)?;
+        for cut in 0..image.len() {
+            expect_malformed(&rt, alloc, &image[..cut], "g1pause: fault 3: short\n")?;
+        }
+        image.push(0)?;
+        expect_malformed(&rt, alloc, &image, "g1pause: fault 4: trailing\n")?;
+    }
+    Ok(())
 }
 
 // Whether the image is packed again as it is, or else named malformed.
@@ -259,89 +228,36 @@ fn expect_kept_or_refused<T: Threads + Abort + Sync + Files>(
     Ok(())
 }
 
+// The same object that a slot outside references, in version 2.
+const OUTSIDE_SLOT: &str = "G1IMAGE2 16 4 4 0 0 4 1,2,0 1,3,0 0,0,0*2 0 1 0 0 0 2/1 =17 3/0 =1 =2";
+
 #[test]
 fn a_changed_byte_is_refused_or_kept(rt: HostRuntime) -> Result<(), Fail> {
-    let mut image = text(rt.alloc(), pictures::outside_slot())?;
+    let mut image = raw(rt.alloc(), OUTSIDE_SLOT)?;
     expect_kept_or_refused(&rt, rt.alloc(), image.as_mut_slice())?;
     Ok(())
 }
 
-const MANY: u32 = 65_536;
-
-fn many_roots(alloc: Global) -> Result<Sketch, AllocError> {
-    let mut sketch = Sketch::new(alloc, 16, 4, 2);
-    for _ in 0..MANY {
-        sketch.root(0)?;
-    }
-    Ok(sketch)
-}
-
-// A full region of the largest size with as many objects as words. It is pinned.
-fn many_objects(alloc: Global) -> Result<Sketch, AllocError> {
-    let mut sketch = Sketch::new(alloc, MANY, 64, 2);
-    sketch.ordinary(alloc)?;
-    for _ in 0..MANY {
-        sketch.object(&[], &[])?;
-    }
-    sketch.pin();
-    Ok(sketch)
-}
-
-fn log_cards(sketch: &mut Sketch, count: u32) -> Result<(), AllocError> {
-    for card in 0..count {
-        sketch.dirty(card)?;
-    }
-    Ok(())
-}
-
-// Five regions of 16,384 cards each. All cards are dirty; region 0 remembers the first card of region 4,
-// and region 4 remembers the cards of all others.
-fn many_cards(alloc: Global) -> Result<Sketch, AllocError> {
-    let mut sketch = Sketch::new(alloc, MANY, 4, 5);
-    log_cards(&mut sketch, 81_920)?;
-    sketch.ordinary(alloc)?;
-    sketch.object(&[], &[])?;
-    sketch.remember(MANY, 1)?;
-    for _ in 1..5 {
-        sketch.ordinary(alloc)?;
-        sketch.object(&[], &[])?;
-    }
-    sketch.remember(0, MANY)?;
-    Ok(sketch)
-}
-
-// Two objects in each region, the last of which a root names.
-fn many_regions(alloc: Global) -> Result<Sketch, AllocError> {
-    let mut sketch = Sketch::new(alloc, 16, 4, 4_096);
-    sketch.root(4_095 * 16 + 2)?;
-    for _ in 0..4_096 {
-        sketch.ordinary(alloc)?;
-        sketch.object(&[], &[])?;
-        sketch.object(&[], &[])?;
-    }
-    Ok(sketch)
-}
-
-fn expect_there_and_back<T: Threads + Abort + Sync + Files>(
-    rt: &T,
-    alloc: Global,
-    sketch: &Sketch,
-) -> Result<(), AllocError> {
-    let image = sketch.text(alloc)?;
-    let (_, lines, _) = answer_of(rt, alloc, "g1heap print", image.as_slice())?;
-    let (status, back, errors) = answer_of(rt, alloc, "g1heap make", lines.as_slice())?;
-    expect_end(rt, "make", (status, errors), 0, "");
-    assert!(rt; back.as_slice() == image.as_slice());
-    Ok(())
-}
+// Images with as many roots, objects in a region, cards or regions as there may be, and one that has the last region current.
+const LIMITS: [&str; 5] = [
+    "G1IMAGE2 16 4 2 65536 0 2 0,0,0*2 =0*65536 0*2",
+    "G1IMAGE2 65536 64 2 0 0 2 1,65536,1 0,0,0 0*2 1/0*65536",
+    "G1IMAGE2 65536 4 5 0 81920 5 1,1,0*5 0..81920 1,65536 0*3 65536,0..65536 1/0*5",
+    "G1IMAGE2 16 4 4096 1 0 4096 1,2,0*4096 =65522 0*4096 1/0*8192",
+    "G1IMAGE2 16 4 4096 1 0 4095 1,2,0*4096 =65522 0*4096 1/0*8192",
+];
 
 #[test]
-fn prints_and_makes_images_at_their_limits(rt: HostRuntime) -> Result<(), AllocError> {
+fn prints_and_makes_images_at_their_limits(rt: HostRuntime) -> Result<(), Fail> {
     let alloc = rt.alloc();
-    expect_there_and_back(&rt, alloc, &many_roots(alloc)?)?;
-    expect_there_and_back(&rt, alloc, &many_objects(alloc)?)?;
-    expect_there_and_back(&rt, alloc, &many_cards(alloc)?)?;
-    expect_there_and_back(&rt, alloc, &many_regions(alloc)?)
+    for numbers in LIMITS {
+        let image = raw(alloc, numbers)?;
+        let (_, lines, _) = answer_of(&rt, alloc, "g1heap print", image.as_slice())?;
+        let (status, back, errors) = answer_of(&rt, alloc, "g1heap make", lines.as_slice())?;
+        expect_end(&rt, "make", (status, errors), 0, "");
+        assert!(rt; back.as_slice() == image.as_slice(), "{numbers}");
+    }
+    Ok(())
 }
 
 #[test]

@@ -1,8 +1,8 @@
-//! Faults and kinds by their numbers and texts, how a program reports a refusal, and which words and numbers it takes.
+//! How a program reports a refusal, which words it takes, and devices that fail.
 use crate::expecting::expect_equal;
-use g1_command::{Refusal, deliver, read_all, refuse, status, whole, words};
+use g1_command::{Refusal, deliver, read_all, refuse, whole, words};
 use g1_testing::{Stream, Trouble, is_refusal};
-use g1_words::{Device, Fault, Kind, Place, Stand};
+use g1_words::{Device, Fault};
 use std::alloc::{AllocError, Global};
 use std::env::FillError;
 use std::io::ErrorKind;
@@ -22,76 +22,28 @@ fn expect_refusal<T: Abort>(rt: &T, alloc: Global, refusal: &Refusal, line: &str
     expect_equal(rt, errors.longest, line.len());
 }
 
-// A fault with this number and this text, with which a program ends with this status.
-fn expect_fault<T: Abort>(
-    rt: &T,
-    alloc: Global,
-    fault: Fault,
-    told: (u8, &str, u8),
-) -> Result<(), AllocError> {
-    let (number, text, wanted) = told;
-    let found = format!(in alloc; "{fault}")?;
-    expect_equal(
-        rt,
-        (text, fault.number(), status(&fault)),
-        (found.as_str(), number, wanted),
-    );
-    let line = format!(in alloc; "the_name: fault {number}: {text}\n")?;
-    expect_refusal(rt, alloc, &Refusal::Fault(fault), line.as_str(), wanted);
-    Ok(())
-}
-
-#[test]
-fn each_fault_of_bytes_has_a_number_a_text_and_a_status(rt: HostRuntime) -> Result<(), Fail> {
-    for (fault, number, text) in [
-        (Fault::Magic, 1, "magic"),
-        (Fault::Geometry, 2, "geometry"),
-        (Fault::Short, 3, "short"),
-        (Fault::Trailing, 4, "trailing"),
-        (Fault::Kind(7), 5, "kind of region 7"),
-        (Fault::Shape(7), 6, "shape of region 7"),
-        (Fault::Reference(Place::Root(3)), 7, "reference in root 3"),
-        (Fault::Reference(Place::Slot(21)), 7, "reference in slot 21"),
-        (Fault::Card(Stand::Dirty(2)), 8, "card in log place 2"),
-        (Fault::Card(Stand::Region(2)), 8, "card of region 2"),
-        (Fault::Flags(3), 16, "flags of region 3"),
-    ] {
-        expect_fault(&rt, rt.alloc(), fault, (number, text, 3))?;
-    }
-    Ok(())
-}
-
 const GREATEST: u64 = u64::MAX;
 
+// The others are in rows of `g1_rows`.
 #[test]
-fn each_fault_of_a_call_has_a_number_a_text_and_a_status(rt: HostRuntime) -> Result<(), Fail> {
+fn faults_with_great_numbers_have_a_line_and_a_status(rt: HostRuntime) {
     let (need, free) = (GREATEST, GREATEST);
-    for (fault, told) in [
-        (Fault::Uncovered(17), (9, "uncovered slot 17", 4)),
-        (Fault::Set(4), (10, "set region 4", 5)),
-        (
-            Fault::Room { need: 2, free: 1 },
-            (11, "room need 2 free 1", 5),
-        ),
+    for (fault, line, wanted) in [
         (
             Fault::Room { need, free },
-            (
-                11,
-                "room need 18446744073709551615 free 18446744073709551615",
-                5,
-            ),
+            "the_name: fault 11: room need 18446744073709551615 free 18446744073709551615\n",
+            5,
         ),
-        (Fault::Settings(3), (12, "setting 3", 2)),
-        (Fault::Memory, (13, "memory", 6)),
-        (Fault::Device(Device::Input), (14, "input", 6)),
-        (Fault::Device(Device::Output), (14, "output", 6)),
-        (Fault::Line(12), (15, "line 12", 2)),
-        (Fault::Line(65_536), (15, "line 65536", 2)),
-        (Fault::Line(GREATEST), (15, "line 18446744073709551615", 2)),
+        (Fault::Memory, "the_name: fault 13: memory\n", 6),
+        (Fault::Line(65_536), "the_name: fault 15: line 65536\n", 2),
+        (
+            Fault::Line(GREATEST),
+            "the_name: fault 15: line 18446744073709551615\n",
+            2,
+        ),
     ] {
-        expect_fault(&rt, rt.alloc(), fault, told)?;
+        expect_refusal(&rt, rt.alloc(), &Refusal::Fault(fault), line, wanted);
     }
-    Ok(())
 }
 
 #[test]
@@ -99,22 +51,6 @@ fn a_usage_fault_is_one_write(rt: HostRuntime) -> Result<(), Fail> {
     let text = "error: what is wrong\n\nUsage: how it is used\n";
     let usage = Refusal::usage(String::from_str(rt.alloc(), text)?);
     expect_refusal(&rt, rt.alloc(), &usage, text, 2);
-    Ok(())
-}
-
-#[test]
-fn each_kind_has_its_number_and_its_text(rt: HostRuntime) -> Result<(), Fail> {
-    for (kind, number, text) in [
-        (Kind::Free, 0, "free"),
-        (Kind::Ordinary, 1, "ordinary"),
-        (Kind::HumongousFirst, 2, "humongous"),
-        (Kind::Continuation, 3, "continuation"),
-    ] {
-        let found = format!(in rt.alloc(); "{kind}")?;
-        expect_equal(&rt, (found.as_str(), kind.number()), (text, number));
-        assert!(rt; Kind::of_number(number) == Some(kind), "{text}");
-    }
-    assert!(rt; Kind::of_number(4).is_none());
     Ok(())
 }
 
@@ -168,22 +104,14 @@ fn devices_fail_at_each_call(rt: HostRuntime) -> Result<(), AllocError> {
     Ok(())
 }
 
+// Others are in rows of `g1_rows`, whose words have no spaces.
 #[test]
-fn a_number_has_digits_alone(rt: HostRuntime) {
-    for (text, value) in [
-        ("0", Some(0)),
-        ("007", Some(7)),
-        ("18446744073709551615", Some(u64::MAX)),
-        ("18446744073709551616", None),
-        ("", None),
-        ("+1", None),
-        ("-1", None),
-        (" 1", None),
-        ("0x1", None),
-        ("1_000", None),
-    ] {
-        expect_equal(&rt, (text, whole(text)), (text, value));
-    }
+fn a_number_has_no_space(rt: HostRuntime) {
+    expect_equal(
+        &rt,
+        (whole(" 1"), whole("1 "), whole("1")),
+        (None, None, Some(1)),
+    );
 }
 
 // A program that was called by these words, of which the first is its name.

@@ -2,8 +2,8 @@
 use crate::expecting::{collecting, expect_equal};
 use g1_image::{FromReader, Image, Sink, Source, ToWriter, encode, read, read_by, write};
 use g1_pause::pause_run;
-use g1_testing::pictures::{humongous, one_object, one_object_after, three_regions};
-use g1_testing::{Sketch, Stream, Trouble, image, text};
+use g1_testing::pictures::{humongous, one_object, one_object_after, shared};
+use g1_testing::{Stream, Trouble, image, raw, text};
 use g1_words::{Device, Fault};
 use g1_work::Open;
 use std::alloc::{AllocError, Global};
@@ -38,7 +38,7 @@ fn ending(alloc: Global, bytes: &[u8]) -> Result<Stream, AllocError> {
 #[test]
 fn images_pass_one_byte_at_a_time(rt: HostRuntime) -> Result<(), Fail> {
     let alloc = rt.alloc();
-    for lines in [one_object(), humongous(), three_regions()] {
+    for lines in [one_object(), humongous(), shared()] {
         let bytes = text(alloc, lines)?;
         let image = read_from(alloc, &mut ending(alloc, &bytes)?)?;
         let mut writer = Stream::of(Vec::new(alloc), 1);
@@ -65,68 +65,32 @@ fn bytes_that_are_refused_are_read_to_their_end(rt: HostRuntime) -> Result<(), F
 }
 
 #[test]
-fn a_beginning_is_short(rt: HostRuntime) -> Result<(), Fail> {
+fn an_image_that_is_read_has_one_length(rt: HostRuntime) -> Result<(), Fail> {
     let alloc = rt.alloc();
-    let bytes = text(alloc, one_object())?;
+    let mut bytes = text(alloc, one_object())?;
     for cut in 0..bytes.len() {
         let found = bytes_from(alloc, ending(alloc, &bytes[..cut])?);
         expect_equal(&rt, (cut, found), (cut, Err(Fault::Short)));
     }
-    Ok(())
-}
-
-#[test]
-fn a_byte_more_trails(rt: HostRuntime) -> Result<(), Fail> {
-    let alloc = rt.alloc();
-    let mut bytes = text(alloc, one_object())?;
     bytes.push(0)?;
     let found = bytes_from(alloc, ending(alloc, &bytes)?);
     expect_equal(&rt, found, Err(Fault::Trailing));
     let mut writer = Stream::of(Vec::new(alloc), 1);
     let found = pause(&rt, alloc, &mut ending(alloc, &bytes)?, &mut writer);
-    expect_equal(&rt, found, Err(Fault::Trailing));
-    expect_equal(&rt, writer.calls, 0);
+    expect_equal(&rt, (found, writer.calls), (Err(Fault::Trailing), 0));
     Ok(())
 }
 
 /// More than two million bytes precede the words: 65,536 roots that reference the first object, and twelve remembered sets
 /// with every card of the other used regions. The words are a million bytes. The cards in the log are odd, so that a word
 /// lies across each end of a piece.
-fn long_front(alloc: Global) -> Result<Vec<u8>, AllocError> {
-    let mut sketch = Sketch::new(alloc, 4_096, 4, 64);
-    for _root in 0..65_536 {
-        sketch.root(1)?;
-    }
-    push_dirty(&mut sketch)?;
-    for region in 0..32 {
-        push_region(alloc, &mut sketch, region)?;
-    }
-    sketch.text(alloc)
-}
-
-fn push_dirty(sketch: &mut Sketch) -> Result<(), AllocError> {
-    for card in 0..1_023 {
-        sketch.dirty(card)?;
-    }
-    Ok(())
-}
-
-fn push_region(alloc: Global, sketch: &mut Sketch, region: u32) -> Result<(), AllocError> {
-    sketch.ordinary(alloc)?;
-    if region < 12 {
-        sketch.remember(0, region * 1_024)?;
-        sketch.remember((region + 1) * 1_024, (31 - region) * 1_024)?;
-    }
-    for _object in 0..2_048 {
-        sketch.words(&[2 << 32 | 1, 0])?;
-    }
-    Ok(())
-}
+const LONG_FRONT: &str = "G1IMAGE2 4096 4 64 65536 1023 64 1,4096,0*32 0,0,0*32 =1*65536 0..1023 \
+    31744,0..0+1024,1024+1024..32768*12 0*52 2/1,=0*65536";
 
 #[test]
 fn a_long_front_is_read_and_written(rt: HostRuntime) -> Result<(), Fail> {
     let alloc = rt.alloc();
-    let bytes = long_front(alloc)?;
+    let bytes = raw(alloc, LONG_FRONT)?;
     let mut reader = Stream::of(bytes.clone()?, usize::MAX);
     let image = read_from(alloc, &mut reader)?;
     assert!(rt; reader.longest > 131_072, "{}", reader.longest);
@@ -140,7 +104,7 @@ fn a_long_front_is_read_and_written(rt: HostRuntime) -> Result<(), Fail> {
 #[test]
 fn workers_read_the_same_image(rt: HostRuntime) -> Result<(), Fail> {
     let alloc = rt.alloc();
-    let bytes = long_front(alloc)?;
+    let bytes = raw(alloc, LONG_FRONT)?;
     for workers in [0, 1, 2, 64] {
         let mut reader = bytes.as_slice();
         let image = read_by(&rt, alloc, &mut FromReader::new(&mut reader), workers)?;
@@ -153,7 +117,7 @@ fn workers_read_the_same_image(rt: HostRuntime) -> Result<(), Fail> {
 #[test]
 fn a_reader_is_asked_for_each_byte_once(rt: HostRuntime) -> Result<(), Fail> {
     let alloc = rt.alloc();
-    let bytes = long_front(alloc)?;
+    let bytes = raw(alloc, LONG_FRONT)?;
     let mut whole = Stream::of(bytes.clone()?, usize::MAX);
     read_from(alloc, &mut whole)?;
     assert!(rt; whole.calls < 32, "{} calls", whole.calls);
@@ -165,30 +129,20 @@ fn a_reader_is_asked_for_each_byte_once(rt: HostRuntime) -> Result<(), Fail> {
     Ok(())
 }
 
-// Each call except the first is interrupted this often before it goes well.
-fn expect_patience<T: Abort>(
-    rt: &T,
-    alloc: Global,
-    bytes: &[u8],
-    often: usize,
-) -> Result<(), Fault> {
-    let interrupted = ErrorKind::Interrupted;
-    let mut reader = Stream::of(bytes.to_vec(alloc)?, usize::MAX).with_errors(often, interrupted);
-    let image = read_from(alloc, &mut reader)?;
-    assert!(rt; reader.calls > often, "{often}");
-    let mut writer = Stream::of(Vec::new(alloc), 65_536).with_errors(often, interrupted);
-    write_to(alloc, &image, &mut writer)?;
-    assert!(rt; writer.calls > often, "{often}");
-    assert!(rt; writer.bytes.as_slice() == bytes, "{often}");
-    Ok(())
-}
-
+// Each call except the first is interrupted a few times before it goes well.
 #[test]
 fn a_call_that_is_interrupted_often_is_made_again(rt: HostRuntime) -> Result<(), Fail> {
     let alloc = rt.alloc();
-    let bytes = long_front(alloc)?;
+    let bytes = raw(alloc, LONG_FRONT)?;
     for often in [2, 3, 10] {
-        expect_patience(&rt, alloc, &bytes, often)?;
+        let reader = Stream::of(bytes.clone()?, usize::MAX);
+        let mut reader = reader.with_errors(often, ErrorKind::Interrupted);
+        let image = read_from(alloc, &mut reader)?;
+        let writer = Stream::of(Vec::new(alloc), 65_536);
+        let mut writer = writer.with_errors(often, ErrorKind::Interrupted);
+        write_to(alloc, &image, &mut writer)?;
+        assert!(rt; reader.calls > often && writer.calls > often, "{often}");
+        assert!(rt; writer.bytes.as_slice() == bytes.as_slice(), "{often}");
     }
     Ok(())
 }
@@ -331,33 +285,21 @@ fn an_interrupted_call_is_made_again(rt: HostRuntime) -> Result<(), Fail> {
 /// Buffers of each length below this are tried.
 const LONGEST: usize = 70_000;
 
-// A reader of one byte gives it, and then no byte into a buffer of any length.
-fn expect_reads<T: Abort>(rt: &T, alloc: Global, buffer: &mut [u8]) -> Result<(), Fault> {
-    let mut source = FromReader::new(Stream::of(vec![in alloc; 7u8; 1]?, 1));
-    expect_equal(rt, source.read(&mut [0]), Ok(1));
-    for length in 0..LONGEST {
-        let end = length.min(buffer.len());
-        let given = source.read(&mut buffer[..end]);
-        assert!(rt; given == Ok(0), "{length}");
-    }
-    Ok(())
-}
-
-// A writer takes one byte of any that there are.
-fn expect_writes<T: Abort>(rt: &T, alloc: Global, bytes: &[u8]) {
-    let mut sink = ToWriter::new(Stream::of(Vec::new(alloc), 1));
-    for length in 0..LONGEST {
-        let taken = sink.write(&bytes[..length.min(bytes.len())]);
-        assert!(rt; taken == Ok(length.min(1)), "{length}");
-    }
-    expect_equal(rt, sink.into_inner().calls, LONGEST);
-}
-
+// A reader of one byte gives it, and then no byte into a buffer of any length. A writer takes one byte of any that there are.
 #[test]
 fn a_device_is_told_only_of_a_call_that_failed(rt: HostRuntime) -> Result<(), Fail> {
     let alloc = rt.alloc();
-    let mut buffer = vec![in alloc; 0u8; LONGEST]?;
-    expect_reads(&rt, alloc, &mut buffer)?;
-    expect_writes(&rt, alloc, &buffer);
+    let mut room = vec![in alloc; 0u8; LONGEST]?;
+    let buffer = room.as_mut_slice();
+    let mut source = FromReader::new(Stream::of(vec![in alloc; 7u8; 1]?, 1));
+    let mut sink = ToWriter::new(Stream::of(Vec::new(alloc), 1));
+    expect_equal(&rt, source.read(&mut [0]), Ok(1));
+    for length in 0..LONGEST {
+        let end = length.min(buffer.len());
+        let given = source.read(&mut buffer[..end]);
+        let taken = sink.write(&buffer[..end]);
+        assert!(rt; given == Ok(0) && taken == Ok(length.min(1)), "{length}");
+    }
+    expect_equal(&rt, sink.into_inner().calls, LONGEST);
     Ok(())
 }

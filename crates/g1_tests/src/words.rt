@@ -1,36 +1,7 @@
-//! Sizes at their limits, and addresses.
+//! Addresses, and where regions and cards start.
 use crate::expecting::expect_equal;
-use g1_words::{Fault, Geometry, Object, card_of, header, region_of, slots_of};
+use g1_words::{Geometry, Object, card_of, header, region_of, slots_of};
 use std::test::Fail;
-
-#[test]
-fn sizes_at_the_limits(rt: HostRuntime) {
-    for (w, k, n) in [
-        (16, 4, 1),
-        (16, 16, 4_096),
-        (65_536, 64, 256),
-        (4_096, 64, 4_096),
-    ] {
-        assert!(rt; Geometry::new(w, k, n).is_ok(), "{w} {k} {n}");
-    }
-    let refused = [
-        (8, 4, 1),
-        (24, 4, 4),
-        (131_072, 4, 1),
-        (16, 2, 1),
-        (16, 32, 1),
-        (256, 128, 1),
-        (16, 4, 0),
-        (16, 4, 4_097),
-        (65_536, 64, 257),
-    ];
-    for (w, k, n) in refused {
-        assert!(rt;
-            Geometry::new(w, k, n) == Err(Fault::Geometry),
-            "{w} {k} {n}"
-        );
-    }
-}
 
 #[test]
 fn addresses_by_division(rt: HostRuntime) -> Result<(), Fail> {
@@ -68,18 +39,12 @@ fn an_object_by_its_header(rt: HostRuntime) {
 }
 
 #[test]
-fn starts_of_regions(rt: HostRuntime) -> Result<(), Fail> {
+fn starts_of_regions_and_cards(rt: HostRuntime) -> Result<(), Fail> {
     let geometry = Geometry::new(32, 8, 6)?;
     expect_equal(&rt, geometry.words(), 192);
     for (region, start) in [(0, 0), (1, 32), (5, 160)] {
         expect_equal(&rt, geometry.start(region), start);
     }
-    Ok(())
-}
-
-#[test]
-fn starts_of_cards(rt: HostRuntime) -> Result<(), Fail> {
-    let geometry = Geometry::new(32, 8, 6)?;
     expect_equal(&rt, geometry.cards(), 24);
     for (card, start, region) in [(0, 0, 0), (3, 24, 0), (4, 32, 1), (23, 184, 5)] {
         expect_equal(&rt, geometry.card_start(card), start);

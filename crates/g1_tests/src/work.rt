@@ -1,178 +1,15 @@
-ghost use Rattle.std.specs.Prelude.{◌≡◌, ◌<◌, ◌+◌, ◌^◌, ◌*◌, ◌≤◌, ℕ, IfOk, slice_index, length, vec_len};
+//! Chunks that workers draw, and regions that they fill in place, by runs.
+ghost use Rattle.std.specs.Prelude.{◌≡◌, ◌<◌, ◌+◌, ◌^◌, ◌*◌, ◌≤◌, ℕ, IfOk, slice_index, length, replicate};
 ghost use Rattle.g1_words.specs.declared.fault.Fault.TheVariants.{Line};
-ghost use Rattle.g1_work.specs.Dealer.{IsSeatOf};
 
 use crate::expecting::expect_equal;
 use crate::gates::{Counting, Noting};
 use g1_words::Fault;
-use g1_work::{DealSeat, Dealer, Gate, Open, Part, Task, each_chunk, shares};
-use std::alloc::{AllocError, Global};
-use std::process::Abort;
-use std::sync::Wait;
-use std::sync::atomic::{AtomicBool, AtomicU64, Ordering};
+use g1_work::{Fill, Gate, Open, Part, Task, each_chunk, each_region_mut};
+use std::alloc::Global;
+use std::sync::atomic::{AtomicBool, Ordering};
 use std::test::Fail;
-use std::thread;
-use std::thread::{Promise, Threads};
-
-fn expect_draw<T: Abort>(rt: &T, dealer: &Dealer, seat: &mut DealSeat, expected: Option<u64>)
-    requires { IsSeatOf dealer.now seat.old }
-    ensures seat { IsSeatOf dealer.now seat.new }
-    ensures shares { seat.new.shares ≡ seat.old.shares }
-{
-    expect_equal(rt, dealer.take(seat), expected);
-}
-
-#[test]
-fn one_seat_draws_each_number_and_then_none(rt: HostRuntime) -> Result<(), Fail> {
-    let (dealer, mut seat) = Dealer::new(rt.alloc(), 3)?;
-    expect_draw(&rt, &dealer, &mut seat, Some(0));
-    expect_draw(&rt, &dealer, &mut seat, Some(1));
-    expect_draw(&rt, &dealer, &mut seat, Some(2));
-    expect_draw(&rt, &dealer, &mut seat, None);
-    expect_draw(&rt, &dealer, &mut seat, None);
-    expect_equal(&rt, dealer.close(seat), 4);
-    Ok(())
-}
-
-#[test]
-fn another_seat_sees_a_draw(rt: HostRuntime) -> Result<(), Fail> {
-    let (dealer, mut seat) = Dealer::new(rt.alloc(), 3)?;
-    let mut other = dealer.split(&mut seat);
-    expect_equal(&rt, (shares(&seat), shares(&other)), (63, 1));
-    expect_draw(&rt, &dealer, &mut seat, Some(0));
-    expect_equal(&rt, dealer.drawn(&mut other), 1);
-    dealer.join(&mut seat, other);
-    expect_equal(&rt, shares(&seat), 64);
-    expect_equal(&rt, dealer.close(seat), 1);
-    Ok(())
-}
-
-// The numbers that one thread drew, and its seat.
-#[derive(Drop)]
-struct Drawn {
-    seat: DealSeat,
-    numbers: Vec<u64>,
-}
-
-fn draw_all(alloc: Global, dealer: &Dealer, mut seat: DealSeat) -> Result<Drawn, AllocError>
-    requires { IsSeatOf dealer.now seat }
-    ensures { IfOk result (λ d. IsSeatOf dealer.now d.seat × (d.seat.shares ≡ seat.shares)) }
-{
-    let mut numbers = Vec::new(alloc);
-    while let Some(number) = dealer.take(&mut seat) {
-        numbers.push(number)?;
-    }
-    Ok(Drawn { seat, numbers })
-}
-
-#[derive(Clone, Copy)]
-struct OneShareOf<'a>(&'a Dealer);
-
-impl<'a> Promise<Result<Drawn, AllocError>> for OneShareOf<'a> {
-    ghost kept_by = { λ p r. IfOk r (λ d. IsSeatOf p.0.now d.seat × (d.seat.shares ≡ 1)) };
-}
-
-type Two = (Result<Drawn, AllocError>, Result<Drawn, AllocError>);
-
-// What each of four threads drew, if it had room for it.
-fn by_four<R: Threads + Wait>(
-    rt: &R,
-    alloc: Global,
-    dealer: &Dealer,
-    a: DealSeat,
-    b: DealSeat,
-    c: DealSeat,
-    d: DealSeat,
-) -> Result<(Two, Two), AllocError>
-    requires a { IsSeatOf dealer.now a × (a.shares ≡ 1) }
-    requires b { IsSeatOf dealer.now b × (b.shares ≡ 1) }
-    requires c { IsSeatOf dealer.now c × (c.shares ≡ 1) }
-    requires d { IsSeatOf dealer.now d × (d.shares ≡ 1) }
-    ensures a { IfOk result (λ r. IfOk r.0.0 (λ d. IsSeatOf dealer.now d.seat × (d.seat.shares ≡ 1))) }
-    ensures b { IfOk result (λ r. IfOk r.0.1 (λ d. IsSeatOf dealer.now d.seat × (d.seat.shares ≡ 1))) }
-    ensures c { IfOk result (λ r. IfOk r.1.0 (λ d. IsSeatOf dealer.now d.seat × (d.seat.shares ≡ 1))) }
-    ensures d { IfOk result (λ r. IfOk r.1.1 (λ d. IsSeatOf dealer.now d.seat × (d.seat.shares ≡ 1))) }
-{
-    thread::scope(
-        thread::scope_env(),
-        rt,
-        |scope| -> Result<(Two, Two), AllocError>
-            requires a { IsSeatOf dealer.now a × (a.shares ≡ 1) }
-            requires b { IsSeatOf dealer.now b × (b.shares ≡ 1) }
-            requires c { IsSeatOf dealer.now c × (c.shares ≡ 1) }
-            requires d { IsSeatOf dealer.now d × (d.shares ≡ 1) }
-            ensures a { IfOk result (λ r. IfOk r.0.0 (λ d. IsSeatOf dealer.entry.now d.seat × (d.seat.shares ≡ 1))) }
-            ensures b { IfOk result (λ r. IfOk r.0.1 (λ d. IsSeatOf dealer.entry.now d.seat × (d.seat.shares ≡ 1))) }
-            ensures c { IfOk result (λ r. IfOk r.1.0 (λ d. IsSeatOf dealer.entry.now d.seat × (d.seat.shares ≡ 1))) }
-            ensures d { IfOk result (λ r. IfOk r.1.1 (λ d. IsSeatOf dealer.entry.now d.seat × (d.seat.shares ≡ 1))) }
-        {
-            let a = scope.spawn_with(OneShareOf(dealer), move || draw_all(alloc, dealer, a))?;
-            let b = scope.spawn_with(OneShareOf(dealer), move || draw_all(alloc, dealer, b))?;
-            let c = scope.spawn_with(OneShareOf(dealer), move || draw_all(alloc, dealer, c))?;
-            let d = scope.spawn_with(OneShareOf(dealer), move || draw_all(alloc, dealer, d))?;
-            Ok(((a.join(rt), b.join(rt)), (c.join(rt), d.join(rt))))
-        },
-    )
-}
-
-// Gives a thread's seat back, and adds the numbers that it drew.
-fn gather(
-    dealer: &Dealer,
-    seat: &mut DealSeat,
-    all: &mut Vec<u64>,
-    drawn: Result<Drawn, AllocError>,
-) -> Result<(), AllocError>
-    requires seat { IsSeatOf dealer.now seat.old }
-    requires drawn { IfOk drawn (λ d. IsSeatOf dealer.now d.seat × (d.seat.shares ≡ 1)) }
-    ensures seat { IfOk result (λ _. IsSeatOf dealer.now seat.new) }
-    ensures shares { IfOk result (λ _. seat.new.shares ≡ seat.old.shares + 1) }
-{
-    let mut drawn = drawn?;
-    dealer.join(seat, drawn.seat);
-    all.append(&mut drawn.numbers)
-}
-
-// The numbers that four threads draw.
-fn all_drawn<R: Threads + Wait>(
-    rt: &R,
-    alloc: Global,
-    dealer: &Dealer,
-    seat: &mut DealSeat,
-) -> Result<Vec<u64>, AllocError>
-    requires seat { IsSeatOf dealer.now seat.old }
-    requires whole { seat.old.shares ≡ 64 }
-    ensures seat { IfOk result (λ _. IsSeatOf dealer.now seat.new) }
-    ensures whole { IfOk result (λ _. seat.new.shares ≡ 64) }
-{
-    let a = dealer.split(seat);
-    let b = dealer.split(seat);
-    let c = dealer.split(seat);
-    let d = dealer.split(seat);
-    let ((a, b), (c, d)) = by_four(rt, alloc, dealer, a, b, c, d)?;
-    let mut all = Vec::new(alloc);
-    gather(dealer, seat, &mut all, a)?;
-    gather(dealer, seat, &mut all, b)?;
-    gather(dealer, seat, &mut all, c)?;
-    gather(dealer, seat, &mut all, d)?;
-    Ok(all)
-}
-
-fn expect_each_below<T: Abort>(rt: &T, numbers: &[u64], count: usize) {
-    expect_equal(rt, numbers.len(), count);
-    for (index, number) in numbers.iter().enumerate() {
-        expect_equal(rt, *number, index as u64);
-    }
-}
-
-#[test]
-fn four_threads_draw_each_number_once(rt: HostRuntime) -> Result<(), Fail> {
-    let (dealer, mut seat) = Dealer::new(rt.alloc(), 1000)?;
-    let mut all = all_drawn(&rt, rt.alloc(), &dealer, &mut seat)?;
-    expect_equal(&rt, dealer.close(seat), 1004);
-    all.sort_unstable();
-    expect_each_below(&rt, &all, 1000);
-    Ok(())
-}
+use std::thread::Threads;
 
 // Squares the chunk, and keeps one more than it.
 struct Squares;
@@ -195,7 +32,7 @@ impl Task for Squares {
 }
 
 // The squares of the chunks, as the contract of `each_chunk` alone gives them.
-fn squared_chunks<R: Threads + Sync, G: Gate + Sync>(
+pub(crate) fn squared_chunks<R: Threads + Sync, G: Gate + Sync>(
     rt: &R,
     alloc: Global,
     workers: usize,
@@ -244,6 +81,8 @@ fn a_failed_run_is_the_answer(rt: HostRuntime) -> Result<(), Fail> {
     Ok(())
 }
 
+const FIRST_EIGHT: [u64; 8] = [0, 1, 4, 9, 16, 25, 36, 49];
+
 #[test]
 fn the_gate_is_told_of_each_chunk_once(rt: HostRuntime) -> Result<(), Fail> {
     let gate = Counting::new(Part::Deal);
@@ -255,11 +94,7 @@ fn the_gate_is_told_of_each_chunk_once(rt: HostRuntime) -> Result<(), Fail> {
         (states.len(), states.iter().max().copied()),
         (3, Some(8)),
     );
-    expect_equal(
-        &rt,
-        outs.as_slice(),
-        [0, 1, 4, 9, 16, 25, 36, 49].as_slice(),
-    );
+    expect_equal(&rt, outs.as_slice(), FIRST_EIGHT.as_slice());
     squared_chunks(&rt, rt.alloc(), 3, 1, &gate)?;
     expect_equal(&rt, gate.calls(), 0x0101_0101_0101_0102);
     Ok(())
@@ -305,53 +140,97 @@ fn the_gate_is_told_before_the_run(rt: HostRuntime) -> Result<(), Fail> {
     Ok(())
 }
 
-// Numbers 0 and 1 look for one another, and number 0 for all. Each number sets a bit.
+// Keeps number 0 inside until the numbers up to 7 have come.
 #[derive(Drop)]
 struct Waiting {
-    called: AtomicU64,
+    noting: Noting,
     missed: AtomicBool,
 }
 
 const TURNS: u64 = 200_000_000;
 
-// Whether all of these bits come within the turns.
-fn all_come(called: &AtomicU64, bits: u64) -> bool {
-    for _ in 0..TURNS {
-        if called.load(Ordering::SeqCst) & bits == bits {
-            return true;
+impl Waiting {
+    fn wait(&self) {
+        for _ in 0..TURNS {
+            if self.noting.noted() == 0xff {
+                return;
+            }
         }
+        self.missed.store(true, Ordering::SeqCst);
     }
-    false
 }
 
 impl Gate for Waiting {
-    fn at(&self, _part: Part, number: u64) {
-        if number < 8 {
-            self.called.fetch_or(1 << number, Ordering::SeqCst);
-        }
-        let met = match number {
-            0 => all_come(&self.called, 0b1111_1110),
-            1 => all_come(&self.called, 0b0000_0001),
-            _ => true,
-        };
-        if !met {
-            self.missed.store(true, Ordering::SeqCst);
+    fn at(&self, part: Part, number: u64) {
+        self.noting.at(part, number);
+        if number == 0 {
+            self.wait();
         }
     }
 }
 
+// A worker that is kept at its chunk leaves the others to another one.
 #[test]
-fn together(rt: HostRuntime) -> Result<(), Fail> {
+fn one_worker_draws_while_another_waits(rt: HostRuntime) -> Result<(), Fail> {
     let gate = Waiting {
-        called: AtomicU64::new(0),
+        noting: Noting::new(),
         missed: AtomicBool::new(false),
     };
     let (_, outs) = squared_chunks(&rt, rt.alloc(), 2, 8, &gate)?;
     assert!(rt; !gate.missed.load(Ordering::SeqCst), "a gate gave up");
-    expect_equal(
-        &rt,
-        outs.as_slice(),
-        [0, 1, 4, 9, 16, 25, 36, 49].as_slice(),
-    );
+    expect_equal(&rt, outs.as_slice(), FIRST_EIGHT.as_slice());
     Ok(())
+}
+
+/// Writes a region's number over its words.
+pub(crate) struct Numbers;
+
+impl Fill for Numbers {
+    ghost ready = { λ _ _ _. Unit {0} };
+
+    ghost fills = { λ _ r xs ys. ys ≡ replicate (length xs) r };
+
+    fn fill(&self, region: usize, words: &mut [u64]) {
+        words.fill(region as u64);
+    }
+}
+
+#[test]
+fn the_gate_is_told_of_each_run_once(rt: HostRuntime) {
+    let gate = Counting::new(Part::Fill);
+    each_region_mut(&rt, 3, &mut [9; 14], 2, &Numbers, &gate);
+    expect_equal(&rt, gate.calls(), 0x01_0101);
+    each_region_mut(&rt, 64, &mut [9; 2], 1, &Numbers, &gate);
+    expect_equal(&rt, gate.calls(), 0x01_0202);
+    each_region_mut(&rt, 64, &mut [9; 0], 2, &Numbers, &gate);
+    expect_equal(&rt, gate.calls(), 0x01_0202);
+}
+
+// Writes over a region's words which runs the gate was called for before.
+#[derive(Drop)]
+struct Told<'a> {
+    gate: &'a Noting,
+}
+
+impl<'a> Fill for Told<'a> {
+    ghost ready = { λ _ _ _. Unit {0} };
+
+    ghost fills = { λ _ _ _ _. Unit {0} };
+
+    fn fill(&self, _region: usize, words: &mut [u64]) {
+        words.fill(self.gate.noted());
+    }
+}
+
+#[test]
+fn the_gate_is_told_before_a_run_is_filled(rt: HostRuntime) {
+    for workers in [1, 2, 4, 8, 64] {
+        let gate = Noting::new();
+        let mut words = [0; 8];
+        each_region_mut(&rt, workers, &mut words, 1, &Told { gate: &gate }, &gate);
+        for (region, told) in words.iter().enumerate() {
+            let run = region as u64 * workers.min(8) / 8;
+            expect_equal(&rt, told >> run & 1, 1);
+        }
+    }
 }

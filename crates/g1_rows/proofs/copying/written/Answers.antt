@@ -10,34 +10,34 @@ use Rattle.g1_rows.proofs.copying.written.Goals as goal
 pub patches-requires-clause-rising : goal.patches-requires-clause-rising
 patches-requires-clause-rising g c κs within =
     let heap = c.heap-heap.ensures.same ∙ ap (λ (j : Image). j.heap) c.image.ensures.same in
-    let remembered = map (λ s. s.items) c.args.remembered.now in
-    (cards_there c.heap-heap.result.now c.args.cards.now c.args.set.now remembered c.cards_lead_in.ensures.outside
-    (c.requires.cards ∙ ap (λ (z : Heap). cards_into z remembered c.args.set.now) (sym heap))).rise
+    let remembered = map (λ s. s.items) c.args.basis.now.remembered.now in
+    (cards_there c.heap-heap.result.now c.args.basis.now.cards.now c.args.basis.now.set.now remembered c.cards_lead_in.ensures.outside
+    (c.requires.cards ∙ ap (λ (z : Heap). cards_into z remembered c.args.basis.now.set.now) (sym heap))).rise
 
 pub patches-requires-clause-there : goal.patches-requires-clause-there
 patches-requires-clause-there g c κs within =
     let heap = c.heap-heap.ensures.same ∙ ap (λ (j : Image). j.heap) c.image.ensures.same in
-    let remembered = map (λ s. s.items) c.args.remembered.now in
-    (cards_there c.heap-heap.result.now c.args.cards.now c.args.set.now remembered c.cards_lead_in.ensures.outside
-    (c.requires.cards ∙ ap (λ (z : Heap). cards_into z remembered c.args.set.now) (sym heap))).below
+    let remembered = map (λ s. s.items) c.args.basis.now.remembered.now in
+    (cards_there c.heap-heap.result.now c.args.basis.now.cards.now c.args.basis.now.set.now remembered c.cards_lead_in.ensures.outside
+    (c.requires.cards ∙ ap (λ (z : Heap). cards_into z remembered c.args.basis.now.set.now) (sym heap))).below
 
 pub patches-requires-clause-outside : goal.patches-requires-clause-outside
 patches-requires-clause-outside g c κs within =
     let heap = c.heap-heap.ensures.same ∙ ap (λ (j : Image). j.heap) c.image.ensures.same in
-    let remembered = map (λ s. s.items) c.args.remembered.now in
-    set_outside c.image.result.now c.args.tracked.now c.image.ensures.same c.heap-heap.result.now c.heap-heap.ensures.same c.heap-heap.ensures.valid c.image.ensures.covered
-    c.args.set.now c.requires.regions c.requires.ordinary
-    c.args.cards.now remembered c.args.plan.now c.cards_lead_in.ensures.outside
-    (c.requires.cards ∙ ap (λ (z : Heap). cards_into z remembered c.args.set.now) (sym heap))
-    (subst (λ z. IsPauseOf z c.args.set.now c.args.plan.now) (sym heap) c.requires.plan)
+    let remembered = map (λ s. s.items) c.args.basis.now.remembered.now in
+    set_outside c.image.result.now c.args.basis.now.tracked.now c.image.ensures.same c.heap-heap.result.now c.heap-heap.ensures.same c.heap-heap.ensures.valid c.image.ensures.covered
+    c.args.basis.now.set.now c.requires.regions c.requires.ordinary
+    c.args.basis.now.cards.now remembered c.args.basis.now.plan.now c.cards_lead_in.ensures.outside
+    (c.requires.cards ∙ ap (λ (z : Heap). cards_into z remembered c.args.basis.now.set.now) (sym heap))
+    (subst (λ z. IsPauseOf z c.args.basis.now.set.now c.args.basis.now.plan.now) (sym heap) c.requires.plan)
 
 pub new_rem-requires-clause-patches : goal.new_rem-requires-clause-patches
 new_rem-requires-clause-patches g c κs within =
     let heap = c.heap-heap.ensures.same ∙ ap (λ (j : Image). j.heap) c.image.ensures.same in
-    let remembered = map (λ s. s.items) c.args.remembered.now in
-    set_patched c.image.result.now c.args.tracked.now c.image.ensures.same c.heap-heap.result.now c.heap-heap.ensures.same c.heap-heap.ensures.valid c.image.ensures.covered
-    c.args.set.now c.requires.regions c.requires.ordinary
-    c.args.cards.now remembered c.args.plan.now c.as_slice-slots.result.now c.all_patches.ensures
-    (c.requires.cards ∙ ap (λ (z : Heap). cards_into z remembered c.args.set.now) (sym heap)) c.requires.remembered
-    (subst (λ z. IsPauseOf z c.args.set.now c.args.plan.now) (sym heap) c.requires.plan)
+    let remembered = map (λ s. s.items) c.args.basis.now.remembered.now in
+    set_patched c.image.result.now c.args.basis.now.tracked.now c.image.ensures.same c.heap-heap.result.now c.heap-heap.ensures.same c.heap-heap.ensures.valid c.image.ensures.covered
+    c.args.basis.now.set.now c.requires.regions c.requires.ordinary
+    c.args.basis.now.cards.now remembered c.args.basis.now.plan.now c.as_slice-slots.result.now c.all_patches.ensures
+    (c.requires.cards ∙ ap (λ (z : Heap). cards_into z remembered c.args.basis.now.set.now) (sym heap)) c.requires.remembered
+    (subst (λ z. IsPauseOf z c.args.basis.now.set.now c.args.basis.now.plan.now) (sym heap) c.requires.plan)
     (c.as_slice-slots.ensures.value ∙ c.in_ok-patches.ensures.ok)
