@@ -5,12 +5,12 @@ use std::alloc::{AllocError, Global};
 
 /// A program: its name, its version, what its help says before and after its commands, and these.
 #[derive(Debug, Clone, Copy)]
-pub struct Program {
+pub struct Program<'p> {
     pub name: &'static str,
     pub version: &'static str,
     pub about: &'static str,
     pub after_help: &'static str,
-    pub commands: &'static [Usage],
+    pub commands: &'p [Usage],
 }
 
 /// A command: its name, what its help says before and after its arguments, and these.
@@ -139,7 +139,7 @@ fn with_argument<'a>(
     command.arg(arg)
 }
 
-fn build_program<'a>(alloc: Global, program: &Program) -> Result<Command<'a>, AllocError> {
+fn build_program<'a>(alloc: Global, program: &Program<'_>) -> Result<Command<'a>, AllocError> {
     let mut command = without_commands(alloc, program)?;
     for usage in program.commands {
         command = with_command(alloc, command, usage)?;
@@ -147,7 +147,7 @@ fn build_program<'a>(alloc: Global, program: &Program) -> Result<Command<'a>, Al
     Ok(command)
 }
 
-fn without_commands<'a>(alloc: Global, program: &Program) -> Result<Command<'a>, AllocError> {
+fn without_commands<'a>(alloc: Global, program: &Program<'_>) -> Result<Command<'a>, AllocError> {
     Command::new(alloc, program.name)
         .no_binary_name(true)
         .version(program.version)
@@ -169,7 +169,7 @@ fn with_command<'a>(
 /// What clap finds in the words after the program's name.
 pub fn match_words<'a>(
     alloc: Global,
-    program: &Program,
+    program: &Program<'_>,
     words: &'a [String],
 ) -> Result<ArgMatches<'a>, Error> {
     build_program(alloc, program)?.try_get_matches_from(words)
@@ -182,7 +182,7 @@ pub fn match_words<'a>(
 /// A usage text if there is none, and `Fault::Memory`.
 pub fn find_command<'m, 'a>(
     alloc: Global,
-    program: &Program,
+    program: &Program<'_>,
     matches: &'m ArgMatches<'a>,
 ) -> Result<(Usage, &'m ArgMatches<'a>), Refusal> {
     if let Some((name, values)) = matches.subcommand() {

@@ -45,7 +45,7 @@ impl<T: Drop> From<AllocFailed<T>> for Misuse {
 
 impl Misuse {
     /// The refusal, with the usage of the command whose values these are.
-    pub fn refusal(self, alloc: Global, program: &Program, usage: &Usage) -> Refusal {
+    pub fn refusal(self, alloc: Global, program: &Program<'_>, usage: &Usage) -> Refusal {
         match self {
             Misuse::Value(message) => match with_usage(alloc, program, usage, message.as_str()) {
                 Ok(text) => Refusal::usage(text),
@@ -58,7 +58,7 @@ impl Misuse {
 
 fn with_usage(
     alloc: Global,
-    program: &Program,
+    program: &Program<'_>,
     usage: &Usage,
     message: &str,
 ) -> Result<String, AllocError> {

@@ -4,13 +4,13 @@ use crate::output::Output;
 use crate::regions::{regions_in, tie};
 use crate::usage::{
     ADDRESS, AFTER, ALL, BEFORE, BUDGET, COVERED, EXPLAINED, FILL, IMAGE, IMAGE_AFTER, LINES, LIVE,
-    MAP, NAMES, NUMBERED, OBJECT, OUTPUT, PROGRAM, REGION, SET, SUMMARY, TRACED, YOUNG,
+    MAP, NAMES, NUMBERED, OBJECT, OUTPUT, REGION, SET, SUMMARY, TRACED, YOUNG, commands, program,
 };
 use clap::ArgMatches;
 use g1_choose::Cost;
 use g1_command::{
-    Argument, Misuse, Refusal, cost_of, explain, find_command, match_words, number, number_in,
-    region, required_number,
+    Argument, Misuse, Program, Refusal, cost_of, explain, find_command, match_words, number,
+    number_in, region, required_number,
 };
 use std::alloc::{AllocError, Global};
 
@@ -273,16 +273,22 @@ fn request_of(alloc: Global, name: &str, values: &ArgMatches<'_>) -> Result<Requ
 /// Reads the words after the program's name.
 pub fn parse(alloc: Global, words: &[String]) -> Result<Request, Refusal> {
     let words = tie(alloc, words)?;
-    match &match_words(alloc, &PROGRAM, words.as_slice()) {
-        Ok(matches) => read_request(alloc, matches),
+    let commands = commands();
+    let program = program(&commands);
+    match &match_words(alloc, &program, words.as_slice()) {
+        Ok(matches) => read_request(alloc, &program, matches),
         Err(error) => Ok(Request::Help(explain(alloc, error)?)),
     }
 }
 
-fn read_request(alloc: Global, matches: &ArgMatches<'_>) -> Result<Request, Refusal> {
-    let (usage, values) = find_command(alloc, &PROGRAM, matches)?;
+fn read_request(
+    alloc: Global,
+    program: &Program<'_>,
+    matches: &ArgMatches<'_>,
+) -> Result<Request, Refusal> {
+    let (usage, values) = find_command(alloc, program, matches)?;
     match request_of(alloc, usage.name, values) {
         Ok(request) => Ok(request),
-        Err(misuse) => Err(misuse.refusal(alloc, &PROGRAM, &usage)),
+        Err(misuse) => Err(misuse.refusal(alloc, program, &usage)),
     }
 }

@@ -94,14 +94,45 @@ Example: g1heap print < IMAGE";
 /// The program's name.
 pub const NAME: &str = "g1heap";
 
-/// The program and its commands.
-pub static PROGRAM: Program = Program {
-    name: NAME,
-    version: "1.0.0",
-    about: "Compares, prints and makes heap images, explains pauses and answers traces",
-    after_help: AFTER_ALL,
-    commands: &[SAME, PRINT, MAKE, EXPLAIN, WHY, TRACE],
-};
+/// The program, whose commands these are.
+pub fn program(commands: &[Usage]) -> Program<'_> {
+    Program {
+        name: NAME,
+        version: "1.0.0",
+        about: "Compares, prints and makes heap images, explains pauses and answers traces",
+        after_help: AFTER_ALL,
+        commands,
+    }
+}
+
+/// The commands. Each is a function's result, since the check of all as one constant takes too many steps.
+pub fn commands() -> [Usage; 6] {
+    [same(), print(), make(), explain(), why(), trace()]
+}
+
+fn same() -> Usage {
+    SAME
+}
+
+fn print() -> Usage {
+    PRINT
+}
+
+fn make() -> Usage {
+    MAKE
+}
+
+fn explain() -> Usage {
+    EXPLAIN
+}
+
+fn why() -> Usage {
+    WHY
+}
+
+fn trace() -> Usage {
+    TRACE
+}
 
 const SAME: Usage = Usage {
     name: "same",

@@ -1,10 +1,10 @@
 //! The command line.
-use crate::usage::{CHUNK, PROGRAM, REGIONS, REPACK, WORKERS};
+use crate::usage::{CHUNK, REGIONS, REPACK, WORKERS, commands, program};
 use clap::error::ErrorKind;
 use clap::{ArgMatches, Error};
 use g1_choose::Cost;
 use g1_command::{
-    BUDGET, Misuse, Refusal, cost_of, explain, find_command, match_words, number, regions,
+    BUDGET, Misuse, Program, Refusal, cost_of, explain, find_command, match_words, number, regions,
     required_number,
 };
 use std::alloc::{AllocError, Global};
@@ -110,8 +110,10 @@ fn question_of(alloc: Global, name: &str, values: &ArgMatches<'_>) -> Result<Que
 
 /// Reads the words after the program's name.
 pub fn parse(alloc: Global, words: &[String]) -> Result<Request, Refusal> {
-    match match_words(alloc, &PROGRAM, words) {
-        Ok(matches) => read_request(alloc, &matches),
+    let commands = commands();
+    let program = program(&commands);
+    match match_words(alloc, &program, words) {
+        Ok(matches) => read_request(alloc, &program, &matches),
         Err(error) => match explain(alloc, &error) {
             Ok(text) => Ok(Request::Help(text)),
             Err(refusal) => Err(with_hint(&error, refusal)?),
@@ -140,10 +142,14 @@ fn has_one_file_more(error: &Error, text: &str) -> bool {
     error.kind() == ErrorKind::UnknownArgument && !text.starts_with("error: unexpected argument '-")
 }
 
-fn read_request(alloc: Global, matches: &ArgMatches<'_>) -> Result<Request, Refusal> {
-    let (usage, values) = find_command(alloc, &PROGRAM, matches)?;
+fn read_request(
+    alloc: Global,
+    program: &Program<'_>,
+    matches: &ArgMatches<'_>,
+) -> Result<Request, Refusal> {
+    let (usage, values) = find_command(alloc, program, matches)?;
     match request_of(alloc, usage.name, values) {
         Ok(request) => Ok(request),
-        Err(misuse) => Err(misuse.refusal(alloc, &PROGRAM, &usage)),
+        Err(misuse) => Err(misuse.refusal(alloc, program, &usage)),
     }
 }

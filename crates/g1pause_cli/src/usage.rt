@@ -4,12 +4,7 @@ use g1_command::{Argument, BUDGET, BYTE, CARD, DIRTY, FIXED, FLAG, Form, Program
 /// The program's name.
 pub const NAME: &str = "g1pause";
 
-/// The program and its commands.
-pub static PROGRAM: Program = Program {
-    name: NAME,
-    version: "1.0.0",
-    about: "Runs Garbage-First evacuation pauses on heap images",
-    after_help: "\
+const AFTER_ALL: &str = "\
 Statuses:
   0  done
   2  wrong words, a number out of its range, or a wrong line of a trace
@@ -18,9 +13,47 @@ Statuses:
   5  a region that cannot be collected, or no room for the survivors
   6  no memory, or a read or a write that failed
 
-Example: g1pause show < IMAGE",
-    commands: &[SHOW, CHECK, LIVE, CHOOSE, PAUSE, RUN],
-};
+Example: g1pause show < IMAGE";
+
+/// The program, whose commands these are.
+pub fn program(commands: &[Usage]) -> Program<'_> {
+    Program {
+        name: NAME,
+        version: "1.0.0",
+        about: "Runs Garbage-First evacuation pauses on heap images",
+        after_help: AFTER_ALL,
+        commands,
+    }
+}
+
+/// The commands. Each is a function's result, since the check of all as one constant takes too many steps.
+pub fn commands() -> [Usage; 6] {
+    [show(), check(), live(), choose(), pause(), run()]
+}
+
+fn show() -> Usage {
+    SHOW
+}
+
+fn check() -> Usage {
+    CHECK
+}
+
+fn live() -> Usage {
+    LIVE
+}
+
+fn choose() -> Usage {
+    CHOOSE
+}
+
+fn pause() -> Usage {
+    PAUSE
+}
+
+fn run() -> Usage {
+    RUN
+}
 
 const SHOW: Usage = Usage {
     name: "show",
