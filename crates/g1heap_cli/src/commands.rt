@@ -149,17 +149,37 @@ fn compare_files<T: Threads + Sync + Files, R: Read>(
     let (found, lines) = read_side(rt, alloc, same.before.as_str(), reader)?;
     let before = open(alloc, same.before.as_str(), found, lines.as_slice())?;
     let before = without_strays(alloc, same.before.as_str(), before)?;
+    compare_to_after(rt, alloc, same, &before, reader)
+}
+
+fn compare_to_after<T: Threads + Sync + Files, R: Read>(
+    rt: &T,
+    alloc: Global,
+    same: &Same,
+    before: &Side<'_>,
+    reader: &mut R,
+) -> Result<(u8, String), Refusal> {
     let (found, lines) = read_side(rt, alloc, same.after.as_str(), reader)?;
     let after = open(alloc, same.after.as_str(), found, lines.as_slice())?;
-    check_asked(alloc, same, &before, &after)?;
-    match &same.names {
-        None => compare_sides(rt, alloc, same, None, &before, after),
-        Some(name) => {
-            let text = read_bytes(rt, alloc, name.as_str(), reader)?;
-            let names = names_in(alloc, name.as_str(), text.as_slice())?;
-            compare_sides(rt, alloc, same, Some(&names), &before, after)
-        }
-    }
+    check_asked(alloc, same, before, &after)?;
+    compare_named(rt, alloc, same, before, after, reader)
+}
+
+// The names of the program are read when both heaps are.
+fn compare_named<T: Threads + Sync + Files, R: Read>(
+    rt: &T,
+    alloc: Global,
+    same: &Same,
+    before: &Side<'_>,
+    after: Side<'_>,
+    reader: &mut R,
+) -> Result<(u8, String), Refusal> {
+    let Some(name) = &same.names else {
+        return compare_sides(rt, alloc, same, None, before, after);
+    };
+    let text = read_bytes(rt, alloc, name.as_str(), reader)?;
+    let names = names_in(alloc, name.as_str(), text.as_slice())?;
+    compare_sides(rt, alloc, same, Some(&names), before, after)
 }
 
 // Lines of objects by name have no regions of the program's own, and no addresses.
