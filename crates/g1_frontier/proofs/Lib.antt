@@ -19,5 +19,6 @@ pub mod Links
 pub mod Ranks
 pub mod Finding
 pub mod Searching
+pub mod Parts
 pub mod Leading
 pub mod Queues

@@ -8,8 +8,8 @@
 //! Can Be Fast", 2012):
 //!
 //! 1. One claim table serves the whole call. `discover` numbers the objects of the window by one walk
-//!    over their headers, and its table has a word for each of them. A table of `claim_round` has a
-//!    word for each word of the window.
+//!    over their headers, which the workers share, and its table has a word for each of them. A table
+//!    of `claim_round` has a word for each word of the window.
 //! 2. The items of the first round are the roots, then the cards that lead into the window. Every
 //!    slot of an item has a rank: root i has i; a slot on a card the number of roots plus its
 //!    address; slots of objects follow, numbered on in the order in which the objects were found.

@@ -1,13 +1,17 @@
-ghost use Rattle.std.specs.Prelude.{◌≡◌, ◌<◌, ◌≤◌, ◌+◌, ◌*◌, length, set, replicate, true, false, IfOk, sum_by, count_ones};
+ghost use Rattle.std.specs.Prelude.{◌≡◌, ◌<◌, ◌≤◌, ◌+◌, ◌*◌, length, set, replicate, true, false, IfOk, IfErr, sum_by, count_ones};
+ghost use Rattle.g1_words.specs.declared.fault.Fault.TheVariants.{Memory};
 ghost use Rattle.g1_words.specs.Geometry.{most_words};
 ghost use Rattle.g1_words.specs.Marks.{marks_of};
+ghost use Rattle.g1_words.specs.Valid.{IsValid};
 ghost use Rattle.g1_frontier.specs.Window.{AreRegions};
-ghost use Rattle.g1_frontier.specs.Numbers.{AreStarts, and_marked, places_from};
+ghost use Rattle.g1_frontier.specs.Numbers.{AreBits, and_marked, part_of, places_from};
 
 use g1_rem::objects_end;
-use g1_words::{Heap, size_at};
+use g1_words::{Fault, Heap, size_at};
+use g1_work::{Make, WORDS_A_THREAD, make_each, threads_for};
 use std::alloc::{AllocError, Global};
 use std::marker::Model;
+use std::thread::Threads;
 
 /// 64 words of a window.
 #[derive(Debug, Clone, Copy, PartialEq, Eq, Drop)]
@@ -68,8 +72,7 @@ fn mark_region(heap: &Heap, region: u32, first: u64, starts: &mut Vec<u64>)
 /// A bit for each word of the window, set if an object begins there.
 fn mark_window(alloc: Global, heap: &Heap, window: &[u32]) -> Result<Vec<u64>, AllocError>
     requires { AreRegions heap.now window.now }
-    ensures few { IfOk result (λ v. 64 * length v.items ≤ most_words) }
-    ensures starts { IfOk result (λ v. AreStarts heap.now window.now (marks_of (64 * length v.items) v.items)) }
+    ensures { IfOk result (λ v. AreBits heap.now window.now v.items) }
 {
     let width = heap.geometry().region_words();
     let words = window.len() as u64 * width;
@@ -78,6 +81,75 @@ fn mark_window(alloc: Global, heap: &Heap, window: &[u32]) -> Result<Vec<u64>, A
         mark_region(heap, *region, index as u64 * width, &mut starts);
     }
     Ok(starts)
+}
+
+/// A window that is cut into parts, of each of which the bits are made.
+#[derive(Drop)]
+struct Parts<'a> {
+    heap: &'a Heap,
+    window: &'a [u32],
+    /// How many regions a part has. The last one may have fewer.
+    regions: usize,
+}
+
+impl Make for Parts<'_> {
+    type Made = Vec<u64>;
+
+    ghost ready = { λ s j. AreRegions s.heap.now s.window.now × (j * s.regions ≤ length s.window.now) };
+
+    ghost makes = { λ s j v. AreBits s.heap.now (part_of s.regions s.window.now j) v.items };
+
+    fn make(&self, alloc: Global, part: usize) -> Result<Vec<u64>, Fault> {
+        let rest = &self.window[part * self.regions..];
+        Ok(mark_window(alloc, self.heap, &rest[..self.regions.min(rest.len())])?)
+    }
+}
+
+/// As `mark_window`, by this many threads.
+fn mark_by_threads(
+    rt: &(impl Threads + Sync),
+    alloc: Global,
+    heap: &Heap,
+    window: &[u32],
+    threads: usize,
+) -> Result<Vec<u64>, Fault>
+    requires threads { 0 < threads }
+    requires heap { IsValid heap.now }
+    requires window { AreRegions heap.now window.now }
+    requires some { 0 < length window.now }
+    ensures ok { IfOk result (λ v. AreBits heap.now window.now v.items) }
+    ensures memory { IfErr result (λ e. e ≡ Memory) }
+{
+    // A region has a power of two of words, at least 16. So the bits of four regions fill their words,
+    // and those of the next part begin at a word of their own.
+    let regions = window.len().div_ceil(threads).div_ceil(4) * 4;
+    let parts = Parts {
+        heap,
+        window,
+        regions,
+    };
+    let lists = make_each(rt, alloc, threads, window.len().div_ceil(regions), &parts)?;
+    Ok(lists.concat(alloc)?)
+}
+
+/// As `mark_window`, by this many workers at most. One if it is 0.
+fn mark_by(
+    rt: &(impl Threads + Sync),
+    alloc: Global,
+    heap: &Heap,
+    window: &[u32],
+    workers: u64,
+) -> Result<Vec<u64>, Fault>
+    requires { AreRegions heap.now window.now }
+    ensures ok { IfOk result (λ v. AreBits heap.now window.now v.items) }
+    ensures few { IfOk result (λ v. 64 * length v.items ≤ most_words) }
+    ensures memory { IfErr result (λ e. e ≡ Memory) }
+{
+    let words = window.len() * heap.geometry().region_words() as usize;
+    match threads_for(workers, words, WORDS_A_THREAD) {
+        1 => Ok(mark_window(alloc, heap, window)?),
+        threads => mark_by_threads(rt, alloc, heap, window, threads),
+    }
 }
 
 /// Counts the bits that are set.
@@ -98,21 +170,32 @@ fn count_starts(alloc: Global, starts: &[u64]) -> Result<Numbers, AllocError>
 }
 
 impl Numbers {
-    ghost use Rattle.std.specs.Prelude.{◌≡◌, ◌<◌, ◌≤◌, length, IfOk};
+    ghost use Rattle.std.specs.Prelude.{◌≡◌, ◌<◌, ◌≤◌, length, IfOk, IfErr};
+    ghost use Rattle.g1_words.specs.declared.fault.Fault.TheVariants.{Memory};
     ghost use Rattle.g1_words.specs.Geometry.{most_words};
     ghost use Rattle.g1_frontier.specs.Window.{AreRegions};
     ghost use Rattle.g1_frontier.specs.Numbers.{AreStarts, number_at};
 
-    /// Numbers the objects of a window, by their headers.
+    /// Numbers the objects of a window by their headers, with this many workers at most. One if it
+    /// is 0.
+    ///
+    /// Each walks over a part of the window.
     ///
     /// # Errors
-    /// `AllocError`.
-    pub(crate) fn new(alloc: Global, heap: &Heap, window: &[u32]) -> Result<Numbers, AllocError>
+    /// `Fault::Memory` if a growth was refused.
+    pub(crate) fn new_by(
+        rt: &(impl Threads + Sync),
+        alloc: Global,
+        heap: &Heap,
+        window: &[u32],
+        workers: u64,
+    ) -> Result<Numbers, Fault>
         requires { AreRegions heap.now window.now }
         ensures few { IfOk result (λ n. length n ≤ most_words) }
         ensures starts { IfOk result (AreStarts heap.now window.now) }
+        ensures memory { IfErr result (λ e. e ≡ Memory) }
     {
-        let starts = mark_window(alloc, heap, window)?;
+        let starts = mark_by(rt, alloc, heap, window, workers)?;
         Ok(count_starts(alloc, starts.as_slice())?)
     }
 

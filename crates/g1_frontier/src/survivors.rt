@@ -230,7 +230,7 @@ pub fn discover<R: Threads + Sync, G: Gate + Sync>(
 {
     let regions = heap.geometry().regions();
     let positions = positions(alloc, regions, window)?;
-    let numbering = Numbering::Objects(Numbers::new(alloc, heap, window)?);
+    let numbering = Numbering::Objects(Numbers::new_by(rt, alloc, heap, window, workers)?);
     let scope = Scope {
         heap,
         starts,

@@ -1,4 +1,4 @@
-use Rattle.std.proofs.Common.{arith, ap, ◌≡◌, ◌≤◌, ◌+◌, ◌*◌, ◌/◌, ◌%◌, ◌^◌, ◌∙◌, subst, sym, refl, ℕ, length, replicate, get_or, min, false}
+use Rattle.std.proofs.Common.{arith, ap, ◌≡◌, ◌≤◌, ◌<◌, ◌+◌, ◌*◌, ◌/◌, ◌%◌, ◌^◌, ◌∙◌, subst, sym, refl, ℕ, length, replicate, get_or, min, false}
 use Rattle.std.proofs.Math.Nat.{mul-le-mul_right}
 use Rattle.std.proofs.lemmas.List.{length-replicate}
 use Rattle.g1_words.specs.Marks.{marks_of}
@@ -31,6 +31,10 @@ loop-index-init c =
 -- as many bits as words, and no more than a heap may have words
 room : (words bits : ℕ) → words ≤ 2 ^ 24 → bits ≡ words / 64 + min 1 (words % 64) → (words ≤ 64 * bits) × (64 * bits ≤ 2 ^ 24)
 room words bits few e = (omega (arith, few, e), omega (arith, few, e))
+
+-- and no word of bits more
+no_more : (words bits : ℕ) → bits ≡ words / 64 + min 1 (words % 64) → 64 * bits < words + 64
+no_more words bits e = omega (arith, e)
 
 -- there is a word of bits for each 64 words of the window
 long : (c : In_ok-starts) → length c.in_ok-starts.starts.items ≡ length c.args.window.now * c.args.heap.now.geometry.w / 64 + min 1 (length c.args.window.now * c.args.heap.now.geometry.w % 64)
@@ -79,19 +83,17 @@ loop-index-preserved c =
       same = c.mark_region.ensures.same ∙ c.loop-index.invariant.same;
     }
 
-pub returns-clause-few : goal.returns-clause-few
-returns-clause-few c =
-    let wide = room (length c.args.window.now * c.args.heap.now.geometry.w) (length c.loop-index.starts.items) (window_few c.args.heap.now c.geometry.ensures.valid c.args.window.now c.requires)
-    (c.loop-index.invariant.same ∙ long (goal.at.returns-clause-few c).In_ok-starts) in wide.1
-
-pub returns-clause-starts : goal.returns-clause-starts
-returns-clause-starts c =
+pub returns : goal.returns
+returns c =
     let n : ℕ = 64 * length c.loop-index.starts.items in
     let last : c.loop-index.index ≡ length c.args.window.now = omega (arith, c.loop-index-test.false, c.loop-index.auto.index-end) in
-    let wide = room (length c.args.window.now * c.args.heap.now.geometry.w) (length c.loop-index.starts.items) (window_few c.args.heap.now c.geometry.ensures.valid c.args.window.now c.requires)
-    (c.loop-index.invariant.same ∙ long (goal.at.returns-clause-starts c).In_ok-starts) in
-    starts_marked c.args.heap.now c.args.window.now c.geometry.ensures.valid c.requires n (marks_of n c.loop-index.starts.items) wide.0
-    (c.loop-index.invariant.marked ∙ ap (λ k. and_marked (replicate n false) (places_to c.args.heap.now c.args.window.now k)) last)
+    let bits = c.loop-index.invariant.same ∙ long (goal.at.returns c).In_ok-starts in
+    let wide = room (length c.args.window.now * c.args.heap.now.geometry.w) (length c.loop-index.starts.items) (window_few c.args.heap.now c.geometry.ensures.valid c.args.window.now c.requires) bits in
+    record {
+      starts = starts_marked c.args.heap.now c.args.window.now c.geometry.ensures.valid c.requires n (marks_of n c.loop-index.starts.items) wide.0
+          (c.loop-index.invariant.marked ∙ ap (λ k. and_marked (replicate n false) (places_to c.args.heap.now c.args.window.now k)) last);
+      few = no_more (length c.args.window.now * c.args.heap.now.geometry.w) (length c.loop-index.starts.items) bits;
+    }
 
 pub loop-index-smaller : goal.loop-index-smaller
 loop-index-smaller c = omega (arith, c.loop-index-test.true)

@@ -5,7 +5,7 @@ use Rattle.g1_frontier.proofs.survivors.discover.Goals as goal
 
 pub survivors_in-requires-clause-scope : goal.survivors_in-requires-clause-scope
 survivors_in-requires-clause-scope g c κs within =
-    scope_by_object _ c.in_ok-new.field-0 refl c.in_ok-new.ensures.starts c.in_ok-new.ensures.few (record {
+    scope_by_object _ c.in_ok-new_by.field-0 refl c.in_ok-new_by.ensures.starts c.in_ok-new_by.ensures.few (record {
       valid = c.geometry.ensures.valid;
       starts = c.requires.starts;
       regions = c.requires.window;
