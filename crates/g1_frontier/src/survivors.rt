@@ -168,7 +168,16 @@ fn search_alone(alloc: Global, scope: &Scope, cards: &[u32]) -> Result<Vec<u64>,
     Ok(found)
 }
 
-// The survivors of the window of a scope: by one worker alone, or by rounds.
+// No round of a search has more items: the first has the roots and the cards, the others have objects.
+fn most_items(scope: &Scope, cards: &[u32]) -> usize
+    requires { IsScope scope.now }
+{
+    let first = scope.heap.roots().len().saturating_add(cards.len());
+    first.max(scope.places() as usize)
+}
+
+// The survivors of the window of a scope: by one worker alone if no round would hire another, or by
+// rounds.
 fn survivors_in<R: Threads + Sync, G: Gate + Sync>(
     crew: &Crew<'_, R, G>,
     scope: &Scope,
@@ -182,7 +191,8 @@ fn survivors_in<R: Threads + Sync, G: Gate + Sync>(
     ensures only { IfOk result (λ v. (l : List ℕ) → Survivors scope.now.heap.now scope.now.window.now l → l ≡ v.items) }
     ensures memory { IfErr result (λ e. e ≡ Memory) }
 {
-    if crew.team.workers() == 1 {
+    let widest = crew.hire(most_items(scope, cards), 0);
+    if widest.team.workers() == 1 {
         return search_alone(crew.alloc, scope, cards);
     }
     let mut search = first_round(crew, scope, cards)?;
