@@ -24,31 +24,33 @@ range_more a p le =
     ap (λ x. range_with_len a (p - a) ++ x ∷ []) e ∙ range_push a (p - a) ∙ ap (range_with_len a) f
 
 module _ (h : Heap) (valid : IsValid h) where
-  -- an object's header and slots are among the words
-  pub object_in_words : (a : ℕ) → Contains (objects h) (object_at h a) → (a < length h.words) × (a + 1 + word h a % 2 ^ 32 ≤ length h.words)
-  object_in_words a c =
-      let fit = (sound h valid).slots_fit (object_at h a) c in
-      let end = object_within h valid (object_at h a) (contains_has h (object_at h a) valid.shaped c) in
-      (omega (arith, fit, end, valid.word_count), omega (arith, fit, end, valid.word_count))
+  -- an object's slots are among the words
+  pub slots_in_words : (o : Object) → Contains (objects h) o → o.at + 1 + o.refs ≤ length h.words
+  slots_in_words o c =
+      let fit = (sound h valid).slots_fit o c in
+      let end = object_within h valid o (contains_has h o valid.shaped c) in
+      omega (arith, fit, end, valid.word_count)
 
-  -- so is a slot on a card
+  -- so is its header
+  pub object_in_words : (a : ℕ) → Contains (objects h) (object_at h a) → (a < length h.words) × (a + 1 + word h a % 2 ^ 32 ≤ length h.words)
+  object_in_words a c = let k = slots_in_words (object_at h a) c in (omega (arith, k), k)
+
+  -- and a slot on a card
   pub slot_in_words : (c p : ℕ) → In (slots_on h c) p → p < length h.words
   slot_in_words c p i =
       let q = flat_map_cases slots (objects h) p (filter_member (λ p. Rattle.std.proofs.Common.eqb (Rattle.g1_words.specs.Heap.card_of h p) c) (all_slots h) p i).0 in
-      let o = Contains-from_in (objects h) q.0 q.1 in
-      let fit = (sound h valid).slots_fit q.0 o in
-      let end = object_within h valid q.0 (contains_has h q.0 valid.shaped o) in
-      omega (arith, range_below (q.0.at + 1) q.0.refs p q.2, fit, end, valid.word_count)
+      let k = slots_in_words q.0 (Contains-from_in (objects h) q.0 q.1) in
+      omega (arith, range_below (q.0.at + 1) q.0.refs p q.2, k)
 
   -- a root is a reference
   pub root_reference : (i : ℕ) → i < length h.roots → IsReference h (get_or h.roots i 0)
   root_reference i lt = valid.roots i 0 lt
 
-  slot_reference : (o : Object) (p : ℕ) → In (objects h) o → In (slots o) p → IsReference h (word h p)
+  -- so is a slot of an object
+  pub slot_reference : (o : Object) (p : ℕ) → In (objects h) o → In (slots o) p → IsReference h (word h p)
   slot_reference o p i j =
       valid.slots o p (contains_has h o valid.shaped (Contains-from_in (objects h) o i)) (omega (arith, range_above (o.at + 1) o.refs p j), omega (arith, range_below (o.at + 1) o.refs p j))
 
-  -- so is a slot of an object
   pub object_reference : (a p : ℕ) → Contains (objects h) (object_at h a) → In (slots (object_at h a)) p → IsReference h (word h p)
   object_reference a p c i = slot_reference (object_at h a) p (In-from_contains (objects h) (object_at h a) c) i
 

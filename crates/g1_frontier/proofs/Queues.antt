@@ -1,9 +1,11 @@
 -- What one worker finds.
 use Rattle.std.proofs.Common.{◌≡◌, ◌≢◌, ◌≤◌, ◌<◌, ℕ, suc, ◌^◌, ◌+◌, ◌*◌, ◌/◌, inl, inr, ◌⊎◌, Bool, true, false, cond, not, ◌||◌, eqb, eq-eqb, ne_eqb, List, [], ◌∷◌, ◌++◌, filter}
-use Rattle.std.proofs.Common.{flat_map, length, take, get_or, Contains, refl, sym, ap, subst, ◌∙◌, arith, All, append_assoc, append-nil, length-append, true≢false}
+use Rattle.std.proofs.Common.{flat_map, map, length, take, drop, get_or, Contains, refl, sym, ap, subst, ◌∙◌, arith, All, append_assoc, append-nil, length-append, true≢false}
 use Rattle.std.proofs.lemmas.Bool.{cases_lt}
 use Rattle.std.proofs.lemmas.Nat.{le-div}
 use Rattle.std.proofs.lemmas.List.{map-append, take_more, flat_map_more}
+use Rattle.std.proofs.lemmas.List.Folds.{flat_map-map}
+use Rattle.std.proofs.lemmas.Grind.{flat_map-append}
 use Rattle.std.proofs.lemmas.List.Elements.{All-append, All-cons, All-nil}
 use Rattle.g1_words.specs.Geometry.{most_words}
 use Rattle.g1_claim.specs.declared.rule.Offer.{Offer}
@@ -15,7 +17,7 @@ use Rattle.g1_words.specs.Live.{Reached, seed, child}
 use Rattle.g1_words.specs.References.{named}
 use Rattle.g1_words.specs.Survivors.{Survivors, firsts, seeds, children}
 use Rattle.g1_words.proofs.Firsts.{Distinct, Distinct-firsts, In-firsts, firsts_member, firsts-append}
-use Rattle.g1_words.proofs.Members.{In, In-from_contains, Contains-from_in, In-append_left, In-append_cases, has_from_in, in_from_has}
+use Rattle.g1_words.proofs.Members.{In, In-from_contains, Contains-from_in, In-append_left, In-append_cases, flat_map_cases, has_from_in, in_from_has}
 use Rattle.g1_words.proofs.OneToOne.{reached_object}
 use Rattle.g1_words.proofs.Sound.{sound}
 use Rattle.g1_rem.specs.Slots.{slots_on}
@@ -31,10 +33,10 @@ use Rattle.g1_frontier.proofs.Finding.{same_test}
 use Rattle.g1_frontier.proofs.Links.{has_snoc}
 use Rattle.g1_frontier.proofs.Marks.{firsts_more}
 use Rattle.g1_frontier.proofs.Places.{past_regions, same_bool}
-use Rattle.g1_frontier.proofs.Scopes.{apart, some_words, In-get}
+use Rattle.g1_frontier.proofs.Scopes.{apart, some_words, all_from_in}
 use Rattle.g1_frontier.proofs.Searching.{distinct_few}
 use Rattle.g1_frontier.proofs.Seeds.{filter_flat, flat_same, seeds_named}
-use Rattle.g1_frontier.proofs.Turns.{take_longer, ends}
+use Rattle.g1_frontier.proofs.Turns.{take_longer, take_parts, in_front, in_rest, ends}
 
 -- ---- the word of a place
 
@@ -198,7 +200,7 @@ module _ (s : Scope) (ok : IsScope s) (t : TableView) where
   abbrev next_of : ℕ → List ℕ
   next_of = children s.heap.now s.window.now
 
-  object_children : (a : ℕ) → object_names s a ≡ children s.heap.now s.window.now a
+  object_children : (a : ℕ) → object_names s (object_at s.heap.now a) ≡ children s.heap.now s.window.now a
   object_children a = sym (filter_flat (inside s) (λ p. named (word s.heap.now p)) (slots (object_at s.heap.now a)))
 
   in_noted : (q : Queue) (xs : List ℕ) (a : ℕ) → firsts (noted q) ≡ firsts xs → In (noted q) a → In xs a
@@ -240,36 +242,47 @@ module _ (s : Scope) (ok : IsScope s) (t : TableView) where
         ends = inr settled;
       }
 
-  module _ (from : ℕ) (a : Queue) (u : IsUnderWay s t from a) (lt : from < length a.found.items) where
-    here : In a.found.items (get_or a.found.items from 0)
-    here = In-get a.found.items from 0 lt
+  -- n of what was found are searched, from one on
+  module _ (from n : ℕ) (a : Queue) (u : IsUnderWay s t from a) where
+    abbrev batch : List ℕ
+    batch = take n (drop from a.found.items)
 
-    pub here_reached : Reached (seeds s.heap.now s.window.now) (children s.heap.now s.window.now) (get_or a.found.items from 0)
-    here_reached = u.reached (get_or a.found.items from 0) (Contains-from_in (noted a) (get_or a.found.items from 0)
-        (In-append_left a.found.items (addresses a.waiting.items) (get_or a.found.items from 0) here))
+    batch_reached : (c : ℕ) → In (take n (drop from a.found.items)) c → Reached (seeds s.heap.now s.window.now) (children s.heap.now s.window.now) c
+    batch_reached c i =
+        let there : In a.found.items c = in_rest from a.found.items c (in_front n (drop from a.found.items) c i) in
+        u.reached c (Contains-from_in (noted a) c (In-append_left a.found.items (addresses a.waiting.items) c there))
 
-    -- what is searched is an object
-    pub here_object : Contains (objects s.heap.now) (object_at s.heap.now (get_or a.found.items from 0))
-    here_object = reached_object s.heap.now s.window.now (sound s.heap.now ok.valid) (get_or a.found.items from 0) here_reached
+    -- they are objects
+    pub batch_objects : All (λ c. Contains (objects s.heap.now) (object_at s.heap.now c)) (take n (drop from a.found.items))
+    batch_objects = all_from_in (λ c. Contains (objects s.heap.now) (object_at s.heap.now c)) batch
+        (λ c i. reached_object s.heap.now s.window.now (sound s.heap.now ok.valid) c (batch_reached c i))
 
-    -- one more is searched
-    pub moved_on : (b : Queue) → HasNoted s t (object_names s (get_or a.found.items from 0)) a b → (from + 1 < length b.found.items) ⊎ (b.waiting.items ≡ []) → IsUnderWay s t (from + 1) b
-    moved_on b x done =
-        let at : ℕ = get_or a.found.items from 0 in
-        let named_there : object_names s at ≡ next_of at = object_children at in
+    batch_names : flat_map (object_names s) (map (object_at s.heap.now) batch) ≡ flat_map next_of batch
+    batch_names =
+        flat_map-map (object_names s) (object_at s.heap.now) batch
+        ∙ flat_same (λ c. object_names s (object_at s.heap.now c)) next_of batch (λ c i. object_children c)
+
+    -- what they name is noted
+    pub moved_on : (to : ℕ) → from + n ≡ to → (b : Queue) → to ≤ length a.found.items
+        → HasNoted s t (flat_map (object_names s) (map (object_at s.heap.now) (take n (drop from a.found.items)))) a b
+        → (to < length b.found.items) ⊎ (b.waiting.items ≡ []) → IsUnderWay s t to b
+    moved_on to sum b le x done =
         let front : List ℕ = flat_map next_of (take from a.found.items) in
-        let same : take (from + 1) b.found.items ≡ take from a.found.items ++ at ∷ [] =
-        ap (take (from + 1)) x.stays ∙ take_longer (from + 1) a.found.items x.behind (omega (arith, lt)) ∙ take_more a.found.items from 0 lt in
+        let more : List ℕ = flat_map next_of batch in
+        let same : take to b.found.items ≡ take from a.found.items ++ batch =
+        ap (take to) x.stays ∙ take_longer to a.found.items x.behind le ∙ ap (λ k. take k a.found.items) (sym sum) ∙ take_parts from n a.found.items in
+        let whole : front ++ more ≡ flat_map next_of (take to b.found.items) =
+        sym (flat_map-append next_of (take from a.found.items) batch) ∙ ap (flat_map next_of) (sym same) in
         let long : length b.found.items ≡ length a.found.items + length x.behind = ap length x.stays ∙ length-append a.found.items x.behind in
-        let e : firsts (noted b) ≡ firsts (noted a ++ next_of at) = x.longer ∙ ap (λ l. firsts (noted a ++ l)) named_there in record {
+        let e : firsts (noted b) ≡ firsts (noted a ++ more) = x.longer ∙ ap (λ l. firsts (noted a ++ l)) batch_names in record {
           queue = x.queue;
-          from = omega (arith, long, lt);
+          from = omega (arith, long, le);
           in_order =
-              e ∙ sym (firsts_more (noted a) (next_of at)) ∙ ap (λ l. firsts (l ++ next_of at)) u.in_order ∙ firsts_more (first_seeds ++ front) (next_of at)
-              ∙ ap firsts (append_assoc first_seeds front (next_of at) ∙ ap (λ l. first_seeds ++ l) (flat_map_more next_of [] (take from a.found.items) at ∙ ap (flat_map next_of) (sym same)));
-          reached = λ c i. elim (In-append_cases (noted a) (next_of at) c (in_noted b (noted a ++ next_of at) c e (In-from_contains (noted b) c i))) [
+              e ∙ sym (firsts_more (noted a) more) ∙ ap (λ l. firsts (l ++ more)) u.in_order ∙ firsts_more (first_seeds ++ front) more
+              ∙ ap firsts (append_assoc first_seeds front more ∙ ap (λ l. first_seeds ++ l) whole);
+          reached = λ c i. elim (In-append_cases (noted a) more c (in_noted b (noted a ++ more) c e (In-from_contains (noted b) c i))) [
             | inl j ↦ u.reached c (Contains-from_in (noted a) c j)
-            | inr j ↦ child here_reached (Contains-from_in (next_of at) c j)
+            | inr j ↦ let m = flat_map_cases next_of batch c j in child (batch_reached m.0 m.1) (Contains-from_in (next_of m.0) c m.2)
           ];
           ends = done;
         }

@@ -3,10 +3,11 @@ use Rattle.std.proofs.Common.{◌≡◌, ℕ, zero, suc, ◌+◌, ◌-◌, ◌�
 use Rattle.std.proofs.Common.{length-append, ⊎_elim}
 use Rattle.std.specs.List.{flat_map}
 use Rattle.std.proofs.lemmas.Grind.{flat_map-append}
+use Rattle.std.proofs.lemmas.List.{take-take, drop-take}
 use Rattle.g1_words.specs.Lists.{has}
 use Rattle.g1_words.specs.Live.{Reached, seed, child}
 use Rattle.g1_words.specs.Survivors.{firsts, IsBreadthFirst}
-use Rattle.g1_words.proofs.Members.{In, In-from_contains, Contains-from_in, In-append_cases, flat_map_cases}
+use Rattle.g1_words.proofs.Members.{In, In-from_contains, Contains-from_in, In-append_left, In-append_cases, flat_map_cases}
 use Rattle.g1_words.proofs.Firsts.{firsts_member, firsts-append}
 use Rattle.g1_words.proofs.Unique.{all_reached}
 use Rattle.g1_frontier.proofs.Marks.{firsts_again, firsts_more}
@@ -48,6 +49,13 @@ pub in_rest : (n : ℕ) (ys : List ℕ) (a : ℕ) → In (drop n ys) a → In ys
 in_rest zero ys a h = h
 in_rest (suc n) [] a h = h
 in_rest (suc n) (y ∷ ys) a h = inr (in_rest n ys a h)
+
+pub in_front : (n : ℕ) (ys : List ℕ) (a : ℕ) → In (take n ys) a → In ys a
+in_front n ys a h = subst (λ l. In l a) (take_drop n ys) (In-append_left (take n ys) (drop n ys) a h)
+
+-- what two parts take, one behind the other
+pub take_parts : (i n : ℕ) (xs : List ℕ) → take (i + n) xs ≡ take i xs ++ take n (drop i xs)
+take_parts i n xs = sym (take_drop i (take (i + n) xs)) ∙ (λ k. take-take i (i + n) xs (omega arith) k ++ drop-take i n xs k)
 
 module _ (seeds : List ℕ) (children : ℕ → List ℕ) where
   pub begins : (found : List ℕ) → found ≡ firsts ([] ++ seeds) → found ≡ firsts (seeds ++ [])

@@ -2,7 +2,8 @@
 use Rattle.std.specs.Prelude.{◌≡◌, ◌<◌, ◌≤◌, ℕ, true, List, [], ◌++◌, ◌⊎◌, map, flat_map, take, length, Contains}
 use Rattle.std.specs.List.{All}
 use Rattle.g1_claim.specs.Claims.{all_shares, TableView, SeatView, IsSeatOf}
-use Rattle.g1_words.specs.Heap.{word, object_at, slots}
+use Rattle.g1_words.specs.declared.object.Object.{Object}
+use Rattle.g1_words.specs.Heap.{word, slots}
 use Rattle.g1_words.specs.Lists.{has}
 use Rattle.g1_words.specs.Live.{Reached}
 use Rattle.g1_words.specs.Survivors.{firsts, seeds, children}
@@ -18,9 +19,9 @@ use Rattle.g1_frontier.specs.Search.{places_of}
 abbrev pub card_names : Scope → ℕ → List ℕ
 card_names s c = flat_map (λ p. names_in s (word s.heap.now p)) (slots_on s.heap.now c)
 
--- what the slots of the object at an address name in the window, by slot
-abbrev pub object_names : Scope → ℕ → List ℕ
-object_names s a = flat_map (λ p. names_in s (word s.heap.now p)) (slots (object_at s.heap.now a))
+-- what the slots of an object name in the window, by slot
+abbrev pub object_names : Scope → Object → List ℕ
+object_names s o = flat_map (λ p. names_in s (word s.heap.now p)) (slots o)
 
 -- the seat has all shares; the places that it offered are those of what was found, by ranks below their number; what was found lies in the window, each object once
 pub record HasFound (s : Scope) (t : TableView) (v : SeatView) (found : List ℕ) : Type 0 where

@@ -15,17 +15,23 @@ pub(crate) struct Crew<'a, R, G> {
 }
 
 // A thread takes as long to start as some 500 items to be looked at. So a round has a worker for
-// each 2,048 items; only the first rounds of a call, which are all that a small heap has, may have
-// two for fewer.
+// each 2,048 items.
 const ITEMS_A_WORKER: usize = 2048;
 
+// The chunk of a caller who asks for no other. Who asks for a smaller one wants small rounds shared,
+// too, as tests do that let two workers meet.
+const USUAL_CHUNK: u64 = 64;
+
+// With smaller chunks the first rounds of a call, which are all that a small heap has, may have two
+// workers for fewer items.
 const ROUNDS_OF_TWO: u64 = 16;
 
 impl<'a, R: Threads + Sync, G: Gate + Sync> Crew<'a, R, G> {
     /// Hires from the crew for a round of this many items.
     pub fn hire(&self, items: usize, round: u64) -> Crew<'a, R, G> {
         let fed = (items / ITEMS_A_WORKER) as u64;
-        let fewest = if round < ROUNDS_OF_TWO { 2 } else { 1 };
+        let shared = self.team.chunk() < USUAL_CHUNK && round < ROUNDS_OF_TWO;
+        let fewest = if shared { 2 } else { 1 };
         let workers = self.team.workers().min(fed.max(fewest));
         Crew {
             rt: self.rt,

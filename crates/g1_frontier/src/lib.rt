@@ -21,6 +21,10 @@
 //! 5. What a round found is the next round's items, until a round finds nothing. Since ranks rise
 //!    over all rounds, a place that has a word keeps it.
 //!
+//! If few cards lead into the window, there are no rounds. One worker claims what is named in order,
+//! and what it has found is its queue: it reads the headers of the next objects in the queue at once,
+//! then their slots, and ends when nothing is left in the queue.
+//!
 //! So the answer is the same for all workers and chunk sizes. A round takes memory in proportion to
 //! what it looks at and finds. A region's place in the window is in a table of four bytes
 //! for each region of the heap: `discover` makes one for all its rounds, `claim_round` one a call. The

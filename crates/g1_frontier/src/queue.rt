@@ -1,7 +1,11 @@
+ghost use Rattle.std.specs.Prelude.{◌≡◌, map, Contains, OnOk};
+ghost use Rattle.std.specs.List.{All};
+ghost use Rattle.g1_words.specs.Heap.{object_at, objects};
+
 use crate::scope::{Scope, Target};
 use g1_claim::{ClaimSeat, Claims, EMPTY};
 use g1_rem::slots_on;
-use g1_words::Fault;
+use g1_words::{Fault, Heap, Object};
 use std::alloc::{AllocError, Global};
 
 /// What one worker has found, which is also the queue of what it searches, and the targets that
@@ -23,10 +27,26 @@ pub struct Traversal<'a> {
 // So many targets wait, so that the processor waits for their words together.
 const MOST_WAITING: usize = 64;
 
+// So many headers are read before the slots behind them, so that the processor waits for them
+// together. They are few enough to be in its nearest cache when their slots are read.
+const HEADERS_AHEAD: usize = 32;
+
+// Reads the headers of the objects at these addresses, one load beside the other.
+fn read_headers(heap: &Heap, addresses: &[u64], ahead: &mut Vec<Object>) -> Result<(), AllocError>
+    requires { All (λ a. Contains (objects heap.now) (object_at heap.now a)) addresses.now }
+    ensures { OnOk result (ahead.new.items ≡ map (object_at heap.now) addresses.now) }
+{
+    ahead.clear();
+    for at in addresses {
+        ahead.push(heap.object(*at))?;
+    }
+    Ok(())
+}
+
 impl<'a> Traversal<'a> {
-    ghost use Rattle.std.specs.Prelude.{◌≡◌, ◌<◌, ◌+◌, ◌++◌, ◌∷◌, [], OnOk, IfOk, flat_map, Contains, vec_len};
+    ghost use Rattle.std.specs.Prelude.{◌≡◌, ◌<◌, ◌≤◌, ◌++◌, ◌∷◌, [], OnOk, IfOk, flat_map, Contains, vec_len};
     ghost use Rattle.std.specs.List.{All};
-    ghost use Rattle.g1_words.specs.Heap.{object_at, objects};
+    ghost use Rattle.g1_words.specs.Heap.{objects};
     ghost use Rattle.g1_words.specs.Survivors.{Survivors, firsts};
     ghost use Rattle.g1_words.specs.Valid.{IsReference};
     ghost use Rattle.g1_rem.specs.Starts.{card_count};
@@ -175,17 +195,29 @@ impl<'a> Traversal<'a> {
     }
 
     // Notes what the slots of an object name in the window.
-    fn note_object(&self, queue: &mut Queue, at: u64) -> Result<(), AllocError>
+    fn note_object(&self, queue: &mut Queue, object: &Object) -> Result<(), AllocError>
         requires places { HasPlaces self.now.scope.now self.now.claims.now }
         requires queue { IsQueue self.now.scope.now self.now.claims.now queue.old }
-        requires object { Contains (objects self.now.scope.now.heap.now) (object_at self.now.scope.now.heap.now at) }
-        ensures { OnOk result (HasNoted self.now.scope.now self.now.claims.now (object_names self.now.scope.now at) queue.old queue.new) }
+        requires object { Contains (objects self.now.scope.now.heap.now) object.now }
+        ensures { OnOk result (HasNoted self.now.scope.now self.now.claims.now (object_names self.now.scope.now object.now) queue.old queue.new) }
     {
         let words = self.scope.heap.words();
-        let first = at + 1;
-        let refs = self.scope.heap.object(at).refs;
-        for slot in first..first + refs {
+        let first = object.at + 1;
+        for slot in first..first + object.refs {
             self.note(queue, words[slot as usize])?;
+        }
+        Ok(())
+    }
+
+    // Notes what the slots of objects name in the window.
+    fn note_objects(&self, queue: &mut Queue, batch: &[Object]) -> Result<(), AllocError>
+        requires places { HasPlaces self.now.scope.now self.now.claims.now }
+        requires queue { IsQueue self.now.scope.now self.now.claims.now queue.old }
+        requires batch { All (Contains (objects self.now.scope.now.heap.now)) batch.now }
+        ensures { OnOk result (HasNoted self.now.scope.now self.now.claims.now (flat_map (object_names self.now.scope.now) batch.now) queue.old queue.new) }
+    {
+        for object in batch {
+            self.note_object(queue, object)?;
         }
         Ok(())
     }
@@ -210,17 +242,24 @@ impl<'a> Traversal<'a> {
         Ok(queue)
     }
 
-    // Searches the object of this number among those found. If none is found behind it, all that
-    // waits is claimed.
-    fn search_one(&self, queue: &mut Queue, from: usize) -> Result<(), AllocError>
+    // Searches the objects from one index among those found up to another. If none is found behind
+    // them, all that waits is claimed.
+    fn search_batch(
+        &self,
+        queue: &mut Queue,
+        ahead: &mut Vec<Object>,
+        from: usize,
+        to: usize,
+    ) -> Result<(), AllocError>
         requires places { HasPlaces self.now.scope.now self.now.claims.now }
         requires queue { IsUnderWay self.now.scope.now self.now.claims.now from queue.old }
-        requires some { from < vec_len queue.old.found }
-        ensures { OnOk result (IsUnderWay self.now.scope.now self.now.claims.now (from + 1) queue.new) }
+        requires order { from ≤ to }
+        requires found { to ≤ vec_len queue.old.found }
+        ensures { OnOk result (IsUnderWay self.now.scope.now self.now.claims.now to queue.new) }
     {
-        let at = queue.found[from];
-        self.note_object(queue, at)?;
-        if from + 1 < queue.found.len() {
+        read_headers(self.scope.heap, &queue.found[from..to], ahead)?;
+        self.note_objects(queue, ahead.as_slice())?;
+        if to < queue.found.len() {
             return Ok(());
         }
         self.settle(queue)?;
@@ -242,10 +281,12 @@ impl<'a> Traversal<'a> {
         ensures { IfOk result (λ v. Survivors self.now.scope.now.heap.now self.now.scope.now.window.now v.items) }
     {
         let mut queue = self.begin(alloc, seat, cards)?;
+        let mut ahead = Vec::with_capacity(alloc, HEADERS_AHEAD)?;
         let mut from = 0;
         while from < queue.found.len() {
-            self.search_one(&mut queue, from)?;
-            from += 1;
+            let to = queue.found.len().min(from + HEADERS_AHEAD);
+            self.search_batch(&mut queue, &mut ahead, from, to)?;
+            from = to;
         }
         let Queue { found, .. } = queue;
         Ok(found)

@@ -1,42 +1,60 @@
-use Rattle.std.proofs.Common.{arith, ℕ, List, [], ◌≡◌, ◌+◌, ◌-◌, ◌%◌, ◌^◌, ◌∙◌, ap, sym, subst, get_or, flat_map}
+use Rattle.std.proofs.Common.{arith, ℕ, List, [], ◌≡◌, ◌+◌, ◌-◌, ◌∙◌, ap, sym, subst, length, get_or, flat_map}
 use Rattle.std.specs.List.{range_with_len}
 use Rattle.std.proofs.lemmas.List.{flat_map_more}
-use Rattle.g1_words.specs.Heap.{word, object_at, slots}
+use Rattle.g1_words.specs.Heap.{word, objects, slots}
 use Rattle.g1_words.specs.Valid.{IsReference}
 use Rattle.g1_words.proofs.Computed.{In-range}
-use Rattle.g1_words.proofs.Members.{In}
+use Rattle.g1_words.proofs.Members.{In, In-from_contains}
 use Rattle.g1_frontier.specs.Scope.{names_in}
 use Rattle.g1_frontier.specs.Queue.{HasNoted}
-use Rattle.g1_frontier.proofs.Names.{object_in_words, object_reference, range_more}
+use Rattle.g1_frontier.proofs.Names.{slots_in_words, slot_reference, range_more}
 use Rattle.g1_frontier.proofs.Queues.{noted_none, noted_append}
 use Rattle.g1_frontier.proofs.queue.Traversal.note_object.Goals as goal
 
 pub overflow_add-first : goal.overflow_add-first
 overflow_add-first c =
-    let b = object_in_words c.args.self.now.scope.now.heap.now c.requires.places.scope.valid c.args.at c.requires.object in
-    omega (arith, b.0, c.requires.places.scope.valid.word_count, c.requires.places.scope.valid.limits.words_most)
+    let b = slots_in_words c.args.self.now.scope.now.heap.now c.requires.places.scope.valid c.args.object.now c.requires.object in
+    omega (arith, b, c.requires.places.scope.valid.word_count, c.requires.places.scope.valid.limits.words_most)
+
+pub overflow_add-slot-end : goal.overflow_add-slot-end
+overflow_add-slot-end c =
+    let b = slots_in_words c.args.self.now.scope.now.heap.now c.requires.places.scope.valid c.args.object.now c.requires.object in
+    omega (arith, b, c.requires.places.scope.valid.word_count, c.requires.places.scope.valid.limits.words_most)
+
+pub offset_bounds-words-slot : goal.offset_bounds-words-slot
+offset_bounds-words-slot c =
+    let b = slots_in_words c.args.self.now.scope.now.heap.now c.requires.places.scope.valid c.args.object.now c.requires.object in
+    omega (arith, b, c.loop-slot-test.true, c.requires.places.scope.valid.word_count, c.requires.places.scope.valid.limits.words_most)
+
+pub bounds-words-slot : goal.bounds-words-slot
+bounds-words-slot c =
+    let b = slots_in_words c.args.self.now.scope.now.heap.now c.requires.places.scope.valid c.args.object.now c.requires.object in
+    let count = ap length c.words-words.ensures in
+    omega (arith, b, c.loop-slot-test.true, count)
 
 pub loop-slot-init : goal.loop-slot-init
 loop-slot-init c =
     let s = c.args.self.now.scope.now in
     let t = c.args.self.now.claims.now in
     let q = c.args.queue.now in
-    let none : 0 ≡ (c.args.at + 1) - (c.args.at + 1) = omega arith in
-    subst (λ n. HasNoted s t (flat_map (λ p. names_in s (word s.heap.now p)) (range_with_len (c.args.at + 1) n)) q q) none (noted_none s c.requires.places.scope t q c.requires.queue)
+    let first : ℕ = c.args.object.now.at + 1 in
+    let none : 0 ≡ first - first = omega arith in
+    subst (λ n. HasNoted s t (flat_map (λ p. names_in s (word s.heap.now p)) (range_with_len first n)) q q) none (noted_none s c.requires.places.scope t q c.requires.queue)
 
 pub note-requires-clause-reference : goal.note-requires-clause-reference
 note-requires-clause-reference c =
     let s = c.args.self.now.scope.now in
+    let o = c.args.object.now in
     let p : ℕ = c.loop-slot.slot in
-    let refs : c.object-refs.result.refs ≡ word s.heap.now c.args.at % 2 ^ 32 = ap (λ o. o.refs) c.object-refs.ensures.value in
-    let there : In (slots (object_at s.heap.now c.args.at)) p = In-range (c.args.at + 1) (word s.heap.now c.args.at % 2 ^ 32) p c.loop-slot.auto.slot (omega (arith, refs, c.loop-slot-test.true)) in
-    subst (λ l. IsReference s.heap.now (get_or l p 0)) (sym c.words-words.ensures) (object_reference s.heap.now c.requires.places.scope.valid c.args.at p c.requires.object there)
+    let there : In (slots o) p = In-range (o.at + 1) o.refs p c.loop-slot.auto.slot (omega (arith, c.loop-slot-test.true)) in
+    subst (λ l. IsReference s.heap.now (get_or l p 0)) (sym c.words-words.ensures)
+    (slot_reference s.heap.now c.requires.places.scope.valid o p (In-from_contains (objects s.heap.now) o c.requires.object) there)
 
 pub loop-slot-preserved : goal.loop-slot-preserved
 loop-slot-preserved c =
     let s = c.args.self.now.scope.now in
     let t = c.args.self.now.claims.now in
-    let first : ℕ = c.args.at + 1 in
+    let first : ℕ = c.args.object.now.at + 1 in
     let p : ℕ = c.loop-slot.slot in
     let f : ℕ → List ℕ = λ p. names_in s (word s.heap.now p) in
     let one : HasNoted s t (f p) c.loop-slot.queue c.note.new.queue = subst
