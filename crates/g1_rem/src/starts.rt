@@ -40,8 +40,9 @@ fn mark(firsts: &mut Vec<u32>, from: u64, k: u64, until: u64, value: u32) -> Res
     ensures marked { OnOk result (IsMarkedTo (map address_below firsts.old.items) (map address_below firsts.new.items) from k until (address_below value)) }
     ensures room { from + length firsts.new.items * k ≤ 2 * most_words }
 {
-    'cards: while from + firsts.len() as u64 * k < until {
-        firsts.push(value)?;
+    // Most objects are smaller than a card, and the test alone spares them the division.
+    if from + firsts.len() as u64 * k < until {
+        firsts.resize((until - from).div_ceil(k) as usize, value)?;
     }
     Ok(())
 }
