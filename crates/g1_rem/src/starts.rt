@@ -6,10 +6,10 @@ ghost use Rattle.g1_rem.specs.Starts.{IsStartsOf, address_below};
 ghost use Rattle.g1_rem.specs.Marks.{IsMarkedTo, Told, objects_from};
 ghost use Rattle.g1_rem.specs.Ranges.{IsRange, AreStartsBetween};
 
-use crate::ranges::cut;
+use crate::ranges::{cut, threads_for_objects};
 use crate::rows::objects_end;
 use g1_words::{Fault, Heap, card_of, size_at};
-use g1_work::{Make, WORDS_A_THREAD, make_each, threads_for};
+use g1_work::{Make, make_each};
 use std::alloc::{AllocError, Global};
 use std::marker::Model;
 use std::thread::Threads;
@@ -169,7 +169,7 @@ impl Starts {
         ensures ok { IfOk result (λ s. IsStartsOf heap.now s) }
         ensures memory { IfErr result (λ e. e ≡ Fault.Memory) }
     {
-        match threads_for(workers, heap.words().len(), WORDS_A_THREAD) {
+        match threads_for_objects(heap, workers) {
             1 => Starts::build(alloc, heap),
             threads => Starts::build_by_threads(rt, alloc, heap, threads),
         }
