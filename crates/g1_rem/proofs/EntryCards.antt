@@ -1,5 +1,5 @@
 -- Marks, and the list of those that are left.
-use Rattle.std.proofs.Common.{◌≡◌, ◌≤◌, ◌<◌, ℕ, zero, suc, ◌+◌, ◌*◌, ◌/◌, inl, inr, Bool, true, false, not, ◌&&◌, ◌||◌, List, [], ◌∷◌, ◌++◌, length, slice_index_or, set, filter, replicate}
+use Rattle.std.proofs.Common.{◌≡◌, ◌≤◌, ◌<◌, ℕ, zero, suc, ◌+◌, ◌-◌, ◌*◌, ◌/◌, inl, inr, Bool, true, false, not, ◌&&◌, ◌||◌, List, [], ◌∷◌, ◌++◌, length, slice_index_or, set, filter, replicate}
 use Rattle.std.proofs.Common.{arith, refl, sym, ap, ◌∙◌, eqb, eqb-true, eq-eqb, ne_eqb, length-set, append-nil}
 use Rattle.std.specs.List.{range_with_len, list_any}
 use Rattle.std.proofs.lemmas.List.{get_or-set_same, get_or-set_other, length-replicate}
@@ -8,6 +8,7 @@ use Rattle.std.proofs.Math.Nat.{mul-le-mul_right, div-lt_iff_lt-mul}
 use Rattle.g1_words.specs.Heap.{Heap}
 use Rattle.g1_words.specs.Valid.{IsValid}
 use Rattle.g1_words.specs.Lists.{has}
+use Rattle.g1_words.specs.Marks.{AreUnset}
 use Rattle.g1_words.specs.Survivors.{in_set}
 use Rattle.g1_words.proofs.Computed.{range_below}
 use Rattle.g1_words.proofs.Members.{In}
@@ -121,6 +122,19 @@ pub filtered_pass : (p : ℕ → Bool) (n : ℕ) → p n ≡ false → filter p 
 filtered_pass p n e = ap (filter p) (range_more n) ∙ filter-append p (range_with_len 0 n) (n ∷ [])
     ∙ ap (λ l. filter p (range_with_len 0 n) ++ l) (rw e refl) ∙ append-nil (filter p (range_with_len 0 n))
 
+-- and so many that don't
+filtered_past : (p : ℕ → Bool) (from gap : ℕ) → ((x : ℕ) → from ≤ x → x < from + gap → p x ≡ false) → filter p (range_with_len 0 (from + gap)) ≡ filter p (range_with_len 0 from)
+filtered_past p from zero f = let e : from + zero ≡ from = omega arith in ap (λ n. filter p (range_with_len 0 n)) e
+filtered_past p from (suc gap) f =
+    let e : from + suc gap ≡ from + gap + 1 = omega arith in
+    ap (λ n. filter p (range_with_len 0 n)) e ∙ filtered_pass p (from + gap) (f (from + gap) (omega arith) (omega arith)) ∙ filtered_past p from gap (λ x le lt. f x le (omega (arith, lt)))
+
+-- up to another
+pub filtered_to : (p : ℕ → Bool) (from to : ℕ) → from ≤ to → ((x : ℕ) → from ≤ x → x < to → p x ≡ false) → filter p (range_with_len 0 to) ≡ filter p (range_with_len 0 from)
+filtered_to p from to le f =
+    let e : from + (to - from) ≡ to = omega (arith, le) in
+    ap (λ n. filter p (range_with_len 0 n)) (sym e) ∙ filtered_past p from (to - from) (λ x ge lt. f x ge (omega (arith, lt, le)))
+
 -- tests that the members don't tell apart
 pub filter_same_in : {A : Type 0} (p q : A → Bool) (xs : List A) → ((x : A) → In xs x → p x ≡ q x) → filter p xs ≡ filter q xs
 filter_same_in p q [] f = refl
@@ -149,16 +163,17 @@ module _ (h : Heap) (valid : IsValid h) where
       let region = marked_from_none (has set) n before regions none_regions inside (c * h.geometry.k / h.geometry.w) (omega (arith, home, f)) in
       ap (λ z. z && not (slice_index_or regions (c * h.geometry.k / h.geometry.w) false)) card ∙ ap (λ z. is_listed remembered set c && not z) region)
 
-  -- one card more, and the region that it lies in
-  module _ (cards regions : List Bool) (c home : ℕ) (e : home ≡ c * h.geometry.k / h.geometry.w) where
-    -- that is marked, in a region that isn't
-    pub left_there : slice_index_or cards c false ≡ true → slice_index_or regions home false ≡ false → is_left h cards regions c ≡ true
-    left_there a b = rw (a, sym (ap (λ x. slice_index_or regions x false) e) ∙ b) refl
+  module _ (cards regions : List Bool) where
+    -- the cards before the next that is marked are passed over
+    pub left_between : (from to : ℕ) → from ≤ to → AreUnset cards from to → filter (is_left h cards regions) (range_with_len 0 to) ≡ filter (is_left h cards regions) (range_with_len 0 from)
+    left_between from to le unset = filtered_to (is_left h cards regions) from to le (λ x ge lt. ap (λ b. b && not (slice_index_or regions (x * h.geometry.k / h.geometry.w) false)) (unset x ge lt))
 
-    -- that isn't marked
-    pub left_unmarked : slice_index_or cards c false ≡ false → is_left h cards regions c ≡ false
-    left_unmarked a = rw a refl
+    -- one card more, and the region that it lies in
+    module _ (c home : ℕ) (e : home ≡ c * h.geometry.k / h.geometry.w) where
+      -- that is marked, in a region that isn't
+      pub left_there : slice_index_or cards c false ≡ true → slice_index_or regions home false ≡ false → is_left h cards regions c ≡ true
+      left_there a b = rw (a, sym (ap (λ x. slice_index_or regions x false) e) ∙ b) refl
 
-    -- in a region that is marked
-    pub left_inside : slice_index_or cards c false ≡ true → slice_index_or regions home false ≡ true → is_left h cards regions c ≡ false
-    left_inside a b = rw (a, sym (ap (λ x. slice_index_or regions x false) e) ∙ b) refl
+      -- in a region that is marked
+      pub left_inside : slice_index_or cards c false ≡ true → slice_index_or regions home false ≡ true → is_left h cards regions c ≡ false
+      left_inside a b = rw (a, sym (ap (λ x. slice_index_or regions x false) e) ∙ b) refl

@@ -10,12 +10,12 @@ ghost use Rattle.g1_rem.specs.Ranges.{IsRange};
 
 use crate::entry_cards::mark_each;
 use crate::leads::led_into;
-use crate::ranges::cut;
+use crate::ranges::{cut, threads_for_slots};
 use crate::rows::objects_end;
 use crate::tracked::Tracked;
 use g1_image::Image;
 use g1_words::{Fault, Marks, card_of, header};
-use g1_work::{Make, WORDS_A_THREAD, make_each, threads_for};
+use g1_work::{Make, make_each};
 use std::alloc::{AllocError, Global};
 use std::thread::Threads;
 
@@ -253,7 +253,7 @@ pub fn first_uncovered(alloc: Global, image: &Image) -> Result<Option<u64>, Faul
     first_among(alloc, image, &dirty, 0, regions)
 }
 
-/// The same, by as many threads as the words feed.
+/// The same, by as many threads as the used words feed.
 fn first_uncovered_by(
     rt: &(impl Threads + Sync),
     alloc: Global,
@@ -264,7 +264,7 @@ fn first_uncovered_by(
     ensures lowest { IfOk result (λ found. (p q : ℕ) → found ≡ Some p → Contains (uncovered image.now) q → p ≤ q) }
     ensures memory { IfErr result (λ e. e ≡ Fault.Memory) }
 {
-    let threads = threads_for(workers, image.heap().words().len(), WORDS_A_THREAD);
+    let threads = threads_for_slots(image.heap(), workers);
     let dirty = dirty_marks(alloc, image)?;
     first_by_threads(rt, alloc, image, &dirty, threads)
 }

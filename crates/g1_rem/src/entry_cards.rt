@@ -42,13 +42,13 @@ fn left_over(
 {
     let geometry = heap.geometry();
     let mut left = Vec::new(alloc);
-    for card in 0..cards.len() {
-        if cards.is_set(card) {
-            let region = geometry.region_of_card(card as u32);
-            if !regions.is_set(region as usize) {
-                left.push(card as u32)?;
-            }
+    let mut from = 0;
+    'cards: while let Some(card) = cards.next_set(from) {
+        let region = geometry.region_of_card(card as u32);
+        if !regions.is_set(region as usize) {
+            left.push(card as u32)?;
         }
+        from = card + 1;
     }
     Ok(left)
 }

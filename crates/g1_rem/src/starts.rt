@@ -6,10 +6,10 @@ ghost use Rattle.g1_rem.specs.Starts.{IsStartsOf, address_below};
 ghost use Rattle.g1_rem.specs.Marks.{IsMarkedTo, Told, objects_from};
 ghost use Rattle.g1_rem.specs.Ranges.{IsRange, AreStartsBetween};
 
-use crate::ranges::cut;
+use crate::ranges::{cut, threads_for_objects};
 use crate::rows::objects_end;
 use g1_words::{Fault, Heap, card_of, size_at};
-use g1_work::{Make, WORDS_A_THREAD, make_each, threads_for};
+use g1_work::{Make, make_each};
 use std::alloc::{AllocError, Global};
 use std::marker::Model;
 use std::thread::Threads;
@@ -40,8 +40,9 @@ fn mark(firsts: &mut Vec<u32>, from: u64, k: u64, until: u64, value: u32) -> Res
     ensures marked { OnOk result (IsMarkedTo (map address_below firsts.old.items) (map address_below firsts.new.items) from k until (address_below value)) }
     ensures room { from + length firsts.new.items * k ≤ 2 * most_words }
 {
-    'cards: while from + firsts.len() as u64 * k < until {
-        firsts.push(value)?;
+    // Most objects are smaller than a card, and the test alone spares them the division.
+    if from + firsts.len() as u64 * k < until {
+        firsts.resize((until - from).div_ceil(k) as usize, value)?;
     }
     Ok(())
 }
@@ -168,7 +169,7 @@ impl Starts {
         ensures ok { IfOk result (λ s. IsStartsOf heap.now s) }
         ensures memory { IfErr result (λ e. e ≡ Fault.Memory) }
     {
-        match threads_for(workers, heap.words().len(), WORDS_A_THREAD) {
+        match threads_for_objects(heap, workers) {
             1 => Starts::build(alloc, heap),
             threads => Starts::build_by_threads(rt, alloc, heap, threads),
         }

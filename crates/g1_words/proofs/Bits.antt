@@ -1,13 +1,16 @@
 -- Marks that are kept as the bits of words.
-use Rattle.std.proofs.Common.{arith, ◌≡◌, ◌≢◌, ◌≤◌, ◌<◌, ◌*◌, ◌/◌, ◌%◌, ◌^◌, ◌==◌, inl, inr, ℕ, List, Bool, true, false, length, slice_index, get_or, set, replicate, sym, ap, subst, ◌∙◌}
+use Rattle.std.proofs.Common.{arith, refl, ◌≡◌, ◌≢◌, ◌≤◌, ◌<◌, ◌+◌, ◌-◌, ◌*◌, ◌/◌, ◌%◌, ◌^◌, ◌==◌, inl, inr, ℕ, List, Bool, true, false, length, slice_index, get_or, set, replicate, sym, ap, subst, ◌∙◌}
 use Rattle.std.proofs.Common.{zero-add, get_or-set_same, get_or-set_other, length-set}
 use Rattle.std.specs.Int.Bits.{bit_or}
-use Rattle.std.specs.Int.{bit_at, w64}
+use Rattle.std.specs.Int.{bit_at, trailing_zeros, w64}
 use Rattle.std.proofs.lemmas.List.{same_lists, get_or-replicate, length-replicate}
 use Rattle.std.proofs.lemmas.List.FromFn.{get_or-map-range_with_len, length-map-range_with_len}
-use Rattle.std.proofs.lemmas.Nat.Bits.{bit_at-zero, bit_at_set_same, bit_at_set_other}
-use Rattle.std.proofs.lemmas.Bool.{cases_eq}
-use Rattle.g1_words.specs.Marks.{is_set, marks_of}
+use Rattle.std.proofs.lemmas.Nat.Bits.{bit_at-zero, bit_at_set_same, bit_at_set_other, bit_at_above, bit_at-trailing_zeros}
+use Rattle.std.proofs.lemmas.Bool.{cases_eq, cases_lt}
+use Rattle.std.proofs.lemmas.Nat.{pow-add}
+use Rattle.std.proofs.Math.Nat.{div-div-eq-div-mul, div-le_self}
+use Rattle.std.proofs.Math.ListN.{get_or-eq_default}
+use Rattle.g1_words.specs.Marks.{is_set, marks_of, AreUnset, IsFirstSet}
 
 pub length-marks_of : (count : ℕ) (bits : List ℕ) → length (marks_of count bits) ≡ count
 length-marks_of count bits = length-map-range_with_len (is_set bits) 0 count
@@ -56,3 +59,69 @@ marks_of-set count bits a lt in_bits =
           (subst (λ j. get_or (set old a true) j d ≡ true) (sym e) (get_or-set_same old a true d (omega (arith, lt, length-marks_of count bits))))
       | inr ne ↦ mark_of count new k d under ∙ set_off bits a k in_bits ne ∙ sym (mark_of count bits k d under) ∙ sym (get_or-set_other old a k true d ne)
     ])
+
+-- ---- the next mark that is set
+
+-- a bit of a number that was shifted
+bit_of_rest : (n j i k : ℕ) → k ≡ j + i → bit_at (n / 2 ^ j) i ≡ bit_at n k
+bit_of_rest n j i k e = ap (λ x. x % 2) (div-div-eq-div-mul n (2 ^ j) (2 ^ i) ∙ ap (λ x. n / x) (sym (pow-add 2 j i)) ∙ ap (λ x. n / 2 ^ x) (sym e))
+
+-- a mark in the word of another, from that on, is a bit of the word's rest
+mark_in_rest : (bits : List ℕ) (a x : ℕ) → a ≤ x → x / 64 ≡ a / 64 → is_set bits x ≡ (bit_at (slice_index bits (a / 64) / 2 ^ (a % 64)) (x - a) == 1)
+mark_in_rest bits a x le same =
+    ap (λ b. bit_at (slice_index bits b) (x % 64) == 1) same
+    ∙ ap (λ y. y == 1) (sym (bit_of_rest (slice_index bits (a / 64)) (a % 64) (x - a) (x % 64) (omega (arith, le, same))))
+
+-- a rest that is 0 has no mark
+pub none_in_rest : (bits : List ℕ) (a x : ℕ) → slice_index bits (a / 64) / 2 ^ (a % 64) ≡ 0 → a ≤ x → x / 64 ≡ a / 64 → is_set bits x ≡ false
+none_in_rest bits a x e le same = mark_in_rest bits a x le same ∙ ap (λ n. bit_at n (x - a) == 1) e ∙ ap (λ y. y == 1) (bit_at-zero (x - a))
+
+-- the lowest bit of a rest is its first mark
+pub record IsFirstIn (bits : List ℕ) (a at : ℕ) : Type 0 where
+  pub reached : a ≤ at
+  pub here : at / 64 ≡ a / 64
+  pub set : is_set bits at ≡ true
+  pub unset : (x : ℕ) → a ≤ x → x < at → is_set bits x ≡ false
+
+pub first_in_rest : (bits : List ℕ) (a : ℕ) → slice_index bits (a / 64) < 2 ^ 64 → 0 < slice_index bits (a / 64) / 2 ^ (a % 64)
+    → IsFirstIn bits a (a + trailing_zeros w64 (slice_index bits (a / 64) / 2 ^ (a % 64)))
+first_in_rest bits a fits some =
+    let word : ℕ = slice_index bits (a / 64) in
+    let rest : ℕ = word / 2 ^ (a % 64) in
+    let lowest = bit_at-trailing_zeros w64 rest some (omega (arith, fits, div-le_self word (2 ^ (a % 64)))) in
+    let t : ℕ = trailing_zeros w64 rest in
+    let within : a % 64 + t < 64 = (elim (cases_lt (a % 64 + t) 64) [
+      | inl lt ↦ lt
+      | inr ge ↦
+          let high : bit_at rest t ≡ 0 = bit_of_rest word (a % 64) t (a % 64 + t) refl ∙ bit_at_above word 64 (a % 64 + t) fits ge in
+          absurd (omega (arith, high, lowest.1))
+    ]) in
+    let here : (x : ℕ) → a ≤ x → x ≤ a + t → x / 64 ≡ a / 64 = λ x le lt. omega (arith, le, lt, within) in
+    record {
+      reached = omega arith;
+      here = here (a + t) (omega arith) (omega arith);
+      set = mark_in_rest bits a (a + t) (omega arith) (here (a + t) (omega arith) (omega arith))
+          ∙ ap (λ i. bit_at rest i == 1) (let e : a + t - a ≡ t = omega arith in e) ∙ ap (λ y. y == 1) lowest.1;
+      unset = λ x le lt. mark_in_rest bits a x le (here x le (omega (arith, lt))) ∙ ap (λ y. y == 1) (lowest.2 (x - a) (omega (arith, le, lt)));
+    }
+
+-- marks of which none is set up to an address, and then none up to another
+pub unset_on : (marks : List Bool) (count : ℕ) (bits : List ℕ) (from at to : ℕ) → marks_of count bits ≡ marks → AreUnset marks from at →
+    ((x : ℕ) → at ≤ x → x < to → x < count → is_set bits x ≡ false) → AreUnset marks from to
+unset_on marks count bits from at to e before rest x le lt = elim (cases_lt x at) [
+  | inl early ↦ before x le early
+  | inr late ↦ elim (cases_lt x count) [
+    | inl in_marks ↦ ap (λ l. get_or l x false) (sym e) ∙ mark_of count bits x false in_marks ∙ rest x late lt in_marks
+    | inr past ↦ get_or-eq_default marks false (omega (arith, past, ap length e, length-marks_of count bits))
+  ]
+]
+
+-- the first mark of the word at which none was set
+pub first_found : (marks : List Bool) (count : ℕ) (bits : List ℕ) (from at n : ℕ) → marks_of count bits ≡ marks → from ≤ at → AreUnset marks from at →
+    IsFirstIn bits at n → n < count → IsFirstSet marks from n
+first_found marks count bits from at n e le before first lt = record {
+  reached = omega (arith, le, first.reached);
+  within = omega (arith, lt, ap length e, length-marks_of count bits);
+  set = ap (λ l. get_or l n false) (sym e) ∙ mark_of count bits n false lt ∙ first.set;
+  unset = unset_on marks count bits from at n e before (λ x ge less _. first.unset x ge less);
+}

@@ -1,4 +1,5 @@
 ghost use Rattle.std.specs.Prelude.{◌≡◌, ◌≤◌, ◌<◌, ◌*◌, length, set, replicate, slice_index_or, true, false, IfOk};
+ghost use Rattle.g1_words.specs.Marks.{IsNextSet};
 
 use std::alloc::{AllocError, Global};
 use std::marker::Model;
@@ -54,5 +55,22 @@ impl Marks {
         ensures { self.new ≡ set self.old at true }
     {
         self.bits[at / 64] |= 1 << (at % 64);
+    }
+
+    /// The first mark that is set, from a number on. Passes over up to 64 unset ones at once.
+    pub fn next_set(&self, from: usize) -> Option<usize>
+        ensures { IsNextSet self.now from result }
+    {
+        let count = self.count;
+        let mut at = from;
+        'words: while at < count {
+            let rest = self.bits[at / 64] >> (at % 64);
+            if rest != 0 {
+                at += rest.trailing_zeros() as usize;
+                return if at < count { Some(at) } else { None };
+            }
+            at = at.saturating_add(64 - at % 64);
+        }
+        None
     }
 }
