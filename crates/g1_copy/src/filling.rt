@@ -10,18 +10,34 @@ use crate::preparing::Prepared;
 use g1_work::{Fill, Gate, MOST_WORKERS, each_region_mut, threads_for};
 use std::thread::Threads;
 
-// A run of fewer words is filled in less time than its thread takes to start. Four may be hired for
-// any heap, so that threads write small heaps, too.
-const WORDS_A_RUN: usize = 8192;
+// A thread takes as long to start as it takes to write this many words, 512 KB.
+const WORDS_A_RUN: usize = 65_536;
+
+// One worker is fastest for a heap of fewer words, as those of tests. Up to four are hired for it, so
+// that tests see threads write.
+const FEW_WORDS: usize = 8192;
 
 const FEW_WORKERS: u64 = 4;
 
-// How many of the workers write a heap of this many words.
-fn writers(workers: u64, words: usize) -> u64
+/// How many words are written over the regions of a heap, in regions of this many words.
+fn words_to_write(prepared: &Prepared, region_words: usize) -> usize {
+    let mut words = prepared.patches.len();
+    for fate in &prepared.fates {
+        if !matches!(fate, Fate::Kept) {
+            words = words.saturating_add(region_words);
+        }
+    }
+    words
+}
+
+/// How many of the workers write so many words over a heap of `words`.
+fn writers(workers: u64, words: usize, to_write: usize) -> u64
     ensures { AreWorkers result }
 {
-    let fed = threads_for(workers, words, WORDS_A_RUN) as u64;
-    fed.max(workers.min(FEW_WORKERS)).min(MOST_WORKERS)
+    if words < FEW_WORDS {
+        return workers.min(FEW_WORKERS).max(1);
+    }
+    threads_for(workers.min(MOST_WORKERS), to_write, WORDS_A_RUN) as u64
 }
 
 /// Writes each patch's word at its slot, in words that begin at this address.
@@ -86,6 +102,7 @@ pub(crate) fn write<R: Threads + Sync, G: Gate + Sync>(
         patches: &prepared.patches,
         firsts: &prepared.firsts,
     };
-    let writers = writers(workers, words.len());
+    let to_write = words_to_write(prepared, region_words);
+    let writers = writers(workers, words.len(), to_write);
     each_region_mut(rt, writers, words, region_words, &filling, gate);
 }

@@ -151,19 +151,39 @@ impl<'a, C: Clock> Gate for Both<'a, C> {
     }
 }
 
+/// All search. The words of 64 regions and as many patches as the object has slots are written by six workers.
 #[test]
-fn all_workers_search_and_write_at_once(rt: HostRuntime) -> Result<(), Fail> {
+fn all_workers_search_and_six_write_at_once(rt: HostRuntime) -> Result<(), Fail> {
     let alloc = rt.alloc();
     let before = decode(alloc, &raw(alloc, FIELD)?)?;
     let gate = Both {
         deal: Crowd::new(&rt, Part::Deal, 64, 1),
-        fill: Crowd::new(&rt, Part::Fill, 64, 1),
+        fill: Crowd::new(&rt, Part::Fill, 6, 1),
     };
     let set = (33..65).collect::<Vec<u32>>(alloc)?;
     let settings = collecting(alloc, set.as_slice(), 64, CHUNK)?;
     let found = bytes_after(&rt, alloc, before, &settings, &gate)?;
     expect_equal(&rt, (gate.deal.met(), gate.fill.met()), (1, 1));
     let expected = raw(alloc, FIELD_AFTER)?;
+    assert!(rt; found.as_slice() == expected.as_slice());
+    Ok(())
+}
+
+/// Each of 64 regions, of as many words as are worth a worker, has one object, which is dead.
+const WIDE: &str = "G1IMAGE2 65536 64 64 0 0 64 1,1,0*64 0*64 1/0*64";
+
+const WIDE_AFTER: &str = "G1IMAGE2 65536 64 64 0 0 64 0,0,0*64 0*64";
+
+#[test]
+fn all_workers_write_at_once(rt: HostRuntime) -> Result<(), Fail> {
+    let alloc = rt.alloc();
+    let before = decode(alloc, &raw(alloc, WIDE)?)?;
+    let gate = Crowd::new(&rt, Part::Fill, 64, 1);
+    let set = (0..64).collect::<Vec<u32>>(alloc)?;
+    let settings = collecting(alloc, set.as_slice(), 64, 1)?;
+    let found = bytes_after(&rt, alloc, before, &settings, &gate)?;
+    expect_equal(&rt, gate.met(), 1);
+    let expected = raw(alloc, WIDE_AFTER)?;
     assert!(rt; found.as_slice() == expected.as_slice());
     Ok(())
 }
