@@ -4,8 +4,8 @@ ghost use Rattle.g1_image.specs.Marks.{StartsAre};
 ghost use Rattle.g1_image.specs.Faults.{IsGoodHeap, HeapFault, RootsAreGood};
 
 use crate::draft::Draft;
-use crate::refs::{check_roots, starts};
-use crate::shape::check_shapes;
+use crate::refs::check_roots;
+use crate::starts::shaped_starts;
 use crate::strays::{check_slots, check_slots_by};
 use g1_words::{Fault, Marks};
 use std::alloc::Global;
@@ -18,8 +18,7 @@ fn checked_starts(alloc: Global, draft: &Draft) -> Result<Marks, Fault>
     ensures roots { OnOk result (RootsAreGood draft.now) }
     ensures err { IfErr result (λ e. (e ≡ Fault.Memory) ⊎ HeapFault draft.now e) }
 {
-    check_shapes(draft)?;
-    let marks = starts(alloc, draft)?;
+    let marks = shaped_starts(alloc, draft)?;
     check_roots(draft, &marks)?;
     Ok(marks)
 }

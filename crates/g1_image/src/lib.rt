@@ -35,6 +35,7 @@ mod sending;
 mod shape;
 mod sink;
 mod source;
+mod starts;
 mod std_streams;
 mod strays;
 mod streaming;
