@@ -1,4 +1,4 @@
-ghost use Rattle.std.specs.Prelude.{◌≡◌, ◌≤◌, ◌<◌, ◌*◌, length, set, replicate, slice_index_or, true, false, IfOk};
+ghost use Rattle.std.specs.Prelude.{◌≡◌, ◌≤◌, ◌<◌, ◌+◌, ◌*◌, ◌^◌, ◌%◌, [], ◌++◌, length, set, replicate, slice_index_or, true, false, IfOk, OnOk, OnErr};
 
 use std::alloc::{AllocError, Global};
 use std::marker::Model;
@@ -33,6 +33,16 @@ impl Marks {
         })
     }
 
+    /// No marks, with room for so many.
+    pub fn with_capacity(alloc: Global, count: usize) -> Result<Marks, AllocError>
+        ensures { IfOk result (λ m. m ≡ []) }
+    {
+        Ok(Marks {
+            count: 0,
+            bits: Vec::with_capacity(alloc, count.div_ceil(64))?,
+        })
+    }
+
     /// How many marks there are.
     pub fn len(&self) -> usize
         ensures { result ≡ length self.now }
@@ -54,5 +64,21 @@ impl Marks {
         ensures { self.new ≡ set self.old at true }
     {
         self.bits[at / 64] |= 1 << (at % 64);
+    }
+
+    /// Puts marks behind these, which fill words of 64 marks.
+    ///
+    /// # Errors
+    /// `AllocError` if a growth was refused: then the marks are as they were.
+    pub fn append(&mut self, behind: &Marks) -> Result<(), AllocError>
+        requires whole { length self.old % 64 ≡ 0 }
+        requires room { length self.old + length behind.now < 2 ^ 64 }
+        ensures ok { OnOk result (self.new ≡ self.old ++ behind.now) }
+        ensures err { OnErr result (self.new ≡ self.old) }
+    {
+        self.bits.truncate(self.count / 64);
+        self.bits.extend_from_slice(&behind.bits)?;
+        self.count += behind.count;
+        Ok(())
     }
 }
