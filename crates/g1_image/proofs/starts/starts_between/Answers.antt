@@ -9,8 +9,8 @@ use Rattle.g1_image.proofs.Runs.{Latest-first, Latest-other}
 use Rattle.g1_image.proofs.starts.starts_between.Goals as goal
 use Rattle.g1_image.proofs.starts.starts_between.Goals.{then-is_humongous_first, else-is_humongous_first}
 
-pub returns-then-not-mark_region : goal.returns-then-not-mark_region
-returns-then-not-mark_region c = λ shaped. record {
+pub returns-then-not-mark_region-clause-ok : goal.returns-then-not-mark_region-clause-ok
+returns-then-not-mark_region-clause-ok c = λ shaped. record {
   within = omega (arith, c.loop-r-test.true, c.requires.regions);
   breach = λ s. let e : false ≡ true = (c.if-not-mark_region.ensures.shaped (c.loop-r.invariant.shaped shaped)).1 s in cc;
   before = c.loop-r.invariant.shaped shaped;
