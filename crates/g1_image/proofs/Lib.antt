@@ -34,3 +34,4 @@ pub mod Laid
 pub mod Told
 pub mod Sent
 pub mod StraySlots
+pub mod ShapedRanges

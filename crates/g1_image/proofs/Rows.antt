@@ -1,5 +1,5 @@
 -- Marks at the objects of a row, and of all regions.
-use Rattle.std.proofs.Common.{◌≡◌, ◌≢◌, ◌≤◌, ◌<◌, ℕ, zero, suc, ◌+◌, ◌-◌, ◌*◌, ◌^◌, ◌⊎◌, inl, inr, Bool, true, false, List, [], ◌∷◌, length, slice_index, set, replicate, arith, refl, sym}
+use Rattle.std.proofs.Common.{◌≡◌, ◌≢◌, ◌≤◌, ◌<◌, ℕ, zero, suc, ◌+◌, ◌-◌, ◌*◌, ◌⊎◌, inl, inr, Bool, true, false, List, [], ◌∷◌, length, set, replicate, arith, refl, sym}
 use Rattle.std.proofs.Common.{ap, subst, ◌∙◌, get_or-set_other, get_or-set_same}
 use Rattle.std.specs.Prelude.{IsTrue}
 use Rattle.std.proofs.lemmas.Bool.{cases_lt}
@@ -10,27 +10,10 @@ use Rattle.g1_words.specs.Walk.{Reaches, StandsBetween}
 use Rattle.g1_words.specs.declared.object.Object.{Object}
 use Rattle.g1_words.specs.declared.region.Kind.{Kind}
 use Rattle.g1_words.specs.declared.region.Kind.TheVariants.{Free, Ordinary, HumongousFirst, Continuation}
-use Rattle.g1_words.proofs.Tiling.{Front, Reaches-front, Reaches-rest, Reaches-more, Tiles-le, same_size}
+use Rattle.g1_words.proofs.Tiling.{Front, Reaches-front, Reaches-rest, Tiles-le, same_size}
 use Rattle.g1_words.proofs.Objects.{StandsIn, holds_stands, Within, stands_within, ordinary_has, first_has}
 use Rattle.g1_image.specs.Draft.{ShapedBelow}
-use Rattle.g1_image.specs.Marks.{InRow, StartsIn, StartsBelow, mark, Marked, Marks, StartsAt}
-use Rattle.g1_image.proofs.Tiled.{header_is}
-
-pub record Rowed (words : List ℕ) (from to : ℕ) (old : List Bool) (at : ℕ) (marks : List Bool) : Type 0 where
-  pub count : length marks ≡ length old
-  pub order : at ≤ to
-  pub passed : Reaches words from at
-  pub ahead : Reaches words at to
-  pub marked : Marked (InRow words from at) old marks
-
-pub Rowed-start : (words : List ℕ) (from to : ℕ) (old : List Bool) → Reaches words from to → Rowed words from to old from old
-Rowed-start words from to old r = record {
-  count = refl;
-  order = Tiles-le words from r.0 to r.1;
-  passed = ([], refl);
-  ahead = r;
-  marked = record { sound = λ a t. inl t; stay = λ a t. t; whole = λ a p. absurd (omega (arith, Tiles-le words from p.0.0 a p.0.1, p.1)) };
-}
+use Rattle.g1_image.specs.Marks.{InRow, StartsIn, StartsBetween, StartsOf, StartsAre, mark, Marked, Marks, StartsAt}
 
 -- a mark that is set, and the others
 pub mark_at : (marks : List Bool) (k a : ℕ) → k < length marks → k ≡ a → mark (set marks k true) a ≡ true
@@ -42,85 +25,75 @@ mark_off marks k a ne = get_or-set_other marks k a true false (λ e. ne (sym e))
 pub eq_or : (a b : ℕ) → (a ≡ b) ⊎ (a ≢ b)
 eq_or a b = elim (cases_lt a b) [ inl lt ↦ inr (λ e. omega (arith, lt, e)) | inr ge ↦ elim (cases_lt b a) [ inl gt ↦ inr (λ e. omega (arith, gt, e)) | inr le ↦ inl (omega (arith, ge, le)) ] ]
 
-module _ (words : List ℕ) (from to : ℕ) (old : List Bool) (at : ℕ) (marks : List Bool) (q : Object) (row : Rowed words from to old at marks) (lt : at < to)
-    (word : slice_index words at ≡ q.size * 2 ^ 32 + q.refs) (refs : q.refs < 2 ^ 32) (size : q.size < 2 ^ 32) where
-  stands : (0 < q.size) × (at + q.size ≤ to) × Reaches words (at + q.size) to × Reaches words from (at + q.size)
-  stands =
-      let f : Front words at to = Reaches-front words at to row.ahead lt in
-      let e = header_is words at q word refs size f.first f.at f.object in (
-        omega (arith, e.0, f.object.refs_fit),
-        omega (arith, e.0, f.within, f.at),
-        subst (λ x. Reaches words (at + x) to) e.0 f.rest,
-        subst (λ x. Reaches words from x) (let g : f.first.at + f.first.size ≡ at + q.size = omega (arith, f.at, e.0) in g)
-            (Reaches-more words from f.first (subst (λ x. Reaches words from x) (sym f.at) row.passed) f.object),
-      )
-
-  pub row_fits : (0 < q.size) × (at + q.size ≤ to)
-  row_fits = (stands.0, stands.1)
-
+-- a walk over the objects from one address on has come to another, where an object stands; the marks begin at the address base
+module _ (words : List ℕ) (base from at : ℕ) (q : Object) (passed : Reaches words from at) (object : IsObject words q) (q_at : q.at ≡ at) where
   before_or_at : (a : ℕ) → Reaches words from a → a < at + q.size → (a < at) ⊎ (at ≡ a)
-  before_or_at a r lt2 = elim (cases_lt a at) [
+  before_or_at a r lt = elim (cases_lt a at) [
     | inl b ↦ inl b
     | inr ge ↦ elim (cases_lt at a) [
       | inl more ↦
-          let f : Front words at a = Reaches-front words at a (Reaches-rest words from row.passed.0 r.0 at a row.passed.1 r.1 ge) more in
-          let e = header_is words at q word refs size f.first f.at f.object in
-          absurd (omega (arith, e.0, f.within, f.at, lt2))
+          let f : Front words at a = Reaches-front words at a (Reaches-rest words from passed.0 r.0 at a passed.1 r.1 ge) more in
+          absurd (omega (arith, f.within, f.at, same_size words f.first q f.object object (f.at ∙ sym q_at), lt))
       | inr le ↦ inr (omega (arith, ge, le))
     ]
   ]
 
-  pub Rowed-step : length old ≡ length words → to ≤ length words → (new : List Bool) → new ≡ set marks at true → length new ≡ length marks → Rowed words from to old (at + q.size) new
-  Rowed-step many fit new e same =
-      let inside : at < length marks = omega (arith, row.count, many, fit, lt) in
-      let here : (a : ℕ) → at ≡ a → IsTrue (mark new a) = λ a k. ap (λ l. mark l a) e ∙ mark_at marks at a inside k in
-      let kept : (a : ℕ) → IsTrue (mark marks a) → IsTrue (mark new a) = λ a t. elim (eq_or at a) [ inl k ↦ here a k | inr ne ↦ ap (λ l. mark l a) e ∙ mark_off marks at a ne ∙ t ] in
+  -- the object is marked
+  pub Marked-step : base ≤ from → (old marks new : List Bool) → at < base + length marks → new ≡ set marks (at - base) true
+      → Marked (λ k. InRow words from at (base + k)) old marks → Marked (λ k. InRow words from (at + q.size) (base + k)) old new
+  Marked-step below old marks new inside e m =
+      let over : from ≤ at = Tiles-le words from passed.0 at passed.1 in
+      let lt : at - base < length marks = omega (arith, inside, below, over) in
+      let here : (k : ℕ) → at - base ≡ k → IsTrue (mark new k) = λ k i. ap (λ l. mark l k) e ∙ mark_at marks (at - base) k lt i in
+      let kept : (k : ℕ) → IsTrue (mark marks k) → IsTrue (mark new k) = λ k t. elim (eq_or (at - base) k) [
+        | inl i ↦ here k i
+        | inr ne ↦ ap (λ l. mark l k) e ∙ mark_off marks (at - base) k ne ∙ t
+      ] in
       record {
-        count = omega (arith, row.count, same);
-        order = stands.1;
-        passed = stands.3;
-        ahead = stands.2;
-        marked = record {
-          sound = λ a t. elim (eq_or at a) [
-            | inl k ↦ inr (subst (λ x. Reaches words from x) k row.passed, omega (arith, k, stands.0))
-            | inr ne ↦ elim (row.marked.sound a (sym (mark_off marks at a ne) ∙ sym (ap (λ l. mark l a) e) ∙ t)) [ inl o ↦ inl o | inr p ↦ inr (p.0, omega (arith, p.1)) ]
-          ];
-          stay = λ a t. kept a (row.marked.stay a t);
-          whole = λ a p. elim (before_or_at a p.0 p.1) [ inl b ↦ kept a (row.marked.whole a (p.0, b)) | inr k ↦ here a k ];
-        };
+        sound = λ k t. elim (eq_or (at - base) k) [
+          | inl i ↦
+              let same : at ≡ base + k = omega (arith, i, below, over) in
+              inr (subst (λ x. Reaches words from x) same passed, omega (arith, same, object.refs_fit))
+          | inr ne ↦ elim (m.sound k (sym (mark_off marks (at - base) k ne) ∙ sym (ap (λ l. mark l k) e) ∙ t)) [ inl o ↦ inl o | inr p ↦ inr (p.0, omega (arith, p.1)) ]
+        ];
+        stay = λ k t. kept k (m.stay k t);
+        whole = λ k p. elim (before_or_at (base + k) p.0 p.1) [ inl b ↦ kept k (m.whole k (p.0, b)) | inr i ↦ here k (omega (arith, i)) ];
       }
-
-pub Rowed-end : (words : List ℕ) (from to : ℕ) (old : List Bool) (at : ℕ) (marks : List Bool) → Rowed words from to old at marks → to ≤ at → Marked (InRow words from to) old marks
-Rowed-end words from to old at marks row le = let e : at ≡ to = omega (arith, row.order) in subst (λ x. Marked (InRow words from x) old marks) e row.marked
 
 pub marked_none : (P : ℕ → Type 0) (marks : List Bool) → ((a : ℕ) → P a → ⊥) → Marked P marks marks
 marked_none P marks f = record { sound = λ a t. inl t; stay = λ a t. t; whole = λ a p. absurd (f a p) }
 
-pub marked_one : (marks new : List Bool) (k : ℕ) → k < length marks → new ≡ set marks k true → Marked (λ a. a ≡ k) marks new
-marked_one marks new k lt e =
-    let here : (a : ℕ) → k ≡ a → IsTrue (mark new a) = λ a i. ap (λ l. mark l a) e ∙ mark_at marks k a lt i in
+-- nothing is marked where no object was passed
+pub Marked-start : (words : List ℕ) (base from : ℕ) (old : List Bool) → Marked (λ k. InRow words from from (base + k)) old old
+Marked-start words base from old = marked_none (λ k. InRow words from from (base + k)) old (λ k p. omega (arith, Tiles-le words from p.0.0 (base + k) p.0.1, p.1))
+
+pub marked_one : (base at : ℕ) (marks new : List Bool) → base ≤ at → at < base + length marks → new ≡ set marks (at - base) true → Marked (λ k. base + k ≡ at) marks new
+marked_one base at marks new le inside e =
+    let lt : at - base < length marks = omega (arith, inside, le) in
+    let here : (k : ℕ) → at - base ≡ k → IsTrue (mark new k) = λ k i. ap (λ l. mark l k) e ∙ mark_at marks (at - base) k lt i in
     record {
-      sound = λ a t. elim (eq_or k a) [ inl i ↦ inr (sym i) | inr ne ↦ inl (sym (mark_off marks k a ne) ∙ sym (ap (λ l. mark l a) e) ∙ t) ];
-      stay = λ a t. elim (eq_or k a) [ inl i ↦ here a i | inr ne ↦ ap (λ l. mark l a) e ∙ mark_off marks k a ne ∙ t ];
-      whole = λ a i. here a (sym i);
+      sound = λ k t. elim (eq_or (at - base) k) [ inl i ↦ inr (omega (arith, i, le)) | inr ne ↦ inl (sym (mark_off marks (at - base) k ne) ∙ sym (ap (λ l. mark l k) e) ∙ t) ];
+      stay = λ k t. elim (eq_or (at - base) k) [ inl i ↦ here k i | inr ne ↦ ap (λ l. mark l k) e ∙ mark_off marks (at - base) k ne ∙ t ];
+      whole = λ k i. here k (omega (arith, i));
     }
 
-pub Marks-start : (h : Heap) (n : ℕ) → Marks (StartsBelow h 0) (replicate n false)
-Marks-start h n = record {
+pub Marks-start : (h : Heap) (from base n : ℕ) → Marks (λ k. StartsBetween h from from (base + k)) (replicate n false)
+Marks-start h from base n = record {
   sound = λ a t. let e : false ≡ true = sym (off n a) ∙ t in cc;
-  whole = λ a s. absurd (omega (arith, s.1));
+  whole = λ a s. absurd (omega (arith, s.1, s.2));
 } where
   off : (n a : ℕ) → mark (replicate n false) a ≡ false
   off zero a = refl
   off (suc n) zero = refl
   off (suc n) (suc a) = off n a
 
-pub Marks-more : (h : Heap) (r : ℕ) (old new : List Bool) → Marks (StartsBelow h r) old → Marked (StartsIn (region h r).kind h r) old new → Marks (StartsBelow h (r + 1)) new
-Marks-more h r old new m d = record {
-  sound = λ a t. elim (d.sound a t) [ inl o ↦ (let s = m.sound a o in (s.0, omega (arith, s.1), s.2)) | inr p ↦ (r, omega arith, p) ];
+pub Marks-more : (h : Heap) (from r base : ℕ) (old new : List Bool) → from ≤ r → Marks (λ k. StartsBetween h from r (base + k)) old
+    → Marked (λ k. StartsIn (region h r).kind h r (base + k)) old new → Marks (λ k. StartsBetween h from (r + 1) (base + k)) new
+Marks-more h from r base old new le m d = record {
+  sound = λ a t. elim (d.sound a t) [ inl o ↦ (let s = m.sound a o in (s.0, s.1, omega (arith, s.2), s.3)) | inr p ↦ (r, le, omega arith, p) ];
   whole = λ a s. elim (cases_lt s.0 r) [
-    | inl lt ↦ d.stay a (m.whole a (s.0, lt, s.2))
-    | inr ge ↦ d.whole a (let e : s.0 ≡ r = omega (arith, ge, s.1) in subst (λ x. StartsIn (region h x).kind h x a) e s.2)
+    | inl lt ↦ d.stay a (m.whole a (s.0, s.1, lt, s.3))
+    | inr ge ↦ d.whole a (let e : s.0 ≡ r = omega (arith, ge, s.2) in subst (λ x. StartsIn (region h x).kind h x (base + a)) e s.3)
   ];
 }
 
@@ -147,11 +120,19 @@ stands_starts Continuation h r o t = absurd t
 pub in_place : (h : Heap) (o : Object) (has : HasObject h o) → StandsIn (region h has.place).kind h has.place o
 in_place h o has = holds_stands (region h has.place).kind h has.place has.others o has.holds has.one_of
 
-pub Marks-end : (h : Heap) (marks : List Bool) → ShapedBelow h h.geometry.n → Marks (StartsBelow h h.geometry.n) marks → Marks (StartsAt h) marks
-Marks-end h marks shaped m = record {
-  sound = λ a t. let s = m.sound a t in starts_object (region h s.0).kind h s.0 a s.1 refl (shaped s.0 s.1).by_kind s.2;
-  whole = λ a s. m.whole a (subst (λ x. StartsBelow h h.geometry.n x) s.2 (s.1.place, s.1.in_heap, stands_starts (region h s.1.place).kind h s.1.place s.0 (in_place h s.0 s.1)));
-}
+-- the marks of all regions are the heap's
+pub StartsOf-all : (h : Heap) (marks : List Bool) → ShapedBelow h h.geometry.n → StartsOf h 0 h.geometry.n marks → StartsAre h marks
+StartsOf-all h marks shaped m =
+    let zero : start h 0 ≡ 0 = omega arith in
+    let shifted : (a : ℕ) → start h 0 + a ≡ a = λ a. omega (arith, zero) in
+    record {
+      each = record {
+        sound = λ a t. let s = subst (StartsBetween h 0 h.geometry.n) (shifted a) (m.each.sound a t) in starts_object (region h s.0).kind h s.0 a s.2 refl (shaped s.0 s.2).by_kind s.3;
+        whole = λ a s. m.each.whole a (subst (StartsBetween h 0 h.geometry.n) (s.2 ∙ sym (shifted a))
+            (s.1.place, (let le : 0 ≤ s.1.place = omega arith in le), s.1.in_heap, stands_starts (region h s.1.place).kind h s.1.place s.0 (in_place h s.0 s.1)));
+      };
+      count = omega (arith, m.count, zero);
+    }
 
 next_start : (h : Heap) (r p : ℕ) → r < p → start h r + h.geometry.w ≤ start h p
 next_start h r p lt = let le : r + 1 ≤ p = omega arith in omega (arith, mul-le-mul_right h.geometry.w le)
@@ -211,25 +192,11 @@ past_marks [] a t le = let e : false ≡ true = t in cc
 past_marks (m ∷ marks) zero t le = omega (arith, le)
 past_marks (m ∷ marks) (suc a) t le = past_marks marks a t (omega (arith, le))
 
-pub marked_as : (words words2 : List ℕ) (from from2 to to2 : ℕ) (old old2 new new2 : List Bool) → words ≡ words2 → from ≡ from2 → to ≡ to2 → old ≡ old2 → new ≡ new2 →
-    Marked (InRow words from to) old new → Marked (InRow words2 from2 to2) old2 new2
-marked_as words words2 from from2 to to2 old old2 new new2 a b c d e m =
-    subst (λ x. Marked (InRow words2 from2 to2) old2 x) e (subst (λ x. Marked (InRow words2 from2 to2) x new) d (subst (λ x. Marked (InRow words2 from2 x) old new) c
-    (subst (λ x. Marked (InRow words2 x to) old new) b (subst (λ x. Marked (InRow x from to) old new) a m))))
+pub marked_as : (words words2 : List ℕ) (base from from2 to to2 : ℕ) (old new : List Bool) → words ≡ words2 → from ≡ from2 → to ≡ to2 →
+    Marked (λ k. InRow words from to (base + k)) old new → Marked (λ k. InRow words2 from2 to2 (base + k)) old new
+marked_as words words2 base from from2 to to2 old new a b c m =
+    subst (λ x. Marked (λ k. InRow words2 from2 x (base + k)) old new) c (subst (λ x. Marked (λ k. InRow words2 x to (base + k)) old new) b
+    (subst (λ x. Marked (λ k. InRow x from to (base + k)) old new) a m))
 
 pub start_in : (h : Heap) (r : ℕ) → 16 ≤ h.geometry.w → r < h.geometry.n → start h r < h.geometry.n * h.geometry.w
 start_in h r some lt = omega (arith, next_start h r h.geometry.n lt, some)
-
-module _ (h : Heap) (r : ℕ) (kind : (region h r).kind ≡ Ordinary) (shaped : IsShapedBy (region h r).kind h r) where
-  ordinary : IsShapedBy Ordinary h r
-  ordinary = subst (λ k. IsShapedBy k h r) kind shaped
-
-  -- objects fill the used words of an ordinary region
-  pub ordinary_filled : (words : List ℕ) (from to : ℕ) → words ≡ h.words → from ≡ start h r → to ≡ end h r → Reaches words from to
-  ordinary_filled words from to a b c =
-      subst (λ x. Reaches x from to) (sym a) (subst (λ x. Reaches h.words x to) (sym b)
-      (subst (λ x. Reaches h.words (start h r) x) (sym c) (ordinary.2, subst (λ k. HoldsBy k h r ordinary.2) kind ordinary.3)))
-
-  -- an ordinary region's used words are some of the heap's
-  pub ordinary_ends : r < h.geometry.n → end h r ≤ h.geometry.n * h.geometry.w
-  ordinary_ends lt = omega (arith, ordinary.1, next_start h r h.geometry.n lt)

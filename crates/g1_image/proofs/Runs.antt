@@ -65,19 +65,23 @@ module _ (h : Heap) (r : ℕ) (q : Object) (at : q.at ≡ start h r) (word : sli
       IsWholeRun h r q.size → IsShapedBy HumongousFirst h r
   first_made kind fit big top run = (q, read_first kind fit, big, top, run)
 
-  pub Latest-first : IsShaped h r → (region h r).kind ≡ HumongousFirst → Latest h (r + 1) r q.size
-  Latest-first s kind =
+  -- the last humongous object that starts before a later region
+  pub Latest-found : (later : ℕ) → r < later → ((p : ℕ) → r < p → p < later → (region h p).kind ≢ HumongousFirst) → IsShaped h r → (region h r).kind ≡ HumongousFirst → Latest h later r q.size
+  Latest-found later lt none s kind =
       let f = first_read (shape_of h HumongousFirst r s kind) in
-      let q_is : Object = record { at = start h r; size = q.size; refs = q.refs } in
       record {
         none = λ z. absurd (omega (arith, f.0, z));
-        before = λ p. omega arith;
+        before = λ p. lt;
         object = λ p. (q.refs, record { kind = kind; at = refl; object = record { header = word; refs_fit = f.0; size_fits = size } });
-        last = λ p x lt le. absurd (omega (arith, lt, le));
+        last = λ p. none;
       }
 
-pub Latest-start : (h : Heap) → Latest h 0 0 0
-Latest-start h = record { none = λ e q lt. absurd (omega (arith, lt)); before = λ p. absurd (omega (arith, p)); object = λ p. absurd (omega (arith, p)); last = λ p. absurd (omega (arith, p)) }
+  pub Latest-first : IsShaped h r → (region h r).kind ≡ HumongousFirst → Latest h (r + 1) r q.size
+  Latest-first s kind = Latest-found (r + 1) (omega arith) (λ p lt le. absurd (omega (arith, lt, le))) s kind
+
+-- no humongous object starts before a region
+pub Latest-none : (h : Heap) (r : ℕ) → ((q : ℕ) → q < r → (region h q).kind ≢ HumongousFirst) → Latest h r 0 0
+Latest-none h r none = record { none = λ z. none; before = λ p. absurd (omega (arith, p)); object = λ p. absurd (omega (arith, p)); last = λ p. absurd (omega (arith, p)) }
 
 pub Latest-other : (h : Heap) (r first size : ℕ) → Latest h r first size → (region h r).kind ≢ HumongousFirst → Latest h (r + 1) first size
 Latest-other h r first size l other = record {

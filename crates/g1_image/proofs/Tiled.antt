@@ -31,6 +31,9 @@ header_is words at q word refs size o e i =
     let h : o.size * 2 ^ 32 + o.refs ≡ q.size * 2 ^ 32 + q.refs = sym i.header ∙ ap (λ a. slice_index words a) e ∙ word in
     (omega (arith, h, i.refs_fit, i.size_fits, refs, size), omega (arith, h, i.refs_fit, i.size_fits, refs, size))
 
+pub read_object : (words : List ℕ) (at : ℕ) (q : Object) → q.at ≡ at → slice_index words at ≡ q.size * 2 ^ 32 + q.refs → q.size < 2 ^ 32 → q.refs < q.size → IsObject words q
+read_object words at q q_at word size fits = record { header = ap (λ a. slice_index words a) q_at ∙ word; refs_fit = fits; size_fits = size }
+
 module _ (words : List ℕ) (from to w at : ℕ) (q : Object) (lt : at < to) (q_at : q.at ≡ at) (word : slice_index words at ≡ q.size * 2 ^ 32 + q.refs)
     (refs : q.refs < 2 ^ 32) (size : q.size < 2 ^ 32) where
   is_read : (o : Object) → o.at ≡ at → IsObject words o → (o.size ≡ q.size) × (o.refs ≡ q.refs)
@@ -44,7 +47,7 @@ module _ (words : List ℕ) (from to w at : ℕ) (q : Object) (lt : at < to) (q_
 
   pub Checked-step : Checked words from to w at → q.refs < q.size → 4 * q.size ≤ 3 * w → at + q.size ≤ to → Checked words from to w (at + q.size)
   Checked-step c rf small le =
-      let i : IsObject words q = record { header = ap (λ a. slice_index words a) q_at ∙ word; refs_fit = rf; size_fits = size } in
+      let i : IsObject words q = read_object words at q q_at word size rf in
       record {
         order = le;
         passed = (

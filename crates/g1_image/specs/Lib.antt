@@ -9,6 +9,7 @@ pub mod Growing
 pub mod Draft
 pub mod Marks
 pub mod Strays
+pub mod Shapes
 pub mod Drafted
 pub mod Cards
 pub mod Laws

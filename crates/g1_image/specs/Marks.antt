@@ -1,5 +1,5 @@
 -- Marks at the addresses where objects start.
-use Rattle.std.specs.Prelude.{◌≡◌, ◌<◌, ℕ, ◌⊎◌, List, Bool, false, slice_index_or, IsTrue, length, ◌*◌}
+use Rattle.std.specs.Prelude.{◌≡◌, ◌≤◌, ◌<◌, ℕ, ◌⊎◌, ◌+◌, ◌*◌, List, Bool, false, slice_index_or, IsTrue, length}
 use Rattle.g1_words.specs.Heap.{Heap, region, start, end}
 use Rattle.g1_words.specs.Valid.{HasObject}
 use Rattle.g1_words.specs.Walk.{Reaches}
@@ -18,9 +18,9 @@ StartsIn Ordinary h r a = InRow h.words (start h r) (end h r) a
 StartsIn HumongousFirst h r a = a ≡ start h r
 StartsIn Continuation h r a = ⊥
 
--- an object starts at the address in one of the first regions
-abbrev pub StartsBelow : Heap → ℕ → ℕ → Type 0
-StartsBelow h n a = (r : ℕ) × (r < n) × StartsIn (region h r).kind h r a
+-- an object starts at the address in one of the regions from one on and below another
+abbrev pub StartsBetween : Heap → ℕ → ℕ → ℕ → Type 0
+StartsBetween h from to a = (r : ℕ) × (from ≤ r) × (r < to) × StartsIn (region h r).kind h r a
 
 -- whether the address is marked; addresses past the last one are not
 abbrev pub mark : List Bool → ℕ → Bool
@@ -45,3 +45,8 @@ StartsAt h a = (o : Object) × HasObject h o × (o.at ≡ a)
 pub record StartsAre (h : Heap) (marks : List Bool) : Type 0 where
   pub each : Marks (StartsAt h) marks
   pub count : length marks ≡ h.geometry.n * h.geometry.w
+
+-- one mark for each word of the regions from one on and below another, set exactly where an object starts
+pub record StartsOf (h : Heap) (from to : ℕ) (marks : List Bool) : Type 0 where
+  pub each : Marks (λ k. StartsBetween h from to (start h from + k)) marks
+  pub count : start h from + length marks ≡ start h to

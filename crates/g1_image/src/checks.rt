@@ -4,8 +4,8 @@ ghost use Rattle.g1_image.specs.Marks.{StartsAre};
 ghost use Rattle.g1_image.specs.Faults.{IsGoodHeap, HeapFault, RootsAreGood};
 
 use crate::draft::Draft;
-use crate::refs::{check_roots, starts};
-use crate::shape::check_shapes;
+use crate::refs::check_roots;
+use crate::starts::{shaped_starts, shaped_starts_by};
 use crate::strays::{check_slots, check_slots_by};
 use g1_words::{Fault, Marks};
 use std::alloc::Global;
@@ -18,8 +18,24 @@ fn checked_starts(alloc: Global, draft: &Draft) -> Result<Marks, Fault>
     ensures roots { OnOk result (RootsAreGood draft.now) }
     ensures err { IfErr result (λ e. (e ≡ Fault.Memory) ⊎ HeapFault draft.now e) }
 {
-    check_shapes(draft)?;
-    let marks = starts(alloc, draft)?;
+    let marks = shaped_starts(alloc, draft)?;
+    check_roots(draft, &marks)?;
+    Ok(marks)
+}
+
+/// As `checked_starts`, with this many workers at most. One if it is 0.
+fn checked_starts_by(
+    rt: &(impl Threads + Sync),
+    alloc: Global,
+    draft: &Draft,
+    workers: u64,
+) -> Result<Marks, Fault>
+    ensures starts { IfOk result (λ m. StartsAre draft.now m) }
+    ensures shaped { OnOk result (ShapedBelow draft.now draft.now.geometry.n) }
+    ensures roots { OnOk result (RootsAreGood draft.now) }
+    ensures err { IfErr result (λ e. (e ≡ Fault.Memory) ⊎ HeapFault draft.now e) }
+{
+    let marks = shaped_starts_by(rt, alloc, draft, workers)?;
     check_roots(draft, &marks)?;
     Ok(marks)
 }
@@ -44,7 +60,7 @@ pub(crate) fn check_heap_by(
     ensures ok { OnOk result (IsGoodHeap draft.now) }
     ensures err { IfErr result (λ e. (e ≡ Fault.Memory) ⊎ HeapFault draft.now e) }
 {
-    let marks = checked_starts(alloc, draft)?;
+    let marks = checked_starts_by(rt, alloc, draft, workers)?;
     check_slots_by(rt, alloc, draft, &marks, workers)?;
     Ok(())
 }

@@ -9,8 +9,9 @@
 //! bytes piece by piece. What precedes the words is looked for in twice as many bytes until it is
 //! there whole, the words go straight to their places, and the source is read to its end whatever
 //! fault its bytes have. `decode` reads bytes in memory the same way, as if they had all been read
-//! ahead. `read_by` shares the slots among this many workers at most: each has a range of the
-//! regions, and the first range with a slot that references no object has the lowest.
+//! ahead. `read_by` shares the shapes and the slots among this many workers at most: each has a range
+//! of the regions, and the first range with a region that breaks a rule, or with a slot that
+//! references no object, has the lowest.
 //!
 //! `write` sends the text of an image to a sink: what precedes the words whole, and the words in
 //! pieces. `encode` writes it into a list. `encode_parts` writes parts that need not be an image's.
@@ -35,6 +36,7 @@ mod sending;
 mod shape;
 mod sink;
 mod source;
+mod starts;
 mod std_streams;
 mod strays;
 mod streaming;

@@ -1,55 +1,10 @@
-ghost use Rattle.std.specs.Prelude.{◌≡◌, ◌≤◌, ◌<◌, ◌+◌, ◌*◌, ◌^◌, ℕ, List, length, slice_index, IsTrue, ◌↔◌, OnOk, IfOk, IfErr, IfSome, IfNone};
-ghost use Rattle.g1_words.specs.Heap.{region};
-ghost use Rattle.g1_words.specs.Valid.{IsShaped, IsReference};
-ghost use Rattle.g1_words.specs.Walk.{Reaches};
-ghost use Rattle.g1_image.specs.Draft.{ShapedBelow};
-ghost use Rattle.g1_image.specs.Marks.{InRow, Marked, StartsAre};
+ghost use Rattle.std.specs.Prelude.{◌≡◌, ◌≤◌, ◌<◌, ◌+◌, ◌*◌, ◌^◌, ℕ, List, length, slice_index, IsTrue, ◌↔◌, OnOk, IfErr, IfSome, IfNone};
+ghost use Rattle.g1_words.specs.Valid.{IsReference};
+ghost use Rattle.g1_image.specs.Marks.{StartsAre};
 ghost use Rattle.g1_image.specs.Faults.{IsFirstBreach, IsGoodRoot, RootsAreGood};
 
 use crate::draft::Draft;
-use g1_words::{Fault, Kind, Marks, Place, header};
-use std::alloc::{AllocError, Global};
-
-/// Marks the objects that fill the words between two addresses.
-fn mark_row(marks: &mut Marks, words: &[u64], from: u64, to: u64)
-    requires filled { Reaches words.now from to }
-    requires in_words { to ≤ length words.now }
-    requires as_many { length marks.old ≡ length words.now }
-    ensures marked { Marked (InRow words.now from to) marks.old marks.new }
-    ensures size { length marks.new ≡ length marks.old }
-{
-    let mut at = from;
-    while at < to {
-        marks.set(at as usize);
-        at += header(words, at).size;
-    }
-}
-
-/// Marks the addresses where objects start.
-pub(crate) fn starts(alloc: Global, draft: &Draft) -> Result<Marks, AllocError>
-    requires { ShapedBelow draft.now draft.now.geometry.n }
-    ensures { IfOk result (λ v. StartsAre draft.now v) }
-{
-    let geometry = draft.geometry();
-    let regions = geometry.regions() as u32;
-    let mut marks = Marks::none(alloc, geometry.words() as usize)?;
-    for r in 0..regions {
-        let region = draft.region(r);
-        let start = geometry.start(r);
-        match region.kind {
-            Kind::Ordinary => mark_row(
-                &mut marks,
-                draft.words(),
-                start,
-                start + u64::from(region.top),
-            ),
-            Kind::HumongousFirst => marks.set(start as usize),
-            Kind::Free => {}
-            Kind::Continuation => {}
-        }
-    }
-    Ok(marks)
-}
+use g1_words::{Fault, Marks, Place};
 
 /// Returns whether a word is null or references an object.
 fn is_reference(draft: &Draft, marks: &Marks, x: u64) -> bool

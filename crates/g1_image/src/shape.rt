@@ -1,20 +1,32 @@
-ghost use Rattle.std.specs.Prelude.{◌≡◌, ◌≤◌, ◌<◌, ◌+◌, ◌*◌, ◌^◌, ℕ, List, length, slice_index, IsTrue, ◌↔◌, OnOk, IfErr};
+ghost use Rattle.std.specs.Prelude.{◌≡◌, ◌≤◌, ◌<◌, ◌+◌, ◌*◌, ◌^◌, ℕ, List, length, slice_index, IsTrue, ◌↔◌};
 ghost use Rattle.g1_words.specs.Geometry.{most_words};
-ghost use Rattle.g1_words.specs.Heap.{region};
+ghost use Rattle.g1_words.specs.Heap.{region, start};
 ghost use Rattle.g1_words.specs.Valid.{IsShaped, IsShapedBy, IsWholeRun};
 ghost use Rattle.g1_words.specs.declared.region.Kind.TheVariants.{Ordinary, HumongousFirst, Continuation};
 ghost use Rattle.g1_image.specs.Draft.{IsTiled, Latest, ShapedBelow};
-ghost use Rattle.g1_image.specs.Faults.{IsFirstBreach};
+ghost use Rattle.g1_image.specs.Marks.{InRow, StartsIn, Marked};
 
 use crate::draft::Draft;
-use g1_words::{Fault, Geometry, Kind, header};
+use g1_words::{Geometry, Kind, Marks, header};
 
-/// Returns whether objects that aren't humongous fill the words between two addresses.
-fn is_tiled(words: &[u64], from: u64, to: u64, geometry: &Geometry) -> bool
+/// Returns whether objects that aren't humongous fill the words between two addresses, and marks
+/// them. The marks begin at the address `base`.
+fn mark_row(
+    marks: &mut Marks,
+    base: u64,
+    words: &[u64],
+    from: u64,
+    to: u64,
+    geometry: &Geometry,
+) -> bool
     requires order { from ≤ to }
     requires in_words { to ≤ length words.now }
     requires sizes { to ≤ most_words }
-    ensures { IsTrue result ↔ IsTiled words.now from to geometry.now.w }
+    requires below { base ≤ from }
+    requires above { to ≤ base + length marks.old }
+    ensures tiled { IsTrue result ↔ IsTiled words.now from to geometry.now.w }
+    ensures marked { IsTrue result → Marked (λ k. InRow words.now from to (base + k)) marks.old marks.new }
+    ensures size { length marks.new ≡ length marks.old }
 {
     let mut at = from;
     while at < to {
@@ -28,6 +40,7 @@ fn is_tiled(words: &[u64], from: u64, to: u64, geometry: &Geometry) -> bool
         if at + o.size > to {
             return false;
         }
+        marks.set((at - base) as usize);
         at += o.size;
     }
     true
@@ -54,10 +67,14 @@ fn is_run(draft: &Draft, r: u32, size: u64) -> bool
     true
 }
 
-fn ordinary_shaped(draft: &Draft, r: u32) -> bool
+fn mark_ordinary(marks: &mut Marks, base: u64, draft: &Draft, r: u32) -> bool
     requires there { r < draft.now.geometry.n }
     requires kind { (region draft.now r).kind ≡ Ordinary }
-    ensures { IsTrue result ↔ IsShapedBy Ordinary draft.now r }
+    requires below { base ≤ start draft.now r }
+    requires above { start draft.now (r + 1) ≤ base + length marks.old }
+    ensures shaped { IsTrue result ↔ IsShapedBy Ordinary draft.now r }
+    ensures marked { IsTrue result → Marked (λ k. StartsIn Ordinary draft.now r (base + k)) marks.old marks.new }
+    ensures size { length marks.new ≡ length marks.old }
 {
     let geometry = draft.geometry();
     let top = u64::from(draft.region(r).top);
@@ -68,7 +85,7 @@ fn ordinary_shaped(draft: &Draft, r: u32) -> bool
         return false;
     }
     let start = geometry.start(r);
-    is_tiled(draft.words(), start, start + top, &geometry)
+    mark_row(marks, base, draft.words(), start, start + top, &geometry)
 }
 
 fn humongous_shaped(draft: &Draft, r: u32) -> bool
@@ -97,12 +114,26 @@ fn humongous_shaped(draft: &Draft, r: u32) -> bool
     is_run(draft, r, o.size)
 }
 
+fn mark_humongous(marks: &mut Marks, base: u64, draft: &Draft, r: u32) -> bool
+    requires there { r < draft.now.geometry.n }
+    requires kind { (region draft.now r).kind ≡ HumongousFirst }
+    requires below { base ≤ start draft.now r }
+    requires above { start draft.now (r + 1) ≤ base + length marks.old }
+    ensures shaped { IsTrue result ↔ IsShapedBy HumongousFirst draft.now r }
+    ensures marked { Marked (λ k. StartsIn HumongousFirst draft.now r (base + k)) marks.old marks.new }
+    ensures size { length marks.new ≡ length marks.old }
+{
+    let start = draft.geometry().start(r);
+    marks.set((start - base) as usize);
+    humongous_shaped(draft, r)
+}
+
 fn continuation_shaped(draft: &Draft, r: u32, first: u32, size: u64) -> bool
     requires there { r < draft.now.geometry.n }
-    requires latest { Latest draft.now r first size }
-    requires shaped { ShapedBelow draft.now r }
+    requires order { first ≤ r }
+    requires latest { ShapedBelow draft.now r → Latest draft.now r first size }
     requires kind { (region draft.now r).kind ≡ Continuation }
-    ensures { IsTrue result ↔ IsShapedBy Continuation draft.now r }
+    ensures { ShapedBelow draft.now r → IsTrue result ↔ IsShapedBy Continuation draft.now r }
 {
     if size == 0 {
         return false;
@@ -123,18 +154,23 @@ fn continuation_shaped(draft: &Draft, r: u32, first: u32, size: u64) -> bool
     top == least
 }
 
-/// Returns whether a region keeps the rules of its kind.
-fn kind_shaped(draft: &Draft, r: u32, first: u32, size: u64) -> bool
+/// Returns whether a region keeps the rules of its kind, and marks its objects. For a continuation
+/// this rests on all regions below it keeping theirs.
+fn mark_kind(marks: &mut Marks, base: u64, draft: &Draft, r: u32, first: u32, size: u64) -> bool
     requires there { r < draft.now.geometry.n }
-    requires latest { Latest draft.now r first size }
-    requires shaped { ShapedBelow draft.now r }
-    ensures { IsTrue result ↔ IsShapedBy (region draft.now r).kind draft.now r }
+    requires order { first ≤ r }
+    requires latest { ShapedBelow draft.now r → Latest draft.now r first size }
+    requires below { base ≤ start draft.now r }
+    requires above { start draft.now (r + 1) ≤ base + length marks.old }
+    ensures shaped { ShapedBelow draft.now r → IsTrue result ↔ IsShapedBy (region draft.now r).kind draft.now r }
+    ensures marked { IsTrue result → Marked (λ k. StartsIn (region draft.now r).kind draft.now r (base + k)) marks.old marks.new }
+    ensures size { length marks.new ≡ length marks.old }
 {
     let region = draft.region(r);
     match region.kind {
         Kind::Free => region.top == 0,
-        Kind::Ordinary => ordinary_shaped(draft, r),
-        Kind::HumongousFirst => humongous_shaped(draft, r),
+        Kind::Ordinary => mark_ordinary(marks, base, draft, r),
+        Kind::HumongousFirst => mark_humongous(marks, base, draft, r),
         Kind::Continuation => continuation_shaped(draft, r, first, size),
     }
 }
@@ -153,36 +189,27 @@ fn current_shaped(draft: &Draft, r: u32) -> bool
     }
 }
 
-/// Returns whether a region keeps the rules.
-fn region_shaped(draft: &Draft, r: u32, first: u32, size: u64) -> bool
+/// Returns whether a region keeps the rules, and marks its objects. The marks begin at the address
+/// `base`; the last humongous object below starts in region `first` and has `size` words.
+pub(crate) fn mark_region(
+    marks: &mut Marks,
+    base: u64,
+    draft: &Draft,
+    r: u32,
+    first: u32,
+    size: u64,
+) -> bool
     requires there { r < draft.now.geometry.n }
-    requires latest { Latest draft.now r first size }
-    requires shaped { ShapedBelow draft.now r }
-    ensures { IsTrue result ↔ IsShaped draft.now r }
+    requires order { first ≤ r }
+    requires latest { ShapedBelow draft.now r → Latest draft.now r first size }
+    requires below { base ≤ start draft.now r }
+    requires above { start draft.now (r + 1) ≤ base + length marks.old }
+    ensures shaped { ShapedBelow draft.now r → IsTrue result ↔ IsShaped draft.now r }
+    ensures marked { IsTrue result → Marked (λ k. StartsIn (region draft.now r).kind draft.now r (base + k)) marks.old marks.new }
+    ensures size { length marks.new ≡ length marks.old }
 {
-    if !kind_shaped(draft, r, first, size) {
+    if !mark_kind(marks, base, draft, r, first, size) {
         return false;
     }
     current_shaped(draft, r)
-}
-
-/// Returns the first region that breaks a rule.
-pub(crate) fn check_shapes(draft: &Draft) -> Result<(), Fault>
-    ensures ok { OnOk result (ShapedBelow draft.now draft.now.geometry.n) }
-    ensures err { IfErr result (λ e. (r : ℕ) × (e ≡ Fault.Shape r) × IsFirstBreach (IsShaped draft.now) draft.now.geometry.n r) }
-{
-    let geometry = draft.geometry();
-    let regions = geometry.regions() as u32;
-    let mut first = 0;
-    let mut size = 0;
-    for r in 0..regions {
-        if !region_shaped(draft, r, first, size) {
-            return Err(Fault::Shape(r));
-        }
-        if draft.region(r).kind.is_humongous_first() {
-            first = r;
-            size = header(draft.words(), geometry.start(r)).size;
-        }
-    }
-    Ok(())
 }

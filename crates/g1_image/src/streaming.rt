@@ -149,8 +149,9 @@ pub fn read<S: Source>(alloc: Global, source: &mut S) -> Result<Image, Fault>
 
 /// As `read`, with this many workers at most. One if it is 0.
 ///
-/// The words are read and laid by the calling thread. The workers share the search for the first slot
-/// that references no object: each has a range of the regions.
+/// The words are read and laid by the calling thread. The workers share the search for the first
+/// region that breaks a rule, the marks of the objects' starts, and the search for the first slot that
+/// references no object: each has a range of the regions.
 ///
 /// # Errors
 ///

@@ -1,9 +1,9 @@
 -- Marks that are kept as the bits of words.
-use Rattle.std.proofs.Common.{arith, refl, ◌≡◌, ◌≢◌, ◌≤◌, ◌<◌, ◌+◌, ◌-◌, ◌*◌, ◌/◌, ◌%◌, ◌^◌, ◌==◌, inl, inr, ℕ, List, Bool, true, false, length, slice_index, get_or, set, replicate, sym, ap, subst, ◌∙◌}
+use Rattle.std.proofs.Common.{arith, refl, ◌≡◌, ◌≢◌, ◌≤◌, ◌<◌, ◌+◌, ◌-◌, ◌*◌, ◌/◌, ◌%◌, ◌^◌, ◌==◌, inl, inr, ℕ, List, Bool, true, false, length, slice_index, get_or, set, replicate, sym, ap, subst, ◌∙◌, ◌++◌, take, length-append}
 use Rattle.std.proofs.Common.{zero-add, get_or-set_same, get_or-set_other, length-set}
 use Rattle.std.specs.Int.Bits.{bit_or}
 use Rattle.std.specs.Int.{bit_at, trailing_zeros, w64}
-use Rattle.std.proofs.lemmas.List.{same_lists, get_or-replicate, length-replicate}
+use Rattle.std.proofs.lemmas.List.{same_lists, get_or-replicate, length-replicate, get_or_append_left, get_or-append_right, get_or-take, length-take-le}
 use Rattle.std.proofs.lemmas.List.FromFn.{get_or-map-range_with_len, length-map-range_with_len}
 use Rattle.std.proofs.lemmas.Nat.Bits.{bit_at-zero, bit_at_set_same, bit_at_set_other, bit_at_above, bit_at-trailing_zeros}
 use Rattle.std.proofs.lemmas.Bool.{cases_eq, cases_lt}
@@ -125,3 +125,40 @@ first_found marks count bits from at n e le before first lt = record {
   set = ap (λ l. get_or l n false) (sym e) ∙ mark_of count bits n false lt ∙ first.set;
   unset = unset_on marks count bits from at n e before (λ x ge less _. first.unset x ge less);
 }
+
+-- marks that fill whole words have a word for each 64 of them
+module _ (count : ℕ) (bits : List ℕ) (whole : count % 64 ≡ 0) (le : count ≤ 64 * length bits) where
+  pub length-words : length (take (count / 64) bits) ≡ count / 64
+  length-words = length-take-le (count / 64) bits (omega (arith, le))
+
+  word_of : (k : ℕ) (behind : List ℕ) → k < count → slice_index (take (count / 64) bits ++ behind) (k / 64) ≡ slice_index bits (k / 64)
+  word_of k behind lt =
+      let under : k / 64 < count / 64 = omega (arith, lt, whole) in
+      get_or_append_left (take (count / 64) bits) behind 0 (k / 64) (omega (arith, under, length-words)) ∙ get_or-take (count / 64) bits (k / 64) 0 under
+
+  -- the words behind them have no marks of these
+  pub marks_of-words : marks_of count (take (count / 64) bits) ≡ marks_of count bits
+  marks_of-words =
+      same_lists (marks_of count (take (count / 64) bits)) (marks_of count bits) (length-marks_of count (take (count / 64) bits) ∙ sym (length-marks_of count bits)) (λ k d lt.
+      let under : k < count = omega (arith, lt, length-marks_of count (take (count / 64) bits)) in
+      let word : slice_index (take (count / 64) bits) (k / 64) ≡ slice_index bits (k / 64) = get_or-take (count / 64) bits (k / 64) 0 (omega (arith, under, whole)) in
+      mark_of count (take (count / 64) bits) k d under ∙ ap (λ x. bit_at x (k % 64) == 1) word ∙ sym (mark_of count bits k d under))
+
+  -- words behind the words are marks behind the marks
+  pub marks_of-append : (more : ℕ) (behind : List ℕ) → marks_of (count + more) (take (count / 64) bits ++ behind) ≡ marks_of count bits ++ marks_of more behind
+  marks_of-append more behind =
+      let all : List ℕ = take (count / 64) bits ++ behind in
+      same_lists (marks_of (count + more) all) (marks_of count bits ++ marks_of more behind)
+      (length-marks_of (count + more) all ∙ sym (length-append (marks_of count bits) (marks_of more behind) ∙ (λ i. length-marks_of count bits i + length-marks_of more behind i))) (λ k d lt.
+      let under : k < count + more = omega (arith, lt, length-marks_of (count + more) all) in
+      elim (cases_lt k count) [
+        | inl less ↦ mark_of (count + more) all k d under ∙ ap (λ x. bit_at x (k % 64) == 1) (word_of k behind less) ∙ sym (mark_of count bits k d less)
+            ∙ sym (get_or_append_left (marks_of count bits) (marks_of more behind) d k (omega (arith, less, length-marks_of count bits)))
+        | inr ge ↦
+            let place : k / 64 - count / 64 ≡ (k - count) / 64 = omega (arith, ge, whole) in
+            let bit : k % 64 ≡ (k - count) % 64 = omega (arith, ge, whole) in
+            let word : slice_index all (k / 64) ≡ slice_index behind ((k - count) / 64) =
+            get_or-append_right (take (count / 64) bits) behind (count / 64) (k / 64) 0 length-words (omega (arith, ge)) ∙ ap (slice_index behind) place in
+            mark_of (count + more) all k d under ∙ (λ i. bit_at (word i) (bit i) == 1) ∙ sym (mark_of more behind (k - count) d (omega (arith, under, ge)))
+            ∙ sym (get_or-append_right (marks_of count bits) (marks_of more behind) count k d (length-marks_of count bits) ge)
+      ])

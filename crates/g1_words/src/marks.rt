@@ -1,4 +1,4 @@
-ghost use Rattle.std.specs.Prelude.{◌≡◌, ◌≤◌, ◌<◌, ◌*◌, length, set, replicate, slice_index_or, true, false, IfOk};
+ghost use Rattle.std.specs.Prelude.{◌≡◌, ◌≤◌, ◌<◌, ◌+◌, ◌*◌, ◌^◌, ◌%◌, [], ◌++◌, length, set, replicate, slice_index_or, true, false, IfOk, OnOk, OnErr};
 ghost use Rattle.g1_words.specs.Marks.{IsNextSet};
 
 use std::alloc::{AllocError, Global};
@@ -31,6 +31,16 @@ impl Marks {
         Ok(Marks {
             count,
             bits: vec![in alloc; 0u64; words]?,
+        })
+    }
+
+    /// No marks, with room for so many.
+    pub fn with_capacity(alloc: Global, count: usize) -> Result<Marks, AllocError>
+        ensures { IfOk result (λ m. m ≡ []) }
+    {
+        Ok(Marks {
+            count: 0,
+            bits: Vec::with_capacity(alloc, count.div_ceil(64))?,
         })
     }
 
@@ -72,5 +82,21 @@ impl Marks {
             at = at.saturating_add(64 - at % 64);
         }
         None
+    }
+
+    /// Puts marks behind these, which fill words of 64 marks.
+    ///
+    /// # Errors
+    /// `AllocError` if a growth was refused: then the marks are as they were.
+    pub fn append(&mut self, behind: &Marks) -> Result<(), AllocError>
+        requires whole { length self.old % 64 ≡ 0 }
+        requires room { length self.old + length behind.now < 2 ^ 64 }
+        ensures ok { OnOk result (self.new ≡ self.old ++ behind.now) }
+        ensures err { OnErr result (self.new ≡ self.old) }
+    {
+        self.bits.truncate(self.count / 64);
+        self.bits.extend_from_slice(&behind.bits)?;
+        self.count += behind.count;
+        Ok(())
     }
 }

@@ -1,0 +1,45 @@
+use Rattle.std.proofs.Common.{◌≡◌, ◌+◌, ◌*◌, ◌^◌, arith, true, false, refl, slice_index, sym, ap, subst, ◌∙◌, below_more}
+use Rattle.g1_words.specs.Heap.{region, start}
+use Rattle.g1_words.specs.Valid.{IsShaped}
+use Rattle.g1_words.specs.declared.object.Object.{Object}
+use Rattle.g1_words.specs.declared.region.Kind.TheVariants.{HumongousFirst}
+use Rattle.g1_image.specs.Draft.{Latest, ShapedBelow}
+use Rattle.g1_image.proofs.Rows.{Marks-more}
+use Rattle.g1_image.proofs.Runs.{Latest-first, Latest-other}
+use Rattle.g1_image.proofs.starts.starts_between.Goals as goal
+use Rattle.g1_image.proofs.starts.starts_between.Goals.{then-is_humongous_first, else-is_humongous_first}
+
+pub returns-then-not-mark_region-clause-ok : goal.returns-then-not-mark_region-clause-ok
+returns-then-not-mark_region-clause-ok c = λ shaped. record {
+  within = omega (arith, c.loop-r-test.true, c.requires.regions);
+  breach = λ s. let e : false ≡ true = (c.if-not-mark_region.ensures.shaped (c.loop-r.invariant.shaped shaped)).1 s in cc;
+  before = c.loop-r.invariant.shaped shaped;
+}
+
+pub loop-r-preserved : goal.loop-r-preserved
+loop-r-preserved c =
+    let h = c.args.draft.now in
+    let r = c.loop-r.r in
+    let good : ShapedBelow h c.args.from → IsShaped h r = λ shaped. (c.if-not-mark_region.ensures.shaped (c.loop-r.invariant.shaped shaped)).0 refl in
+    record {
+      order = elim c.if-is_humongous_first.branch [
+        | then-is_humongous_first w ↦ omega (arith, w.first-is)
+        | else-is_humongous_first w ↦ omega (arith, w.first-is, c.loop-r.invariant.order)
+      ];
+      shaped = λ shaped. below_more _ _ (c.loop-r.invariant.shaped shaped) (good shaped);
+      latest = λ shaped. elim c.if-is_humongous_first.branch [
+        | then-is_humongous_first w ↦
+            let q : Object = w.header-size.result in
+            let place : w.start-then-is_humongous_first.result ≡ start h r = cc in
+            let kind : (region h r).kind ≡ HumongousFirst = sym (ap (λ q. q.kind) c.region.ensures) ∙ c.is_humongous_first.ensures.0 w.if-is_humongous_first.true in
+            let word : slice_index h.words (start h r) ≡ q.size * 2 ^ 32 + q.refs = sym (λ t. slice_index (w.words.ensures.same t) (place t)) ∙ w.header-size.ensures.word in
+            let l : Latest h (r + 1) r q.size = Latest-first h r q (w.header-size.ensures.at ∙ place) word w.header-size.ensures.refs w.header-size.ensures.size (good shaped) kind in
+            subst (λ x. Latest h (r + 1) x c.if-is_humongous_first.size) (sym w.first-is) (subst (λ x. Latest h (r + 1) r x) (sym w.size-is) l)
+        | else-is_humongous_first w ↦
+            let l : Latest h (r + 1) c.loop-r.first c.loop-r.size = Latest-other h r c.loop-r.first c.loop-r.size (c.loop-r.invariant.latest shaped)
+            (λ k. let e : false ≡ true = sym w.if-is_humongous_first.false ∙ c.is_humongous_first.ensures.1 (ap (λ q. q.kind) c.region.ensures ∙ k) in cc) in
+            subst (λ x. Latest h (r + 1) x c.if-is_humongous_first.size) (sym w.first-is) (subst (λ x. Latest h (r + 1) c.loop-r.first x) (sym w.size-is) l)
+      ];
+      marks = Marks-more h c.args.from r c.start-base.result c.loop-r.marks c.mark_region.new.marks (omega (arith, c.loop-r.auto.r)) c.loop-r.invariant.marks (c.if-not-mark_region.ensures.marked refl);
+      count = omega (arith, c.loop-r.invariant.count, c.mark_region.ensures.size);
+    }
