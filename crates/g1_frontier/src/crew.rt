@@ -18,8 +18,8 @@ pub(crate) struct Crew<'a, R, G> {
 // each 2,048 items.
 const ITEMS_A_WORKER: usize = 2048;
 
-// The chunk of a caller who asks for no other. Who asks for a smaller one wants small rounds shared,
-// too, as tests do that let two workers meet.
+// The chunk of a caller who asks for no other. Who asks for another one wants rounds, and who asks for
+// a smaller one wants small rounds shared, too, as tests do that let two workers meet.
 const USUAL_CHUNK: u64 = 64;
 
 // With smaller chunks the first rounds of a call, which are all that a small heap has, may have two
@@ -27,6 +27,15 @@ const USUAL_CHUNK: u64 = 64;
 const ROUNDS_OF_TWO: u64 = 16;
 
 impl<'a, R: Threads + Sync, G: Gate + Sync> Crew<'a, R, G> {
+    /// Whether a search goes by rounds, if this many cards lead into its window. Cards repay rounds,
+    /// since workers look for the slots on them side by side. Objects don't: between two rounds one
+    /// worker merges what the others kept and lists the next items, which takes as long as to search
+    /// alone.
+    pub fn takes_rounds(&self, cards: usize) -> bool {
+        let many = cards >= 2 * ITEMS_A_WORKER;
+        self.team.workers() > 1 && (many || self.team.chunk() != USUAL_CHUNK)
+    }
+
     /// Hires from the crew for a round of this many items.
     pub fn hire(&self, items: usize, round: u64) -> Crew<'a, R, G> {
         let fed = (items / ITEMS_A_WORKER) as u64;

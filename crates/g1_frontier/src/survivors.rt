@@ -168,10 +168,7 @@ fn search_alone(alloc: Global, scope: &Scope, cards: &[u32]) -> Result<Vec<u64>,
     Ok(found)
 }
 
-// The survivors of the window of a scope: by rounds if many cards lead into it, else by one worker
-// alone. Cards repay rounds, since workers look for slots on them side by side. Objects don't: between
-// two rounds one worker merges what the others kept and lists the next items, which takes as long as
-// to search alone.
+// The survivors of the window of a scope: by rounds, or by one worker alone.
 fn survivors_in<R: Threads + Sync, G: Gate + Sync>(
     crew: &Crew<'_, R, G>,
     scope: &Scope,
@@ -185,7 +182,7 @@ fn survivors_in<R: Threads + Sync, G: Gate + Sync>(
     ensures only { IfOk result (λ v. (l : List ℕ) → Survivors scope.now.heap.now scope.now.window.now l → l ≡ v.items) }
     ensures memory { IfErr result (λ e. e ≡ Memory) }
 {
-    if crew.hire(cards.len(), 0).team.workers() == 1 {
+    if !crew.takes_rounds(cards.len()) {
         return search_alone(crew.alloc, scope, cards);
     }
     let mut search = first_round(crew, scope, cards)?;
