@@ -1,3 +1,4 @@
+ghost use Rattle.std.specs.Prelude.{◌≡◌, ◌≤◌, min, max};
 ghost use Rattle.g1_work.specs.Team.{AreWorkers};
 
 use g1_work::{Gate, Team};
@@ -37,7 +38,10 @@ impl<'a, R: Threads + Sync, G: Gate + Sync> Crew<'a, R, G> {
     }
 
     /// Hires from the crew for a round of this many items.
-    pub fn hire(&self, items: usize, round: u64) -> Crew<'a, R, G> {
+    pub fn hire(&self, items: usize, round: u64) -> Crew<'a, R, G>
+        ensures workers { result.team.workers ≤ self.now.team.workers }
+        ensures chunk { result.team.chunk ≡ self.now.team.chunk }
+    {
         let fed = (items / ITEMS_A_WORKER) as u64;
         let shared = self.team.chunk() < USUAL_CHUNK && round < ROUNDS_OF_TWO;
         let fewest = if shared { 2 } else { 1 };
@@ -52,7 +56,9 @@ impl<'a, R: Threads + Sync, G: Gate + Sync> Crew<'a, R, G> {
 
     /// As many workers of the crew as there are chunks of items, but one in any case.
     pub fn team_for(&self, chunks: usize) -> Team
-        ensures { AreWorkers result.workers }
+        ensures range { AreWorkers result.workers }
+        ensures workers { result.workers ≡ max 1 (min self.now.team.workers chunks) }
+        ensures chunk { result.chunk ≡ self.now.team.chunk }
     {
         let workers = self.team.workers().min(chunks as u64).max(1);
         Team::new(workers, self.team.chunk())

@@ -10,7 +10,7 @@ take_in-requires-clause-some g c =
     let s = c.args.scope.now in
     let count = count_back c.args.claims.now (place_in s) (pairs_in s) c.chunk-chunk.result c.args.items.now _ (λ s k t o r. r) _ c.args.seat _ _ _ _
     c.in_ok-holders.ensures c.in_ok-holders-2.ensures.ok in
-    omega (arith, count, c.in_ok-holders-2.holders.ok, c.team_for.ensures.0)
+    omega (arith, count, c.in_ok-holders-2.holders.ok, c.team_for.ensures.range.0)
 
 pub take_in-requires-clause-seats : goal.take_in-requires-clause-seats
 take_in-requires-clause-seats g c =
