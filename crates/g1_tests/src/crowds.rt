@@ -137,54 +137,29 @@ const FIELD_AFTER: &str = "G1IMAGE2 4096 64 128 1 0 128 \
 /// The root and the cards of the slots are one chunk, and the objects of the field 64.
 const CHUNK: u64 = 2_060;
 
-/// A crowd that searches, and one that writes.
-#[derive(Drop)]
-struct Both<'a, C: Clock> {
-    deal: Crowd<'a, C>,
-    fill: Crowd<'a, C>,
-}
-
-impl<'a, C: Clock> Gate for Both<'a, C> {
-    fn at(&self, part: Part, number: u64) {
-        self.deal.at(part, number);
-        self.fill.at(part, number);
-    }
-}
-
-/// All search. The words of 64 regions and as many patches as the object has slots are written by six workers.
-#[test]
-fn all_workers_search_and_six_write_at_once(rt: HostRuntime) -> Result<(), Fail> {
-    let alloc = rt.alloc();
-    let before = decode(alloc, &raw(alloc, FIELD)?)?;
-    let gate = Both {
-        deal: Crowd::new(&rt, Part::Deal, 64, 1),
-        fill: Crowd::new(&rt, Part::Fill, 6, 1),
-    };
-    let set = (33..65).collect::<Vec<u32>>(alloc)?;
-    let settings = collecting(alloc, set.as_slice(), 64, CHUNK)?;
-    let found = bytes_after(&rt, alloc, before, &settings, &gate)?;
-    expect_equal(&rt, (gate.deal.met(), gate.fill.met()), (1, 1));
-    let expected = raw(alloc, FIELD_AFTER)?;
-    assert!(rt; found.as_slice() == expected.as_slice());
-    Ok(())
-}
-
 /// Each of 64 regions, of as many words as are worth a worker, has one object, which is dead.
 const WIDE: &str = "G1IMAGE2 65536 64 64 0 0 64 1,1,0*64 0*64 1/0*64";
 
 const WIDE_AFTER: &str = "G1IMAGE2 65536 64 64 0 0 64 0,0,0*64 0*64";
 
+/// All search the field, and six write it: the words of 64 regions, and as many patches as the object has slots. All write the
+/// wide heap.
 #[test]
-fn all_workers_write_at_once(rt: HostRuntime) -> Result<(), Fail> {
+fn all_workers_search_and_write_at_once(rt: HostRuntime) -> Result<(), Fail> {
     let alloc = rt.alloc();
-    let before = decode(alloc, &raw(alloc, WIDE)?)?;
-    let gate = Crowd::new(&rt, Part::Fill, 64, 1);
-    let set = (0..64).collect::<Vec<u32>>(alloc)?;
-    let settings = collecting(alloc, set.as_slice(), 64, 1)?;
-    let found = bytes_after(&rt, alloc, before, &settings, &gate)?;
-    expect_equal(&rt, gate.met(), 1);
-    let expected = raw(alloc, WIDE_AFTER)?;
-    assert!(rt; found.as_slice() == expected.as_slice());
+    for (before, after, regions, part, workers) in [
+        (FIELD, FIELD_AFTER, (33, 65), Part::Deal, 64),
+        (FIELD, FIELD_AFTER, (33, 65), Part::Fill, 6),
+        (WIDE, WIDE_AFTER, (0, 64), Part::Fill, 64),
+    ] {
+        let gate = Crowd::new(&rt, part, workers, 1);
+        let set = (regions.0..regions.1).collect::<Vec<u32>>(alloc)?;
+        let settings = collecting(alloc, set.as_slice(), 64, CHUNK)?;
+        let image = decode(alloc, &raw(alloc, before)?)?;
+        let found = bytes_after(&rt, alloc, image, &settings, &gate)?;
+        expect_equal(&rt, gate.met(), 1);
+        assert!(rt; found.as_slice() == raw(alloc, after)?.as_slice());
+    }
     Ok(())
 }
 
