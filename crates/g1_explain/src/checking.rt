@@ -25,21 +25,14 @@ pub(crate) fn check_answer<R: Threads + Sync>(
     settings: &Settings,
     steps: &Steps,
 ) -> Result<(), Failure> {
-    match evacuate(rt, alloc, tracked, settings, &Open) {
-        Ok((after, report)) => {
-            if agrees(steps, &report) && is_written(steps, image(&after)) {
-                Ok(())
-            } else {
-                Err(Failure::Contradiction)
-            }
-        }
-        Err((_, Fault::Memory)) => Err(Failure::Fault(Fault::Memory)),
-        Err(_) => Err(Failure::Contradiction),
+    let answer = evacuate(rt, alloc, tracked, settings, &Open);
+    match &answer {
+        Ok((after, report)) => compare_answer(steps, image(after), report),
+        Err((_, fault)) => Err(failure_of(*fault)),
     }
 }
 
-/// Makes the pause that a step refused, and compares its fault with that of the step. Running out of memory
-/// is of no step.
+/// Makes the pause that a step refused, and compares its fault with that of the step.
 ///
 /// # Errors
 ///
@@ -54,10 +47,37 @@ pub(crate) fn check_refusal<R: Threads + Sync>(
     if refused == Fault::Memory {
         return Err(Failure::Fault(refused));
     }
-    match evacuate(rt, alloc, tracked, settings, &Open) {
-        Err((_, fault)) if fault == refused => Ok(()),
-        Err((_, Fault::Memory)) => Err(Failure::Fault(Fault::Memory)),
-        _ => Err(Failure::Contradiction),
+    let answer = evacuate(rt, alloc, tracked, settings, &Open);
+    match &answer {
+        Ok(_) => Err(Failure::Contradiction),
+        Err((_, fault)) => compare_fault(*fault, refused),
+    }
+}
+
+// Refuses a fault of the pause that isn't the one of a step.
+fn compare_fault(fault: Fault, refused: Fault) -> Result<(), Failure> {
+    if fault == refused {
+        Ok(())
+    } else {
+        Err(failure_of(fault))
+    }
+}
+
+// What a fault that no step had says: running out of memory is of no step.
+fn failure_of(fault: Fault) -> Failure {
+    if fault == Fault::Memory {
+        Failure::Fault(fault)
+    } else {
+        Failure::Contradiction
+    }
+}
+
+// Refuses an image after or a report that the steps didn't give.
+fn compare_answer(steps: &Steps, after: &Image, report: &Report) -> Result<(), Failure> {
+    if agrees(steps, report) && is_written(steps, after) {
+        Ok(())
+    } else {
+        Err(Failure::Contradiction)
     }
 }
 

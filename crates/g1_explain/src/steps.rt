@@ -85,8 +85,22 @@ pub(crate) fn take_steps<R: Threads + Sync>(
         prepared,
         sizes,
     };
-    push_writes(alloc, text, form, &before, &steps)?;
-    push_totals(text, heap, &steps, cards.len())?;
+    end_steps(alloc, text, form, &before, steps, cards.len())
+}
+
+// Adds the lines of what the pause writes, and the totals.
+fn end_steps(
+    alloc: Global,
+    text: &mut String,
+    form: Form,
+    before: &Before<'_>,
+    steps: Steps,
+    cards: usize,
+) -> Result<Steps, Failure>
+    requires { IsStartsOf before.now.image.now.heap before.now.starts.now }
+{
+    push_writes(alloc, text, form, before, &steps)?;
+    push_totals(text, before.image.heap(), &steps, cards)?;
     Ok(steps)
 }
 
