@@ -1,5 +1,5 @@
 //! The lines of a pause.
-use crate::checking::{check_answer, check_refusal};
+use crate::checking::check_pause;
 use crate::failure::Failure;
 use crate::form::Form;
 use crate::places::push_map;
@@ -63,15 +63,19 @@ fn push_tracked<R: Threads + Sync>(
 ) -> Result<Option<Fault>, Failure> {
     text.push_str("covered\n")?;
     let taken = take_steps(rt, alloc, text, form, &tracked, settings);
-    match &taken {
-        Ok(steps) => {
-            check_answer(rt, alloc, tracked, settings, steps)?;
-            push_answer(text, steps, form)
-        }
-        Err(Failure::Fault(fault)) => {
-            check_refusal(rt, alloc, tracked, settings, *fault)?;
-            push_refusal(text, *fault)
-        }
+    check_pause(rt, alloc, tracked, settings, &taken)?;
+    push_outcome(text, form, &taken)
+}
+
+// Adds the lines of the answer, or the refusal.
+fn push_outcome(
+    text: &mut String,
+    form: Form,
+    taken: &Result<Steps, Failure>,
+) -> Result<Option<Fault>, Failure> {
+    match taken {
+        Ok(steps) => push_answer(text, steps, form),
+        Err(Failure::Fault(fault)) => push_refusal(text, *fault),
         Err(Failure::Contradiction) => Err(Failure::Contradiction),
     }
 }
