@@ -13,50 +13,55 @@ use g1_work::Open;
 use std::alloc::Global;
 use std::thread::Threads;
 
-/// Makes the pause, and compares its report and the image after with what the steps gave.
+/// Makes the pause, and compares its answer with that of the steps: the report and the image after, or the
+/// fault. Running out of memory is of no step.
 ///
 /// # Errors
 ///
 /// `Failure::Contradiction` if they differ; `Fault::Memory`.
-pub(crate) fn check_answer<R: Threads + Sync>(
+pub(crate) fn check_pause<R: Threads + Sync>(
     rt: &R,
     alloc: Global,
     tracked: Tracked,
     settings: &Settings,
-    steps: &Steps,
+    taken: &Result<Steps, Failure>,
 ) -> Result<(), Failure> {
-    match evacuate(rt, alloc, tracked, settings, &Open) {
-        Ok((after, report)) => {
-            if agrees(steps, &report) && is_written(steps, image(&after)) {
-                Ok(())
-            } else {
-                Err(Failure::Contradiction)
-            }
-        }
-        Err((_, Fault::Memory)) => Err(Failure::Fault(Fault::Memory)),
-        Err(_) => Err(Failure::Contradiction),
+    let refused = refusal_of(taken)?;
+    let answer = evacuate(rt, alloc, tracked, settings, &Open);
+    match &answer {
+        Ok((after, report)) => compare_answer(taken, image(after), report),
+        Err((_, fault)) => compare_fault(refused, *fault),
     }
 }
 
-/// Makes the pause that a step refused, and compares its fault with that of the step. Running out of memory
-/// is of no step.
-///
-/// # Errors
-///
-/// `Failure::Contradiction` if they differ; `Fault::Memory`.
-pub(crate) fn check_refusal<R: Threads + Sync>(
-    rt: &R,
-    alloc: Global,
-    tracked: Tracked,
-    settings: &Settings,
-    refused: Fault,
-) -> Result<(), Failure> {
-    if refused == Fault::Memory {
-        return Err(Failure::Fault(refused));
+// The fault for which the steps refused the pause, if they did.
+fn refusal_of(taken: &Result<Steps, Failure>) -> Result<Option<Fault>, Failure> {
+    match taken {
+        Ok(_) => Ok(None),
+        Err(Failure::Fault(fault)) if *fault != Fault::Memory => Ok(Some(*fault)),
+        Err(failure) => Err(*failure),
     }
-    match evacuate(rt, alloc, tracked, settings, &Open) {
-        Err((_, fault)) if fault == refused => Ok(()),
-        Err((_, Fault::Memory)) => Err(Failure::Fault(Fault::Memory)),
+}
+
+// Refuses a fault of the pause that isn't that of the steps.
+fn compare_fault(refused: Option<Fault>, fault: Fault) -> Result<(), Failure> {
+    if refused == Some(fault) {
+        Ok(())
+    } else if fault == Fault::Memory {
+        Err(Failure::Fault(fault))
+    } else {
+        Err(Failure::Contradiction)
+    }
+}
+
+// Refuses an image after or a report that the steps didn't give.
+fn compare_answer(
+    taken: &Result<Steps, Failure>,
+    after: &Image,
+    report: &Report,
+) -> Result<(), Failure> {
+    match taken {
+        Ok(steps) if agrees(steps, report) && is_written(steps, after) => Ok(()),
         _ => Err(Failure::Contradiction),
     }
 }

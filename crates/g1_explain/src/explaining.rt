@@ -1,5 +1,5 @@
 //! The lines of a pause.
-use crate::checking::{check_answer, check_refusal};
+use crate::checking::check_pause;
 use crate::failure::Failure;
 use crate::form::Form;
 use crate::places::push_map;
@@ -9,7 +9,7 @@ use g1_pause::Settings;
 use g1_rem::{Tracked, verify};
 use g1_text::push_heading;
 use g1_words::Fault;
-use std::alloc::{AllocError, Global};
+use std::alloc::Global;
 use std::thread::Threads;
 
 /// The lines of a pause, and the fault for which it is refused, if it is.
@@ -33,61 +33,71 @@ pub fn explain<R: Threads + Sync>(
     form: Form,
 ) -> Result<Explanation, Failure> {
     let mut text = String::new(alloc);
-    push_heading(&mut text, &image)?;
+    let refused = push_lines(rt, alloc, &mut text, image, settings, form)?;
+    Ok(Explanation { text, refused })
+}
+
+// Adds the lines, and returns the fault for which the pause is refused, if it is.
+fn push_lines<R: Threads + Sync>(
+    rt: &R,
+    alloc: Global,
+    text: &mut String,
+    image: Image,
+    settings: &Settings,
+    form: Form,
+) -> Result<Option<Fault>, Failure> {
+    push_heading(text, &image)?;
     match verify(rt, alloc, image) {
-        Ok(tracked) => explain_tracked(rt, alloc, text, tracked, settings, form),
-        Err((_, fault)) => refuse(text, fault),
+        Ok(tracked) => push_tracked(rt, alloc, text, tracked, settings, form),
+        Err((_, fault)) => push_refusal(text, fault),
     }
 }
 
-fn explain_tracked<R: Threads + Sync>(
+fn push_tracked<R: Threads + Sync>(
     rt: &R,
     alloc: Global,
-    text: String,
+    text: &mut String,
     tracked: Tracked,
     settings: &Settings,
     form: Form,
-) -> Result<Explanation, Failure> {
-    let mut text = text;
+) -> Result<Option<Fault>, Failure> {
     text.push_str("covered\n")?;
-    match take_steps(rt, alloc, &mut text, form, &tracked, settings) {
-        Ok(steps) => {
-            check_answer(rt, alloc, tracked, settings, &steps)?;
-            Ok(answer(text, &steps, form)?)
-        }
-        Err(Failure::Fault(fault)) => {
-            check_refusal(rt, alloc, tracked, settings, fault)?;
-            refuse(text, fault)
-        }
+    let taken = take_steps(rt, alloc, text, form, &tracked, settings);
+    check_pause(rt, alloc, tracked, settings, &taken)?;
+    push_outcome(text, form, &taken)
+}
+
+// Adds the lines of the answer, or the refusal.
+fn push_outcome(
+    text: &mut String,
+    form: Form,
+    taken: &Result<Steps, Failure>,
+) -> Result<Option<Fault>, Failure> {
+    match taken {
+        Ok(steps) => push_answer(text, steps, form),
+        Err(Failure::Fault(fault)) => push_refusal(text, *fault),
         Err(Failure::Contradiction) => Err(Failure::Contradiction),
     }
 }
 
-fn answer(text: String, steps: &Steps, form: Form) -> Result<Explanation, AllocError> {
-    let mut text = text;
+// A map has the lines of its own alone.
+fn push_answer(text: &mut String, steps: &Steps, form: Form) -> Result<Option<Fault>, Failure> {
     if form == Form::Map {
         text.clear();
-        push_map(&mut text, &steps.plan, &steps.sizes)?;
+        push_map(text, &steps.plan, &steps.sizes)?;
     }
-    Ok(Explanation {
-        text,
-        refused: None,
-    })
+    Ok(None)
 }
 
-// The lines up to a refusal of the pause, and the refusal. Running out of memory is none.
-fn refuse(text: String, fault: Fault) -> Result<Explanation, Failure> {
+// Adds the refusal of the pause. Running out of memory is none.
+fn push_refusal(text: &mut String, fault: Fault) -> Result<Option<Fault>, Failure> {
     if fault == Fault::Memory {
         return Err(Failure::Fault(fault));
     }
-    let mut text = text;
     if let Fault::Room { need, free } = fault {
-        push_room(&mut text, need, free)?;
+        push_room(text, need, free)?;
     }
     let number = fault.number();
     writeln!(text, "refused fault {number}: {fault}")?;
-    Ok(Explanation {
-        text,
-        refused: Some(fault),
-    })
+    Ok(Some(fault))
 }

@@ -38,9 +38,21 @@ pub fn why<R: Threads + Sync>(
     at: u64,
 ) -> Result<String, Failure> {
     let starts = Starts::build(alloc, image.heap())?;
-    match explain_live(rt, alloc, image.heap(), &starts, at)? {
+    explain_object(rt, alloc, &image, &starts, at)
+}
+
+fn explain_object<R: Threads + Sync>(
+    rt: &R,
+    alloc: Global,
+    image: &Image,
+    starts: &Starts,
+    at: u64,
+) -> Result<String, Failure>
+    requires { IsStartsOf image.now.heap starts.now }
+{
+    match explain_live(rt, alloc, image.heap(), starts, at)? {
         Some(text) => Ok(text),
-        None => explain_dead(rt, alloc, &image, &starts, at),
+        None => explain_dead(rt, alloc, image, starts, at),
     }
 }
 

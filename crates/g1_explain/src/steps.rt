@@ -1,6 +1,9 @@
 //! The steps of a pause, one after another, each with its lines.
-ghost use Rattle.g1_image.specs.Cards.{IsTracked};
+ghost use Rattle.std.specs.Prelude.{◌≡◌, map};
+ghost use Rattle.g1_words.specs.Heap.{regions};
+ghost use Rattle.g1_image.specs.Cards.{IsTracked, refined};
 ghost use Rattle.g1_rem.specs.Starts.{IsStartsOf};
+ghost use Rattle.g1_pause.specs.Answer.{IsSetFor};
 
 use crate::cards::{mark_regions, push_cards, push_dirty};
 use crate::changes::{
@@ -48,10 +51,8 @@ pub(crate) fn take_steps<R: Threads + Sync>(
     ensures tracked { IsTracked tracked.now }
 {
     let image = image(tracked);
-    let heap = image.heap();
-    let (workers, chunk) = (settings.workers(), settings.chunk());
-    let starts = Starts::build(alloc, heap)?;
-    let remembered = refine_by(rt, alloc, tracked, &starts, workers)?;
+    let starts = Starts::build(alloc, image.heap())?;
+    let remembered = refine_by(rt, alloc, tracked, &starts, settings.workers())?;
     push_dirty(alloc, text, image, &remembered)?;
     let before = Before {
         image,
@@ -59,20 +60,49 @@ pub(crate) fn take_steps<R: Threads + Sync>(
         remembered: &remembered,
     };
     let set = choose_set(rt, alloc, text, &before, settings)?;
-    let cards = cards_into(alloc, heap, &remembered, &set)?;
-    push_cards(alloc, text, form, &before, &set, &cards)?;
+    steps_of_set(rt, alloc, text, form, tracked, &before, settings, set)
+}
+
+// The calls that follow the choice of a set.
+fn steps_of_set<R: Threads + Sync>(
+    rt: &R,
+    alloc: Global,
+    text: &mut String,
+    form: Form,
+    tracked: &Tracked,
+    before: &Before<'_>,
+    settings: &Settings,
+    set: Vec<u32>,
+) -> Result<Steps, Failure>
+    requires image { before.now.image.now ≡ tracked.now }
+    requires starts { IsStartsOf tracked.now.heap before.now.starts.now }
+    requires remembered { map (λ s. s.items) before.now.remembered.now ≡ map (refined tracked.now) (regions tracked.now.heap) }
+    requires set { IsSetFor settings.now.cost tracked.now settings.now.choice set.items }
+{
+    let heap = image(tracked).heap();
+    let (workers, chunk) = (settings.workers(), settings.chunk());
+    let cards = cards_into(alloc, heap, before.remembered, &set)?;
+    push_cards(alloc, text, form, before, &set, &cards)?;
     g1_copy::laws::cards_lead_in();
     g1_frontier::laws::refined_lead_in();
     let survivors = discover(
-        rt, alloc, heap, &starts, &set, &cards, workers, chunk, &Open,
+        rt,
+        alloc,
+        heap,
+        before.starts,
+        &set,
+        &cards,
+        workers,
+        chunk,
+        &Open,
     )?;
-    push_survivors(alloc, text, form, &before, &cards, &survivors)?;
+    push_survivors(alloc, text, form, before, &cards, &survivors)?;
     g1_layout::laws::placeable();
     let plan = place(alloc, heap, &set, &survivors)?;
     let basis = Basis {
         tracked,
-        starts: &starts,
-        remembered: &remembered,
+        starts: before.starts,
+        remembered: before.remembered,
         set: &set,
         plan: &plan,
         cards: &cards,
@@ -85,8 +115,22 @@ pub(crate) fn take_steps<R: Threads + Sync>(
         prepared,
         sizes,
     };
-    push_writes(alloc, text, form, &before, &steps)?;
-    push_totals(text, heap, &steps, cards.len())?;
+    end_steps(alloc, text, form, before, steps, cards.len())
+}
+
+// Adds the lines of what the pause writes, and the totals.
+fn end_steps(
+    alloc: Global,
+    text: &mut String,
+    form: Form,
+    before: &Before<'_>,
+    steps: Steps,
+    cards: usize,
+) -> Result<Steps, Failure>
+    requires { IsStartsOf before.now.image.now.heap before.now.starts.now }
+{
+    push_writes(alloc, text, form, before, &steps)?;
+    push_totals(text, before.image.heap(), &steps, cards)?;
     Ok(steps)
 }
 
