@@ -74,7 +74,8 @@ pub fn read_side<T: Files, R: Read>(
         let file = open_file(rt, alloc, name)?;
         match read(alloc, &mut FromReader::new(file)) {
             Ok(image) => return Ok((Found::Image(After::Image(image)), Vec::new(alloc))),
-            Err(Fault::Reference(_)) => (),
+            // Lines may begin behind the bytes that were looked at.
+            Err(Fault::Reference(_)) | Err(Fault::Magic) => (),
             Err(fault) => return Err(of_file(alloc, name, fault)),
         }
     }
