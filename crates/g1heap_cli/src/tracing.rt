@@ -6,13 +6,14 @@ use crate::output::write_file;
 use crate::refusal::{image_for_trace, is_image, no_command, of_file, wrong_trace_line};
 use g1_command::{LineReader, Refusal, deliver_text};
 use g1_explain::{Explanation, Form, explain};
-use g1_image::{decode, encode};
+use g1_image::{Image, decode, encode};
 use g1_pause::{Choice, Settings};
 use g1_session::{Answer, Expected, Session, Wrong};
 use g1_trace::{Reply, push_reply};
 use g1_words::Fault;
 use std::alloc::Global;
 use std::io::{Read, Write};
+use std::mem;
 use std::rt::Files;
 use std::thread::Threads;
 
@@ -30,9 +31,18 @@ struct Job<'a, T> {
     settings: Settings,
 }
 
-// What is answered and not written yet.
+// The lines of a trace, and the last one that was read, with its end and its number.
 #[derive(Drop)]
-struct Unwritten {
+struct Input<'r, R> {
+    lines: LineReader<'r, R>,
+    line: Vec<u8>,
+    number: u64,
+}
+
+// The session after the lines that were read, and what is answered and not written yet.
+#[derive(Drop)]
+struct State {
+    session: Session,
     replies: Vec<u8>,
     /// The image after the command that was asked for.
     image: Option<Vec<u8>>,
@@ -70,56 +80,67 @@ fn answer_lines<T: Threads + Sync + Files, R: Read, W: Write>(
     reader: &mut R,
     writer: &mut W,
 ) -> Result<u8, Refusal> {
-    let (alloc, trace) = (job.alloc, job.trace);
-    let mut lines = LineReader::new(alloc, reader)?;
-    let mut session = Session::new();
-    let mut unwritten = Unwritten {
-        replies: Vec::new(alloc),
+    let mut input = Input {
+        lines: LineReader::new(job.alloc, reader)?,
+        line: Vec::new(job.alloc),
+        number: 0,
+    };
+    let mut state = State {
+        session: Session::new(),
+        replies: Vec::new(job.alloc),
         image: None,
     };
-    let mut line = Vec::new(alloc);
-    let mut number: u64 = 0;
+    answer_all(job, &mut input, &mut state, writer)
+}
+
+fn answer_all<T: Threads + Sync + Files, R: Read, W: Write>(
+    job: &Job<'_, T>,
+    input: &mut Input<'_, R>,
+    state: &mut State,
+    writer: &mut W,
+) -> Result<u8, Refusal> {
     for _ in 0..u64::MAX {
-        line.clear();
-        if !read_line(alloc, trace, &mut lines, &mut line)? {
+        if !read_line(job.alloc, job.trace, input)? {
             break;
         }
-        number = number.saturating_add(1);
-        session = take_line(job, session, line.as_slice(), number, &mut unwritten)?;
-        if trace.live {
-            let status = write_all(job, &mut unwritten, writer)?;
+        take_line(job, input.line.as_slice(), input.number, state)?;
+        if job.trace.live {
+            let status = write_all(job, state, writer)?;
             if status != 0 {
                 return Ok(status);
             }
         }
     }
-    check_end(alloc, trace, &session, number)?;
-    write_all(job, &mut unwritten, writer)
+    check_end(job.alloc, job.trace, &state.session, input.number)?;
+    write_all(job, state, writer)
 }
 
 // Writes what is not written yet, the image first, and gives the status.
 fn write_all<T: Files, W: Write>(
     job: &Job<'_, T>,
-    unwritten: &mut Unwritten,
+    state: &mut State,
     writer: &mut W,
 ) -> Result<u8, Refusal> {
-    if let (Some(wanted), Some(bytes)) = (&job.trace.image, unwritten.image.take()) {
+    if let (Some(wanted), Some(bytes)) = (&job.trace.image, state.image.take()) {
         write_file(job.rt, job.alloc, wanted.file.as_str(), bytes.as_slice())?;
     }
-    let status = deliver_text(0, unwritten.replies.as_slice(), writer)?;
-    unwritten.replies.clear();
+    let status = deliver_text(0, state.replies.as_slice(), writer)?;
+    state.replies.clear();
     Ok(status)
 }
 
-// Reads the next line with its end; there is none at the end of the input.
+// Reads the next line; there is none at the end of the input.
 fn read_line<R: Read>(
     alloc: Global,
     trace: &Trace,
-    lines: &mut LineReader<'_, R>,
-    line: &mut Vec<u8>,
+    input: &mut Input<'_, R>,
 ) -> Result<bool, Refusal> {
-    match lines.read_into(line) {
-        Ok(is_there) => Ok(is_there),
+    input.line.clear();
+    match input.lines.read_into(&mut input.line) {
+        Ok(is_there) => {
+            input.number = input.number.saturating_add(u64::from(is_there));
+            Ok(is_there)
+        }
         Err(fault) => Err(of_file(alloc, trace.name.as_str(), fault)),
     }
 }
@@ -127,32 +148,52 @@ fn read_line<R: Read>(
 // Does a line, and adds what it is answered to what is not written yet.
 fn take_line<T: Threads + Sync + Files>(
     job: &Job<'_, T>,
-    session: Session,
     line: &[u8],
     number: u64,
-    unwritten: &mut Unwritten,
-) -> Result<Session, Refusal> {
-    let (rt, alloc, trace) = (job.rt, job.alloc, job.trace);
+    state: &mut State,
+) -> Result<(), Refusal> {
+    let content = content_of(job.alloc, job.trace, line, number)?;
+    if job.trace.explain {
+        push_explanation(job, &state.session, content, &mut state.replies)?;
+    }
+    match take(job, content, &mut state.session) {
+        Ok(Answer::Nothing) => Ok(()),
+        Ok(Answer::Reply(reply)) => add_reply(job.alloc, job.trace, reply, state),
+        Err(Wrong::Line(expected)) => Err(wrong(job.alloc, job.trace, number, expected)),
+        Err(Wrong::Fault(fault)) => Err(of_file(job.alloc, job.trace.name.as_str(), fault)),
+    }
+}
+
+// A line without its end.
+fn content_of<'l>(
+    alloc: Global,
+    trace: &Trace,
+    line: &'l [u8],
+    number: u64,
+) -> Result<&'l [u8], Refusal> {
     if number == 1 && is_image(line) {
         return Err(image_for_trace(alloc, trace.name.as_str()));
     }
-    let Some((b'\n', content)) = line.split_last() else {
-        return Err(wrong(alloc, trace, number, Expected::End));
-    };
-    if trace.explain {
-        push_explanation(job, &session, content, &mut unwritten.replies)?;
+    match line.split_last() {
+        Some((b'\n', content)) => Ok(content),
+        _ => Err(wrong(alloc, trace, number, Expected::End)),
     }
-    let (session, outcome) = session.take(rt, alloc, content, &job.settings);
-    match outcome {
-        Ok(Answer::Nothing) => Ok(session),
-        Ok(Answer::Reply(reply)) => {
-            push_numbered(alloc, trace, &session, reply, &mut unwritten.replies)?;
-            keep_image(alloc, trace, &session, unwritten)?;
-            Ok(session)
-        }
-        Err(Wrong::Line(expected)) => Err(wrong(alloc, trace, number, expected)),
-        Err(Wrong::Fault(fault)) => Err(of_file(alloc, trace.name.as_str(), fault)),
-    }
+}
+
+fn take<T: Threads + Sync>(
+    job: &Job<'_, T>,
+    content: &[u8],
+    session: &mut Session,
+) -> Result<Answer, Wrong> {
+    let before = mem::replace(session, Session::new());
+    let (after, outcome) = before.take(job.rt, job.alloc, content, &job.settings);
+    *session = after;
+    outcome
+}
+
+fn add_reply(alloc: Global, trace: &Trace, reply: Reply, state: &mut State) -> Result<(), Refusal> {
+    push_numbered(alloc, trace, &state.session, reply, &mut state.replies)?;
+    keep_image(alloc, trace, &state.session, &mut state.image)
 }
 
 fn wrong(alloc: Global, trace: &Trace, number: u64, expected: Expected) -> Refusal {
@@ -182,19 +223,28 @@ fn push_explanation<T: Threads + Sync>(
     line: &[u8],
     replies: &mut Vec<u8>,
 ) -> Result<(), Refusal> {
-    let (rt, alloc, trace) = (job.rt, job.alloc, job.trace);
     let (Some(budget), Some(image)) = (session.budget(line), session.image()) else {
         return Ok(());
     };
+    let text = explained(job, copy_of(job.alloc, image)?, budget)?;
+    replies.extend_from_slice(text.as_bytes())?;
+    Ok(())
+}
+
+fn copy_of(alloc: Global, image: &Image) -> Result<Image, Fault> {
     let bytes = encode(alloc, image)?;
-    let copy = decode(alloc, bytes.as_slice())?;
-    let settings = settings_with(trace, budget)?;
-    match explain(rt, alloc, copy, &settings, Form::Steps) {
-        Ok(Explanation { text, refused: _ }) => {
-            replies.extend_from_slice(text.as_bytes())?;
-            Ok(())
-        }
-        Err(failure) => Err(of_failure(alloc, trace.name.as_str(), failure)),
+    decode(alloc, bytes.as_slice())
+}
+
+fn explained<T: Threads + Sync>(
+    job: &Job<'_, T>,
+    image: Image,
+    budget: u64,
+) -> Result<String, Refusal> {
+    let settings = settings_with(job.trace, budget)?;
+    match explain(job.rt, job.alloc, image, &settings, Form::Steps) {
+        Ok(Explanation { text, refused: _ }) => Ok(text),
+        Err(failure) => Err(of_failure(job.alloc, job.trace.name.as_str(), failure)),
     }
 }
 
@@ -203,14 +253,14 @@ fn keep_image(
     alloc: Global,
     trace: &Trace,
     session: &Session,
-    unwritten: &mut Unwritten,
+    kept: &mut Option<Vec<u8>>,
 ) -> Result<(), Refusal> {
     let Some(wanted) = &trace.image else {
         return Ok(());
     };
     match session.image() {
         Some(image) if session.commands() == wanted.command => {
-            unwritten.image = Some(encode(alloc, image)?);
+            *kept = Some(encode(alloc, image)?);
             Ok(())
         }
         _ => Ok(()),
