@@ -1,5 +1,5 @@
 //! The options of a pause that both programs have: its budget, and what costs how much.
-use crate::table::{Argument, Form, VALUE};
+use crate::table::{Argument, VALUE};
 use crate::values::{Misuse, required_number};
 use clap::ArgMatches;
 use g1_choose::Cost;
@@ -14,7 +14,7 @@ pub const BUDGET: Argument = Argument {
 };
 
 const COST: Argument = Argument {
-    form: Form::ValueOr("1"),
+    default: &["1"],
     range: "below 4294967296",
     ..VALUE
 };
@@ -22,7 +22,7 @@ const COST: Argument = Argument {
 /// The cost of each pause.
 pub const FIXED: Argument = Argument {
     id: "fixed",
-    form: Form::ValueOr("0"),
+    default: &["0"],
     help: "What a pause costs in any case",
     ..COST
 };
@@ -48,12 +48,16 @@ pub const BYTE: Argument = Argument {
     ..COST
 };
 
+// A static is checked once, a constant again in each function that uses it.
+static COSTS: [Argument; 4] = [FIXED, DIRTY, CARD, BYTE];
+
 /// The costs that `FIXED`, `DIRTY`, `CARD` and `BYTE` give.
 pub fn cost_of(alloc: Global, values: &ArgMatches<'_>) -> Result<Cost, Misuse> {
+    let [fixed, dirty, card, byte] = &COSTS;
     Ok(Cost {
-        fixed: required_number(alloc, values, &FIXED)?,
-        dirty: required_number(alloc, values, &DIRTY)?,
-        card: required_number(alloc, values, &CARD)?,
-        byte: required_number(alloc, values, &BYTE)?,
+        fixed: required_number(alloc, values, fixed)?,
+        dirty: required_number(alloc, values, dirty)?,
+        card: required_number(alloc, values, card)?,
+        byte: required_number(alloc, values, byte)?,
     })
 }

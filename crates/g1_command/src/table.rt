@@ -1,5 +1,6 @@
 //! A program's commands as a table, and what clap makes of it.
 use crate::refusal::Refusal;
+use clap::builder::ValueRange;
 use clap::{Arg, ArgAction, ArgMatches, Command, Error};
 use std::alloc::{AllocError, Global};
 
@@ -28,6 +29,10 @@ pub struct Argument {
     /// Its name for clap. An option is given by it.
     pub id: &'static str,
     pub form: Form,
+    /// The letter that an option may be given by, too.
+    pub letter: Option<char>,
+    /// The value that it means not to give it, if that means one.
+    pub default: &'static [&'static str],
     /// What help and messages call its values, one after the other.
     pub values: &'static [&'static str],
     pub help: &'static str,
@@ -46,16 +51,10 @@ pub enum Form {
     Value,
     /// By its name and a value.
     NeededValue,
-    /// By its name and a value, or not at all, which means this value.
-    ValueOr(&'static str),
-    /// By its name, or by this letter, and a value, or not at all.
-    ValueByLetter(char),
     /// By its name and one value or more, or not at all.
     ManyValues,
-    /// By its place.
+    /// By its place; or not at all, if that means a value.
     Place,
-    /// By its place, or not at all, which means this value.
-    PlaceOr(&'static str),
     /// By its place, any number of times.
     ManyPlaces,
 }
@@ -64,6 +63,8 @@ pub enum Form {
 pub const FLAG: Argument = Argument {
     id: "",
     form: Form::Flag,
+    letter: None,
+    default: &[],
     values: &[],
     help: "",
     range: "",
@@ -95,27 +96,53 @@ impl Argument {
 fn arg_of<'a>(alloc: Global, argument: &Argument) -> Result<Arg<'a>, AllocError> {
     let arg = Arg::new(alloc, argument.id)
         .help(argument.help)
-        .num_args(argument.values.len())
+        .value_names(argument.values)
+        .num_args(counts(argument))
+        .action(action(argument.form))
+        .required(is_needed(argument))
+        .default_values(argument.default)
         .conflicts_with_all(argument.conflicts)?;
+    Ok(with_name(arg, argument))
+}
+
+// How many values it takes.
+fn counts(argument: &Argument) -> ValueRange {
     match argument.form {
-        Form::Flag => Ok(arg.long(argument.id).action(ArgAction::SetTrue)),
-        form => {
-            let arg = arg.value_names(argument.values).action(ArgAction::Set);
-            Ok(with_form(arg, argument.id, form))
-        }
+        Form::ManyValues => ValueRange::new(1..),
+        Form::ManyPlaces => ValueRange::new(0..),
+        _ => ValueRange::new(argument.values.len()),
     }
 }
 
-fn with_form<'a>(arg: Arg<'a>, id: &'a str, form: Form) -> Arg<'a> {
+fn action(form: Form) -> ArgAction {
     match form {
-        Form::Flag | Form::Value => arg.long(id),
-        Form::NeededValue => arg.long(id).required(true),
-        Form::ValueOr(value) => arg.long(id).default_value(value),
-        Form::ValueByLetter(letter) => arg.long(id).short(letter),
-        Form::ManyValues => arg.long(id).num_args(1..).action(ArgAction::Append),
-        Form::Place => arg.required(true),
-        Form::PlaceOr(value) => arg.default_value(value),
-        Form::ManyPlaces => arg.num_args(0..).action(ArgAction::Append),
+        Form::Flag => ArgAction::SetTrue,
+        Form::ManyValues | Form::ManyPlaces => ArgAction::Append,
+        _ => ArgAction::Set,
+    }
+}
+
+fn is_needed(argument: &Argument) -> bool {
+    match argument.form {
+        Form::NeededValue => true,
+        Form::Place => argument.default.is_empty(),
+        _ => false,
+    }
+}
+
+fn is_place(form: Form) -> bool {
+    matches!(form, Form::Place | Form::ManyPlaces)
+}
+
+// An option has a name, and may have a letter.
+fn with_name<'a>(arg: Arg<'a>, argument: &Argument) -> Arg<'a> {
+    if is_place(argument.form) {
+        return arg;
+    }
+    let arg = arg.long(argument.id);
+    match argument.letter {
+        Some(letter) => arg.short(letter),
+        None => arg,
     }
 }
 

@@ -87,8 +87,10 @@ pub fn explain(alloc: Global, error: &Error) -> Result<String, Refusal> {
 
 /// A whole number in decimal digits alone. clap would take a sign.
 pub fn whole(text: &str) -> Option<u64> {
-    if !text.bytes().all(|b| b.is_ascii_digit()) {
-        return None;
+    for byte in text.as_bytes() {
+        if !byte.is_ascii_digit() {
+            return None;
+        }
     }
     text.parse::<u64>().ok()
 }

@@ -8,7 +8,7 @@ use crate::options::{Part, Request, Same, parse};
 use crate::output::{Output, write_file};
 use crate::reaching::{Path, first_stale};
 use crate::refusal::{no_object, no_region, not_for_lines, of_file, wrong_name};
-use crate::sides::{Side, Strays, open, refuse_lines, without_strays};
+use crate::sides::{Side, Strays, open, open_whole, refuse_lines};
 use crate::stale::Stale;
 use crate::summary::summary;
 use crate::terminals::{Terminals, allow, announce};
@@ -20,7 +20,7 @@ use g1_command::{Refusal, deliver, deliver_text, refuse};
 use g1_image::Image;
 use g1_kept::{Lost, kept};
 use g1_rem::verify;
-use g1_same::{Difference, compare};
+use g1_same::{Difference, Renaming, compare};
 use g1_text::{image_lines, is_graph, make, make_graph, object_line, region_lines};
 use g1_words::{Fault, Heap, Kind, object_at};
 use std::alloc::{AllocError, Global};
@@ -146,10 +146,14 @@ fn compare_files<T: Threads + Sync + Files, R: Read>(
     same: &Same,
     reader: &mut R,
 ) -> Result<(u8, String), Refusal> {
-    let (found, lines) = read_side(rt, alloc, same.before.as_str(), reader)?;
-    let before = open(alloc, same.before.as_str(), found, lines.as_slice())?;
-    let before = without_strays(alloc, same.before.as_str(), before)?;
-    compare_to_after(rt, alloc, same, &before, reader)
+    let name = same.before.as_str();
+    match read_side(rt, alloc, name, reader) {
+        Ok((found, lines)) => {
+            let before = open_whole(alloc, name, found, lines.as_slice())?;
+            compare_to_after(rt, alloc, same, &before, reader)
+        }
+        Err(refusal) => Err(refusal),
+    }
 }
 
 fn compare_to_after<T: Threads + Sync + Files, R: Read>(
@@ -159,14 +163,18 @@ fn compare_to_after<T: Threads + Sync + Files, R: Read>(
     before: &Side<'_>,
     reader: &mut R,
 ) -> Result<(u8, String), Refusal> {
-    let (found, lines) = read_side(rt, alloc, same.after.as_str(), reader)?;
-    let after = open(alloc, same.after.as_str(), found, lines.as_slice())?;
-    check_asked(alloc, same, before, &after)?;
-    compare_named(rt, alloc, same, before, after, reader)
+    let name = same.after.as_str();
+    match read_side(rt, alloc, name, reader) {
+        Ok((found, lines)) => {
+            let after = open(alloc, name, found, lines.as_slice())?;
+            compare_to_side(rt, alloc, same, before, after, reader)
+        }
+        Err(refusal) => Err(refusal),
+    }
 }
 
-// The names of the program are read when both heaps are.
-fn compare_named<T: Threads + Sync + Files, R: Read>(
+// Only what is the same is asked for cover.
+fn compare_to_side<T: Threads + Sync + Files, R: Read>(
     rt: &T,
     alloc: Global,
     same: &Same,
@@ -174,12 +182,39 @@ fn compare_named<T: Threads + Sync + Files, R: Read>(
     after: Side<'_>,
     reader: &mut R,
 ) -> Result<(u8, String), Refusal> {
+    match compare_asked(rt, alloc, same, before, &after, reader) {
+        Ok((0, text)) if same.covered => with_cover(text, check_cover(rt, alloc, same, after)),
+        compared => compared,
+    }
+}
+
+fn compare_asked<T: Files, R: Read>(
+    rt: &T,
+    alloc: Global,
+    same: &Same,
+    before: &Side<'_>,
+    after: &Side<'_>,
+    reader: &mut R,
+) -> Result<(u8, String), Refusal> {
+    check_asked(alloc, same, before, after)?;
+    compare_named(rt, alloc, same, before, after, reader)
+}
+
+// The names of the program are read when both heaps are.
+fn compare_named<T: Files, R: Read>(
+    rt: &T,
+    alloc: Global,
+    same: &Same,
+    before: &Side<'_>,
+    after: &Side<'_>,
+    reader: &mut R,
+) -> Result<(u8, String), Refusal> {
     let Some(name) = &same.names else {
-        return compare_sides(rt, alloc, same, None, before, after);
+        return compare_sides(alloc, same, None, before, after);
     };
     let text = read_bytes(rt, alloc, name.as_str(), reader)?;
     let names = names_in(alloc, name.as_str(), text.as_slice())?;
-    compare_sides(rt, alloc, same, Some(&names), before, after)
+    compare_sides(alloc, same, Some(&names), before, after)
 }
 
 // Lines of objects by name have no regions of the program's own, and no addresses.
@@ -209,25 +244,17 @@ fn names_in<'a>(alloc: Global, file: &str, text: &'a [u8]) -> Result<Names<'a>, 
     }
 }
 
-fn compare_sides<T: Threads + Sync>(
-    rt: &T,
+fn compare_sides(
     alloc: Global,
     same: &Same,
     names: Option<&Names<'_>>,
     before: &Side<'_>,
-    after: Side<'_>,
+    after: &Side<'_>,
 ) -> Result<(u8, String), Refusal> {
-    let sides = sides_of(names, before, &after);
-    let (status, text) = match &after.stale {
-        None => compare_heaps(alloc, same, sides)?,
-        Some(strays) => compare_stale(alloc, same, sides, strays)?,
-    };
-    if status == 0 && same.covered {
-        let Side { image, .. } = after;
-        let image = with_young(alloc, same, image)?;
-        with_cover(alloc, same, text, uncovered(rt, alloc, image))
-    } else {
-        Ok((status, text))
+    let sides = sides_of(names, before, after);
+    match &after.stale {
+        None => compare_heaps(alloc, same, sides),
+        Some(strays) => compare_stale(alloc, same, sides, strays),
     }
 }
 
@@ -277,22 +304,37 @@ pub fn compare_images<'x>(
 }
 
 fn compare_heaps(alloc: Global, same: &Same, sides: Sides<'_>) -> Result<(u8, String), Refusal> {
-    match &compare(alloc, sides.before, sides.after) {
-        Ok(Ok(renaming)) => {
-            let mut text = same_line(alloc, sides.before, renaming)?;
-            let status = push_kept(alloc, same, sides, &mut text)?;
-            Ok((status, text))
-        }
-        Ok(Err(difference)) => {
-            let line = difference_line(alloc, sides, difference)?;
-            Ok((1, with_all(alloc, same, sides, None, line)?))
-        }
-        Err(fault) => Err(Refusal::Fault(*fault)),
+    match compare(alloc, sides.before, sides.after) {
+        Ok(Ok(renaming)) => same_answer(alloc, same, sides, &renaming),
+        Ok(Err(difference)) => difference_answer(alloc, same, sides, &difference),
+        Err(fault) => Err(Refusal::Fault(fault)),
     }
 }
 
-// The first difference, of those between the graphs and the first stale word that the roots reach. If there is none,
-// the file after is refused for its fault.
+fn same_answer(
+    alloc: Global,
+    same: &Same,
+    sides: Sides<'_>,
+    renaming: &Renaming,
+) -> Result<(u8, String), Refusal> {
+    let mut text = same_line(alloc, sides.before, renaming)?;
+    match push_kept(alloc, same, sides, &mut text) {
+        Ok(status) => Ok((status, text)),
+        Err(refusal) => Err(refusal),
+    }
+}
+
+fn difference_answer(
+    alloc: Global,
+    same: &Same,
+    sides: Sides<'_>,
+    difference: &Difference,
+) -> Result<(u8, String), Refusal> {
+    let line = difference_line(alloc, sides, difference)?;
+    Ok((1, with_all(alloc, same, sides, None, line)?))
+}
+
+// The first difference, of those between the graphs and the first stale word that the roots reach.
 fn compare_stale(
     alloc: Global,
     same: &Same,
@@ -301,18 +343,32 @@ fn compare_stale(
 ) -> Result<(u8, String), Refusal> {
     let stale = &strays.words;
     let first = first_stale(alloc, sides.after, stale)?;
-    let line = match (&compare(alloc, sides.before, sides.after), &first) {
-        (Err(fault), _) => return Err(Refusal::Fault(*fault)),
-        (Ok(Err(difference)), None) => difference_line(alloc, sides, difference)?,
-        (Ok(Err(difference)), Some((path, _))) if !comes_first(path, difference) => {
-            difference_line(alloc, sides, difference)?
+    match compare(alloc, sides.before, sides.after) {
+        Ok(compared) => {
+            let line = stale_answer(alloc, same, sides, strays, &compared, &first)?;
+            Ok((1, with_all(alloc, same, sides, Some(stale), line)?))
         }
-        (Ok(_), Some((path, word))) => stale_line(alloc, sides, path, *word)?,
-        (Ok(Ok(_)), None) => {
-            return Err(refuse_lines(alloc, same.after.as_str(), &[], strays.wrong));
+        Err(fault) => Err(Refusal::Fault(fault)),
+    }
+}
+
+// If there is no difference, the file after is refused for its fault.
+fn stale_answer(
+    alloc: Global,
+    same: &Same,
+    sides: Sides<'_>,
+    strays: &Strays<'_>,
+    compared: &Result<Renaming, Difference>,
+    first: &Option<(Path, u64)>,
+) -> Result<String, Refusal> {
+    match (compared, first) {
+        (Ok(_), None) => Err(refuse_lines(alloc, same.after.as_str(), &[], strays.wrong)),
+        (Err(difference), None) => Ok(difference_line(alloc, sides, difference)?),
+        (Err(difference), Some((path, _))) if !comes_first(path, difference) => {
+            Ok(difference_line(alloc, sides, difference)?)
         }
-    };
-    Ok((1, with_all(alloc, same, sides, Some(stale), line)?))
+        (_, Some((path, word))) => Ok(stale_line(alloc, sides, path, *word)?),
+    }
 }
 
 fn comes_first(path: &Path, difference: &Difference) -> bool {
@@ -401,18 +457,29 @@ fn lost(alloc: Global, same: &Same, old: &Heap, new: &Heap) -> Result<Option<Los
 }
 
 // The line of cover, or the refusal if a slot lacks it.
-fn with_cover(
+fn with_cover(text: String, checked: Result<(), Refusal>) -> Result<(u8, String), Refusal> {
+    match checked {
+        Ok(()) => {
+            let mut text = text;
+            text.push_str("covered\n")?;
+            Ok((0, text))
+        }
+        Err(refusal) => Err(refusal),
+    }
+}
+
+fn check_cover<T: Threads + Sync>(
+    rt: &T,
     alloc: Global,
     same: &Same,
-    text: String,
-    lacks: Option<Fault>,
-) -> Result<(u8, String), Refusal> {
-    if let Some(fault) = lacks {
-        return Err(of_file(alloc, same.after.as_str(), fault));
+    after: Side<'_>,
+) -> Result<(), Refusal> {
+    let Side { image, .. } = after;
+    let image = with_young(alloc, same, image)?;
+    match uncovered(rt, alloc, image) {
+        Some(fault) => Err(of_file(alloc, same.after.as_str(), fault)),
+        None => Ok(()),
     }
-    let mut text = text;
-    text.push_str("covered\n")?;
-    Ok((0, text))
 }
 
 fn uncovered<T: Threads + Sync>(rt: &T, alloc: Global, image: Image) -> Option<Fault> {

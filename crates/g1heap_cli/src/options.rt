@@ -2,10 +2,8 @@
 use crate::files::STANDARD_STREAM;
 use crate::output::Output;
 use crate::regions::{regions_in, tie};
-use crate::usage::{
-    ADDRESS, AFTER, ALL, BEFORE, BUDGET, COVERED, EXPLAINED, FILL, IMAGE, IMAGE_AFTER, LINES, LIVE,
-    MAP, NAMES, NUMBERED, OBJECT, OUTPUT, REGION, SET, SUMMARY, TRACED, YOUNG, commands, program,
-};
+use crate::usage as table;
+use crate::usage::{commands, program};
 use clap::ArgMatches;
 use g1_choose::Cost;
 use g1_command::{
@@ -106,6 +104,51 @@ pub enum Part {
     /// Its numbers alone.
     Summary,
 }
+
+// The arguments that are read here, as statics: a constant is checked again in each function that uses it.
+static ADDRESS: Argument = table::ADDRESS;
+
+static AFTER: Argument = table::AFTER;
+
+static ALL: Argument = table::ALL;
+
+static BEFORE: Argument = table::BEFORE;
+
+static BUDGET: Argument = table::BUDGET;
+
+static COVERED: Argument = table::COVERED;
+
+static EXPLAINED: Argument = table::EXPLAINED;
+
+static FILL: Argument = table::FILL;
+
+static IMAGE: Argument = table::IMAGE;
+
+static IMAGE_AFTER: Argument = table::IMAGE_AFTER;
+
+static LINES: Argument = table::LINES;
+
+static LIVE: Argument = table::LIVE;
+
+static MAP: Argument = table::MAP;
+
+static NAMES: Argument = table::NAMES;
+
+static NUMBERED: Argument = table::NUMBERED;
+
+static OBJECT: Argument = table::OBJECT;
+
+static OUTPUT: Argument = table::OUTPUT;
+
+static REGION: Argument = table::REGION;
+
+static SET: Argument = table::SET;
+
+static SUMMARY: Argument = table::SUMMARY;
+
+static TRACED: Argument = table::TRACED;
+
+static YOUNG: Argument = table::YOUNG;
 
 fn part_of(alloc: Global, values: &ArgMatches<'_>) -> Result<Part, Misuse> {
     if values.get_flag(SUMMARY.id) {

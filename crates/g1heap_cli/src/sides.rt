@@ -57,6 +57,22 @@ pub fn open<'a>(
     }
 }
 
+/// Opens what a file has as `open` does, and refuses it if words reference no object.
+pub fn open_whole<'a>(
+    alloc: Global,
+    name: &str,
+    found: Found,
+    lines: &'a [u8],
+) -> Result<Side<'a>, Refusal> {
+    match open(alloc, name, found, lines) {
+        Ok(side) => match &side.stale {
+            Some(strays) => Err(refuse_lines(alloc, name, &[], strays.wrong)),
+            None => Ok(side),
+        },
+        Err(refusal) => Err(refusal),
+    }
+}
+
 // Lines with names that no object has are an image once these names are null.
 fn open_lines<'a>(alloc: Global, name: &str, lines: &'a [u8]) -> Result<Side<'a>, Refusal> {
     let graph = match read_graph(alloc, lines) {
@@ -106,12 +122,4 @@ pub fn refuse_lines(alloc: Global, name: &str, bytes: &[u8], wrong: Wrong) -> Re
         Wrong::Line { number, expected } => wrong_line(alloc, name, bytes, number, &expected),
         Wrong::Fault(fault) => of_file(alloc, name, fault),
     }
-}
-
-/// The same side, which is refused if words reference no object.
-pub fn without_strays<'a>(alloc: Global, name: &str, side: Side<'a>) -> Result<Side<'a>, Refusal> {
-    if let Some(strays) = &side.stale {
-        return Err(refuse_lines(alloc, name, &[], strays.wrong));
-    }
-    Ok(side)
 }

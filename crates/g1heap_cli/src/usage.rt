@@ -260,7 +260,7 @@ pub const IMAGE: Argument = Argument {
 };
 
 const IMAGE_OR_INPUT: Argument = Argument {
-    form: Form::PlaceOr(STANDARD_STREAM),
+    default: &[STANDARD_STREAM],
     ..IMAGE
 };
 
@@ -292,7 +292,7 @@ pub const SUMMARY: Argument = Argument {
 
 pub const LINES: Argument = Argument {
     id: "lines",
-    form: Form::PlaceOr(STANDARD_STREAM),
+    default: &[STANDARD_STREAM],
     values: &["LINES"],
     help: "The lines, or - for standard input",
     ..FILE
@@ -300,7 +300,7 @@ pub const LINES: Argument = Argument {
 
 pub const OUTPUT: Argument = Argument {
     id: "output",
-    form: Form::ValueByLetter('o'),
+    letter: Some('o'),
     values: &["FILE"],
     help: "Writes this file, once the answer is whole, or - for standard output",
     ..VALUE
@@ -337,7 +337,7 @@ pub const ADDRESS: Argument = Argument {
 
 pub const TRACED: Argument = Argument {
     id: "trace",
-    form: Form::PlaceOr(STANDARD_STREAM),
+    default: &[STANDARD_STREAM],
     values: &["TRACE"],
     help: "A trace, or - for standard input",
     ..FILE

@@ -1,11 +1,12 @@
 //! The command line.
-use crate::usage::{CHUNK, REGIONS, REPACK, WORKERS, commands, program};
+use crate::usage as table;
+use crate::usage::{commands, program};
 use clap::error::ErrorKind;
 use clap::{ArgMatches, Error};
 use g1_choose::Cost;
 use g1_command::{
-    BUDGET, Misuse, Program, Refusal, cost_of, explain, find_command, match_words, number, regions,
-    required_number,
+    Argument, Misuse, Program, Refusal, cost_of, explain, find_command, match_words, number,
+    regions, required_number,
 };
 use std::alloc::{AllocError, Global};
 
@@ -60,6 +61,17 @@ pub struct Sharing {
     /// How many items a worker draws at once.
     pub chunk: u64,
 }
+
+// The arguments that are read here, as statics: a constant is checked again in each function that uses it.
+static BUDGET: Argument = g1_command::BUDGET;
+
+static CHUNK: Argument = table::CHUNK;
+
+static REGIONS: Argument = table::REGIONS;
+
+static REPACK: Argument = table::REPACK;
+
+static WORKERS: Argument = table::WORKERS;
 
 fn sharing_of(alloc: Global, values: &ArgMatches<'_>) -> Result<Sharing, Misuse> {
     Ok(Sharing {

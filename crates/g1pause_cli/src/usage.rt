@@ -153,7 +153,7 @@ Example: g1pause run < TRACE",
 
 pub const WORKERS: Argument = Argument {
     id: "workers",
-    form: Form::ValueOr("1"),
+    default: &["1"],
     help: "How many workers share the work, 1 to 64",
     range: "1 to 64",
     ..VALUE
@@ -162,7 +162,7 @@ pub const WORKERS: Argument = Argument {
 /// How many items a worker draws at once. What an item is depends on the command.
 pub const CHUNK: Argument = Argument {
     id: "chunk",
-    form: Form::ValueOr("64"),
+    default: &["64"],
     help: "How many roots, cards or objects a worker draws at once, 1 to 65536",
     range: "1 to 65536",
     ..VALUE
