@@ -132,6 +132,20 @@ fn mark_by_threads(
     Ok(lists.concat(alloc)?)
 }
 
+/// How many words of a window's ordinary regions are used. A humongous object is one step of a walk,
+/// whatever its size, so its words feed no thread.
+fn ordinary_words(heap: &Heap, window: &[u32]) -> usize {
+    let mut words: usize = 0;
+    for number in window {
+        if let Some(region) = heap.regions().get(*number as usize) {
+            if region.kind.is_ordinary() {
+                words = words.saturating_add(region.top as usize);
+            }
+        }
+    }
+    words
+}
+
 /// As `mark_window`, by this many workers at most. One if it is 0.
 fn mark_by(
     rt: &(impl Threads + Sync),
@@ -195,7 +209,8 @@ impl Numbers {
         ensures starts { IfOk result (AreStarts heap.now window.now) }
         ensures memory { IfErr result (λ e. e ≡ Memory) }
     {
-        let starts = mark_by(rt, alloc, heap, window, workers)?;
+        let threads = threads_for(workers, ordinary_words(heap, window), WORDS_A_THREAD);
+        let starts = mark_by(rt, alloc, heap, window, threads as u64)?;
         Ok(count_starts(alloc, starts.as_slice())?)
     }
 
