@@ -62,8 +62,8 @@ pub enum Found {
     Image(After),
 }
 
-/// What is in a file, or what the reader gives, with the bytes if they are lines. A file whose fault is a reference
-/// is read once more, and what can be read only once is kept as bytes, so that its stale words are found.
+/// What is in a file, or what the reader gives, with the bytes if they are lines. A file whose fault is a reference or
+/// the magic is read once more, as bytes: its stale words are found, or its lines behind comments.
 pub fn read_side<T: Files, R: Read>(
     rt: &T,
     alloc: Global,
