@@ -16,15 +16,21 @@ use byteorder::{ByteOrder, LittleEndian};
 use g1_words::Fault;
 use std::alloc::{AllocError, Global};
 
+// So many words at most are read at once: few enough to be in the nearest cache when they are written at
+// the end. So no zeros are written there first.
+const WORDS_AT_ONCE: u32 = 512;
+
 /// Writes the first words of the bytes at the end.
 fn push_read(out: &mut Vec<u64>, count: u32, bytes: &[u8]) -> Result<(), AllocError>
-    requires { 8 * count ≤ length bytes.now }
+    requires few { count ≤ 512 }
+    requires there { 8 * count ≤ length bytes.now }
     ensures { OnOk result (out.new.items ≡ out.old.items ++ words_of count bytes.now) }
 {
-    let start = out.len();
     let count = count as usize;
-    out.resize(start + count, 0)?;
-    LittleEndian::read_u64_into(&bytes[..8 * count], &mut out[start..]);
+    let mut room = [0u64; WORDS_AT_ONCE as usize];
+    let words = &mut room[..count];
+    LittleEndian::read_u64_into(&bytes[..8 * count], words);
+    out.extend_from_slice(words)?;
     Ok(())
 }
 
@@ -73,7 +79,7 @@ fn push_next<S: Source>(
 {
     let mut left = count;
     while left > 0 {
-        let here = words_ahead(source, ahead, left)?;
+        let here = words_ahead(source, ahead, left.min(WORDS_AT_ONCE))?;
         push_read(out, here, ahead.bytes())?;
         ahead.pass(8 * here as usize);
         left -= here;

@@ -1,4 +1,5 @@
-use Rattle.std.proofs.Common.{ap, ◌∙◌, ◌++◌}
+use Rattle.std.proofs.Common.{arith, ◌≤◌, ap, ◌∙◌, ◌++◌}
+use Rattle.std.proofs.Math.Nat.{min-le_left}
 use Rattle.std.proofs.lemmas.Result.{err_from_is_err_and}
 use Rattle.g1_image.specs.Text.{words_of}
 use Rattle.g1_image.specs.Ahead.{waiting}
@@ -24,6 +25,7 @@ returns-clause-ok g c = pushed_all _ _ _ _ c.args.count c.loop-left.left c.args.
 pub loop-left-preserved : goal.loop-left-preserved
 loop-left-preserved g c =
     let count = c.in_ok-here.ensures.count in
+    let few : c.min.result ≤ c.loop-left.left = rw c.min.ensures (min-le_left c.loop-left.left 512) in
     let now = c.words_ahead.new.ahead in
     let here = c.in_ok-here.here in
     record {
@@ -31,5 +33,5 @@ loop-left-preserved g c =
       part = pushed_more _ _ _ _ _ (g.S.Source.left c.words_ahead.new.source) c.args.count c.loop-left.left here (waiting now)
           (waiting c.pass.new.self) c.args.out.now.items c.loop-left.out.items c.push_read.new.out.items
           c.loop-left.invariant.part c.in_ok-here.ensures.mark c.in_ok-here.ensures.kept
-          c.in_ok-here.ensures.are_bytes count.1 count.2 c.pass.ensures.left (c.in_ok-push_read.ensures ∙ ap (λ b. c.loop-left.out.items ++ words_of here b) c.bytes.ensures.same);
+          c.in_ok-here.ensures.are_bytes (omega (arith, count.1, few)) count.2 c.pass.ensures.left (c.in_ok-push_read.ensures ∙ ap (λ b. c.loop-left.out.items ++ words_of here b) c.bytes.ensures.same);
     }
