@@ -24,7 +24,7 @@ from programs import add_program  # noqa: E402
 from refusing import Judge, run  # noqa: E402
 
 WORKERS = ("2", "3", "4", "7", "64")
-THREAD_WORDS = 65_536  # a thread starts for this many words
+THREAD_WORDS = 131_072  # a thread starts for this many words
 FAULTS = {"6": "shape", "7": "reference", "8": "card", "9": "uncovered"}
 
 

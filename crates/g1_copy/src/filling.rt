@@ -10,8 +10,8 @@ use crate::preparing::Prepared;
 use g1_work::{Fill, Gate, MOST_WORKERS, each_region_mut, threads_for};
 use std::thread::Threads;
 
-// A thread takes as long to start as it takes to write this many words, 512 KB.
-const WORDS_A_RUN: usize = 65_536;
+// A thread takes as long to start and to join as it takes to write this many words, 1 MB.
+const WORDS_A_RUN: usize = 131_072;
 
 // One worker is fastest for a heap of fewer words, as those of tests. Up to four are hired for it, so
 // that tests see threads write.

@@ -137,20 +137,20 @@ const FIELD_AFTER: &str = "G1IMAGE2 4096 64 128 1 0 128 \
 /// The root and the cards of the slots are one chunk, and the objects of the field 64.
 const CHUNK: u64 = 2_060;
 
-/// Each of 64 regions, of as many words as are worth a worker, has one object, which is dead.
-const WIDE: &str = "G1IMAGE2 65536 64 64 0 0 64 1,1,0*64 0*64 1/0*64";
+/// Each of 128 regions, two of which have as many words as are worth a worker, has one object, which is dead.
+const WIDE: &str = "G1IMAGE2 65536 64 128 0 0 128 1,1,0*128 0*128 1/0*128";
 
-const WIDE_AFTER: &str = "G1IMAGE2 65536 64 64 0 0 64 0,0,0*64 0*64";
+const WIDE_AFTER: &str = "G1IMAGE2 65536 64 128 0 0 128 0,0,0*128 0*128";
 
-/// All search the field, and six write it: the words of 64 regions, and as many patches as the object has slots. All write the
+/// All search the field, and three write it: the words of 64 regions, and as many patches as the object has slots. All write the
 /// wide heap.
 #[test]
 fn all_workers_search_and_write_at_once(rt: HostRuntime) -> Result<(), Fail> {
     let alloc = rt.alloc();
     for (before, after, regions, part, workers) in [
         (FIELD, FIELD_AFTER, (33, 65), Part::Deal, 64),
-        (FIELD, FIELD_AFTER, (33, 65), Part::Fill, 6),
-        (WIDE, WIDE_AFTER, (0, 64), Part::Fill, 64),
+        (FIELD, FIELD_AFTER, (33, 65), Part::Fill, 3),
+        (WIDE, WIDE_AFTER, (0, 128), Part::Fill, 64),
     ] {
         let gate = Crowd::new(&rt, part, workers, 1);
         let set = (regions.0..regions.1).collect::<Vec<u32>>(alloc)?;

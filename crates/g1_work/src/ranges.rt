@@ -5,9 +5,9 @@ ghost use Rattle.g1_work.specs.Ranges.{IsCut};
 use g1_words::Region;
 use std::alloc::{AllocError, Global};
 
-/// A thread is worth starting for this many words: to walk over their objects takes some 100
-/// microseconds, and a thread takes tens of microseconds to start.
-pub const WORDS_A_THREAD: usize = 65_536;
+/// A thread is worth starting for this many words: to walk over their objects takes some 200
+/// microseconds, and a thread costs about 100 to start and to join.
+pub const WORDS_A_THREAD: usize = 131_072;
 
 /// How many words of all regions are used.
 fn used_words(regions: &[Region]) -> u64 {
