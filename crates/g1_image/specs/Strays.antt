@@ -19,6 +19,10 @@ abbrev pub IsFirstStray : Heap → ℕ → ℕ → Option ℕ → Type 0
 IsFirstStray h from to None = SlotsBetween h from to
 IsFirstStray h from to (Some p) = IsFirstBreach (IsGoodFrom h from) (h.geometry.n * h.geometry.w) p
 
+-- the answer is the first of all of them
+abbrev pub IsFirstStrayOf : Heap → Option ℕ → Type 0
+IsFirstStrayOf h found = IsFirstStray h 0 (h.geometry.n * h.geometry.w) found
+
 -- the answer is the first of those in a range of regions, by where each range begins
 abbrev pub IsFirstStrayIn : Heap → List ℕ → ℕ → Option ℕ → Type 0
 IsFirstStrayIn h begins j found = IsFirstStray h (start h (slice_index begins j)) (start h (slice_index begins (j + 1))) found

@@ -1,11 +1,11 @@
 //! The slots of a heap, shared by threads in ranges of regions.
-ghost use Rattle.std.specs.Prelude.{◌≡◌, ◌≤◌, ◌<◌, ◌⊎◌, ◌+◌, ◌*◌, ℕ, List, Option, slice_index, OnOk, IfOk, IfErr};
+ghost use Rattle.std.specs.Prelude.{◌≡◌, ◌≤◌, ◌<◌, ◌⊎◌, ◌+◌, ◌*◌, OnOk, IfOk, IfErr};
 ghost use Rattle.g1_words.specs.Heap.{start};
 ghost use Rattle.g1_work.specs.Ranges.{IsRange};
 ghost use Rattle.g1_image.specs.Draft.{ShapedBelow};
-ghost use Rattle.g1_image.specs.Marks.{StartsAre};
-ghost use Rattle.g1_image.specs.Faults.{IsFirstBreach, IsGoodSlot, SlotsAreGood};
-ghost use Rattle.g1_image.specs.Strays.{IsFirstStray, IsFirstStrayIn, StartBefore};
+ghost use Rattle.g1_image.specs.Faults.{SlotsAreGood};
+ghost use Rattle.g1_image.specs.Strays.{IsFirstStray, IsFirstStrayIn, IsFirstStrayOf, StartBefore};
+ghost use Rattle.g1_image.specs.Checks.{AreShapedStarts, IsStrayFault};
 
 use crate::draft::Draft;
 use crate::refs::first_stray;
@@ -34,8 +34,7 @@ fn starts_end(draft: &Draft, r: u32) -> u64
 
 /// The first slot that references no object, of the objects that start between two addresses.
 fn first_between(draft: &Draft, marks: &Marks, from: usize, to: usize) -> Option<u64>
-    requires starts { StartsAre draft.now marks.now }
-    requires shaped { ShapedBelow draft.now draft.now.geometry.n }
+    requires marked { AreShapedStarts draft.now marks.now }
     requires within { to ≤ draft.now.geometry.n * draft.now.geometry.w }
     ensures { IsFirstStray draft.now from to result }
 {
@@ -57,8 +56,7 @@ fn first_between(draft: &Draft, marks: &Marks, from: usize, to: usize) -> Option
 
 /// The first slot that references no object, of the objects that start in a region.
 fn first_in(draft: &Draft, marks: &Marks, r: u32) -> Option<u64>
-    requires starts { StartsAre draft.now marks.now }
-    requires shaped { ShapedBelow draft.now draft.now.geometry.n }
+    requires marked { AreShapedStarts draft.now marks.now }
     requires there { r < draft.now.geometry.n }
     ensures { IsFirstStray draft.now (start draft.now r) (start draft.now (r + 1)) result }
 {
@@ -69,8 +67,7 @@ fn first_in(draft: &Draft, marks: &Marks, r: u32) -> Option<u64>
 
 /// The first slot that references no object, of the objects that start in some regions.
 fn first_of(draft: &Draft, marks: &Marks, from: u32, to: u32) -> Option<u64>
-    requires starts { StartsAre draft.now marks.now }
-    requires shaped { ShapedBelow draft.now draft.now.geometry.n }
+    requires marked { AreShapedStarts draft.now marks.now }
     requires order { from ≤ to }
     requires regions { to ≤ draft.now.geometry.n }
     ensures { IsFirstStray draft.now (start draft.now from) (start draft.now to) result }
@@ -94,7 +91,7 @@ struct Straying<'a> {
 impl Make for Straying<'_> {
     type Made = Option<u64>;
 
-    ghost ready = { λ s j. StartsAre s.draft.now s.marks.now × ShapedBelow s.draft.now s.draft.now.geometry.n × IsRange s.draft.now.geometry.n s.cut.now j };
+    ghost ready = { λ s j. AreShapedStarts s.draft.now s.marks.now × IsRange s.draft.now.geometry.n s.cut.now j };
 
     ghost makes = { λ s j found. IsFirstStrayIn s.draft.now s.cut.now j found };
 
@@ -112,9 +109,8 @@ fn first_by_threads(
     threads: usize,
 ) -> Result<Option<u64>, Fault>
     requires some { 0 < threads }
-    requires starts { StartsAre draft.now marks.now }
-    requires shaped { ShapedBelow draft.now draft.now.geometry.n }
-    ensures ok { IfOk result (IsFirstStray draft.now 0 (draft.now.geometry.n * draft.now.geometry.w)) }
+    requires marked { AreShapedStarts draft.now marks.now }
+    ensures ok { IfOk result (IsFirstStrayOf draft.now) }
     ensures memory { IfErr result (λ e. e ≡ Fault.Memory) }
 {
     let cut = cut_regions(alloc, draft.regions(), threads)?;
@@ -129,18 +125,17 @@ fn first_by_threads(
 
 /// The first slot that references no object.
 fn first_alone(draft: &Draft, marks: &Marks) -> Option<u64>
-    requires starts { StartsAre draft.now marks.now }
-    requires shaped { ShapedBelow draft.now draft.now.geometry.n }
-    ensures { IsFirstStray draft.now 0 (draft.now.geometry.n * draft.now.geometry.w) result }
+    requires { AreShapedStarts draft.now marks.now }
+    ensures { IsFirstStrayOf draft.now result }
 {
     first_of(draft, marks, 0, draft.geometry().regions() as u32)
 }
 
 /// The fault of the first slot that references no object, if there is one.
 fn fault_of(draft: &Draft, found: Option<u64>) -> Result<(), Fault>
-    requires { IsFirstStray draft.now 0 (draft.now.geometry.n * draft.now.geometry.w) found }
+    requires { IsFirstStrayOf draft.now found }
     ensures ok { OnOk result (SlotsAreGood draft.now) }
-    ensures err { IfErr result (λ e. (p : ℕ) × (e ≡ Fault.Reference (Place.Slot p)) × IsFirstBreach (IsGoodSlot draft.now) (draft.now.geometry.n * draft.now.geometry.w) p) }
+    ensures err { IfErr result (IsStrayFault draft.now) }
 {
     match found {
         Some(p) => Err(Fault::Reference(Place::Slot(p))),
@@ -150,10 +145,9 @@ fn fault_of(draft: &Draft, found: Option<u64>) -> Result<(), Fault>
 
 /// Returns the first slot that references no object.
 pub(crate) fn check_slots(draft: &Draft, marks: &Marks) -> Result<(), Fault>
-    requires starts { StartsAre draft.now marks.now }
-    requires shaped { ShapedBelow draft.now draft.now.geometry.n }
+    requires { AreShapedStarts draft.now marks.now }
     ensures ok { OnOk result (SlotsAreGood draft.now) }
-    ensures err { IfErr result (λ e. (p : ℕ) × (e ≡ Fault.Reference (Place.Slot p)) × IsFirstBreach (IsGoodSlot draft.now) (draft.now.geometry.n * draft.now.geometry.w) p) }
+    ensures err { IfErr result (IsStrayFault draft.now) }
 {
     fault_of(draft, first_alone(draft, marks))
 }
@@ -166,9 +160,8 @@ fn first_by(
     marks: &Marks,
     workers: u64,
 ) -> Result<Option<u64>, Fault>
-    requires starts { StartsAre draft.now marks.now }
-    requires shaped { ShapedBelow draft.now draft.now.geometry.n }
-    ensures ok { IfOk result (IsFirstStray draft.now 0 (draft.now.geometry.n * draft.now.geometry.w)) }
+    requires { AreShapedStarts draft.now marks.now }
+    ensures ok { IfOk result (IsFirstStrayOf draft.now) }
     ensures memory { IfErr result (λ e. e ≡ Fault.Memory) }
 {
     match threads_for(workers, draft.words().len(), WORDS_A_THREAD) {
@@ -185,10 +178,9 @@ pub(crate) fn check_slots_by(
     marks: &Marks,
     workers: u64,
 ) -> Result<(), Fault>
-    requires starts { StartsAre draft.now marks.now }
-    requires shaped { ShapedBelow draft.now draft.now.geometry.n }
+    requires { AreShapedStarts draft.now marks.now }
     ensures ok { OnOk result (SlotsAreGood draft.now) }
-    ensures err { IfErr result (λ e. (e ≡ Fault.Memory) ⊎ ((p : ℕ) × (e ≡ Fault.Reference (Place.Slot p)) × IsFirstBreach (IsGoodSlot draft.now) (draft.now.geometry.n * draft.now.geometry.w) p)) }
+    ensures err { IfErr result (λ e. (e ≡ Fault.Memory) ⊎ IsStrayFault draft.now e) }
 {
     let found = first_by(rt, alloc, draft, marks, workers)?;
     fault_of(draft, found)

@@ -12,7 +12,7 @@ make_each-requires-clause-ready g c κs within = λ i lt.
     let n : length c.regions.result.now ≡ c.args.draft.now.geometry.n = ap length c.regions.ensures.same ∙ c.regions.ensures.draft.region_count in
     let cut : IsCut c.args.draft.now.geometry.n c.args.threads c.deref.result.now =
     subst (λ l. IsCut c.args.draft.now.geometry.n c.args.threads l) (sym c.deref.ensures.value) (subst (λ x. IsCut x c.args.threads c.in_ok-cut.cut.items) n c.in_ok-cut.ensures) in
-    (c.requires.starts, c.requires.shaped, cut.each i lt)
+    (c.requires.marked, cut.each i lt)
 
 pub returns-clause-ok : goal.returns-clause-ok
 returns-clause-ok g c =
