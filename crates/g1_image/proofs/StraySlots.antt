@@ -1,5 +1,5 @@
 -- The first stray slot of some regions, of those of ranges that follow one another.
-use Rattle.std.proofs.Common.{◌≡◌, ◌≤◌, ◌<◌, ℕ, zero, suc, ◌+◌, ◌*◌, inl, inr, List, [], ◌∷◌, length, drop, slice_index, slice_index_or, arith, refl, sym, ap, subst, ◌∙◌}
+use Rattle.std.proofs.Common.{◌≡◌, ◌≤◌, ◌<◌, ℕ, zero, suc, ◌+◌, ◌*◌, inl, inr, List, [], ◌∷◌, slice_index, arith, refl, ap, subst, ◌∙◌}
 use Rattle.std.specs.Prelude.{Option, None, Some}
 use Rattle.std.specs.List.{range_with_len, AllZip}
 use Rattle.std.proofs.lemmas.Bool.{cases_lt}
@@ -10,11 +10,11 @@ use Rattle.g1_words.specs.declared.object.Object.{Object}
 use Rattle.g1_words.specs.declared.region.Kind.{Kind}
 use Rattle.g1_words.specs.declared.region.Kind.TheVariants.{Free, Ordinary, HumongousFirst, Continuation}
 use Rattle.g1_words.proofs.Objects.{Within, stands_within}
-use Rattle.g1_work.specs.Ranges.{IsCut}
+use Rattle.g1_work.specs.Ranges.{IsCut, first_some}
 use Rattle.g1_image.specs.Draft.{ShapedBelow}
 use Rattle.g1_image.specs.Marks.{StartsIn}
 use Rattle.g1_image.specs.Faults.{IsFirstBreach, IsGoodSlot}
-use Rattle.g1_image.specs.Strays.{SlotsBetween, IsFirstStray, IsFirstStrayIn, AreFirstStrays, first_some}
+use Rattle.g1_image.specs.Strays.{SlotsBetween, IsFirstStray, IsFirstStrayIn, AreFirstStrays}
 use Rattle.g1_image.proofs.Rows.{in_place, stands_starts}
 
 -- a region that an address lies in
@@ -103,22 +103,3 @@ stray_breach h p first = record {
   breach = λ g. first.breach (λ o has ge slot. g o has slot);
   before = λ q lt o has slot. first.before q lt o has (omega arith) slot;
 }
-
--- the first value of a list, one after the other
-pub some_found : (found : List (Option ℕ)) (k p : ℕ) → k < length found → slice_index_or found k None ≡ Some p → first_some (drop k found) ≡ Some p
-some_found [] k p lt e = absurd (omega (arith, lt))
-some_found (x ∷ found) zero p lt e = ap (λ y. first_some (y ∷ found)) e
-some_found (x ∷ found) (suc k) p lt e = some_found found k p (omega (arith, lt)) e
-
-pub some_passed : (found : List (Option ℕ)) (k : ℕ) → k < length found → slice_index_or found k None ≡ None → first_some (drop k found) ≡ first_some (drop (k + 1) found)
-some_passed [] k lt e = absurd (omega (arith, lt))
-some_passed (x ∷ found) zero lt e = ap (λ y. first_some (y ∷ found)) e
-some_passed (x ∷ found) (suc k) lt e =
-    let next : suc k + 1 ≡ suc (k + 1) = omega arith in
-    some_passed found k (omega (arith, lt)) e ∙ sym (ap (λ m. first_some (drop m (x ∷ found))) next)
-
-pub some_over : (found : List (Option ℕ)) (k : ℕ) → length found ≤ k → first_some (drop k found) ≡ None
-some_over [] zero le = refl
-some_over [] (suc k) le = refl
-some_over (x ∷ found) zero le = absurd (omega (arith, le))
-some_over (x ∷ found) (suc k) le = some_over found k (omega (arith, le))

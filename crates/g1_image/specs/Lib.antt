@@ -10,6 +10,7 @@ pub mod Draft
 pub mod Marks
 pub mod Strays
 pub mod Shapes
+pub mod Checks
 pub mod Drafted
 pub mod Cards
 pub mod Laws

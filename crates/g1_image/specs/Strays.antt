@@ -1,5 +1,5 @@
 -- Slots that reference no object, found range by range.
-use Rattle.std.specs.Prelude.{◌≤◌, ◌<◌, ℕ, ◌+◌, ◌*◌, List, [], ◌∷◌, Option, None, Some, slice_index}
+use Rattle.std.specs.Prelude.{◌≤◌, ◌<◌, ℕ, ◌+◌, ◌*◌, List, Option, None, Some, slice_index}
 use Rattle.std.specs.List.{range_with_len, AllZip}
 use Rattle.g1_words.specs.Heap.{Heap, start}
 use Rattle.g1_words.specs.Valid.{HasObject, IsSlotOf, IsReference}
@@ -19,6 +19,10 @@ abbrev pub IsFirstStray : Heap → ℕ → ℕ → Option ℕ → Type 0
 IsFirstStray h from to None = SlotsBetween h from to
 IsFirstStray h from to (Some p) = IsFirstBreach (IsGoodFrom h from) (h.geometry.n * h.geometry.w) p
 
+-- the answer is the first of all of them
+abbrev pub IsFirstStrayOf : Heap → Option ℕ → Type 0
+IsFirstStrayOf h found = IsFirstStray h 0 (h.geometry.n * h.geometry.w) found
+
 -- the answer is the first of those in a range of regions, by where each range begins
 abbrev pub IsFirstStrayIn : Heap → List ℕ → ℕ → Option ℕ → Type 0
 IsFirstStrayIn h begins j found = IsFirstStray h (start h (slice_index begins j)) (start h (slice_index begins (j + 1))) found
@@ -26,12 +30,6 @@ IsFirstStrayIn h begins j found = IsFirstStray h (start h (slice_index begins j)
 -- the answers are the first of each range
 abbrev pub AreFirstStrays : Heap → List ℕ → ℕ → List (Option ℕ) → Type 0
 AreFirstStrays h begins ranges found = AllZip (IsFirstStrayIn h begins) (range_with_len 0 ranges) found
-
--- the first value that a list has
-abbrev pub first_some : List (Option ℕ) → Option ℕ
-first_some [] = None
-first_some (Some x ∷ xs) = Some x
-first_some (None ∷ xs) = first_some xs
 
 -- no object starts from an address on and before the end of a region, if it starts in the region
 abbrev pub StartBefore : Heap → ℕ → ℕ → Type 0

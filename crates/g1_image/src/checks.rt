@@ -1,7 +1,6 @@
-ghost use Rattle.std.specs.Prelude.{◌≡◌, ◌⊎◌, OnOk, IfOk, IfErr};
-ghost use Rattle.g1_image.specs.Draft.{ShapedBelow};
-ghost use Rattle.g1_image.specs.Marks.{StartsAre};
-ghost use Rattle.g1_image.specs.Faults.{IsGoodHeap, HeapFault, RootsAreGood};
+ghost use Rattle.std.specs.Prelude.{OnOk, IfOk, IfErr};
+ghost use Rattle.g1_image.specs.Faults.{IsGoodHeap, RootsAreGood};
+ghost use Rattle.g1_image.specs.Checks.{AreShapedStarts, HeapMayFail};
 
 use crate::draft::Draft;
 use crate::refs::check_roots;
@@ -13,10 +12,9 @@ use std::thread::Threads;
 
 /// The addresses where objects start, or the first fault of a heap's regions and roots.
 fn checked_starts(alloc: Global, draft: &Draft) -> Result<Marks, Fault>
-    ensures starts { IfOk result (λ m. StartsAre draft.now m) }
-    ensures shaped { OnOk result (ShapedBelow draft.now draft.now.geometry.n) }
+    ensures ok { IfOk result (AreShapedStarts draft.now) }
     ensures roots { OnOk result (RootsAreGood draft.now) }
-    ensures err { IfErr result (λ e. (e ≡ Fault.Memory) ⊎ HeapFault draft.now e) }
+    ensures err { IfErr result (HeapMayFail draft.now) }
 {
     let marks = shaped_starts(alloc, draft)?;
     check_roots(draft, &marks)?;
@@ -30,10 +28,9 @@ fn checked_starts_by(
     draft: &Draft,
     workers: u64,
 ) -> Result<Marks, Fault>
-    ensures starts { IfOk result (λ m. StartsAre draft.now m) }
-    ensures shaped { OnOk result (ShapedBelow draft.now draft.now.geometry.n) }
+    ensures ok { IfOk result (AreShapedStarts draft.now) }
     ensures roots { OnOk result (RootsAreGood draft.now) }
-    ensures err { IfErr result (λ e. (e ≡ Fault.Memory) ⊎ HeapFault draft.now e) }
+    ensures err { IfErr result (HeapMayFail draft.now) }
 {
     let marks = shaped_starts_by(rt, alloc, draft, workers)?;
     check_roots(draft, &marks)?;
@@ -43,7 +40,7 @@ fn checked_starts_by(
 /// Returns the first fault of a heap's regions and references.
 pub(crate) fn check_heap(alloc: Global, draft: &Draft) -> Result<(), Fault>
     ensures ok { OnOk result (IsGoodHeap draft.now) }
-    ensures err { IfErr result (λ e. (e ≡ Fault.Memory) ⊎ HeapFault draft.now e) }
+    ensures err { IfErr result (HeapMayFail draft.now) }
 {
     let marks = checked_starts(alloc, draft)?;
     check_slots(draft, &marks)?;
@@ -58,7 +55,7 @@ pub(crate) fn check_heap_by(
     workers: u64,
 ) -> Result<(), Fault>
     ensures ok { OnOk result (IsGoodHeap draft.now) }
-    ensures err { IfErr result (λ e. (e ≡ Fault.Memory) ⊎ HeapFault draft.now e) }
+    ensures err { IfErr result (HeapMayFail draft.now) }
 {
     let marks = checked_starts_by(rt, alloc, draft, workers)?;
     check_slots_by(rt, alloc, draft, &marks, workers)?;

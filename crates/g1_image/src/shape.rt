@@ -103,11 +103,7 @@ fn humongous_shaped(draft: &Draft, r: u32) -> bool
     if !geometry.is_humongous(o.size) {
         return false;
     }
-    let least = if o.size < region_words {
-        o.size
-    } else {
-        region_words
-    };
+    let least = o.size.min(region_words);
     if top != least {
         return false;
     }
@@ -146,12 +142,7 @@ fn continuation_shaped(draft: &Draft, r: u32, first: u32, size: u64) -> bool
         return false;
     }
     let left = size - before;
-    let least = if left < region_words {
-        left
-    } else {
-        region_words
-    };
-    top == least
+    top == left.min(region_words)
 }
 
 /// Returns whether a region keeps the rules of its kind, and marks its objects. For a continuation

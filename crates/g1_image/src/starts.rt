@@ -1,11 +1,9 @@
 //! The regions are checked and the starts of their objects marked, in one pass, which threads share
 //! in ranges of regions.
-ghost use Rattle.std.specs.Prelude.{◌≡◌, ◌≤◌, ◌<◌, ◌⊎◌, ◌*◌, ℕ, List, slice_index, length, OnOk, IfOk, IfErr};
-ghost use Rattle.g1_words.specs.Valid.{IsShaped};
+ghost use Rattle.std.specs.Prelude.{◌≡◌, ◌≤◌, ◌<◌, length, IfOk, IfErr};
 ghost use Rattle.g1_work.specs.Ranges.{IsRange};
 ghost use Rattle.g1_image.specs.Draft.{Latest, ShapedBelow};
-ghost use Rattle.g1_image.specs.Marks.{StartsAre};
-ghost use Rattle.g1_image.specs.Faults.{IsFirstBreach};
+ghost use Rattle.g1_image.specs.Checks.{AreShapedStarts, ShapesMayFail};
 ghost use Rattle.g1_image.specs.Shapes.{AreShaped, AreShapedRanges, IsShapedRange, IsMarksBegin, IsMarksCut};
 
 use crate::draft::Draft;
@@ -64,9 +62,8 @@ fn starts_between(
 
 /// The addresses where objects start, or the first region that breaks a rule.
 pub(crate) fn shaped_starts(alloc: Global, draft: &Draft) -> Result<Marks, Fault>
-    ensures starts { IfOk result (λ m. StartsAre draft.now m) }
-    ensures shaped { OnOk result (ShapedBelow draft.now draft.now.geometry.n) }
-    ensures err { IfErr result (λ e. (e ≡ Fault.Memory) ⊎ ((r : ℕ) × (e ≡ Fault.Shape r) × IsFirstBreach (IsShaped draft.now) draft.now.geometry.n r)) }
+    ensures ok { IfOk result (AreShapedStarts draft.now) }
+    ensures err { IfErr result (ShapesMayFail draft.now) }
 {
     let regions = draft.geometry().regions() as u32;
     match starts_between(alloc, draft, 0, regions)? {
@@ -130,9 +127,8 @@ impl Shaping<'_> {
     fn join(&self, alloc: Global, parts: &[Result<Marks, u32>]) -> Result<Marks, Fault>
         requires cut { IsMarksCut self.now.draft.now (length parts.now) (length parts.now) self.now.begins.now }
         requires parts { AreShapedRanges self.now.draft.now self.now.begins.now (length parts.now) parts.now }
-        ensures starts { IfOk result (λ m. StartsAre self.now.draft.now m) }
-        ensures shaped { OnOk result (ShapedBelow self.now.draft.now self.now.draft.now.geometry.n) }
-        ensures err { IfErr result (λ e. (e ≡ Fault.Memory) ⊎ ((r : ℕ) × (e ≡ Fault.Shape r) × IsFirstBreach (IsShaped self.now.draft.now) self.now.draft.now.geometry.n r)) }
+        ensures ok { IfOk result (AreShapedStarts self.now.draft.now) }
+        ensures err { IfErr result (ShapesMayFail self.now.draft.now) }
     {
         let words = self.draft.geometry().words();
         let mut marks = Marks::with_capacity(alloc, words as usize)?;
@@ -154,9 +150,8 @@ fn shaped_by_threads(
     threads: usize,
 ) -> Result<Marks, Fault>
     requires { 0 < threads }
-    ensures starts { IfOk result (λ m. StartsAre draft.now m) }
-    ensures shaped { OnOk result (ShapedBelow draft.now draft.now.geometry.n) }
-    ensures err { IfErr result (λ e. (e ≡ Fault.Memory) ⊎ ((r : ℕ) × (e ≡ Fault.Shape r) × IsFirstBreach (IsShaped draft.now) draft.now.geometry.n r)) }
+    ensures ok { IfOk result (AreShapedStarts draft.now) }
+    ensures err { IfErr result (ShapesMayFail draft.now) }
 {
     let begins = marks_cut(alloc, draft, threads)?;
     let shaping = Shaping {
@@ -174,9 +169,8 @@ pub(crate) fn shaped_starts_by(
     draft: &Draft,
     workers: u64,
 ) -> Result<Marks, Fault>
-    ensures starts { IfOk result (λ m. StartsAre draft.now m) }
-    ensures shaped { OnOk result (ShapedBelow draft.now draft.now.geometry.n) }
-    ensures err { IfErr result (λ e. (e ≡ Fault.Memory) ⊎ ((r : ℕ) × (e ≡ Fault.Shape r) × IsFirstBreach (IsShaped draft.now) draft.now.geometry.n r)) }
+    ensures ok { IfOk result (AreShapedStarts draft.now) }
+    ensures err { IfErr result (ShapesMayFail draft.now) }
 {
     match threads_for(workers, draft.words().len(), WORDS_A_THREAD) {
         1 => shaped_starts(alloc, draft),

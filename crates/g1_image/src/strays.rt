@@ -1,18 +1,17 @@
 //! The slots of a heap, shared by threads in ranges of regions.
-ghost use Rattle.std.specs.Prelude.{◌≡◌, ◌≤◌, ◌<◌, ◌⊎◌, ◌+◌, ◌*◌, ℕ, List, Option, slice_index, OnOk, IfOk, IfErr};
+ghost use Rattle.std.specs.Prelude.{◌≡◌, ◌≤◌, ◌<◌, ◌⊎◌, ◌+◌, ◌*◌, OnOk, IfOk, IfErr};
 ghost use Rattle.g1_words.specs.Heap.{start};
-ghost use Rattle.g1_work.specs.Ranges.{IsCut, IsRange};
+ghost use Rattle.g1_work.specs.Ranges.{IsRange};
 ghost use Rattle.g1_image.specs.Draft.{ShapedBelow};
-ghost use Rattle.g1_image.specs.Marks.{StartsAre};
-ghost use Rattle.g1_image.specs.Faults.{IsFirstBreach, IsGoodSlot, SlotsAreGood};
-ghost use Rattle.g1_image.specs.Strays.{IsFirstStray, IsFirstStrayIn, AreFirstStrays, StartBefore, first_some as the_first};
+ghost use Rattle.g1_image.specs.Faults.{SlotsAreGood};
+ghost use Rattle.g1_image.specs.Strays.{IsFirstStray, IsFirstStrayIn, IsFirstStrayOf, StartBefore};
+ghost use Rattle.g1_image.specs.Checks.{AreShapedStarts, IsStrayFault};
 
 use crate::draft::Draft;
 use crate::refs::first_stray;
 use g1_words::{Fault, Kind, Marks, Place, Region, header, slots};
-use g1_work::{WORDS_A_THREAD, cut_regions, threads_for};
-use rayon::prelude::*;
-use std::alloc::{AllocError, Global};
+use g1_work::{Make, WORDS_A_THREAD, cut_regions, first_found, make_each, threads_for};
+use std::alloc::Global;
 use std::thread::Threads;
 
 /// The address after the last at which an object of a region starts; the region's own start if none
@@ -35,8 +34,7 @@ fn starts_end(draft: &Draft, r: u32) -> u64
 
 /// The first slot that references no object, of the objects that start between two addresses.
 fn first_between(draft: &Draft, marks: &Marks, from: usize, to: usize) -> Option<u64>
-    requires starts { StartsAre draft.now marks.now }
-    requires shaped { ShapedBelow draft.now draft.now.geometry.n }
+    requires marked { AreShapedStarts draft.now marks.now }
     requires within { to ≤ draft.now.geometry.n * draft.now.geometry.w }
     ensures { IsFirstStray draft.now from to result }
 {
@@ -58,8 +56,7 @@ fn first_between(draft: &Draft, marks: &Marks, from: usize, to: usize) -> Option
 
 /// The first slot that references no object, of the objects that start in a region.
 fn first_in(draft: &Draft, marks: &Marks, r: u32) -> Option<u64>
-    requires starts { StartsAre draft.now marks.now }
-    requires shaped { ShapedBelow draft.now draft.now.geometry.n }
+    requires marked { AreShapedStarts draft.now marks.now }
     requires there { r < draft.now.geometry.n }
     ensures { IsFirstStray draft.now (start draft.now r) (start draft.now (r + 1)) result }
 {
@@ -70,8 +67,7 @@ fn first_in(draft: &Draft, marks: &Marks, r: u32) -> Option<u64>
 
 /// The first slot that references no object, of the objects that start in some regions.
 fn first_of(draft: &Draft, marks: &Marks, from: u32, to: u32) -> Option<u64>
-    requires starts { StartsAre draft.now marks.now }
-    requires shaped { ShapedBelow draft.now draft.now.geometry.n }
+    requires marked { AreShapedStarts draft.now marks.now }
     requires order { from ≤ to }
     requires regions { to ≤ draft.now.geometry.n }
     ensures { IsFirstStray draft.now (start draft.now from) (start draft.now to) result }
@@ -84,42 +80,24 @@ fn first_of(draft: &Draft, marks: &Marks, from: u32, to: u32) -> Option<u64>
     None
 }
 
-/// For each range of regions the first slot that references no object, a thread a range.
-fn first_in_each(
-    rt: &(impl Threads + Sync),
-    alloc: Global,
-    draft: &Draft,
-    marks: &Marks,
-    cut: &[u32],
-    ranges: usize,
-) -> Result<Vec<Option<u64>>, AllocError>
-    requires starts { StartsAre draft.now marks.now }
-    requires shaped { ShapedBelow draft.now draft.now.geometry.n }
-    requires cut { IsCut draft.now.geometry.n ranges cut.now }
-    ensures { IfOk result (λ v. AreFirstStrays draft.now cut.now ranges v.items) }
-{
-    (0..ranges)
-        .into_par_iter()
-        .with_min_len(1)
-        .map(
-            |range: usize| -> Option<u64>
-                requires { StartsAre draft.now marks.now × ShapedBelow draft.now draft.now.geometry.n × IsRange draft.now.geometry.n cut.now range }
-                ensures { IsFirstStrayIn draft.entry.now cut.entry.now range result }
-            { first_of(draft, marks, cut[range], cut[range + 1]) },
-        )
-        .collect::<Vec<Option<u64>>>(rt, alloc)
+/// The first slot of each range of regions that references no object.
+#[derive(Drop)]
+struct Straying<'a> {
+    draft: &'a Draft,
+    marks: &'a Marks,
+    cut: &'a [u32],
 }
 
-/// The first slot that was found in ranges that follow one another.
-fn first_some(found: &[Option<u64>]) -> Option<u64>
-    ensures { result ≡ the_first found.now }
-{
-    for slot in found {
-        if let Some(p) = slot {
-            return Some(*p);
-        }
+impl Make for Straying<'_> {
+    type Made = Option<u64>;
+
+    ghost ready = { λ s j. AreShapedStarts s.draft.now s.marks.now × IsRange s.draft.now.geometry.n s.cut.now j };
+
+    ghost makes = { λ s j found. IsFirstStrayIn s.draft.now s.cut.now j found };
+
+    fn make(&self, _alloc: Global, range: usize) -> Result<Option<u64>, Fault> {
+        Ok(first_of(self.draft, self.marks, self.cut[range], self.cut[range + 1]))
     }
-    None
 }
 
 /// The first slot that references no object, by this many threads.
@@ -129,31 +107,35 @@ fn first_by_threads(
     draft: &Draft,
     marks: &Marks,
     threads: usize,
-) -> Result<Option<u64>, AllocError>
+) -> Result<Option<u64>, Fault>
     requires some { 0 < threads }
-    requires starts { StartsAre draft.now marks.now }
-    requires shaped { ShapedBelow draft.now draft.now.geometry.n }
-    ensures { IfOk result (IsFirstStray draft.now 0 (draft.now.geometry.n * draft.now.geometry.w)) }
+    requires marked { AreShapedStarts draft.now marks.now }
+    ensures ok { IfOk result (IsFirstStrayOf draft.now) }
+    ensures memory { IfErr result (λ e. e ≡ Fault.Memory) }
 {
     let cut = cut_regions(alloc, draft.regions(), threads)?;
-    let found = first_in_each(rt, alloc, draft, marks, &cut, threads)?;
-    Ok(first_some(&found))
+    let straying = Straying {
+        draft,
+        marks,
+        cut: &cut,
+    };
+    let found = make_each(rt, alloc, threads, threads, &straying)?;
+    Ok(first_found(&found))
 }
 
 /// The first slot that references no object.
 fn first_alone(draft: &Draft, marks: &Marks) -> Option<u64>
-    requires starts { StartsAre draft.now marks.now }
-    requires shaped { ShapedBelow draft.now draft.now.geometry.n }
-    ensures { IsFirstStray draft.now 0 (draft.now.geometry.n * draft.now.geometry.w) result }
+    requires { AreShapedStarts draft.now marks.now }
+    ensures { IsFirstStrayOf draft.now result }
 {
     first_of(draft, marks, 0, draft.geometry().regions() as u32)
 }
 
 /// The fault of the first slot that references no object, if there is one.
 fn fault_of(draft: &Draft, found: Option<u64>) -> Result<(), Fault>
-    requires { IsFirstStray draft.now 0 (draft.now.geometry.n * draft.now.geometry.w) found }
+    requires { IsFirstStrayOf draft.now found }
     ensures ok { OnOk result (SlotsAreGood draft.now) }
-    ensures err { IfErr result (λ e. (p : ℕ) × (e ≡ Fault.Reference (Place.Slot p)) × IsFirstBreach (IsGoodSlot draft.now) (draft.now.geometry.n * draft.now.geometry.w) p) }
+    ensures err { IfErr result (IsStrayFault draft.now) }
 {
     match found {
         Some(p) => Err(Fault::Reference(Place::Slot(p))),
@@ -163,10 +145,9 @@ fn fault_of(draft: &Draft, found: Option<u64>) -> Result<(), Fault>
 
 /// Returns the first slot that references no object.
 pub(crate) fn check_slots(draft: &Draft, marks: &Marks) -> Result<(), Fault>
-    requires starts { StartsAre draft.now marks.now }
-    requires shaped { ShapedBelow draft.now draft.now.geometry.n }
+    requires { AreShapedStarts draft.now marks.now }
     ensures ok { OnOk result (SlotsAreGood draft.now) }
-    ensures err { IfErr result (λ e. (p : ℕ) × (e ≡ Fault.Reference (Place.Slot p)) × IsFirstBreach (IsGoodSlot draft.now) (draft.now.geometry.n * draft.now.geometry.w) p) }
+    ensures err { IfErr result (IsStrayFault draft.now) }
 {
     fault_of(draft, first_alone(draft, marks))
 }
@@ -178,10 +159,10 @@ fn first_by(
     draft: &Draft,
     marks: &Marks,
     workers: u64,
-) -> Result<Option<u64>, AllocError>
-    requires starts { StartsAre draft.now marks.now }
-    requires shaped { ShapedBelow draft.now draft.now.geometry.n }
-    ensures { IfOk result (IsFirstStray draft.now 0 (draft.now.geometry.n * draft.now.geometry.w)) }
+) -> Result<Option<u64>, Fault>
+    requires { AreShapedStarts draft.now marks.now }
+    ensures ok { IfOk result (IsFirstStrayOf draft.now) }
+    ensures memory { IfErr result (λ e. e ≡ Fault.Memory) }
 {
     match threads_for(workers, draft.words().len(), WORDS_A_THREAD) {
         1 => Ok(first_alone(draft, marks)),
@@ -197,10 +178,9 @@ pub(crate) fn check_slots_by(
     marks: &Marks,
     workers: u64,
 ) -> Result<(), Fault>
-    requires starts { StartsAre draft.now marks.now }
-    requires shaped { ShapedBelow draft.now draft.now.geometry.n }
+    requires { AreShapedStarts draft.now marks.now }
     ensures ok { OnOk result (SlotsAreGood draft.now) }
-    ensures err { IfErr result (λ e. (e ≡ Fault.Memory) ⊎ ((p : ℕ) × (e ≡ Fault.Reference (Place.Slot p)) × IsFirstBreach (IsGoodSlot draft.now) (draft.now.geometry.n * draft.now.geometry.w) p)) }
+    ensures err { IfErr result (λ e. (e ≡ Fault.Memory) ⊎ IsStrayFault draft.now e) }
 {
     let found = first_by(rt, alloc, draft, marks, workers)?;
     fault_of(draft, found)

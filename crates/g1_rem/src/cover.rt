@@ -1,5 +1,5 @@
-ghost use Rattle.std.specs.Prelude.{◌≡◌, ◌≤◌, ◌<◌, ◌⊎◌, ◌+◌, ◌-◌, ℕ, List, ◌∷◌, None, Some, length, filter, flat_map, slice_index, slice_index_or, false, Contains, IfOk, IfErr};
-ghost use Rattle.std.specs.List.{range_with_len, AllZip};
+ghost use Rattle.std.specs.Prelude.{◌≡◌, ◌≤◌, ◌<◌, ◌⊎◌, ◌+◌, ◌-◌, ℕ, List, ◌∷◌, None, Some, length, filter, slice_index, slice_index_or, false, Contains, IfOk, IfErr};
+ghost use Rattle.std.specs.List.{range_with_len};
 ghost use Rattle.std.specs.List.Sorted.{IsStrictlyIncreasing};
 ghost use Rattle.g1_words.specs.Valid.{IsReference};
 ghost use Rattle.g1_image.specs.Cards.{uncovered};
@@ -15,7 +15,7 @@ use crate::rows::objects_end;
 use crate::tracked::Tracked;
 use g1_image::Image;
 use g1_words::{Fault, Marks, card_of, header};
-use g1_work::{Make, make_each};
+use g1_work::{Make, first_found, make_each};
 use std::alloc::{AllocError, Global};
 use std::thread::Threads;
 
@@ -204,35 +204,22 @@ impl Make for Covering<'_> {
     }
 }
 
-/// The first of the slots that were found in ranges that follow one another.
-fn first_found(found: &[Option<u64>]) -> Option<u64>
-    ensures { (slots : ℕ → List ℕ) (ranges : List ℕ) → AllZip (λ range. IsFirstOf (slots range)) ranges found.now → IsFirstOf (flat_map slots ranges) result }
-{
-    for slot in found {
-        if let Some(p) = slot {
-            return Some(*p);
-        }
-    }
-    None
-}
-
 /// The lowest slot that isn't covered, by this many threads, each with a range of the regions.
 fn first_by_threads(
     rt: &(impl Threads + Sync),
     alloc: Global,
     image: &Image,
-    dirty: &Marks,
     threads: usize,
 ) -> Result<Option<u64>, Fault>
-    requires some { 0 < threads }
-    requires dirty { AreDirty image.now dirty.now }
-    ensures ok { IfOk result (IsFirstOf (bare_between image.now 0 image.now.heap.geometry.n)) }
+    requires { 0 < threads }
+    ensures ok { IfOk result (IsFirstOf (uncovered image.now)) }
     ensures memory { IfErr result (λ e. e ≡ Fault.Memory) }
 {
+    let dirty = dirty_marks(alloc, image)?;
     let cut = cut(alloc, image.heap(), threads)?;
     let covering = Covering {
         image,
-        dirty,
+        dirty: &dirty,
         cut: &cut,
     };
     let found = make_each(rt, alloc, threads, threads, &covering)?;
@@ -251,22 +238,6 @@ pub fn first_uncovered(alloc: Global, image: &Image) -> Result<Option<u64>, Faul
     let dirty = dirty_marks(alloc, image)?;
     let regions = image.heap().geometry().regions() as u32;
     first_among(alloc, image, &dirty, 0, regions)
-}
-
-/// The same, by as many threads as the used words feed.
-fn first_uncovered_by(
-    rt: &(impl Threads + Sync),
-    alloc: Global,
-    image: &Image,
-    workers: u64,
-) -> Result<Option<u64>, Fault>
-    ensures ok { IfOk result (IsFirstOf (uncovered image.now)) }
-    ensures lowest { IfOk result (λ found. (p q : ℕ) → found ≡ Some p → Contains (uncovered image.now) q → p ≤ q) }
-    ensures memory { IfErr result (λ e. e ≡ Fault.Memory) }
-{
-    let threads = threads_for_slots(image.heap(), workers);
-    let dirty = dirty_marks(alloc, image)?;
-    first_by_threads(rt, alloc, image, &dirty, threads)
 }
 
 /// The image with its cover kept by the type, or the very image again with the fault.
@@ -308,7 +279,8 @@ pub fn verify_by(
     ensures fault { IfErr result (λ e. (e.1 ≡ Fault.Memory) ⊎ ((p : ℕ) × (rest : List ℕ) × (uncovered image ≡ p ∷ rest) × (e.1 ≡ Fault.Uncovered p))) }
     ensures lowest { IfErr result (λ e. (p q : ℕ) → e.1 ≡ Fault.Uncovered p → Contains (uncovered image) q → p ≤ q) }
 {
-    match first_uncovered_by(rt, alloc, &image, workers) {
+    let threads = threads_for_slots(image.heap(), workers);
+    match first_by_threads(rt, alloc, &image, threads) {
         Err(fault) => Err((image, fault)),
         Ok(Some(p)) => Err((image, Fault::Uncovered(p))),
         Ok(None) => Ok(Tracked { image }),

@@ -1,8 +1,8 @@
 ghost use Rattle.std.specs.Prelude.{◌<◌, IfOk};
 ghost use Rattle.g1_work.specs.Ranges.{IsCut};
 
-use g1_words::{Heap, Region};
-use g1_work::{WORDS_A_THREAD, cut_regions, threads_for};
+use g1_words::Heap;
+use g1_work::{WORDS_A_THREAD, cut_regions, ordinary_words, threads_for, used_words};
 use std::alloc::{AllocError, Global};
 
 /// Cuts the regions into ranges with about as many used words each: the region at which each range
@@ -13,26 +13,6 @@ pub(crate) fn cut(alloc: Global, heap: &Heap, ranges: usize) -> Result<Vec<u32>,
 {
     g1_words::laws::valid(heap);
     cut_regions(alloc, heap.regions(), ranges)
-}
-
-/// How many words of all regions are used.
-fn used_words(regions: &[Region]) -> usize {
-    let mut words: usize = 0;
-    for region in regions {
-        words = words.saturating_add(region.top as usize);
-    }
-    words
-}
-
-/// How many words of the ordinary regions are used.
-fn ordinary_words(regions: &[Region]) -> usize {
-    let mut words: usize = 0;
-    for region in regions {
-        if region.kind.is_ordinary() {
-            words = words.saturating_add(region.top as usize);
-        }
-    }
-    words
 }
 
 /// How many threads share a pass over the slots of a heap.

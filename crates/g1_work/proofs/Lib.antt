@@ -9,5 +9,6 @@ pub mod Gathering
 pub mod Whole
 pub mod Slices
 pub mod Cutting
+pub mod Firsts
 pub mod Gathered
 pub mod Making

@@ -1,6 +1,6 @@
-ghost use Rattle.std.specs.Prelude.{◌≤◌, ◌<◌, length, IfOk};
+ghost use Rattle.std.specs.Prelude.{◌≡◌, ◌≤◌, ◌<◌, ◌-◌, ◌^◌, min, length, IfOk};
 ghost use Rattle.g1_words.specs.Geometry.{most_regions};
-ghost use Rattle.g1_work.specs.Ranges.{IsCut};
+ghost use Rattle.g1_work.specs.Ranges.{IsCut, used, ordinary_used, first_some};
 
 use g1_words::Region;
 use std::alloc::{AllocError, Global};
@@ -9,18 +9,35 @@ use std::alloc::{AllocError, Global};
 /// microseconds, and a thread costs about 100 to start and to join.
 pub const WORDS_A_THREAD: usize = 131_072;
 
-/// How many words of all regions are used.
-fn used_words(regions: &[Region]) -> u64 {
-    let mut words: u64 = 0;
+/// How many words of some regions are used; the greatest number if that is too great for one.
+pub fn used_words(regions: &[Region]) -> usize
+    ensures { result ≡ min (used regions.now) (2 ^ 64 - 1) }
+{
+    let mut words: usize = 0;
     for region in regions {
-        words = words.saturating_add(u64::from(region.top));
+        words = words.saturating_add(region.top as usize);
     }
     words
 }
 
+/// How many words of the ordinary ones among some regions are used; the greatest number if that is too
+/// great for one. A humongous object is one step of a walk over objects, whatever its size, so its words
+/// feed no thread.
+pub fn ordinary_words(regions: &[Region]) -> usize
+    ensures { result ≡ min (ordinary_used regions.now) (2 ^ 64 - 1) }
+{
+    let mut ordinary: usize = 0;
+    for region in regions {
+        if region.kind.is_ordinary() {
+            ordinary = ordinary.saturating_add(region.top as usize);
+        }
+    }
+    ordinary
+}
+
 /// The first region, from one on, before which this many words are used; the end of the heap if no
 /// region is.
-fn next_begin(regions: &[Region], from: u32, words: u64) -> u32
+fn next_begin(regions: &[Region], from: u32, words: usize) -> u32
     requires count { length regions.now ≤ most_regions }
     requires order { from ≤ length regions.now }
     ensures order { from ≤ result }
@@ -30,7 +47,7 @@ fn next_begin(regions: &[Region], from: u32, words: u64) -> u32
     let mut region = from;
     let mut left = words;
     'regions: while region < end && 0 < left {
-        left = left.saturating_sub(u64::from(regions[region as usize].top));
+        left = left.saturating_sub(regions[region as usize].top as usize);
         region += 1;
     }
     region
@@ -46,7 +63,7 @@ pub fn cut_regions(alloc: Global, regions: &[Region], ranges: usize) -> Result<V
     requires some { 0 < ranges }
     ensures { IfOk result (λ v. IsCut (length regions.now) ranges v.items) }
 {
-    let words = used_words(regions).div_ceil(ranges as u64);
+    let words = used_words(regions).div_ceil(ranges);
     let mut begins: Vec<u32> = Vec::new(alloc);
     let mut begin = 0;
     for _range in 0..ranges {
@@ -55,4 +72,16 @@ pub fn cut_regions(alloc: Global, regions: &[Region], ranges: usize) -> Result<V
     }
     begins.push(regions.len() as u32)?;
     Ok(begins)
+}
+
+/// The first value that was found in ranges that follow one another.
+pub fn first_found(found: &[Option<u64>]) -> Option<u64>
+    ensures { result ≡ first_some found.now }
+{
+    for slot in found {
+        if let Some(p) = slot {
+            return Some(*p);
+        }
+    }
+    None
 }

@@ -8,5 +8,5 @@ returns-in_err-check_slots_by-clause-err g c =
     let p = err_from_is_err_and c.from_residual-in_err-check_slots_by.result c.from_residual-in_err-check_slots_by.ensures.1 in
     rw (p.1, p.2) (elim c.in_err-check_slots_by.ensures.err [
       | inl m ↦ inl m
-      | inr h ↦ inr (subst (HeapFault c.args.draft.now) (sym h.1) (c.in_ok-marks.ensures.shaped, c.in_ok-marks.ensures.roots, h.2))
+      | inr h ↦ inr (subst (HeapFault c.args.draft.now) (sym h.1) (c.in_ok-marks.ensures.ok.shaped, c.in_ok-marks.ensures.roots, h.2))
     ])

@@ -12,4 +12,4 @@ pub returns-in_err-check_roots-clause-err : goal.returns-in_err-check_roots-clau
 returns-in_err-check_roots-clause-err g c =
     let p = err_from_is_err_and c.from_residual-in_err-check_roots.result c.from_residual-in_err-check_roots.ensures.1 in
     let h = c.in_err-check_roots.ensures.err in
-    rw (p.1, p.2) (inr (subst (HeapFault c.args.draft.now) (sym h.1) (c.in_ok-marks.ensures.shaped, h.2)))
+    rw (p.1, p.2) (inr (subst (HeapFault c.args.draft.now) (sym h.1) (c.in_ok-marks.ensures.ok.shaped, h.2)))

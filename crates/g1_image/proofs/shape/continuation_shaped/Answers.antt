@@ -3,7 +3,6 @@ use Rattle.g1_words.specs.Heap.{region}
 use Rattle.g1_image.proofs.Tests.{never}
 use Rattle.g1_image.proofs.Runs.{continues, continues_some, continued_by}
 use Rattle.g1_image.proofs.shape.continuation_shaped.Goals as goal
-use Rattle.g1_image.proofs.shape.continuation_shaped.Goals.{then-left-region_words, else-left-region_words}
 
 pub returns-then-size-eq0 : goal.returns-then-size-eq0
 returns-then-size-eq0 c = λ shaped. never (λ s. continues_some c.args.draft.now c.args.r c.args.first c.args.size (c.requires.latest shaped) shaped s (omega (arith, c.if-size-eq0.true)))
@@ -21,12 +20,8 @@ returns c = λ shaped.
     let w : c.region_words-region_words.result ≡ h.geometry.w = cc in
     let e : c.start-before.result ≡ (c.args.r - c.args.first) * h.geometry.w = c.start-before.ensures.value ∙ ap (λ g. (c.args.r - c.args.first) * g.w) c.geometry-geometry.ensures.same in
     let top : c.from-top.result ≡ (region h c.args.r).top = cc in
-    let least : c.if-left-region_words.least ≡ min h.geometry.w (c.args.size - (c.args.r - c.args.first) * h.geometry.w) =
-    elim c.if-left-region_words.branch [
-      | then-left-region_words b ↦ omega (arith, b.least-is, b.if-left-region_words.true, e, w)
-      | else-left-region_words b ↦ omega (arith, b.least-is, b.if-left-region_words.false, e, w)
-    ] in (
+    let least : c.min.result ≡ min h.geometry.w (c.args.size - (c.args.r - c.args.first) * h.geometry.w) = omega (arith, c.min.ensures, e, w) in (
       (λ t. continued_by h c.args.r c.args.first c.args.size (c.requires.latest shaped) shaped (omega arith) (omega (arith, e, c.if-before-size.false))
-          (sym top ∙ eqb-true c.from-top.result c.if-left-region_words.least t ∙ least)),
-      (λ s. eq-eqb c.from-top.result c.if-left-region_words.least (top ∙ (continues h c.args.r c.args.first c.args.size (c.requires.latest shaped) shaped (omega arith) s).1 ∙ sym least)),
+          (sym top ∙ eqb-true c.from-top.result c.min.result t ∙ least)),
+      (λ s. eq-eqb c.from-top.result c.min.result (top ∙ (continues h c.args.r c.args.first c.args.size (c.requires.latest shaped) shaped (omega arith) s).1 ∙ sym least)),
     )

@@ -4,7 +4,6 @@ use Rattle.g1_words.specs.Valid.{IsWholeRun}
 use Rattle.g1_image.proofs.Rows.{start_in}
 use Rattle.g1_image.proofs.Tiled.{header_is}
 use Rattle.g1_image.proofs.shape.humongous_shaped.Goals as goal
-use Rattle.g1_image.proofs.shape.humongous_shaped.Goals.{then-o-region_words, else-o-region_words}
 
 pub header-o-requires : goal.header-o-requires
 header-o-requires c =
@@ -23,10 +22,7 @@ returns c =
     let word : slice_index h.words (start h r) ≡ q.size * 2 ^ 32 + q.refs = sym (λ t. slice_index (c.words.ensures.same t) (place t)) ∙ c.header-o.ensures.word in
     let at : q.at ≡ start h r = c.header-o.ensures.at ∙ place in
     let top : c.from-top.result ≡ (region h r).top = cc in
-    let least : c.if-o-region_words.least ≡ min h.geometry.w q.size = elim c.if-o-region_words.branch [
-      | then-o-region_words b ↦ omega (arith, b.least-is, b.if-o-region_words.true, w)
-      | else-o-region_words b ↦ omega (arith, b.least-is, b.if-o-region_words.false, w)
-    ] in (
+    let least : c.min-least.result ≡ min h.geometry.w q.size = omega (arith, c.min-least.ensures, w) in (
       (λ t. (
         q,
         record { kind = c.requires.kind; at = at; object = record { header = (λ u. slice_index h.words (at u)) ∙ word; refs_fit = c.if-o.false; size_fits = c.header-o.ensures.size } },

@@ -26,9 +26,9 @@ read c =
     let at = c.loop-at.at in
     let q = c.header-o.result in
     let some : 0 < h.geometry.w = omega (arith, c.words-words.ensures.draft.limits.w_least) in
-    let start : StartsAt h at = c.requires.starts.each.sound at (sym c.is_set.ensures ∙ c.if-is_set.true) in
+    let start : StartsAt h at = c.requires.marked.starts.each.sound at (sym c.is_set.ensures ∙ c.if-is_set.true) in
     let word : slice_index h.words at ≡ q.size * 2 ^ 32 + q.refs = ap (λ ws. slice_index ws at) (sym c.words-words.ensures.same) ∙ c.header-o.ensures.word in
-    let fits = object_fits h at q some c.requires.shaped start word c.header-o.ensures.refs c.header-o.ensures.size in
+    let fits = object_fits h at q some c.requires.marked.shaped start word c.header-o.ensures.refs c.header-o.ensures.size in
     record {
       some = some;
       start = start;
@@ -54,7 +54,7 @@ returns-in-Some c =
     let r = read (goal.at.returns-in-Some c).After-header-o in
     let first = c.in-Some.ensures.found in
     let lt : i < q.refs = omega (arith, first.within, c.slots.ensures.count) in
-    slot_breach h at q r.some c.requires.shaped r.start r.word c.header-o.ensures.refs c.header-o.ensures.size c.args.from c.loop-at.invariant.1 c.loop-at.invariant.0 i lt
+    slot_breach h at q r.some c.requires.marked.shaped r.start r.word c.header-o.ensures.refs c.header-o.ensures.size c.args.from c.loop-at.invariant.1 c.loop-at.invariant.0 i lt
     (λ r. first.breach (subst (λ x. IsReference h x) (sym (slot_is c.slots.result.now ws h.words q at i c.slots.ensures.each c.words-words.ensures.same c.header-o.ensures.at lt)) r))
     (λ k less. subst (λ x. IsReference h x) (slot_is c.slots.result.now ws h.words q at k c.slots.ensures.each c.words-words.ensures.same
     c.header-o.ensures.at (omega (arith, less, lt))) (first.before k less))
@@ -69,7 +69,7 @@ loop-at-preserved-then-is_set c =
     let at = c.loop-at.at in
     let q = c.header-o.result in
     let r = read (goal.at.loop-at-preserved-then-is_set c).After-header-o in (
-      SlotsBetween-object h at q r.some c.requires.shaped r.start r.word c.header-o.ensures.refs c.header-o.ensures.size c.args.from c.loop-at.invariant.0
+      SlotsBetween-object h at q r.some c.requires.marked.shaped r.start r.word c.header-o.ensures.refs c.header-o.ensures.size c.args.from c.loop-at.invariant.0
           (λ i lt. subst (λ x. IsReference h x) (slot_is c.slots.result.now ws h.words q at i c.slots.ensures.each c.words-words.ensures.same
           c.header-o.ensures.at lt) (c.in_default.ensures.none i (omega (arith, c.slots.ensures.count, lt)))),
       omega (arith, c.loop-at.invariant.1),
@@ -77,7 +77,7 @@ loop-at-preserved-then-is_set c =
 
 pub loop-at-preserved : goal.loop-at-preserved
 loop-at-preserved c =
-    let none : StartsAt c.args.draft.now c.loop-at.at → ⊥ = λ s. let e : false ≡ true = sym c.if-is_set.false ∙ c.is_set.ensures ∙ c.requires.starts.each.whole c.loop-at.at s in cc in
+    let none : StartsAt c.args.draft.now c.loop-at.at → ⊥ = λ s. let e : false ≡ true = sym c.if-is_set.false ∙ c.is_set.ensures ∙ c.requires.marked.starts.each.whole c.loop-at.at s in cc in
     (SlotsBetween-none c.args.draft.now c.args.from c.loop-at.at c.loop-at.invariant.0 none, omega (arith, c.loop-at.invariant.1))
 
 pub returns : goal.returns

@@ -54,4 +54,4 @@ returns c =
     let last : c.loop-part.part-index ≡ length c.args.parts.now = omega (arith, c.loop-part-test.false, c.loop-part.auto.part-index-end) in
     let all : slice_index begins c.loop-part.part-index ≡ h.geometry.n = ap (slice_index begins) last ∙ c.requires.cut.cut.last in
     let shaped : ShapedBelow h h.geometry.n = subst (ShapedBelow h) all c.loop-part.invariant.shaped in
-    record { starts = StartsOf-all h c.loop-part.marks shaped (subst (λ x. StartsOf h 0 x c.loop-part.marks) all c.loop-part.invariant.starts); shaped = shaped; err = tt }
+    record { ok = record { starts = StartsOf-all h c.loop-part.marks shaped (subst (λ x. StartsOf h 0 x c.loop-part.marks) all c.loop-part.invariant.starts); shaped = shaped }; err = tt }

@@ -1,6 +1,6 @@
 use Rattle.std.proofs.Common.{◌∙◌, arith, refl, sym}
-use Rattle.g1_image.proofs.StraySlots.{some_found, some_passed, some_over}
-use Rattle.g1_image.proofs.strays.first_some.Goals as goal
+use Rattle.g1_work.proofs.Firsts.{some_found, some_passed, some_over}
+use Rattle.g1_work.proofs.ranges.first_found.Goals as goal
 
 pub loop-slot-init : goal.loop-slot-init
 loop-slot-init c = refl
