@@ -13,10 +13,15 @@ A row is a must-fail edit (`rt help`) whose first line says what it turns:
   old: TEXT
   new: TEXT
 
-Rows in different functions of a crate are tried in one check of a copy. If a function calls one that this check refused,
-its row is tried again without the other. All other functions count by their contracts, which `rt ci` has just proved:
-in the copy their bodies are cut off, and a hole is their proof. Each crate with rows has one that proves, so that a
-check which refuses everything is seen.
+The rows of a crate are tried in one check of a copy. There each row has a function of its own, which is written behind
+the others of its file: the function that it turns, under another name, with its contract and its proof. All functions
+of the crate count by their contracts, which `rt ci` has just proved: in the copy their bodies are cut off, and a hole
+is their proof. A method of a trait, a function that calls itself and a row that changes more than its function are tried
+in place. If a function calls one that is tried in place and was refused, its row is tried again without the other. Each
+crate with rows has one that proves, so that a check which refuses everything is seen.
+
+With --unchanged each row is tried without its change, and has to be proved: so a refusal is of the row and not of the
+other name.
 
 A row is bad if its text is not found, if it changes no line of its function, if it does not compile, if the prover
 cannot read it, or if it is refused only because a proof names what the row took away.
@@ -67,6 +72,7 @@ class Function:
     last: int
     opens: int  # the line that opens its body, or its last
     is_plain: bool  # its proof is its own: it shares no cycle of calls
+    impl: list  # the lines that begin its impl block, if it has one
 
 
 @dataclass
@@ -78,6 +84,8 @@ class Row:
     lines: dict = field(default_factory=dict)
     touched: set = field(default_factory=set)
     is_alone: bool = False
+    twin: str = ""  # the function of its own that it is tried in, if it isn't tried in place
+    behind: int = 0  # how many lines lie between a line of the function and that of its twin
     verdict: str = ""
     why: str = ""
 
@@ -90,8 +98,15 @@ class Row:
     def said(self):
         return f"proved, as it must be: {self.function}" if self.proves and self.is_well() else f"{self.verdict}: {self.why}"
 
-    def holds(self, path, line):
-        return line in self.lines.get(path, {})
+    def asked(self):
+        """The function that the check is asked for."""
+        return self.twin or self.function
+
+    def in_place(self, functions):
+        """The lines that the row changes where they stand, by file: those of its function only if it has no twin."""
+        own = functions[self.function]
+        inside = lambda path, at: self.twin and path == own.path and own.first <= at <= own.last
+        return {path: {at: new for at, new in lines.items() if not inside(path, at)} for path, lines in self.lines.items()}
 
 
 def load_rt():
@@ -124,20 +139,23 @@ def functions_of(folder):
     homes = {it: module_of(path) for path, text in texts.items() for it in TYPE.findall(text)}
     found = {}
     for path, text in texts.items():
-        holder, lines = [], text.split("\n")
+        holder, begin, lines = [], [], text.split("\n")
         for number, line in enumerate(lines):
             head, impl = HEAD.match(line), IMPL.match(line)
             if impl:
                 of = impl[4].rpartition("::")[2]
                 holder = [*homes.get(of, module_of(path)), of + trait_of(impl)]
+                begin = lines[number:1 + next((at for at in range(number, len(lines)) if lines[at].endswith("{")), number)]
             elif line.startswith("}"):
-                holder = []
+                holder, begin = [], []
+            elif begin and line.startswith("    ghost use "):
+                begin = [*begin, line]
             if head and len(head[1]) == 4 * bool(holder):
                 last = next((at for at in range(number, len(lines)) if lines[at] == head[1] + "}"), number)
                 name = "::".join([*(holder or module_of(path)), head[2]])
                 above = lines[max(number - 3, 0):number]
                 opens = next((at for at in range(number, last) if OPENS.match(lines[at])), last)
-                found[name] = Function(name, path, number, last, opens, not any("#[cycle" in it for it in above))
+                found[name] = Function(name, path, number, last, opens, not any("#[cycle" in it for it in above), begin)
     return found
 
 
@@ -173,25 +191,51 @@ def read_row(rt, crate, functions, file):
         row.settle(BAD, f"it changes no line of {row.function}")
     elif not all(path.startswith("src/") for path in texts):
         row.settle(BAD, "a row changes src/ alone")
+    elif may_have_twin(crate, functions[row.function], row):
+        row.twin = f"{row.function}_turned_{file.stem}"
     return row
 
 
-def fits(row, batch, calls):
-    """Whether a row can be tried in one check with these: no line and no function in common, and no call between them."""
+def may_have_twin(crate, function, row):
+    """Whether a row can be tried in a function of its own, which nothing calls. The proof of one that calls itself, and of
+    a method of a trait, is not its own."""
+    name = function.name.rpartition("::")[2]
+    lines = pathlib.Path(crate.folder, function.path).read_text().split("\n")
+    body = [*lines[function.opens + 1:function.last], *(new for of in row.lines.values() for new in of.values())]
+    calls_itself = any(re.search(rf"(?<!Vec::)\b{name}\(", it) for it in body)
+    of_a_trait = " for " in function.impl[0] if function.impl else False
+    is_exported = any("no_mangle" in it for it in head_of(lines, function))
+    return function.is_plain and not (row.is_alone or len(row.touched) > 1 or calls_itself or of_a_trait or is_exported)
+
+
+def head_of(lines, function):
+    """The attributes above a function."""
+    first = function.first
+    while first and re.match(r" *(#\[|//)", lines[first - 1]):
+        first -= 1
+    return lines[first:function.first]
+
+
+def fits(row, batch, calls, functions):
+    """Whether a row can be tried in one check with these: no line and no function in common, and no call between them. In
+    functions of their own, rows share no more than lines that stand outside."""
     if row.is_alone or any(it.is_alone for it in batch):
         return not batch
+    own = row.in_place(functions)
     for it in batch:
-        shares = any(row.holds(path, line) for path, lines in it.lines.items() for line in lines)
-        calls_it = it.function in calls.get(row.function, ()) or row.function in calls.get(it.function, ())
-        if shares or calls_it or row.function in it.touched or it.function in row.touched:
+        shares = any(line in own.get(path, {}) for path, lines in it.in_place(functions).items() for line in lines)
+        called = not it.twin and it.function in calls.get(row.function, ())
+        calls_it = not row.twin and row.function in calls.get(it.function, ())
+        meets = not (row.twin or it.twin) and (row.function in it.touched or it.function in row.touched)
+        if shares or called or calls_it or meets:
             return False
     return True
 
 
-def next_batch(rows, calls):
+def next_batch(rows, calls, functions):
     batch = []
     for row in rows:
-        if fits(row, batch, calls):
+        if fits(row, batch, calls, functions):
             batch.append(row)
     return batch
 
@@ -199,14 +243,14 @@ def next_batch(rows, calls):
 class Trial:
     """The trial of a crate's rows, over a folder of its own in which the prover keeps what it has read."""
 
-    def __init__(self, rt, crate, functions, kept):
-        self.rt, self.crate, self.functions, self.kept = rt, crate, functions, kept
+    def __init__(self, rt, crate, functions, kept, is_unchanged):
+        self.rt, self.crate, self.functions, self.kept, self.is_unchanged = rt, crate, functions, kept, is_unchanged
         self.calls, self.with_holes = {}, True
 
     def run(self, rows):
         """Tries the rows that are not settled, in as few checks as there have to be."""
         while left := [row for row in rows if not row.verdict]:
-            batch = next_batch(left, self.calls)
+            batch = next_batch(left, self.calls, self.functions)
             said = self.check(batch)
             if self.with_holes and self.is_of_a_hole(batch, said):
                 self.with_holes = False
@@ -216,15 +260,16 @@ class Trial:
                 self.part(batch, said)
 
     def part(self, batch, said):
-        """Has each row of a batch of which nothing was said be tried by itself; a single one is not settled by more."""
+        """Has each row of a batch of which nothing was said be tried by itself, in place; a single one is not settled by more."""
+        is_last = len(batch) == 1 and not batch[0].twin
         for row in batch:
-            row.is_alone = True
-        if len(batch) == 1:
+            row.is_alone, row.twin, row.behind = True, "", 0
+        if is_last:
             batch[0].settle(UNSETTLED, next((it for it in said.split("\n") if "error" in it), said[-200:]).strip()[:200])
 
     def is_of_a_hole(self, batch, said):
         """Whether the check refuses what leave_open wrote: then the crate's functions are checked as they are."""
-        touched = {name for row in batch for name in row.touched}
+        touched = {name for row in batch if not row.twin for name in row.touched}
         others = [it for it in self.functions.values() if it.name not in touched]
         faults = [(path, int(line) - 1) for path, line in FAULT.findall(said)]
         in_others = any(it.path == path and it.first <= line <= it.last for it in others for path, line in faults)
@@ -239,10 +284,13 @@ class Trial:
             for path in {path for row in batch for path in row.lines}:
                 lines = pathlib.Path(room, path).read_text().split("\n")
                 for row in batch:
-                    for at, new in row.lines.get(path, {}).items():
-                        lines[at] = new
+                    for at, new in row.in_place(self.functions).get(path, {}).items():
+                        lines[at] = lines[at] if self.is_unchanged else new
                 pathlib.Path(room, path).write_text("\n".join(lines))
-            asked = {row.function for row in batch}
+            for row in batch:
+                if row.twin:
+                    self.add_twin(room, row)
+            asked = {row.asked() for row in batch}
             if self.with_holes:
                 for function in self.functions.values():
                     if function.is_plain and function.opens < function.last - 1 and function.name not in asked:
@@ -252,6 +300,27 @@ class Trial:
             words = [lib.RATTLE, "check", *self.crate.words(flags, keeps=False), "--incremental", self.kept]
             how = {"cwd": room, "stdin": subprocess.DEVNULL, "stdout": subprocess.PIPE, "stderr": subprocess.STDOUT}
             return subprocess.run([*lib.guarded(), *words], **how, errors="replace").stdout
+
+    def add_twin(self, room, row):
+        """Writes a row's function, as the row turns it, behind the others of its file, and its proof beside theirs."""
+        function, name = self.functions[row.function], row.twin.rpartition("::")[2]
+        own = pathlib.Path(self.crate.folder, function.path).read_text().split("\n")
+        file = pathlib.Path(room, function.path)
+        lines = file.read_text().split("\n")
+        begin = [*function.impl, *head_of(own, function)]
+        row.behind = len(lines) + len(begin) - function.first
+        turned = {} if self.is_unchanged else row.lines.get(function.path, {})
+        body = [turned.get(at, own[at]) for at in range(function.first, function.last + 1)]
+        was = function.name.rpartition("::")[2]
+        body[0] = re.sub(rf"\bfn {was}\b", f"fn {name}", body[0])
+        file.write_text("\n".join([*lines, *begin, *body, *(["}"] if function.impl else []), ""]))
+        folder = pathlib.Path(self.crate.folder, "proofs", *function.name.split("::"))
+        for of in (folder, folder.parent / "fn" / was):
+            if of.is_dir():
+                shutil.copytree(of, pathlib.Path(room, of.relative_to(self.crate.folder)).with_name(name))
+        place = f"proofs.{'.'.join(function.name.split('::'))}"
+        for proof in pathlib.Path(room, "proofs", *row.twin.split("::")).rglob("*.antt"):
+            proof.write_text(re.sub(rf"\b{re.escape(place)}(?=[.\s])", f"{place[:-len(was)]}{name}", proof.read_text()))
 
     def leave_open(self, room, function):
         """Has the check take a function by its contract: its body is cut off, and its proof is a hole."""
@@ -278,22 +347,32 @@ class Trial:
         faults = [FAULT.match(it) for it in lines]
         is_read = any(it.startswith("only=") for it in lines)
         for row in batch:
-            own = [it.string for it in faults if it and self.is_of(row, it[1], int(it[2]) - 1)]
-            if own and (not is_read or any(self.rt.unread(it, row.lines) for it in own)):
-                row.settle(BAD, own[0][:200])
+            own = [it for it in faults if it and self.is_of(row, it[1], int(it[2]) - 1)]
+            if own and (not is_read or any(self.rt.unread(it.string, row.lines) for it in own)):
+                row.settle(BAD, self.as_written(row, own[0])[:200])
         if is_read:
-            asked = {row.function for row in batch}
+            asked = {row.asked() for row in batch}
             for row in batch:
                 if not row.verdict:
-                    self.read_function(row, asked - {row.function}, lines)
+                    self.read_function(row, asked - {row.asked()}, lines)
 
     def is_of(self, row, path, line):
+        return self.is_inside(row, path, line) or line in row.in_place(self.functions).get(path, {})
+
+    def is_inside(self, row, path, line):
+        """Whether a line is one of the function in which a row is tried."""
         function = self.functions[row.function]
-        return row.holds(path, line) or path == function.path and function.first <= line <= function.last
+        return path == function.path and function.first <= line - row.behind <= function.last
+
+    def as_written(self, row, fault):
+        """What a fault says, with the line that the function has in the crate."""
+        path, line = fault[1], int(fault[2])
+        told = line - row.behind if self.is_inside(row, path, line - 1) else line
+        return fault.string.replace(f"{path}:{line}:", f"{path}:{told}:", 1)
 
     def read_function(self, row, others, lines):
         """Settles a row by the line of its function, unless that calls another of the batch which was refused."""
-        head = f"fn {self.crate.name}::{row.function}: "
+        head = f"fn {self.crate.name}::{row.asked()}: "
         told = next((it[len(head):] for it in lines if it.startswith(head)), "")
         called = {it.partition("::")[2] for it in re.findall(r"`([\w:]+)`", told.partition("it calls ")[2])}
         # (what a hole is the proof of is not proved either, and is no reason)
@@ -309,7 +388,7 @@ class Trial:
 
     def settle_refused(self, row, told, lines):
         goals = re.search(r"`search` did not prove (.*?)(?:;|$)", told)
-        folder = "proofs/" + row.function.replace("::", "/") + "/"
+        folder = "proofs/" + row.asked().replace("::", "/") + "/"
         faults = [it for it in lines if re.match(rf"(?:\./)?{re.escape(folder)}\S+ error", it)]
         reasons = [it for it in faults if not NAMES.search(it)]
         function = self.functions[row.function]
@@ -345,18 +424,22 @@ def build_libraries(crate):
                 raise Stop(f"{crate.name}: its library {dep.name} is not proved")
 
 
-def try_crate(rt, crate):
+def try_crate(rt, crate, is_unchanged):
     functions = functions_of(crate.folder)
     rows = [read_row(rt, crate, functions, file) for file in sorted(pathlib.Path(crate.folder, "planted").glob("*.edit"))]
     if not any(row.proves for row in rows):
         rows.append(Row(f"{crate.name}/planted", verdict=BAD, why="no row of this crate is one that proves"))
+    if is_unchanged:
+        rows = [row for row in rows if row.twin]
+        for row in rows:
+            row.proves = True
     with tempfile.TemporaryDirectory(prefix="planted-kept-") as kept:
-        Trial(rt, crate, functions, kept).run(rows)
+        Trial(rt, crate, functions, kept, is_unchanged).run(rows)
     print("\n".join(f"planted {row.label}: {row.said()}" for row in rows), flush=True)
     return rows
 
 
-def try_all(names):
+def try_all(names, is_unchanged):
     """Tries the rows of these crates, or of all, side by side as rt ci tries edits."""
     os.chdir(ROOT)
     rt = load_rt()
@@ -368,7 +451,7 @@ def try_all(names):
     crates = [it for it in crates if not names or it.name in names]
     for crate in crates:
         build_libraries(crate)
-    work = {(it.name, "edits"): ([], it.count(rb"\n"), rt.need(it), lambda given, jobs, it=it: try_crate(rt, it)) for it in crates}
+    work = {(it.name, "edits"): ([], it.count(rb"\n"), rt.need(it), lambda given, jobs, it=it: try_crate(rt, it, is_unchanged)) for it in crates}
     return [row for rows in rt.in_lanes(work).values() for row in rows]
 
 
@@ -422,11 +505,12 @@ def main():
     parser = argparse.ArgumentParser(description=__doc__, formatter_class=argparse.RawDescriptionHelpFormatter)
     parser.add_argument("crates", metavar="CRATE", nargs="*", help="a crate with rows")
     parser.add_argument("--all", action="store_true", help="all crates with rows")
+    parser.add_argument("--unchanged", action="store_true", help="try the rows that have a function of their own without their changes")
     options = parser.parse_args()
     if options.all == bool(options.crates):
         parser.error("either --all or crates")
     try:
-        rows = try_all(options.crates) if is_known_kit() else try_all_by_rt(options.crates)
+        rows = try_all(options.crates, options.unchanged) if is_known_kit() else try_all_by_rt(options.crates)
     except (Stop, OSError, AttributeError) as error:
         print(f"planted.py: {error}", file=sys.stderr)
         return 2

@@ -468,7 +468,8 @@ if "garbled" in text:
 for name in asked:
     kept = pathlib.Path("proofs", name, "Proof.antt").exists()
     is_open = "wrong" in bodies[name]
-    calls = "; it calls `toy::second`, which is not proved" if "second()" in bodies[name] and "wrong" in bodies["second"] else ""
+    called = [it for it in bodies if it != name and f"{it}(" in bodies[name] and "wrong" in bodies[it]]
+    calls = f"; it calls `toy::{called[0]}`, which is not proved" if called else ""
     if "gone" in bodies[name]:
         print(f"./proofs/{name}/Answers.antt:1:2: error: `c` has no field `x`")
         print(f"fn toy::{name}: not proved")
@@ -484,7 +485,7 @@ class StandIn:
     """What planted.py takes of rt, over a crate of three functions."""
 
     def __init__(self, folder):
-        self.folder, self.name = str(folder / "crates/toy"), "toy"
+        self.folder, self.name, self.checks = str(folder / "crates/toy"), "toy", 0
         folder.joinpath("prover.py").write_text(PROVER)
         self.RATTLE, self.prover = sys.executable, str(folder / "prover.py")
         self.rtlib, self.PARTS, self.STALE = self, ("src", "specs", "proofs"), re.compile("Run the lower steps again")
@@ -505,6 +506,7 @@ class StandIn:
         return 1
 
     def words(self, flags, keeps):
+        self.checks += 1
         return flags
 
     def unread(self, line, _changed):
@@ -535,12 +537,13 @@ class Planted(unittest.TestCase):
         text = f"turns: {function}: what it does\n{expect}file: src/lib.rt\nold: {old}\nnew: {new}\n"
         self.folder.joinpath(f"crates/toy/planted/{name}.edit").write_text(text)
 
-    def tried(self):
+    def tried(self, *flags):
         """What each row came to, by its name, and the last line and status."""
         was, rt = (planted.ROOT, planted.load_rt, planted.is_known_kit), StandIn(self.folder)
+        self.rt = rt
         planted.ROOT, planted.load_rt, planted.is_known_kit = self.folder, lambda: rt, lambda: True
         here, words = os.getcwd(), sys.argv
-        sys.argv = ["planted.py", "toy"]
+        sys.argv = ["planted.py", *flags, "toy"]
         try:
             with contextlib.redirect_stdout(io.StringIO()) as out:
                 status = planted.main()
@@ -572,12 +575,37 @@ class Planted(unittest.TestCase):
         self.row("turned", "second", "    2", "    2 + wrong")
         self.assertEqual(self.tried()[1:], ("1 refused, 1 failed", 1))
 
-    def test_a_caller_is_tried_again_without_what_it_calls(self):
+    def test_a_caller_is_tried_beside_what_it_calls(self):
         self.row("turned", "second", "    2", "    2 + wrong")
         self.row("unturned", "third", "    second() + 1", "    second() + 1 + 0")
         rows, last, status = self.tried()
-        self.assertEqual((last, status), ("1 refused, 1 failed", 1))
+        self.assertEqual((last, status, self.rt.checks), ("1 refused, 1 failed", 1, 1))
         self.assertIn("NOT REFUSED", rows["unturned"])
+
+    def test_a_caller_is_tried_again_without_what_is_refused_in_place(self):
+        self.folder.joinpath("crates/toy/src/lib.rt").write_text(TOY + "\nfn fourth(n: u64) -> u64\n{\n    fourth(n / 2)\n}\n")
+        self.row("turned", "fourth", "    fourth(n / 2)", "    fourth(n / 2) + wrong")
+        self.row("unturned", "third", "    second() + 1", "    fourth(1)")
+        rows, last, status = self.tried()
+        self.assertEqual((last, status, self.rt.checks), ("1 refused, 1 failed", 1, 2))
+        self.assertIn("NOT REFUSED", rows["unturned"])
+
+    def test_rows_of_one_function_are_tried_in_one_check(self):
+        self.row("turned", "second", "    2", "    2 + wrong")
+        self.row("unturned", "second", "    2", "    2 + 0")
+        rows, last, status = self.tried()
+        self.assertEqual((last, status, self.rt.checks), ("1 refused, 1 failed", 1, 1))
+        self.assertEqual(rows["turned"], "refused: second: not proved: `returns`")
+        self.assertIn("NOT REFUSED", rows["unturned"])
+
+    def test_a_row_without_its_change_is_proved(self):
+        self.row("turned", "second", "    2", "    2 + wrong")
+        rows, last, status = self.tried("--unchanged")
+        self.assertEqual((last, status), ("0 refused, 0 failed", 0))
+        self.assertIn("proved, as it must be", rows["turned"])
+        self.folder.joinpath("crates/toy/src/lib.rt").write_text(TOY.replace("    2", "    2 + wrong"))
+        self.row("turned", "second", "    2", "    2 + 1")
+        self.assertEqual(self.tried("--unchanged")[1:], ("0 refused, 1 failed", 1))
 
     def test_a_row_that_cannot_be_read_is_bad_alone(self):
         self.row("turned", "second", "    2", "    2 + wrong")
