@@ -1,5 +1,5 @@
 -- First occurrences.
-use Rattle.std.proofs.Common.{◌≡◌, ℕ, inl, inr, Bool, true, false, cond, not, List, [], ◌∷◌, ◌++◌, filter, sym, refl, ap, ◌∙◌, eqb, eqb-true, append_assoc}
+use Rattle.std.proofs.Common.{◌≡◌, ℕ, inl, inr, Bool, true, false, cond, not, List, [], ◌∷◌, ◌++◌, filter, sym, refl, ap, ◌∙◌, eqb, eqb-true}
 use Rattle.g1_words.specs.Lists.{has}
 use Rattle.g1_words.specs.Survivors.{firsts}
 use Rattle.g1_words.proofs.Members.{In, has_from_in, in_from_has}
@@ -38,8 +38,3 @@ firsts_more xs ys =
     firsts-append (firsts xs) ys
     ∙ (λ i. firsts_again xs i ++ filter-same (λ y. not (has (firsts xs) y)) (λ y. not (has xs y)) (firsts ys) (λ x. ap not (has_firsts xs x)) i)
     ∙ sym (firsts-append xs ys)
-
--- more numbers, behind those that went before
-pub noted_more : (base mid add next found more : List ℕ) → found ≡ firsts (base ++ mid) → more ≡ firsts (found ++ add) → mid ++ add ≡ next → more ≡ firsts (base ++ next)
-noted_more base mid add next found more e f g =
-    f ∙ ap (λ l. firsts (l ++ add)) e ∙ firsts_more (base ++ mid) add ∙ ap firsts (append_assoc base mid add ∙ ap (λ l. base ++ l) g)

@@ -1,5 +1,5 @@
 -- The two numberings are such: by word, and by object.
-use Rattle.std.proofs.Common.{◌≡◌, ◌<◌, ◌≤◌, ℕ, suc, ◌+◌, ◌-◌, ◌*◌, ◌/◌, ◌%◌, inl, inr, Bool, false, List, [], ◌∷◌, ◌++◌, flat_map, length, get_or, replicate, Contains}
+use Rattle.std.proofs.Common.{◌≡◌, ◌<◌, ◌≤◌, ℕ, suc, ◌+◌, ◌-◌, ◌*◌, ◌/◌, ◌%◌, inl, inr, ◌⊎◌, Bool, false, List, [], ◌∷◌, ◌++◌, flat_map, length, get_or, replicate, Contains}
 use Rattle.std.proofs.Common.{refl, sym, ap, ◌∙◌, subst, arith, true≢false}
 use Rattle.std.proofs.lemmas.List.{length-replicate, flat_map_more}
 use Rattle.std.specs.List.{range_with_len}
@@ -157,3 +157,9 @@ scope_by_object s starts e are few p =
           subst (λ (n : Numbering). IsNumbering s.heap.now s.window.now (count_by_numbering n words) (λ a. place_by n (place s.heap.now s.window.now a))) (sym e)
           (numbered_by_object s.heap.now s.window.now p.valid p.regions starts are);
     }
+
+-- one or the other
+pub scope_by_either : (s : Scope) → HasParts s →
+    (s.numbering.now ≡ Words) ⊎ ((starts : List Bool) × (s.numbering.now ≡ Objects starts) × AreStarts s.heap.now s.window.now starts × (length starts ≤ most_words)) → IsScope s
+scope_by_either s p (inl e) = scope_by_word s e p
+scope_by_either s p (inr q) = scope_by_object s q.0 q.1 q.2 q.3 p

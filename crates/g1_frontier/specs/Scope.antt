@@ -28,11 +28,11 @@ abbrev pub Covers : Numbering → ℕ → Type 0
 Covers Words words = Unit {0}
 Covers (Objects starts) words = (words ≤ length starts) × (length starts ≤ most_words)
 
--- THE NUMBERING, stated once: the place of the object at an address in the claim table
+-- THE NUMBERING, stated once: the place of the object at an address, in a claim table or among marks
 abbrev pub place_in : Scope → ℕ → ℕ
 place_in s a = place_by s.numbering.now (place s.heap.now s.window.now a)
 
--- how many places the claim table has
+-- how many places there are
 abbrev pub place_count : Scope → ℕ
 place_count s = count_by_numbering s.numbering.now (length s.window.now * s.heap.now.geometry.w)
 

@@ -7,9 +7,9 @@
 //! of the least rank (Blelloch, Fineman, Gibbons, Shun, "Internally Deterministic Parallel Algorithms
 //! Can Be Fast", 2012):
 //!
-//! 1. One claim table serves the whole call. `discover` numbers the objects of the window by one walk
-//!    over their headers, which the workers share, and its table has a word for each of them. A table
-//!    of `claim_round` has a word for each word of the window.
+//! 1. One claim table serves all rounds. `discover` numbers the objects of the window by one walk over
+//!    their headers, which the workers share, and its table has a word for each of them. A table of
+//!    `claim_round` has a word for each word of the window.
 //! 2. The items of the first round are the roots, then the cards that lead into the window. Every
 //!    slot of an item has a rank: root i has i; a slot on a card the number of roots plus its
 //!    address; slots of objects follow, numbered on in the order in which the objects were found.
@@ -21,9 +21,10 @@
 //! 5. What a round found is the next round's items, until a round finds nothing. Since ranks rise
 //!    over all rounds, a place that has a word keeps it.
 //!
-//! If few cards lead into the window, there are no rounds. One worker claims what is named in order,
-//! and what it has found is its queue: it reads the headers of the next objects in the queue at once,
-//! then their slots, and ends when nothing is left in the queue.
+//! If few cards lead into the window, there are no rounds, and no claim table. One worker finds what is
+//! named in order, and marks it in one bit for each word of the window. What it has found is its queue:
+//! it reads the headers of the next objects in the queue at once, then their slots, and ends when
+//! nothing is left in the queue.
 //!
 //! So the answer is the same for all workers and chunk sizes. A round takes memory in proportion to
 //! what it looks at and finds. A region's place in the window is in a table of four bytes

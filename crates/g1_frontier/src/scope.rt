@@ -18,7 +18,7 @@ pub struct Scope<'a> {
     pub numbering: &'a Numbering,
 }
 
-/// Which place of a claim table an object of the window has.
+/// Which place an object of the window has, in a claim table or among marks.
 #[derive(Drop)]
 pub enum Numbering {
     /// Where its first word stands among the window's words.
@@ -27,7 +27,7 @@ pub enum Numbering {
     Objects(Numbers),
 }
 
-/// Where an object of the window begins that a slot references, and its place in the claim table.
+/// Where an object of the window begins that a slot references, and its place.
 #[derive(Debug, Clone, Copy, PartialEq, Eq, Drop)]
 pub struct Target {
     pub place: u64,
@@ -56,7 +56,7 @@ impl<'a> Scope<'a> {
     ghost use Rattle.g1_frontier.specs.Window.{place};
     ghost use Rattle.g1_frontier.specs.Scope.{IsScope, inside, names_in, place_in, place_count};
 
-    /// How many places a claim table needs.
+    /// How many places there are.
     pub fn places(&self) -> u64
         requires scope { IsScope self.now }
         ensures { result ≡ place_count self.now }

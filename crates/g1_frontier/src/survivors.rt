@@ -13,7 +13,7 @@ ghost use Rattle.g1_frontier.specs.Search.{IsSearching};
 use crate::crew::Crew;
 use crate::item::Item;
 use crate::numbers::Numbers;
-use crate::queue::Traversal;
+use crate::queue::search_alone;
 use crate::round::round_in;
 use crate::scope::{Numbering, Scope, positions};
 use g1_claim::{ClaimSeat, Claims};
@@ -149,26 +149,8 @@ pub(crate) fn next_round<R: Threads + Sync, G: Gate + Sync>(
     })
 }
 
-// The search of one worker. It has no rounds.
-fn search_alone(alloc: Global, scope: &Scope, cards: &[u32]) -> Result<Vec<u64>, Fault>
-    requires scope { IsScope scope.now }
-    requires cards { AreCards scope.now.heap.now cards.now }
-    requires outside { AreOutside scope.now.heap.now scope.now.window.now cards.now }
-    requires lead_in { LeadIn scope.now.heap.now scope.now.window.now cards.now }
-    ensures ok { IfOk result (λ v. Survivors scope.now.heap.now scope.now.window.now v.items) }
-    ensures only { IfOk result (λ v. (l : List ℕ) → Survivors scope.now.heap.now scope.now.window.now l → l ≡ v.items) }
-    ensures memory { IfErr result (λ e. e ≡ Memory) }
-{
-    let (claims, seat) = Claims::new(alloc, scope.places())?;
-    let traversal = Traversal {
-        scope,
-        claims: &claims,
-    };
-    let found = traversal.search(alloc, seat, cards)?;
-    Ok(found)
-}
-
-// The survivors of the window of a scope: by rounds, or by one worker alone.
+// The survivors of the window of a scope: by rounds if its objects have numbers, else by one worker
+// alone.
 fn survivors_in<R: Threads + Sync, G: Gate + Sync>(
     crew: &Crew<'_, R, G>,
     scope: &Scope,
@@ -179,11 +161,10 @@ fn survivors_in<R: Threads + Sync, G: Gate + Sync>(
     requires outside { AreOutside scope.now.heap.now scope.now.window.now cards.now }
     requires lead_in { LeadIn scope.now.heap.now scope.now.window.now cards.now }
     ensures ok { IfOk result (λ v. Survivors scope.now.heap.now scope.now.window.now v.items) }
-    ensures only { IfOk result (λ v. (l : List ℕ) → Survivors scope.now.heap.now scope.now.window.now l → l ≡ v.items) }
     ensures memory { IfErr result (λ e. e ≡ Memory) }
 {
-    if !crew.takes_rounds(cards.len()) {
-        return search_alone(crew.alloc, scope, cards);
+    if let Numbering::Words = scope.numbering {
+        return Ok(search_alone(crew.alloc, scope, cards)?);
     }
     let mut search = first_round(crew, scope, cards)?;
     let mut round: u64 = 1;
@@ -228,21 +209,25 @@ pub fn discover<R: Threads + Sync, G: Gate + Sync>(
     ensures only { IfOk result (λ v. (l : List ℕ) → Survivors heap.now window.now l → l ≡ v.items) }
     ensures memory { IfErr result (λ e. e ≡ Memory) }
 {
-    let regions = heap.geometry().regions();
-    let positions = positions(alloc, regions, window)?;
-    let numbering = Numbering::Objects(Numbers::new_by(rt, alloc, heap, window, workers)?);
+    let positions = positions(alloc, heap.geometry().regions(), window)?;
+    let crew = Crew {
+        rt,
+        alloc,
+        team: Team::new(workers, chunk),
+        gate,
+    };
+    // One worker marks words, so it needs no pass over the window that numbers its objects.
+    let numbering = if crew.takes_rounds(cards.len()) {
+        Numbering::Objects(Numbers::new_by(rt, alloc, heap, window, workers)?)
+    } else {
+        Numbering::Words
+    };
     let scope = Scope {
         heap,
         starts,
         window,
         positions: positions.as_slice(),
         numbering: &numbering,
-    };
-    let crew = Crew {
-        rt,
-        alloc,
-        team: Team::new(workers, chunk),
-        gate,
     };
     survivors_in(&crew, &scope, cards)
 }

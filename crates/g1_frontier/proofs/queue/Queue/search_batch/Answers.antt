@@ -1,0 +1,35 @@
+use Rattle.std.proofs.Common.{arith, ℕ, List, ◌≡◌, ◌-◌, ◌∙◌, ap, sym, subst, map, flat_map, take, drop, All, Contains}
+use Rattle.g1_words.specs.Heap.{object_at, objects}
+use Rattle.g1_words.specs.declared.object.Object.{Object}
+use Rattle.g1_frontier.specs.Queue.{object_names, HasNoted}
+use Rattle.g1_frontier.proofs.Queues.{batch_objects, moved_on}
+use Rattle.g1_frontier.proofs.Scopes.{all_of_map}
+use Rattle.g1_frontier.proofs.queue.Queue.search_batch.Goals as goal
+
+pub read_headers-requires : goal.read_headers-requires
+read_headers-requires c =
+    let h = c.args.scope.now.heap.now in
+    let n : ℕ = c.args.to - c.args.from in
+    subst (λ (l : List ℕ). All (λ a. Contains (objects h) (object_at h a)) (take n (drop c.args.from l))) (sym c.deref.ensures.value)
+    (batch_objects c.args.scope.now c.requires.scope c.args.from n c.args.self.now c.requires.queue)
+
+pub note_objects-requires-clause-batch : goal.note_objects-requires-clause-batch
+note_objects-requires-clause-batch c =
+    let h = c.args.scope.now.heap.now in
+    let n : ℕ = c.args.to - c.args.from in
+    let xs : List ℕ = take n (drop c.args.from c.args.self.now.found.items) in
+    let ahead : c.as_slice.result.now ≡ map (object_at h) xs =
+    c.as_slice.ensures.value ∙ c.in_ok-read_headers.ensures ∙ ap (λ (l : List ℕ). map (object_at h) (take n (drop c.args.from l))) c.deref.ensures.value in
+    subst (λ (l : List Object). All (Contains (objects h)) l) (sym ahead)
+    (all_of_map (Contains (objects h)) (object_at h) xs (batch_objects c.args.scope.now c.requires.scope c.args.from n c.args.self.now c.requires.queue))
+
+pub returns : goal.returns
+returns c =
+    let s = c.args.scope.now in
+    let a = c.args.self.now in
+    let b = c.note_objects.new.self in
+    let n : ℕ = c.args.to - c.args.from in
+    let ahead : c.as_slice.result.now ≡ map (object_at s.heap.now) (take n (drop c.args.from a.found.items)) =
+    c.as_slice.ensures.value ∙ c.in_ok-read_headers.ensures ∙ ap (λ (l : List ℕ). map (object_at s.heap.now) (take n (drop c.args.from l))) c.deref.ensures.value in
+    moved_on s c.requires.scope c.args.from n a c.requires.queue c.args.to (omega (arith, c.requires.order)) b (omega (arith, c.requires.found, a.found.ok))
+    (subst (λ (l : List Object). HasNoted s (flat_map (object_names s) l) a b) ahead c.in_ok-note_objects.ensures)
