@@ -50,11 +50,6 @@ pub fn is_graph(text: &[u8]) -> bool {
 /// The first line that is not what is expected there, by its number, and what is expected. `Fault::Memory` else.
 pub fn read_graph<'a>(alloc: Global, text: &'a [u8]) -> Result<Graph<'a>, Wrong> {
     let lines = read_lines(alloc, text)?;
-    let mut draft = begin(alloc, &lines)?;
-    let places = match place(alloc, &mut draft, lines.entries.as_slice()) {
-        Ok(places) => places,
-        Err(refusal) => return Err(refusal.at(lines.heading)),
-    };
     let mut graph = Graph {
         text: Vec::new(alloc),
         names: Vec::new(alloc),
@@ -62,11 +57,22 @@ pub fn read_graph<'a>(alloc: Global, text: &'a [u8]) -> Result<Graph<'a>, Wrong>
         stale_slots: Vec::new(alloc),
         first_stale: None,
     };
-    fill_roots(&mut graph, &mut draft, &lines, &places)?;
-    fill_objects(alloc, &mut graph, &mut draft, &lines, &places)?;
+    fill(alloc, &mut graph, &lines)?;
+    Ok(graph)
+}
+
+// Finds a place for each object, and fills the graph.
+fn fill<'a>(alloc: Global, graph: &mut Graph<'a>, lines: &Lines<'a>) -> Result<(), Wrong> {
+    let mut draft = begin(alloc, lines)?;
+    let places = match place(alloc, &mut draft, lines.entries.as_slice()) {
+        Ok(places) => places,
+        Err(refusal) => return Err(refusal.at(lines.heading)),
+    };
+    fill_roots(graph, &mut draft, lines, &places)?;
+    fill_objects(alloc, graph, &mut draft, lines, &places)?;
     cover(&mut draft)?;
     graph.text = pack(alloc, &draft)?;
-    Ok(graph)
+    Ok(())
 }
 
 /// The bytes of the image that lines of objects by name describe.
@@ -177,8 +183,9 @@ impl<'a> Lines<'a> {
         if name == "-" || name == ".." {
             return Err(Expected::Name.into());
         }
-        let Some((size, slots)) = size_and_slots(size).filter(|(size, slots)| slots < size) else {
-            return Err(Expected::Size.into());
+        let (size, slots) = match size_and_slots(size) {
+            Some((size, slots)) if slots < size => (size, slots),
+            _ => return Err(Expected::Size.into()),
         };
         let (Ok(size), Ok(slots)) = (u32::try_from(size), u32::try_from(slots)) else {
             return Err(Expected::Smaller.into());

@@ -48,3 +48,9 @@ new-requires-clause-low c =
     let room : need h l ≤ length (free_regions h) = omega (arith, c.if-need-free.false, c.measure-need.ensures.need, c.free_count-free.ensures) in
     subst (All (λ p. p < most_words)) (sym (c.deref-4.ensures.value ∙ c.in_ok-places.ensures))
     (places_low h l (omega (arith, valid.limits.w_least)) (can_lay h c.args.set.now l valid c.requires) room valid.limits.words_most)
+
+pub returns-then-need-free-clause-room : goal.returns-then-need-free-clause-room
+returns-then-need-free-clause-room c = λ less. cc (c.measure-need.ensures.need, c.free_count-free.ensures)
+
+pub returns-then-need-free-clause-memory : goal.returns-then-need-free-clause-memory
+returns-then-need-free-clause-memory c = λ fits. absurd (omega (arith, c.if-need-free.true, c.measure-need.ensures.need, c.free_count-free.ensures))
