@@ -23,7 +23,8 @@
 //!
 //! Words that are written in place are not drawn: `each_region_mut` cuts them into runs of regions,
 //! and lends each run to one thread alone. Words that are only read are not drawn either if what is
-//! wanted is the first of something: `cut_regions` cuts the regions into ranges, one a thread.
+//! wanted is the first of something: `cut_regions` cuts the regions into ranges, one a thread, and
+//! `first_found` takes the first of what they found.
 //!
 //! What holds of the cursor between any two steps is one definition, `Dealing` of `specs/Rule`.
 //! What a seat has drawn is in the proofs alone: the list takes no bytes.
