@@ -3,7 +3,7 @@
 //!
 //! 1. `words` gives the words behind a program's name, as text.
 //! 2. A `Program` is a table of commands, and each command one of arguments. `match_words` gives what clap
-//!    finds in the words by such a table, and `find_command` the command in that.
+//!    finds in the words by such a table, and `read_request` what the command in that asks for.
 //! 3. `number`, `region` and `regions` read the whole numbers among the values that clap found, `cost_of`
 //!    the costs of a pause; a `Misuse` is reported with the usage of its command.
 //! 4. `read_all` reads the whole input, `deliver` writes the whole answer; `deliver_text` writes one
@@ -22,7 +22,8 @@ pub use arguments::words;
 pub use costs::{BUDGET, BYTE, CARD, DIRTY, FIXED, cost_of};
 pub use refusal::{Refusal, refuse, status};
 pub use streams::{BROKEN_PIPE, LineReader, deliver, deliver_text, read_all};
-pub use table::{Argument, FILE, FLAG, Form, Program, Usage, VALUE, find_command, match_words};
+pub use table::{Argument, FILE, FLAG, Form, Program, Usage, VALUE, match_words};
 pub use values::{
-    Misuse, explain, number, number_in, region, region_in, regions, required_number, whole,
+    Misuse, explain, number, number_in, read_request, region, region_in, regions, required_number,
+    whole,
 };

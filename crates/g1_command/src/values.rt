@@ -1,6 +1,6 @@
 //! Whole numbers among the values that clap found.
 use crate::refusal::Refusal;
-use crate::table::{Argument, Program, Usage, build_command};
+use crate::table::{Argument, Program, Usage, build_command, find_command};
 use clap::error::ErrorKind;
 use clap::{ArgMatches, Command, Error};
 use g1_words::Fault;
@@ -70,6 +70,26 @@ fn with_usage(
 // The usage of a command that is called by this path.
 fn usage_of(command: Command<'_>, path: &str) -> Result<String, AllocError> {
     command.bin_name(path)?.render_usage()
+}
+
+/// What the command among the matches asks for, by this function of its name and its values.
+///
+/// # Errors
+///
+/// A usage text if there is no command, or if the values are no request, and `Fault::Memory`.
+pub fn read_request<Q: Drop, F: Fn(Global, &str, &ArgMatches<'_>) -> Result<Q, Misuse>>(
+    alloc: Global,
+    program: &Program<'_>,
+    matches: &ArgMatches<'_>,
+    request_of: F,
+) -> Result<Q, Refusal>
+    requires { F.IsAlwaysCallable request_of }
+{
+    let (usage, values) = find_command(alloc, program, matches)?;
+    match request_of(alloc, usage.name, values) {
+        Ok(request) => Ok(request),
+        Err(misuse) => Err(misuse.refusal(alloc, program, &usage)),
+    }
 }
 
 /// What clap says instead of matches: a text that was asked for, or why the words are no request.

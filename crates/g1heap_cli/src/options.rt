@@ -7,8 +7,8 @@ use crate::usage::{commands, program};
 use clap::ArgMatches;
 use g1_choose::Cost;
 use g1_command::{
-    Argument, Misuse, Program, Refusal, cost_of, explain, find_command, match_words, number,
-    number_in, region, required_number,
+    Argument, Misuse, Refusal, cost_of, explain, match_words, number, number_in, read_request,
+    region, required_number,
 };
 use std::alloc::{AllocError, Global};
 
@@ -319,19 +319,7 @@ pub fn parse(alloc: Global, words: &[String]) -> Result<Request, Refusal> {
     let commands = commands();
     let program = program(&commands);
     match &match_words(alloc, &program, words.as_slice()) {
-        Ok(matches) => read_request(alloc, &program, matches),
+        Ok(matches) => read_request(alloc, &program, matches, request_of),
         Err(error) => Ok(Request::Help(explain(alloc, error)?)),
-    }
-}
-
-fn read_request(
-    alloc: Global,
-    program: &Program<'_>,
-    matches: &ArgMatches<'_>,
-) -> Result<Request, Refusal> {
-    let (usage, values) = find_command(alloc, program, matches)?;
-    match request_of(alloc, usage.name, values) {
-        Ok(request) => Ok(request),
-        Err(misuse) => Err(misuse.refusal(alloc, program, &usage)),
     }
 }

@@ -5,8 +5,8 @@ use clap::error::ErrorKind;
 use clap::{ArgMatches, Error};
 use g1_choose::Cost;
 use g1_command::{
-    Argument, Misuse, Program, Refusal, cost_of, explain, find_command, match_words, number,
-    regions, required_number,
+    Argument, Misuse, Refusal, cost_of, explain, match_words, number, read_request, regions,
+    required_number,
 };
 use std::alloc::{AllocError, Global};
 
@@ -125,7 +125,7 @@ pub fn parse(alloc: Global, words: &[String]) -> Result<Request, Refusal> {
     let commands = commands();
     let program = program(&commands);
     match match_words(alloc, &program, words) {
-        Ok(matches) => read_request(alloc, &program, &matches),
+        Ok(matches) => read_request(alloc, &program, &matches, request_of),
         Err(error) => match explain(alloc, &error) {
             Ok(text) => Ok(Request::Help(text)),
             Err(refusal) => Err(with_hint(&error, refusal)?),
@@ -152,16 +152,4 @@ const FROM_INPUT: &str = "\nThe input comes on standard input: write '< FILE' in
 // Whether an argument is too many that is no option.
 fn has_one_file_more(error: &Error, text: &str) -> bool {
     error.kind() == ErrorKind::UnknownArgument && !text.starts_with("error: unexpected argument '-")
-}
-
-fn read_request(
-    alloc: Global,
-    program: &Program<'_>,
-    matches: &ArgMatches<'_>,
-) -> Result<Request, Refusal> {
-    let (usage, values) = find_command(alloc, program, matches)?;
-    match request_of(alloc, usage.name, values) {
-        Ok(request) => Ok(request),
-        Err(misuse) => Err(misuse.refusal(alloc, program, &usage)),
-    }
 }
