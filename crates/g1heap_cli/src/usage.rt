@@ -105,57 +105,33 @@ pub fn program(commands: &[Usage]) -> Program<'_> {
     }
 }
 
-/// The commands. Each is a function's result, since the check of all as one constant takes too many steps.
+/// The commands. Each is a static, since the check of all as one takes too many steps.
 pub fn commands() -> [Usage; 6] {
-    [same(), print(), make(), explain(), why(), trace()]
+    [SAME, PRINT, MAKE, EXPLAIN, WHY, TRACE]
 }
 
-fn same() -> Usage {
-    SAME
-}
-
-fn print() -> Usage {
-    PRINT
-}
-
-fn make() -> Usage {
-    MAKE
-}
-
-fn explain() -> Usage {
-    EXPLAIN
-}
-
-fn why() -> Usage {
-    WHY
-}
-
-fn trace() -> Usage {
-    TRACE
-}
-
-const SAME: Usage = Usage {
+static SAME: Usage = Usage {
     name: "same",
     about: "Reports whether two images show the same graph from their roots, or where they differ",
     after_help: AFTER_SAME,
     arguments: &[BEFORE, AFTER, COVERED, KEPT_SET, FILL, YOUNG, NAMES, ALL],
 };
 
-const PRINT: Usage = Usage {
+static PRINT: Usage = Usage {
     name: "print",
     about: "Prints an image as lines",
     after_help: AFTER_PRINT,
     arguments: &[IMAGE_OR_INPUT, REGION, OBJECT, SUMMARY, OUTPUT],
 };
 
-const MAKE: Usage = Usage {
+static MAKE: Usage = Usage {
     name: "make",
     about: "Writes the image that lines describe",
     after_help: AFTER_MAKE,
     arguments: &[LINES, OUTPUT],
 };
 
-const EXPLAIN: Usage = Usage {
+static EXPLAIN: Usage = Usage {
     name: "explain",
     about: "Reports what a pause of an image does, one fact a line",
     after_help: AFTER_EXPLAIN,
@@ -172,14 +148,14 @@ const EXPLAIN: Usage = Usage {
     ],
 };
 
-const WHY: Usage = Usage {
+static WHY: Usage = Usage {
     name: "why",
     about: "Reports what keeps an object: the shortest path from a root, or a card",
     after_help: AFTER_WHY,
     arguments: &[IMAGE, ADDRESS],
 };
 
-const TRACE: Usage = Usage {
+static TRACE: Usage = Usage {
     name: "trace",
     about: "Answers a trace, each line at once if asked to",
     after_help: AFTER_TRACE,

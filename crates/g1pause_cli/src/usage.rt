@@ -26,36 +26,12 @@ pub fn program(commands: &[Usage]) -> Program<'_> {
     }
 }
 
-/// The commands. Each is a function's result, since the check of all as one constant takes too many steps.
+/// The commands. Each is a static, since the check of all as one takes too many steps.
 pub fn commands() -> [Usage; 6] {
-    [show(), check(), live(), choose(), pause(), run()]
+    [SHOW, CHECK, LIVE, CHOOSE, PAUSE, RUN]
 }
 
-fn show() -> Usage {
-    SHOW
-}
-
-fn check() -> Usage {
-    CHECK
-}
-
-fn live() -> Usage {
-    LIVE
-}
-
-fn choose() -> Usage {
-    CHOOSE
-}
-
-fn pause() -> Usage {
-    PAUSE
-}
-
-fn run() -> Usage {
-    RUN
-}
-
-const SHOW: Usage = Usage {
+static SHOW: Usage = Usage {
     name: "show",
     about: "Prints the regions of the image on standard input",
     after_help: "\
@@ -69,7 +45,7 @@ Example: g1pause show < IMAGE",
     arguments: &[WORKERS, CHUNK_OF_REGIONS, REPACK],
 };
 
-const CHECK: Usage = Usage {
+static CHECK: Usage = Usage {
     name: "check",
     about: "Reports whether every reference into another region is covered",
     after_help: "\
@@ -84,7 +60,7 @@ Example: g1pause check < IMAGE",
     arguments: &[],
 };
 
-const LIVE: Usage = Usage {
+static LIVE: Usage = Usage {
     name: "live",
     about: "Prints the live bytes of each region",
     after_help: "\
@@ -98,7 +74,7 @@ Example: g1pause live < IMAGE",
     arguments: &[WORKERS, CHUNK_OF_OBJECTS],
 };
 
-const CHOOSE: Usage = Usage {
+static CHOOSE: Usage = Usage {
     name: "choose",
     about: "Prints the candidates in order, and which of them the budget buys",
     after_help: "\
@@ -121,7 +97,7 @@ Example: g1pause choose --budget 1000 < IMAGE",
     ],
 };
 
-const PAUSE: Usage = Usage {
+static PAUSE: Usage = Usage {
     name: "pause",
     about: "Collects regions of the image on standard input, and writes the image after",
     after_help: "\
@@ -137,7 +113,7 @@ Example: g1pause pause --budget 1000 < IMAGE > AFTER",
     arguments: &[WORKERS, CHUNK, FIXED, DIRTY, CARD, BYTE, BUDGET, REGIONS],
 };
 
-const RUN: Usage = Usage {
+static RUN: Usage = Usage {
     name: "run",
     about: "Runs the trace on standard input, and prints what each command replies",
     after_help: "\
