@@ -67,23 +67,31 @@ impl<'a> Names<'a> {
         words: &[&'a str],
     ) -> Result<Option<&'static str>, AllocError> {
         match words {
-            [] => return Ok(None),
-            ["root", number, name] => match whole(number) {
-                Some(number) => self.roots.push((number, *name))?,
-                None => return Ok(Some("a whole number behind 'root'")),
-            },
-            ["label", word, name] => match whole(word) {
-                Some(word) => self.labels.push((word, *name))?,
-                None => return Ok(Some("a whole number behind 'label'")),
-            },
+            [] => Ok(None),
+            ["root", number, name] => {
+                add_numbered(
+                    &mut self.roots,
+                    number,
+                    name,
+                    "a whole number behind 'root'",
+                )
+            }
+            ["label", word, name] => {
+                add_numbered(
+                    &mut self.labels,
+                    word,
+                    name,
+                    "a whole number behind 'label'",
+                )
+            }
             ["type", name, "slots", rest @ ..] if rest.contains(&"data") => {
                 self.types.push((*name, Vec::from_slice(alloc, rest)?))?;
+                Ok(None)
             }
-            ["object", address, name] => return self.add_object(address, name, ""),
-            ["object", address, name, note] => return self.add_object(address, name, note),
-            [first, ..] => return Ok(Some(expected_of(first))),
+            ["object", address, name] => self.add_object(address, name, ""),
+            ["object", address, name, note] => self.add_object(address, name, note),
+            [first, ..] => Ok(Some(expected_of(first))),
         }
-        Ok(None)
     }
 
     fn add_object(
@@ -139,6 +147,22 @@ impl<'a> Names<'a> {
             }
         }
         None
+    }
+}
+
+// Adds a name and its number, or returns what is expected instead of the number.
+fn add_numbered<'a>(
+    list: &mut Vec<(u64, &'a str)>,
+    number: &str,
+    name: &'a str,
+    expected: &'static str,
+) -> Result<Option<&'static str>, AllocError> {
+    match whole(number) {
+        Some(number) => {
+            list.push((number, name))?;
+            Ok(None)
+        }
+        None => Ok(Some(expected)),
     }
 }
 
