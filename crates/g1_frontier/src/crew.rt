@@ -28,13 +28,10 @@ const USUAL_CHUNK: u64 = 64;
 const ROUNDS_OF_TWO: u64 = 16;
 
 impl<'a, R: Threads + Sync, G: Gate + Sync> Crew<'a, R, G> {
-    /// Whether a search goes by rounds, if this many cards lead into its window. Cards repay rounds,
-    /// since workers look for the slots on them side by side. Objects don't: between two rounds one
-    /// worker merges what the others kept and lists the next items, which takes as long as to search
-    /// alone.
-    pub fn takes_rounds(&self, cards: usize) -> bool {
-        let many = cards >= 2 * ITEMS_A_WORKER;
-        self.team.workers() > 1 && (many || self.team.chunk() != USUAL_CHUNK)
+    /// Whether a search goes by rounds: between two rounds one worker merges what the others kept and
+    /// lists the next items, which takes as long as to search alone.
+    pub fn takes_rounds(&self) -> bool {
+        self.team.workers() > 1 && self.team.chunk() != USUAL_CHUNK
     }
 
     /// Hires from the crew for a round of this many items.

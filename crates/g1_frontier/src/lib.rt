@@ -21,10 +21,11 @@
 //! 5. What a round found is the next round's items, until a round finds nothing. Since ranks rise
 //!    over all rounds, a place that has a word keeps it.
 //!
-//! If few cards lead into the window, there are no rounds, and no claim table. One worker finds what is
-//! named in order, and marks it in one bit for each word of the window. What it has found is its queue:
-//! it reads the headers of the next objects in the queue at once, then their slots, and ends when
-//! nothing is left in the queue.
+//! With chunks of the usual size there are no rounds, and no claim table. Several workers list the words
+//! on the cards that lead in, each for its part of the cards. Then one worker finds what is named in
+//! order, and marks it in one bit for each word of the window. What it has found is its queue: it reads
+//! the headers of the next objects in the queue at once, then their slots, and ends when nothing is left
+//! in the queue.
 //!
 //! So the answer is the same for all workers and chunk sizes. A round takes memory in proportion to
 //! what it looks at and finds. A region's place in the window is in a table of four bytes
@@ -35,6 +36,7 @@
 mod crew;
 mod item;
 pub mod laws;
+mod leads;
 mod numbers;
 mod offering;
 mod queue;

@@ -5,10 +5,14 @@ ghost use Rattle.g1_words.specs.Survivors.{Survivors};
 ghost use Rattle.g1_frontier.specs.Window.{AreCards, AreOutside, LeadIn};
 ghost use Rattle.g1_frontier.specs.Scope.{IsScope};
 
+use crate::leads::leads_on;
 use crate::scope::Scope;
 use g1_rem::slots_on;
 use g1_words::{Heap, Marks, Object};
+use g1_work::threads_for;
 use std::alloc::{AllocError, Global};
+use std::thread;
+use std::thread::Threads;
 
 /// What one worker has found, which is also the queue of what it searches.
 #[derive(Drop)]
@@ -21,6 +25,10 @@ pub struct Queue {
 // So many headers are read before the slots behind them, so that the processor waits for them
 // together. They are few enough to be in its nearest cache when their slots are read.
 const HEADERS_AHEAD: usize = 32;
+
+// To look at the slots on this many cards takes about a millisecond, and a thread takes tens of
+// microseconds to start.
+const CARDS_A_THREAD: usize = 4096;
 
 // Reads the headers of the objects at these addresses, one load beside the other.
 fn read_headers(heap: &Heap, addresses: &[u64], ahead: &mut Vec<Object>) -> Result<(), AllocError>
@@ -35,14 +43,14 @@ fn read_headers(heap: &Heap, addresses: &[u64], ahead: &mut Vec<Object>) -> Resu
 }
 
 impl Queue {
-    ghost use Rattle.std.specs.Prelude.{◌≡◌, ◌<◌, ◌≤◌, OnOk, IfOk, flat_map, Contains, vec_len};
+    ghost use Rattle.std.specs.Prelude.{◌≡◌, ◌<◌, ◌≤◌, [], OnOk, IfOk, flat_map, Contains, vec_len};
     ghost use Rattle.std.specs.List.{All};
     ghost use Rattle.g1_words.specs.Heap.{objects};
     ghost use Rattle.g1_words.specs.Valid.{IsReference};
     ghost use Rattle.g1_rem.specs.Starts.{card_count};
     ghost use Rattle.g1_frontier.specs.Window.{AreCards, AreOutside, LeadIn};
     ghost use Rattle.g1_frontier.specs.Scope.{IsScope, names_in};
-    ghost use Rattle.g1_frontier.specs.Queue.{card_names, object_names, HasFound, HasNoted, IsUnderWay};
+    ghost use Rattle.g1_frontier.specs.Queue.{card_names, object_names, HasFound, HasNoted, HasListed, IsUnderWay};
 
     // Notes what a reference word names in the window: it is found, except if it was before.
     fn note(&mut self, scope: &Scope, word: u64) -> Result<(), AllocError>
@@ -65,13 +73,14 @@ impl Queue {
         }
     }
 
-    // Notes what the roots name in the window.
-    fn note_roots(&mut self, scope: &Scope) -> Result<(), AllocError>
+    // Notes what reference words name in the window.
+    fn note_words(&mut self, scope: &Scope, words: &[u64]) -> Result<(), AllocError>
         requires scope { IsScope scope.now }
         requires queue { HasFound scope.now self.old }
-        ensures { OnOk result (HasNoted scope.now (flat_map (names_in scope.now) scope.now.heap.now.roots) self.old self.new) }
+        requires words { All (IsReference scope.now.heap.now) words.now }
+        ensures { OnOk result (HasNoted scope.now (flat_map (names_in scope.now) words.now) self.old self.new) }
     {
-        for word in scope.heap.roots() {
+        for word in words {
             self.note(scope, *word)?;
         }
         Ok(())
@@ -105,6 +114,62 @@ impl Queue {
         Ok(())
     }
 
+    // As `note_cards`, by this many threads: each lists the words on its chunk of the cards that lead
+    // in, and this one notes what they name.
+    fn note_cards_by_threads(
+        &mut self,
+        rt: &(impl Threads + Sync),
+        alloc: Global,
+        scope: &Scope,
+        cards: &[u32],
+        threads: usize,
+    ) -> Result<(), AllocError>
+        requires some { 0 < threads }
+        requires scope { IsScope scope.now }
+        requires queue { HasFound scope.now self.old }
+        requires cards { All (λ c. c < card_count scope.now.heap.now) cards.now }
+        ensures { OnOk result (HasNoted scope.now (flat_map (card_names scope.now) cards.now) self.old self.new) }
+    {
+        let size = cards.len().div_ceil(threads).max(1);
+        let parts = thread::map_chunks(
+            rt,
+            alloc,
+            cards,
+            size,
+            &|_start: usize, part: &[u32]| -> Result<Vec<u64>, AllocError>
+                requires { IsScope scope.now × All (λ c. c < card_count scope.now.heap.now) part.now }
+                ensures { IfOk result (λ v. HasListed scope.entry.now (flat_map (card_names scope.entry.now) part.now) [] v.items) }
+            { leads_on(alloc, scope, part) },
+        )?;
+        for part in &parts {
+            match part {
+                Ok(words) => self.note_words(scope, words)?,
+                Err(_) => return Err(AllocError),
+            }
+        }
+        Ok(())
+    }
+
+    // As `note_cards`, with this many workers at most. One if it is 0.
+    fn note_cards_by(
+        &mut self,
+        rt: &(impl Threads + Sync),
+        alloc: Global,
+        scope: &Scope,
+        cards: &[u32],
+        workers: u64,
+    ) -> Result<(), AllocError>
+        requires scope { IsScope scope.now }
+        requires queue { HasFound scope.now self.old }
+        requires cards { All (λ c. c < card_count scope.now.heap.now) cards.now }
+        ensures { OnOk result (HasNoted scope.now (flat_map (card_names scope.now) cards.now) self.old self.new) }
+    {
+        match threads_for(workers, cards.len(), CARDS_A_THREAD) {
+            1 => self.note_cards(alloc, scope, cards),
+            threads => self.note_cards_by_threads(rt, alloc, scope, cards, threads),
+        }
+    }
+
     // Notes what the slots of an object name in the window.
     fn note_object(&mut self, scope: &Scope, object: &Object) -> Result<(), AllocError>
         requires scope { IsScope scope.now }
@@ -133,8 +198,14 @@ impl Queue {
         Ok(())
     }
 
-    // Finds what the roots and the slots on cards name in the window.
-    fn begin(alloc: Global, scope: &Scope, cards: &[u32]) -> Result<Queue, AllocError>
+    // Finds what the roots and the slots on cards name in the window, with this many workers at most.
+    fn begin(
+        rt: &(impl Threads + Sync),
+        alloc: Global,
+        scope: &Scope,
+        cards: &[u32],
+        workers: u64,
+    ) -> Result<Queue, AllocError>
         requires scope { IsScope scope.now }
         requires cards { AreCards scope.now.heap.now cards.now }
         requires outside { AreOutside scope.now.heap.now scope.now.window.now cards.now }
@@ -145,8 +216,8 @@ impl Queue {
             found: Vec::new(alloc),
             marks: Marks::none(alloc, scope.places() as usize)?,
         };
-        queue.note_roots(scope)?;
-        queue.note_cards(alloc, scope, cards)?;
+        queue.note_words(scope, scope.heap.roots())?;
+        queue.note_cards_by(rt, alloc, scope, cards, workers)?;
         Ok(queue)
     }
 
@@ -171,11 +242,13 @@ impl Queue {
 }
 
 /// The survivors of the window of a scope, found by one worker, in the order in which a
-/// breadth-first search finds them.
+/// breadth-first search finds them. This many workers at most look at the slots on cards before it.
 pub(crate) fn search_alone(
+    rt: &(impl Threads + Sync),
     alloc: Global,
     scope: &Scope,
     cards: &[u32],
+    workers: u64,
 ) -> Result<Vec<u64>, AllocError>
     requires scope { IsScope scope.now }
     requires cards { AreCards scope.now.heap.now cards.now }
@@ -183,7 +256,7 @@ pub(crate) fn search_alone(
     requires lead_in { LeadIn scope.now.heap.now scope.now.window.now cards.now }
     ensures { IfOk result (λ v. Survivors scope.now.heap.now scope.now.window.now v.items) }
 {
-    let mut queue = Queue::begin(alloc, scope, cards)?;
+    let mut queue = Queue::begin(rt, alloc, scope, cards, workers)?;
     let mut ahead = Vec::with_capacity(alloc, HEADERS_AHEAD)?;
     let mut from = 0;
     while from < queue.found.len() {

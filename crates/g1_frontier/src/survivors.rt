@@ -164,7 +164,8 @@ fn survivors_in<R: Threads + Sync, G: Gate + Sync>(
     ensures memory { IfErr result (λ e. e ≡ Memory) }
 {
     if let Numbering::Words = scope.numbering {
-        return Ok(search_alone(crew.alloc, scope, cards)?);
+        let workers = crew.team.workers();
+        return Ok(search_alone(crew.rt, crew.alloc, scope, cards, workers)?);
     }
     let mut search = first_round(crew, scope, cards)?;
     let mut round: u64 = 1;
@@ -217,7 +218,7 @@ pub fn discover<R: Threads + Sync, G: Gate + Sync>(
         gate,
     };
     // One worker marks words, so it needs no pass over the window that numbers its objects.
-    let numbering = if crew.takes_rounds(cards.len()) {
+    let numbering = if crew.takes_rounds() {
         Numbering::Objects(Numbers::new_by(rt, alloc, heap, window, workers)?)
     } else {
         Numbering::Words

@@ -12,3 +12,4 @@ pub mod Cutting
 pub mod Firsts
 pub mod Gathered
 pub mod Making
+pub mod Chunks

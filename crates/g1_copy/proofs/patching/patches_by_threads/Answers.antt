@@ -1,7 +1,8 @@
 use Rattle.std.proofs.Common.{◌≡◌, ◌<◌, ◌++◌, length, get_or, ap, sym, ◌∙◌, arith}
 use Rattle.std.specs.Prelude.{Ok}
+use Rattle.g1_work.proofs.Chunks.{all_chunks}
 use Rattle.g1_copy.specs.Patches.{patches_by_card}
-use Rattle.g1_copy.proofs.PatchesShared.{shared_more, shared_part, shared_whole}
+use Rattle.g1_copy.proofs.PatchesShared.{shared_more, shared_part}
 use Rattle.g1_copy.proofs.patching.patches_by_threads.Goals as goal
 
 pub loop-part-preserved : goal.loop-part-preserved
@@ -20,6 +21,6 @@ loop-part-preserved g c =
 
 pub returns : goal.returns
 returns g c =
-    let whole = shared_whole c.args.moves.now.heap.now c.args.moves.now.plan.now.survivors c.args.cards.now c.max-size.result c.loop-part.part-index
+    let whole = all_chunks c.args.cards.now c.max-size.result c.loop-part.part-index
     (omega (arith, c.max-size.ensures)) (omega (arith, ap length c.deref-part-items.ensures.value, c.loop-part-test.false, c.loop-part.auto.part-index-end, c.in_ok-parts.ensures.len)) in
     c.loop-part.invariant ∙ ap (patches_by_card c.args.moves.now.heap.now c.args.moves.now.plan.now.survivors) whole
