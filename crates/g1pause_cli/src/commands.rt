@@ -1,6 +1,6 @@
 //! What the program does with a request.
 use crate::listing::{candidates, live_lines};
-use crate::options::{Pause, Question, Request, Sharing, parse};
+use crate::options::{Pause, Question, Request, Sharing, View, parse};
 use crate::show::table;
 use crate::usage::NAME;
 use g1_choose::Cost;
@@ -81,36 +81,31 @@ fn compute_answer<T: Threads + Sync, R: Read>(
 ) -> Result<Vec<u8>, Fault> {
     let settings = question_settings(question)?;
     match question {
-        Question::Show(_) => show(rt, alloc, &settings, reader),
-        Question::Live(_) => list_live(rt, alloc, &settings, reader),
+        Question::Image { view, .. } => describe(rt, alloc, view, &settings, reader),
         Question::Choose { budget, .. } => choose(rt, alloc, &settings, budget, reader),
         Question::Run { .. } => run(rt, alloc, &settings, reader),
     }
 }
 
-// The settings of a question.
+// The costs of a command that takes none.
+static FREE: Cost = Cost {
+    fixed: 0,
+    dirty: 0,
+    card: 0,
+    byte: 0,
+};
+
 fn question_settings(question: Question) -> Result<Settings, Fault> {
     match question {
-        Question::Show(sharing) | Question::Live(sharing) => sharing_settings(sharing),
+        Question::Image { sharing, .. } => settings_of(sharing, FREE),
         Question::Choose { sharing, cost, .. } | Question::Run { sharing, cost } => {
-            cost_settings(sharing, cost)
+            settings_of(sharing, cost)
         }
     }
 }
 
-// The settings of a command that has no costs and no choice.
-fn sharing_settings(sharing: Sharing) -> Result<Settings, Fault> {
-    let free = Cost {
-        fixed: 0,
-        dirty: 0,
-        card: 0,
-        byte: 0,
-    };
-    cost_settings(sharing, free)
-}
-
 // The settings of a command that has no choice of its own.
-fn cost_settings(sharing: Sharing, cost: Cost) -> Result<Settings, Fault> {
+fn settings_of(sharing: Sharing, cost: Cost) -> Result<Settings, Fault> {
     Settings::new(sharing.workers, sharing.chunk, cost, Choice::Budget(0))
 }
 
@@ -135,14 +130,18 @@ fn pause_settings(pause: Pause) -> Result<Settings, Fault> {
     }
 }
 
-fn show<T: Threads + Sync, R: Read>(
+fn describe<T: Threads + Sync, R: Read>(
     rt: &T,
     alloc: Global,
+    view: View,
     settings: &Settings,
     reader: &mut R,
 ) -> Result<Vec<u8>, Fault> {
     let image = read_image(rt, alloc, settings.workers(), reader)?;
-    table(rt, alloc, settings, &image)
+    match view {
+        View::Regions => table(rt, alloc, settings, &image),
+        View::Live => live_lines(rt, alloc, settings, image.heap()),
+    }
 }
 
 fn repack<T: Threads + Sync, R: Read, W: Write>(
@@ -152,17 +151,7 @@ fn repack<T: Threads + Sync, R: Read, W: Write>(
     reader: &mut R,
     writer: &mut W,
 ) -> Result<(), Fault> {
-    let settings = sharing_settings(sharing)?;
-    rewrite(rt, alloc, settings.workers(), reader, writer)
-}
-
-fn rewrite<T: Threads + Sync, R: Read, W: Write>(
-    rt: &T,
-    alloc: Global,
-    workers: u64,
-    reader: &mut R,
-    writer: &mut W,
-) -> Result<(), Fault> {
+    let workers = settings_of(sharing, FREE)?.workers();
     let image = read_image(rt, alloc, workers, reader)?;
     let mut sink = ToWriter::new(writer);
     write(alloc, &image, &mut sink)?;
@@ -177,16 +166,6 @@ fn check<T: Threads + Sync, R: Read, W: Write>(
 ) -> Result<(), Fault> {
     read_tracked(rt, alloc, 1, reader)?;
     deliver(b"covered\n", writer)
-}
-
-fn list_live<T: Threads + Sync, R: Read>(
-    rt: &T,
-    alloc: Global,
-    settings: &Settings,
-    reader: &mut R,
-) -> Result<Vec<u8>, Fault> {
-    let image = read_image(rt, alloc, settings.workers(), reader)?;
-    live_lines(rt, alloc, settings, image.heap())
 }
 
 fn choose<T: Threads + Sync, R: Read>(

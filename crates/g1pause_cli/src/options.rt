@@ -28,10 +28,11 @@ pub enum Request {
 /// What is asked of an image or of a trace.
 #[derive(Debug, Clone, Copy, PartialEq, Eq)]
 pub enum Question {
-    /// The table of an image.
-    Show(Sharing),
-    /// The live bytes of each region.
-    Live(Sharing),
+    /// What an image has in its regions.
+    Image {
+        view: View,
+        sharing: Sharing,
+    },
     /// The candidates, and which of them the budget buys.
     Choose {
         sharing: Sharing,
@@ -43,6 +44,15 @@ pub enum Question {
         sharing: Sharing,
         cost: Cost,
     },
+}
+
+/// What is told about the regions of an image.
+#[derive(Debug, Clone, Copy, PartialEq, Eq)]
+pub enum View {
+    /// Their table.
+    Regions,
+    /// The live bytes of each.
+    Live,
 }
 
 /// A pause that collects what a budget buys, or the regions that are given. Both may be here.
@@ -106,8 +116,14 @@ fn request_of(alloc: Global, name: &str, values: &ArgMatches<'_>) -> Result<Requ
 fn question_of(alloc: Global, name: &str, values: &ArgMatches<'_>) -> Result<Question, Misuse> {
     let sharing = sharing_of(alloc, values)?;
     match name {
-        "show" => Ok(Question::Show(sharing)),
-        "live" => Ok(Question::Live(sharing)),
+        "show" => Ok(Question::Image {
+            view: View::Regions,
+            sharing,
+        }),
+        "live" => Ok(Question::Image {
+            view: View::Live,
+            sharing,
+        }),
         "choose" => Ok(Question::Choose {
             sharing,
             cost: cost_of(alloc, values)?,
