@@ -2,7 +2,7 @@
 """count_threads.py DRIVER
 
 Counts the threads that calls of the library start which no gate is told of: those that merge remembered sets, sort
-the log and make a pause ready. DRIVER, the built crates/g1_rows, runs each on an image with more cards than one
+the log, look at the cards that lead into a search and make a pause ready. DRIVER, the built crates/g1_rows, runs each on an image with more cards than one
 thread is given, as a row whose answer is written here, and tells where the call begins and ends. The call has to start
 at least one thread, and no more than there may be workers; on an image of few cards it has to start none. On a machine
 of one processor nothing is counted.
@@ -79,16 +79,22 @@ LARGE = {
     "refine": lambda: lists(*(cards_of_others(region) for region in range(FULL)), []),
     "new_rem": lambda: lists([], *(cards_of_others(region, 1) for region in range(1, FULL)), []),
     "prepare": lambda: in_version_two(all_remembered(1)),
+    "discover": lambda: lists([]),
 }
 # Of one that collects region 1 of the shared objects.
-SMALL = {"refine": lists([], [0, 1], [], []), "new_rem": lists([], [], [0, 1], []), "prepare": SHARED_AFTER}
+SMALL = {
+    "refine": lists([], [0, 1], [], []),
+    "new_rem": lists([], [], [0, 1], []),
+    "prepare": SHARED_AFTER,
+    "discover": lists([21, 16]),
+}
 
 
 def count(library, report, driver, call, image, answer):
     """The threads that the call started, or nothing if it answered otherwise."""
     environment = dict(os.environ, LD_PRELOAD=str(library), THREADS_REPORT=str(report))
     report.unlink(missing_ok=True)
-    out, errors, status = run([driver, "rows"], row(f"{call} workers {WORKERS} chunk 1", image, answer), environment)
+    out, errors, status = run([driver, "rows"], row(f"{call} workers {WORKERS} chunk 64", image, answer), environment)
     good = status == 0 and not errors and out.endswith(b"\n1 ok, 0 failed\n")
     return int(report.read_text()) if good and report.exists() else None
 
