@@ -19,6 +19,7 @@ mod output;
 mod reaching;
 mod refusal;
 mod regions;
+mod sameness;
 mod sides;
 mod stale;
 mod summary;
@@ -28,7 +29,8 @@ mod tracing;
 mod usage;
 mod young;
 
-pub use commands::{Call, compare_images, program};
+pub use commands::{Call, program};
 pub use options::Same;
+pub use sameness::compare_images;
 pub use terminals::Terminals;
 pub use usage::NAME;

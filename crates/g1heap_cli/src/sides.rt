@@ -57,19 +57,11 @@ pub fn open<'a>(
     }
 }
 
-/// Opens what a file has as `open` does, and refuses it if words reference no object.
-pub fn open_whole<'a>(
-    alloc: Global,
-    name: &str,
-    found: Found,
-    lines: &'a [u8],
-) -> Result<Side<'a>, Refusal> {
-    match open(alloc, name, found, lines) {
-        Ok(side) => match &side.stale {
-            Some(strays) => Err(refuse_lines(alloc, name, &[], strays.wrong)),
-            None => Ok(side),
-        },
-        Err(refusal) => Err(refusal),
+/// Refuses a file if words of it reference no object.
+pub fn check_whole(alloc: Global, name: &str, side: &Side<'_>) -> Result<(), Refusal> {
+    match &side.stale {
+        Some(strays) => Err(refuse_lines(alloc, name, &[], strays.wrong)),
+        None => Ok(()),
     }
 }
 

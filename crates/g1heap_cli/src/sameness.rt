@@ -1,0 +1,396 @@
+//! Whether two files have one heap, and what else is asked of them.
+use crate::comparing::{Sides, difference_line, same_line, stale_line};
+use crate::files::{read_bytes, read_side};
+use crate::listing::all_lines;
+use crate::names::Names;
+use crate::options::Same;
+use crate::reaching::{Path, first_stale};
+use crate::refusal::{no_region, not_for_lines, of_file, wrong_name};
+use crate::sides::{Side, Strays, check_whole, open, refuse_lines};
+use crate::stale::Stale;
+use crate::young::with_dirty;
+use g1_choose::given;
+use g1_command::Refusal;
+use g1_image::Image;
+use g1_kept::{Lost, kept};
+use g1_rem::verify;
+use g1_same::{Difference, Renaming, compare};
+use g1_words::{Fault, Heap, Kind};
+use std::alloc::{AllocError, Global};
+use std::io::Read;
+use std::rt::Files;
+use std::str;
+use std::thread::Threads;
+
+/// The status and the lines for two files. The status is 1 if they differ.
+pub fn compare_files<T: Threads + Sync + Files, R: Read>(
+    rt: &T,
+    alloc: Global,
+    same: &Same,
+    reader: &mut R,
+) -> Result<(u8, String), Refusal> {
+    let mut lines = Vec::new(alloc);
+    match read_and_open(rt, alloc, same.before.as_str(), reader, &mut lines) {
+        Ok(before) => compare_to_after(rt, alloc, same, &before, reader),
+        Err(refusal) => Err(refusal),
+    }
+}
+
+// The file before is refused for its words before the file after is read.
+fn compare_to_after<T: Threads + Sync + Files, R: Read>(
+    rt: &T,
+    alloc: Global,
+    same: &Same,
+    before: &Side<'_>,
+    reader: &mut R,
+) -> Result<(u8, String), Refusal> {
+    check_whole(alloc, same.before.as_str(), before)?;
+    let mut lines = Vec::new(alloc);
+    match read_and_open(rt, alloc, same.after.as_str(), reader, &mut lines) {
+        Ok(after) => compare_to_side(rt, alloc, same, before, after, reader),
+        Err(refusal) => Err(refusal),
+    }
+}
+
+// Reads a file and opens it. Its lines are kept where the side borrows their names.
+fn read_and_open<'a, T: Files, R: Read>(
+    rt: &T,
+    alloc: Global,
+    name: &str,
+    reader: &mut R,
+    lines: &'a mut Vec<u8>,
+) -> Result<Side<'a>, Refusal> {
+    let (found, bytes) = read_side(rt, alloc, name, reader)?;
+    *lines = bytes;
+    open(alloc, name, found, lines.as_slice())
+}
+
+// Only what is the same is asked for cover.
+fn compare_to_side<T: Threads + Sync + Files, R: Read>(
+    rt: &T,
+    alloc: Global,
+    same: &Same,
+    before: &Side<'_>,
+    after: Side<'_>,
+    reader: &mut R,
+) -> Result<(u8, String), Refusal> {
+    match compare_asked(rt, alloc, same, before, &after, reader) {
+        Ok((0, text)) if same.covered => with_cover(text, check_cover(rt, alloc, same, after)),
+        compared => compared,
+    }
+}
+
+// The names of the program are read when both heaps are.
+fn compare_asked<T: Files, R: Read>(
+    rt: &T,
+    alloc: Global,
+    same: &Same,
+    before: &Side<'_>,
+    after: &Side<'_>,
+    reader: &mut R,
+) -> Result<(u8, String), Refusal> {
+    check_asked(alloc, same, before, after)?;
+    match read_names(rt, alloc, same, reader) {
+        Ok(text) => compare_named(alloc, same, text.as_slice(), before, after),
+        Err(refusal) => Err(refusal),
+    }
+}
+
+// The text of the names, which is empty if none are given.
+fn read_names<T: Files, R: Read>(
+    rt: &T,
+    alloc: Global,
+    same: &Same,
+    reader: &mut R,
+) -> Result<Vec<u8>, Refusal> {
+    match &same.names {
+        Some(file) => read_bytes(rt, alloc, file.as_str(), reader),
+        None => Ok(Vec::new(alloc)),
+    }
+}
+
+fn compare_named(
+    alloc: Global,
+    same: &Same,
+    text: &[u8],
+    before: &Side<'_>,
+    after: &Side<'_>,
+) -> Result<(u8, String), Refusal> {
+    let Some(file) = &same.names else {
+        return compare_sides(alloc, same, None, before, after);
+    };
+    match names_in(alloc, file.as_str(), text) {
+        Ok(names) => compare_sides(alloc, same, Some(&names), before, after),
+        Err(refusal) => Err(refusal),
+    }
+}
+
+// Lines of objects by name have no regions of the program's own, and no addresses.
+fn check_asked(
+    alloc: Global,
+    same: &Same,
+    before: &Side<'_>,
+    after: &Side<'_>,
+) -> Result<(), Refusal> {
+    if before.labels.is_some() && same.names.is_some() {
+        return Err(not_for_lines(alloc, same.before.as_str(), "--names"));
+    }
+    if before.labels.is_some() && !same.set.is_empty() {
+        return Err(not_for_lines(alloc, same.before.as_str(), "--set"));
+    }
+    if after.labels.is_some() && (same.covered || !same.set.is_empty()) {
+        let option = if same.covered { "--covered" } else { "--set" };
+        return Err(not_for_lines(alloc, same.after.as_str(), option));
+    }
+    Ok(())
+}
+
+fn names_in<'a>(alloc: Global, file: &str, text: &'a [u8]) -> Result<Names<'a>, Refusal> {
+    match str::from_utf8(text) {
+        Ok(text) => Names::read(alloc, file, text),
+        Err(_) => Err(wrong_name(alloc, file, 1, "text in UTF-8")),
+    }
+}
+
+fn compare_sides(
+    alloc: Global,
+    same: &Same,
+    names: Option<&Names<'_>>,
+    before: &Side<'_>,
+    after: &Side<'_>,
+) -> Result<(u8, String), Refusal> {
+    let sides = sides_of(names, before, after);
+    match &after.stale {
+        None => compare_heaps(alloc, same, sides),
+        Some(strays) => compare_stale(alloc, same, sides, strays),
+    }
+}
+
+fn sides_of<'x>(
+    names: Option<&'x Names<'x>>,
+    before: &'x Side<'x>,
+    after: &'x Side<'x>,
+) -> Sides<'x> {
+    Sides {
+        before: before.image.heap(),
+        after: after.image.heap(),
+        names,
+        labels: [labels_of(before), labels_of(after)],
+        stale_names: stale_names_of(after),
+    }
+}
+
+fn stale_names_of<'a>(side: &'a Side<'_>) -> Option<&'a [&'a str]> {
+    match &side.stale {
+        Some(strays) => Some(strays.names.as_slice()),
+        None => None,
+    }
+}
+
+fn labels_of<'a>(side: &'a Side<'_>) -> Option<&'a [(u64, &'a str)]> {
+    match &side.labels {
+        Some(labels) => Some(labels.as_slice()),
+        None => None,
+    }
+}
+
+/// The status and the line for two images.
+pub fn compare_images<'x>(
+    alloc: Global,
+    same: &Same,
+    before: &'x Image,
+    after: &'x Image,
+) -> Result<(u8, String), Refusal> {
+    let sides = Sides {
+        before: before.heap(),
+        after: after.heap(),
+        names: None,
+        labels: [None, None],
+        stale_names: None,
+    };
+    compare_heaps(alloc, same, sides)
+}
+
+fn compare_heaps(alloc: Global, same: &Same, sides: Sides<'_>) -> Result<(u8, String), Refusal> {
+    match compare(alloc, sides.before, sides.after) {
+        Ok(Ok(renaming)) => same_answer(alloc, same, sides, &renaming),
+        Ok(Err(difference)) => difference_answer(alloc, same, sides, &difference),
+        Err(fault) => Err(Refusal::Fault(fault)),
+    }
+}
+
+fn same_answer(
+    alloc: Global,
+    same: &Same,
+    sides: Sides<'_>,
+    renaming: &Renaming,
+) -> Result<(u8, String), Refusal> {
+    let mut text = same_line(alloc, sides.before, renaming)?;
+    match push_kept(alloc, same, sides, &mut text) {
+        Ok(status) => Ok((status, text)),
+        Err(refusal) => Err(refusal),
+    }
+}
+
+fn difference_answer(
+    alloc: Global,
+    same: &Same,
+    sides: Sides<'_>,
+    difference: &Difference,
+) -> Result<(u8, String), Refusal> {
+    let line = difference_line(alloc, sides, difference)?;
+    Ok((1, with_all(alloc, same, sides, None, line)?))
+}
+
+// The first difference, of those between the graphs and the first stale word that the roots reach.
+fn compare_stale(
+    alloc: Global,
+    same: &Same,
+    sides: Sides<'_>,
+    strays: &Strays<'_>,
+) -> Result<(u8, String), Refusal> {
+    let stale = &strays.words;
+    let first = first_stale(alloc, sides.after, stale)?;
+    match compare(alloc, sides.before, sides.after) {
+        Ok(compared) => {
+            let line = stale_answer(alloc, same, sides, strays, &compared, &first)?;
+            Ok((1, with_all(alloc, same, sides, Some(stale), line)?))
+        }
+        Err(fault) => Err(Refusal::Fault(fault)),
+    }
+}
+
+// If there is no difference, the file after is refused for its fault.
+fn stale_answer(
+    alloc: Global,
+    same: &Same,
+    sides: Sides<'_>,
+    strays: &Strays<'_>,
+    compared: &Result<Renaming, Difference>,
+    first: &Option<(Path, u64)>,
+) -> Result<String, Refusal> {
+    match (compared, first) {
+        (Ok(_), None) => Err(refuse_lines(alloc, same.after.as_str(), &[], strays.wrong)),
+        (Err(difference), None) => Ok(difference_line(alloc, sides, difference)?),
+        (Err(difference), Some((path, _))) if !comes_first(path, difference) => {
+            Ok(difference_line(alloc, sides, difference)?)
+        }
+        (_, Some((path, word))) => Ok(stale_line(alloc, sides, path, *word)?),
+    }
+}
+
+fn comes_first(path: &Path, difference: &Difference) -> bool {
+    match difference {
+        Difference::Roots { .. } => false,
+        Difference::At { root, slots, .. } => path.is_at_most(*root, slots.as_slice()),
+    }
+}
+
+// The line of the first difference, and those of others and their numbers, if that is asked.
+fn with_all(
+    alloc: Global,
+    same: &Same,
+    sides: Sides<'_>,
+    stale: Option<&Stale>,
+    line: String,
+) -> Result<String, AllocError> {
+    match same.all {
+        Some(most) => all_lines(alloc, sides, stale, most, line),
+        None => Ok(line),
+    }
+}
+
+// What a pause of the set keeps, if a set is given. If something is lost, only that is reported.
+fn push_kept(
+    alloc: Global,
+    same: &Same,
+    sides: Sides<'_>,
+    text: &mut String,
+) -> Result<u8, Refusal> {
+    if same.set.is_empty() {
+        return Ok(0);
+    }
+    match lost(alloc, same, sides.before, sides.after)? {
+        None => {
+            text.push_str("kept\n")?;
+            Ok(0)
+        }
+        Some(lost) => {
+            text.clear();
+            write!(text, "differ {lost}\n")?;
+            Ok(1)
+        }
+    }
+}
+
+// The image that is asked for cover: the cards of young regions count as dirty.
+fn with_young(alloc: Global, same: &Same, after: Image) -> Result<Image, Refusal> {
+    if same.young.is_empty() {
+        return Ok(after);
+    }
+    let regions = after.heap().geometry().regions();
+    for region in &same.young {
+        if u64::from(*region) >= regions {
+            return Err(no_region(alloc, same.after.as_str(), *region, regions));
+        }
+    }
+    Ok(with_dirty(alloc, &after, same.young.as_slice())?)
+}
+
+// The regions of the set that are not free in the heap before.
+fn used(alloc: Global, old: &Heap, set: &[u32]) -> Result<Vec<u32>, AllocError> {
+    let mut used = Vec::new(alloc);
+    for region in set {
+        match old.regions().get(*region as usize) {
+            Some(found) if found.kind == Kind::Free => (),
+            _ => used.push(*region)?,
+        }
+    }
+    Ok(used)
+}
+
+// The first thing that a pause of the set would have kept. The regions of the set are looked for in the
+// heap before.
+fn lost(alloc: Global, same: &Same, old: &Heap, new: &Heap) -> Result<Option<Lost>, Refusal> {
+    let set = used(alloc, old, same.set.as_slice())?;
+    let set = match given(alloc, old, set.as_slice()) {
+        Ok(set) => set,
+        Err(fault) => return Err(of_file(alloc, same.before.as_str(), fault)),
+    };
+    match kept(alloc, old, new, set.as_slice(), same.fill) {
+        Ok(Ok(())) => Ok(None),
+        Ok(Err(lost)) => Ok(Some(lost)),
+        Err(fault) => Err(Refusal::Fault(fault)),
+    }
+}
+
+// The line of cover, or the refusal if a slot lacks it.
+fn with_cover(text: String, checked: Result<(), Refusal>) -> Result<(u8, String), Refusal> {
+    match checked {
+        Ok(()) => {
+            let mut text = text;
+            text.push_str("covered\n")?;
+            Ok((0, text))
+        }
+        Err(refusal) => Err(refusal),
+    }
+}
+
+fn check_cover<T: Threads + Sync>(
+    rt: &T,
+    alloc: Global,
+    same: &Same,
+    after: Side<'_>,
+) -> Result<(), Refusal> {
+    let Side { image, .. } = after;
+    let image = with_young(alloc, same, image)?;
+    match uncovered(rt, alloc, image) {
+        Some(fault) => Err(of_file(alloc, same.after.as_str(), fault)),
+        None => Ok(()),
+    }
+}
+
+fn uncovered<T: Threads + Sync>(rt: &T, alloc: Global, image: Image) -> Option<Fault> {
+    let (_, fault) = verify(rt, alloc, image).err()?;
+    Some(fault)
+}
