@@ -28,8 +28,8 @@ const USUAL_CHUNK: u64 = 64;
 const ROUNDS_OF_TWO: u64 = 16;
 
 impl<'a, R: Threads + Sync, G: Gate + Sync> Crew<'a, R, G> {
-    /// Whether a search goes by rounds: between two rounds one worker merges what the others kept and
-    /// lists the next items, which takes as long as to search alone.
+    /// Whether a search goes by rounds. With the usual chunk it doesn't: between two rounds one worker
+    /// merges what the others kept and lists the next items, which takes as long as to search alone.
     pub fn takes_rounds(&self) -> bool {
         self.team.workers() > 1 && self.team.chunk() != USUAL_CHUNK
     }
