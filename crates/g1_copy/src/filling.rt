@@ -10,8 +10,11 @@ use crate::preparing::Prepared;
 use g1_work::{Fill, Gate, MOST_WORKERS, each_region_mut, threads_for};
 use std::thread::Threads;
 
-// A thread takes as long to start and to join as it takes to write this many words, 1 MB.
+// A thread takes as long to start and to join as it takes to copy this many words, 1 MB.
 const WORDS_A_RUN: usize = 131_072;
+
+// A word that is copied takes as long as four that are cleared.
+const CLEARED_A_COPIED: usize = 4;
 
 // One worker is fastest for a heap of fewer words, as those of tests. Up to four are hired for it, so
 // that tests see threads write.
@@ -19,25 +22,28 @@ const FEW_WORDS: usize = 8192;
 
 const FEW_WORKERS: u64 = 4;
 
-/// How many words are written over the regions of a heap, in regions of this many words.
-fn words_to_write(prepared: &Prepared, region_words: usize) -> usize {
+/// How many words are copied in the time that it takes to write what was prepared, in regions of this
+/// many words.
+fn words_to_copy(prepared: &Prepared, region_words: usize) -> usize {
     let mut words = prepared.patches.len();
     for fate in &prepared.fates {
-        if !matches!(fate, Fate::Kept) {
-            words = words.saturating_add(region_words);
-        }
+        words = words.saturating_add(match fate {
+            Fate::Filled(_) => region_words,
+            Fate::Freed => region_words / CLEARED_A_COPIED,
+            Fate::Kept => 0,
+        });
     }
     words
 }
 
-/// How many of the workers write so many words over a heap of `words`.
-fn writers(workers: u64, words: usize, to_write: usize) -> u64
+/// How many of the workers write over a heap of `words` what takes as long as so many words to copy.
+fn writers(workers: u64, words: usize, to_copy: usize) -> u64
     ensures { AreWorkers result }
 {
     if words < FEW_WORDS {
         return workers.min(FEW_WORKERS).max(1);
     }
-    threads_for(workers.min(MOST_WORKERS), to_write, WORDS_A_RUN) as u64
+    threads_for(workers.min(MOST_WORKERS), to_copy, WORDS_A_RUN) as u64
 }
 
 /// Writes each patch's word at its slot, in words that begin at this address.
@@ -102,7 +108,7 @@ pub(crate) fn write<R: Threads + Sync, G: Gate + Sync>(
         patches: &prepared.patches,
         firsts: &prepared.firsts,
     };
-    let to_write = words_to_write(prepared, region_words);
-    let writers = writers(workers, words.len(), to_write);
+    let to_copy = words_to_copy(prepared, region_words);
+    let writers = writers(workers, words.len(), to_copy);
     each_region_mut(rt, writers, words, region_words, &filling, gate);
 }

@@ -137,19 +137,22 @@ const FIELD_AFTER: &str = "G1IMAGE2 4096 64 128 1 0 128 \
 /// The root and the cards of the slots are one chunk, and the objects of the field 64.
 const CHUNK: u64 = 2_060;
 
-/// Each of 128 regions, two of which have as many words as are worth a worker, has one object, which is dead.
-const WIDE: &str = "G1IMAGE2 65536 64 128 0 0 128 1,1,0*128 0*128 1/0*128";
+/// Each of 128 regions, two of which have as many words as are worth a worker, has one object that leaves no room for another.
+const WIDE: &str = "G1IMAGE2 65536 64 256 128 0 256 \
+    1,49152,0*128 0,0,0*128 =1+65536*128 0*256 49152/0,0..98302*128";
 
-const WIDE_AFTER: &str = "G1IMAGE2 65536 64 128 0 0 128 0,0,0*128 0*128";
+/// The objects of the wide heap stand in the other 128 regions.
+const WIDE_AFTER: &str = "G1IMAGE2 65536 64 256 128 0 256 \
+    0,0,0*128 1,49152,0*128 =8388609+65536*128 0*256 49152/0,0..98302*128";
 
-/// All search the field, and three write it: the words of 64 regions, and as many patches as the object has slots. All write the
-/// wide heap.
+/// All search the field, and two write it: they fill 32 regions, clear as many, and write as many patches as the object has slots.
+/// All write the wide heap.
 #[test]
 fn all_workers_search_and_write_at_once(rt: HostRuntime) -> Result<(), Fail> {
     let alloc = rt.alloc();
     for (before, after, regions, part, workers) in [
         (FIELD, FIELD_AFTER, (33, 65), Part::Deal, 64),
-        (FIELD, FIELD_AFTER, (33, 65), Part::Fill, 3),
+        (FIELD, FIELD_AFTER, (33, 65), Part::Fill, 2),
         (WIDE, WIDE_AFTER, (0, 128), Part::Fill, 64),
     ] {
         let gate = Crowd::new(&rt, part, workers, 1);
