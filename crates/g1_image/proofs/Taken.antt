@@ -11,6 +11,7 @@ use Rattle.g1_words.specs.declared.fault.Fault.{Fault}
 use Rattle.g1_words.specs.declared.fault.Fault.TheVariants as fault
 use Rattle.g1_words.specs.declared.fault.Device.TheVariants as device
 use Rattle.g1_image.specs.Reading.{IsBytes}
+use Rattle.g1_image.specs.Source.{ReadFails}
 use Rattle.g1_image.specs.Ahead.{Takes, TakeFails}
 
 -- bytes read over what stands behind the bytes that wait
@@ -80,3 +81,9 @@ fails_after l m n a b bs i k fault.Memory p h le = h ∙ p.mark
 fails_after l m n a b bs i k (fault.Device device.Input) p h le = h
 fails_after l m n a b bs i k fault.Short p h le = (h.0 ∙ p.mark, few_left a b bs i k p.bytes h.1 le)
 fails_after l m n a b bs i k _ p h le = absurd h
+
+-- nothing is taken where a read fails
+pub read_takes_none : (m n : Bool) (a : Option (List ℕ)) (k : ℕ) (e : Fault) → ReadFails m n e → TakeFails m n a k e
+read_takes_none m n a k fault.Memory h = h
+read_takes_none m n a k (fault.Device device.Input) h = h
+read_takes_none m n a k _ h = absurd h
