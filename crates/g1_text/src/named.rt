@@ -7,6 +7,7 @@ use crate::draft::{Draft, Heading};
 use crate::expected::{Expected, Refusal, Wrong};
 use crate::packing::pack;
 use crate::placing::{Entry, Places, choose_sizes, place, regions_needed};
+use crate::reading::{HeapSizes, sizes};
 use crate::words::{Words, size_and_slots};
 use g1_image::decode;
 use g1_words::{Geometry, MOST_ROOTS, header_word};
@@ -101,7 +102,7 @@ pub fn make_graph(alloc: Global, text: &[u8]) -> Result<Vec<u8>, Wrong>
 #[derive(Drop)]
 struct Lines<'a> {
     heading: u64,
-    sizes: Option<(u64, u64, u64)>,
+    sizes: Option<HeapSizes>,
     roots: Vec<(u64, &'a str)>,
     entries: Vec<Entry<'a>>,
     // The place of each name's entry.
@@ -148,16 +149,13 @@ impl<'a> Lines<'a> {
     }
 
     // graph [W K N]
-    fn begin(&mut self, number: u64, first: &str, sizes: &[&str]) -> Result<(), Refusal> {
+    fn begin(&mut self, number: u64, first: &str, told: &[&str]) -> Result<(), Refusal> {
         if first != "graph" {
             return Err(Expected::Graph.into());
         }
         self.heading = number;
-        if !sizes.is_empty() {
-            let mut words = Words::new(sizes);
-            let (w, k) = (words.number("W")?, words.number("K")?);
-            self.sizes = Some((w, k, words.number("N")?));
-            words.end()?;
+        if !told.is_empty() {
+            self.sizes = Some(all_sizes(told)?);
         }
         Ok(())
     }
@@ -183,13 +181,7 @@ impl<'a> Lines<'a> {
         if name == "-" || name == ".." {
             return Err(Expected::Name.into());
         }
-        let (size, slots) = match size_and_slots(size) {
-            Some((size, slots)) if slots < size => (size, slots),
-            _ => return Err(Expected::Size.into()),
-        };
-        let (Ok(size), Ok(slots)) = (u32::try_from(size), u32::try_from(slots)) else {
-            return Err(Expected::Smaller.into());
-        };
+        let (size, slots) = short_size(size)?;
         let place = self.entries.len() as u64;
         if self.places.insert(name, place)?.is_some() {
             return Err(Expected::NewName.into());
@@ -215,6 +207,28 @@ impl<'a> Lines<'a> {
     }
 }
 
+// W K N and no further word
+fn all_sizes(told: &[&str]) -> Result<HeapSizes, Expected> {
+    let mut words = Words::new(told);
+    let told = sizes(&mut words)?;
+    words.end()?;
+    Ok(told)
+}
+
+// SIZE/SLOTS, of an object that fits into a heap
+fn short_size(text: &str) -> Result<(u32, u32), Expected> {
+    let Some((size, slots)) = size_and_slots(text) else {
+        return Err(Expected::Size);
+    };
+    if slots >= size {
+        return Err(Expected::Size);
+    }
+    match u32::try_from(size) {
+        Ok(size) => Ok((size, slots as u32)),
+        Err(_) => Err(Expected::Smaller),
+    }
+}
+
 // A heap of the sizes that the first line has, or of chosen ones, with nothing in it.
 fn begin(alloc: Global, lines: &Lines<'_>) -> Result<Draft, Wrong> {
     let number = lines.heading;
@@ -235,7 +249,7 @@ fn sizes_of(lines: &Lines<'_>) -> Result<Geometry, Expected> {
         return Err(Expected::Graph);
     }
     let entries = lines.entries.as_slice();
-    let Some((w, k, n)) = lines.sizes else {
+    let Some(HeapSizes { w, k, n }) = lines.sizes else {
         return choose_sizes(entries);
     };
     let Ok(geometry) = Geometry::new(w, k, n) else {
@@ -346,17 +360,25 @@ fn slot_word<'a>(
     object: Named<'a>,
     slot: u64,
     name: &'a str,
-) -> Result<u64, Refusal> {
-    if let Some(word) = lines.reference(places, name) {
-        return Ok(word);
+) -> Result<u64, AllocError> {
+    match lines.reference(places, name) {
+        Some(word) => Ok(word),
+        None => {
+            graph.add_stale_slot(object.at, slot, name)?;
+            graph.expect(object.entry.number, Expected::NamedSlot(slot));
+            Ok(0)
+        }
     }
-    let address = object.at.saturating_add(1).saturating_add(slot);
-    graph.stale_slots.push((address, name))?;
-    graph.expect(object.entry.number, Expected::NamedSlot(slot));
-    Ok(0)
 }
 
 impl<'a> Graph<'a> {
+    // Keeps a slot of the object at an address, and the name in it.
+    fn add_stale_slot(&mut self, at: u64, slot: u64, name: &'a str) -> Result<(), AllocError> {
+        let address = at.saturating_add(1).saturating_add(slot);
+        self.stale_slots.push((address, name))?;
+        Ok(())
+    }
+
     // Keeps what is expected in the first of the lines.
     fn expect(&mut self, number: u64, expected: Expected) {
         match self.first_stale {

@@ -22,12 +22,20 @@ pub(crate) struct Places {
 
 const CARD_WORDS: u64 = 64;
 
+// The words that a region may have, and how many such regions a heap has at most.
+const SIZES: [(u64, u64); 5] = [
+    (4096, 4096),
+    (8192, 2048),
+    (16_384, 1024),
+    (32_768, 512),
+    (65_536, 256),
+];
+
 /// The sizes of a heap for these objects: the smallest regions of which half stay free, or else the smallest ones that
 /// are enough.
 pub(crate) fn choose_sizes(entries: &[Entry<'_>]) -> Result<Geometry, Expected> {
     let mut enough = None;
-    for region_words in [4096u64, 8192, 16_384, 32_768, 65_536] {
-        let most = most_regions(region_words);
+    for (region_words, most) in SIZES {
         let Ok(widest) = Geometry::new(region_words, CARD_WORDS, most) else {
             continue;
         };
@@ -41,14 +49,6 @@ pub(crate) fn choose_sizes(entries: &[Entry<'_>]) -> Result<Geometry, Expected> 
         }
     }
     enough.ok_or(Expected::Smaller)
-}
-
-// How many regions of this many words a heap has at most.
-fn most_regions(region_words: u64) -> u64 {
-    16_777_216u64
-        .checked_div(region_words)
-        .unwrap_or(0)
-        .min(4096)
 }
 
 /// How many regions the objects take, as `place` lays them.
@@ -110,15 +110,21 @@ impl Places {
 
 // The address of room for an object, in the last region if it is enough.
 fn make_room(draft: &mut Draft, size: u64, humongous: bool) -> Result<u64, Refusal> {
-    if humongous {
-        draft.close_run()?;
-        draft.add_empty(Kind::HumongousFirst)?;
-    } else if draft.take_room(size).is_ok() {
+    if !humongous && draft.take_room(size).is_ok() {
         return Ok(draft.next_address().saturating_sub(size));
-    } else {
-        draft.add_empty(Kind::Ordinary)?;
     }
+    begin_region(draft, humongous)?;
     let at = draft.next_address();
     draft.take_room(size)?;
     Ok(at)
+}
+
+// Adds a region for the next object.
+fn begin_region(draft: &mut Draft, humongous: bool) -> Result<(), AllocError> {
+    if humongous {
+        draft.close_run()?;
+        draft.add_empty(Kind::HumongousFirst)
+    } else {
+        draft.add_empty(Kind::Ordinary)
+    }
 }

@@ -134,22 +134,30 @@ fn begin(alloc: Global, first: &str, words: Words<'_>, line: u64) -> Result<Draf
     if first != "heap" {
         return Err(Expected::Heading.into());
     }
-    let (w, k, n) = sizes(&mut words)?;
+    let told = sizes(&mut words)?;
     let (heading, current) = heading(words, line)?;
-    let Ok(geometry) = Geometry::new(w, k, n) else {
+    let Ok(geometry) = Geometry::new(told.w, told.k, told.n) else {
         return Err(Expected::Sizes.into());
     };
     Ok(Draft::new(alloc, geometry, current, heading)?)
 }
 
+/// The words of a region and of a card, and the number of regions.
+#[derive(Clone, Copy)]
+pub(crate) struct HeapSizes {
+    pub(crate) w: u64,
+    pub(crate) k: u64,
+    pub(crate) n: u64,
+}
+
 // W K N
-fn sizes(words: &mut Words<'_>) -> Result<(u64, u64, u64), Expected>
-    ensures { (w k n : ℕ) (rest : List (List ℕ)) → w < 2 ^ 64 → k < 2 ^ 64 → n < 2 ^ 64 → words.old ≡ decimal w ∷ decimal k ∷ decimal n ∷ rest → (result ≡ Ok (w, k, n)) × (words.new ≡ rest) }
+pub(crate) fn sizes(words: &mut Words<'_>) -> Result<HeapSizes, Expected>
+    ensures { (w k n : ℕ) (rest : List (List ℕ)) → w < 2 ^ 64 → k < 2 ^ 64 → n < 2 ^ 64 → words.old ≡ decimal w ∷ decimal k ∷ decimal n ∷ rest → (result ≡ Ok (record { w = w; k = k; n = n })) × (words.new ≡ rest) }
 {
     let w = words.number("W")?;
     let k = words.number("K")?;
     let n = words.number("N")?;
-    Ok((w, k, n))
+    Ok(HeapSizes { w, k, n })
 }
 
 // [roots R] [dirty D] [current none|C]

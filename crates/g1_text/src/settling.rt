@@ -1,5 +1,6 @@
-ghost use Rattle.std.specs.Prelude.{◌≡◌, Ok};
-ghost use Rattle.g1_text.specs.Content.{Agrees, CountsAgree};
+ghost use Rattle.std.specs.Prelude.{◌≡◌, ◌<◌, Ok, length, IfSome};
+ghost use Rattle.g1_words.specs.declared.region.Kind.TheVariants.{Ordinary};
+ghost use Rattle.g1_text.specs.Content.{Agrees, CountsAgree, region_said};
 ghost use Rattle.g1_text.specs.Drafts.{content, counts_of};
 
 use crate::draft::{Draft, Told};
@@ -30,12 +31,19 @@ fn settle_heading(draft: &Draft) -> Result<(), Expected>
     let heading = draft.lines.heading;
     follows(heading.roots, "roots", draft.roots.len() as u64)?;
     follows(heading.dirty, "dirty", draft.log.len() as u64)?;
-    match draft.current {
-        Some(current) => match draft.regions.get(current as usize) {
-            Some(region) if region.kind.is_ordinary() => Ok(()),
-            _ => Err(Expected::Current),
-        },
-        None => Ok(()),
+    settle_current(draft)
+}
+
+// The current region is an ordinary one.
+fn settle_current(draft: &Draft) -> Result<(), Expected>
+    ensures { IfSome draft.now.current (λ r. (r < length draft.now.regions.items) × ((region_said (content draft.now) r).kind ≡ Ordinary)) → result ≡ Ok tt }
+{
+    let Some(current) = draft.current else {
+        return Ok(());
+    };
+    match draft.regions.get(current as usize) {
+        Some(region) if region.kind.is_ordinary() => Ok(()),
+        _ => Err(Expected::Current),
     }
 }
 

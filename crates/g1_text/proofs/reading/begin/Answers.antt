@@ -6,11 +6,11 @@ use Rattle.g1_text.specs.Content.{begun}
 use Rattle.g1_text.proofs.Results.{ok_one, not_both}
 use Rattle.g1_text.proofs.reading.begin.Goals as goal
 
-pub returns-in_err-w : goal.returns-in_err-w
-returns-in_err-w c = λ after b.
+pub returns-in_err-told : goal.returns-in_err-told
+returns-in_err-told c = λ after b.
     let rest = codes "roots" ∷ decimal b.roots ∷ codes "dirty" ∷ decimal b.dirty ∷ codes "current" ∷ current_word b.current ∷ [] in
     let read = c.sizes.ensures b.geometry.w b.geometry.k b.geometry.n rest (omega (arith, b.limits.w_most)) (omega (arith, b.limits.k_most)) (omega (arith, b.limits.n_most)) (ap (drop 1) b.line) in
-    absurd (not_both c.in_err-w.was read.0)
+    absurd (not_both c.in_err-told.was read.0)
 
 pub returns-in_err-heading : goal.returns-in_err-heading
 returns-in_err-heading c = λ after b.
@@ -22,15 +22,15 @@ pub returns-in_default : goal.returns-in_default
 returns-in_default c = λ after b.
     let rest = codes "roots" ∷ decimal b.roots ∷ codes "dirty" ∷ decimal b.dirty ∷ codes "current" ∷ current_word b.current ∷ [] in
     let read = c.sizes.ensures b.geometry.w b.geometry.k b.geometry.n rest (omega (arith, b.limits.w_most)) (omega (arith, b.limits.k_most)) (omega (arith, b.limits.n_most)) (ap (drop 1) b.line) in
-    let sizes = ok_one c.in_ok-w.was read.0 in
-    absurd (c.in_default.ensures.err.1 (subst (λ x. IsWithinLimits x.0 x.1 x.2) (sym sizes) b.limits))
+    let sizes = ok_one c.in_ok-told.was read.0 in
+    absurd (c.in_default.ensures.err.1 (subst (λ x. IsWithinLimits x.w x.k x.n) (sym sizes) b.limits))
 
 pub returns : goal.returns
 returns c = λ after b.
     let rest = codes "roots" ∷ decimal b.roots ∷ codes "dirty" ∷ decimal b.dirty ∷ codes "current" ∷ current_word b.current ∷ [] in
     let read = c.sizes.ensures b.geometry.w b.geometry.k b.geometry.n rest (omega (arith, b.limits.w_most)) (omega (arith, b.limits.k_most)) (omega (arith, b.limits.n_most)) (ap (drop 1) b.line) in
-    let sizes = ok_one c.in_ok-w.was read.0 in
+    let sizes = ok_one c.in_ok-told.was read.0 in
     let heading = ok_one c.in_ok-heading.was (c.heading.ensures b.roots b.dirty b.current b.root_count b.dirty_count b.region read.1) in
     let parts = c.in-Ok.ensures.ok in
-    let geometry : c.in-Ok.geometry ≡ b.geometry = λ i. record { w = (parts.0 ∙ ap (λ x. x.0) sizes) i; k = (parts.1 ∙ ap (λ x. x.1) sizes) i; n = (parts.2 ∙ ap (λ x. x.2) sizes) i } in
+    let geometry : c.in-Ok.geometry ≡ b.geometry = λ i. record { w = (parts.0 ∙ ap (λ x. x.w) sizes) i; k = (parts.1 ∙ ap (λ x. x.k) sizes) i; n = (parts.2 ∙ ap (λ x. x.n) sizes) i } in
     c.in_ok-new.ensures ∙ (λ i. begun (geometry i) ((heading i).1) ((heading i).0.roots) ((heading i).0.dirty)) ∙ sym b.says

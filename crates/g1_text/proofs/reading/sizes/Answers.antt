@@ -3,6 +3,10 @@ use Rattle.std.specs.Prelude.{Ok, decimal}
 use Rattle.g1_text.proofs.Results.{ok_one, not_both}
 use Rattle.g1_text.proofs.reading.sizes.Goals as goal
 
+pub returns-in_err-w : goal.returns-in_err-w
+returns-in_err-w c = λ w k n rest fw fk fn e.
+    absurd (not_both c.in_err-w.was (c.number.ensures w (decimal k ∷ decimal n ∷ rest) fw e).0)
+
 pub returns-in_err-k : goal.returns-in_err-k
 returns-in_err-k c = λ w k n rest fw fk fn e.
     let first = c.number.ensures w (decimal k ∷ decimal n ∷ rest) fw e in
@@ -24,4 +28,4 @@ returns c = λ w k n rest fw fk fn e.
     let a = ok_one c.in_ok-w.was first.0 in
     let b = ok_one c.in_ok-k.was second.0 in
     let d = ok_one c.in_ok-n.was third.0 in
-    ((λ t. Ok (a t, b t, d t)), third.1)
+    ((λ t. Ok (record { w = a t; k = b t; n = d t })), third.1)
