@@ -1,8 +1,8 @@
 //! A program's commands as a table, and what clap makes of it.
 use crate::refusal::Refusal;
-use clap::builder::ValueRange;
 use clap::{Arg, ArgAction, ArgMatches, Command, Error};
 use std::alloc::{AllocError, Global};
+use std::ops::RangeInclusive;
 
 /// A program: its name, its version, what its help says before and after its commands, and these.
 #[derive(Debug, Clone, Copy)]
@@ -106,11 +106,12 @@ fn arg_of<'a>(alloc: Global, argument: &Argument) -> Result<Arg<'a>, AllocError>
 }
 
 // How many values it takes.
-fn counts(argument: &Argument) -> ValueRange {
+fn counts(argument: &Argument) -> RangeInclusive<usize> {
+    let count = argument.values.len();
     match argument.form {
-        Form::ManyValues => ValueRange::new(1..),
-        Form::ManyPlaces => ValueRange::new(0..),
-        _ => ValueRange::new(argument.values.len()),
+        Form::ManyValues => 1..=usize::MAX,
+        Form::ManyPlaces => 0..=usize::MAX,
+        _ => count..=count,
     }
 }
 

@@ -105,12 +105,10 @@ pub fn explain(alloc: Global, error: &Error) -> Result<String, Refusal> {
     }
 }
 
-/// A whole number in decimal digits alone. clap would take a sign.
+/// A whole number in decimal digits alone. clap would take a sign, and `parse` takes a plus.
 pub fn whole(text: &str) -> Option<u64> {
-    for byte in text.as_bytes() {
-        if !byte.is_ascii_digit() {
-            return None;
-        }
+    if text.starts_with('+') {
+        return None;
     }
     text.parse::<u64>().ok()
 }
@@ -171,8 +169,9 @@ pub fn regions(
 
 /// The region that a part of an argument's value names.
 pub fn region_in(alloc: Global, argument: &Argument, text: &str) -> Result<u32, Misuse> {
-    match whole(text).map(u32::try_from) {
-        Some(Ok(region)) => Ok(region),
-        _ => Err(argument.refuse(alloc, text)?),
+    let number = number_in(alloc, argument, text)?;
+    match u32::try_from(number) {
+        Ok(region) => Ok(region),
+        Err(_) => Err(argument.refuse(alloc, text)?),
     }
 }
