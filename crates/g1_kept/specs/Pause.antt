@@ -1,5 +1,6 @@
 -- What the walk over the heaps of a pause has found, and what it reports, by the pause.
-use Rattle.std.specs.Prelude.{ℕ}
+use Rattle.std.specs.Prelude.{ℕ, Contains}
+use Rattle.g1_words.specs.Heap.{object_at, objects}
 use Rattle.g1_kept.specs.declared.lost.Lost.{Lost}
 use Rattle.g1_kept.specs.declared.pairs.Pairs.{Pairs}
 use Rattle.g1_kept.specs.declared.pause.Pause.{Pause}
@@ -31,6 +32,12 @@ IsMetFirstIn p l = IsMetFirst p.fill p.set.now p.before.now p.after.now l
 -- the object before and the one after have to be the same
 abbrev pub MatchIn : Pause → ℕ → ℕ → Type 0
 MatchIn p a b = Match p.set.now p.before.now p.after.now a b
+
+-- an object before and one after stand in their heaps, and have to be the same
+pub record AreMatched (p : Pause) (a b : ℕ) : Type 0 where
+  pub before : Contains (objects p.before.now) (object_at p.before.now a)
+  pub after : Contains (objects p.after.now) (object_at p.after.now b)
+  pub matched : MatchIn p a b
 
 -- the pairs are objects of the set and their copies, found by the tables
 abbrev pub IsWalkIn : Pause → Pairs → Type 0

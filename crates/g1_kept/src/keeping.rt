@@ -2,13 +2,13 @@ ghost use Rattle.std.specs.Prelude.{◌≡◌, ◌≢◌, ◌<◌, ◌≤◌, �
 ghost use Rattle.g1_words.specs.declared.fault.Fault.TheVariants.{Memory};
 ghost use Rattle.g1_words.specs.declared.region.Kind.TheVariants.{Free};
 ghost use Rattle.g1_words.specs.Lists.{has};
-ghost use Rattle.g1_words.specs.Heap.{kind, start, object_at, objects};
+ghost use Rattle.g1_words.specs.Heap.{kind, start};
 ghost use Rattle.g1_same.specs.Walk.{AreAlike};
 ghost use Rattle.g1_kept.specs.Keeps.{Keeps};
 ghost use Rattle.g1_kept.specs.Lost.{IsLoss};
 ghost use Rattle.g1_kept.specs.Order.{IsEarliest};
 ghost use Rattle.g1_kept.specs.Walk.{HasGrown, IsCompared, ComparesRegion, ComparesOutside, ComparesPairs, IsFirstOfObjects};
-ghost use Rattle.g1_kept.specs.Pause.{KeepsIn, KeepsTableIn, IsLossIn, IsEarliestIn, IsMetFirstIn, MatchIn, IsWalkIn, SearchesIn, PassesObjectsIn, StopsAtObjectsIn};
+ghost use Rattle.g1_kept.specs.Pause.{KeepsIn, KeepsTableIn, IsLossIn, IsEarliestIn, IsMetFirstIn, AreMatched, IsWalkIn, SearchesIn, PassesObjectsIn, StopsAtObjectsIn};
 
 use crate::linking::{link_roots, link_slots};
 use crate::lost::Lost;
@@ -37,9 +37,7 @@ fn first_other(old: &[u64], new: &[u64]) -> Option<usize>
 
 // What is lost of an object in the one after that matches it, apart from its slots.
 fn compare_contents(pause: &Pause<'_>, a: u64, b: u64) -> Option<Lost>
-    requires a { Contains (objects pause.now.before.now) (object_at pause.now.before.now a) }
-    requires b { Contains (objects pause.now.after.now) (object_at pause.now.after.now b) }
-    requires matched { MatchIn pause.now a b }
+    requires pair { AreMatched pause.now a b }
     ensures none { IfNone result (AreAlike pause.now.before.now pause.now.after.now a b) }
     ensures some { IfSome result (λ l. IsLossIn pause.now l) }
     ensures first { IfSome result (λ l. IsFirstOfObjects pause.now.before.now pause.now.after.now a b l) }
@@ -73,9 +71,7 @@ fn compare_pair(
 ) -> Result<Option<Lost>, AllocError>
     requires walk { IsWalkIn pause.now pairs.old }
     requires sizes { length pause.now.after.now.words ≡ length pause.now.before.now.words }
-    requires a { Contains (objects pause.now.before.now) (object_at pause.now.before.now a) }
-    requires b { Contains (objects pause.now.after.now) (object_at pause.now.after.now b) }
-    requires matched { MatchIn pause.now a b }
+    requires pair { AreMatched pause.now a b }
     ensures walk { OnOk result (IsWalkIn pause.now pairs.new) }
     ensures grown { OnOk result (HasGrown pairs.old pairs.new) }
     ensures compared { let p = pause.now in IfOk result (λ o. IfNone o (IsCompared p.set.now p.before.now p.after.now pairs.new a b)) }

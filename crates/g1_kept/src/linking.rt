@@ -5,7 +5,7 @@ ghost use Rattle.g1_same.specs.Walk.{AreAlike, Names};
 ghost use Rattle.g1_kept.specs.Keeps.{MayHoldCopy};
 ghost use Rattle.g1_kept.specs.Lost.{LeadsOut, Disagree};
 ghost use Rattle.g1_kept.specs.Walk.{HasGrown, IsPaired, IsMet, PairsRoots, PairsSlots, PassesWords, StopsAtWords};
-ghost use Rattle.g1_kept.specs.Pause.{MatchIn, IsLossIn, IsMetFirstIn, IsWalkIn, SearchesIn, PassesObjectsIn, StopsAtObjectsIn};
+ghost use Rattle.g1_kept.specs.Pause.{MatchIn, AreMatched, IsLossIn, IsMetFirstIn, IsWalkIn, SearchesIn, PassesObjectsIn, StopsAtObjectsIn};
 
 use crate::lost::Lost;
 use crate::pairs::Pairs;
@@ -161,9 +161,7 @@ pub(crate) fn link_slots(
 ) -> Result<Option<Lost>, AllocError>
     requires walk { IsWalkIn pause.now pairs.old }
     requires sizes { length pause.now.after.now.words ≡ length pause.now.before.now.words }
-    requires a { Contains (objects pause.now.before.now) (object_at pause.now.before.now a) }
-    requires b { Contains (objects pause.now.after.now) (object_at pause.now.after.now b) }
-    requires matched { MatchIn pause.now a b }
+    requires pair { AreMatched pause.now a b }
     requires alike { AreAlike pause.now.before.now pause.now.after.now a b }
     ensures walk { OnOk result (IsWalkIn pause.now pairs.new) }
     ensures grown { OnOk result (HasGrown pairs.old pairs.new) }

@@ -14,35 +14,16 @@ compare_pair-requires-clause-sizes c =
     let pause = c.args.pause.now in
     as_many_words pause.fill pause.set.now pause.before.now pause.after.now c.valid.ensures c.valid-2.ensures c.requires.table
 
-pub compare_pair-requires-clause-a : goal.compare_pair-requires-clause-a
-compare_pair-requires-clause-a c =
+pub compare_pair-requires-clause-pair : goal.compare_pair-requires-clause-pair
+compare_pair-requires-clause-pair c =
     let pause = c.args.pause.now in
     let w : Pairs = c.loop-place.pairs in
     let i : ℕ = c.loop-place.place in
     let lt : i < length w.before.items = omega (arith, c.loop-place-test.true, c.len.ensures, w.before.ok) in
     let a_is = get_or_read w.before.items i c.index-a.result.now lt c.index-a.ensures 0 in
     let b_is = get_or_read w.after.items i c.index-b.result.now (omega (arith, lt, c.loop-place.invariant.walk.pairs)) c.index-b.ensures 0 in
-    (pair_read pause.fill pause.set.now pause.before.now pause.after.now w i c.index-a.result.now c.index-b.result.now c.loop-place.invariant.walk lt a_is b_is).before_in
-
-pub compare_pair-requires-clause-b : goal.compare_pair-requires-clause-b
-compare_pair-requires-clause-b c =
-    let pause = c.args.pause.now in
-    let w : Pairs = c.loop-place.pairs in
-    let i : ℕ = c.loop-place.place in
-    let lt : i < length w.before.items = omega (arith, c.loop-place-test.true, c.len.ensures, w.before.ok) in
-    let a_is = get_or_read w.before.items i c.index-a.result.now lt c.index-a.ensures 0 in
-    let b_is = get_or_read w.after.items i c.index-b.result.now (omega (arith, lt, c.loop-place.invariant.walk.pairs)) c.index-b.ensures 0 in
-    (pair_read pause.fill pause.set.now pause.before.now pause.after.now w i c.index-a.result.now c.index-b.result.now c.loop-place.invariant.walk lt a_is b_is).after_in
-
-pub compare_pair-requires-clause-matched : goal.compare_pair-requires-clause-matched
-compare_pair-requires-clause-matched c =
-    let pause = c.args.pause.now in
-    let w : Pairs = c.loop-place.pairs in
-    let i : ℕ = c.loop-place.place in
-    let lt : i < length w.before.items = omega (arith, c.loop-place-test.true, c.len.ensures, w.before.ok) in
-    let a_is = get_or_read w.before.items i c.index-a.result.now lt c.index-a.ensures 0 in
-    let b_is = get_or_read w.after.items i c.index-b.result.now (omega (arith, lt, c.loop-place.invariant.walk.pairs)) c.index-b.ensures 0 in
-    (pair_read pause.fill pause.set.now pause.before.now pause.after.now w i c.index-a.result.now c.index-b.result.now c.loop-place.invariant.walk lt a_is b_is).matched
+    let pair = pair_read pause.fill pause.set.now pause.before.now pause.after.now w i c.index-a.result.now c.index-b.result.now c.loop-place.invariant.walk lt a_is b_is in
+    record { before = pair.before_in; after = pair.after_in; matched = pair.matched }
 
 pub loop-place-preserved : goal.loop-place-preserved
 loop-place-preserved c =

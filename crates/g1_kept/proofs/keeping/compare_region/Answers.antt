@@ -16,8 +16,8 @@ compare_pair-requires-clause-sizes c =
     let pause = c.args.pause.now in
     as_many_words pause.fill pause.set.now pause.before.now pause.after.now c.valid.ensures c.valid-2.ensures c.requires.table
 
-pub compare_pair-requires-clause-a : goal.compare_pair-requires-clause-a
-compare_pair-requires-clause-a c =
+pub compare_pair-requires-clause-pair : goal.compare_pair-requires-clause-pair
+compare_pair-requires-clause-pair c =
     let pause = c.args.pause.now in
     let g : Heap = pause.before.now in
     let h : Heap = pause.after.now in
@@ -25,35 +25,17 @@ compare_pair-requires-clause-a c =
     let i : ℕ = c.loop-place.place in
     let lt : i < length starts = omega (arith, c.loop-place-test.true, c.len-place-end.ensures, c.in-Ok.starts.ok) in
     let at : c.index-at.result.now ≡ slice_index starts i = get_or_read starts i c.index-at.result.now lt c.index-at.ensures 0 in
-    subst (λ z. Contains (objects g) (object_at g z)) (sym at)
-    (start_in pause.fill pause.set.now g h c.valid.ensures c.valid-2.ensures c.requires.table c.args.region
-    c.requires.region c.requires.outside c.requires.used c.requires.in_use starts c.in-Ok.ensures.ok i lt)
-
-pub compare_pair-requires-clause-b : goal.compare_pair-requires-clause-b
-compare_pair-requires-clause-b c =
-    let pause = c.args.pause.now in
-    let g : Heap = pause.before.now in
-    let h : Heap = pause.after.now in
-    let starts : List ℕ = c.in-Ok.starts.items in
-    let i : ℕ = c.loop-place.place in
-    let lt : i < length starts = omega (arith, c.loop-place-test.true, c.len-place-end.ensures, c.in-Ok.starts.ok) in
-    let at : c.index-at.result.now ≡ slice_index starts i = get_or_read starts i c.index-at.result.now lt c.index-at.ensures 0 in
-    subst (λ z. Contains (objects h) (object_at h z)) (sym at)
-    (start_stands pause.fill pause.set.now g h c.valid.ensures c.valid-2.ensures c.requires.table c.args.region c.requires.region c.requires.outside
-    c.requires.used c.requires.in_use starts c.in-Ok.ensures.ok c.loop-place.pairs i lt c.loop-place.invariant.compared)
-
-pub compare_pair-requires-clause-matched : goal.compare_pair-requires-clause-matched
-compare_pair-requires-clause-matched c =
-    let pause = c.args.pause.now in
-    let g : Heap = pause.before.now in
-    let h : Heap = pause.after.now in
-    let starts : List ℕ = c.in-Ok.starts.items in
-    let i : ℕ = c.loop-place.place in
-    let lt : i < length starts = omega (arith, c.loop-place-test.true, c.len-place-end.ensures, c.in-Ok.starts.ok) in
-    let at : c.index-at.result.now ≡ slice_index starts i = get_or_read starts i c.index-at.result.now lt c.index-at.ensures 0 in
-    subst (λ z. Match pause.set.now g h z z) (sym at)
-    (outside (start_outside pause.fill pause.set.now g h c.valid.ensures c.valid-2.ensures c.requires.table c.args.region c.requires.region c.requires.outside
-    c.requires.used c.requires.in_use starts c.in-Ok.ensures.ok i lt))
+    record {
+      before = subst (λ z. Contains (objects g) (object_at g z)) (sym at)
+          (start_in pause.fill pause.set.now g h c.valid.ensures c.valid-2.ensures c.requires.table c.args.region
+          c.requires.region c.requires.outside c.requires.used c.requires.in_use starts c.in-Ok.ensures.ok i lt);
+      after = subst (λ z. Contains (objects h) (object_at h z)) (sym at)
+          (start_stands pause.fill pause.set.now g h c.valid.ensures c.valid-2.ensures c.requires.table c.args.region c.requires.region c.requires.outside
+          c.requires.used c.requires.in_use starts c.in-Ok.ensures.ok c.loop-place.pairs i lt c.loop-place.invariant.compared);
+      matched = subst (λ z. Match pause.set.now g h z z) (sym at)
+          (outside (start_outside pause.fill pause.set.now g h c.valid.ensures c.valid-2.ensures c.requires.table c.args.region c.requires.region c.requires.outside
+          c.requires.used c.requires.in_use starts c.in-Ok.ensures.ok i lt));
+    }
 
 pub loop-place-preserved : goal.loop-place-preserved
 loop-place-preserved c =

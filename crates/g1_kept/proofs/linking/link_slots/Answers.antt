@@ -19,7 +19,7 @@ link-requires-clause-x c =
     let here = has_slots g c.args.a c.object-old.result c.words.result.now c.slots-here.result.now c.object-old.ensures.value c.words.ensures c.slots-here.ensures.count c.slots-here.ensures.each in
     let n : ℕ = c.loop-number.number in
     let lt : n < (object_at g c.args.a).refs = omega (arith, c.loop-number-test.true, here.count) in
-    subst (Names g) (sym (here.each n c.loop-number-test.true)) (slot_names g c.args.a n c.valid.ensures c.requires.a lt)
+    subst (Names g) (sym (here.each n c.loop-number-test.true)) (slot_names g c.args.a n c.valid.ensures c.requires.pair.before lt)
 
 pub link-requires-clause-y : goal.link-requires-clause-y
 link-requires-clause-y c =
@@ -32,7 +32,7 @@ link-requires-clause-y c =
     let refs : (object_at g c.args.a).refs ≡ (object_at h c.args.b).refs = ap (λ q. q % 2 ^ 32) c.requires.alike.header in
     let n : ℕ = c.loop-number.number in
     let lt : n < (object_at h c.args.b).refs = omega (arith, c.loop-number-test.true, here.count, refs) in
-    subst (Names h) (sym (there.each n (omega (arith, lt, there.count)))) (slot_names h c.args.b n c.valid-2.ensures c.requires.b lt)
+    subst (Names h) (sym (there.each n (omega (arith, lt, there.count)))) (slot_names h c.args.b n c.valid-2.ensures c.requires.pair.after lt)
 
 pub link-requires-clause-found : goal.link-requires-clause-found
 link-requires-clause-found c = λ x y ex ey of_set.
@@ -46,7 +46,7 @@ link-requires-clause-found c = λ x y ex ey of_set.
     let n : ℕ = c.loop-number.number in
     let lt : n < (object_at g c.args.a).refs = omega (arith, c.loop-number-test.true, here.count) in
     let lt' : n < (object_at h c.args.b).refs = omega (arith, lt, refs) in
-    slot n c.requires.matched lt lt' (sym (here.each n c.loop-number-test.true) ∙ ex) (sym (there.each n (omega (arith, lt', there.count))) ∙ ey) of_set
+    slot n c.requires.pair.matched lt lt' (sym (here.each n c.loop-number-test.true) ∙ ex) (sym (there.each n (omega (arith, lt', there.count))) ∙ ey) of_set
 
 pub returns-in-Some-clause-grown : goal.returns-in-Some-clause-grown
 returns-in-Some-clause-grown c = grown_more c.args.pairs.now c.loop-number.pairs c.link.new.pairs c.loop-number.invariant.grown c.in_ok-lost.ensures.grown
