@@ -20,7 +20,7 @@ mod values;
 
 pub use arguments::words;
 pub use costs::{BUDGET, BYTE, CARD, DIRTY, FIXED, cost_of};
-pub use refusal::{Refusal, refuse, status};
+pub use refusal::{Refusal, refuse};
 pub use streams::{BROKEN_PIPE, LineReader, deliver, deliver_text, read_all};
 pub use table::{Argument, FILE, FLAG, Form, Program, Usage, VALUE, match_words};
 pub use values::{

@@ -1,7 +1,4 @@
 //! Why a request is not answered, and its exit status.
-ghost use Rattle.std.specs.Prelude.{◌≡◌};
-ghost use Rattle.g1_command.specs.Status.{status_of};
-
 use arrayvec::ArrayString;
 use g1_words::Fault;
 use std::alloc::{AllocError, AllocFailed};
@@ -60,29 +57,7 @@ pub fn refuse<E: Write>(program: &str, refusal: &Refusal, errors: &mut E) -> u8 
             let mut line = ArrayString::<LINE>::new();
             let _ = writeln!(line, "{program}: fault {number}: {fault}");
             let _ = errors.write_all(line.as_bytes());
-            status(fault)
+            fault.status()
         }
-    }
-}
-
-/// The exit status of a fault: 2 a number or a line that is out of form, 3 bytes that are no image's,
-/// 4 cover, 5 a pause that can't be, 6 the machine.
-pub fn status(fault: &Fault) -> u8
-    ensures { result ≡ status_of fault.now }
-{
-    match fault {
-        Fault::Settings(_) | Fault::Line(_) => 2,
-        Fault::Magic
-        | Fault::Geometry
-        | Fault::Short
-        | Fault::Trailing
-        | Fault::Kind(_)
-        | Fault::Shape(_)
-        | Fault::Reference(_)
-        | Fault::Card(_)
-        | Fault::Flags(_) => 3,
-        Fault::Uncovered(_) => 4,
-        Fault::Set(_) | Fault::Room { .. } => 5,
-        Fault::Memory | Fault::Device(_) => 6,
     }
 }

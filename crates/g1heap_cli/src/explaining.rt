@@ -3,7 +3,7 @@ use crate::files::read_image;
 use crate::location::locate;
 use crate::options::Explain;
 use crate::refusal::{contradiction, no_object_but, of_file};
-use g1_command::{Refusal, status};
+use g1_command::Refusal;
 use g1_explain::{Explanation, Failure, Form, explain, why};
 use g1_image::Image;
 use g1_pause::{Choice, Settings};
@@ -54,7 +54,7 @@ fn answer(
     match refused {
         None => Ok((0, text)),
         Some(fault) if form == Form::Map => Err(of_file(alloc, name, fault)),
-        Some(fault) => Ok((status(&fault), text)),
+        Some(fault) => Ok((fault.status(), text)),
     }
 }
 

@@ -1,6 +1,6 @@
 //! The refusals that name a file.
 use crate::location::Location;
-use g1_command::{Refusal, status};
+use g1_command::Refusal;
 use g1_text::Expected;
 use g1_words::Fault;
 use std::alloc::{AllocError, Global};
@@ -12,7 +12,7 @@ pub fn of_file(alloc: Global, name: &str, fault: Fault) -> Refusal {
     }
     let (number, hint) = (fault.number(), hint_for(fault));
     refusal(
-        status(&fault),
+        fault.status(),
         format!(in alloc; "g1heap: {name}: fault {number}: {fault}\n{hint}"),
     )
 }
