@@ -23,13 +23,8 @@ pub fn summary<T: Threads + Sync>(rt: &T, alloc: Global, image: &Image) -> Resul
 
 fn lines(alloc: Global, image: &Image, live: &[u64]) -> Result<String, AllocError> {
     let heap = image.heap();
-    let geometry = heap.geometry();
-    let (w, k, n) = (
-        geometry.region_words(),
-        geometry.card_words(),
-        geometry.regions(),
-    );
-    let mut text = format!(in alloc; "heap {w} {k} {n}\n")?;
+    let mut text = String::new(alloc);
+    push_sizes(&mut text, heap)?;
     push_regions(&mut text, heap)?;
     push_words(&mut text, heap, live)?;
     let (remembered, dirty) = (remembered_cards(image), image.log().len());
@@ -39,6 +34,17 @@ fn lines(alloc: Global, image: &Image, live: &[u64]) -> Result<String, AllocErro
         "cards remembered {remembered} dirty {dirty}\nroots {roots}\n"
     )?;
     Ok(text)
+}
+
+fn push_sizes(text: &mut String, heap: &Heap) -> Result<(), AllocError> {
+    let geometry = heap.geometry();
+    writeln!(
+        text,
+        "heap {} {} {}",
+        geometry.region_words(),
+        geometry.card_words(),
+        geometry.regions()
+    )
 }
 
 const KINDS: [Kind; 4] = [

@@ -258,17 +258,13 @@ fn kind_of(what: &What) -> usize {
 fn first_difference(sides: Sides<'_>, pair: (u64, u64)) -> Option<How> {
     let (a, b) = pair;
     let (old, new) = (object_in(sides.before, a)?, object_in(sides.after, b)?);
-    if old.size != new.size {
-        return Some(How::Size {
-            before: old.size,
-            after: new.size,
-        });
+    let (before, after) = (old.size, new.size);
+    if before != after {
+        return Some(How::Size { before, after });
     }
-    if old.refs != new.refs {
-        return Some(How::Slots {
-            before: old.refs,
-            after: new.refs,
-        });
+    let (before, after) = (old.refs, new.refs);
+    if before != after {
+        return Some(How::Slots { before, after });
     }
     let (here, there) = (data_of(sides.before, &old), data_of(sides.after, &new));
     let word = here
