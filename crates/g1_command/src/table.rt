@@ -5,7 +5,7 @@ use std::alloc::{AllocError, Global};
 use std::ops::RangeInclusive;
 
 /// A program: its name, its version, what its help says before and after its commands, and these.
-#[derive(Debug, Clone, Copy)]
+#[derive(Clone, Copy)]
 pub struct Program<'p> {
     pub name: &'static str,
     pub version: &'static str,
@@ -15,7 +15,7 @@ pub struct Program<'p> {
 }
 
 /// A command: its name, what its help says before and after its arguments, and these.
-#[derive(Debug, Clone, Copy)]
+#[derive(Clone, Copy)]
 pub struct Usage {
     pub name: &'static str,
     pub about: &'static str,
@@ -24,7 +24,7 @@ pub struct Usage {
 }
 
 /// An argument of a command. Most are written as `FLAG`, `VALUE` or `FILE` with a few fields of their own.
-#[derive(Debug, Clone, Copy)]
+#[derive(Clone, Copy)]
 pub struct Argument {
     /// Its name for clap. An option is given by it.
     pub id: &'static str,
@@ -43,7 +43,7 @@ pub struct Argument {
 }
 
 /// How an argument is given.
-#[derive(Debug, Clone, Copy, PartialEq, Eq)]
+#[derive(Clone, Copy)]
 pub enum Form {
     /// By its name alone.
     Flag,

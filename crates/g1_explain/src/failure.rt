@@ -3,7 +3,7 @@ use g1_words::Fault;
 use std::alloc::{AllocError, AllocFailed};
 
 /// Why a pause, or an object, is not explained.
-#[derive(Debug, Clone, Copy, PartialEq, Eq)]
+#[derive(Debug, Clone, Copy)]
 pub enum Failure {
     /// A fault of the image, or of the machine.
     Fault(Fault),

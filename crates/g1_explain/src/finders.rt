@@ -7,7 +7,7 @@ use g1_words::{Heap, Object, header, slots};
 use std::alloc::{AllocError, Global};
 
 /// A reference that leads to an object.
-#[derive(Debug, Clone, Copy, PartialEq, Eq)]
+#[derive(Clone, Copy)]
 pub(crate) enum Finder {
     /// The root of this number.
     Root { number: usize },

@@ -14,7 +14,7 @@ use std::marker::Model;
 use std::thread::Threads;
 
 /// 64 words of a window.
-#[derive(Debug, Clone, Copy, PartialEq, Eq, Drop)]
+#[derive(Clone, Copy, Drop)]
 pub struct Block {
     /// A bit for each of the words, set if an object begins there.
     pub starts: u64,

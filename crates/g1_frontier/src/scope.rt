@@ -28,7 +28,7 @@ pub enum Numbering {
 }
 
 /// Where an object of the window begins that a slot references, and its place.
-#[derive(Debug, Clone, Copy, PartialEq, Eq, Drop)]
+#[derive(Clone, Copy, Drop)]
 pub struct Target {
     pub place: u64,
     pub address: u64,

@@ -1,7 +1,7 @@
 use thiserror::Error;
 
 /// What a line of a trace has to be, by its first word.
-#[derive(Debug, Clone, Copy, PartialEq, Eq, Error)]
+#[derive(Debug, Clone, Copy, Error)]
 pub enum Expected {
     #[error("'heap W K N ROOTS', four numbers without leading zeros")]
     Heap,

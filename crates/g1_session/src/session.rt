@@ -33,7 +33,7 @@ pub enum Answer {
 }
 
 /// Why a line was not done.
-#[derive(Debug, Clone, Copy, PartialEq, Eq)]
+#[derive(Debug, Clone, Copy)]
 pub enum Wrong {
     /// It is not of its form.
     Line(Expected),

@@ -6,7 +6,7 @@ use std::fmt;
 use thiserror::Error;
 
 /// What should be in a line instead of what is there.
-#[derive(Debug, Clone, Copy, PartialEq, Eq)]
+#[derive(Debug, Clone, Copy)]
 pub enum Expected {
     Text,
     Heading,
@@ -121,7 +121,7 @@ fn write_around<W: fmt::Write>(
 impl std::error::Error for Expected {}
 
 /// Why lines are no image.
-#[derive(Debug, Clone, Copy, PartialEq, Eq, Error)]
+#[derive(Debug, Clone, Copy, Error)]
 pub enum Wrong {
     /// The line of this number, counted from 1.
     #[error("line {number}: expected {expected}")]

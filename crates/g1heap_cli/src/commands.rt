@@ -20,7 +20,7 @@ use std::rt::Files;
 use std::thread::Threads;
 
 /// A call of the program: the words after its name, and which of its streams are terminals.
-#[derive(Debug, Clone, Copy)]
+#[derive(Clone, Copy)]
 pub struct Call<'a> {
     pub words: &'a [String],
     pub terminals: Terminals,

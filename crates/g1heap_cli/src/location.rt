@@ -6,7 +6,7 @@ use std::alloc::Global;
 use std::fmt;
 
 /// What is at an address where no object starts.
-#[derive(Debug, Clone, Copy, PartialEq, Eq)]
+#[derive(Clone, Copy)]
 pub enum Location {
     /// The object at another address.
     Inside(u64),

@@ -13,7 +13,7 @@ use g1_command::{
 use std::alloc::{AllocError, Global};
 
 /// What the words ask for.
-#[derive(Debug, Drop)]
+#[derive(Drop)]
 pub enum Request {
     /// This text, which says how the program is used.
     Help(String),
@@ -42,7 +42,7 @@ pub enum Request {
 }
 
 /// A trace to answer.
-#[derive(Debug, Drop)]
+#[derive(Drop)]
 pub struct Trace {
     pub name: String,
     pub cost: Cost,
@@ -56,14 +56,14 @@ pub struct Trace {
 }
 
 /// The image after a command, and the file that it goes to.
-#[derive(Debug, Drop)]
+#[derive(Drop)]
 pub struct ImageAfter {
     pub command: u64,
     pub file: String,
 }
 
 /// A pause to explain. At most one of budget and regions is here.
-#[derive(Debug, Drop)]
+#[derive(Drop)]
 pub struct Explain {
     pub image: String,
     pub cost: Cost,
@@ -75,7 +75,7 @@ pub struct Explain {
 }
 
 /// Two images to compare. At most one is standard input.
-#[derive(Debug, Drop)]
+#[derive(Drop)]
 pub struct Same {
     pub before: String,
     pub after: String,
@@ -95,7 +95,7 @@ pub struct Same {
 }
 
 /// What is printed of an image.
-#[derive(Debug, Clone, Copy, PartialEq, Eq)]
+#[derive(Clone, Copy, PartialEq, Eq)]
 pub enum Part {
     Whole,
     Region(u32),

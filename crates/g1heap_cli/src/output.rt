@@ -10,7 +10,7 @@ use std::rt::Files;
 use std::{fs, io};
 
 /// Where an answer goes.
-#[derive(Debug, Drop)]
+#[derive(Drop)]
 pub enum Output {
     /// To standard output, since nothing else is said.
     Default,

@@ -11,7 +11,7 @@ use g1_command::{
 use std::alloc::{AllocError, Global};
 
 /// What the words ask for. Numbers are whole, and may be out of their ranges.
-#[derive(Debug, Drop)]
+#[derive(Drop)]
 pub enum Request {
     /// This text, which says how the program is used.
     Help(String),
@@ -26,7 +26,7 @@ pub enum Request {
 }
 
 /// What is asked of an image or of a trace.
-#[derive(Debug, Clone, Copy, PartialEq, Eq)]
+#[derive(Clone, Copy)]
 pub enum Question {
     /// What an image has in its regions.
     Image {
@@ -47,7 +47,7 @@ pub enum Question {
 }
 
 /// What is told about the regions of an image.
-#[derive(Debug, Clone, Copy, PartialEq, Eq)]
+#[derive(Clone, Copy)]
 pub enum View {
     /// Their table.
     Regions,
@@ -56,7 +56,7 @@ pub enum View {
 }
 
 /// A pause that collects what a budget buys, or the regions that are given. Both may be here.
-#[derive(Debug, Drop)]
+#[derive(Drop)]
 pub struct Pause {
     pub sharing: Sharing,
     pub cost: Cost,
@@ -65,7 +65,7 @@ pub struct Pause {
 }
 
 /// How workers share the work.
-#[derive(Debug, Clone, Copy, PartialEq, Eq)]
+#[derive(Clone, Copy)]
 pub struct Sharing {
     pub workers: u64,
     /// How many items a worker draws at once.
