@@ -5,6 +5,7 @@ Heap dumps are made here by hand, with identifiers of 4 and of 8 bytes, and the 
 hand. Pages with a wrong output, a command that fails, a file left behind or a picture that changed have to fail.
 A picture is made of what a stand-in for g1pause says. Planted rows are tried by a stand-in for the prover, of which what
 each function says is known: one that is proved, unread or refused only for another has to fail. The examples have to be those that examples/make.py makes.
+The time of processes that name a crate has to be that crate's, by what they do for it, and no other's.
 Tables of definitions and of the map that leave something out, or name what is not there, have to fail; those of the repository have to pass.
 Each script has to answer --help, and to say what it wants where it is called without arguments.
 """
@@ -425,6 +426,37 @@ class Pictures(unittest.TestCase):
         self.assertIn("<th>before</th><th>after</th>", text)
         self.assertIn("<tr><td>garbage words</td><td>6</td><td>6</td></tr>", text)
         self.assertNotIn("http", text.replace("http://www.w3.org/2000/svg", ""))
+
+
+class Minutes(unittest.TestCase):
+    BUSY = "import time\nwhile time.process_time() < 2: pass"
+
+    def report(self, script):
+        """What gate_minutes.py says of a shell's script, in which "$0" BUSY is a process that is busy for two seconds."""
+        words = [sys.executable, str(TOP / "tools" / "gate_minutes.py"), "sh", "-c", script, sys.executable, self.BUSY]
+        return subprocess.run(words, stdout=subprocess.PIPE, text=True)
+
+    def test_the_time_of_a_crate_is_its_own(self):
+        script = """"$0" -c "$1" --crate-name one & "$0" -c "$1" --crate-name two --test; wait; "$0" -c "$1" """
+        lines = [line.split() for line in self.report(script).stdout.splitlines()]
+        rows = {line[0]: [int(it) for it in line[1:]] for line in lines if line[0] in ("one", "two")}
+        self.assertIn(rows["one"], ([1, 0, 0, 0], [2, 0, 0, 0]))
+        self.assertIn(rows["two"], ([0, 1, 0, 0], [0, 2, 0, 0]))
+
+    def test_edits_and_planted_rows_are_told_by_their_folders(self):
+        with tempfile.TemporaryDirectory() as room:
+            rows = []
+            for folder, at in (("rt-edit-1", 2), ("planted-1", 3)):
+                os.mkdir(f"{room}/{folder}")
+                told = self.report(f"""cd {room}/{folder} && "$0" -c "$1" --crate-name one""").stdout
+                rows.append([int(it) for it in re.search(r"^one +(.*)$", told, re.M)[1].split()])
+                self.assertIn(rows[-1][at], (1, 2), told)
+                self.assertEqual(sum(rows[-1]), rows[-1][at], told)
+
+    def test_the_status_is_the_commands(self):
+        ran = self.report("exit 3")
+        self.assertEqual(ran.returncode, 3)
+        self.assertRegex(ran.stdout.splitlines()[-1], r"^0\.\d processor minutes, 0\.\d by the clock, status 3$")
 
 
 class Examples(unittest.TestCase):
