@@ -3,7 +3,7 @@
 
 Tries the wrong bodies crates/CRATE/planted/*.edit, of all crates or of those that are named: the prover has to refuse
 each function in which one is planted. It takes the libraries that `rt ci` left in crates/*/out, or builds those that
-are not there or older than their sources.
+are not there, or are older than their sources and not what `rt ci` keeps for them.
 
 A row is a must-fail edit (`rt help`) whose first line says what it turns:
 
@@ -34,6 +34,7 @@ The last line is 'N refused, M failed'. Statuses: 0 if none failed, 1 if one did
 import argparse
 import importlib.machinery
 import importlib.util
+import json
 import os
 import pathlib
 import re
@@ -416,9 +417,32 @@ def is_fresh(dep):
     return newest <= made.stat().st_mtime
 
 
-def build_libraries(crate):
+def is_kept(rt, kept, crate):
+    """Whether the library that stands there is, by its sums, the one that rt ci keeps for the crate's files."""
+    entry = pathlib.Path(kept.place(crate, False, kept.key(crate)), "made.json")
+    made = json.loads(entry.read_text())["files"] if entry.is_file() else []
+    return bool(made) and all(rt.rtlib.sum_of(f"{crate.folder}/out/{path}") == sum for path, sum in made)
+
+
+def kept_libraries(rt):
+    """The names of the libraries that rt ci took from an earlier run: in a new checkout they are older than their sources."""
+    names = set()
+    try:
+        rt.Crate.allowed = rt.handles_of(str(ROOT))
+        crates = [it for it in rt.crates_of(str(ROOT)) if it.makes_rlib()]
+        kept = rt.Kept(crates)
+        for crate in crates:
+            if all(it.name in names for it in crate.below()) and is_kept(rt, kept, crate):
+                names.add(crate.name)
+            kept.is_built(crate)
+    except (AttributeError, KeyError, OSError, SystemExit, TypeError, ValueError):
+        return set()  # this rt keeps them in another way
+    return names
+
+
+def build_libraries(crate, kept):
     """Has the libraries below a crate built: as rt ci left them, or as rt must-fail builds them."""
-    if not all(is_fresh(dep) for dep in crate.below()):
+    if not all(dep.name in kept or is_fresh(dep) for dep in crate.below()):
         for dep in crate.below():
             if dep.build_rlib(["--jobs", "1"], anew=False):
                 raise Stop(f"{crate.name}: its library {dep.name} is not proved")
@@ -449,8 +473,9 @@ def try_all(names, is_unchanged):
     if unknown or not crates:
         raise Stop(f"no rows: {', '.join(sorted(unknown)) or 'crates/*/planted'}")
     crates = [it for it in crates if not names or it.name in names]
+    kept = set() if all(is_fresh(dep) for crate in crates for dep in crate.below()) else kept_libraries(rt)
     for crate in crates:
-        build_libraries(crate)
+        build_libraries(crate, kept)
     work = {(it.name, "edits"): ([], it.count(rb"\n"), rt.need(it), lambda given, jobs, it=it: try_crate(rt, it, is_unchanged)) for it in crates}
     return [row for rows in rt.in_lanes(work).values() for row in rows]
 

@@ -4,13 +4,14 @@
 Heap dumps are made here by hand, with identifiers of 4 and of 8 bytes, and the images expected of them were laid out by
 hand. Pages with a wrong output, a command that fails, a file left behind or a picture that changed have to fail.
 A picture is made of what a stand-in for g1pause says. Planted rows are tried by a stand-in for the prover, of which what
-each function says is known: one that is proved, unread or refused only for another has to fail. The examples have to be those that examples/make.py makes.
+each function says is known: one that is proved, unread or refused only for another has to fail. Of the libraries below, those that `rt ci` keeps as they are have to stay, and all others to be built. The examples have to be those that examples/make.py makes.
 The time of processes that name a crate has to be that crate's, by what they do for it, and no other's.
 Tables of definitions and of the map that leave something out, or name what is not there, have to fail; those of the repository have to pass.
 Each script has to answer --help, and to say what it wants where it is called without arguments.
 """
 import contextlib
 import io
+import json
 import os
 import pathlib
 import re
@@ -551,6 +552,62 @@ class StandIn:
         old, new = re.search(r"^old: (.*)\nnew: (.*)$", pathlib.Path(edit).read_text(), re.M).groups()
         text = pathlib.Path(folder, "src/lib.rt").read_text()
         return ({"src/lib.rt": text.replace(old, new)}, None) if text.count(old) == 1 else (None, "an 'old:' text is not there once")
+
+
+class Store:
+    """What planted.py takes of rt to see what it keeps: three libraries, each above the one before."""
+
+    def __init__(self, folder, kept):
+        self.folder, self.rtlib, self.Crate, self.Kept = folder, self, self, lambda _crates: self
+        self.crates = [Library(folder, name, below) for name, below in (("low", 0), ("mid", 1), ("top", 2))]
+        for library in self.crates:
+            library.below = lambda library=library: self.crates[: library.count]
+            entry = folder / f"{library.name}.kept"
+            entry.mkdir()
+            entry.joinpath("made.json").write_text(json.dumps({"files": [["rlib", kept[library.name]]]}))
+
+    def handles_of(self, _root):
+        return ()
+
+    def crates_of(self, _root):
+        return self.crates
+
+    def sum_of(self, file):
+        return pathlib.Path(file).read_text()
+
+    def key(self, crate):
+        return crate.name
+
+    def place(self, _crate, _tests, key):
+        return self.folder / f"{key}.kept"
+
+    def is_built(self, _crate):
+        pass
+
+
+class Library:
+    def __init__(self, folder, name, count):
+        self.folder, self.name, self.count = folder / name, name, count
+        (self.folder / "out").mkdir(parents=True)
+        (self.folder / "out/rlib").write_text(f"{name} as built")
+
+    def makes_rlib(self):
+        return True
+
+
+class Libraries(unittest.TestCase):
+    def kept(self, **kept):
+        with tempfile.TemporaryDirectory() as room:
+            return planted.kept_libraries(Store(pathlib.Path(room), kept))
+
+    def test_what_stands_as_it_was_kept_is_not_built_again(self):
+        self.assertEqual(self.kept(low="low as built", mid="mid as built", top="top as built"), {"low", "mid", "top"})
+
+    def test_another_library_is_built_again_and_all_above_it(self):
+        self.assertEqual(self.kept(low="low as built", mid="another", top="top as built"), {"low"})
+
+    def test_an_rt_that_keeps_nothing_has_all_built(self):
+        self.assertEqual(planted.kept_libraries(object()), set())
 
 
 class Planted(unittest.TestCase):
