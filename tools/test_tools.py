@@ -3,15 +3,12 @@
 
 Heap dumps are made here by hand, with identifiers of 4 and of 8 bytes, and the images expected of them were laid out by
 hand. Pages with a wrong output, a command that fails, a file left behind or a picture that changed have to fail.
-A picture is made of what a stand-in for g1pause says. Planted rows are tried by a stand-in for the prover, of which what
-each function says is known: one that is proved, unread or refused only for another has to fail. Of the libraries below, those that `rt ci` keeps as they are have to stay, and all others to be built. The examples have to be those that examples/make.py makes.
-The time of processes that name a crate has to be that crate's, by what they do for it, and no other's.
+A picture is made of what a stand-in for g1pause says. The examples have to be those that examples/make.py makes.
 Tables of definitions and of the map that leave something out, or name what is not there, have to fail; those of the repository have to pass.
 Each script has to answer --help, and to say what it wants where it is called without arguments.
 """
 import contextlib
 import io
-import json
 import os
 import pathlib
 import re
@@ -29,7 +26,6 @@ sys.path.insert(0, str(TOP / "tools"))
 import check_pages  # noqa: E402
 import check_tables  # noqa: E402
 import hprof2image  # noqa: E402
-import planted  # noqa: E402
 
 OBJECT, A, ARRAY = 0x10, 0x20, 0x30  # classes
 INT, BYTE, LONG, REFERENCE = 10, 8, 11, 2
@@ -429,37 +425,6 @@ class Pictures(unittest.TestCase):
         self.assertNotIn("http", text.replace("http://www.w3.org/2000/svg", ""))
 
 
-class Minutes(unittest.TestCase):
-    BUSY = "import time\nwhile time.process_time() < 2: pass"
-
-    def report(self, script):
-        """What gate_minutes.py says of a shell's script, in which "$0" BUSY is a process that is busy for two seconds."""
-        words = [sys.executable, str(TOP / "tools" / "gate_minutes.py"), "sh", "-c", script, sys.executable, self.BUSY]
-        return subprocess.run(words, stdout=subprocess.PIPE, text=True)
-
-    def test_the_time_of_a_crate_is_its_own(self):
-        script = """"$0" -c "$1" --crate-name one & "$0" -c "$1" --crate-name two --test; wait; "$0" -c "$1" """
-        lines = [line.split() for line in self.report(script).stdout.splitlines()]
-        rows = {line[0]: [int(it) for it in line[1:]] for line in lines if line[0] in ("one", "two")}
-        self.assertIn(rows["one"], ([1, 0, 0, 0], [2, 0, 0, 0]))
-        self.assertIn(rows["two"], ([0, 1, 0, 0], [0, 2, 0, 0]))
-
-    def test_edits_and_planted_rows_are_told_by_their_folders(self):
-        with tempfile.TemporaryDirectory() as room:
-            rows = []
-            for folder, at in (("rt-edit-1", 2), ("planted-1", 3)):
-                os.mkdir(f"{room}/{folder}")
-                told = self.report(f"""cd {room}/{folder} && "$0" -c "$1" --crate-name one""").stdout
-                rows.append([int(it) for it in re.search(r"^one +(.*)$", told, re.M)[1].split()])
-                self.assertIn(rows[-1][at], (1, 2), told)
-                self.assertEqual(sum(rows[-1]), rows[-1][at], told)
-
-    def test_the_status_is_the_commands(self):
-        ran = self.report("exit 3")
-        self.assertEqual(ran.returncode, 3)
-        self.assertRegex(ran.stdout.splitlines()[-1], r"^0\.\d processor minutes, 0\.\d by the clock, status 3$")
-
-
 class Examples(unittest.TestCase):
     def test_the_images_are_those_of_the_script(self):
         with tempfile.TemporaryDirectory() as room:
@@ -473,249 +438,6 @@ class Examples(unittest.TestCase):
 
 # A crate of three functions, and a prover whose answer on a function follows from words in its body. It prints what
 # rattle prints for such a body.
-TOY = """\
-fn first() -> u64
-{
-    1
-}
-
-fn second() -> u64
-{
-    2
-}
-
-fn third() -> u64
-{
-    second() + 1
-}
-"""
-PROVER = """\
-import pathlib, re, sys
-text = pathlib.Path("src/lib.rt").read_text()
-bodies = {name: body for name, body in re.findall(r"fn (\\w+)[^{]*{(.*?)\\n}", text, re.S)}
-asked = [word for flag, word in zip(sys.argv, sys.argv[1:]) if flag == "--only"]
-lines = text.split("\\n")
-if "garbled" in text:
-    print(f"src/lib.rt:{1 + next(at for at, line in enumerate(lines) if 'garbled' in line)}:5: error: expected the end of the file")
-    sys.exit(1)
-for name in asked:
-    kept = pathlib.Path("proofs", name, "Proof.antt").exists()
-    is_open = "wrong" in bodies[name]
-    called = [it for it in bodies if it != name and f"{it}(" in bodies[name] and "wrong" in bodies[it]]
-    calls = f"; it calls `toy::{called[0]}`, which is not proved" if called else ""
-    if "gone" in bodies[name]:
-        print(f"./proofs/{name}/Answers.antt:1:2: error: `c` has no field `x`")
-        print(f"fn toy::{name}: not proved")
-    elif is_open:
-        print(f"fn toy::{name}: no proof: expected answers; `search` did not prove `returns`{calls}")
-    else:
-        print(f"fn toy::{name}: not proved{calls}" if calls else f"fn toy::{name}: no holes")
-print(f"only={len(asked)} holes=0")
-"""
-
-
-class StandIn:
-    """What planted.py takes of rt, over a crate of three functions."""
-
-    def __init__(self, folder):
-        self.folder, self.name, self.checks = str(folder / "crates/toy"), "toy", 0
-        folder.joinpath("prover.py").write_text(PROVER)
-        self.RATTLE, self.prover = sys.executable, str(folder / "prover.py")
-        self.rtlib, self.PARTS, self.STALE = self, ("src", "specs", "proofs"), re.compile("Run the lower steps again")
-
-    def crates_below(self, _root):
-        return [self]
-
-    def guarded(self):
-        return ["env", "--", self.RATTLE, self.prover]
-
-    def below(self):
-        return []
-
-    def count(self, _pattern):
-        return 1
-
-    def need(self, _crate):
-        return 1
-
-    def words(self, flags, keeps):
-        self.checks += 1
-        return flags
-
-    def unread(self, line, _changed):
-        return "expected the end" in line
-
-    def in_lanes(self, tasks):
-        return {key: call({}, 1) for key, (_, _, _, call) in tasks.items()}
-
-    def read_edit(self, edit, folder):
-        old, new = re.search(r"^old: (.*)\nnew: (.*)$", pathlib.Path(edit).read_text(), re.M).groups()
-        text = pathlib.Path(folder, "src/lib.rt").read_text()
-        return ({"src/lib.rt": text.replace(old, new)}, None) if text.count(old) == 1 else (None, "an 'old:' text is not there once")
-
-
-class Store:
-    """What planted.py takes of rt to see what it keeps: three libraries, each above the one before."""
-
-    def __init__(self, folder, kept):
-        self.folder, self.rtlib, self.Crate, self.Kept = folder, self, self, lambda _crates: self
-        self.crates = [Library(folder, name, below) for name, below in (("low", 0), ("mid", 1), ("top", 2))]
-        for library in self.crates:
-            library.below = lambda library=library: self.crates[: library.count]
-            entry = folder / f"{library.name}.kept"
-            entry.mkdir()
-            entry.joinpath("made.json").write_text(json.dumps({"files": [["rlib", kept[library.name]]]}))
-
-    def handles_of(self, _root):
-        return ()
-
-    def crates_of(self, _root):
-        return self.crates
-
-    def sum_of(self, file):
-        return pathlib.Path(file).read_text()
-
-    def key(self, crate):
-        return crate.name
-
-    def place(self, _crate, _tests, key):
-        return self.folder / f"{key}.kept"
-
-    def is_built(self, _crate):
-        pass
-
-
-class Library:
-    def __init__(self, folder, name, count):
-        self.folder, self.name, self.count = folder / name, name, count
-        (self.folder / "out").mkdir(parents=True)
-        (self.folder / "out/rlib").write_text(f"{name} as built")
-
-    def makes_rlib(self):
-        return True
-
-
-class Libraries(unittest.TestCase):
-    def kept(self, **kept):
-        with tempfile.TemporaryDirectory() as room:
-            return planted.kept_libraries(Store(pathlib.Path(room), kept))
-
-    def test_what_stands_as_it_was_kept_is_not_built_again(self):
-        self.assertEqual(self.kept(low="low as built", mid="mid as built", top="top as built"), {"low", "mid", "top"})
-
-    def test_another_library_is_built_again_and_all_above_it(self):
-        self.assertEqual(self.kept(low="low as built", mid="another", top="top as built"), {"low"})
-
-    def test_an_rt_that_keeps_nothing_has_all_built(self):
-        self.assertEqual(planted.kept_libraries(object()), set())
-
-
-class Planted(unittest.TestCase):
-    def setUp(self):
-        self.room = tempfile.TemporaryDirectory()
-        self.folder = pathlib.Path(self.room.name)
-        for name in ("src", "planted"):
-            self.folder.joinpath("crates/toy", name).mkdir(parents=True)
-        self.folder.joinpath("crates/toy/src/lib.rt").write_text(TOY)
-        self.row("control", "first", "    1", "    1 + 0", expect="expect: proves\n")
-
-    def tearDown(self):
-        self.room.cleanup()
-
-    def row(self, name, function, old, new, expect=""):
-        text = f"turns: {function}: what it does\n{expect}file: src/lib.rt\nold: {old}\nnew: {new}\n"
-        self.folder.joinpath(f"crates/toy/planted/{name}.edit").write_text(text)
-
-    def tried(self, *flags):
-        """What each row came to, by its name, and the last line and status."""
-        was, rt = (planted.ROOT, planted.load_rt, planted.is_known_kit), StandIn(self.folder)
-        self.rt = rt
-        planted.ROOT, planted.load_rt, planted.is_known_kit = self.folder, lambda: rt, lambda: True
-        here, words = os.getcwd(), sys.argv
-        sys.argv = ["planted.py", *flags, "toy"]
-        try:
-            with contextlib.redirect_stdout(io.StringIO()) as out:
-                status = planted.main()
-        finally:
-            (planted.ROOT, planted.load_rt, planted.is_known_kit), sys.argv = was, words
-            os.chdir(here)
-        lines = out.getvalue().splitlines()
-        return dict(line[len("planted toy/"):].split(": ", 1) for line in lines if line.startswith("planted toy/")), lines[-1], status
-
-    def test_a_row_that_is_refused_passes(self):
-        self.row("turned", "second", "    2", "    2 + wrong")
-        rows, last, status = self.tried()
-        self.assertEqual((last, status), ("1 refused, 0 failed", 0))
-        self.assertEqual(rows["turned"], "refused: second: not proved: `returns`")
-        self.assertIn("proved, as it must be", rows["control"])
-
-    def test_a_row_that_is_proved_fails(self):
-        self.row("turned", "second", "    2", "    1 + 1")
-        rows, last, status = self.tried()
-        self.assertEqual((last, status), ("0 refused, 1 failed", 1))
-        self.assertIn("NOT REFUSED", rows["turned"])
-
-    def test_a_control_that_is_refused_fails(self):
-        self.row("control", "first", "    1", "    1 + wrong", expect="expect: proves\n")
-        self.assertEqual(self.tried()[1:], ("0 refused, 1 failed", 1))
-
-    def test_a_crate_without_a_control_fails(self):
-        self.folder.joinpath("crates/toy/planted/control.edit").unlink()
-        self.row("turned", "second", "    2", "    2 + wrong")
-        self.assertEqual(self.tried()[1:], ("1 refused, 1 failed", 1))
-
-    def test_a_caller_is_tried_beside_what_it_calls(self):
-        self.row("turned", "second", "    2", "    2 + wrong")
-        self.row("unturned", "third", "    second() + 1", "    second() + 1 + 0")
-        rows, last, status = self.tried()
-        self.assertEqual((last, status, self.rt.checks), ("1 refused, 1 failed", 1, 1))
-        self.assertIn("NOT REFUSED", rows["unturned"])
-
-    def test_a_caller_is_tried_again_without_what_is_refused_in_place(self):
-        self.folder.joinpath("crates/toy/src/lib.rt").write_text(TOY + "\nfn fourth(n: u64) -> u64\n{\n    fourth(n / 2)\n}\n")
-        self.row("turned", "fourth", "    fourth(n / 2)", "    fourth(n / 2) + wrong")
-        self.row("unturned", "third", "    second() + 1", "    fourth(1)")
-        rows, last, status = self.tried()
-        self.assertEqual((last, status, self.rt.checks), ("1 refused, 1 failed", 1, 2))
-        self.assertIn("NOT REFUSED", rows["unturned"])
-
-    def test_rows_of_one_function_are_tried_in_one_check(self):
-        self.row("turned", "second", "    2", "    2 + wrong")
-        self.row("unturned", "second", "    2", "    2 + 0")
-        rows, last, status = self.tried()
-        self.assertEqual((last, status, self.rt.checks), ("1 refused, 1 failed", 1, 1))
-        self.assertEqual(rows["turned"], "refused: second: not proved: `returns`")
-        self.assertIn("NOT REFUSED", rows["unturned"])
-
-    def test_a_row_without_its_change_is_proved(self):
-        self.row("turned", "second", "    2", "    2 + wrong")
-        rows, last, status = self.tried("--unchanged")
-        self.assertEqual((last, status), ("0 refused, 0 failed", 0))
-        self.assertIn("proved, as it must be", rows["turned"])
-        self.folder.joinpath("crates/toy/src/lib.rt").write_text(TOY.replace("    2", "    2 + wrong"))
-        self.row("turned", "second", "    2", "    2 + 1")
-        self.assertEqual(self.tried("--unchanged")[1:], ("0 refused, 1 failed", 1))
-
-    def test_a_row_that_cannot_be_read_is_bad_alone(self):
-        self.row("turned", "second", "    2", "    2 + wrong")
-        self.row("unread", "third", "    second() + 1", "    garbled")
-        rows, last, status = self.tried()
-        self.assertEqual((last, status), ("1 refused, 1 failed", 1))
-        self.assertIn("BAD: src/lib.rt:13:5: error", rows["unread"])
-
-    def test_a_row_that_only_takes_a_name_away_is_bad(self):
-        self.row("turned", "second", "    2", "    gone")
-        self.assertIn("BAD: only its proof refuses it", self.tried()[0]["turned"])
-
-    def test_a_row_that_names_no_function_or_another_is_bad(self):
-        self.row("nobody", "fourth", "    2", "    2 + wrong")
-        self.row("another", "second", "    1", "    1 + wrong")
-        rows, last, status = self.tried()
-        self.assertEqual((last, status), ("0 refused, 2 failed", 1))
-        self.assertIn("BAD: it changes no line of fourth", rows["nobody"])
-        self.assertIn("BAD: it changes no line of second", rows["another"])
-
-
 class JavaHeaps(unittest.TestCase):
     """examples/java/run.sh, before it runs a JVM."""
 
@@ -800,7 +522,7 @@ class Scripts(unittest.TestCase):
 
     def test_each_says_what_it_wants(self):
         for path in self.scripts:
-            if path.name in ("build_judge.py", "test_bench.py", "test_hprof.py", "test_judge.py", "test_tools.py"):  # they want nothing
+            if path.name in ("build_judge.py", "test_bench.py", "test_hprof.py", "test_judge.py", "test_planted.py", "test_tools.py"):  # they want nothing
                 continue
             with self.subTest(path.name):
                 status, out, errors = self.run_script(path)
