@@ -421,7 +421,7 @@ def is_kept(rt, kept, crate):
     """Whether the library that stands there is, by its sums, the one that rt ci keeps for the crate's files."""
     entry = pathlib.Path(kept.place(crate, False, kept.key(crate)), "made.json")
     made = json.loads(entry.read_text())["files"] if entry.is_file() else []
-    return bool(made) and all(rt.rtlib.sum_of(f"{crate.folder}/out/{path}") == sum for path, sum in made)
+    return bool(made) and all(rt.rtlib.sum_of(f"{crate.folder}/out/{path}") == kept_sum for path, kept_sum in made)
 
 
 def kept_libraries(rt):
