@@ -1,6 +1,5 @@
 -- What a budget buys of an order.
-use Rattle.std.proofs.Common.{◌≡◌, ℕ, zero, suc, ◌+◌, ◌*◌, ◌<◌, ◌≤◌, inl, inr, List, [], ◌∷◌, map, take, length, get_or, sum, sum_by, All, refl, sym, ◌∙◌, ap, subst, arith, Vec}
-use Rattle.std.specs.Prelude.{Result, Ok, Err, IfOk}
+use Rattle.std.proofs.Common.{◌≡◌, ℕ, zero, suc, ◌+◌, ◌*◌, ◌<◌, ◌≤◌, inl, inr, List, [], ◌∷◌, map, take, length, get_or, sum, sum_by, All, refl, sym, ◌∙◌, ap, subst, arith}
 use Rattle.std.specs.List.Sorted.{IsPermutation}
 use Rattle.std.proofs.lemmas.Bool.{cases_lt}
 use Rattle.std.proofs.lemmas.List.{length-map, take-map}
@@ -112,9 +111,3 @@ module _ (c : Cost) (h : Heap) (remembered : List (List ℕ)) (lives : List ℕ)
         rising = risen h (take m numbers) set moved t.rising (order_apart c h remembered lives numbers m o.order)
             (λ r i. order_within c h remembered lives numbers m r o.order i);
       }
-
-  -- the same of an answer that may be out of memory
-  pub chosen_if_ok : {Z E : Type 0} (d budget : ℕ) (xs : List Candidate) (p : Purchase) (r : Result (Vec ℕ Z) E) → IsCandidateOrder c h remembered lives xs
-      → IsPurchase c d budget xs p → IfOk r (λ v. AreRegionsOf (take p.taken xs) v.items) → IfOk r (λ v. IsChosen c h remembered lives d budget v.items)
-  chosen_if_ok d budget xs p (Ok v) o bought t = chosen_from_paid d budget p.taken xs v.items o bought.paid t
-  chosen_if_ok d budget xs p (Err f) o bought t = tt

@@ -3,6 +3,7 @@ ghost use Rattle.g1_words.specs.Valid.{IsValid};
 ghost use Rattle.g1_choose.specs.Cost.{IsCost};
 ghost use Rattle.g1_choose.specs.Choice.{MayBeLive, is_candidate, candidates, IsChosen};
 ghost use Rattle.g1_choose.specs.Candidate.{TellsRegion, IsCandidateOrder};
+ghost use Rattle.g1_choose.specs.Bought.{IsPaid};
 
 use crate::buying::{buy, rising_regions};
 use crate::candidate::Candidate;
@@ -99,6 +100,17 @@ pub fn order(
     Ok(candidates)
 }
 
+/// What a budget chooses.
+#[derive(Drop)]
+pub struct Chosen {
+    /// The candidates, by efficiency.
+    pub order: Vec<Candidate>,
+    /// How many of them are taken, the first ones.
+    pub taken: usize,
+    /// The regions of these, rising.
+    pub regions: Vec<u32>,
+}
+
 /// The collection set that the budget pays, rising: the longest beginning of the order whose total is
 /// at most the budget. It is empty if not even the pause alone is within the budget.
 ///
@@ -120,7 +132,38 @@ pub fn choose(
     ensures ok { IfOk result (λ v. IsChosen parameters.now heap.now (map (λ s. s.items) remembered.now) live.now d budget v.items) }
     ensures memory { IfErr result (λ e. e ≡ Fault.Memory) }
 {
+    let chosen = choose_in_order(alloc, heap, d, remembered, live, parameters, budget)?;
+    Ok(chosen.regions)
+}
+
+/// What `choose` returns, and the order by which it goes.
+///
+/// # Errors
+///
+/// `Fault::Memory` alone.
+pub fn choose_in_order(
+    alloc: Global,
+    heap: &Heap,
+    d: u64,
+    remembered: &[Vec<u32>],
+    live: &[u64],
+    parameters: &Cost,
+    budget: u64,
+) -> Result<Chosen, Fault>
+    requires parameters { IsCost parameters.now }
+    requires remembered { length remembered.now ≡ heap.now.geometry.n }
+    requires live_bytes { MayBeLive heap.now live.now }
+    ensures order { IfOk result (λ x. IsCandidateOrder parameters.now heap.now (map (λ s. s.items) remembered.now) live.now x.order.items) }
+    ensures paid { IfOk result (λ x. IsPaid parameters.now d budget x.order.items x.taken) }
+    ensures ok { IfOk result (λ x. IsChosen parameters.now heap.now (map (λ s. s.items) remembered.now) live.now d budget x.regions.items) }
+    ensures memory { IfErr result (λ e. e ≡ Fault.Memory) }
+{
     let order = order(alloc, heap, remembered, live, parameters)?;
     let purchase = buy(&order, parameters, d, budget);
-    rising_regions(alloc, &order[..purchase.taken])
+    let regions = rising_regions(alloc, &order[..purchase.taken])?;
+    Ok(Chosen {
+        order,
+        taken: purchase.taken,
+        regions,
+    })
 }

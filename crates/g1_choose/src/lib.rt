@@ -9,7 +9,7 @@
 //!    that is rounded; if they are equal, the lower region comes first.
 //! 3. `buy` finds the longest beginning of that order whose total is within the budget. A region
 //!    that doesn't fit ends it, even if a later one would fit. `choose` is `order`, then `buy`, then the
-//!    regions of that beginning by number.
+//!    regions of that beginning by number; `choose_in_order` returns the order, too.
 //! 4. `given` takes a list of regions from the caller.
 #![tactic(auto)]
 
@@ -23,7 +23,7 @@ mod pricing;
 
 pub use buying::{Purchase, buy, rising_regions};
 pub use candidate::Candidate;
-pub use choice::{choose, order};
+pub use choice::{Chosen, choose, choose_in_order, order};
 pub use named::given;
 pub use parameters::Cost;
 pub use pricing::{cost, total};

@@ -1,22 +1,21 @@
 -- The cards of a search of one region.
-use Rattle.std.proofs.Common.{◌≡◌, ◌≢◌, ◌<◌, ℕ, inl, inr, ◌+◌, ◌*◌, ◌/◌, Bool, true, false, not, ◌&&◌, List, [], ◌∷◌, Contains, sym, ap, subst, ◌∙◌, arith, refl, eqb, eq-eqb}
+use Rattle.std.proofs.Common.{◌≡◌, ◌≢◌, ◌<◌, ℕ, inl, inr, ◌*◌, ◌/◌, true, List, [], ◌∷◌, Contains, sym, ap, ◌∙◌, arith, refl, eq-eqb}
 use Rattle.std.specs.List.{range_with_len}
 use Rattle.std.proofs.lemmas.Bool.{false≢true}
-use Rattle.g1_words.specs.Heap.{Heap, card_of, region_of}
-use Rattle.g1_words.specs.References.{Ref, refs}
-use Rattle.g1_words.specs.Survivors.{in_set}
+use Rattle.g1_words.specs.Heap.{region_of}
+use Rattle.g1_words.specs.References.{Ref}
 use Rattle.g1_words.specs.Lists.{has}
 use Rattle.g1_words.proofs.Computed.{range_below}
 use Rattle.g1_words.proofs.Members.{In, In-from_contains, Contains-from_in, filter_member, in_from_has, has_from_in}
 use Rattle.g1_image.specs.Image.{Image, IsImage, region_of_card}
 use Rattle.g1_image.specs.Cards.{leads_into, is_refined, refined}
 use Rattle.g1_image.proofs.Covers.{card_region, exact_tells, refined_tells}
+use Rattle.g1_rem.specs.Entries.{AreEntryCards}
 use Rattle.g1_rem.specs.Starts.{card_count}
 use Rattle.g1_rem.proofs.Lists.{eqb_false}
 use Rattle.g1_frontier.specs.Window.{AreCards, AreOutside, LeadIn}
 use Rattle.g1_frontier.proofs.Places.{same_bool}
 use Rattle.g1_frontier.proofs.Scopes.{all_from_in}
-use Rattle.g1_explain.specs.Entering.{AreEntryCards}
 
 module _ (i : Image) (good : IsImage i) (r : ℕ) (inside : r < i.heap.geometry.n) where
   -- no card of the refined set lies in the region

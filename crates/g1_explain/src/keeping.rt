@@ -1,10 +1,9 @@
 //! What keeps an object.
 ghost use Rattle.std.specs.Prelude.{◌<◌};
 ghost use Rattle.g1_rem.specs.Starts.{IsStartsOf};
-ghost use Rattle.g1_explain.specs.Entering.{AreEntryCards};
+ghost use Rattle.g1_rem.specs.Entries.{AreEntryCards};
 
 use crate::cards::{mark_regions, word_at};
-use crate::entering::Target;
 use crate::failure::Failure;
 use crate::finders::{Finder, finders, size_in, slots_at};
 use crate::humongous::card_keeper;
@@ -12,7 +11,7 @@ use crate::places::{push_found, push_object};
 use g1_frontier::discover;
 use g1_image::Image;
 use g1_mark::live_objects;
-use g1_rem::Starts;
+use g1_rem::{Starts, cards_into_region};
 use g1_words::{Fault, Heap, region_of};
 use g1_work::{Open, Team};
 use std::alloc::{AllocError, Global};
@@ -22,6 +21,15 @@ use std::thread::Threads;
 const WORKERS: u64 = 1;
 
 const CHUNK: u64 = 64;
+
+// An object that is asked about: its address and its region, in an image with these starts.
+#[derive(Drop)]
+struct Target<'a> {
+    image: &'a Image,
+    starts: &'a Starts,
+    region: u32,
+    at: u64,
+}
 
 /// What keeps the object at an address, as lines: the shortest path from a root; or the card by which its
 /// region's collection would keep it; or that it is garbage.
@@ -190,7 +198,7 @@ fn explain_dead<R: Threads + Sync>(
         region,
         at,
     };
-    let cards = target.entry_cards(alloc)?;
+    let cards = cards_into_region(alloc, image, region)?;
     if heap.region(region).kind.is_humongous_first() {
         return explain_humongous(alloc, &target, &cards);
     }

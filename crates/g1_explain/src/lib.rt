@@ -18,7 +18,6 @@ mod cards;
 mod changes;
 mod checking;
 mod choosing;
-mod entering;
 mod explaining;
 mod failure;
 mod finders;

@@ -1,7 +1,7 @@
 //! The steps of a pause, one after another, each with its lines.
 ghost use Rattle.std.specs.Prelude.{◌≡◌, map};
 ghost use Rattle.g1_words.specs.Heap.{regions};
-ghost use Rattle.g1_image.specs.Cards.{IsTracked, refined};
+ghost use Rattle.g1_image.specs.Cards.{refined};
 ghost use Rattle.g1_rem.specs.Starts.{IsStartsOf};
 ghost use Rattle.g1_pause.specs.Answer.{IsSetFor};
 
@@ -9,7 +9,7 @@ use crate::cards::{mark_regions, push_cards, push_dirty};
 use crate::changes::{
     free_count, patch_count, push_heading_changes, push_patches, push_regions, push_remembered,
 };
-use crate::choosing::choose_set;
+use crate::choosing::push_bought;
 use crate::failure::Failure;
 use crate::form::Form;
 use crate::humongous::{keepers, push_humongous};
@@ -17,7 +17,7 @@ use crate::places::{push_places, push_survivors, sizes_of, sum_of};
 use g1_copy::{Basis, Prepared, prepare_on};
 use g1_frontier::discover;
 use g1_layout::{Plan, place};
-use g1_pause::{Before, Settings};
+use g1_pause::{Before, Settings, collection_set};
 use g1_rem::{Starts, Tracked, cards_into, image, refine_by};
 use g1_words::Heap;
 use g1_work::Open;
@@ -47,9 +47,7 @@ pub(crate) fn take_steps<R: Threads + Sync>(
     form: Form,
     tracked: &Tracked,
     settings: &Settings,
-) -> Result<Steps, Failure>
-    ensures tracked { IsTracked tracked.now }
-{
+) -> Result<Steps, Failure> {
     let image = image(tracked);
     let starts = Starts::build(alloc, image.heap())?;
     let remembered = refine_by(rt, alloc, tracked, &starts, settings.workers())?;
@@ -59,7 +57,11 @@ pub(crate) fn take_steps<R: Threads + Sync>(
         starts: &starts,
         remembered: &remembered,
     };
-    let set = choose_set(rt, alloc, text, &before, settings)?;
+    let collection = collection_set(rt, alloc, &before, settings, &Open)?;
+    if let Some(bought) = &collection.bought {
+        push_bought(text, &before, &settings.cost(), bought)?;
+    }
+    let set = collection.regions;
     steps_of_set(rt, alloc, text, form, tracked, &before, settings, set)
 }
 

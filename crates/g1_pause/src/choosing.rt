@@ -7,7 +7,7 @@ ghost use Rattle.g1_choose.specs.Choice.{MayBeLive};
 ghost use Rattle.g1_pause.specs.Answer.{IsSetFor, IsEvacuated};
 
 use crate::settings::{Choice, Settings};
-use g1_choose::{choose, given};
+use g1_choose::{Candidate, choose_in_order, given};
 use g1_image::Image;
 use g1_mark::live_bytes;
 use g1_rem::Starts;
@@ -26,32 +26,77 @@ pub struct Before<'a> {
     pub remembered: &'a [Vec<u32>],
 }
 
-/// The collection set, rising: what the budget buys, or the regions that are given. Only a budget
-/// asks for the live bytes.
+/// A collection set.
+#[derive(Drop)]
+pub struct CollectionSet {
+    /// Its regions, rising.
+    pub regions: Vec<u32>,
+    /// What a budget bought them by; None if they are given.
+    pub bought: Option<Bought>,
+}
+
+/// What a budget goes by, and how far it goes.
+#[derive(Drop)]
+pub struct Bought {
+    pub budget: u64,
+    /// The live bytes of each region.
+    pub live: Vec<u64>,
+    /// The candidates, by efficiency.
+    pub order: Vec<Candidate>,
+    /// How many candidates are taken, the first ones of the order.
+    pub taken: usize,
+}
+
+/// The collection set: what the budget buys, or the regions that are given. Only a budget asks for the
+/// live bytes.
 ///
 /// # Errors
 ///
 /// `Fault::Set` with the first region of a given list that can't be taken; `Fault::Memory`.
-pub(crate) fn collection_set<R: Threads + Sync, G: Gate + Sync>(
+pub fn collection_set<R: Threads + Sync, G: Gate + Sync>(
     rt: &R,
     alloc: Global,
     before: &Before<'_>,
     settings: &Settings,
     gate: &G,
-) -> Result<Vec<u32>, Fault>
+) -> Result<CollectionSet, Fault>
     requires starts { IsStartsOf before.now.image.now.heap before.now.starts.now }
     requires remembered { map (λ s. s.items) before.now.remembered.now ≡ map (refined before.now.image.now) (regions before.now.image.now.heap) }
-    ensures set { IfOk result (λ v. IsSetFor settings.now.cost before.now.image.now settings.now.choice v.items) }
+    ensures set { IfOk result (λ x. IsSetFor settings.now.cost before.now.image.now settings.now.choice x.regions.items) }
     ensures refused { IfErr result (λ e. (e ≡ Fault.Memory) ⊎ IsEvacuated settings.now.cost settings.now.choice before.now.image.now (Err e)) }
 {
     let heap = before.image.heap();
     match settings.choice() {
-        Choice::Given(list) => given(alloc, heap, list),
+        Choice::Given(list) => {
+            let regions = given(alloc, heap, list)?;
+            Ok(CollectionSet {
+                regions,
+                bought: None,
+            })
+        }
         Choice::Budget(budget) => {
             let live = count_live(rt, alloc, before, settings, gate)?;
             let dirty = before.image.log().len() as u64;
             let cost = settings.cost();
-            choose(alloc, heap, dirty, before.remembered, &live, &cost, *budget)
+            let chosen = choose_in_order(
+                alloc,
+                heap,
+                dirty,
+                before.remembered,
+                &live,
+                &cost,
+                *budget,
+            )?;
+            let bought = Bought {
+                budget: *budget,
+                live,
+                order: chosen.order,
+                taken: chosen.taken,
+            };
+            Ok(CollectionSet {
+                regions: chosen.regions,
+                bought: Some(bought),
+            })
         }
     }
 }

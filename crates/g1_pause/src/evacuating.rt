@@ -44,7 +44,7 @@ fn plan_pause<R: Threads + Sync, G: Gate + Sync>(
         starts: &starts,
         remembered: &remembered,
     };
-    let set = collection_set(rt, alloc, &before, settings, gate)?;
+    let set = collection_set(rt, alloc, &before, settings, gate)?.regions;
     let cards = cards_into(alloc, heap, &remembered, &set)?;
     g1_copy::laws::cards_lead_in();
     g1_frontier::laws::refined_lead_in();

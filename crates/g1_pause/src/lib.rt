@@ -27,7 +27,7 @@ mod run_streams;
 mod settings;
 
 pub use bytes::pause_bytes;
-pub use choosing::{Before, count_live};
+pub use choosing::{Before, Bought, CollectionSet, collection_set, count_live};
 pub use evacuating::evacuate;
 pub use g1_image::{FromReader, Sink, Source, ToWriter};
 pub use report::Report;

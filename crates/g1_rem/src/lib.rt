@@ -16,7 +16,9 @@
 //! 5. `merged` makes one rising list of two, each card once: a set and the cards that join it.
 //! 6. `cards_into` lists the cards that lead into a set of regions: those of the remembered sets of
 //!    its regions that lie outside it.
-//! 7. `leads_into` asks the slots on one card whether one of them, of another region, references an
+//! 7. `cards_into_region` lists those that lead into one region, without any other region's set: it asks every
+//!    slot, and finds the lowest one into the region that isn't covered.
+//! 8. `leads_into` asks the slots on one card whether one of them, of another region, references an
 //!    object in a region.
 //!
 //! The sets and the log are those of Detlefs, Flood, Heller, Printezis, "Garbage-First Garbage
@@ -25,6 +27,7 @@
 
 mod card_lists;
 mod cover;
+mod entries;
 mod entry_cards;
 pub mod laws;
 mod leads;
@@ -38,6 +41,7 @@ mod tracked;
 
 pub use card_lists::{no_cards, push_once};
 pub use cover::{first_uncovered, verify, verify_by};
+pub use entries::cards_into_region;
 pub use entry_cards::{cards_into, mark_each};
 pub use leads::leads_into;
 pub use merging::merged;

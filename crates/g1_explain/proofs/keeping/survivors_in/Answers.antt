@@ -1,5 +1,4 @@
-use Rattle.std.proofs.Common.{ap, ◌∙◌, sym, subst, [], ◌∷◌}
-use Rattle.g1_words.specs.Heap.{Heap}
+use Rattle.std.proofs.Common.{sym, subst, [], ◌∷◌}
 use Rattle.g1_frontier.specs.Window.{AreCards, AreOutside, LeadIn}
 use Rattle.g1_explain.proofs.Searched.{entry_cards_lead_in}
 use Rattle.g1_explain.proofs.keeping.survivors_in.Goals as goal

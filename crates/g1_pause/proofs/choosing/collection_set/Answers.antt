@@ -1,8 +1,10 @@
-use Rattle.std.proofs.Common.{◌∙◌, sym}
+use Rattle.std.proofs.Common.{ℕ, Err, ◌∙◌, sym}
+use Rattle.std.proofs.lemmas.Result.{err_from_is_err_and}
 use Rattle.g1_pause.proofs.Refused.{named_refused}
 use Rattle.g1_pause.proofs.choosing.collection_set.Goals as goal
 
-pub returns-in-Given-clause-refused : goal.returns-in-Given-clause-refused
-returns-in-Given-clause-refused g c =
-    named_refused c.args.settings.now.cost c.args.settings.now.choice c.args.before.now.image.now c.heap-heap.result.now c.in-Given.list c.deref.result.now c.given.result
-    (sym c.choice.ensures ∙ c.in-Given.is) c.heap-heap.ensures.same c.deref.ensures.value c.given.ensures.err
+pub returns-in_err-regions-in-Given-clause-refused : goal.returns-in_err-regions-in-Given-clause-refused
+returns-in_err-regions-in-Given-clause-refused g c =
+    let p = err_from_is_err_and c.from_residual.result c.from_residual.ensures.1 in
+    rw (p.1, p.2) (named_refused {X = ℕ} c.args.settings.now.cost c.args.settings.now.choice c.args.before.now.image.now c.heap-heap.result.now c.in-Given.list c.deref.result.now
+    (Err c.in_err-regions-in-Given.field-0.0) (sym c.choice.ensures ∙ c.in-Given.is) c.heap-heap.ensures.same c.deref.ensures.value c.in_err-regions-in-Given.ensures.err)

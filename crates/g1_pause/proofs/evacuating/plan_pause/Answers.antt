@@ -23,12 +23,12 @@ cards_into-requires-clause-remembered g c =
 
 pub cards_into-requires-clause-set : goal.cards_into-requires-clause-set
 cards_into-requires-clause-set g c =
-    (set_there c.args.settings.now.cost c.args.settings.now.choice c.image-image.result.now c.heap-heap.result.now c.heap-heap.ensures.same c.in_ok-set.set.items c.in_ok-set.ensures.set
+    (set_there c.args.settings.now.cost c.args.settings.now.choice c.image-image.result.now c.heap-heap.result.now c.heap-heap.ensures.same c.in_ok-set.field-0.regions.items c.in_ok-set.ensures.set
     c.deref-3.result.now c.deref-3.ensures.value).below
 
 pub discover-requires-clause-window : goal.discover-requires-clause-window
 discover-requires-clause-window g c κs within =
-    set_there c.args.settings.now.cost c.args.settings.now.choice c.image-image.result.now c.heap-heap.result.now c.heap-heap.ensures.same c.in_ok-set.set.items c.in_ok-set.ensures.set
+    set_there c.args.settings.now.cost c.args.settings.now.choice c.image-image.result.now c.heap-heap.result.now c.heap-heap.ensures.same c.in_ok-set.field-0.regions.items c.in_ok-set.ensures.set
     c.deref-4.result.now c.deref-4.ensures.value
 
 pub discover-requires-clause-cards : goal.discover-requires-clause-cards
@@ -41,7 +41,7 @@ discover-requires-clause-outside g c κs within =
     let t : Image = c.args.tracked.now in
     let i : Image = c.image-image.result.now in
     let tracked : IsTracked i = record { image = c.heap-heap.ensures.valid; covered = subst Covered (sym c.image-image.ensures.same) c.image-image.ensures.covered } in
-    (set_leads c.args.settings.now.cost c.args.settings.now.choice i c.heap-heap.result.now c.heap-heap.ensures.same c.in_ok-set.set.items c.in_ok-set.ensures.set
+    (set_leads c.args.settings.now.cost c.args.settings.now.choice i c.heap-heap.result.now c.heap-heap.ensures.same c.in_ok-set.field-0.regions.items c.in_ok-set.ensures.set
     c.deref-5.result.now c.deref-4.result.now c.deref-3.result.now (map (λ s. s.items) c.deref-2.result.now) tracked c.cards_lead_in.ensures.refined c.refined_lead_in.ensures.window
     (c.deref-5.ensures.value ∙ c.in_ok-cards.ensures.ok) c.deref-3.ensures.value c.deref-4.ensures.value
     (ap (map (λ s. s.items)) c.deref-2.ensures.value ∙ c.in_ok-remembered.ensures.ok ∙ ap (λ (j : Image). map (refined j) (regions j.heap)) (sym c.image-image.ensures.same))).0
@@ -50,7 +50,7 @@ pub discover-requires-clause-lead_in : goal.discover-requires-clause-lead_in
 discover-requires-clause-lead_in g c κs within =
     let i : Image = c.image-image.result.now in
     let tracked : IsTracked i = record { image = c.heap-heap.ensures.valid; covered = subst Covered (sym c.image-image.ensures.same) c.image-image.ensures.covered } in
-    (set_leads c.args.settings.now.cost c.args.settings.now.choice i c.heap-heap.result.now c.heap-heap.ensures.same c.in_ok-set.set.items c.in_ok-set.ensures.set
+    (set_leads c.args.settings.now.cost c.args.settings.now.choice i c.heap-heap.result.now c.heap-heap.ensures.same c.in_ok-set.field-0.regions.items c.in_ok-set.ensures.set
     c.deref-5.result.now c.deref-4.result.now c.deref-3.result.now (map (λ s. s.items) c.deref-2.result.now) tracked c.cards_lead_in.ensures.refined c.refined_lead_in.ensures.window
     (c.deref-5.ensures.value ∙ c.in_ok-cards.ensures.ok) c.deref-3.ensures.value c.deref-4.ensures.value
     (ap (map (λ s. s.items)) c.deref-2.ensures.value ∙ c.in_ok-remembered.ensures.ok ∙ ap (λ (j : Image). map (refined j) (regions j.heap)) (sym c.image-image.ensures.same))).1
@@ -59,7 +59,7 @@ pub place-requires : goal.place-requires
 place-requires g c =
     let i : Image = c.image-image.result.now in
     let tracked : IsTracked i = record { image = c.heap-heap.ensures.valid; covered = subst Covered (sym c.image-image.ensures.same) c.image-image.ensures.covered } in
-    set_places c.args.settings.now.cost c.args.settings.now.choice i c.heap-heap.result.now c.heap-heap.ensures.same c.in_ok-set.set.items c.in_ok-set.ensures.set
+    set_places c.args.settings.now.cost c.args.settings.now.choice i c.heap-heap.result.now c.heap-heap.ensures.same c.in_ok-set.field-0.regions.items c.in_ok-set.ensures.set
     c.deref-6.result.now c.deref-4.result.now c.deref-7.result.now c.in_ok-survivors.survivors.items tracked c.placeable.ensures c.deref-6.ensures.value c.deref-4.ensures.value c.deref-7.ensures.value
     c.in_ok-survivors.ensures.ok
 
@@ -69,7 +69,7 @@ returns-in_err-plan-clause-refused g c =
     let same : c.from_residual-in_err-plan.result ≡ Err c.in_err-plan.field-0.0 = rw (p.1, p.2) refl in
     let fault : Fault = c.in_err-plan.field-0.0 in
     let told : (fault ≡ Memory) ⊎ IsEvacuated c.args.settings.now.cost c.args.settings.now.choice c.image-image.result.now (Err fault) =
-    set_refused c.args.settings.now.cost c.args.settings.now.choice c.image-image.result.now c.heap-heap.result.now c.heap-heap.ensures.same c.in_ok-set.set.items c.in_ok-set.ensures.set
+    set_refused c.args.settings.now.cost c.args.settings.now.choice c.image-image.result.now c.heap-heap.result.now c.heap-heap.ensures.same c.in_ok-set.field-0.regions.items c.in_ok-set.ensures.set
     c.deref-4.result.now c.deref-7.result.now c.in_ok-survivors.survivors.items c.place.result fault c.in_err-plan.was c.deref-4.ensures.value c.deref-7.ensures.value c.in_ok-survivors.ensures.ok
     c.place.ensures.room c.place.ensures.memory in
     subst (λ r. IfErr r (λ e. (e ≡ Memory) ⊎ IsEvacuated c.args.settings.now.cost c.args.settings.now.choice c.args.tracked.now (Err e))) (sym same)
@@ -80,7 +80,7 @@ prepare_on-requires-clause-plan g c κs within =
     let i : Image = c.image-image.result.now in
     let tracked : IsTracked i = record { image = c.heap-heap.ensures.valid; covered = subst Covered (sym c.image-image.ensures.same) c.image-image.ensures.covered } in
     subst (λ (j : Image). IsPauseOf j.heap c.deref-9.result.now c.in_ok-plan.plan) c.image-image.ensures.same
-    (set_planned c.args.settings.now.cost c.args.settings.now.choice i c.heap-heap.result.now c.heap-heap.ensures.same c.in_ok-set.set.items c.in_ok-set.ensures.set
+    (set_planned c.args.settings.now.cost c.args.settings.now.choice i c.heap-heap.result.now c.heap-heap.ensures.same c.in_ok-set.field-0.regions.items c.in_ok-set.ensures.set
     c.deref-6.result.now c.deref-4.result.now c.deref-9.result.now c.deref-7.result.now c.in_ok-survivors.survivors.items c.in_ok-plan.plan c.place.result tracked c.placeable.ensures
     c.deref-6.ensures.value c.deref-4.ensures.value c.deref-9.ensures.value c.deref-7.ensures.value c.in_ok-survivors.ensures.ok c.in_ok-plan.was c.in_ok-plan.ensures.plan c.place.ensures.room)
 
@@ -100,9 +100,9 @@ returns-clause-report g c =
     let tracked : IsTracked i = record { image = c.heap-heap.ensures.valid; covered = subst Covered (sym same) c.image-image.ensures.covered } in
     let chosen : IsSetFor c.args.settings.now.cost t c.args.settings.now.choice c.deref-9.result.now =
     subst (IsSetFor c.args.settings.now.cost t c.args.settings.now.choice) (sym c.deref-9.ensures.value)
-    (subst (λ (j : Image). IsSetFor c.args.settings.now.cost j c.args.settings.now.choice c.in_ok-set.set.items) same c.in_ok-set.ensures.set) in
+    (subst (λ (j : Image). IsSetFor c.args.settings.now.cost j c.args.settings.now.choice c.in_ok-set.field-0.regions.items) same c.in_ok-set.ensures.set) in
     let made =
-    set_planned c.args.settings.now.cost c.args.settings.now.choice i c.heap-heap.result.now c.heap-heap.ensures.same c.in_ok-set.set.items c.in_ok-set.ensures.set
+    set_planned c.args.settings.now.cost c.args.settings.now.choice i c.heap-heap.result.now c.heap-heap.ensures.same c.in_ok-set.field-0.regions.items c.in_ok-set.ensures.set
     c.deref-6.result.now c.deref-4.result.now c.deref-4.result.now c.deref-7.result.now c.in_ok-survivors.survivors.items c.in_ok-plan.plan c.place.result tracked c.placeable.ensures
     c.deref-6.ensures.value c.deref-4.ensures.value c.deref-4.ensures.value c.deref-7.ensures.value c.in_ok-survivors.ensures.ok c.in_ok-plan.was c.in_ok-plan.ensures.plan c.place.ensures.room in
     reported c.args.settings.now.cost c.args.settings.now.choice t c.deref-9.result.now c.in_ok-plan.plan.survivors c.in_ok-prepared.prepared

@@ -1,0 +1,417 @@
+-- What leads into one region: the cards so far, the slots ahead, and the lowest slot that isn't covered.
+use Rattle.std.proofs.Common.{◌≡◌, ◌≢◌, ◌≤◌, ◌<◌, ◌⊎◌, inl, inr, ℕ, suc, ◌+◌, ◌-◌, ◌/◌, ◌%◌, ◌^◌, Bool, true, false, not, ◌&&◌, ◌||◌, List, [], ◌∷◌, ◌++◌}
+use Rattle.std.proofs.Common.{map, filter, flat_map, length, slice_index, slice_index_or, replicate, drop, Contains, refl, sym, ap, subst, ◌∙◌, arith, eqb, eqb-true, eq-eqb}
+use Rattle.std.specs.List.{range_with_len, list_any}
+use Rattle.std.specs.List.Sorted.{IsStrictlyIncreasing}
+use Rattle.std.proofs.lemmas.Bool.{cases_lt, false≢true}
+use Rattle.std.proofs.lemmas.List.{get_or_default}
+use Rattle.std.proofs.lemmas.List.Kept.{AllPairs-from_increasing}
+use Rattle.std.proofs.lemmas.Nat.{le-div}
+use Rattle.std.proofs.Math.Nat.{div-mul-le_self}
+use Rattle.g1_words.specs.declared.fault.Fault.TheVariants.{Uncovered}
+use Rattle.g1_words.specs.Geometry.{most_words}
+use Rattle.g1_words.specs.Heap.{Heap, word, region_of, card_of, start, objects, objects_in, object_at, slots}
+use Rattle.g1_words.specs.Lists.{has}
+use Rattle.g1_words.specs.References.{Ref, named, refs, refs_at}
+use Rattle.g1_words.specs.Valid.{IsValid, Tiles}
+use Rattle.g1_words.proofs.Members.{In, In-from_contains, Contains-from_in, In-append_left, In-append_right, In-append_cases, In-flat_map, flat_map_cases}
+use Rattle.g1_words.proofs.Members.{In-map, map_cases, In-filter, filter_member, has_from_in, in_from_has, or_true, and_true, any_member}
+use Rattle.g1_words.proofs.Ordered.{Ordered, Ordered-from_pairs, pairs_from_ordered}
+use Rattle.g1_words.proofs.Computed.{In-range, range_below, has_contains}
+use Rattle.g1_words.proofs.Rising.{Ordered-append, Ordered-filter, Ordered-map, refs_ordered, ref_tells}
+use Rattle.g1_image.specs.Image.{Image, IsImage, remembered_of}
+use Rattle.g1_image.specs.Cards.{leads_into, is_exact, exact, refined, is_covered}
+use Rattle.g1_image.proofs.Covers.{exact_tells, refined_tells}
+use Rattle.g1_rem.specs.EntryCards.{AreMarked}
+use Rattle.g1_rem.specs.Marks.{objects_from}
+use Rattle.g1_rem.specs.Slots.{all_slots}
+use Rattle.g1_rem.specs.Starts.{card_count}
+use Rattle.g1_rem.proofs.Between.{between_all, between_none}
+use Rattle.g1_rem.proofs.Card.{all_rise}
+use Rattle.g1_rem.proofs.EntryCards.{marked_then, marked_from_none}
+use Rattle.g1_rem.proofs.Filled.{Tiles-none, row_front, row_rest, row_step}
+use Rattle.g1_rem.proofs.Lists.{eqb_false}
+use Rattle.g1_rem.proofs.Marks.{left_start}
+use Rattle.g1_rem.proofs.Next.{NextOf}
+use Rattle.g1_rem.proofs.Rising.{Rises, Rises-above, Rises-increasing, increasing-Rises}
+use Rattle.g1_rem.specs.Entries.{is_entry, uncovered_into, AreKnown, LeadAhead, AreEntryCards, IsEntryFault}
+
+-- ---- lists
+
+rising_push : (xs : List ℕ) (c : ℕ) → IsStrictlyIncreasing xs → ((x : ℕ) → In xs x → x < c) → IsStrictlyIncreasing (xs ++ c ∷ [])
+rising_push xs c rising below =
+    let o : Ordered (λ (x : ℕ) y. x < y) (xs ++ c ∷ []) =
+    Ordered-append (λ (x : ℕ) y. x < y) xs (c ∷ []) (Ordered-from_pairs (λ (x : ℕ) y. x < y) xs (AllPairs-from_increasing xs rising)) ((λ y i. absurd i), tt)
+    (λ x y i j. elim j [ inl e ↦ subst (λ z. x < z) e (below x i) | inr k ↦ absurd k ]) in
+    λ k lt. pairs_from_ordered (λ (x : ℕ) y. x < y) (xs ++ c ∷ []) o k (k + 1) 0 (omega arith) lt
+
+-- a rising list begins with its least member
+begins : (xs : List ℕ) (p : ℕ) → Ordered (λ (x : ℕ) y. x < y) xs → In xs p → ((q : ℕ) → In xs q → p ≤ q) → (rest : List ℕ) × (xs ≡ p ∷ rest)
+begins [] p o i least = absurd i
+begins (x ∷ xs) p o (inl e) least = (xs, ap (λ z. z ∷ xs) e)
+begins (x ∷ xs) p o (inr i) least = let a = o.0 p i in let b = least x (inl refl) in absurd (omega (arith, a, b))
+
+no_members : (xs : List ℕ) → ((x : ℕ) → In xs x → ⊥) → xs ≡ []
+no_members [] never = refl
+no_members (x ∷ xs) never = absurd (never x (inl refl))
+
+not_false : (b : Bool) → not b ≡ true → b ≡ false
+not_false true e = absurd (false≢true e)
+not_false false e = refl
+
+-- the first of a rising list, and the others
+rises_at : (p : ℕ) (rest : List ℕ) → IsStrictlyIncreasing (p ∷ rest) → Rises 0 (p ∷ rest)
+rises_at p rest rising = increasing-Rises (p ∷ rest) 0 rising (λ lt. omega arith)
+
+-- the last of a rising list is its greatest
+last_least : (xs : List ℕ) (c : ℕ) → IsStrictlyIncreasing xs → ((x : ℕ) → Contains xs x → x ≤ c) → (0 < length xs → slice_index xs (length xs - 1) ≡ c → ⊥) → (x : ℕ) → Contains xs x → x < c
+last_least xs c rising below other x k =
+    let some : 0 < length xs = omega (arith, k.1) in
+    let last : ℕ = slice_index xs (length xs - 1) in
+    let at : slice_index xs k.0 ≡ x = get_or_default xs k.0 0 x k.1 ∙ k.2 in
+    let le : slice_index xs (length xs - 1) ≤ c = below last (length xs - 1, omega (arith, some), get_or_default xs (length xs - 1) last 0 (omega (arith, some))) in
+    elim (cases_lt (slice_index xs (length xs - 1)) c) [
+      | inl less ↦ elim (cases_lt k.0 (length xs - 1)) [
+        | inl before ↦ (let up = AllPairs-from_increasing xs rising k.0 (length xs - 1) 0 before (omega (arith, some)) in omega (arith, up, less, at))
+        | inr ge ↦ (let same : k.0 ≡ length xs - 1 = omega (arith, ge, k.1) in let e = ap (slice_index xs) same in omega (arith, e, at, less))
+      ]
+      | inr ge ↦ (let same : slice_index xs (length xs - 1) ≡ c = omega (arith, ge, le) in absurd (other some same))
+    ]
+
+-- ---- slots and what they reference
+
+module _ (h : Heap) (valid : IsValid h) (r : ℕ) where
+  -- what a slot that leads into the region references
+  record Entry (p : ℕ) : Type 0 where
+    pub ref : Ref
+    pub one_of : Contains (refs h) ref
+    pub at : ref.slot ≡ p
+    pub leads : leads_into h r ref ≡ true
+
+  entry_of : (p : ℕ) → In (all_slots h) p → is_entry h r p ≡ true → Entry p
+  entry_of p i t =
+      let m = any_member (leads_into h r) (refs_at h p) t in
+      let f = flat_map_cases slots (objects h) p i in
+      let a = map_cases (λ a. record { slot = p; target = a }) (named (word h p)) m.0 m.1 in
+      record {
+        ref = m.0;
+        one_of = Contains-from_in (refs h) m.0 (In-flat_map (λ o. flat_map (refs_at h) (slots o)) (objects h) f.0 m.0 f.1 (In-flat_map (refs_at h) (slots f.0) p m.0 f.2 m.1));
+        at = sym (ap (λ (x : Ref). x.slot) a.2);
+        leads = m.2;
+      }
+
+  -- a reference's slot is one of the heap's
+  slot_there : (e : Ref) → Contains (refs h) e → In (all_slots h) e.slot
+  slot_there e k =
+      let t = ref_tells h valid e k in
+      In-flat_map slots (objects h) t.0 e.slot (In-from_contains (objects h) t.0 (has_contains h t.0 t.1))
+      (In-range (t.0.at + 1) t.0.refs e.slot (omega (arith, t.2.0)) (omega (arith, t.2.1)))
+
+  -- the slot of a reference that leads in does
+  leads_there : (e : Ref) → Contains (refs h) e → leads_into h r e ≡ true → is_entry h r e.slot ≡ true
+  leads_there e k t =
+      let w = (ref_tells h valid e k).3 in
+      let plus : e.target + 1 ≡ suc e.target = omega arith in
+      ap (λ x. list_any (leads_into h r) (map (λ a. record { slot = e.slot; target = a }) (named x))) (w ∙ plus) ∙ ap (λ b. b || false) t
+
+-- neither of two, if none of them
+or_none : (a b : Bool) → (a || b) ≡ false → (a ≡ false) × (b ≡ false)
+or_none true b e = absurd (false≢true (sym e))
+or_none false b e = (refl, e)
+
+exact_below : (h : Heap) (r c : ℕ) → Contains (exact h r) c → c < card_count h
+exact_below h r c k =
+    let b = range_below 0 (card_count h) c (filter_member (is_exact h r) (range_with_len 0 (card_count h)) c (In-from_contains (exact h r) c k)).0 in
+    omega (arith, b)
+
+-- the marks of a remembered set and of the log
+pub known_told : (i : Image) (r count : ℕ) (old mid new : List Bool) → count ≡ card_count i.heap → old ≡ replicate count false
+    → AreMarked (has (remembered_of i r)) old mid → AreMarked (has i.log) mid new → AreKnown i r new
+known_told i r count old mid new n none set log = λ c lt.
+    marked_from_none (λ c. has (remembered_of i r) c || has i.log c) count old new none
+    (marked_then (has (remembered_of i r)) (has i.log) (λ c. has (remembered_of i r) c || has i.log c) old mid new set log (λ c. refl)) c (omega (arith, lt, n))
+
+-- what the word at a slot tells
+pub entry_null : (h : Heap) (r p : ℕ) → word h p ≡ 0 → is_entry h r p ≡ false
+entry_null h r p w = ap (λ x. list_any (leads_into h r) (map (λ a. record { slot = p; target = a }) (named x))) w
+
+pub entry_named : (h : Heap) (r p a : ℕ) → word h p ≡ suc a → is_entry h r p ≡ (eqb (region_of h a) r && not (eqb (region_of h p) r))
+entry_named h r p a w =
+    ap (λ x. list_any (leads_into h r) (map (λ a. record { slot = p; target = a }) (named x))) w ∙ or_false (eqb (region_of h a) r && not (eqb (region_of h p) r))
+  where
+    or_false : (b : Bool) → (b || false) ≡ b
+    or_false true = refl
+    or_false false = refl
+
+module _ (i : Image) (good : IsImage i) (r : ℕ) (inside : r < i.heap.geometry.n) where
+  by_hand : (e : Ref) (a b c : Bool) → eqb (region_of i.heap e.slot) (region_of i.heap e.target) ≡ a → has (remembered_of i (region_of i.heap e.target)) (card_of i.heap e.slot) ≡ b
+      → has i.log (card_of i.heap e.slot) ≡ c → is_covered i e ≡ ((a || b) || c)
+  by_hand e a b c f g k = rw (f, g, k) refl
+
+  -- the parts of what leads into the region
+  record Parts (e : Ref) : Type 0 where
+    pub into : region_of i.heap e.target ≡ r
+    pub out : region_of i.heap e.slot ≢ r
+
+  parts : (e : Ref) → leads_into i.heap r e ≡ true → Parts e
+  parts e t =
+      let both = and_true (eqb (region_of i.heap e.target) r) (not (eqb (region_of i.heap e.slot) r)) t in
+      record {
+        into = eqb-true (region_of i.heap e.target) r both.0;
+        out = λ z. false≢true (sym (not_false (eqb (region_of i.heap e.slot) r) both.1) ∙ eq-eqb (region_of i.heap e.slot) r z);
+      }
+
+  puts : (e : Ref) → Contains (refs i.heap) e → leads_into i.heap r e ≡ true → Contains (exact i.heap r) (card_of i.heap e.slot)
+  puts e k t = let q = parts e t in (exact_tells i.heap good.heap r (card_of i.heap e.slot)).1 (e, k, q.into, q.out, refl)
+
+  -- a reference from a card that neither the set nor the log has isn't covered
+  bare : (e : Ref) → leads_into i.heap r e ≡ true → has (remembered_of i r) (card_of i.heap e.slot) ≡ false → has i.log (card_of i.heap e.slot) ≡ false → is_covered i e ≡ false
+  bare e t f g =
+      let q = parts e t in
+      by_hand e false false false (eqb_false (region_of i.heap e.slot) (region_of i.heap e.target) (λ z. q.out (z ∙ q.into)))
+      (ap (λ x. has (remembered_of i x) (card_of i.heap e.slot)) q.into ∙ f) g
+
+  or_last : (a b : Bool) → ((a || b) || true) ≡ true
+  or_last true true = refl
+  or_last true false = refl
+  or_last false true = refl
+  or_last false false = refl
+
+  or_middle : (a c : Bool) → ((a || true) || c) ≡ true
+  or_middle true c = refl
+  or_middle false c = refl
+
+  -- one from a card of the refined set is
+  shown : (e : Ref) → leads_into i.heap r e ≡ true → Contains (refined i r) (card_of i.heap e.slot) → is_covered i e ≡ true
+  shown e t k =
+      let q = parts e t in
+      let c : ℕ = card_of i.heap e.slot in
+      let same : Bool = eqb (region_of i.heap e.slot) (region_of i.heap e.target) in
+      elim ((refined_tells i good r c inside).0 k) [
+        | inl m ↦
+            by_hand e same true (has i.log c) refl
+            (ap (λ x. has (remembered_of i x) c) q.into ∙ has_from_in (remembered_of i r) c (In-from_contains (remembered_of i r) c m)) refl ∙ or_middle same (has i.log c)
+        | inr m ↦
+            by_hand e same (has (remembered_of i (region_of i.heap e.target)) c) true refl refl (has_from_in i.log c (In-from_contains i.log c m.0))
+            ∙ or_last same (has (remembered_of i (region_of i.heap e.target)) c)
+      ]
+
+  -- a slot into the region that isn't covered
+  record Bare (q : ℕ) : Type 0 where
+    pub ref : Ref
+    pub one_of : Contains (refs i.heap) ref
+    pub at : ref.slot ≡ q
+    pub leads : leads_into i.heap r ref ≡ true
+    pub isnt : is_covered i ref ≡ false
+
+  bare_of : (q : ℕ) → In (uncovered_into i r) q → Bare q
+  bare_of q k =
+      let test : Ref → Bool = λ e. leads_into i.heap r e && not (is_covered i e) in
+      let m = map_cases (λ (e : Ref). e.slot) (filter test (refs i.heap)) q k in
+      let f = filter_member test (refs i.heap) m.0 m.1 in
+      let both = and_true (leads_into i.heap r m.0) (not (is_covered i m.0)) f.1 in
+      record {
+        ref = m.0;
+        one_of = Contains-from_in (refs i.heap) m.0 f.0;
+        at = m.2;
+        leads = both.0;
+        isnt = not_false (is_covered i m.0) both.1;
+      }
+
+  -- such a slot is still ahead
+  not_yet : (ahead cards : List ℕ) → LeadAhead i r ahead cards → (q : ℕ) → Bare q → In ahead q
+  not_yet ahead cards l q b = elim (l.whole b.ref b.one_of b.leads) [
+    | inl m ↦ absurd (false≢true (sym b.isnt ∙ shown b.ref b.leads (l.within (card_of i.heap b.ref.slot) m)))
+    | inr m ↦ subst (In ahead) b.at (In-from_contains ahead b.ref.slot m)
+  ]
+
+  pub all_covered : (cards : List ℕ) → AreEntryCards i r cards → uncovered_into i r ≡ []
+  all_covered cards l = no_members (uncovered_into i r) (λ q k. not_yet [] cards l q (bare_of q k))
+
+  uncovered_rise : Ordered (λ (x : ℕ) y. x < y) (uncovered_into i r)
+  uncovered_rise =
+      let test : Ref → Bool = λ e. leads_into i.heap r e && not (is_covered i e) in
+      Ordered-map (λ (x : ℕ) y. x < y) (λ (e : Ref). e.slot) (filter test (refs i.heap)) (Ordered-filter (λ (e : Ref) (f : Ref). e.slot < f.slot) test (refs i.heap) (refs_ordered i.heap good.heap))
+
+  -- ---- one slot after another
+
+  module _ (p : ℕ) (rest cards : List ℕ) (l : LeadAhead i r (p ∷ rest) cards) where
+    later : (q : ℕ) → Contains rest q → Contains (p ∷ rest) q
+    later q k = Contains-from_in (p ∷ rest) q (inr (In-from_contains rest q k))
+
+    first : Contains (p ∷ rest) p
+    first = Contains-from_in (p ∷ rest) p (inl refl)
+
+    beyond : (q : ℕ) → Contains rest q → p < q
+    beyond q k = (let a = Rises-above (p + 1) rest q (rises_at p rest l.order).1 (In-from_contains rest q k) in omega (arith, a))
+
+    -- the slot is passed, if its card is there or it doesn't lead in
+    pass : ((e : Ref) → Contains (refs i.heap) e → leads_into i.heap r e ≡ true → p ≡ e.slot → Contains cards (card_of i.heap e.slot)) → LeadAhead i r rest cards
+    pass there = record {
+      rising = l.rising;
+      within = l.within;
+      whole = λ e k t. elim (l.whole e k t) [
+        | inl m ↦ inl m
+        | inr m ↦ elim (In-from_contains (p ∷ rest) e.slot m) [
+          | inl same ↦ inl (there e k t same)
+          | inr other ↦ inr (Contains-from_in rest e.slot other)
+        ]
+      ];
+      order = Rises-increasing (p + 1) rest (rises_at p rest l.order).1;
+      slots = λ q k. l.slots q (later q k);
+      below = λ x q k m. l.below x q k (later q m);
+    }
+
+    pub pass_other : false ≡ is_entry i.heap r p → LeadAhead i r rest cards
+    pass_other f = pass (λ e k t same. absurd (false≢true (f ∙ ap (is_entry i.heap r) same ∙ leads_there i.heap good.heap r e k t)))
+
+    pub pass_same : (c : ℕ) → c ≡ card_of i.heap p → 0 < length cards → slice_index cards (length cards - 1) ≡ c → LeadAhead i r rest cards
+    pass_same c at some last = pass (λ e k t same.
+        let is : slice_index cards (length cards - 1) ≡ card_of i.heap e.slot = last ∙ at ∙ ap (card_of i.heap) same in
+        (length cards - 1, omega (arith, some), get_or_default cards (length cards - 1) (card_of i.heap e.slot) 0 (omega (arith, some)) ∙ is))
+
+    -- what it references
+    here : is_entry i.heap r p ≡ true → Entry i.heap good.heap r p
+    here t = entry_of i.heap good.heap r p (In-from_contains (all_slots i.heap) p (l.slots p first)) t
+
+    -- its card is in the exact set
+    leading : is_entry i.heap r p ≡ true → (c : ℕ) → c ≡ card_of i.heap p → Contains (exact i.heap r) c
+    leading t c at = let e = here t in subst (Contains (exact i.heap r)) (ap (card_of i.heap) e.at ∙ sym at) (puts e.ref e.one_of e.leads)
+
+    -- a marked card is in the refined set
+    known : is_entry i.heap r p ≡ true → (c : ℕ) (marks : List Bool) → c ≡ card_of i.heap p → AreKnown i r marks → slice_index_or marks c false ≡ true → Contains (refined i r) c
+    known t c marks at m is =
+        let k = leading t c at in
+        let either = or_true (has (remembered_of i r) c) (has i.log c) (sym (m c (exact_below i.heap r c k)) ∙ is) in
+        (refined_tells i good r c inside).1 (elim either [
+          | inl there ↦ inl (Contains-from_in (remembered_of i r) c (in_from_has (remembered_of i r) c there))
+          | inr there ↦ inr (Contains-from_in i.log c (in_from_has i.log c there), k)
+        ])
+
+    -- a card more
+    pub push : is_entry i.heap r p ≡ true → (c : ℕ) (marks : List Bool) (items : List ℕ) → c ≡ card_of i.heap p → (0 < length cards → slice_index cards (length cards - 1) ≡ c → ⊥)
+        → AreKnown i r marks → slice_index_or marks c false ≡ true → items ≡ cards ++ c ∷ [] → LeadAhead i r rest items
+    push t c marks items at other m marked is = subst (LeadAhead i r rest) (sym is) (record {
+      rising = rising_push cards c l.rising (λ x k. less x (Contains-from_in cards x k));
+      within = λ x k. elim (last x k) [ inl e ↦ subst (Contains (refined i r)) e (known t c marks at m marked) | inr m ↦ l.within x m ];
+      whole = λ e k u. elim (l.whole e k u) [
+        | inl m ↦ inl (front (card_of i.heap e.slot) m)
+        | inr m ↦ elim (In-from_contains (p ∷ rest) e.slot m) [
+          | inl same ↦ inl (subst (Contains (cards ++ c ∷ [])) (at ∙ ap (card_of i.heap) same) (Contains-from_in (cards ++ c ∷ []) c (In-append_right cards (c ∷ []) c (inl refl))))
+          | inr other ↦ inr (Contains-from_in rest e.slot other)
+        ]
+      ];
+      order = Rises-increasing (p + 1) rest (rises_at p rest l.order).1;
+      slots = λ q k. l.slots q (later q k);
+      below = λ x q k m. elim (last x k) [
+        | inl e ↦ (let up = le-div (p / i.heap.geometry.k) q i.heap.geometry.k some (omega (arith, div-mul-le_self p i.heap.geometry.k, beyond q m)) in omega (arith, up, e, at))
+        | inr old ↦ l.below x q old (later q m)
+      ];
+    })
+      where
+        some : 0 < i.heap.geometry.k
+        some = omega (arith, good.heap.limits.k_least)
+
+        less : (x : ℕ) → Contains cards x → x < c
+        less = last_least cards c l.rising (λ x k. (let b = l.below x p k first in omega (arith, b, at))) other
+
+        last : (x : ℕ) → Contains (cards ++ c ∷ []) x → (c ≡ x) ⊎ Contains cards x
+        last x k = elim (In-append_cases cards (c ∷ []) x (In-from_contains (cards ++ c ∷ []) x k)) [
+          | inl m ↦ inr (Contains-from_in cards x m)
+          | inr m ↦ elim m [ inl e ↦ inl e | inr z ↦ absurd z ]
+        ]
+
+        front : (x : ℕ) → Contains cards x → Contains (cards ++ c ∷ []) x
+        front x k = Contains-from_in (cards ++ c ∷ []) x (In-append_left cards (c ∷ []) x (In-from_contains cards x k))
+
+    -- a slot that isn't covered is the lowest one
+    pub entry_fault : is_entry i.heap r p ≡ true → (c : ℕ) (marks : List Bool) → c ≡ card_of i.heap p → AreKnown i r marks → slice_index_or marks c false ≡ false → IsEntryFault i r (Uncovered p)
+    entry_fault t c marks at m unmarked =
+        let neither = or_none (has (remembered_of i r) c) (has i.log c) (sym (m c (exact_below i.heap r c (leading t c at))) ∙ unmarked) in
+        let test : Ref → Bool = λ e. leads_into i.heap r e && not (is_covered i e) in
+        let e = here t in
+        let home : card_of i.heap e.ref.slot ≡ c = ap (card_of i.heap) e.at ∙ sym at in
+        let isnt : is_covered i e.ref ≡ false = bare e.ref e.leads (ap (has (remembered_of i r)) home ∙ neither.0) (ap (has i.log) home ∙ neither.1) in
+        let passes : test e.ref ≡ true = rw (e.leads, isnt) refl in
+        let there : In (uncovered_into i r) p = subst (In (uncovered_into i r)) e.at
+        (In-map (λ (x : Ref). x.slot) (filter test (refs i.heap)) e.ref (In-filter test (refs i.heap) e.ref (In-from_contains (refs i.heap) e.ref e.one_of) passes)) in
+        let least : (q : ℕ) → In (uncovered_into i r) q → p ≤ q = λ q k. elim (not_yet (p ∷ rest) cards l q (bare_of q k)) [
+          | inl same ↦ omega (arith, same)
+          | inr other ↦ (let b = beyond q (Contains-from_in rest q other) in omega (arith, b))
+        ] in
+        let b = begins (uncovered_into i r) p uncovered_rise there least in
+        inr (p, b.0, b.1, refl)
+
+  -- ---- one region after another
+
+  -- none was looked at yet
+  pub lead_start : (cards : List ℕ) → cards ≡ [] → LeadAhead i r (flat_map slots (objects_from i.heap 0)) cards
+  lead_start cards none = subst (λ os. LeadAhead i r (flat_map slots os) cards) (sym (between_all i.heap)) (subst (LeadAhead i r (all_slots i.heap)) (sym none) (record {
+    rising = λ k lt. absurd (omega (arith, lt));
+    within = λ x k. absurd (In-from_contains [] x k);
+    whole = λ e k t. inr (Contains-from_in (all_slots i.heap) e.slot (slot_there i.heap good.heap r e k));
+    order = Rises-increasing 0 (all_slots i.heap) (all_rise i.heap good.heap);
+    slots = λ p k. k;
+    below = λ x p k m. absurd (In-from_contains [] x k);
+  }))
+
+  -- past the last region none is ahead
+  pub lead_end : (q : ℕ) (cards : List ℕ) → i.heap.geometry.n ≤ q → LeadAhead i r (flat_map slots (objects_from i.heap q)) cards → AreEntryCards i r cards
+  lead_end q cards le l = subst (λ os. LeadAhead i r (flat_map slots os) cards) (between_none i.heap q i.heap.geometry.n le) l
+
+-- the slots of the objects in region q are looked at up to an address
+pub record Taking (i : Image) (r q at to : ℕ) (cards : List ℕ) : Type 0 where
+  pub place : ℕ
+  pub row : Tiles i.heap.words at (drop place (objects_in i.heap q)) to
+  pub lead : LeadAhead i r (flat_map slots (drop place (objects_in i.heap q) ++ objects_from i.heap (q + 1))) cards
+
+-- before the first object
+pub taking_start : (i : Image) (r q at to : ℕ) (cards : List ℕ) → IsValid i.heap → q < i.heap.geometry.n → at ≡ start i.heap q
+    → Tiles i.heap.words (start i.heap q) (objects_in i.heap q) to → LeadAhead i r (flat_map slots (objects_from i.heap q)) cards → Taking i r q at to cards
+taking_start i r q at to cards valid lt e t lead = record {
+  place = 0;
+  row = subst (λ x. Tiles i.heap.words x (objects_in i.heap q) to) (sym e) t;
+  lead = subst (λ os. LeadAhead i r (flat_map slots os) cards) (left_start i.heap valid q lt) lead;
+}
+
+-- past the last one
+pub taking_end : (i : Image) (r q at to : ℕ) (cards : List ℕ) → Taking i r q at to cards → to ≤ at → LeadAhead i r (flat_map slots (objects_from i.heap (q + 1))) cards
+taking_end i r q at to cards t le =
+    subst (λ os. LeadAhead i r (flat_map slots (os ++ objects_from i.heap (q + 1))) cards) (Tiles-none i.heap.words at (drop t.place (objects_in i.heap q)) to t.row le) t.lead
+
+module _ (i : Image) (r q at to : ℕ) (cards : List ℕ) (valid : IsValid i.heap) (lt : q < i.heap.geometry.n) (t : Taking i r q at to cards) (more : at < to) where
+  -- the object whose slots are next
+  pub taking_front : NextOf i.heap q t.place at
+  taking_front = row_front i.heap q valid lt t.place at to t.row more
+
+  -- the slots of the objects after it
+  abbrev pub taking_rest : List ℕ
+  taking_rest = flat_map slots (drop (t.place + 1) (objects_in i.heap q) ++ objects_from i.heap (q + 1))
+
+  -- it has a word at least, and ends within the words
+  pub taking_fits : (size : ℕ) → size ≡ (object_at i.heap at).size → (0 < size) × (at + size ≤ most_words)
+  taking_fits size e =
+      let n = row_front i.heap q valid lt t.place at to t.row more in
+      let same = ap (λ o. o.size) n.whole in
+      let step = row_step i.heap q t.place at to n t.row in
+      (omega (arith, step.0, same, e), omega (arith, n.ends, same, e, valid.limits.words_most))
+
+  -- its slots are the first ones ahead
+  pub taking_slots : (count : ℕ) → count ≡ word i.heap at % 2 ^ 32 → LeadAhead i r (range_with_len (at + 1) (at + 1 + count - (at + 1)) ++ taking_rest) cards
+  taking_slots count e =
+      let n = row_front i.heap q valid lt t.place at to t.row more in
+      let many : n.object.refs ≡ at + 1 + count - (at + 1) = omega (arith, n.refs_is, e) in
+      let same : slots n.object ≡ range_with_len (at + 1) (at + 1 + count - (at + 1)) = ap (λ x. range_with_len (x + 1) n.object.refs) (sym n.at_is) ∙ ap (range_with_len (at + 1)) many in
+      subst (λ ps. LeadAhead i r (ps ++ taking_rest) cards) same
+      (subst (λ os. LeadAhead i r (flat_map slots (os ++ objects_from i.heap (q + 1))) cards) n.splits t.lead)
+
+  -- the walk goes on
+  pub taking_step : (size : ℕ) (items : List ℕ) → size ≡ (object_at i.heap at).size → LeadAhead i r taking_rest items → Taking i r q (at + size) to items
+  taking_step size items f lead =
+      let n = row_front i.heap q valid lt t.place at to t.row more in
+      let same : n.object.size ≡ size = ap (λ o. o.size) n.whole ∙ sym f in
+      record {
+        place = t.place + 1;
+        row = subst (λ x. Tiles i.heap.words (at + x) (drop (t.place + 1) (objects_in i.heap q)) to) same (row_rest i.heap q t.place at to n t.row);
+        lead = lead;
+      }

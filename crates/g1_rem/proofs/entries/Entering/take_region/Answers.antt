@@ -1,0 +1,104 @@
+use Rattle.std.proofs.Common.{arith, ap, subst, ◌≡◌, ◌<◌, ◌≤◌, ◌+◌, ◌*◌, ◌/◌, ◌%◌, ◌^◌, ◌∙◌, length, slice_index, ℕ}
+use Rattle.std.proofs.lemmas.Result.{err_from_is_err_and}
+use Rattle.g1_words.specs.Geometry.{most_words}
+use Rattle.g1_words.specs.Heap.{Heap, word, start, objects_in, object_at}
+use Rattle.g1_words.specs.Valid.{Tiles}
+use Rattle.g1_rem.proofs.Next.{NextOf}
+use Rattle.g1_rem.proofs.Leading.{taking_start, taking_end, taking_front, taking_rest, taking_fits, taking_slots, taking_step}
+use Rattle.g1_rem.proofs.entries.Entering.take_region.Goals as goal
+use Rattle.g1_rem.proofs.entries.Entering.take_region.Goals.{In-objects, After-words, After-header-object}
+
+-- the object whose slots are next
+front : (c : In-objects) → NextOf c.args.self.now.image.now.heap c.args.region c.objects.invariant.place c.objects.at
+front c = taking_front c.args.self.now.image.now c.args.self.now.region c.args.region c.objects.at c.objects_end-end.result c.objects.cards.items c.heap-heap.ensures.valid.heap
+    c.requires.other c.objects.invariant c.objects-test.true
+
+-- the words that were read are the heap's
+the_words : (c : After-words) → c.words.result.now ≡ c.args.self.now.image.now.heap.words
+the_words c = c.words.ensures ∙ ap (λ (h : Heap). h.words) c.heap-heap.ensures.same
+
+-- its number of references and its size, as they were read
+refs_read : (c : After-header-object) → c.header-object.result.refs ≡ word c.args.self.now.image.now.heap c.objects.at % 2 ^ 32
+refs_read c = ap (λ o. o.refs) c.header-object.ensures.value ∙ ap (λ l. slice_index l c.objects.at % 2 ^ 32) (c.words.ensures ∙ ap (λ (h : Heap). h.words) c.heap-heap.ensures.same)
+
+size_read : (c : After-header-object) → c.header-object.result.size ≡ (object_at c.args.self.now.image.now.heap c.objects.at).size
+size_read c = ap (λ o. o.size) c.header-object.ensures.value ∙ ap (λ l. slice_index l c.objects.at / 2 ^ 32) (c.words.ensures ∙ ap (λ (h : Heap). h.words) c.heap-heap.ensures.same)
+
+-- the object has a word at least, and ends within the words
+fits : (c : In-objects) (size : ℕ) → size ≡ (object_at c.args.self.now.image.now.heap c.objects.at).size → (0 < size) × (c.objects.at + size ≤ most_words)
+fits c size e = taking_fits c.args.self.now.image.now c.args.self.now.region c.args.region c.objects.at c.objects_end-end.result c.objects.cards.items c.heap-heap.ensures.valid.heap
+    c.requires.other c.objects.invariant c.objects-test.true size e
+
+pub objects-init : goal.objects-init
+objects-init c =
+    let same = c.heap-heap.ensures.same in
+    let from : c.start-at.result ≡ start c.args.self.now.image.now.heap c.args.region =
+    c.start-at.ensures.value ∙ ap (λ g. c.args.region * g.w) c.geometry.ensures.same ∙ ap (λ (h : Heap). c.args.region * h.geometry.w) same in
+    let row : Tiles c.args.self.now.image.now.heap.words (start c.args.self.now.image.now.heap c.args.region) (objects_in c.args.self.now.image.now.heap c.args.region) c.objects_end-end.result =
+    subst (λ (h : Heap). Tiles h.words (start h c.args.region) (objects_in h c.args.region) c.objects_end-end.result) same c.objects_end-end.ensures in
+    taking_start c.args.self.now.image.now c.args.self.now.region c.args.region c.start-at.result c.objects_end-end.result c.args.cards.now.items c.heap-heap.ensures.valid.heap
+    c.requires.other from row c.requires.ahead
+
+pub header-object-requires : goal.header-object-requires
+header-object-requires c =
+    let b = goal.at.header-object-requires c in
+    let n = front b.In-objects in
+    let len = ap length (the_words b.After-words) in
+    omega (arith, n.fits, len, c.heap-heap.ensures.valid.heap.word_count)
+
+pub overflow_add-at : goal.overflow_add-at
+overflow_add-at c =
+    let n = front (goal.at.overflow_add-at c).In-objects in
+    omega (arith, n.fits, c.heap-heap.ensures.valid.heap.limits.words_most)
+
+pub overflow_add-at-in-objects : goal.overflow_add-at-in-objects
+overflow_add-at-in-objects c =
+    let n = front (goal.at.overflow_add-at-in-objects c).In-objects in
+    omega (arith, n.fits, c.heap-heap.ensures.valid.heap.limits.words_most)
+
+pub overflow_add-at-in-objects-2 : goal.overflow_add-at-in-objects-2
+overflow_add-at-in-objects-2 c =
+    let b = goal.at.overflow_add-at-in-objects-2 c in
+    let n = front b.In-objects in
+    let e = refs_read b.After-header-object in
+    omega (arith, n.fits, e, n.refs_is, c.heap-heap.ensures.valid.heap.limits.words_most)
+
+pub take_slots-requires-clause-slots : goal.take_slots-requires-clause-slots
+take_slots-requires-clause-slots c =
+    let b = goal.at.take_slots-requires-clause-slots c in
+    let n = front b.In-objects in
+    let e = refs_read b.After-header-object in
+    omega (arith, n.fits, e, n.refs_is, c.heap-heap.ensures.valid.heap.word_count)
+
+pub returns-in_err-take_slots-clause-fault : goal.returns-in_err-take_slots-clause-fault
+returns-in_err-take_slots-clause-fault c =
+    let b = goal.at.returns-in_err-take_slots-clause-fault c in
+    let p = err_from_is_err_and c.from_residual.result c.from_residual.ensures.1 in
+    rw (p.1, p.2) (c.in_err-take_slots.ensures.fault (taking_rest c.args.self.now.image.now c.args.self.now.region c.args.region c.objects.at c.objects_end-end.result
+    c.objects.cards.items c.heap-heap.ensures.valid.heap c.requires.other c.objects.invariant c.objects-test.true)
+    (taking_slots c.args.self.now.image.now c.args.self.now.region c.args.region c.objects.at c.objects_end-end.result c.objects.cards.items c.heap-heap.ensures.valid.heap
+    c.requires.other c.objects.invariant c.objects-test.true c.header-object.result.refs (refs_read b.After-header-object)))
+
+pub overflow_add-at-in-objects-3 : goal.overflow_add-at-in-objects-3
+overflow_add-at-in-objects-3 c =
+    let b = goal.at.overflow_add-at-in-objects-3 c in
+    omega (arith, (fits b.In-objects c.header-object.result.size (size_read b.After-header-object)).1)
+
+pub objects-smaller : goal.objects-smaller
+objects-smaller c =
+    let b = goal.at.objects-smaller c in
+    omega (arith, (fits b.In-objects c.header-object.result.size (size_read b.After-header-object)).0, c.objects-test.true)
+
+pub objects-preserved : goal.objects-preserved
+objects-preserved c =
+    let b = goal.at.objects-preserved c in
+    taking_step c.args.self.now.image.now c.args.self.now.region c.args.region c.objects.at c.objects_end-end.result c.objects.cards.items c.heap-heap.ensures.valid.heap c.requires.other
+    c.objects.invariant c.objects-test.true c.header-object.result.size c.take_slots.new.cards.items (size_read b.After-header-object)
+    (c.in_ok-take_slots.ensures.ahead (taking_rest c.args.self.now.image.now c.args.self.now.region c.args.region c.objects.at c.objects_end-end.result c.objects.cards.items
+    c.heap-heap.ensures.valid.heap c.requires.other c.objects.invariant c.objects-test.true)
+    (taking_slots c.args.self.now.image.now c.args.self.now.region c.args.region c.objects.at c.objects_end-end.result c.objects.cards.items c.heap-heap.ensures.valid.heap
+    c.requires.other c.objects.invariant c.objects-test.true c.header-object.result.refs (refs_read b.After-header-object)))
+
+pub returns-clause-ahead : goal.returns-clause-ahead
+returns-clause-ahead c =
+    taking_end c.args.self.now.image.now c.args.self.now.region c.args.region c.objects.at c.objects_end-end.result c.objects.cards.items c.objects.invariant (omega (arith, c.objects-test.false))
