@@ -5,3 +5,4 @@ pub mod Report
 pub mod Planned
 pub mod Laws
 pub mod Streams
+pub mod Bought
