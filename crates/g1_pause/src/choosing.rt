@@ -1,11 +1,11 @@
-ghost use Rattle.std.specs.Prelude.{◌≡◌, ◌⊎◌, map, Err, IfSome, IfOk, IfErr};
+ghost use Rattle.std.specs.Prelude.{◌≡◌, ◌⊎◌, map, Err, IfSome, IfNone, IfOk, IfErr};
 ghost use Rattle.g1_words.specs.Heap.{regions};
 ghost use Rattle.g1_words.specs.Live.{IsLiveBytes};
 ghost use Rattle.g1_image.specs.Cards.{refined};
 ghost use Rattle.g1_rem.specs.Starts.{IsStartsOf};
 ghost use Rattle.g1_choose.specs.Choice.{MayBeLive};
 ghost use Rattle.g1_pause.specs.Answer.{IsSetFor, IsEvacuated};
-ghost use Rattle.g1_pause.specs.Bought.{IsBought};
+ghost use Rattle.g1_pause.specs.Bought.{IsBought, IsListed};
 
 use crate::settings::{Choice, Settings};
 use g1_choose::{Candidate, choose_in_order, given};
@@ -65,6 +65,7 @@ pub fn collection_set<R: Threads + Sync, G: Gate + Sync>(
     requires remembered { map (λ s. s.items) before.now.remembered.now ≡ map (refined before.now.image.now) (regions before.now.image.now.heap) }
     ensures set { IfOk result (λ x. IsSetFor settings.now.cost before.now.image.now settings.now.choice x.regions.items) }
     ensures bought { IfOk result (λ x. IfSome x.bought (IsBought settings.now.cost settings.now.choice before.now.image.now)) }
+    ensures listed { IfOk result (λ x. IfNone x.bought (IsListed settings.now.choice)) }
     ensures refused { IfErr result (λ e. (e ≡ Fault.Memory) ⊎ IsEvacuated settings.now.cost settings.now.choice before.now.image.now (Err e)) }
 {
     let heap = before.image.heap();
