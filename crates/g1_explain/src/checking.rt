@@ -27,10 +27,9 @@ pub(crate) fn check_pause<R: Threads + Sync>(
     taken: &Result<Steps, Failure>,
 ) -> Result<(), Failure> {
     let refused = refusal_of(taken)?;
-    let answer = evacuate(rt, alloc, tracked, settings, &Open);
-    match &answer {
-        Ok((after, report)) => compare_answer(taken, image(after), report),
-        Err((_, fault)) => compare_fault(refused, *fault),
+    match evacuate(rt, alloc, tracked, settings, &Open) {
+        Ok((after, report)) => compare_answer(taken, image(&after), &report),
+        Err((_, fault)) => compare_fault(refused, fault),
     }
 }
 

@@ -20,6 +20,13 @@ use g1_work::Gate;
 use std::alloc::Global;
 use std::thread::Threads;
 
+// A tracked image is valid, and each of its references into another region is covered.
+fn know_tracked(tracked: &Tracked)
+    ensures { IsTracked tracked.now }
+{
+    let _ = image(tracked).heap();
+}
+
 /// All that the pause writes, prepared, and its report. The image stays as it is, so that a refusal
 /// leaves nothing to undo.
 fn plan_pause<R: Threads + Sync, G: Gate + Sync>(
@@ -29,7 +36,6 @@ fn plan_pause<R: Threads + Sync, G: Gate + Sync>(
     settings: &Settings,
     gate: &G,
 ) -> Result<(Prepared, Report), Fault>
-    ensures tracked { IsTracked tracked.now }
     ensures made { IfOk result (λ x. IsPlanned settings.now.cost settings.now.choice tracked.now x.0) }
     ensures report { IfOk result (λ x. IsReport settings.now.cost settings.now.choice tracked.now x.1) }
     ensures refused { IfErr result (λ e. (e ≡ Fault.Memory) ⊎ IsEvacuated settings.now.cost settings.now.choice tracked.now (Err e)) }
@@ -92,6 +98,7 @@ pub fn evacuate<R: Threads + Sync, G: Gate + Sync>(
 {
     laws::one_answer();
     laws::what_follows();
+    know_tracked(&tracked);
     match plan_pause(rt, alloc, &tracked, settings, gate) {
         Err(fault) => Err((tracked, fault)),
         Ok((prepared, report)) => {
