@@ -9,9 +9,22 @@ use std::alloc::Global;
 /// Compares the image of one part with that of another.
 pub fn run<R>(call: &Call<'_, R>, watch: &mut Watch) -> Result<(), Fault> {
     let before = decode(call.alloc, call.given.part(0))?;
+    compare_with(call, before.heap(), watch)
+}
+
+fn compare_with<R>(call: &Call<'_, R>, before: &Heap, watch: &mut Watch) -> Result<(), Fault> {
     let after = decode(call.alloc, call.given.part(1))?;
     watch.at("compare");
-    let line = line_of_both(call.alloc, before.heap(), after.heap())?;
+    compare_both(call.alloc, before, after.heap(), watch)
+}
+
+fn compare_both(
+    alloc: Global,
+    before: &Heap,
+    after: &Heap,
+    watch: &mut Watch,
+) -> Result<(), Fault> {
+    let line = line_of_both(alloc, before, after)?;
     if watch.is_over() {
         watch.made(Ok(line));
     }
