@@ -2,8 +2,9 @@
 use crate::calling::Call;
 use crate::watch::Watch;
 use g1_claim::Claims;
+use g1_deal::Dealer;
 use g1_words::Fault;
-use g1_work::{Dealer, Fill, Open, Task, each_chunk, each_region_mut};
+use g1_work::{Fill, Open, Task, each_chunk, each_region_mut};
 use std::thread::Threads;
 
 /// A dealer: the shares of its seat, those of that and of another one, and when it has its share back; what each of
@@ -12,13 +13,13 @@ pub fn deal<R>(call: &Call<'_, R>, watch: &mut Watch) -> Result<(), Fault> {
     let chunks = call.given.first("count", 1).min(1_000);
     watch.at("deal");
     let (dealer, mut seat) = Dealer::new(call.alloc, chunks)?;
-    let whole = g1_work::shares(&seat);
+    let whole = g1_deal::shares(&seat);
     let mut other = dealer.split(&mut seat);
-    let parts = [g1_work::shares(&seat), g1_work::shares(&other)];
+    let parts = [g1_deal::shares(&seat), g1_deal::shares(&other)];
     let first = dealer.take(&mut seat);
     let drawn = dealer.drawn(&mut other);
     dealer.join(&mut seat, other);
-    let joined = g1_work::shares(&seat);
+    let joined = g1_deal::shares(&seat);
     let second = dealer.take(&mut seat);
     let third = dealer.take(&mut seat);
     let fourth = dealer.take(&mut seat);

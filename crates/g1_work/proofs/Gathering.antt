@@ -6,7 +6,7 @@ use Rattle.std.proofs.lemmas.List.{map-append, reverse-append, append-nil}
 use Rattle.std.proofs.lemmas.Grind.{flat_map-append}
 use Rattle.std.proofs.lemmas.List.Sums.{sum_by_push}
 use Rattle.std.proofs.lemmas.List.Elements.{All-push, All-contains}
-use Rattle.g1_work.specs.Dealer.{DealerView, SeatView, IsSeatOf}
+use Rattle.g1_deal.specs.Dealer.{DealerView, SeatView, IsSeatOf}
 use Rattle.g1_work.specs.Worker.{AreOf, IsFaultAmong, IsGatheredFrom, IsGatheredWith, AreGathered, IsGathered}
 use Rattle.g1_work.specs.declared.worker.Worked.{Worked}
 use Rattle.g1_work.specs.declared.worker.Gathered.{Gathered}

@@ -4,7 +4,7 @@ use Rattle.std.specs.List.{sum_by}
 use Rattle.std.proofs.lemmas.List.{map-append, reverse-append, append-nil}
 use Rattle.std.proofs.lemmas.List.Sums.{sum_by_push}
 use Rattle.std.proofs.lemmas.List.Elements.{All-push, All-nil}
-use Rattle.g1_work.specs.Dealer.{DealerView, SeatView, IsSeatOf, first_seat}
+use Rattle.g1_deal.specs.Dealer.{DealerView, SeatView, IsSeatOf, first_seat}
 use Rattle.g1_work.specs.Worker.{IsHired}
 use Rattle.g1_work.specs.declared.worker.Worker.{Worker}
 

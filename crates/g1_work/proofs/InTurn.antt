@@ -1,7 +1,7 @@
 -- Workers one after another.
 use Rattle.std.proofs.Common.{◌≡◌, ℕ, zero, suc, ◌+◌, ◌<◌, List, [], ◌∷◌, ◌++◌, length, get_or, sym, refl, ap, ◌∙◌, subst, arith, length-append, Result, IfOk, IfErr, lt_of_not-le}
 use native.Mathlib.Decide.{dec_le}
-use Rattle.g1_work.specs.Dealer.{DealerView}
+use Rattle.g1_deal.specs.Dealer.{DealerView}
 use Rattle.g1_work.specs.Each.{IsFaultOf}
 use Rattle.g1_work.specs.Worker.{IsDone, AreBack}
 use Rattle.g1_work.specs.declared.worker.Worker.{Worker}

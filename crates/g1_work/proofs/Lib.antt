@@ -1,6 +1,3 @@
-pub mod Counts
-pub mod Steps
-pub mod Known
 pub mod Running
 pub mod Hiring
 pub mod InTurn

@@ -1,7 +1,7 @@
 -- A worker between its chunks.
 use Rattle.std.proofs.Common.{◌≡◌, ◌≢◌, ℕ, ◌+◌, ◌<◌, ◌≤◌, min, true, List, [], ◌∷◌, ◌++◌, sym, refl, ap, ◌∙◌, subst, arith}
 use mathlib.Core.List.{map-append}
-use Rattle.g1_work.specs.Dealer.{DealerView, SeatView, IsSeatOf}
+use Rattle.g1_deal.specs.Dealer.{DealerView, SeatView, IsSeatOf}
 use Rattle.g1_work.specs.Each.{RisesBelow, Ran, chunks_of}
 use Rattle.g1_work.specs.Worker.{IsFresh, IsDone}
 use Rattle.g1_work.specs.declared.worker.Worker.{Worker}

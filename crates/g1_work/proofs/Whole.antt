@@ -10,7 +10,7 @@ use Rattle.std.proofs.lemmas.List.Sums.{sum_by-cons}
 use Rattle.std.proofs.lemmas.List.Elements.{All-nil, All-cons}
 use Rattle.std.proofs.lemmas.List.Sorted.{sum_by-IsPermutation, IsPermutation-reverse, All-permutation}
 use Rattle.std.proofs.lemmas.Result.{IfOk-weaker}
-use Rattle.g1_work.specs.Dealer.{DealerView, IsSeatOf, IsEachBelow}
+use Rattle.g1_deal.specs.Dealer.{DealerView, IsSeatOf, IsEachBelow}
 use Rattle.g1_work.specs.Each.{RisesBelow, chunks_of, joined, EachRan, IsEachRun, IsFaultOf}
 use Rattle.g1_work.specs.Worker.{IsDone, AreOf, IsFaultAmong, IsHired, AreBack, IsGathered}
 use Rattle.g1_work.specs.declared.worker.Worker.{Worker}

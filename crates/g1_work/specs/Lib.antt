@@ -1,5 +1,3 @@
-pub mod Dealer
-pub mod Rule
 pub mod Each
 pub mod Worker
 pub mod Merge

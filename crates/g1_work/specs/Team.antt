@@ -6,7 +6,7 @@ pub record Team : Type 0 where
   pub workers : ℕ
   pub chunk : ℕ
 
--- the most workers that share some work, which is also how many shares a dealer has
+-- the most workers that share some work: each needs a share of a dealer, which has as many
 abbrev pub most_workers : ℕ
 most_workers = 64
 

@@ -1,7 +1,7 @@
 -- A worker before and after its chunks.
 use Rattle.std.specs.Prelude.{IfOk, Ok, Err, Result, Contains, All, sum_by, max, reverse, IfErr, slice_index_or, ◌++◌, ◌≡◌, ℕ, ◌+◌, ◌<◌, ◌≤◌, ◌⊎◌, List, [], ◌∷◌, map, length}
 use Rattle.std.specs.List.{flat_map}
-use Rattle.g1_work.specs.Dealer.{DealerView, IsSeatOf}
+use Rattle.g1_deal.specs.Dealer.{DealerView, IsSeatOf}
 use Rattle.g1_work.specs.Team.{most_workers}
 use Rattle.g1_work.specs.Each.{RisesBelow, Ran, chunks_of, IsFaultOf}
 use Rattle.g1_work.specs.declared.worker.Worker.{Worker}

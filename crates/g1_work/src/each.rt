@@ -1,15 +1,15 @@
 ghost use Rattle.std.specs.Prelude.{◌≡◌, ◌<◌, ◌^◌, IfOk, IfErr, vec_len, All, ℕ};
-ghost use Rattle.g1_work.specs.Dealer.{first_seat};
+ghost use Rattle.g1_deal.specs.Dealer.{first_seat};
 ghost use Rattle.g1_work.specs.Each.{IsEachRun, IsFaultOf};
 ghost use Rattle.g1_work.specs.Team.{AreWorkers};
 ghost use Rattle.g1_work.specs.Worker.{IsFresh, IsDone, IsHired, AreBack};
 
-use crate::dealer::{DealSeat, Dealer};
 use crate::gate::{Gate, Part};
 use crate::gather::gather;
 use crate::merge::in_order;
 use crate::task::Task;
 use crate::worker::{Gathered, Worked, Worker};
+use g1_deal::{DealSeat, Dealer};
 use g1_words::Fault;
 use std::alloc::{AllocError, Global};
 use std::collections::VecDeque;

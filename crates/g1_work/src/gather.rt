@@ -1,9 +1,9 @@
 ghost use Rattle.std.specs.Prelude.{◌<◌, IfOk, IfErr, vec_len, OnOk};
-ghost use Rattle.g1_work.specs.Dealer.{IsSeatOf};
+ghost use Rattle.g1_deal.specs.Dealer.{IsSeatOf};
 ghost use Rattle.g1_work.specs.Worker.{AreOf, IsGathered, IsGatheredFrom, IsGatheredWith, IsFaultAmong};
 
-use crate::dealer::Dealer;
 use crate::worker::{Gathered, Worked};
+use g1_deal::Dealer;
 use g1_words::Fault;
 use std::alloc::{AllocError, Global};
 

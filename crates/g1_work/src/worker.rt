@@ -1,4 +1,4 @@
-use crate::dealer::DealSeat;
+use g1_deal::DealSeat;
 use std::collections::VecDeque;
 
 // A worker before its first chunk.

@@ -1,7 +1,7 @@
 use Rattle.std.proofs.Common.{arith, subst, sym, ◌∙◌, ◌<◌, ℕ, All}
 use Rattle.std.specs.List.{flat_map}
 use Rattle.std.proofs.lemmas.Result.{err_from_is_err_and}
-use Rattle.g1_work.specs.Dealer.{IsEachBelow}
+use Rattle.g1_deal.specs.Dealer.{IsEachBelow}
 use Rattle.g1_work.specs.Each.{IsEachRun, IsFaultOf, RisesBelow, chunks_of}
 use Rattle.g1_work.proofs.Whole.{has_all, few_parts, each_below, all_rise, each_run, ready_each, are_of, fault_of}
 use Rattle.g1_work.proofs.each.each_chunk.Goals as goal

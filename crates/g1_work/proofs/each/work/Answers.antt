@@ -1,5 +1,5 @@
 use Rattle.std.proofs.Common.{arith, refl, ap}
-use Rattle.g1_work.specs.Dealer.{SeatView}
+use Rattle.g1_deal.specs.Dealer.{SeatView}
 use Rattle.g1_work.proofs.Running.{starts, goes_on, ends}
 use Rattle.g1_work.proofs.each.work.Goals as goal
 

@@ -1,17 +1,15 @@
 ghost use Rattle.std.specs.Prelude.{◌≡◌, ℕ, ◌+◌, ◌-◌, ◌^◌, ◌<◌, ◌≤◌, ◌||◌, min, max, true, false, [], ◌∷◌, ◌++◌, length, IfOk, IfErr, IfSome, IfNone, IsTrue, IsNone};
 ghost use Rattle.g1_words.specs.declared.fault.Fault.TheVariants.{Memory};
-ghost use Rattle.g1_work.specs.Dealer.{DealerView, dealer_view_coded, SeatView, seat_view_coded, first_seat, IsSeatOf, IsEachBelow, IsOnceBelow};
-ghost use Rattle.g1_work.specs.Rule.{IsKnown};
-ghost use Rattle.g1_work.specs.Team.{most_workers};
+ghost use Rattle.g1_deal.specs.Dealer.{DealerView, dealer_view_coded, SeatView, seat_view_coded, all_shares, first_seat, IsSeatOf, IsEachBelow, IsOnceBelow};
+ghost use Rattle.g1_deal.specs.Rule.{IsKnown};
 
 use crate::rule::{BothHands, Deal, Draw, Hand, Look, OneShare, See};
-use crate::team::MOST_WORKERS;
 use atomic_table::{Seat, Table};
 use g1_words::Fault;
 use std::alloc::Global;
 use std::marker::Model;
 
-const SHARES: u32 = MOST_WORKERS as u32;
+const SHARES: u32 = 64;
 
 /// A dealer of the numbers below its count of chunks. Threads share it by reference, and each
 /// draws with a seat of its own.
@@ -52,7 +50,7 @@ impl Model for DealSeat {
 
     ghost view = { λ s. record { dealer = s.seat.table_id; chunks = s.seat.me.0.chunks; shares = s.seat.me.0.shares; draws = s.seat.me.0.draws; floor = s.seat.me.0.floor; steps = s.seat.me.0.steps; had_none = s.seat.me.0.had_none } };
 
-    ghost invariant = { λ s. (s.seat.me.1 ≡ []) × (s.seat.me.0.shares ≡ s.shares) × (s.seat.me.0.had_none ≡ s.had_none) × (0 < s.shares) × (s.shares ≤ most_workers) × (s.seat.me.0.floor ≤ s.seat.me.0.chunks) × (s.had_none ≡ true → s.seat.me.0.floor ≡ s.seat.me.0.chunks) × IsKnown s.seat.me.0 };
+    ghost invariant = { λ s. (s.seat.me.1 ≡ []) × (s.seat.me.0.shares ≡ s.shares) × (s.seat.me.0.had_none ≡ s.had_none) × (0 < s.shares) × (s.shares ≤ all_shares) × (s.seat.me.0.floor ≤ s.seat.me.0.chunks) × (s.had_none ≡ true → s.seat.me.0.floor ≡ s.seat.me.0.chunks) × IsKnown s.seat.me.0 };
 }
 
 impl Dealer {
@@ -77,7 +75,7 @@ impl Dealer {
     }
 
     /// How many chunks there are.
-    pub(crate) fn chunks(&self) -> u64
+    pub fn chunks(&self) -> u64
         ensures { result ≡ self.now.chunks }
     {
         self.chunks
@@ -97,9 +95,9 @@ impl Dealer {
         ensures no_step { IsTrue seat.old.had_none → seat.new.steps ≡ seat.old.steps }
         ensures stays_none { IsTrue seat.old.had_none → IsNone result }
         ensures once { IsOnceBelow self.now.chunks seat.new.draws }
-        ensures cursor { seat.new.steps ≤ self.now.chunks + most_workers }
-        ensures whole { seat.new.shares ≡ most_workers → IsEachBelow (min seat.new.steps self.now.chunks) seat.new.draws }
-        ensures all { seat.new.shares ≡ most_workers → seat.new.floor ≡ self.now.chunks → IsEachBelow self.now.chunks seat.new.draws }
+        ensures cursor { seat.new.steps ≤ self.now.chunks + all_shares }
+        ensures whole { seat.new.shares ≡ all_shares → IsEachBelow (min seat.new.steps self.now.chunks) seat.new.draws }
+        ensures all { seat.new.shares ≡ all_shares → seat.new.floor ≡ self.now.chunks → IsEachBelow self.now.chunks seat.new.draws }
     {
         if seat.had_none {
             return None;
@@ -119,8 +117,8 @@ impl Dealer {
         ensures known { seat.old.floor ≤ result }
         ensures below { result ≤ self.now.chunks }
         ensures floor { seat.new ≡ record seat.old { floor = result } }
-        ensures count { seat.old.shares ≡ most_workers → result ≡ length seat.old.draws }
-        ensures whole { seat.old.shares ≡ most_workers → IsEachBelow result seat.old.draws }
+        ensures count { seat.old.shares ≡ all_shares → result ≡ length seat.old.draws }
+        ensures whole { seat.old.shares ≡ all_shares → IsEachBelow result seat.old.draws }
     {
         let found = self.table.shared.load::<See>(&mut seat.seat, 0);
         found.min(self.chunks)
@@ -157,11 +155,11 @@ impl Dealer {
         ensures steps { seat.new.steps ≡ seat.old.steps + other.steps }
         ensures floor { seat.new.floor ≡ max seat.old.floor other.floor }
         ensures had_none { seat.new.had_none ≡ seat.old.had_none || other.had_none }
-        ensures most { seat.new.shares ≤ most_workers }
+        ensures most { seat.new.shares ≤ all_shares }
         ensures once { IsOnceBelow self.now.chunks seat.new.draws }
-        ensures cursor { seat.new.steps ≤ self.now.chunks + most_workers }
-        ensures whole { seat.new.shares ≡ most_workers → IsEachBelow (min seat.new.steps self.now.chunks) seat.new.draws }
-        ensures all { seat.new.shares ≡ most_workers → seat.new.floor ≡ self.now.chunks → IsEachBelow self.now.chunks seat.new.draws }
+        ensures cursor { seat.new.steps ≤ self.now.chunks + all_shares }
+        ensures whole { seat.new.shares ≡ all_shares → IsEachBelow (min seat.new.steps self.now.chunks) seat.new.draws }
+        ensures all { seat.new.shares ≡ all_shares → seat.new.floor ≡ self.now.chunks → IsEachBelow self.now.chunks seat.new.draws }
     {
         let DealSeat {
             seat: hand,
@@ -179,9 +177,9 @@ impl Dealer {
     /// Ends the dealing, and gives the cursor: how many steps all seats have made.
     pub fn close(self, seat: DealSeat) -> u64
         requires dealer { IsSeatOf self seat }
-        requires whole { seat.shares ≡ most_workers }
+        requires whole { seat.shares ≡ all_shares }
         ensures steps { result ≡ seat.steps }
-        ensures cursor { result ≤ self.chunks + most_workers }
+        ensures cursor { result ≤ self.chunks + all_shares }
         ensures known { seat.floor ≤ min result self.chunks }
         ensures draws { IsEachBelow (min result self.chunks) seat.draws }
         ensures count { length seat.draws ≡ min result self.chunks }
@@ -204,7 +202,7 @@ impl Dealer {
 pub fn shares(seat: &DealSeat) -> u32
     ensures shares { result ≡ seat.now.shares }
     ensures some { 0 < result }
-    ensures most { result ≤ most_workers }
+    ensures most { result ≤ all_shares }
 {
     seat.shares
 }

@@ -2,7 +2,10 @@
 use Rattle.std.specs.Prelude.{◌≡◌, ℕ, ◌≤◌, Bool, false, List, [], count_by, nat_lt, ◌==◌, if◌then◌else◌}
 use base.Stored.{Coded, coded×, coded_ℕ, coded_bool, coded_list, coded_via}
 use Rattle.atomic_table.specs.Seated.{TableId, table_id_coded}
-use Rattle.g1_work.specs.Team.{most_workers}
+
+-- the shares that all seats of a dealer have together
+abbrev pub all_shares : ℕ
+all_shares = 64
 
 -- how often x stands in the list
 abbrev pub times : ℕ → List ℕ → ℕ
@@ -45,7 +48,7 @@ seat_view_coded = coded_via (coded× table_id_coded (coded× coded_ℕ (coded× 
 
 -- the seat that a new dealer comes with
 abbrev pub first_seat : DealerView → SeatView
-first_seat d = record { dealer = d.id; chunks = d.chunks; shares = most_workers; draws = []; floor = 0; steps = 0; had_none = false }
+first_seat d = record { dealer = d.id; chunks = d.chunks; shares = all_shares; draws = []; floor = 0; steps = 0; had_none = false }
 
 -- the seat is one of this dealer's
 abbrev pub IsSeatOf : DealerView → SeatView → Type 0

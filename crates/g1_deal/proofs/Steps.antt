@@ -7,10 +7,10 @@ use native.Mathlib.Decide.{dec_le}
 use lib.ListN.{get_elem?}
 use Rattle.atomic_table.specs.Table.{State, step, keeps, stepped, Allows, Splits, Joins, Final, Seen}
 use Rattle.atomic_table.proofs.Lists.{at_set, set_here, set_else, at_snoc}
-use Rattle.g1_work.specs.declared.rule.Hand.{Hand}
-use Rattle.g1_work.specs.Dealer.{times, once_below}
-use Rattle.g1_work.proofs.Counts.{times_push, times_append, once_more, once_most}
-use Rattle.g1_work.specs.Rule.{hands_total, weigh, IsSound, Dealing, Dealt, Sat, IsKnown, after_draw, after_none, after_look, drew, saw, looked, left_hand, right_hand, both_hands, spent_hand}
+use Rattle.g1_deal.specs.declared.rule.Hand.{Hand}
+use Rattle.g1_deal.specs.Dealer.{times, once_below}
+use Rattle.g1_deal.proofs.Counts.{times_push, times_append, once_more, once_most}
+use Rattle.g1_deal.specs.Rule.{hands_total, weigh, IsSound, Dealing, Dealt, Sat, IsKnown, after_draw, after_none, after_look, drew, saw, looked, left_hand, right_hand, both_hands, spent_hand}
 
 total_set : (f : Hand → ℕ) (l : List Hand) (i : ℕ) (v w : Hand) → get_elem? l i ≡ some v → hands_total f (set l i w) + f v ≡ hands_total f l + f w
 total_set f [] i v w e = absurd (some-ne-none v (sym e))

@@ -1,8 +1,8 @@
 use Rattle.std.proofs.Common.{ap, subst, ◌∙◌}
-use Rattle.g1_work.specs.Dealer.{SeatView}
-use Rattle.g1_work.proofs.Steps.{closes}
-use Rattle.g1_work.proofs.Known.{IsKnownSeat, closed}
-use Rattle.g1_work.proofs.dealer.Dealer.close.Goals as goal
+use Rattle.g1_deal.specs.Dealer.{SeatView}
+use Rattle.g1_deal.proofs.Steps.{closes}
+use Rattle.g1_deal.proofs.Known.{IsKnownSeat, closed}
+use Rattle.g1_deal.proofs.dealer.Dealer.close.Goals as goal
 
 pub returns-clause-steps : goal.returns-clause-steps
 returns-clause-steps c = let all = ap (λ (s : SeatView). s.shares) c.seat.view_is ∙ c.requires.whole in

@@ -1,8 +1,8 @@
 use Rattle.std.proofs.Common.{rules, arith, ◌≡◌, ap}
-use Rattle.g1_work.specs.Rule.{both_hands}
-use Rattle.g1_work.specs.declared.rule.Hand.{Hand}
-use Rattle.g1_work.proofs.Steps.{joins, looks}
-use Rattle.g1_work.proofs.dealer.Dealer.join.Goals as goal
+use Rattle.g1_deal.specs.Rule.{both_hands}
+use Rattle.g1_deal.specs.declared.rule.Hand.{Hand}
+use Rattle.g1_deal.proofs.Steps.{joins, looks}
+use Rattle.g1_deal.proofs.dealer.Dealer.join.Goals as goal
 
 pub join_seat-requires : goal.join_seat-requires
 join_seat-requires c = (search rules, search rules, search rules, search rules, joins _ _ _ _ _ (search rules) (search rules) (search rules) (search rules))

@@ -3,9 +3,8 @@ use Rattle.std.specs.Prelude.{◌≡◌, ℕ, ◌+◌, ◌-◌, ◌<◌, ◌≤�
 use mathlib.Core.Option.{some}
 use lib.ListN.{get_elem?}
 use Rattle.atomic_table.specs.Table.{State, Me, Step}
-use Rattle.g1_work.specs.declared.rule.Hand.{Hand}
-use Rattle.g1_work.specs.Team.{most_workers}
-use Rattle.g1_work.specs.Dealer.{times, once_below, IsEachBelow, IsOnceBelow}
+use Rattle.g1_deal.specs.declared.rule.Hand.{Hand}
+use Rattle.g1_deal.specs.Dealer.{all_shares, times, once_below, IsEachBelow, IsOnceBelow}
 
 -- f of each hand, added up
 abbrev pub hands_total : (Hand → ℕ) → List Hand → ℕ
@@ -23,7 +22,7 @@ hand chunks shares draws floor steps had_none = record { chunks = chunks; shares
 
 -- the hand of a new dealer's seat
 abbrev pub first_hand : ℕ → Hand
-first_hand chunks = hand chunks most_workers [] 0 0 false
+first_hand chunks = hand chunks all_shares [] 0 0 false
 
 -- one hand of a dealer of which `reached` chunks are drawn
 pub record IsSound (chunks reached : ℕ) (v : Hand) : Type 0 where
@@ -37,7 +36,7 @@ pub record IsSound (chunks reached : ℕ) (v : Hand) : Type 0 where
 -- `chunks`, each once, and their steps are the cursor, which passes `chunks` only by shares of hands that have had None
 pub record Dealing (chunks cursor : ℕ) (views : List Hand) : Type 0 where
   pub few : chunks < 2 ^ 32
-  pub shares : hands_total (λ v. v.shares) views ≡ most_workers
+  pub shares : hands_total (λ v. v.shares) views ≡ all_shares
   pub draws : (x : ℕ) → hands_total (λ v. times x v.draws) views ≡ once_below x (min cursor chunks)
   pub count : hands_total (λ v. length v.draws) views ≡ min cursor chunks
   pub steps : hands_total (λ v. v.steps) views ≡ cursor
@@ -54,8 +53,8 @@ Sat = Me (Unit {0}) Hand
 
 -- what each step tells of its hand: it has no number twice, its steps are few, and with all shares it has all draws and all steps
 abbrev pub IsKnown : Hand → Type 0
-IsKnown v = IsOnceBelow v.chunks v.draws × (v.steps ≤ v.chunks + most_workers)
-    × (v.shares ≡ most_workers → IsEachBelow (min v.steps v.chunks) v.draws × (length v.draws ≡ min v.steps v.chunks) × (v.floor ≤ min v.steps v.chunks))
+IsKnown v = IsOnceBelow v.chunks v.draws × (v.steps ≤ v.chunks + all_shares)
+    × (v.shares ≡ all_shares → IsEachBelow (min v.steps v.chunks) v.draws × (length v.draws ≡ min v.steps v.chunks) × (v.floor ≤ min v.steps v.chunks))
 
 -- the hand that drew n
 abbrev pub after_draw : Hand → ℕ → Hand
@@ -75,11 +74,11 @@ after_look v n = hand v.chunks v.shares v.draws n v.steps v.had_none
 
 -- a load that found n: it is not below what the hand knew, and the steps of a hand with all shares
 abbrev pub saw : Step (Unit {0}) → Sat → ℕ → Sat → Type 0
-saw st m n m' = (m.0.floor ≤ min n m.0.chunks) × (m'.0 ≡ after_look m.0 (min n m.0.chunks)) × (m'.1 ≡ m.1) × (m'.0.shares ≡ most_workers → n ≡ m'.0.steps) × IsKnown m'.0
+saw st m n m' = (m.0.floor ≤ min n m.0.chunks) × (m'.0 ≡ after_look m.0 (min n m.0.chunks)) × (m'.1 ≡ m.1) × (m'.0.shares ≡ all_shares → n ≡ m'.0.steps) × IsKnown m'.0
 
 -- a load that changes nothing
 abbrev pub looked : Step (Unit {0}) → Sat → ℕ → Sat → Type 0
-looked st m n m' = (m'.0 ≡ m.0) × (m'.1 ≡ m.1) × (m'.0.shares ≤ most_workers) × IsKnown m'.0
+looked st m n m' = (m'.0 ≡ m.0) × (m'.1 ≡ m.1) × (m'.0.shares ≤ all_shares) × IsKnown m'.0
 
 -- what is left of a hand that gave a share away
 abbrev pub left_hand : Hand → Hand

@@ -22,7 +22,7 @@ impl Model for Hand {
 pub struct Deal;
 
 impl TableRule<(), Hand, u64> for Deal {
-    ghost use Rattle.g1_work.specs.Rule.{Dealt, first_hand};
+    ghost use Rattle.g1_deal.specs.Rule.{Dealt, first_hand};
 
     ghost holds = { Dealt };
 
@@ -33,7 +33,7 @@ impl TableRule<(), Hand, u64> for Deal {
 pub struct Draw;
 
 impl Play<(), Hand> for Draw {
-    ghost use Rattle.g1_work.specs.Rule.{drew};
+    ghost use Rattle.g1_deal.specs.Rule.{drew};
 
     ghost then = { drew };
 }
@@ -42,7 +42,7 @@ impl Play<(), Hand> for Draw {
 pub struct See;
 
 impl Play<(), Hand> for See {
-    ghost use Rattle.g1_work.specs.Rule.{saw};
+    ghost use Rattle.g1_deal.specs.Rule.{saw};
 
     ghost then = { saw };
 }
@@ -51,7 +51,7 @@ impl Play<(), Hand> for See {
 pub struct Look;
 
 impl Play<(), Hand> for Look {
-    ghost use Rattle.g1_work.specs.Rule.{looked};
+    ghost use Rattle.g1_deal.specs.Rule.{looked};
 
     ghost then = { looked };
 }
@@ -59,7 +59,7 @@ impl Play<(), Hand> for Look {
 pub struct OneShare;
 
 impl Split<Hand> for OneShare {
-    ghost use Rattle.g1_work.specs.Rule.{left_hand, right_hand};
+    ghost use Rattle.g1_deal.specs.Rule.{left_hand, right_hand};
 
     ghost left = { left_hand };
 
@@ -69,7 +69,7 @@ impl Split<Hand> for OneShare {
 pub struct BothHands;
 
 impl Join<Hand> for BothHands {
-    ghost use Rattle.g1_work.specs.Rule.{both_hands, spent_hand};
+    ghost use Rattle.g1_deal.specs.Rule.{both_hands, spent_hand};
 
     ghost both = { both_hands };
 

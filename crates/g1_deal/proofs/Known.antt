@@ -1,6 +1,6 @@
 -- What a seat shows of the cursor.
 use Rattle.std.proofs.Common.{◌≡◌, ℕ, ◌+◌, ◌≤◌, min, length, sym, ◌∙◌, subst, arith}
-use Rattle.g1_work.specs.Dealer.{SeatView, IsEachBelow, IsOnceBelow}
+use Rattle.g1_deal.specs.Dealer.{SeatView, IsEachBelow, IsOnceBelow}
 
 -- what is known of each seat, as it is of its hand
 abbrev pub IsKnownSeat : SeatView → Type 0
