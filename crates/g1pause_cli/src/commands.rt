@@ -151,10 +151,18 @@ fn repack<T: Threads + Sync, R: Read, W: Write>(
     reader: &mut R,
     writer: &mut W,
 ) -> Result<(), Fault> {
-    let workers = settings_of(sharing, FREE)?.workers();
+    let workers = workers_of(sharing)?;
     let image = read_image(rt, alloc, workers, reader)?;
+    write_image(alloc, &image, writer)
+}
+
+fn workers_of(sharing: Sharing) -> Result<u64, Fault> {
+    Ok(settings_of(sharing, FREE)?.workers())
+}
+
+fn write_image<W: Write>(alloc: Global, image: &Image, writer: &mut W) -> Result<(), Fault> {
     let mut sink = ToWriter::new(writer);
-    write(alloc, &image, &mut sink)?;
+    write(alloc, image, &mut sink)?;
     sink.flush()
 }
 
