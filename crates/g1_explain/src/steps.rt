@@ -34,8 +34,9 @@ pub(crate) struct Steps {
     pub(crate) sizes: Vec<u64>,
 }
 
-/// Makes the calls of a pause, and adds the lines of each to the text. The image stays as it is. For a
-/// map the lines that take long are left out: none of them is wanted.
+/// Makes the calls of a pause, and adds the lines of each to the text, below the line that the image is
+/// covered. The image stays as it is. For a map the lines that take long are left out: none of them is
+/// wanted.
 ///
 /// # Errors
 ///
@@ -48,6 +49,7 @@ pub(crate) fn take_steps<R: Threads + Sync>(
     tracked: &Tracked,
     settings: &Settings,
 ) -> Result<Steps, Failure> {
+    text.push_str("covered\n")?;
     let image = image(tracked);
     let starts = Starts::build(alloc, image.heap())?;
     let remembered = refine_by(rt, alloc, tracked, &starts, settings.workers())?;
@@ -57,12 +59,29 @@ pub(crate) fn take_steps<R: Threads + Sync>(
         starts: &starts,
         remembered: &remembered,
     };
-    let collection = collection_set(rt, alloc, &before, settings, &Open)?;
+    steps_of_choice(rt, alloc, text, form, tracked, &before, settings)
+}
+
+// The choice of a set, and the calls that follow it.
+fn steps_of_choice<R: Threads + Sync>(
+    rt: &R,
+    alloc: Global,
+    text: &mut String,
+    form: Form,
+    tracked: &Tracked,
+    before: &Before<'_>,
+    settings: &Settings,
+) -> Result<Steps, Failure>
+    requires image { before.now.image.now ≡ tracked.now }
+    requires starts { IsStartsOf tracked.now.heap before.now.starts.now }
+    requires remembered { map (λ s. s.items) before.now.remembered.now ≡ map (refined tracked.now) (regions tracked.now.heap) }
+{
+    let collection = collection_set(rt, alloc, before, settings, &Open)?;
     if let Some(bought) = &collection.bought {
-        push_bought(text, &before, &settings.cost(), bought)?;
+        push_bought(text, before, &settings.cost(), bought)?;
     }
     let set = collection.regions;
-    steps_of_set(rt, alloc, text, form, tracked, &before, settings, set)
+    steps_of_set(rt, alloc, text, form, tracked, before, settings, set)
 }
 
 // The calls that follow the choice of a set.
@@ -149,24 +168,37 @@ fn push_writes(
     if form == Form::Map {
         return Ok(());
     }
+    let heap = before.image.heap();
+    let (plan, prepared) = (&steps.plan, &steps.prepared);
+    push_room(text, plan.need(), free_count(heap.regions()) as u64)?;
+    push_places(text, heap, plan, &steps.sizes)?;
+    push_patches(text, heap, prepared)?;
+    push_humongous_objects(alloc, text, before, steps)?;
+    push_remembered(alloc, text, before.remembered, prepared.remembered())?;
+    push_regions(text, heap.regions(), prepared.regions())?;
+    push_heading_changes(text, before.image)?;
+    Ok(())
+}
+
+// The lines of the humongous objects, each with what keeps it.
+fn push_humongous_objects(
+    alloc: Global,
+    text: &mut String,
+    before: &Before<'_>,
+    steps: &Steps,
+) -> Result<(), Failure>
+    requires { IsStartsOf before.now.image.now.heap before.now.starts.now }
+{
     let Before {
         image,
         starts,
         remembered,
     } = *before;
     let heap = image.heap();
-    let (plan, prepared) = (&steps.plan, &steps.prepared);
-    push_room(text, plan.need(), free_count(heap.regions()) as u64)?;
-    push_places(text, heap, plan, &steps.sizes)?;
-    push_patches(text, heap, prepared)?;
+    let survivors = steps.plan.survivors();
     let set = mark_regions(alloc, heap, &steps.set)?;
-    let survivors = plan.survivors();
     let keepers = keepers(alloc, heap, starts, remembered, &set, survivors)?;
-    push_humongous(text, heap, survivors, &keepers, prepared.humongous())?;
-    push_remembered(alloc, text, remembered, prepared.remembered())?;
-    push_regions(text, heap.regions(), prepared.regions())?;
-    push_heading_changes(text, image)?;
-    Ok(())
+    push_humongous(text, heap, survivors, &keepers, steps.prepared.humongous())
 }
 
 /// Adds the line of the regions that the survivors need.
