@@ -59,29 +59,12 @@ pub(crate) fn take_steps<R: Threads + Sync>(
         starts: &starts,
         remembered: &remembered,
     };
-    steps_of_choice(rt, alloc, text, form, tracked, &before, settings)
-}
-
-// The choice of a set, and the calls that follow it.
-fn steps_of_choice<R: Threads + Sync>(
-    rt: &R,
-    alloc: Global,
-    text: &mut String,
-    form: Form,
-    tracked: &Tracked,
-    before: &Before<'_>,
-    settings: &Settings,
-) -> Result<Steps, Failure>
-    requires image { before.now.image.now ≡ tracked.now }
-    requires starts { IsStartsOf tracked.now.heap before.now.starts.now }
-    requires remembered { map (λ s. s.items) before.now.remembered.now ≡ map (refined tracked.now) (regions tracked.now.heap) }
-{
-    let collection = collection_set(rt, alloc, before, settings, &Open)?;
+    let collection = collection_set(rt, alloc, &before, settings, &Open)?;
     if let Some(bought) = &collection.bought {
-        push_bought(text, before, &settings.cost(), bought)?;
+        push_bought(text, &before, &settings.cost(), bought)?;
     }
     let set = collection.regions;
-    steps_of_set(rt, alloc, text, form, tracked, before, settings, set)
+    steps_of_set(rt, alloc, text, form, tracked, &before, settings, set)
 }
 
 // The calls that follow the choice of a set.
