@@ -137,16 +137,29 @@ pub(crate) fn push_cards(
     if form == Form::Map {
         return Ok(());
     }
-    let heap = before.image.heap();
     text.push_str("set")?;
     push_numbers(text, set)?;
-    let marks = mark_regions(alloc, heap, set)?;
+    let marks = mark_regions(alloc, before.image.heap(), set)?;
     for card in cards {
-        write!(text, "card {card} slots")?;
-        let slots = card_slots(alloc, heap, before.starts, *card);
-        push_leading(text, heap, &marks, slots.as_slice())?;
+        push_card(alloc, text, before, &marks, *card)?;
     }
     Ok(())
+}
+
+// The line of a card: its slots that lead into the set.
+fn push_card(
+    alloc: Global,
+    text: &mut String,
+    before: &Before<'_>,
+    set: &Marks,
+    card: u32,
+) -> Result<(), AllocError>
+    requires { IsStartsOf before.now.image.now.heap before.now.starts.now }
+{
+    let heap = before.image.heap();
+    write!(text, "card {card} slots")?;
+    let slots = card_slots(alloc, heap, before.starts, card);
+    push_leading(text, heap, set, slots.as_slice())
 }
 
 fn push_leading(

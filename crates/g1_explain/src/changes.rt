@@ -67,25 +67,27 @@ pub(crate) fn push_remembered(
 ) -> Result<(), AllocError> {
     for (region, (old, new)) in refined.iter().zip(after.iter()).enumerate() {
         let (old, new) = (old.as_slice(), new.as_slice());
-        let gained = joined_cards(alloc, old, new)?;
-        push_set_change(text, region, "gains", gained.as_slice())?;
-        let lost = joined_cards(alloc, new, old)?;
-        push_set_change(text, region, "loses", lost.as_slice())?;
+        push_set_change(alloc, text, region, "gains", old, new)?;
+        push_set_change(alloc, text, region, "loses", new, old)?;
     }
     Ok(())
 }
 
+// Adds the line of the cards of the second set that aren't in the first, if there are any.
 fn push_set_change(
+    alloc: Global,
     text: &mut String,
     region: usize,
     word: &str,
-    cards: &[u32],
+    before: &[u32],
+    after: &[u32],
 ) -> Result<(), AllocError> {
+    let cards = joined_cards(alloc, before, after)?;
     if cards.is_empty() {
         return Ok(());
     }
     write!(text, "remembered {region} {word}")?;
-    push_numbers(text, cards)
+    push_numbers(text, cards.as_slice())
 }
 
 /// Adds a line for each region whose line in the table changes.

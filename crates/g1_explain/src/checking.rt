@@ -27,10 +27,8 @@ pub(crate) fn check_pause<R: Threads + Sync>(
     taken: &Result<Steps, Failure>,
 ) -> Result<(), Failure> {
     let refused = refusal_of(taken)?;
-    match evacuate(rt, alloc, tracked, settings, &Open) {
-        Ok((after, report)) => compare_answer(taken, image(&after), &report),
-        Err((_, fault)) => compare_fault(refused, fault),
-    }
+    let answer = evacuate(rt, alloc, tracked, settings, &Open);
+    compare(taken, refused, answer)
 }
 
 // The fault for which the steps refused the pause, if they did.
@@ -39,6 +37,18 @@ fn refusal_of(taken: &Result<Steps, Failure>) -> Result<Option<Fault>, Failure> 
         Ok(_) => Ok(None),
         Err(Failure::Fault(fault)) if *fault != Fault::Memory => Ok(Some(*fault)),
         Err(failure) => Err(*failure),
+    }
+}
+
+// Refuses an answer of the pause that isn't that of the steps.
+fn compare(
+    taken: &Result<Steps, Failure>,
+    refused: Option<Fault>,
+    answer: Result<(Tracked, Report), (Tracked, Fault)>,
+) -> Result<(), Failure> {
+    match answer {
+        Ok((after, report)) => compare_answer(taken, image(&after), &report),
+        Err((_, fault)) => compare_fault(refused, fault),
     }
 }
 

@@ -61,7 +61,6 @@ fn push_tracked<R: Threads + Sync>(
     settings: &Settings,
     form: Form,
 ) -> Result<Option<Fault>, Failure> {
-    text.push_str("covered\n")?;
     let taken = take_steps(rt, alloc, text, form, &tracked, settings);
     check_pause(rt, alloc, tracked, settings, &taken)?;
     push_outcome(text, form, &taken)

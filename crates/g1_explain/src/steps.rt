@@ -34,8 +34,9 @@ pub(crate) struct Steps {
     pub(crate) sizes: Vec<u64>,
 }
 
-/// Makes the calls of a pause, and adds the lines of each to the text. The image stays as it is. For a
-/// map the lines that take long are left out: none of them is wanted.
+/// Makes the calls of a pause, and adds the lines of each to the text, below the line that the image is
+/// covered. The image stays as it is. For a map the lines that take long are left out: none of them is
+/// wanted.
 ///
 /// # Errors
 ///
@@ -48,6 +49,7 @@ pub(crate) fn take_steps<R: Threads + Sync>(
     tracked: &Tracked,
     settings: &Settings,
 ) -> Result<Steps, Failure> {
+    text.push_str("covered\n")?;
     let image = image(tracked);
     let starts = Starts::build(alloc, image.heap())?;
     let remembered = refine_by(rt, alloc, tracked, &starts, settings.workers())?;
@@ -149,24 +151,37 @@ fn push_writes(
     if form == Form::Map {
         return Ok(());
     }
+    let heap = before.image.heap();
+    let (plan, prepared) = (&steps.plan, &steps.prepared);
+    push_room(text, plan.need(), free_count(heap.regions()) as u64)?;
+    push_places(text, heap, plan, &steps.sizes)?;
+    push_patches(text, heap, prepared)?;
+    push_humongous_objects(alloc, text, before, steps)?;
+    push_remembered(alloc, text, before.remembered, prepared.remembered())?;
+    push_regions(text, heap.regions(), prepared.regions())?;
+    push_heading_changes(text, before.image)?;
+    Ok(())
+}
+
+// The lines of the humongous objects, each with what keeps it.
+fn push_humongous_objects(
+    alloc: Global,
+    text: &mut String,
+    before: &Before<'_>,
+    steps: &Steps,
+) -> Result<(), Failure>
+    requires { IsStartsOf before.now.image.now.heap before.now.starts.now }
+{
     let Before {
         image,
         starts,
         remembered,
     } = *before;
     let heap = image.heap();
-    let (plan, prepared) = (&steps.plan, &steps.prepared);
-    push_room(text, plan.need(), free_count(heap.regions()) as u64)?;
-    push_places(text, heap, plan, &steps.sizes)?;
-    push_patches(text, heap, prepared)?;
+    let survivors = steps.plan.survivors();
     let set = mark_regions(alloc, heap, &steps.set)?;
-    let survivors = plan.survivors();
     let keepers = keepers(alloc, heap, starts, remembered, &set, survivors)?;
-    push_humongous(text, heap, survivors, &keepers, prepared.humongous())?;
-    push_remembered(alloc, text, remembered, prepared.remembered())?;
-    push_regions(text, heap.regions(), prepared.regions())?;
-    push_heading_changes(text, image)?;
-    Ok(())
+    push_humongous(text, heap, survivors, &keepers, steps.prepared.humongous())
 }
 
 /// Adds the line of the regions that the survivors need.

@@ -135,7 +135,12 @@ impl<'a> Lines<'a> {
         let words = line
             .split_ascii_whitespace()
             .collect::<Vec<&'a str>>(alloc)?;
-        match words.as_slice() {
+        self.read_words(number, line, words.as_slice())
+    }
+
+    // The words of a line.
+    fn read_words(&mut self, number: u64, line: &'a str, words: &[&'a str]) -> Result<(), Refusal> {
+        match words {
             [] => Ok(()),
             [first, ..] if first.starts_with('#') => Ok(()),
             [first, sizes @ ..] if self.heading == 0 => self.begin(number, first, sizes),
