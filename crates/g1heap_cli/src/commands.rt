@@ -137,16 +137,20 @@ fn print_part<T: Threads + Sync + Files, R: Read>(
     reader: &mut R,
 ) -> Result<String, Refusal> {
     let image = read_image(rt, alloc, name, reader)?;
-    if part == Part::Summary {
-        return Ok(summary(rt, alloc, &image)?);
-    }
-    lines(alloc, &image, name, part)
+    lines(rt, alloc, &image, name, part)
 }
 
-fn lines(alloc: Global, image: &Image, name: &str, part: Part) -> Result<String, Refusal> {
+fn lines<T: Threads + Sync>(
+    rt: &T,
+    alloc: Global,
+    image: &Image,
+    name: &str,
+    part: Part,
+) -> Result<String, Refusal> {
     let heap = image.heap();
     let text = match part {
-        Part::Whole | Part::Summary => image_lines(alloc, image),
+        Part::Whole => image_lines(alloc, image),
+        Part::Summary => summary(rt, alloc, image),
         Part::Region(region) if u64::from(region) < heap.geometry().regions() => {
             region_lines(alloc, image, region)
         }

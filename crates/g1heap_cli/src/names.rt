@@ -191,16 +191,14 @@ fn found<'a>(list: &[(u64, &'a str)], key: u64) -> Option<&'a str> {
 fn numbered<'a>(names: &[&'a str], number: u64) -> Option<Word<'a>> {
     let (last, before) = names.split_last()?;
     let count = before.len() as u64;
-    match last.strip_suffix("[]") {
-        Some(name) if number >= count => Some(Word {
+    if let (Some(name), Some(number)) = (last.strip_suffix("[]"), number.checked_sub(count)) {
+        return Some(Word {
             name,
-            number: Some(number.saturating_sub(count)),
-        }),
-        _ => Some(Word {
-            name: names.get(number as usize).copied()?,
-            number: None,
-        }),
+            number: Some(number),
+        });
     }
+    let name = names.get(number as usize).copied()?;
+    Some(Word { name, number: None })
 }
 
 fn expected_of(first: &str) -> &'static str {

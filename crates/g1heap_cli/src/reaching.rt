@@ -36,22 +36,7 @@ pub fn first_stale(
     stale: &Stale,
 ) -> Result<Option<(Path, u64)>, AllocError> {
     let mut search = Search::new(alloc, heap)?;
-    if let Some((number, word)) = stale.roots.first() {
-        return Ok(Some((search.path(alloc, 0, *number)?, *word)));
-    }
-    for (number, root) in heap.roots().iter().enumerate() {
-        search.add(*root, 0, number as u64)?;
-    }
-    for place in 0..heap.words().len() {
-        let Some(address) = search.objects.get(place).copied() else {
-            break;
-        };
-        if let Some((number, word)) = search.visit(heap, stale, place, address)? {
-            let from = place as u64 + 1;
-            return Ok(Some((search.path(alloc, from, number)?, word)));
-        }
-    }
-    Ok(None)
+    search.run(alloc, heap, stale)
 }
 
 // The objects that were found, breadth first, and how each was.
@@ -71,6 +56,30 @@ impl Search {
             ways: Vec::new(alloc),
             seen: Marks::none(alloc, heap.words().len())?,
         })
+    }
+
+    fn run(
+        &mut self,
+        alloc: Global,
+        heap: &Heap,
+        stale: &Stale,
+    ) -> Result<Option<(Path, u64)>, AllocError> {
+        if let Some((number, word)) = stale.roots.first() {
+            return Ok(Some((self.path(alloc, 0, *number)?, *word)));
+        }
+        for (number, root) in heap.roots().iter().enumerate() {
+            self.add(*root, 0, number as u64)?;
+        }
+        for place in 0..heap.words().len() {
+            let Some(address) = self.objects.get(place).copied() else {
+                break;
+            };
+            if let Some((number, word)) = self.visit(heap, stale, place, address)? {
+                let from = place as u64 + 1;
+                return Ok(Some((self.path(alloc, from, number)?, word)));
+            }
+        }
+        Ok(None)
     }
 
     // Adds the object that a word references, if it is new.

@@ -249,13 +249,19 @@ fn compare_stale(
     sides: Sides<'_>,
     strays: &Strays<'_>,
 ) -> Result<(u8, String), Refusal> {
-    let stale = &strays.words;
-    let first = first_stale(alloc, sides.after, stale)?;
+    let line = first_line(alloc, same, sides, strays)?;
+    Ok((1, with_all(alloc, same, sides, Some(&strays.words), line)?))
+}
+
+fn first_line(
+    alloc: Global,
+    same: &Same,
+    sides: Sides<'_>,
+    strays: &Strays<'_>,
+) -> Result<String, Refusal> {
+    let first = first_stale(alloc, sides.after, &strays.words)?;
     match compare(alloc, sides.before, sides.after) {
-        Ok(compared) => {
-            let line = stale_answer(alloc, same, sides, strays, &compared, &first)?;
-            Ok((1, with_all(alloc, same, sides, Some(stale), line)?))
-        }
+        Ok(compared) => stale_answer(alloc, same, sides, strays, &compared, &first),
         Err(fault) => Err(Refusal::Fault(fault)),
     }
 }
@@ -328,13 +334,18 @@ fn with_young(alloc: Global, same: &Same, after: Image) -> Result<Image, Refusal
     if same.young.is_empty() {
         return Ok(after);
     }
+    dirtied(alloc, same, &after)
+}
+
+// A copy in which the cards of young regions are dirty.
+fn dirtied(alloc: Global, same: &Same, after: &Image) -> Result<Image, Refusal> {
     let regions = after.heap().geometry().regions();
     for region in &same.young {
         if u64::from(*region) >= regions {
             return Err(no_region(alloc, same.after.as_str(), *region, regions));
         }
     }
-    Ok(with_dirty(alloc, &after, same.young.as_slice())?)
+    Ok(with_dirty(alloc, after, same.young.as_slice())?)
 }
 
 // The regions of the set that are not free in the heap before.

@@ -5,7 +5,7 @@ use crate::stale::Stale;
 use g1_command::Refusal;
 use g1_image::{Image, decode};
 use g1_text::{Graph, Wrong, read_graph};
-use std::alloc::Global;
+use std::alloc::{AllocError, Global};
 
 /// A heap that is compared, and what its file calls its objects.
 #[derive(Drop)]
@@ -89,23 +89,27 @@ fn strays_in<'a>(alloc: Global, graph: &Graph<'a>) -> Result<Option<Strays<'a>>,
         return Ok(None);
     };
     let mut names = Vec::new(alloc);
-    let mut words = Stale {
-        roots: Vec::new(alloc),
-        slots: Vec::new(alloc),
-    };
-    for (place, name) in &graph.stale_roots {
-        names.push(*name)?;
-        words.roots.push((*place, names.len() as u64))?;
-    }
-    for (place, name) in &graph.stale_slots {
-        names.push(*name)?;
-        words.slots.push((*place, names.len() as u64))?;
-    }
+    let roots = strays_named(alloc, &mut names, graph.stale_roots.as_slice())?;
+    let slots = strays_named(alloc, &mut names, graph.stale_slots.as_slice())?;
     Ok(Some(Strays {
-        words,
+        words: Stale { roots, slots },
         names,
         wrong: Wrong::Line { number, expected },
     }))
+}
+
+// The places of stale words, each with the word that stands for its name, which is added to the names.
+fn strays_named<'a>(
+    alloc: Global,
+    names: &mut Vec<&'a str>,
+    stale: &[(u64, &'a str)],
+) -> Result<Vec<(u64, u64)>, AllocError> {
+    let mut words = Vec::new(alloc);
+    for (place, name) in stale {
+        names.push(*name)?;
+        words.push((*place, names.len() as u64))?;
+    }
+    Ok(words)
 }
 
 /// The refusal of a file for its words that reference no object, or for its lines, which are in these bytes.

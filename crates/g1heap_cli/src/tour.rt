@@ -81,11 +81,13 @@ struct Tour {
 
 impl Tour {
     fn new(alloc: Global, sides: Sides<'_>, most: u64) -> Result<Tour, AllocError> {
+        let new_of = vec![in alloc; 0u32; sides.before.words().len()]?;
+        let old_of = vec![in alloc; 0u32; sides.after.words().len()]?;
         Ok(Tour {
             pairs: Vec::new(alloc),
             steps: Vec::new(alloc),
-            new_of: vec![in alloc; 0u32; sides.before.words().len()]?,
-            old_of: vec![in alloc; 0u32; sides.after.words().len()]?,
+            new_of,
+            old_of,
             most,
             differences: Differences {
                 first: Vec::new(alloc),
