@@ -14,11 +14,8 @@ use std::test::Fail;
 fn expect_refusal<T: Abort>(rt: &T, alloc: Global, refusal: &Refusal, line: &str, wanted: u8) {
     let mut errors = Stream::of(Vec::new(alloc), usize::MAX);
     let ended = refuse("the_name", refusal, &mut errors);
-    expect_equal(
-        rt,
-        (ended, errors.bytes.as_slice()),
-        (wanted, line.as_bytes()),
-    );
+    let found = (ended, errors.bytes.as_slice());
+    expect_equal(rt, found, (wanted, line.as_bytes()));
     expect_equal(rt, errors.longest, line.len());
 }
 
@@ -107,11 +104,8 @@ fn devices_fail_at_each_call(rt: HostRuntime) -> Result<(), AllocError> {
 // Others are in rows of `g1_rows`, whose words have no spaces.
 #[test]
 fn a_number_has_no_space(rt: HostRuntime) {
-    expect_equal(
-        &rt,
-        (whole(" 1"), whole("1 "), whole("1")),
-        (None, None, Some(1)),
-    );
+    let found = (whole(" 1"), whole("1 "), whole("1"));
+    expect_equal(&rt, found, (None, None, Some(1)));
 }
 
 // A program that was called by these words, of which the first is its name.

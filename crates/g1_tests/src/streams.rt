@@ -54,11 +54,8 @@ fn bytes_that_are_refused_are_read_to_their_end(rt: HostRuntime) -> Result<(), F
     let bytes = vec![in alloc; 0u8; 300]?;
     let stream = Stream::new(bytes.clone()?, 299, Trouble::Broken);
     expect_equal(&rt, bytes_from(alloc, stream), Err(INPUT));
-    expect_equal(
-        &rt,
-        bytes_from(alloc, Stream::of(bytes, 300)),
-        Err(Fault::Magic),
-    );
+    let whole = Stream::of(bytes, 300);
+    expect_equal(&rt, bytes_from(alloc, whole), Err(Fault::Magic));
     let few = ending(alloc, &[0; 30])?;
     expect_equal(&rt, bytes_from(alloc, few), Err(Fault::Magic));
     Ok(())
