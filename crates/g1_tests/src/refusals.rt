@@ -116,17 +116,12 @@ struct Called {
 
 impl Env for Called {
     fn arg(&self, i: usize, buf: &mut [u8]) -> Result<usize, FillError> {
-        match self.words.get(i) {
-            None => Err(FillError::NotPresent),
-            Some(word) => {
-                let length = word.len();
-                if length > buf.len() {
-                    return Err(FillError::TooLong);
-                }
-                buf[..length].copy_from_slice(word);
-                Ok(length)
-            }
+        let word = self.words.get(i).ok_or(FillError::NotPresent)?;
+        if word.len() > buf.len() {
+            return Err(FillError::TooLong);
         }
+        buf[..word.len()].copy_from_slice(word);
+        Ok(word.len())
     }
 
     fn var(&self, _name: &str, _buf: &mut [u8]) -> Result<usize, FillError> {
@@ -152,12 +147,8 @@ fn a_word_that_is_not_text_is_shown(rt: HostRuntime) {
     let line = "error: word 2 is not text: 'sho\\xff'\n";
     expect_shown(&rt, alloc, &[b"name", b"sho\xff"], line);
     let line = "error: word 3 is not text: '\u{e9}\\xc3'\n";
-    expect_shown(
-        &rt,
-        alloc,
-        &[b"name", b"show", b"\xc3\xa9\xc3", b"\xfe"],
-        line,
-    );
+    let called: &[&[u8]] = &[b"name", b"show", b"\xc3\xa9\xc3", b"\xfe"];
+    expect_shown(&rt, alloc, called, line);
     let line = "error: word 2 is not text: '\\xf0\\x9f\\x92x'\n";
     expect_shown(&rt, alloc, &[b"name", b"\xf0\x9f\x92x"], line);
 }
