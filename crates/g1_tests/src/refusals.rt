@@ -167,10 +167,10 @@ fn words_may_be_long_or_empty(rt: HostRuntime) -> Result<(), Refusal> {
     };
     let words = words(&called, rt.alloc())?;
     assert!(rt; words.len() == 5);
-    assert_eq!(rt; words[1].as_str(), "\u{e9}");
-    assert_eq!(rt; words[2].as_str(), "");
-    assert_eq!(rt; words[3].len(), 300);
-    assert_eq!(rt; words[4].len(), 70_000);
+    expect_equal(&rt, words[1].as_str(), "\u{e9}");
+    expect_equal(&rt, words[2].as_str(), "");
+    expect_equal(&rt, words[3].len(), 300);
+    expect_equal(&rt, words[4].len(), 70_000);
     Ok(())
 }
 
