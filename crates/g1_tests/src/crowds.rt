@@ -5,11 +5,11 @@ ghost use Rattle.g1_work.specs.Team.{AreWorkers};
 use crate::expecting::{UNIT, bytes_after, collecting, expect_equal};
 use crate::gates::{Counting, Crowd};
 use crate::work::{Numbers, squared_chunks};
-use g1_image::{Image, decode};
+use g1_image::decode;
 use g1_mark::live_bytes;
 use g1_rem::Starts;
 use g1_testing::pictures::{shared, shared_after};
-use g1_testing::{image, raw, text};
+use g1_testing::{raw, text};
 use g1_trace::run_text;
 use g1_words::Fault;
 use g1_work::{Gate, Part, Team, each_region_mut};
@@ -87,6 +87,20 @@ fn all_workers_draw_chunks_at_once(rt: HostRuntime) -> Result<(), Fail> {
     Ok(())
 }
 
+/// The bytes of an image after a pause that collects these regions.
+fn paused<T: Threads + Sync, G: Gate + Sync>(
+    rt: &T,
+    alloc: Global,
+    before: &[u8],
+    regions: &[u32],
+    workers: u64,
+    chunk: u64,
+    gate: &G,
+) -> Result<Vec<u8>, Fault> {
+    let settings = collecting(alloc, regions, workers, chunk)?;
+    bytes_after(rt, alloc, decode(alloc, before)?, &settings, gate)
+}
+
 /// Sees that a pause that collects these regions makes the one picture of the other.
 fn expect_pause<T: Threads + Abort + Sync, G: Gate + Sync>(
     rt: &T,
@@ -96,10 +110,9 @@ fn expect_pause<T: Threads + Abort + Sync, G: Gate + Sync>(
     workers: u64,
     gate: &G,
 ) -> Result<(), Fail> {
-    let settings = collecting(alloc, regions, workers, 1)?;
-    let found = bytes_after(rt, alloc, image(alloc, pictures.0)?, &settings, gate)?;
-    let expected = text(alloc, pictures.1)?;
-    expect_equal(rt, found.as_slice(), expected.as_slice());
+    let before = text(alloc, pictures.0)?;
+    let found = paused(rt, alloc, &before, regions, workers, 1, gate)?;
+    expect_equal(rt, found.as_slice(), text(alloc, pictures.1)?.as_slice());
     Ok(())
 }
 
@@ -157,23 +170,23 @@ fn all_workers_search_and_write_at_once(rt: HostRuntime) -> Result<(), Fail> {
     ] {
         let gate = Crowd::new(&rt, part, workers, 1);
         let set = (regions.0..regions.1).collect::<Vec<u32>>(alloc)?;
-        let settings = collecting(alloc, set.as_slice(), 64, CHUNK)?;
-        let image = decode(alloc, &raw(alloc, before)?)?;
-        let found = bytes_after(&rt, alloc, image, &settings, &gate)?;
+        let before = raw(alloc, before)?;
+        let found = paused(&rt, alloc, &before, &set, 64, CHUNK, &gate)?;
         expect_equal(&rt, gate.met(), 1);
         assert!(rt; found.as_slice() == raw(alloc, after)?.as_slice());
     }
     Ok(())
 }
 
-/// The live bytes of each region of an image.
+/// The live bytes of each region of the image of these bytes.
 fn live_of<R: Threads + Sync, G: Gate + Sync>(
     rt: &R,
     alloc: Global,
-    image: &Image,
+    bytes: &[u8],
     team: Team,
     gate: &G,
 ) -> Result<Vec<u64>, Fault> {
+    let image = decode(alloc, bytes)?;
     let (workers, chunk) = (team.workers(), team.chunk());
     let starts = Starts::build(alloc, image.heap())?;
     live_bytes(rt, alloc, image.heap(), &starts, workers, chunk, gate)
@@ -183,7 +196,7 @@ fn live_of<R: Threads + Sync, G: Gate + Sync>(
 fn workers_meet_when_live_bytes_are_counted(rt: HostRuntime) -> Result<(), Fail> {
     let alloc = rt.alloc();
     let gate = Crowd::new(&rt, Part::Deal, 2, 2);
-    let live = live_of(&rt, alloc, &image(alloc, shared())?, Team::new(2, 1), &gate)?;
+    let live = live_of(&rt, alloc, &text(alloc, shared())?, Team::new(2, 1), &gate)?;
     expect_equal(&rt, gate.met(), 2);
     expect_equal(&rt, live.as_slice(), [0, 56, 0, 0].as_slice());
     Ok(())
@@ -194,7 +207,7 @@ fn workers_meet_when_live_bytes_are_counted(rt: HostRuntime) -> Result<(), Fail>
 fn all_workers_count_live_bytes_at_once(rt: HostRuntime) -> Result<(), Fail> {
     let alloc = rt.alloc();
     let gate = Crowd::new(&rt, Part::Deal, 64, 1);
-    let field = decode(alloc, &raw(alloc, FIELD)?)?;
+    let field = raw(alloc, FIELD)?;
     let live = live_of(&rt, alloc, &field, Team::new(64, CHUNK), &gate)?;
     expect_equal(&rt, gate.met(), 1);
     expect_equal(&rt, live.len(), 128);

@@ -7,8 +7,7 @@ ghost use Rattle.g1_frontier.specs.Window.{AreRegions, AreCards, AreOutside, Lea
 use crate::expecting::{expect_equal, tracked};
 use g1_claim::{Claims, EMPTY};
 use g1_frontier::{Item, claim_round};
-use g1_image::Image;
-use g1_rem::{Starts, image, refine};
+use g1_rem::{Starts, Tracked, image, refine};
 use g1_testing::image as drawn;
 use g1_testing::pictures::shared;
 use g1_words::{Fault, Heap, object_at};
@@ -114,22 +113,29 @@ fn both_rounds<R: Threads + Sync>(
     })
 }
 
-fn two_rounds<R: Threads + Sync>(rt: &R, alloc: Global, picture: Image) -> Result<Rounds, Fault> {
-    let tracked = tracked(rt, alloc, picture)?;
-    let heap = image(&tracked).heap();
+fn two_rounds<R: Threads + Sync>(
+    rt: &R,
+    alloc: Global,
+    tracked: &Tracked,
+) -> Result<Rounds, Fault> {
+    let heap = image(tracked).heap();
     if heap.geometry().regions() < 2 {
         return Err(Fault::Set(1));
     }
     let starts = Starts::build(alloc, heap)?;
-    let remembered = refine(rt, alloc, &tracked, &starts)?;
+    let remembered = refine(rt, alloc, tracked, &starts)?;
     let cards = remembered[1].as_slice();
     both_rounds(rt, alloc, heap, &starts, cards)
 }
 
+fn rounds_of_shared<R: Threads + Sync>(rt: &R, alloc: Global) -> Result<Rounds, Fault> {
+    let tracked = tracked(rt, alloc, drawn(alloc, shared())?)?;
+    two_rounds(rt, alloc, &tracked)
+}
+
 #[test]
 fn the_least_rank_of_each_place_stays_its_word(rt: HostRuntime) -> Result<(), Fail> {
-    let picture = drawn(rt.alloc(), shared())?;
-    let two = two_rounds(&rt, rt.alloc(), picture)?;
+    let two = rounds_of_shared(&rt, rt.alloc())?;
     expect_equal(&rt, two.first.as_slice(), [(0, 21), (1, 16)].as_slice());
     assert!(rt; two.second.is_empty());
     expect_equal(&rt, two.words.len(), 16);

@@ -4,8 +4,7 @@ use g1_testing::{Stream, Trouble, pictures, raw, text};
 use g1heap_cli::{Call, Terminals};
 use g1pause_cli::choice_lines;
 use std::alloc::{AllocError, Global};
-use std::io;
-use std::io::{ErrorKind, Read, Write};
+use std::io::{self, ErrorKind, Read, Write};
 use std::process::Abort;
 use std::rt::Files;
 use std::test::Fail;
@@ -263,6 +262,7 @@ fn prints_and_makes_images_at_their_limits(rt: HostRuntime) -> Result<(), Fail> 
 #[test]
 fn a_total_has_more_than_64_bits(rt: HostRuntime) -> Result<(), Fail> {
     let text = choice_lines(rt.alloc(), &[], 0, 1 << 64)?;
-    assert_eq!(rt; text.as_slice(), b"total 18446744073709551616\n".as_slice());
+    let expected = b"total 18446744073709551616\n".as_slice();
+    expect_equal(&rt, text.as_slice(), expected);
     Ok(())
 }

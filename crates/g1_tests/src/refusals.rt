@@ -14,11 +14,8 @@ use std::test::Fail;
 fn expect_refusal<T: Abort>(rt: &T, alloc: Global, refusal: &Refusal, line: &str, wanted: u8) {
     let mut errors = Stream::of(Vec::new(alloc), usize::MAX);
     let ended = refuse("the_name", refusal, &mut errors);
-    expect_equal(
-        rt,
-        (ended, errors.bytes.as_slice()),
-        (wanted, line.as_bytes()),
-    );
+    let found = (ended, errors.bytes.as_slice());
+    expect_equal(rt, found, (wanted, line.as_bytes()));
     expect_equal(rt, errors.longest, line.len());
 }
 
@@ -107,11 +104,8 @@ fn devices_fail_at_each_call(rt: HostRuntime) -> Result<(), AllocError> {
 // Others are in rows of `g1_rows`, whose words have no spaces.
 #[test]
 fn a_number_has_no_space(rt: HostRuntime) {
-    expect_equal(
-        &rt,
-        (whole(" 1"), whole("1 "), whole("1")),
-        (None, None, Some(1)),
-    );
+    let found = (whole(" 1"), whole("1 "), whole("1"));
+    expect_equal(&rt, found, (None, None, Some(1)));
 }
 
 // A program that was called by these words, of which the first is its name.
@@ -122,17 +116,12 @@ struct Called {
 
 impl Env for Called {
     fn arg(&self, i: usize, buf: &mut [u8]) -> Result<usize, FillError> {
-        match self.words.get(i) {
-            None => Err(FillError::NotPresent),
-            Some(word) => {
-                let length = word.len();
-                if length > buf.len() {
-                    return Err(FillError::TooLong);
-                }
-                buf[..length].copy_from_slice(word);
-                Ok(length)
-            }
+        let word = self.words.get(i).ok_or(FillError::NotPresent)?;
+        if word.len() > buf.len() {
+            return Err(FillError::TooLong);
         }
+        buf[..word.len()].copy_from_slice(word);
+        Ok(word.len())
     }
 
     fn var(&self, _name: &str, _buf: &mut [u8]) -> Result<usize, FillError> {
@@ -158,12 +147,8 @@ fn a_word_that_is_not_text_is_shown(rt: HostRuntime) {
     let line = "error: word 2 is not text: 'sho\\xff'\n";
     expect_shown(&rt, alloc, &[b"name", b"sho\xff"], line);
     let line = "error: word 3 is not text: '\u{e9}\\xc3'\n";
-    expect_shown(
-        &rt,
-        alloc,
-        &[b"name", b"show", b"\xc3\xa9\xc3", b"\xfe"],
-        line,
-    );
+    let called: &[&[u8]] = &[b"name", b"show", b"\xc3\xa9\xc3", b"\xfe"];
+    expect_shown(&rt, alloc, called, line);
     let line = "error: word 2 is not text: '\\xf0\\x9f\\x92x'\n";
     expect_shown(&rt, alloc, &[b"name", b"\xf0\x9f\x92x"], line);
 }
@@ -182,10 +167,10 @@ fn words_may_be_long_or_empty(rt: HostRuntime) -> Result<(), Refusal> {
     };
     let words = words(&called, rt.alloc())?;
     assert!(rt; words.len() == 5);
-    assert_eq!(rt; words[1].as_str(), "\u{e9}");
-    assert_eq!(rt; words[2].as_str(), "");
-    assert_eq!(rt; words[3].len(), 300);
-    assert_eq!(rt; words[4].len(), 70_000);
+    expect_equal(&rt, words[1].as_str(), "\u{e9}");
+    expect_equal(&rt, words[2].as_str(), "");
+    expect_equal(&rt, words[3].len(), 300);
+    expect_equal(&rt, words[4].len(), 70_000);
     Ok(())
 }
 

@@ -24,6 +24,16 @@ fn write_to(alloc: Global, image: &Image, stream: &mut Stream) -> Result<(), Fau
     write(alloc, image, &mut ToWriter::new(stream))
 }
 
+fn write_one_object(alloc: Global, stream: &mut Stream) -> Result<(), Fault> {
+    write_to(alloc, &image(alloc, one_object())?, stream)
+}
+
+/// Writes the image that the reader gives.
+fn copy(alloc: Global, reader: &mut Stream, writer: &mut Stream) -> Result<(), Fault> {
+    let image = read_from(alloc, reader)?;
+    write_to(alloc, &image, writer)
+}
+
 /// The bytes of the image that a stream gives.
 fn bytes_from(alloc: Global, mut stream: Stream) -> Result<Vec<u8>, Fault> {
     encode(alloc, &read_from(alloc, &mut stream)?)
@@ -31,8 +41,7 @@ fn bytes_from(alloc: Global, mut stream: Stream) -> Result<Vec<u8>, Fault> {
 
 /// A stream of a byte a call that gives these bytes, and then its end; after that it is broken.
 fn ending(alloc: Global, bytes: &[u8]) -> Result<Stream, AllocError> {
-    let own = bytes.to_vec(alloc)?;
-    Ok(Stream::new(own, bytes.len() + 1, Trouble::Broken))
+    Ok(Stream::new(bytes.to_vec(alloc)?, bytes.len() + 1, Trouble::Broken))
 }
 
 #[test]
@@ -40,9 +49,8 @@ fn images_pass_one_byte_at_a_time(rt: HostRuntime) -> Result<(), Fail> {
     let alloc = rt.alloc();
     for lines in [one_object(), humongous(), shared()] {
         let bytes = text(alloc, lines)?;
-        let image = read_from(alloc, &mut ending(alloc, &bytes)?)?;
         let mut writer = Stream::of(Vec::new(alloc), 1);
-        write_to(alloc, &image, &mut writer)?;
+        copy(alloc, &mut ending(alloc, &bytes)?, &mut writer)?;
         expect_equal(&rt, writer.bytes.as_slice(), bytes.as_slice());
     }
     Ok(())
@@ -54,11 +62,8 @@ fn bytes_that_are_refused_are_read_to_their_end(rt: HostRuntime) -> Result<(), F
     let bytes = vec![in alloc; 0u8; 300]?;
     let stream = Stream::new(bytes.clone()?, 299, Trouble::Broken);
     expect_equal(&rt, bytes_from(alloc, stream), Err(INPUT));
-    expect_equal(
-        &rt,
-        bytes_from(alloc, Stream::of(bytes, 300)),
-        Err(Fault::Magic),
-    );
+    let whole = Stream::of(bytes, 300);
+    expect_equal(&rt, bytes_from(alloc, whole), Err(Fault::Magic));
     let few = ending(alloc, &[0; 30])?;
     expect_equal(&rt, bytes_from(alloc, few), Err(Fault::Magic));
     Ok(())
@@ -92,10 +97,9 @@ fn a_long_front_is_read_and_written(rt: HostRuntime) -> Result<(), Fail> {
     let alloc = rt.alloc();
     let bytes = raw(alloc, LONG_FRONT)?;
     let mut reader = Stream::of(bytes.clone()?, usize::MAX);
-    let image = read_from(alloc, &mut reader)?;
-    assert!(rt; reader.longest > 131_072, "{}", reader.longest);
     let mut writer = Stream::of(Vec::new(alloc), usize::MAX);
-    write_to(alloc, &image, &mut writer)?;
+    copy(alloc, &mut reader, &mut writer)?;
+    assert!(rt; reader.longest > 131_072, "{}", reader.longest);
     assert!(rt; writer.longest > 1 << 20, "{}", writer.longest);
     assert!(rt; writer.bytes.as_slice() == bytes.as_slice());
     Ok(())
@@ -114,18 +118,23 @@ fn workers_read_the_same_image(rt: HostRuntime) -> Result<(), Fail> {
     Ok(())
 }
 
+/// How often a reader is called that gives this image, and for how many bytes in all.
+fn asked(alloc: Global, bytes: Vec<u8>, longest: usize) -> Result<(usize, usize), Fault> {
+    let mut reader = Stream::of(bytes, longest);
+    read_from(alloc, &mut reader)?;
+    Ok((reader.calls, reader.asked))
+}
+
 #[test]
 fn a_reader_is_asked_for_each_byte_once(rt: HostRuntime) -> Result<(), Fail> {
     let alloc = rt.alloc();
     let bytes = raw(alloc, LONG_FRONT)?;
-    let mut whole = Stream::of(bytes.clone()?, usize::MAX);
-    read_from(alloc, &mut whole)?;
-    assert!(rt; whole.calls < 32, "{} calls", whole.calls);
-    assert!(rt; whole.asked / 4 < bytes.len(), "{} bytes", whole.asked);
+    let (calls, count) = asked(alloc, bytes.clone()?, usize::MAX)?;
+    assert!(rt; calls < 32, "{calls} calls");
+    assert!(rt; count / 4 < bytes.len(), "{count} bytes");
     // A reader that begins the front again for each byte more doesn't end within a test's time.
-    let mut slow = Stream::of(bytes.clone()?, 1);
-    read_from(alloc, &mut slow)?;
-    expect_equal(&rt, slow.calls, bytes.len() + 1);
+    let (calls, _) = asked(alloc, bytes.clone()?, 1)?;
+    expect_equal(&rt, calls, bytes.len() + 1);
     Ok(())
 }
 
@@ -137,10 +146,9 @@ fn a_call_that_is_interrupted_often_is_made_again(rt: HostRuntime) -> Result<(),
     for often in [2, 3, 10] {
         let reader = Stream::of(bytes.clone()?, usize::MAX);
         let mut reader = reader.with_errors(often, ErrorKind::Interrupted);
-        let image = read_from(alloc, &mut reader)?;
         let writer = Stream::of(Vec::new(alloc), 65_536);
         let mut writer = writer.with_errors(often, ErrorKind::Interrupted);
-        write_to(alloc, &image, &mut writer)?;
+        copy(alloc, &mut reader, &mut writer)?;
         assert!(rt; reader.calls > often && writer.calls > often, "{often}");
         assert!(rt; writer.bytes.as_slice() == bytes.as_slice(), "{often}");
     }
@@ -156,9 +164,8 @@ fn a_call_that_would_block_has_failed(rt: HostRuntime) -> Result<(), Fail> {
     let told = read_from(alloc, &mut reader).err();
     assert!(rt; told == Some(INPUT));
     expect_equal(&rt, reader.calls, 2);
-    let image = image(alloc, one_object())?;
     let mut writer = Stream::of(Vec::new(alloc), 1).with_errors(1, ErrorKind::WouldBlock);
-    expect_equal(&rt, write_to(alloc, &image, &mut writer), Err(OUTPUT));
+    expect_equal(&rt, write_one_object(alloc, &mut writer), Err(OUTPUT));
     expect_equal(&rt, (writer.calls, writer.bytes.len()), (2, 1));
     Ok(())
 }
@@ -231,7 +238,6 @@ fn expect_output_faults<T: Threads + Abort + Sync>(
 ) -> Result<(), Fault> {
     let before = text(alloc, one_object())?;
     let after = text(alloc, one_object_after())?;
-    let image = image(alloc, one_object())?;
     for at in 0..after.len() {
         let mut writer = Stream::new(Vec::new(alloc), at, trouble);
         let told = pause(rt, alloc, &mut ending(alloc, &before)?, &mut writer);
@@ -239,7 +245,7 @@ fn expect_output_faults<T: Threads + Abort + Sync>(
         expect_equal(rt, writer.bytes.as_slice(), &after[..at]);
         expect_equal(rt, writer.calls, at + 1);
         let mut writer = Stream::new(Vec::new(alloc), at, trouble);
-        let told = write_to(alloc, &image, &mut writer);
+        let told = write_one_object(alloc, &mut writer);
         expect_equal(rt, (at, told), (at, Err(OUTPUT)));
         assert!(rt;
             before.starts_with(writer.bytes.as_slice()) && writer.bytes.len() == at,

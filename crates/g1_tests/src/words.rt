@@ -21,21 +21,10 @@ fn addresses_by_division(rt: HostRuntime) -> Result<(), Fail> {
 
 #[test]
 fn an_object_by_its_header(rt: HostRuntime) {
-    let object = Object {
-        at: 16,
-        size: 5,
-        refs: 3,
-    };
-    expect_equal(&rt, slots_of(&object), (17, 3));
-    expect_equal(
-        &rt,
-        header(&[0, 5 * 4_294_967_296 + 3], 1),
-        Object {
-            at: 1,
-            size: 5,
-            refs: 3,
-        },
-    );
+    let (size, refs) = (5, 3);
+    expect_equal(&rt, slots_of(&Object { at: 16, size, refs }), (17, 3));
+    let found = header(&[0, 5 * 4_294_967_296 + 3], 1);
+    expect_equal(&rt, found, Object { at: 1, size, refs });
 }
 
 #[test]

@@ -89,11 +89,8 @@ fn the_gate_is_told_of_each_chunk_once(rt: HostRuntime) -> Result<(), Fail> {
     let (states, outs) = squared_chunks(&rt, rt.alloc(), 3, 8, &gate)?;
     expect_equal(&rt, gate.calls(), 0x0101_0101_0101_0101);
     // The states are as many as the workers, and one of them saw the last chunk.
-    expect_equal(
-        &rt,
-        (states.len(), states.iter().max().copied()),
-        (3, Some(8)),
-    );
+    let greatest = states.iter().max().copied();
+    expect_equal(&rt, (states.len(), greatest), (3, Some(8)));
     expect_equal(&rt, outs.as_slice(), FIRST_EIGHT.as_slice());
     squared_chunks(&rt, rt.alloc(), 3, 1, &gate)?;
     expect_equal(&rt, gate.calls(), 0x0101_0101_0101_0102);
