@@ -111,25 +111,22 @@ fn part_of(alloc: Global, line: &str, pictures: &[Picture]) -> Result<Vec<u8>, F
         Some(("hex", digits)) => bytes_of(alloc, digits),
         Some(("text", text)) => Ok(unescape(alloc, text)?),
         Some(("raw", numbers)) => raw(alloc, numbers),
-        Some(("|", text)) => Ok(line_of(alloc, text)?),
-        _ if line == "|" => Ok(line_of(alloc, "")?),
-        _ => Ok(line_of(alloc, line)?),
+        Some(("|", text)) => line_of(alloc, text),
+        _ if line == "|" => line_of(alloc, ""),
+        _ => line_of(alloc, line),
     }
 }
 
-fn line_of(alloc: Global, text: &str) -> Result<Vec<u8>, AllocError> {
+fn line_of(alloc: Global, text: &str) -> Result<Vec<u8>, Fault> {
     let mut line = Vec::from_slice(alloc, text.as_bytes())?;
     line.push(b'\n')?;
     Ok(line)
 }
 
 fn bytes_of_picture(alloc: Global, name: &str, pictures: &[Picture]) -> Result<Vec<u8>, Fault> {
-    for picture in pictures {
-        if picture.name.as_str() == name {
-            return Ok(picture.bytes.to_vec(alloc)?);
-        }
-    }
-    Err(BAD)
+    let mut all = pictures.iter();
+    let named = all.find(|it| it.name.as_str() == name).ok_or(BAD)?;
+    Ok(named.bytes.to_vec(alloc)?)
 }
 
 /// The bytes with these hexadecimal digits, two for each.
@@ -141,13 +138,10 @@ fn bytes_of(alloc: Global, digits: &str) -> Result<Vec<u8>, Fault> {
             continue;
         }
         let value = digit.to_digit(16).ok_or(BAD)?;
-        high = match high {
-            None => Some(value),
-            Some(high) => {
-                bytes.push(u8::try_from(high << 4 | value).unwrap_or(0))?;
-                None
-            }
-        };
+        match high.take() {
+            None => high = Some(value),
+            Some(high) => bytes.push(u8::try_from(high << 4 | value).unwrap_or(0))?,
+        }
     }
     match high {
         None => Ok(bytes),

@@ -47,10 +47,10 @@ fn sent<R: Threads + Sync>(call: &Call<'_, R>, room: Vec<u8>) -> Result<Vec<u8>,
 pub fn evacuated<R: Threads + Sync>(call: &Call<'_, R>, watch: &mut Watch) -> Result<(), Fault> {
     let tracked = tracked(call)?;
     watch.at(call.name);
-    match answer(call, tracked) {
-        Ok((_, report)) if call.name == "report" => print(&report, watch),
-        Ok((after, _)) => watch.image(image(&after)),
-        Err((back, fault)) => watch.refused(&fault, image(&back)),
+    match &answer(call, tracked) {
+        Ok((_, report)) if call.name == "report" => print(report, watch),
+        Ok((after, _)) => watch.image(image(after)),
+        Err((back, fault)) => watch.refused(fault, image(back)),
     }
     Ok(())
 }

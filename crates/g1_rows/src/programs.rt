@@ -65,10 +65,7 @@ fn write_file<R: Files>(rt: &R, name: &str, bytes: &[u8]) -> io::Result<()> {
 }
 
 fn done(attempt: io::Result<()>) -> Result<(), Fault> {
-    match attempt {
-        Ok(()) => Ok(()),
-        Err(_) => Err(Fault::Device(Device::Output)),
-    }
+    attempt.map_err(|_| Fault::Device(Device::Output))
 }
 
 fn remove_files<R: Files>(rt: &R, files: &[Content]) -> Result<(), Fault> {

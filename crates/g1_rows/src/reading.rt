@@ -14,10 +14,16 @@ pub const ROOM: usize = 4_096;
 /// The image of the bytes, whose references are covered.
 pub fn run<R: Threads + Sync>(call: &Call<'_, R>, watch: &mut Watch) -> Result<Tracked, Fault> {
     watch.at("decode");
-    let read = decode(call.alloc, call.given.part(0))?;
-    watch.image(&read);
-    write_back(call.alloc, &read, watch)?;
-    list_regions(call.alloc, read.heap(), watch)?;
+    cover(call, decode(call.alloc, call.given.part(0))?, watch)
+}
+
+/// Shows the image, and covers its references.
+fn cover<R: Threads + Sync>(
+    call: &Call<'_, R>,
+    read: Image,
+    watch: &mut Watch,
+) -> Result<Tracked, Fault> {
+    show(call.alloc, &read, watch)?;
     watch.at("verify");
     match verified(call, read) {
         Ok(tracked) => {
@@ -38,10 +44,7 @@ fn verified<R: Threads + Sync>(call: &Call<'_, R>, read: Image) -> Result<Tracke
 
 /// The image of the bytes, if no call on the way is watched.
 pub fn tracked<R: Threads + Sync>(call: &Call<'_, R>) -> Result<Tracked, Fault> {
-    match verified(call, decode(call.alloc, call.given.part(0))?) {
-        Ok(tracked) => Ok(tracked),
-        Err((_, fault)) => Err(fault),
-    }
+    verified(call, decode(call.alloc, call.given.part(0))?).map_err(|(_, fault)| fault)
 }
 
 /// The image of the bytes, straight from a reader of them.
@@ -57,6 +60,13 @@ fn received(alloc: Global, bytes: &[u8]) -> Result<Image, Fault> {
     let mut reader = bytes;
     let mut source = FromReader::new(&mut reader);
     read(alloc, &mut source)
+}
+
+/// The image, its bytes, and its regions.
+fn show(alloc: Global, read: &Image, watch: &mut Watch) -> Result<(), Fault> {
+    watch.image(read);
+    write_back(alloc, read, watch)?;
+    list_regions(alloc, read.heap(), watch)
 }
 
 /// The image as bytes, in a list and from a sink.

@@ -92,10 +92,8 @@ fn draw_all(
 /// The image of a name and its lines. No other has the name.
 fn draw(alloc: Global, block: &str, pictures: &[Picture]) -> Result<Picture, Fault> {
     let (name, lines) = block.split_once('\n').ok_or(BAD)?;
-    for picture in pictures {
-        if picture.name.as_str() == name {
-            return Err(BAD);
-        }
+    if pictures.iter().any(|it| it.name.as_str() == name) {
+        return Err(BAD);
     }
     let bytes = join(alloc, parts_of(alloc, lines, pictures)?.as_slice())?;
     let name = String::from_str(alloc, name)?;
@@ -185,14 +183,9 @@ fn miss_of_team<R: Threads + Sync>(
     for _run in 0..MOST_RUNS {
         let found = answer(trial.rt, trial.alloc, name, &case.given, team)?;
         let is_same = found.bytes.as_slice() == case.expected.as_slice();
+        let part = case.given.part(0);
         let is_memory = found.is_refused
-            && is_refusal(
-                trial.alloc,
-                name,
-                &found.bytes,
-                &case.expected,
-                case.given.part(0),
-            )?;
+            && is_refusal(trial.alloc, name, &found.bytes, &case.expected, part)?;
         if !is_same && !is_memory {
             return Ok(Some(miss_text(trial.alloc, name, case, team, &found.bytes)?));
         }
@@ -265,21 +258,29 @@ fn without_remarks(alloc: Global, block: &str) -> Result<String, AllocError> {
 /// `Fault::Line` if a line is not understood; `Fault::Memory`.
 fn cases_of<R>(trial: &Trial<'_, R>, options: &str, rest: &str) -> Result<Vec<Case>, Fault> {
     let options = Given::of_words(trial.alloc, options)?;
-    let mut cases = Vec::new(trial.alloc);
-    if let Some(lines) = rest.strip_prefix("trace\n") {
-        let (commands, expected) = trace_of(trial.alloc, lines)?;
-        let given = options.with(trial.alloc, &[commands])?;
-        cases.push(Case { given, expected })?;
-        return Ok(cases);
+    match rest.strip_prefix("trace\n") {
+        Some(lines) => trace_case(trial.alloc, &options, lines),
+        None => cases_with(trial, &options, rest),
     }
+}
+
+fn trace_case(alloc: Global, options: &Given, lines: &str) -> Result<Vec<Case>, Fault> {
+    let (commands, expected) = trace_of(alloc, lines)?;
+    let given = options.with(alloc, &[commands])?;
+    Ok(Vec::from_array(alloc, [Case { given, expected }])?)
+}
+
+/// The cases with these options, out of the parts and the answers.
+fn cases_with<R>(trial: &Trial<'_, R>, options: &Given, rest: &str) -> Result<Vec<Case>, Fault> {
     let (lines, expected) = rest.split_once("----\n").ok_or(BAD)?;
     let parts = parts_of(trial.alloc, lines, trial.pictures)?;
+    let mut cases = Vec::new(trial.alloc);
     if !expected.contains(" => ") {
-        cases.push(case_of(trial, &options, parts.as_slice(), expected)?)?;
+        cases.push(case_of(trial, options, parts.as_slice(), expected)?)?;
         return Ok(cases);
     }
     for line in expected.trim_end_matches('\n').split('\n') {
-        cases.push(line_case(trial, &options, parts.as_slice(), line)?)?;
+        cases.push(line_case(trial, options, parts.as_slice(), line)?)?;
     }
     Ok(cases)
 }
