@@ -5,7 +5,7 @@ pub mod CollectionSets
 pub mod Following
 pub mod Always
 pub mod Refused
-pub mod Buying
+pub mod Chosen
 pub mod Carried
 pub mod Planning
 pub mod Answered

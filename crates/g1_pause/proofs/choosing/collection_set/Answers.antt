@@ -1,7 +1,8 @@
-use Rattle.std.proofs.Common.{ℕ, Err, ◌∙◌, sym, ap, map, length}
+use Rattle.std.proofs.Common.{ℕ, Err, ◌∙◌, sym, subst, ap, map, length}
 use Rattle.std.proofs.lemmas.Result.{err_from_is_err_and}
 use Rattle.g1_pause.proofs.Refused.{named_refused}
-use Rattle.g1_pause.proofs.Buying.{bought_set, bought_by}
+use Rattle.g1_pause.proofs.Chosen.{bought_set, bought_by, given_set}
+use Rattle.g1_pause.specs.Bought.{IsListed}
 use Rattle.g1_pause.proofs.choosing.collection_set.Goals as goal
 
 pub returns-in_err-regions-in-Given-clause-refused : goal.returns-in_err-regions-in-Given-clause-refused
@@ -38,3 +39,14 @@ returns-in_ok-chosen-in-Budget-clause-bought g c =
       same = c.deref-in-Budget.ensures.value;
       counted = c.in_ok-live-in-Budget.ensures.counted;
     }) c.in_ok-chosen-in-Budget.ensures.order c.in_ok-chosen-in-Budget.ensures.paid
+
+pub returns-in_ok-chosen-in-Budget-clause-listed : goal.returns-in_ok-chosen-in-Budget-clause-listed
+returns-in_ok-chosen-in-Budget-clause-listed g c = tt
+
+pub returns-in_ok-regions-in-Given-clause-set : goal.returns-in_ok-regions-in-Given-clause-set
+returns-in_ok-regions-in-Given-clause-set g c =
+    given_set c.args.settings.now.cost c.args.settings.now.choice c.args.before.now.image.now c.heap-heap.result.now c.in-Given.list c.deref.result.now c.in_ok-regions-in-Given.regions.items
+    (sym c.choice.ensures ∙ c.in-Given.is) c.heap-heap.ensures.same c.deref.ensures.value c.in_ok-regions-in-Given.ensures.accepted c.in_ok-regions-in-Given.ensures.rising
+
+pub returns-in_ok-regions-in-Given-clause-listed : goal.returns-in_ok-regions-in-Given-clause-listed
+returns-in_ok-regions-in-Given-clause-listed g c = subst IsListed (sym (sym c.choice.ensures ∙ c.in-Given.is)) tt

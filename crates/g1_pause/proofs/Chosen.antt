@@ -1,6 +1,9 @@
--- What a budget buys, by what its steps go by.
-use Rattle.std.proofs.Common.{◌≡◌, ℕ, List, map, length, sym, subst}
+-- The set of a choice, by what its steps go by.
+use Rattle.std.proofs.Common.{◌≡◌, ℕ, List, map, filter, length, sym, subst}
+use Rattle.std.specs.Prelude.{Vec}
+use Rattle.std.specs.Global.{Global}
 use Rattle.g1_words.specs.Heap.{Heap, regions}
+use Rattle.g1_words.specs.Lists.{has}
 use Rattle.g1_words.specs.Live.{IsLiveBytes}
 use Rattle.g1_image.specs.Image.{Image}
 use Rattle.g1_image.specs.Cards.{refined}
@@ -8,9 +11,10 @@ use Rattle.g1_choose.specs.declared.parameters.Cost.{Cost}
 use Rattle.g1_choose.specs.Candidate.{IsCandidateOrder}
 use Rattle.g1_choose.specs.Choice.{IsChosen}
 use Rattle.g1_choose.specs.Bought.{IsPaid}
+use Rattle.g1_choose.specs.Named.{AreTakeable}
 use Rattle.g1_pause.specs.declared.choosing.Bought.{Bought}
 use Rattle.g1_pause.specs.declared.settings.Choice.{Choice}
-use Rattle.g1_pause.specs.declared.settings.Choice.TheVariants.{Budget}
+use Rattle.g1_pause.specs.declared.settings.Choice.TheVariants.{Budget, Given}
 use Rattle.g1_pause.specs.Answer.{IsSetFor}
 use Rattle.g1_pause.specs.Bought.{IsBought}
 
@@ -39,3 +43,8 @@ bought_by cost k choice i h dirty remembered lives b by order paid = record {
   order = rw (by.price, by.heap, by.sets, by.same) at order;
   paid = rw (by.price, by.log) at paid;
 }
+
+pub given_set : (cost : Cost) (choice : Choice) (i : Image) (h : Heap) (list : Vec ℕ Global) (xs set : List ℕ)
+    → choice ≡ Given list → h ≡ i.heap → xs ≡ list.items → AreTakeable h xs → set ≡ filter (has xs) (regions h) → IsSetFor cost i choice set
+given_set cost choice i h list xs set asked heap items accepted rising =
+    subst (λ (x : Choice). IsSetFor cost i x set) (sym asked) (rw (heap, items) at accepted, rw (heap, items) at rising)
