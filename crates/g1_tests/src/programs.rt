@@ -1,8 +1,8 @@
 //! The programs over streams in memory: streams that fail, bytes that are nearly an image, and sizes.
 use crate::expecting::expect_equal;
+use g1_tables::choice_lines;
 use g1_testing::{Stream, Trouble, pictures, raw, text};
 use g1heap_cli::{Call, Terminals};
-use g1pause_cli::choice_lines;
 use std::alloc::{AllocError, Global};
 use std::io::{self, ErrorKind, Read, Write};
 use std::process::Abort;

@@ -1,13 +1,12 @@
 //! What the program does with a request.
-use crate::listing::{candidates, live_lines};
 use crate::options::{Pause, Question, Request, Sharing, View, parse};
-use crate::show::table;
 use crate::usage::NAME;
 use g1_choose::Cost;
 use g1_command::{Refusal, deliver, read_all, refuse};
 use g1_image::{FromReader, Image, ToWriter, read_by, write};
 use g1_pause::{Choice, Settings, pause_run};
 use g1_rem::{Tracked, verify_by};
+use g1_tables::{candidates, live_lines, table};
 use g1_trace::run_text;
 use g1_words::Fault;
 use g1_work::Open;

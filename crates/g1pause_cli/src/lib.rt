@@ -8,11 +8,8 @@
 #![tactic(auto)]
 
 mod commands;
-mod listing;
 mod options;
-mod show;
 mod usage;
 
 pub use commands::program;
-pub use listing::choice_lines;
 pub use usage::NAME;

@@ -5,9 +5,9 @@ use Rattle.g1_choose.specs.declared.buying.Purchase.{Purchase}
 use Rattle.g1_choose.specs.Candidate.{IsCandidateOrder}
 use Rattle.g1_choose.specs.Bought.{IsPurchase}
 use Rattle.g1_text.specs.Lines.{text_of}
-use Rattle.g1pause_cli.specs.Tables.{choice_lines, line_of}
-use Rattle.g1pause_cli.proofs.Choosing.{lists_if_ok}
-use Rattle.g1pause_cli.proofs.listing.candidate_lines.Goals as goal
+use Rattle.g1_tables.specs.Tables.{choice_lines, line_of}
+use Rattle.g1_tables.proofs.Choosing.{lists_if_ok}
+use Rattle.g1_tables.proofs.listing.candidate_lines.Goals as goal
 
 pub returns-clause-text : goal.returns-clause-text
 returns-clause-text c =

@@ -4,8 +4,8 @@ use Rattle.std.proofs.lemmas.Grind.{div_ceil_times}
 use Rattle.g1_words.specs.Geometry.{Geometry}
 use Rattle.g1_words.specs.Heap.{Heap}
 use Rattle.g1_text.specs.Lines.{line_text, heading}
-use Rattle.g1pause_cli.proofs.TableText.{rows_joined}
-use Rattle.g1pause_cli.proofs.show.table.Goals as goal
+use Rattle.g1_tables.proofs.TableText.{rows_joined}
+use Rattle.g1_tables.proofs.show.table.Goals as goal
 
 pub returns-clause-text : goal.returns-clause-text
 returns-clause-text g c =

@@ -13,7 +13,7 @@ use Rattle.g1_choose.specs.Bought.{IsPurchase}
 use Rattle.g1_choose.proofs.Budget.{longest_from_paid, pause_cost-told}
 use Rattle.g1_text.specs.Lines.{line_text, text_of}
 use Rattle.g1_text.proofs.Printed.{text_append, text_map, take_all}
-use Rattle.g1pause_cli.specs.Tables.{live_line, live_lines, candidate_line, line_of, choice_lines, total_line, region_line_of, ListsChoice}
+use Rattle.g1_tables.specs.Tables.{live_line, live_lines, candidate_line, line_of, choice_lines, total_line, region_line_of, ListsChoice}
 
 take_least : {X : Type 0} (xs : List X) (n : ℕ) → take (min (length xs) n) xs ≡ take n xs
 take_least xs n = elim (cases_lt n (length xs)) [

@@ -2,9 +2,9 @@ use Rattle.std.proofs.Common.{ℕ, Vec, Global, ◌∙◌, [], ap, arith, string
 use Rattle.std.specs.Prelude.{slice_index}
 use Rattle.g1_text.specs.Lines.{line_text}
 use Rattle.g1_text.proofs.Printed.{one_number_more}
-use Rattle.g1pause_cli.specs.Tables.{live_line}
-use Rattle.g1pause_cli.proofs.Choosing.{live_end}
-use Rattle.g1pause_cli.proofs.listing.live_text.Goals as goal
+use Rattle.g1_tables.specs.Tables.{live_line}
+use Rattle.g1_tables.proofs.Choosing.{live_end}
+use Rattle.g1_tables.proofs.listing.live_text.Goals as goal
 
 pub loop-region-preserved : goal.loop-region-preserved
 loop-region-preserved c =

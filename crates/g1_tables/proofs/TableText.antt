@@ -7,8 +7,8 @@ use Rattle.g1_image.specs.Image.{Image}
 use Rattle.g1_work.specs.Each.{IsEachRun}
 use Rattle.g1_text.specs.Lines.{line_text, text_of, region_line}
 use Rattle.g1_text.proofs.Printed.{text_map, take_all}
-use Rattle.g1pause_cli.specs.Rows.{AreRows}
-use Rattle.g1pause_cli.proofs.Chunks.{each_out, chunks_join}
+use Rattle.g1_tables.specs.Rows.{AreRows}
+use Rattle.g1_tables.proofs.Chunks.{each_out, chunks_join}
 
 module _ {S Z : Type 0} (i : Image) (size chunks : ℕ) where
   -- a worker's run writes the rows of its chunk

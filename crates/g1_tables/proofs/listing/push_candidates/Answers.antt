@@ -1,8 +1,8 @@
 use Rattle.std.proofs.Common.{◌++◌, ◌∙◌, ap, sym, arith, flat_map, string_bytes}
 use Rattle.g1_text.specs.Lines.{line_text}
 use Rattle.g1_text.proofs.Printed.{take_all, text_map}
-use Rattle.g1pause_cli.specs.Tables.{line_of}
-use Rattle.g1pause_cli.proofs.listing.push_candidates.Goals as goal
+use Rattle.g1_tables.specs.Tables.{line_of}
+use Rattle.g1_tables.proofs.listing.push_candidates.Goals as goal
 
 pub returns : goal.returns
 returns c =

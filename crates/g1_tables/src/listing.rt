@@ -3,7 +3,7 @@ ghost use Rattle.std.specs.Prelude.{◌≡◌, ◌++◌, length, map, string_byt
 ghost use Rattle.g1_choose.specs.Cost.{IsCost};
 ghost use Rattle.g1_choose.specs.Choice.{MayBeLive};
 ghost use Rattle.g1_text.specs.Lines.{text_of};
-ghost use Rattle.g1pause_cli.specs.Tables.{live_lines, line_of, choice_lines, ListsChoice, IsLiveText, IsChoiceText};
+ghost use Rattle.g1_tables.specs.Tables.{live_lines, line_of, choice_lines, ListsChoice, IsLiveText, IsChoiceText};
 
 use g1_choose::{Candidate, Cost, buy, order};
 use g1_mark::live_bytes;

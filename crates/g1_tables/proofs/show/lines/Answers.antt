@@ -1,8 +1,8 @@
 use Rattle.std.proofs.Common.{arith, string_bytes}
 use Rattle.g1_text.specs.Lines.{line_text, region_line}
-use Rattle.g1pause_cli.proofs.Chunks.{one_row_more}
-use Rattle.g1pause_cli.proofs.TableText.{rows_end}
-use Rattle.g1pause_cli.proofs.show.lines.Goals as goal
+use Rattle.g1_tables.proofs.Chunks.{one_row_more}
+use Rattle.g1_tables.proofs.TableText.{rows_end}
+use Rattle.g1_tables.proofs.show.lines.Goals as goal
 
 pub loop-region-preserved : goal.loop-region-preserved
 loop-region-preserved c =

@@ -2,7 +2,7 @@
 ghost use Rattle.std.specs.Prelude.{◌≡◌, ◌≤◌, ◌<◌, ◌-◌, ◌*◌, ◌++◌, ℕ, map, flat_map, string_bytes, OnOk, IfOk, IfErr};
 ghost use Rattle.std.specs.List.{range_with_len};
 ghost use Rattle.g1_text.specs.Lines.{line_text, text_of, heading, region_line, table_lines};
-ghost use Rattle.g1pause_cli.specs.Rows.{AreRows};
+ghost use Rattle.g1_tables.specs.Rows.{AreRows};
 
 use g1_image::Image;
 use g1_pause::Settings;
@@ -66,7 +66,7 @@ impl<'a> Task for Rows<'a> {
     ghost use Rattle.std.specs.Prelude.{◌≡◌, ◌≤◌, ◌<◌, ◌*◌, ℕ, string_bytes};
     ghost use Rattle.g1_words.specs.declared.fault.Fault.TheVariants.{Memory};
     ghost use Rattle.g1_work.specs.Team.{most_chunk};
-    ghost use Rattle.g1pause_cli.specs.Rows.{AreRows};
+    ghost use Rattle.g1_tables.specs.Rows.{AreRows};
 
     ghost ready = { λ s _ k. (k * s.chunk < s.image.now.heap.geometry.n) × (s.chunk ≤ most_chunk) };
 
