@@ -26,20 +26,38 @@ pub(crate) fn push_dirty(
     Ok(())
 }
 
-// The cards that sets gain, each with the region, by card and then by region.
+// The cards that sets gain, each with the region's number, by card and then by region.
 fn gained_cards(
     alloc: Global,
     before: &[Vec<u32>],
     after: &[Vec<u32>],
-) -> Result<Vec<(u32, u32)>, AllocError> {
+) -> Result<Vec<(u32, usize)>, AllocError> {
     let mut gained = Vec::new(alloc);
-    for (region, (old, new)) in (0u32..).zip(before.iter().zip(after.iter())) {
-        for card in joined_cards(alloc, old.as_slice(), new.as_slice())?.iter() {
-            gained.push((*card, region))?;
+    for (region, old) in before.iter().enumerate() {
+        if let Some(new) = after.get(region) {
+            add_gained(&mut gained, region, old.as_slice(), new.as_slice())?;
         }
     }
     gained.sort_unstable();
     Ok(gained)
+}
+
+// Adds the cards that the set of a region gains.
+fn add_gained(
+    gained: &mut Vec<(u32, usize)>,
+    region: usize,
+    before: &[u32],
+    after: &[u32],
+) -> Result<(), AllocError> {
+    if before == after {
+        return Ok(());
+    }
+    for card in after {
+        if before.binary_search(card).is_err() {
+            gained.push((*card, region))?;
+        }
+    }
+    Ok(())
 }
 
 /// The cards of the second set that aren't in the first. Both rise.
@@ -60,7 +78,11 @@ pub(crate) fn joined_cards(
     Ok(joined)
 }
 
-fn push_dirty_card(text: &mut String, card: u32, gained: &[(u32, u32)]) -> Result<(), AllocError> {
+fn push_dirty_card(
+    text: &mut String,
+    card: u32,
+    gained: &[(u32, usize)],
+) -> Result<(), AllocError> {
     write!(text, "dirty {card} adds")?;
     let first = gained.partition_point(|pair| pair.0 < card);
     let mut some = false;

@@ -11,15 +11,21 @@ pub(crate) fn push_patches(
     heap: &Heap,
     prepared: &Prepared,
 ) -> Result<(), AllocError> {
-    let pairs = heap.roots().iter().zip(prepared.roots().iter());
-    for (number, (old, new)) in pairs.enumerate() {
-        if old != new {
-            push_patch(text, "root", number as u64, *old, *new)?;
-        }
-    }
+    push_roots(text, heap.roots(), prepared.roots())?;
     for (slot, new) in prepared.patches() {
         if is_kept(heap, prepared, *slot) {
             push_patch(text, "slot", *slot, word_at(heap, *slot), *new)?;
+        }
+    }
+    Ok(())
+}
+
+// A line for each root that changes.
+fn push_roots(text: &mut String, before: &[u64], after: &[u64]) -> Result<(), AllocError> {
+    for (number, old) in before.iter().enumerate() {
+        let new = after.get(number).copied().unwrap_or(*old);
+        if *old != new {
+            push_patch(text, "root", number as u64, *old, new)?;
         }
     }
     Ok(())
@@ -65,10 +71,11 @@ pub(crate) fn push_remembered(
     refined: &[Vec<u32>],
     after: &[Vec<u32>],
 ) -> Result<(), AllocError> {
-    for (region, (old, new)) in refined.iter().zip(after.iter()).enumerate() {
-        let (old, new) = (old.as_slice(), new.as_slice());
-        push_set_change(alloc, text, region, "gains", old, new)?;
-        push_set_change(alloc, text, region, "loses", new, old)?;
+    for (region, old) in refined.iter().enumerate() {
+        if let Some(new) = after.get(region) {
+            push_set_change(alloc, text, region, "gains", old, new)?;
+            push_set_change(alloc, text, region, "loses", new, old)?;
+        }
     }
     Ok(())
 }
@@ -96,9 +103,10 @@ pub(crate) fn push_regions(
     before: &[Region],
     after: &[Region],
 ) -> Result<(), AllocError> {
-    for (number, (old, new)) in before.iter().zip(after.iter()).enumerate() {
-        if old != new {
-            let Region { kind, top, .. } = *new;
+    for (number, old) in before.iter().enumerate() {
+        let new = after.get(number).copied().unwrap_or(*old);
+        if *old != new {
+            let Region { kind, top, .. } = new;
             writeln!(text, "region {number} {kind} top {top}")?;
         }
     }

@@ -77,7 +77,7 @@ fn compare_answer(
 
 // Whether the pause reports what the steps gave.
 fn agrees(steps: &Steps, report: &Report) -> bool {
-    report.set == steps.set
+    report.set.as_slice() == steps.plan.set()
         && report.to.as_slice() == steps.plan.to_space()
         && report.objects == steps.sizes.len() as u64
         && report.words == sum_of(&steps.sizes)

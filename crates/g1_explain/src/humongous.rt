@@ -143,16 +143,30 @@ pub(crate) fn push_humongous(
     keepers: &[Option<Finder>],
     freed: &[u32],
 ) -> Result<(), Failure> {
-    for (region, keeper) in (0u32..).zip(keepers.iter()) {
+    for region in 0..heap.geometry().regions() as u32 {
         if is_humongous(heap, region as usize) {
-            let at = heap.geometry().start(region);
-            write!(text, "humongous {at}")?;
-            match (keeper, freed.binary_search(&region)) {
-                (Some(finder), Err(_)) => push_kept(text, survivors, *finder)?,
-                (None, Ok(_)) => push_freed(text, heap, region, at)?,
-                _ => return Err(Failure::Contradiction),
-            }
+            let keeper = keepers.get(region as usize).copied().flatten();
+            push_fate(text, heap, survivors, region, keeper, freed)?;
         }
+    }
+    Ok(())
+}
+
+// The line of the humongous object of a region.
+fn push_fate(
+    text: &mut String,
+    heap: &Heap,
+    survivors: &[u64],
+    region: u32,
+    keeper: Option<Finder>,
+    freed: &[u32],
+) -> Result<(), Failure> {
+    let at = heap.geometry().start(region);
+    write!(text, "humongous {at}")?;
+    match (keeper, freed.binary_search(&region)) {
+        (Some(finder), Err(_)) => push_kept(text, survivors, finder)?,
+        (None, Ok(_)) => push_freed(text, heap, region, at)?,
+        _ => return Err(Failure::Contradiction),
     }
     Ok(())
 }

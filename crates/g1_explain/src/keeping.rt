@@ -45,53 +45,78 @@ pub fn why<R: Threads + Sync>(
     image: Image,
     at: u64,
 ) -> Result<String, Failure> {
-    let starts = Starts::build(alloc, image.heap())?;
-    explain_object(rt, alloc, &image, &starts, at)
+    lines_of(rt, alloc, &image, at)
+}
+
+fn lines_of<R: Threads + Sync>(
+    rt: &R,
+    alloc: Global,
+    image: &Image,
+    at: u64,
+) -> Result<String, Failure> {
+    let mut text = String::new(alloc);
+    explain_object(rt, alloc, &mut text, image, at)?;
+    Ok(text)
 }
 
 fn explain_object<R: Threads + Sync>(
     rt: &R,
     alloc: Global,
+    text: &mut String,
     image: &Image,
-    starts: &Starts,
     at: u64,
-) -> Result<String, Failure>
-    requires { IsStartsOf image.now.heap starts.now }
-{
-    match explain_live(rt, alloc, image.heap(), starts, at)? {
-        Some(text) => Ok(text),
-        None => explain_dead(rt, alloc, image, starts, at),
+) -> Result<(), Failure> {
+    let starts = Starts::build(alloc, image.heap())?;
+    if explain_live(rt, alloc, text, image.heap(), &starts, at)? {
+        Ok(())
+    } else {
+        explain_dead(rt, alloc, text, image, &starts, at)
     }
 }
 
-// The path from a root to the object, if there is one.
+// Adds the path from a root to the object, and returns whether there is one.
 fn explain_live<R: Threads + Sync>(
     rt: &R,
     alloc: Global,
+    text: &mut String,
     heap: &Heap,
     starts: &Starts,
     at: u64,
-) -> Result<Option<String>, Failure>
+) -> Result<bool, Failure>
     requires { IsStartsOf heap.now starts.now }
 {
     let team = Team::new(WORKERS, CHUNK);
     let live = live_objects(rt, alloc, heap, starts, team, &Open)?;
-    match path_to(alloc, heap, starts, &[], &live, at)? {
-        Some(path) => Ok(Some(live_lines(alloc, heap, &live, at, &path)?)),
-        None => Ok(None),
-    }
+    explain_found(alloc, text, heap, starts, &live, at)
 }
 
-fn live_lines(
+// Adds the path from a root to the object, if it is among those that the roots reach.
+fn explain_found(
     alloc: Global,
+    text: &mut String,
+    heap: &Heap,
+    starts: &Starts,
+    live: &[u64],
+    at: u64,
+) -> Result<bool, Failure>
+    requires { IsStartsOf heap.now starts.now }
+{
+    let Some(path) = path_to(alloc, heap, starts, &[], live, at)? else {
+        return Ok(false);
+    };
+    push_live(text, heap, live, at, &path)?;
+    Ok(true)
+}
+
+fn push_live(
+    text: &mut String,
     heap: &Heap,
     live: &[u64],
     at: u64,
     path: &[Finder],
-) -> Result<String, AllocError> {
-    let mut text = path_line(alloc, "live", at, path)?;
-    push_path(&mut text, heap, live, path)?;
-    Ok(text)
+) -> Result<(), AllocError> {
+    push_path_line(text, "live", at, path)?;
+    push_path(text, heap, live, path)
 }
 
 // Among those that a search found for these cards: the finders that lead to the object at an address, the
@@ -135,18 +160,26 @@ fn path_back(alloc: Global, finders: &[Finder], index: usize) -> Result<Vec<Find
     Ok(path)
 }
 
-// The first line of a path to the object at an address.
-fn path_line(alloc: Global, word: &str, at: u64, path: &[Finder]) -> Result<String, AllocError> {
-    let mut text = format!(in alloc; "{word} {at}")?;
+// Adds the first line of a path to the object at an address.
+fn push_path_line(
+    text: &mut String,
+    word: &str,
+    at: u64,
+    path: &[Finder],
+) -> Result<(), AllocError> {
+    write!(text, "{word} {at}")?;
     for finder in path {
-        match finder {
-            Finder::Root { number } => write!(text, " root {number}")?,
-            Finder::Card { card, slot } => write!(text, " card {card} slot {slot}")?,
-            Finder::Object { slot, .. } => write!(text, " slot {slot}")?,
-        }
+        push_reference(text, *finder)?;
     }
-    text.push('\n')?;
-    Ok(text)
+    text.push('\n')
+}
+
+fn push_reference(text: &mut String, finder: Finder) -> Result<(), AllocError> {
+    match finder {
+        Finder::Root { number } => write!(text, " root {number}"),
+        Finder::Card { card, slot } => write!(text, " card {card} slot {slot}"),
+        Finder::Object { slot, .. } => write!(text, " slot {slot}"),
+    }
 }
 
 // Adds a line for each object on a path.
@@ -180,10 +213,11 @@ fn target_of(heap: &Heap, found: &[u64], finder: Finder) -> u64 {
 fn explain_dead<R: Threads + Sync>(
     rt: &R,
     alloc: Global,
+    text: &mut String,
     image: &Image,
     starts: &Starts,
     at: u64,
-) -> Result<String, Failure>
+) -> Result<(), Failure>
     requires { IsStartsOf image.now.heap starts.now }
 {
     let heap = image.heap();
@@ -200,10 +234,10 @@ fn explain_dead<R: Threads + Sync>(
     };
     let cards = cards_into_region(alloc, image, region)?;
     if heap.region(region).kind.is_humongous_first() {
-        return explain_humongous(alloc, &target, &cards);
+        return Ok(explain_humongous(alloc, text, &target, &cards)?);
     }
     let found = survivors_in(rt, alloc, &target, &cards)?;
-    explain_ordinary(alloc, &target, &cards, &found)
+    explain_ordinary(alloc, text, &target, &cards, &found)
 }
 
 // The objects that would survive if the object's region alone were collected, from these cards.
@@ -233,7 +267,12 @@ fn survivors_in<R: Threads + Sync>(
 }
 
 // A humongous object: a slot of another object keeps it, or it is garbage.
-fn explain_humongous(alloc: Global, target: &Target<'_>, cards: &[u32]) -> Result<String, Failure>
+fn explain_humongous(
+    alloc: Global,
+    text: &mut String,
+    target: &Target<'_>,
+    cards: &[u32],
+) -> Result<(), AllocError>
     requires { IsStartsOf target.now.image.now.heap target.now.starts.now }
 {
     let Target {
@@ -245,31 +284,31 @@ fn explain_humongous(alloc: Global, target: &Target<'_>, cards: &[u32]) -> Resul
     let heap = image.heap();
     let none = mark_regions(alloc, heap, &[])?;
     match card_keeper(alloc, heap, starts, &none, u64::from(region), cards) {
-        Some(finder) => Ok(kept_lines(alloc, target, &[at], &[finder])?),
-        None => Ok(garbage_line(alloc, target)?),
+        Some(finder) => push_kept(text, target, &[at], &[finder]),
+        None => push_garbage(text, target),
     }
 }
 
 // An object of an ordinary region, of whose objects these would survive.
 fn explain_ordinary(
     alloc: Global,
+    text: &mut String,
     target: &Target<'_>,
     cards: &[u32],
     found: &[u64],
-) -> Result<String, Failure>
+) -> Result<(), Failure>
     requires { IsStartsOf target.now.image.now.heap target.now.starts.now }
 {
     let heap = target.image.heap();
     match path_to(alloc, heap, target.starts, cards, found, target.at)? {
-        Some(path) => Ok(kept_lines(alloc, target, found, &path)?),
-        None => Ok(garbage_line(alloc, target)?),
+        Some(path) => Ok(push_kept(text, target, found, &path)?),
+        None => Ok(push_garbage(text, target)?),
     }
 }
 
-fn garbage_line(alloc: Global, target: &Target<'_>) -> Result<String, AllocError> {
-    let mut text = format!(in alloc; "garbage {}\n", target.at)?;
-    push_pin(&mut text, target)?;
-    Ok(text)
+fn push_garbage(text: &mut String, target: &Target<'_>) -> Result<(), AllocError> {
+    writeln!(text, "garbage {}", target.at)?;
+    push_pin(text, target)
 }
 
 // Adds that no pause takes the region, if it is pinned.
@@ -281,23 +320,22 @@ fn push_pin(text: &mut String, target: &Target<'_>) -> Result<(), AllocError> {
     }
 }
 
-fn kept_lines(
-    alloc: Global,
+fn push_kept(
+    text: &mut String,
     target: &Target<'_>,
     found: &[u64],
     path: &[Finder],
-) -> Result<String, AllocError>
+) -> Result<(), AllocError>
     requires { IsStartsOf target.now.image.now.heap target.now.starts.now }
 {
     let heap = target.image.heap();
-    let mut text = path_line(alloc, "kept", target.at, path)?;
+    push_path_line(text, "kept", target.at, path)?;
     if let Some(Finder::Card { card, slot }) = path.first() {
-        push_card(&mut text, target, *card)?;
-        push_holder(&mut text, heap, target.starts, *card, *slot)?;
+        push_card(text, target, *card)?;
+        push_holder(text, heap, target.starts, *card, *slot)?;
     }
-    push_path(&mut text, heap, found, path)?;
-    push_pin(&mut text, target)?;
-    Ok(text)
+    push_path(text, heap, found, path)?;
+    push_pin(text, target)
 }
 
 // Why a card is looked at if the region is collected.

@@ -32,9 +32,22 @@ pub(crate) fn push_survivors(
     if finders.len() < survivors.len() {
         return Err(Failure::Contradiction);
     }
-    for (at, finder) in survivors.iter().zip(finders.iter()) {
-        push_object(text, heap, "survivor", *at)?;
-        push_found(text, survivors, *finder)?;
+    push_each(text, heap, survivors, &finders)?;
+    Ok(())
+}
+
+// The line of each survivor, with its finder.
+fn push_each(
+    text: &mut String,
+    heap: &Heap,
+    survivors: &[u64],
+    finders: &[Finder],
+) -> Result<(), AllocError> {
+    for (index, at) in survivors.iter().enumerate() {
+        if let Some(finder) = finders.get(index) {
+            push_object(text, heap, "survivor", *at)?;
+            push_found(text, survivors, *finder)?;
+        }
     }
     Ok(())
 }
@@ -94,27 +107,27 @@ pub(crate) fn push_places(
     sizes: &[u64],
 ) -> Result<(), AllocError> {
     let places = plan.places();
-    let moves = plan.survivors().iter().zip(places.iter());
-    for (index, ((at, place), size)) in moves.zip(sizes.iter()).enumerate() {
-        writeln!(text, "place {at} at {place}")?;
-        if let Some(next) = places.get(index.saturating_add(1)) {
-            push_gap(text, heap, place.saturating_add(*size), *place, *next)?;
+    for (index, at) in plan.survivors().iter().enumerate() {
+        if let (Some(place), Some(size)) = (places.get(index), sizes.get(index)) {
+            writeln!(text, "place {at} at {place}")?;
+            let next = places.get(index.saturating_add(1)).copied();
+            push_gap(text, heap, place.saturating_add(*size), *place, next)?;
         }
     }
     Ok(())
 }
 
-// The gap behind the last survivor in a region, which ends at an address.
+// The gap behind a survivor that ends at an address, if the next one is in another region.
 fn push_gap(
     text: &mut String,
     heap: &Heap,
     end: u64,
     place: u64,
-    next: u64,
+    next: Option<u64>,
 ) -> Result<(), AllocError> {
     let geometry = heap.geometry();
     let region = region_of(&geometry, place);
-    if region == region_of(&geometry, next) {
+    if region == region_of(&geometry, next.unwrap_or(place)) {
         return Ok(());
     }
     let start = region.saturating_mul(geometry.region_words());
@@ -129,9 +142,11 @@ fn push_gap(
 
 /// Adds a line for each survivor: its address before, its address after, and its words.
 pub(crate) fn push_map(text: &mut String, plan: &Plan, sizes: &[u64]) -> Result<(), AllocError> {
-    let pairs = plan.survivors().iter().zip(plan.places().iter());
-    for ((at, place), size) in pairs.zip(sizes.iter()) {
-        writeln!(text, "{at} {place} {size}")?;
+    let places = plan.places();
+    for (index, at) in plan.survivors().iter().enumerate() {
+        if let (Some(place), Some(size)) = (places.get(index), sizes.get(index)) {
+            writeln!(text, "{at} {place} {size}")?;
+        }
     }
     Ok(())
 }

@@ -3,6 +3,8 @@ ghost use Rattle.std.specs.Prelude.{◌≡◌, map};
 ghost use Rattle.g1_words.specs.Heap.{regions};
 ghost use Rattle.g1_image.specs.Cards.{refined};
 ghost use Rattle.g1_rem.specs.Starts.{IsStartsOf};
+ghost use Rattle.g1_rem.specs.EntryCards.{cards_into};
+ghost use Rattle.g1_words.specs.Survivors.{Survivors};
 ghost use Rattle.g1_pause.specs.Answer.{IsSetFor};
 
 use crate::cards::{mark_regions, push_cards, push_dirty};
@@ -27,9 +29,10 @@ use std::thread::Threads;
 /// What the steps of a pause gave.
 #[derive(Drop)]
 pub(crate) struct Steps {
-    pub(crate) set: Vec<u32>,
     pub(crate) plan: Plan,
     pub(crate) prepared: Prepared,
+    /// How many cards lead into the set.
+    pub(crate) cards: usize,
     /// The words of each survivor.
     pub(crate) sizes: Vec<u64>,
 }
@@ -59,12 +62,49 @@ pub(crate) fn take_steps<R: Threads + Sync>(
         starts: &starts,
         remembered: &remembered,
     };
-    let collection = collection_set(rt, alloc, &before, settings, &Open)?;
+    steps_before(rt, alloc, text, form, tracked, &before, settings)
+}
+
+// The steps before the pause writes, and the lines of what it writes.
+fn steps_before<R: Threads + Sync>(
+    rt: &R,
+    alloc: Global,
+    text: &mut String,
+    form: Form,
+    tracked: &Tracked,
+    before: &Before<'_>,
+    settings: &Settings,
+) -> Result<Steps, Failure>
+    requires image { before.now.image.now ≡ tracked.now }
+    requires starts { IsStartsOf tracked.now.heap before.now.starts.now }
+    requires remembered { map (λ s. s.items) before.now.remembered.now ≡ map (refined tracked.now) (regions tracked.now.heap) }
+{
+    let steps = steps_of_choice(rt, alloc, text, form, tracked, before, settings)?;
+    push_writes(alloc, text, form, before, &steps)?;
+    push_totals(text, before.image.heap(), &steps)?;
+    Ok(steps)
+}
+
+// The choice of a set, and the calls that follow it.
+fn steps_of_choice<R: Threads + Sync>(
+    rt: &R,
+    alloc: Global,
+    text: &mut String,
+    form: Form,
+    tracked: &Tracked,
+    before: &Before<'_>,
+    settings: &Settings,
+) -> Result<Steps, Failure>
+    requires image { before.now.image.now ≡ tracked.now }
+    requires starts { IsStartsOf tracked.now.heap before.now.starts.now }
+    requires remembered { map (λ s. s.items) before.now.remembered.now ≡ map (refined tracked.now) (regions tracked.now.heap) }
+{
+    let collection = collection_set(rt, alloc, before, settings, &Open)?;
     if let Some(bought) = &collection.bought {
-        push_bought(text, &before, &settings.cost(), bought)?;
+        push_bought(text, before, &settings.cost(), bought)?;
     }
     let set = collection.regions;
-    steps_of_set(rt, alloc, text, form, tracked, &before, settings, set)
+    steps_of_set(rt, alloc, text, form, tracked, before, settings, &set)
 }
 
 // The calls that follow the choice of a set.
@@ -76,17 +116,41 @@ fn steps_of_set<R: Threads + Sync>(
     tracked: &Tracked,
     before: &Before<'_>,
     settings: &Settings,
-    set: Vec<u32>,
+    set: &[u32],
 ) -> Result<Steps, Failure>
     requires image { before.now.image.now ≡ tracked.now }
     requires starts { IsStartsOf tracked.now.heap before.now.starts.now }
     requires remembered { map (λ s. s.items) before.now.remembered.now ≡ map (refined tracked.now) (regions tracked.now.heap) }
-    requires set { IsSetFor settings.now.cost tracked.now settings.now.choice set.items }
+    requires set { IsSetFor settings.now.cost tracked.now settings.now.choice set.now }
+{
+    let heap = image(tracked).heap();
+    let cards = cards_into(alloc, heap, before.remembered, set)?;
+    push_cards(alloc, text, form, before, set, &cards)?;
+    steps_of_cards(
+        rt, alloc, text, form, tracked, before, settings, set, &cards,
+    )
+}
+
+// The survivors, and the calls that follow them, from the cards that lead into a set.
+fn steps_of_cards<R: Threads + Sync>(
+    rt: &R,
+    alloc: Global,
+    text: &mut String,
+    form: Form,
+    tracked: &Tracked,
+    before: &Before<'_>,
+    settings: &Settings,
+    set: &[u32],
+    cards: &[u32],
+) -> Result<Steps, Failure>
+    requires image { before.now.image.now ≡ tracked.now }
+    requires starts { IsStartsOf tracked.now.heap before.now.starts.now }
+    requires remembered { map (λ s. s.items) before.now.remembered.now ≡ map (refined tracked.now) (regions tracked.now.heap) }
+    requires set { IsSetFor settings.now.cost tracked.now settings.now.choice set.now }
+    requires cards { cards.now ≡ cards_into tracked.now.heap (map (λ s. s.items) before.now.remembered.now) set.now }
 {
     let heap = image(tracked).heap();
     let (workers, chunk) = (settings.workers(), settings.chunk());
-    let cards = cards_into(alloc, heap, before.remembered, &set)?;
-    push_cards(alloc, text, form, before, &set, &cards)?;
     g1_copy::laws::cards_lead_in();
     g1_frontier::laws::refined_lead_in();
     let survivors = discover(
@@ -94,48 +158,52 @@ fn steps_of_set<R: Threads + Sync>(
         alloc,
         heap,
         before.starts,
-        &set,
-        &cards,
+        set,
+        cards,
         workers,
         chunk,
         &Open,
     )?;
-    push_survivors(alloc, text, form, before, &cards, &survivors)?;
+    push_survivors(alloc, text, form, before, cards, &survivors)?;
+    steps_of_survivors(rt, alloc, tracked, before, settings, set, cards, &survivors)
+}
+
+// The calls that follow the search for the survivors.
+fn steps_of_survivors<R: Threads + Sync>(
+    rt: &R,
+    alloc: Global,
+    tracked: &Tracked,
+    before: &Before<'_>,
+    settings: &Settings,
+    set: &[u32],
+    cards: &[u32],
+    survivors: &[u64],
+) -> Result<Steps, Failure>
+    requires starts { IsStartsOf tracked.now.heap before.now.starts.now }
+    requires remembered { map (λ s. s.items) before.now.remembered.now ≡ map (refined tracked.now) (regions tracked.now.heap) }
+    requires set { IsSetFor settings.now.cost tracked.now settings.now.choice set.now }
+    requires cards { cards.now ≡ cards_into tracked.now.heap (map (λ s. s.items) before.now.remembered.now) set.now }
+    requires survivors { Survivors tracked.now.heap set.now survivors.now }
+{
+    let heap = image(tracked).heap();
     g1_layout::laws::placeable();
-    let plan = place(alloc, heap, &set, &survivors)?;
+    let plan = place(alloc, heap, set, survivors)?;
     let basis = Basis {
         tracked,
         starts: before.starts,
         remembered: before.remembered,
-        set: &set,
-        plan: &plan,
-        cards: &cards,
-    };
-    let prepared = prepare_on(rt, alloc, &basis, workers)?;
-    let sizes = sizes_of(alloc, heap, &survivors)?;
-    let steps = Steps {
         set,
+        plan: &plan,
+        cards,
+    };
+    let prepared = prepare_on(rt, alloc, &basis, settings.workers())?;
+    let sizes = sizes_of(alloc, heap, survivors)?;
+    Ok(Steps {
         plan,
         prepared,
+        cards: cards.len(),
         sizes,
-    };
-    end_steps(alloc, text, form, before, steps, cards.len())
-}
-
-// Adds the lines of what the pause writes, and the totals.
-fn end_steps(
-    alloc: Global,
-    text: &mut String,
-    form: Form,
-    before: &Before<'_>,
-    steps: Steps,
-    cards: usize,
-) -> Result<Steps, Failure>
-    requires { IsStartsOf before.now.image.now.heap before.now.starts.now }
-{
-    push_writes(alloc, text, form, before, &steps)?;
-    push_totals(text, before.image.heap(), &steps, cards)?;
-    Ok(steps)
+    })
 }
 
 // The lines of what the pause writes. A map has none.
@@ -179,7 +247,7 @@ fn push_humongous_objects(
     } = *before;
     let heap = image.heap();
     let survivors = steps.plan.survivors();
-    let set = mark_regions(alloc, heap, &steps.set)?;
+    let set = mark_regions(alloc, heap, steps.plan.set())?;
     let keepers = keepers(alloc, heap, starts, remembered, &set, survivors)?;
     push_humongous(text, heap, survivors, &keepers, steps.prepared.humongous())
 }
@@ -189,19 +257,21 @@ pub(crate) fn push_room(text: &mut String, need: u64, free: u64) -> Result<(), A
     writeln!(text, "room need {need} free {free}")
 }
 
-fn push_totals(
-    text: &mut String,
-    heap: &Heap,
-    steps: &Steps,
-    cards: usize,
-) -> Result<(), AllocError> {
-    let (regions, objects) = (steps.set.len(), steps.sizes.len());
+fn push_totals(text: &mut String, heap: &Heap, steps: &Steps) -> Result<(), AllocError> {
+    let regions = steps.plan.set().len();
     let humongous = steps.prepared.humongous().len();
+    let objects = steps.sizes.len();
     let bytes = sum_of(&steps.sizes).saturating_mul(8);
+    write!(text, "pause regions {regions} humongous {humongous}")?;
+    write!(text, " objects {objects} bytes {bytes}")?;
+    push_counts(text, heap, steps)
+}
+
+// Ends the line of the totals with what is counted: cards, slots, and free regions before and after.
+fn push_counts(text: &mut String, heap: &Heap, steps: &Steps) -> Result<(), AllocError> {
+    let cards = steps.cards;
     let slots = patch_count(heap, &steps.prepared);
     let before = free_count(heap.regions());
     let after = free_count(steps.prepared.regions());
-    write!(text, "pause regions {regions} humongous {humongous}")?;
-    write!(text, " objects {objects} bytes {bytes}")?;
     writeln!(text, " cards {cards} slots {slots} free {before} {after}")
 }
