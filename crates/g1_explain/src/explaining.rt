@@ -1,9 +1,6 @@
 //! The lines of a pause.
-use crate::checking::check_pause;
-use crate::failure::Failure;
-use crate::form::Form;
-use crate::places::push_map;
-use crate::steps::{Steps, push_room, take_steps};
+use crate::steps::take_steps;
+use g1_facts::{Failure, Form, Steps, check_pause, push_map, push_room};
 use g1_image::Image;
 use g1_pause::Settings;
 use g1_rem::{Tracked, verify};

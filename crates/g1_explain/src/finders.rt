@@ -1,36 +1,38 @@
 //! What finds each object: the first reference to it, in the order of the search.
 ghost use Rattle.g1_rem.specs.Starts.{IsStartsOf};
 
-use crate::cards::{card_slots, word_at};
+use crate::cards::card_slots;
+use g1_facts::{Failure, Finder, Form, push_each, slots_at, word_at};
+use g1_pause::Before;
 use g1_rem::Starts;
-use g1_words::{Heap, Object, header, slots};
+use g1_words::Heap;
 use std::alloc::{AllocError, Global};
 
-/// A reference that leads to an object.
-#[derive(Clone, Copy)]
-pub(crate) enum Finder {
-    /// The root of this number.
-    Root { number: usize },
-    /// The slot at this address, on this card.
-    Card { card: u32, slot: u64 },
-    /// The slot of this number of the object with this index in the list of those that were found.
-    Object { index: usize, slot: usize },
-}
-
-/// Adds what a finder is.
-pub(crate) fn push_finder(
+/// Adds a line for each survivor: its numbers, and what finds it. A map has none.
+///
+/// # Errors
+///
+/// `Failure::Contradiction` if these cards lead to other survivors.
+pub(crate) fn push_survivors(
+    alloc: Global,
     text: &mut String,
-    found: &[u64],
-    finder: Finder,
-) -> Result<(), AllocError> {
-    match finder {
-        Finder::Root { number } => write!(text, "root {number}"),
-        Finder::Card { card, slot } => write!(text, "card {card} slot {slot}"),
-        Finder::Object { index, slot } => {
-            let at = found.get(index).copied().unwrap_or(0);
-            write!(text, "object {at} slot {slot}")
-        }
+    form: Form,
+    before: &Before<'_>,
+    cards: &[u32],
+    survivors: &[u64],
+) -> Result<(), Failure>
+    requires { IsStartsOf before.now.image.now.heap before.now.starts.now }
+{
+    if form == Form::Map {
+        return Ok(());
     }
+    let heap = before.image.heap();
+    let finders = finders(alloc, heap, before.starts, cards, survivors)?;
+    if finders.len() < survivors.len() {
+        return Err(Failure::Contradiction);
+    }
+    push_each(text, heap, survivors, &finders)?;
+    Ok(())
 }
 
 // The objects in the order in which a search finds them, the finders of the first ones, and the reference
@@ -135,39 +137,4 @@ fn meet_slots(index: usize, slots: &[u64], meeting: &mut Meeting<'_>) -> Result<
         meeting.meet(*word, Finder::Object { index, slot })?;
     }
     Ok(())
-}
-
-/// The object whose header is at an address, if it ends within the heap.
-pub(crate) fn object_in(heap: &Heap, at: u64) -> Option<Object> {
-    let words = heap.words();
-    let length = words.len() as u64;
-    if at >= length {
-        return None;
-    }
-    let object = header(words, at);
-    if object.refs < object.size && object.size <= length - at {
-        Some(object)
-    } else {
-        None
-    }
-}
-
-/// The reference words of the object at an address.
-pub(crate) fn slots_at(heap: &Heap, at: u64) -> &[u64] {
-    let words = heap.words();
-    let length = words.len() as u64;
-    if at >= length {
-        return &[];
-    }
-    let object = header(words, at);
-    if object.refs < object.size && object.size <= length - at {
-        slots(words, &object)
-    } else {
-        &[]
-    }
-}
-
-/// The words of the object at an address, the header included.
-pub(crate) fn size_in(heap: &Heap, at: u64) -> u64 {
-    object_in(heap, at).map_or(0, |object| object.size)
 }

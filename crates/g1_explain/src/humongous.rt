@@ -1,11 +1,9 @@
-//! Humongous objects: what references each, and which are freed.
+//! What references each humongous object.
 ghost use Rattle.std.specs.Prelude.{◌<◌};
 ghost use Rattle.g1_rem.specs.Starts.{IsStartsOf};
 
-use crate::cards::{card_slots, is_marked, word_at};
-use crate::failure::Failure;
-use crate::finders::{Finder, size_in, slots_at};
-use crate::places::push_found;
+use crate::cards::card_slots;
+use g1_facts::{Finder, is_humongous, is_marked, size_in, slots_at, word_at};
 use g1_rem::Starts;
 use g1_words::{Heap, Marks, region_of};
 use std::alloc::{AllocError, Global};
@@ -29,12 +27,6 @@ pub(crate) fn keepers(
         keep_by_survivors(heap, survivors, &mut keepers);
     }
     Ok(keepers)
-}
-
-fn is_humongous(heap: &Heap, region: usize) -> bool {
-    heap.regions()
-        .get(region)
-        .is_some_and(|region| region.kind.is_humongous_first())
 }
 
 // A reference word keeps the humongous object that it references, if none before it does.
@@ -129,61 +121,4 @@ fn keep_by_slots(heap: &Heap, index: usize, slots: &[u64], keepers: &mut [Option
     for (slot, word) in slots.iter().enumerate() {
         keep(heap, keepers, *word, Finder::Object { index, slot });
     }
-}
-
-/// Adds a line for each humongous object: what keeps it, or the regions that are freed with it.
-///
-/// # Errors
-///
-/// `Failure::Contradiction` if the objects that nothing keeps aren't those that are freed.
-pub(crate) fn push_humongous(
-    text: &mut String,
-    heap: &Heap,
-    survivors: &[u64],
-    keepers: &[Option<Finder>],
-    freed: &[u32],
-) -> Result<(), Failure> {
-    for region in 0..heap.geometry().regions() as u32 {
-        if is_humongous(heap, region as usize) {
-            let keeper = keepers.get(region as usize).copied().flatten();
-            push_fate(text, heap, survivors, region, keeper, freed)?;
-        }
-    }
-    Ok(())
-}
-
-// The line of the humongous object of a region.
-fn push_fate(
-    text: &mut String,
-    heap: &Heap,
-    survivors: &[u64],
-    region: u32,
-    keeper: Option<Finder>,
-    freed: &[u32],
-) -> Result<(), Failure> {
-    let at = heap.geometry().start(region);
-    write!(text, "humongous {at}")?;
-    match (keeper, freed.binary_search(&region)) {
-        (Some(finder), Err(_)) => push_kept(text, survivors, finder)?,
-        (None, Ok(_)) => push_freed(text, heap, region, at)?,
-        _ => return Err(Failure::Contradiction),
-    }
-    Ok(())
-}
-
-// Ends the line of an object with what keeps it.
-fn push_kept(text: &mut String, survivors: &[u64], finder: Finder) -> Result<(), AllocError> {
-    text.push_str(" kept")?;
-    push_found(text, survivors, finder)
-}
-
-// Ends the line of the object at an address with its regions.
-fn push_freed(text: &mut String, heap: &Heap, region: u32, at: u64) -> Result<(), AllocError> {
-    text.push_str(" freed")?;
-    let first = u64::from(region);
-    let end = first.saturating_add(heap.geometry().regions_for(size_in(heap, at)));
-    for number in first..end {
-        write!(text, " {number}")?;
-    }
-    text.push('\n')
 }

@@ -3,11 +3,12 @@ ghost use Rattle.std.specs.Prelude.{◌<◌};
 ghost use Rattle.g1_rem.specs.Starts.{IsStartsOf};
 ghost use Rattle.g1_rem.specs.Entries.{AreEntryCards};
 
-use crate::cards::{mark_regions, word_at};
-use crate::failure::Failure;
-use crate::finders::{Finder, finders, size_in, slots_at};
+use crate::finders::finders;
 use crate::humongous::card_keeper;
-use crate::places::{push_found, push_object};
+use g1_facts::{
+    Failure, Finder, mark_regions, push_card, push_garbage, push_object, push_path, push_path_line,
+    push_pin, size_in,
+};
 use g1_frontier::discover;
 use g1_image::Image;
 use g1_mark::live_objects;
@@ -160,55 +161,6 @@ fn path_back(alloc: Global, finders: &[Finder], index: usize) -> Result<Vec<Find
     Ok(path)
 }
 
-// Adds the first line of a path to the object at an address.
-fn push_path_line(
-    text: &mut String,
-    word: &str,
-    at: u64,
-    path: &[Finder],
-) -> Result<(), AllocError> {
-    write!(text, "{word} {at}")?;
-    for finder in path {
-        push_reference(text, *finder)?;
-    }
-    text.push('\n')
-}
-
-fn push_reference(text: &mut String, finder: Finder) -> Result<(), AllocError> {
-    match finder {
-        Finder::Root { number } => write!(text, " root {number}"),
-        Finder::Card { card, slot } => write!(text, " card {card} slot {slot}"),
-        Finder::Object { slot, .. } => write!(text, " slot {slot}"),
-    }
-}
-
-// Adds a line for each object on a path.
-fn push_path(
-    text: &mut String,
-    heap: &Heap,
-    found: &[u64],
-    path: &[Finder],
-) -> Result<(), AllocError> {
-    for finder in path {
-        push_object(text, heap, "object", target_of(heap, found, *finder))?;
-        push_found(text, found, *finder)?;
-    }
-    Ok(())
-}
-
-// The address of the object that a finder leads to.
-fn target_of(heap: &Heap, found: &[u64], finder: Finder) -> u64 {
-    let word = match finder {
-        Finder::Root { number } => heap.roots().get(number).copied(),
-        Finder::Card { slot, .. } => Some(word_at(heap, slot)),
-        Finder::Object { index, slot } => {
-            let at = found.get(index).copied().unwrap_or(0);
-            slots_at(heap, at).get(slot).copied()
-        }
-    };
-    word.unwrap_or(0).saturating_sub(1)
-}
-
 // An object that no root leads to.
 fn explain_dead<R: Threads + Sync>(
     rt: &R,
@@ -285,7 +237,7 @@ fn explain_humongous(
     let none = mark_regions(alloc, heap, &[])?;
     match card_keeper(alloc, heap, starts, &none, u64::from(region), cards) {
         Some(finder) => push_kept(text, target, &[at], &[finder]),
-        None => push_garbage(text, target),
+        None => push_garbage(text, heap, region, at),
     }
 }
 
@@ -302,21 +254,7 @@ fn explain_ordinary(
     let heap = target.image.heap();
     match path_to(alloc, heap, target.starts, cards, found, target.at)? {
         Some(path) => Ok(push_kept(text, target, found, &path)?),
-        None => Ok(push_garbage(text, target)?),
-    }
-}
-
-fn push_garbage(text: &mut String, target: &Target<'_>) -> Result<(), AllocError> {
-    writeln!(text, "garbage {}", target.at)?;
-    push_pin(text, target)
-}
-
-// Adds that no pause takes the region, if it is pinned.
-fn push_pin(text: &mut String, target: &Target<'_>) -> Result<(), AllocError> {
-    let region = target.region;
-    match target.image.heap().regions().get(region as usize) {
-        Some(entry) if entry.pinned => writeln!(text, "pinned {region}"),
-        _ => Ok(()),
+        None => Ok(push_garbage(text, heap, target.region, target.at)?),
     }
 }
 
@@ -331,26 +269,11 @@ fn push_kept(
     let heap = target.image.heap();
     push_path_line(text, "kept", target.at, path)?;
     if let Some(Finder::Card { card, slot }) = path.first() {
-        push_card(text, target, *card)?;
+        push_card(text, target.image, target.region, *card)?;
         push_holder(text, heap, target.starts, *card, *slot)?;
     }
     push_path(text, heap, found, path)?;
-    push_pin(text, target)
-}
-
-// Why a card is looked at if the region is collected.
-fn push_card(text: &mut String, target: &Target<'_>, card: u32) -> Result<(), AllocError> {
-    let region = target.region;
-    let is_remembered = target
-        .image
-        .remembered()
-        .get(region as usize)
-        .is_some_and(|set| set.as_slice().binary_search(&card).is_ok());
-    if is_remembered {
-        writeln!(text, "card {card} remembered {region}")
-    } else {
-        writeln!(text, "card {card} dirty")
-    }
+    push_pin(text, heap, target.region)
 }
 
 fn push_holder(

@@ -15,19 +15,12 @@
 #![tactic(auto)]
 
 mod cards;
-mod changes;
-mod checking;
-mod choosing;
 mod explaining;
-mod failure;
 mod finders;
-mod form;
 mod humongous;
 mod keeping;
-mod places;
 mod steps;
 
 pub use explaining::{Explanation, explain};
-pub use failure::Failure;
-pub use form::Form;
+pub use g1_facts::{Failure, Form};
 pub use keeping::why;

@@ -7,35 +7,23 @@ ghost use Rattle.g1_rem.specs.EntryCards.{cards_into};
 ghost use Rattle.g1_words.specs.Survivors.{Survivors};
 ghost use Rattle.g1_pause.specs.Answer.{IsSetFor};
 
-use crate::cards::{mark_regions, push_cards, push_dirty};
-use crate::changes::{
-    free_count, patch_count, push_heading_changes, push_patches, push_regions, push_remembered,
+use crate::cards::push_cards;
+use crate::finders::push_survivors;
+use crate::humongous::keepers;
+use g1_choose::total;
+use g1_copy::{Basis, prepare_on};
+use g1_facts::{
+    Failure, Form, Steps, free_count, mark_regions, push_bought, push_dirty, push_heading_changes,
+    push_humongous, push_patches, push_places, push_regions, push_remembered, push_room,
+    push_totals, sizes_of,
 };
-use crate::choosing::push_bought;
-use crate::failure::Failure;
-use crate::form::Form;
-use crate::humongous::{keepers, push_humongous};
-use crate::places::{push_places, push_survivors, sizes_of, sum_of};
-use g1_copy::{Basis, Prepared, prepare_on};
 use g1_frontier::discover;
-use g1_layout::{Plan, place};
+use g1_layout::place;
 use g1_pause::{Before, Settings, collection_set};
 use g1_rem::{Starts, Tracked, cards_into, image, refine_by};
-use g1_words::Heap;
 use g1_work::Open;
-use std::alloc::{AllocError, Global};
+use std::alloc::Global;
 use std::thread::Threads;
-
-/// What the steps of a pause gave.
-#[derive(Drop)]
-pub(crate) struct Steps {
-    pub(crate) plan: Plan,
-    pub(crate) prepared: Prepared,
-    /// How many cards lead into the set.
-    pub(crate) cards: usize,
-    /// The words of each survivor.
-    pub(crate) sizes: Vec<u64>,
-}
 
 /// Makes the calls of a pause, and adds the lines of each to the text, below the line that the image is
 /// covered. The image stays as it is. For a map the lines that take long are left out: none of them is
@@ -101,7 +89,8 @@ fn steps_of_choice<R: Threads + Sync>(
 {
     let collection = collection_set(rt, alloc, before, settings, &Open)?;
     if let Some(bought) = &collection.bought {
-        push_bought(text, before, &settings.cost(), bought)?;
+        let base = total(&settings.cost(), before.image.log().len() as u64, &[]);
+        push_bought(text, before, base, bought)?;
     }
     let set = collection.regions;
     steps_of_set(rt, alloc, text, form, tracked, before, settings, &set)
@@ -250,28 +239,4 @@ fn push_humongous_objects(
     let set = mark_regions(alloc, heap, steps.plan.set())?;
     let keepers = keepers(alloc, heap, starts, remembered, &set, survivors)?;
     push_humongous(text, heap, survivors, &keepers, steps.prepared.humongous())
-}
-
-/// Adds the line of the regions that the survivors need.
-pub(crate) fn push_room(text: &mut String, need: u64, free: u64) -> Result<(), AllocError> {
-    writeln!(text, "room need {need} free {free}")
-}
-
-fn push_totals(text: &mut String, heap: &Heap, steps: &Steps) -> Result<(), AllocError> {
-    let regions = steps.plan.set().len();
-    let humongous = steps.prepared.humongous().len();
-    let objects = steps.sizes.len();
-    let bytes = sum_of(&steps.sizes).saturating_mul(8);
-    write!(text, "pause regions {regions} humongous {humongous}")?;
-    write!(text, " objects {objects} bytes {bytes}")?;
-    push_counts(text, heap, steps)
-}
-
-// Ends the line of the totals with what is counted: cards, slots, and free regions before and after.
-fn push_counts(text: &mut String, heap: &Heap, steps: &Steps) -> Result<(), AllocError> {
-    let cards = steps.cards;
-    let slots = patch_count(heap, &steps.prepared);
-    let before = free_count(heap.regions());
-    let after = free_count(steps.prepared.regions());
-    writeln!(text, " cards {cards} slots {slots} free {before} {after}")
 }

@@ -1,4 +1,4 @@
-use Rattle.std.proofs.Common.{◌≡◌, sym, subst}
+use Rattle.std.proofs.Common.{sym, subst}
 use Rattle.g1_pause.specs.Answer.{IsSetFor}
 use Rattle.g1_explain.proofs.steps.steps_of_choice.Goals as goal
 

@@ -1,4 +1,4 @@
-use Rattle.std.proofs.Common.{◌≡◌, map, refl, ◌∙◌, ap}
+use Rattle.std.proofs.Common.{◌≡◌, refl, ◌∙◌, ap}
 use Rattle.g1_image.specs.Image.{Image}
 use Rattle.g1_frontier.proofs.Leading.{remembered_one_each}
 use Rattle.g1_pause.proofs.Planning.{set_there}

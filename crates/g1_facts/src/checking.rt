@@ -1,10 +1,8 @@
 //! Whether the pause answers what its steps gave.
-use crate::cards::word_at;
 use crate::changes::is_kept;
 use crate::failure::Failure;
-use crate::finders::size_in;
-use crate::places::sum_of;
-use crate::steps::Steps;
+use crate::objects::{size_in, sum_of, word_at};
+use crate::totals::Steps;
 use g1_image::Image;
 use g1_pause::{Report, Settings, evacuate};
 use g1_rem::{Tracked, image};
@@ -19,7 +17,7 @@ use std::thread::Threads;
 /// # Errors
 ///
 /// `Failure::Contradiction` if they differ; `Fault::Memory`.
-pub(crate) fn check_pause<R: Threads + Sync>(
+pub fn check_pause<R: Threads + Sync>(
     rt: &R,
     alloc: Global,
     tracked: Tracked,

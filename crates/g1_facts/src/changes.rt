@@ -1,16 +1,13 @@
 //! What the pause writes outside the copies, and the totals.
-use crate::cards::{joined_cards, push_numbers, word_at};
+use crate::cards::{joined_cards, push_numbers};
+use crate::objects::word_at;
 use g1_copy::Prepared;
 use g1_image::Image;
 use g1_words::{Heap, Region, region_of};
 use std::alloc::{AllocError, Global};
 
 /// Adds a line for each root, and then for each slot that is patched, that references a survivor.
-pub(crate) fn push_patches(
-    text: &mut String,
-    heap: &Heap,
-    prepared: &Prepared,
-) -> Result<(), AllocError> {
+pub fn push_patches(text: &mut String, heap: &Heap, prepared: &Prepared) -> Result<(), AllocError> {
     push_roots(text, heap.roots(), prepared.roots())?;
     for (slot, new) in prepared.patches() {
         if is_kept(heap, prepared, *slot) {
@@ -33,7 +30,7 @@ fn push_roots(text: &mut String, before: &[u64], after: &[u64]) -> Result<(), Al
 
 /// Whether a slot outside the set is there after the pause: a humongous object that is freed takes its own
 /// with it.
-pub(crate) fn is_kept(heap: &Heap, prepared: &Prepared, slot: u64) -> bool {
+pub fn is_kept(heap: &Heap, prepared: &Prepared, slot: u64) -> bool {
     let region = region_of(&heap.geometry(), slot) as usize;
     prepared
         .regions()
@@ -42,7 +39,7 @@ pub(crate) fn is_kept(heap: &Heap, prepared: &Prepared, slot: u64) -> bool {
 }
 
 /// How many slots are patched.
-pub(crate) fn patch_count(heap: &Heap, prepared: &Prepared) -> u64 {
+pub fn patch_count(heap: &Heap, prepared: &Prepared) -> u64 {
     let mut count = 0u64;
     for (slot, _) in prepared.patches() {
         if is_kept(heap, prepared, *slot) {
@@ -65,7 +62,7 @@ fn push_patch(
 }
 
 /// Adds the lines of each remembered set that changes: the cards that join it, and those that leave it.
-pub(crate) fn push_remembered(
+pub fn push_remembered(
     alloc: Global,
     text: &mut String,
     refined: &[Vec<u32>],
@@ -98,7 +95,7 @@ fn push_set_change(
 }
 
 /// Adds a line for each region whose line in the table changes.
-pub(crate) fn push_regions(
+pub fn push_regions(
     text: &mut String,
     before: &[Region],
     after: &[Region],
@@ -114,7 +111,7 @@ pub(crate) fn push_regions(
 }
 
 /// Adds the lines of the heading's entries that change.
-pub(crate) fn push_heading_changes(text: &mut String, image: &Image) -> Result<(), AllocError> {
+pub fn push_heading_changes(text: &mut String, image: &Image) -> Result<(), AllocError> {
     if !image.log().is_empty() {
         text.push_str("log empty\n")?;
     }
@@ -125,7 +122,7 @@ pub(crate) fn push_heading_changes(text: &mut String, image: &Image) -> Result<(
 }
 
 /// How many of some regions are free.
-pub(crate) fn free_count(regions: &[Region]) -> usize {
+pub fn free_count(regions: &[Region]) -> usize {
     regions
         .iter()
         .filter(|region| region.kind.is_free())

@@ -1,22 +1,17 @@
 //! Why the collection set of a budget is what it is.
-ghost use Rattle.g1_choose.specs.Cost.{IsCost};
-
-use g1_choose::{Candidate, Cost, total};
+use g1_choose::Candidate;
 use g1_pause::{Before, Bought};
 use g1_words::{Heap, Kind, Region};
 use std::alloc::AllocError;
 
-/// Adds the lines of what each region has, and of how far a budget goes.
-pub(crate) fn push_bought(
+/// Adds the lines of what each region has, and of how far a budget goes. A pause of no region costs `base`.
+pub fn push_bought(
     text: &mut String,
     before: &Before<'_>,
-    cost: &Cost,
+    base: u128,
     bought: &Bought,
-) -> Result<(), AllocError>
-    requires { IsCost cost.now }
-{
+) -> Result<(), AllocError> {
     let heap = before.image.heap();
-    let base = total(cost, before.image.log().len() as u64, &[]);
     writeln!(text, "budget {} base {base}", bought.budget)?;
     push_live(text, heap, before.remembered, &bought.live)?;
     push_excluded(text, heap, &bought.live)?;
