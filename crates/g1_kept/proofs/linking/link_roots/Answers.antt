@@ -117,7 +117,7 @@ link-requires-clause-other c = λ differ.
       lt,
       omega (arith, lt, c.requires.roots),
       subst (λ l. Disagree pause.set.now g h (slice_index l n) (slice_index h.roots n)) c.roots-old.ensures
-      (subst (λ l. Disagree pause.set.now g h (slice_index c.roots-old.result.now n) (slice_index l n)) c.roots-new.ensures differ),
+          (subst (λ l. Disagree pause.set.now g h (slice_index c.roots-old.result.now n) (slice_index l n)) c.roots-new.ensures differ),
     )
 
 pub returns-in-Some-clause-walk : goal.returns-in-Some-clause-walk
