@@ -3,9 +3,11 @@ use Rattle.std.proofs.lemmas.Bool.{cases_lt, false≢true}
 use Rattle.g1_words.specs.declared.region.Kind.TheVariants.{Free}
 use Rattle.g1_words.specs.Lists.{has}
 use Rattle.g1_words.specs.Heap.{Heap, kind, start}
+use Rattle.g1_kept.specs.declared.lost.Lost.{Lost}
 use Rattle.g1_kept.specs.declared.pairs.Pairs.{Pairs}
+use Rattle.g1_kept.specs.Pause.{IsLossIn, IsMetFirstIn}
 use Rattle.g1_kept.specs.Walk.{IsWalk, HasGrown, ComparesRegion, ComparesOutside, Searches}
-use Rattle.g1_kept.proofs.Growing.{none_then, grown_more, outside_more}
+use Rattle.g1_kept.proofs.Growing.{none_then, some_then, grown_same, grown_more, outside_more}
 use Rattle.g1_kept.proofs.Outside.{region_skipped}
 use Rattle.g1_kept.proofs.keeping.compare_outside.Goals as goal
 use Rattle.g1_kept.proofs.keeping.compare_outside.Goals.{then-is_compared+in_ok-lost+in_default, else-is_compared}
@@ -53,3 +55,35 @@ loop-region-preserved c =
                 ]);
           }
     ]
+
+pub compare_region-requires-clause-walk : goal.compare_region-requires-clause-walk
+compare_region-requires-clause-walk c = c.loop-region.invariant.walk
+
+pub compare_region-requires-clause-table : goal.compare_region-requires-clause-table
+compare_region-requires-clause-table c = c.requires.table
+
+pub compare_region-requires-clause-search : goal.compare_region-requires-clause-search
+compare_region-requires-clause-search c = c.loop-region.invariant.search
+
+pub returns-in-Some-clause-walk : goal.returns-in-Some-clause-walk
+returns-in-Some-clause-walk c = c.in_ok-lost.ensures.walk
+
+pub loop-region-init : goal.loop-region-init
+loop-region-init c =
+    let pause = c.args.pause.now in
+    let first : 1 ≡ suc (start pause.before.now 0) = omega arith in
+    record {
+      walk = c.requires.walk;
+      grown = grown_same c.args.pairs.now;
+      compared = λ r lt. absurd (omega (arith, lt));
+      search = subst (λ z. Searches pause.fill pause.set.now pause.before.now pause.after.now c.args.pairs.now z 0) first c.requires.search;
+    }
+
+pub returns-in-Some-clause-grown : goal.returns-in-Some-clause-grown
+returns-in-Some-clause-grown c = grown_more c.args.pairs.now c.loop-region.pairs c.compare_region.new.pairs c.loop-region.invariant.grown c.in_ok-lost.ensures.grown
+
+pub returns-in-Some-clause-lost : goal.returns-in-Some-clause-lost
+returns-in-Some-clause-lost c = some_then (λ (l : Lost). IsLossIn c.args.pause.now l) c.in_ok-lost.field-0 c.in-Some.lost c.in-Some.is c.in_ok-lost.ensures.lost
+
+pub returns-in-Some-clause-first : goal.returns-in-Some-clause-first
+returns-in-Some-clause-first c = some_then (λ (l : Lost). IsMetFirstIn c.args.pause.now l) c.in_ok-lost.field-0 c.in-Some.lost c.in-Some.is c.in_ok-lost.ensures.first

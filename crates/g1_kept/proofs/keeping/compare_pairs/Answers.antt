@@ -1,8 +1,9 @@
-use Rattle.std.proofs.Common.{arith, inr, refl, subst, sym, suc, ℕ, ◌≡◌, ◌<◌, ◌+◌, ◌-◌, length, slice_index}
+use Rattle.std.proofs.Common.{arith, inr, refl, subst, sym, suc, ℕ, ◌≡◌, ◌<◌, ◌≤◌, ◌+◌, ◌-◌, length, slice_index}
 use Rattle.std.proofs.lemmas.List.{get_or_read}
 use Rattle.g1_words.specs.Heap.{Heap}
 use Rattle.g1_kept.specs.declared.pairs.Pairs.{Pairs}
 use Rattle.g1_kept.specs.declared.lost.Lost.{Lost}
+use Rattle.g1_kept.specs.Pause.{IsLossIn}
 use Rattle.g1_kept.specs.Walk.{IsCompared, HasGrown, HasTurn, Searches, PassesObjects, StopsAtObjects}
 use Rattle.g1_kept.proofs.Adding.{few_pairs}
 use Rattle.g1_kept.proofs.Growing.{none_then, some_then, grown_same, grown_more, pairs_more}
@@ -90,3 +91,17 @@ returns-in-Some-clause-first c =
     let turn : HasTurn pause.set.now g h w (length g.words + i) a b = inr (i, lt, refl, a_is, b_is) in
     let stops = some_then (λ (l : Lost). StopsAtObjects pause.fill pause.set.now g h w a b 0 l) c.in_ok-lost.field-0 c.in-Some.lost c.in-Some.is c.in_ok-lost.ensures.first in
     stops (length g.words + i) c.loop-place.invariant.search turn
+
+pub compare_pair-requires-clause-walk : goal.compare_pair-requires-clause-walk
+compare_pair-requires-clause-walk c = c.loop-place.invariant.walk
+
+pub returns-in-Some-clause-walk : goal.returns-in-Some-clause-walk
+returns-in-Some-clause-walk c = c.in_ok-lost.ensures.walk
+
+pub returns-in-Some-clause-lost : goal.returns-in-Some-clause-lost
+returns-in-Some-clause-lost c = some_then (λ (l : Lost). IsLossIn c.args.pause.now l) c.in_ok-lost.field-0 c.in-Some.lost c.in-Some.is c.in_ok-lost.ensures.lost
+
+pub returns-clause-compared : goal.returns-clause-compared
+returns-clause-compared c = λ i lt.
+    let all : c.len.result ≤ c.loop-place.place = c.loop-place-test.false in
+    c.loop-place.invariant.compared i (omega (arith, lt, all, c.len.ensures, c.loop-place.pairs.before.ok))

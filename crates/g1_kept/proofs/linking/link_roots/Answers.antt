@@ -3,7 +3,8 @@ use Rattle.g1_words.specs.Heap.{Heap}
 use Rattle.g1_same.specs.Walk.{Names}
 use Rattle.g1_same.proofs.Heaps.{root_names}
 use Rattle.g1_kept.specs.declared.pairs.Pairs.{Pairs}
-use Rattle.g1_kept.specs.Lost.{root}
+use Rattle.g1_kept.specs.Lost.{Disagree, root}
+use Rattle.g1_kept.specs.Pause.{IsLossIn}
 use Rattle.g1_kept.specs.declared.lost.Lost.{Lost}
 use Rattle.g1_kept.specs.declared.lost.Lost.TheVariants as lost
 use Rattle.g1_kept.specs.Walk.{IsPaired, HasWords, PassesWords, StopsAtWords}
@@ -96,3 +97,31 @@ returns-clause-searched c =
     let w : Pairs = c.loop-number.pairs in
     let all : length pause.before.now.roots ≤ c.loop-number.number = let k = ap length c.roots-old.ensures in omega (arith, k, c.loop-number-test.false) in
     roots_on pause.fill pause.set.now pause.before.now pause.after.now w.before.items w.after.items c.loop-number.number all c.loop-number.invariant.search
+
+pub bounds-new-number : goal.bounds-new-number
+bounds-new-number c =
+    let old = ap length c.roots-old.ensures in
+    let new = ap length c.roots-new.ensures in
+    omega (arith, old, new, c.requires.roots, c.loop-number-test.true)
+
+pub link-requires-clause-walk : goal.link-requires-clause-walk
+link-requires-clause-walk c = c.loop-number.invariant.walk
+
+pub link-requires-clause-other : goal.link-requires-clause-other
+link-requires-clause-other c = λ differ.
+    let pause = c.args.pause.now in
+    let g : Heap = pause.before.now in
+    let h : Heap = pause.after.now in
+    let n : ℕ = c.loop-number.number in
+    let lt : n < length g.roots = let k = ap length c.roots-old.ensures in omega (arith, k, c.loop-number-test.true) in (
+      lt,
+      omega (arith, lt, c.requires.roots),
+      subst (λ l. Disagree pause.set.now g h (slice_index l n) (slice_index h.roots n)) c.roots-old.ensures
+          (subst (λ l. Disagree pause.set.now g h (slice_index c.roots-old.result.now n) (slice_index l n)) c.roots-new.ensures differ),
+    )
+
+pub returns-in-Some-clause-walk : goal.returns-in-Some-clause-walk
+returns-in-Some-clause-walk c = c.in_ok-lost.ensures.walk
+
+pub returns-in-Some-clause-lost : goal.returns-in-Some-clause-lost
+returns-in-Some-clause-lost c = some_then (λ (l : Lost). IsLossIn c.args.pause.now l) c.in_ok-lost.field-0 c.in-Some.lost c.in-Some.is c.in_ok-lost.ensures.lost

@@ -4,7 +4,8 @@ use Rattle.g1_same.specs.Walk.{Names}
 use Rattle.g1_same.proofs.Heaps.{slot_names}
 use Rattle.g1_same.proofs.Steps.{has_slots}
 use Rattle.g1_kept.specs.declared.pairs.Pairs.{Pairs}
-use Rattle.g1_kept.specs.Lost.{slot}
+use Rattle.g1_kept.specs.Lost.{Disagree, slot}
+use Rattle.g1_kept.specs.Pause.{IsLossIn}
 use Rattle.g1_kept.specs.declared.lost.Lost.{Lost}
 use Rattle.g1_kept.specs.declared.lost.Lost.TheVariants as lost
 use Rattle.g1_kept.specs.Walk.{IsPaired, HasTurn, HasWords, PassesWords, StopsAtWords}
@@ -134,3 +135,42 @@ returns-clause-paired c = λ n lt.
     let here = has_slots g c.args.a c.object-old.result c.words.result.now c.slots-here.result.now c.object-old.ensures.value c.words.ensures c.slots-here.ensures.count c.slots-here.ensures.each in
     let few : (object_at g c.args.a).refs ≤ c.loop-number.number = omega (arith, here.count, c.loop-number-test.false) in
     c.loop-number.invariant.paired n (omega (arith, lt, few))
+
+pub bounds-there-number : goal.bounds-there-number
+bounds-there-number c =
+    let pause = c.args.pause.now in
+    let g : Heap = pause.before.now in
+    let h : Heap = pause.after.now in
+    let here = has_slots g c.args.a c.object-old.result c.words.result.now c.slots-here.result.now c.object-old.ensures.value c.words.ensures c.slots-here.ensures.count c.slots-here.ensures.each in
+    let there = has_slots h c.args.b c.object-new.result c.words-2.result.now c.slots-there.result.now c.object-new.ensures.value c.words-2.ensures
+    c.slots-there.ensures.count c.slots-there.ensures.each in
+    let refs : (object_at g c.args.a).refs ≡ (object_at h c.args.b).refs = ap (λ q. q % 2 ^ 32) c.requires.alike.header in
+    omega (arith, c.loop-number-test.true, here.count, there.count, refs)
+
+pub link-requires-clause-walk : goal.link-requires-clause-walk
+link-requires-clause-walk c = c.loop-number.invariant.walk
+
+pub link-requires-clause-other : goal.link-requires-clause-other
+link-requires-clause-other c = λ differ.
+    let pause = c.args.pause.now in
+    let g : Heap = pause.before.now in
+    let h : Heap = pause.after.now in
+    let here = has_slots g c.args.a c.object-old.result c.words.result.now c.slots-here.result.now c.object-old.ensures.value c.words.ensures c.slots-here.ensures.count c.slots-here.ensures.each in
+    let there = has_slots h c.args.b c.object-new.result c.words-2.result.now c.slots-there.result.now c.object-new.ensures.value c.words-2.ensures
+    c.slots-there.ensures.count c.slots-there.ensures.each in
+    let refs : (object_at g c.args.a).refs ≡ (object_at h c.args.b).refs = ap (λ q. q % 2 ^ 32) c.requires.alike.header in
+    let n : ℕ = c.loop-number.number in
+    let lt : n < (object_at g c.args.a).refs = omega (arith, c.loop-number-test.true, here.count) in
+    let x_is = here.each n c.loop-number-test.true in
+    let y_is = there.each n (omega (arith, lt, refs, there.count)) in (
+      c.requires.pair.matched,
+      sym c.requires.alike.header,
+      lt,
+      subst (λ z. Disagree pause.set.now g h z (word h (c.args.b + 1 + n))) x_is (subst (Disagree pause.set.now g h (slice_index c.slots-here.result.now n)) y_is differ),
+    )
+
+pub returns-in-Some-clause-walk : goal.returns-in-Some-clause-walk
+returns-in-Some-clause-walk c = c.in_ok-lost.ensures.walk
+
+pub returns-in-Some-clause-lost : goal.returns-in-Some-clause-lost
+returns-in-Some-clause-lost c = some_then (λ (l : Lost). IsLossIn c.args.pause.now l) c.in_ok-lost.field-0 c.in-Some.lost c.in-Some.is c.in_ok-lost.ensures.lost

@@ -72,6 +72,25 @@ returns-then-i-ne0 c =
     let d = known_here pause.fill set g h w c.requires.walk (c.args.x - 1) (c.args.y - 1) c.index-i.result.now c.index-j.result.now x_lt y_lt is_i is_j c.if-i-j.false c.if-i-ne0.true in
     subst (λ z. IsPaired set g w z c.args.y) (sym (some c.args.x into.0)) (subst (λ z. IsPaired set g w (suc (c.args.x - 1)) z) (sym (some c.args.y c.if-y-eq0.false)) d)
 
+pub returns-then-may_hold_copy : goal.returns-then-may_hold_copy
+returns-then-may_hold_copy c =
+    let pause = c.args.pause.now in
+    let g = pause.before.now in
+    let h = pause.after.now in
+    let w = c.args.pairs.now in
+    let into = c.leads_in.ensures.yes c.if-not-leads_in.false in
+    let x_lt : c.args.x - 1 < length w.new_of.items = let k = named_below g c.args.x c.valid.ensures into.0 c.requires.x in omega (arith, k, c.requires.walk.table_before) in
+    let y_lt : c.args.y - 1 < length w.old_of.items = let k = named_below h c.args.y c.valid-2.ensures c.if-y-eq0.false c.requires.y in omega (arith, k, c.requires.walk.table_after) in
+    let is_i : c.index-i.result.now ≡ slice_index w.new_of.items (c.args.x - 1) = get_or_read w.new_of.items (c.args.x - 1) c.index-i.result.now x_lt c.index-i.ensures 0 in
+    let is_j : c.index-j.result.now ≡ slice_index w.old_of.items (c.args.y - 1) = get_or_read w.old_of.items (c.args.y - 1) c.index-j.result.now y_lt c.index-j.ensures 0 in (
+      some c.args.x into.0,
+      some c.args.y c.if-y-eq0.false,
+      into.1,
+      c.may_hold_copy.ensures.0 c.if-may_hold_copy.true,
+      sym is_i ∙ c.if-i-ne0.false,
+      sym is_j ∙ sym c.if-i-j.false ∙ c.if-i-ne0.false,
+    )
+
 pub returns-else-may_hold_copy : goal.returns-else-may_hold_copy
 returns-else-may_hold_copy c =
     let pause = c.args.pause.now in

@@ -88,6 +88,9 @@ link-requires-clause-way c =
     slot_way g h w.before.items w.after.items c.args.place n a b _ _ (omega (arith, pair.place, grown.more)) (grown.olds c.args.place pair.place ∙ pair.before)
     (grown.news c.args.place pair.place ∙ pair.after) n_old n_new (sym x_is) (sym y_is)
 
+pub link-requires-clause-below : goal.link-requires-clause-below
+link-requires-clause-below c = c.loop-number.invariant.below
+
 pub returns-in-Some-clause-grown : goal.returns-in-Some-clause-grown
 returns-in-Some-clause-grown c = grown_more c.args.walk.now c.loop-number.walk c.link.new.walk c.loop-number.invariant.grown c.in_ok-how.ensures.grown
 
