@@ -144,20 +144,21 @@ module _ (place : ℕ → ℕ) (P : ℕ → List (ℕ × ℕ)) {O : Type 0} (run
         parts = ap (λ k. p ++ k) l.parts ∙ sym (append_assoc p (joined l.others) l.last);
       }
 
+-- each worker has a seat of the table
+pub given_seats : (t : TableView) (seat : SeatView) (count : ℕ) (before : List Holder) → IsGivenOut t seat count before → All (λ h. IsSeatOf t h.seat) before
+given_seats t seat count before g =
+    subst (All (λ (h : Holder). IsSeatOf t h.seat)) (sym g.are) (All-append (λ (h : Holder). IsSeatOf t h.seat) g.others (g.last ∷ [])
+    (λ k d lt. (g.fresh k d lt).seat) (All-cons (λ (h : Holder). IsSeatOf t h.seat) g.last [] g.seat (All-nil (λ (h : Holder). IsSeatOf t h.seat))))
+
 -- the seats of all workers together, and what they kept
 module _ {A : Type 0} (t : TableView) (place : ℕ → ℕ) (f : A → List (ℕ × ℕ)) (size : ℕ) (items : List A) {O : Type 0} (runs : Holder → ℕ → Holder → O → Type 0)
     (says : (s : Holder) (k : ℕ) (u : Holder) (o : O) → runs s k u o → HasTried place (flat_map f (piece size k items)) s u) where
   abbrev P : ℕ → List (ℕ × ℕ)
   P k = flat_map f (piece size k items)
 
-  seats_of : (seat : SeatView) (count : ℕ) (before : List Holder) → IsGivenOut t seat count before → All (λ h. IsSeatOf t h.seat) before
-  seats_of seat count before g =
-      subst (All (λ (h : Holder). IsSeatOf t h.seat)) (sym g.are) (All-append (λ (h : Holder). IsSeatOf t h.seat) g.others (g.last ∷ [])
-      (λ k d lt. (g.fresh k d lt).seat) (All-cons (λ (h : Holder). IsSeatOf t h.seat) g.last [] g.seat (All-nil (λ (h : Holder). IsSeatOf t h.seat))))
-
   pub all_back : (n : ℕ) (seat : SeatView) (count : ℕ) (before after : List Holder) (outs : List O) → IsGivenOut t seat count before →
       IsEachRun runs n before after outs → All (λ h. IsSeatOf t h.seat) after
-  all_back n seat count before after outs g r = seats_back place P runs says n t before r.parts after r.workers (seats_of seat count before g)
+  all_back n seat count before after outs g r = seats_back place P runs says n t before r.parts after r.workers (given_seats t seat count before g)
 
   pub count_back : (n : ℕ) (seat : SeatView) (count : ℕ) (before after : List Holder) (outs : List O) → IsGivenOut t seat count before → IsEachRun runs n before after outs → length after ≡ count
   count_back n seat count before after outs g r = as_many place P runs says n t before r.parts after r.workers ∙ g.count_is

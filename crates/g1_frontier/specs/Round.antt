@@ -78,3 +78,11 @@ pub record HasOffered (t : TableView) (place : ℕ → ℕ) (ps : List (ℕ × �
 -- no rank is above a later one
 abbrev pub IsByRank : List (ℕ × ℕ) → Type 0
 IsByRank ps = AllPairs (λ q r. q.0 ≤ r.0) ps
+
+-- after a round the whole seat has one more offer for each pair, at the place of its address, and those that won are listed
+pub record IsRound (t : TableView) (place : ℕ → ℕ) (ps : List (ℕ × ℕ)) (before after : SeatView) (list : List (ℕ × ℕ)) : Type 0 where
+  pub table : IsSeatOf t after
+  pub whole : after.hand.shares ≡ all_shares
+  pub offers : AddsOffers place ps before.hand.offers after.hand.offers
+  pub won : list ≡ winners place after.hand.offers ps
+  pub settled : IsSettled after.hand.offers

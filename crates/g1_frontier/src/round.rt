@@ -9,7 +9,7 @@ ghost use Rattle.g1_frontier.specs.Items.{IsItem, IsOutside, all_pairs, AreRanks
 ghost use Rattle.g1_frontier.specs.Numbers.{BeginsIn};
 ghost use Rattle.g1_frontier.specs.Scope.{IsScope, place_in, place_count, all_pairs_in};
 ghost use Rattle.g1_frontier.specs.Offering.{HasPlaces};
-ghost use Rattle.g1_frontier.specs.Round.{Rises, AreAbove, AddsOffers, winners, IsGivenOut, HasTaken, HasOffered, IsByRank};
+ghost use Rattle.g1_frontier.specs.Round.{Rises, AreAbove, AddsOffers, winners, IsGivenOut, HasTaken, HasOffered, IsByRank, IsRound};
 
 use crate::crew::Crew;
 use crate::item::Item;
@@ -189,6 +189,30 @@ fn still_there(
     Ok(kept)
 }
 
+// Offers what all items name in the window, by the whole crew: the whole seat after, and what won.
+fn offer_by_crew<R: Threads + Sync, G: Gate + Sync>(
+    crew: &Crew<'_, R, G>,
+    scope: &Scope,
+    claims: &Claims,
+    seat: ClaimSeat,
+    items: &[Item],
+) -> Result<(ClaimSeat, Vec<(u64, u64)>), Fault>
+    requires places { HasPlaces scope.now claims.now }
+    requires seat { IsSeatOf claims.now seat × (seat.hand.shares ≡ all_shares) }
+    requires items { All (IsItem scope.now.heap.now) items.now }
+    requires ranks { AreRanks (all_pairs_in scope.now items.now) }
+    requires rise { Rises (all_pairs_in scope.now items.now) }
+    requires above { AreAbove seat.hand.offers (all_pairs_in scope.now items.now) }
+    requires few { length items.now < 2 ^ 32 }
+    ensures ok { IfOk result (λ r. IsRound claims.now (place_in scope.now) (all_pairs_in scope.now items.now) seat r.0 r.1.items) }
+    ensures memory { IfErr result (λ e. e ≡ Memory) }
+{
+    let (mut seat, lists) = offer_all(crew, scope, claims, seat, items)?;
+    let kept = merge(crew.alloc, lists)?;
+    let won = still_there(crew.alloc, scope, claims, &mut seat, kept.as_slice())?;
+    Ok((seat, won))
+}
+
 // One round of claims, in a scope that was made before: the whole seat after, and what won.
 pub(crate) fn round_in<R: Threads + Sync, G: Gate + Sync>(
     crew: &Crew<'_, R, G>,
@@ -206,22 +230,14 @@ pub(crate) fn round_in<R: Threads + Sync, G: Gate + Sync>(
     requires rise { Rises (all_pairs_in scope.now items.now) }
     requires ranks { AreRanks (all_pairs_in scope.now items.now) }
     requires above { AreAbove seat.hand.offers (all_pairs_in scope.now items.now) }
-    ensures table { IfOk result (λ r. IsSeatOf claims.now r.0) }
-    ensures whole { IfOk result (λ r. r.0.hand.shares ≡ all_shares) }
-    ensures offers { IfOk result (λ r. AddsOffers (place_in scope.now) (all_pairs_in scope.now items.now) seat.hand.offers r.0.hand.offers) }
-    ensures won { IfOk result (λ r. r.1.items ≡ winners (place_in scope.now) r.0.hand.offers (all_pairs_in scope.now items.now)) }
-    ensures settled { IfOk result (λ r. IsSettled r.0.hand.offers) }
+    ensures ok { IfOk result (λ r. IsRound claims.now (place_in scope.now) (all_pairs_in scope.now items.now) seat r.0 r.1.items) }
     ensures memory { IfErr result (λ e. e ≡ Memory) }
 {
-    let alloc = crew.alloc;
     if crew.team.workers() == 1 || items.len() as u64 <= crew.team.chunk() {
         // A worker alone offers by rising rank, so what it kept is least.
-        return Ok(offer_alone(alloc, scope, claims, seat, items)?);
+        return Ok(offer_alone(crew.alloc, scope, claims, seat, items)?);
     }
-    let (mut seat, lists) = offer_all(crew, scope, claims, seat, items)?;
-    let kept = merge(alloc, lists)?;
-    let won = still_there(alloc, scope, claims, &mut seat, kept.as_slice())?;
-    Ok((seat, won))
+    offer_by_crew(crew, scope, claims, seat, items)
 }
 
 /// One round of claims: offers what the items name in the window, and answers what won.

@@ -1,5 +1,5 @@
-ghost use Rattle.std.specs.Prelude.{◌≡◌, ◌≤◌, ◌<◌, ◌+◌, ◌*◌, ◌^◌, ℕ, length, slice_index, IfOk, IfErr};
-ghost use Rattle.g1_words.specs.Layout.{need, free_regions, places as places_of};
+ghost use Rattle.std.specs.Prelude.{◌≡◌, ◌≤◌, ◌<◌, ◌+◌, ◌*◌, ◌^◌, ℕ, length, sum, slice_index, IfOk, IfErr};
+ghost use Rattle.g1_words.specs.Layout.{need, free_regions, sizes_of, places as places_of};
 ghost use Rattle.g1_layout.specs.Placed.{CanPlace};
 ghost use Rattle.g1_layout.specs.Batch.{IsBatch};
 ghost use Rattle.g1_layout.specs.Plan.{laid_before, run_at, runs, plan_of};
@@ -92,6 +92,56 @@ fn runs(alloc: Global, batch: &Batch<'_>, places: &[u64]) -> Result<Vec<Run>, Al
     Ok(runs)
 }
 
+/// The new addresses of a batch, and its runs.
+fn laid(alloc: Global, batch: &Batch<'_>) -> Result<(Vec<u64>, Vec<Run>), AllocError>
+    requires { IsBatch batch.now }
+    ensures places { IfOk result (λ r. r.0.items ≡ places_of batch.now.heap.now batch.now.survivors.now) }
+    ensures runs { IfOk result (λ r. r.1.items ≡ runs batch.now.heap.now batch.now.survivors.now) }
+{
+    let places = places(alloc, batch)?;
+    let runs = runs(alloc, batch, &places)?;
+    Ok((places, runs))
+}
+
+/// The plan for survivors of these sizes, which have room in so many regions.
+fn planned(
+    alloc: Global,
+    heap: &Heap,
+    set: &[u32],
+    survivors: &[u64],
+    sizes: &[u32],
+    regions: u64,
+    words: u64,
+) -> Result<Plan, AllocError>
+    requires can { CanPlace heap.now set.now survivors.now }
+    requires sizes { sizes.now ≡ sizes_of heap.now survivors.now }
+    requires regions { regions ≡ need heap.now survivors.now }
+    requires room { need heap.now survivors.now ≤ length (free_regions heap.now) }
+    requires words { words ≡ sum (sizes_of heap.now survivors.now) }
+    ensures { IfOk result (λ p. p ≡ plan_of heap.now set.now survivors.now) }
+{
+    let geometry = heap.geometry();
+    let mut to_space = free_regions(alloc, heap)?;
+    to_space.truncate(regions as usize);
+    let batch = Batch {
+        heap,
+        survivors,
+        sizes,
+        to_space: &to_space,
+    };
+    let (places, runs) = laid(alloc, &batch)?;
+    let table = Table::new(alloc, &geometry, set, survivors, &places)?;
+    Ok(Plan {
+        set: set.to_vec(alloc)?,
+        survivors: survivors.to_vec(alloc)?,
+        places,
+        to_space,
+        runs,
+        words,
+        table,
+    })
+}
+
 /// Where the survivors of a set of regions go, in time linear in the survivors, the regions and the
 /// words of the set.
 ///
@@ -105,7 +155,7 @@ pub fn place(alloc: Global, heap: &Heap, set: &[u32], survivors: &[u64]) -> Resu
     ensures room { length (free_regions heap.now) < need heap.now survivors.now → result ≡ Err (Fault.Room (need heap.now survivors.now) (length (free_regions heap.now))) }
     ensures memory { need heap.now survivors.now ≤ length (free_regions heap.now) → IfErr result (λ e. e ≡ Fault.Memory) }
 {
-    let geometry = heap.geometry();
+    g1_words::laws::valid(heap);
     let Measured { need, words, sizes } = measure(alloc, heap, survivors);
     let free = free_count(heap);
     if need > free {
@@ -114,24 +164,6 @@ pub fn place(alloc: Global, heap: &Heap, set: &[u32], survivors: &[u64]) -> Resu
     let Some(sizes) = sizes else {
         return Err(Fault::Memory);
     };
-    let mut to_space = free_regions(alloc, heap)?;
-    to_space.truncate(need as usize);
-    let batch = Batch {
-        heap,
-        survivors,
-        sizes: &sizes,
-        to_space: &to_space,
-    };
-    let places = places(alloc, &batch)?;
-    let runs = runs(alloc, &batch, &places)?;
-    let table = Table::new(alloc, &geometry, set, survivors, &places)?;
-    Ok(Plan {
-        set: set.to_vec(alloc)?,
-        survivors: survivors.to_vec(alloc)?,
-        places,
-        to_space,
-        runs,
-        words,
-        table,
-    })
+    let plan = planned(alloc, heap, set, survivors, &sizes, need, words)?;
+    Ok(plan)
 }

@@ -77,6 +77,22 @@ fn hire<S: Drop>(
     Ok(workers)
 }
 
+// One worker after another, on the thread that asked.
+fn run_in_turn<T: Task, G: Gate>(
+    job: &Job<'_, T, G>,
+    workers: Vec<Worker<T::State>>,
+) -> Result<Vec<Result<Worked<T::State, T::Out>, Fault>>, AllocError>
+    requires { All (IsFresh (T.ready job.now.task.now) job.now.dealer.now) workers.items }
+    ensures { IfOk result (λ v. AreBack (T.runs job.now.task.now) (T.may_fail job.now.task.now) job.now.dealer.now workers.items v.items) }
+{
+    let mut results = Vec::new(job.alloc);
+    for worker in workers {
+        let result = work(job, worker);
+        results.push(result)?;
+    }
+    Ok(results)
+}
+
 // Each worker in a thread of its own if one can be made, and else on the thread that asked. A thread
 // costs more than a chunk, so with at most one chunk none is started.
 fn run_all<R: Threads + Sync, T: Task + Sync, G: Gate + Sync>(
@@ -87,23 +103,18 @@ fn run_all<R: Threads + Sync, T: Task + Sync, G: Gate + Sync>(
     requires { All (IsFresh (T.ready job.now.task.now) job.now.dealer.now) workers.items }
     ensures { IfOk result (λ v. AreBack (T.runs job.now.task.now) (T.may_fail job.now.task.now) job.now.dealer.now workers.items v.items) }
 {
-    if job.dealer.chunks() > 1 {
-        return thread::map_vec(
-            rt,
-            workers,
-            &|worker: Worker<T::State>| -> Result<Worked<T::State, T::Out>, Fault>
-                requires { IsFresh (T.ready job.now.task.now) job.now.dealer.now worker }
-                ensures ok { IfOk result (IsDone (T.runs job.entry.now.task.now) job.entry.now.dealer.now worker) }
-                ensures err { IfErr result (IsFaultOf (T.may_fail job.entry.now.task.now) job.entry.now.dealer.now.chunks) }
-            { work(job, worker) },
-        );
+    if job.dealer.chunks() <= 1 {
+        return run_in_turn(job, workers);
     }
-    let mut results = Vec::new(job.alloc);
-    for worker in workers {
-        let result = work(job, worker);
-        results.push(result)?;
-    }
-    Ok(results)
+    thread::map_vec(
+        rt,
+        workers,
+        &|worker: Worker<T::State>| -> Result<Worked<T::State, T::Out>, Fault>
+            requires { IsFresh (T.ready job.now.task.now) job.now.dealer.now worker }
+            ensures ok { IfOk result (IsDone (T.runs job.entry.now.task.now) job.entry.now.dealer.now worker) }
+            ensures err { IfErr result (IsFaultOf (T.may_fail job.entry.now.task.now) job.entry.now.dealer.now.chunks) }
+        { work(job, worker) },
+    )
 }
 
 /// Runs the task once on each chunk below `chunks`, and gives the states and the outs.

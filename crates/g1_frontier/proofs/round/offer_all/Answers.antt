@@ -1,8 +1,8 @@
-use Rattle.std.proofs.Common.{arith, length}
+use Rattle.std.proofs.Common.{◌≡◌, ◌∙◌, ℕ, arith, length, vec_len}
 use Rattle.g1_words.proofs.Ordered.{Ordered-from_pairs}
 use Rattle.g1_frontier.specs.Scope.{place_in, pairs_in, all_pairs_in}
-use Rattle.g1_frontier.proofs.Assembly.{RankLess, all_back, count_back, whole_round}
-use Rattle.g1_frontier.proofs.Pieces.{enough}
+use Rattle.g1_frontier.proofs.Assembly.{RankLess, all_back, count_back, given_seats, whole_round}
+use Rattle.g1_frontier.proofs.Pieces.{enough, no_more_than, none_empty}
 use Rattle.g1_frontier.proofs.round.offer_all.Goals as goal
 
 pub take_in-requires-clause-some : goal.take_in-requires-clause-some
@@ -23,3 +23,31 @@ returns-clause-ok g c =
     whole_round c.args.claims.now (place_in s) (pairs_in s) c.chunk-chunk.result c.args.items.now _ (λ s k t o r. r) _ c.args.seat _ _ _ _ _ _
     c.in_ok-holders.ensures c.in_ok-holders-2.ensures.ok c.in_ok-take_in.ensures
     (enough (length c.args.items.now) c.chunk-chunk.result c.chunk-chunk.ensures.range.0) (Ordered-from_pairs RankLess (all_pairs_in s c.args.items.now) c.requires.rise)
+
+pub give_out-requires : goal.give_out-requires
+give_out-requires g c = record { seat = c.requires.seat }
+
+pub each_chunk-requires-clause-chunks : goal.each_chunk-requires-clause-chunks
+each_chunk-requires-clause-chunks g c κs within =
+    let few = no_more_than (length c.args.items.now) c.chunk-chunk.result c.chunk-chunk.ensures.range.0 in omega (arith, few, c.requires.few)
+
+pub each_chunk-requires-clause-workers : goal.each_chunk-requires-clause-workers
+each_chunk-requires-clause-workers g c κs within =
+    let count : vec_len c.in_ok-holders.holders ≡ c.team_for.result.workers = c.in_ok-holders.holders.ok.0 ∙ c.in_ok-holders.ensures.count_is in
+    (omega (arith, count, c.team_for.ensures.range.0), omega (arith, count, c.team_for.ensures.range.1))
+
+pub each_chunk-requires-clause-ready : goal.each_chunk-requires-clause-ready
+each_chunk-requires-clause-ready g c κs within = λ k d lt chunk below.
+    let n : ℕ = length c.args.items.now in
+    let size : ℕ = c.chunk-chunk.result in
+    let range = c.chunk-chunk.ensures.range in
+    let few = no_more_than n size range.0 in (
+      c.requires.places,
+      given_seats c.args.claims.now c.args.seat c.team_for.result.workers c.in_ok-holders.holders.items c.in_ok-holders.ensures k d lt,
+      c.requires.items,
+      c.requires.ranks,
+      range.0,
+      none_empty n size chunk range.0 below,
+      omega (arith, below, few, c.requires.few),
+      range.1,
+    )

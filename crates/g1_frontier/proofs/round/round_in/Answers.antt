@@ -1,54 +1,16 @@
-use Rattle.std.proofs.Common.{◌∙◌, [], ◌∷◌, refl, ℕ, List, Vec, Global, ap, sym, subst, map, IsPermutation, All}
-use Rattle.std.specs.List.{flat_map}
-use Rattle.g1_frontier.specs.Numbers.{BeginsIn}
-use Rattle.g1_claim.specs.declared.rule.Offer.{Offer}
-use Rattle.g1_frontier.specs.Items.{all_pairs}
-use Rattle.g1_frontier.specs.Round.{winners}
-use Rattle.g1_frontier.proofs.Seeds.{flat_of_map}
-use Rattle.g1_frontier.proofs.Scopes.{all_from_in}
-use Rattle.g1_frontier.proofs.Claimed.{lists_rise, all_begin, adds, merged_from, round_won}
+use Rattle.std.proofs.Common.{refl, ◌∷◌, []}
+use Rattle.g1_frontier.proofs.Claimed.{adds}
 use Rattle.g1_frontier.specs.Scope.{place_in, all_pairs_in}
 use Rattle.g1_frontier.proofs.round.round_in.Goals as goal
 
-pub merge-requires : goal.merge-requires
-merge-requires g c = record { rise = lists_rise c.in_ok-seat.lists.items c.in_ok-seat.ensures.ok.rise }
-
-pub still_there-requires-clause-inside : goal.still_there-requires-clause-inside
-still_there-requires-clause-inside g c =
-    let h = c.args.scope.now.heap.now in
-    let window : List ℕ = c.args.scope.now.window.now in
-    let ps : List (ℕ × ℕ) = all_pairs h window c.args.items.now in
-    let lists = map (λ (v : Vec (ℕ × ℕ) Global). v.items) c.in_ok-seat.lists.items in
-    let perm : IsPermutation (flat_map (λ (l : List (ℕ × ℕ)). l) lists) c.in_ok-kept.kept.items =
-    subst (λ l. IsPermutation l c.in_ok-kept.kept.items) (sym (flat_of_map (λ (l : List (ℕ × ℕ)). l) (λ (v : Vec (ℕ × ℕ) Global). v.items) c.in_ok-seat.lists.items)) c.in_ok-kept.ensures.same in
-    subst (All (λ q. BeginsIn h window q.1)) (sym c.as_slice.ensures.value)
-    (all_from_in (λ q. BeginsIn h window q.1) c.in_ok-kept.kept.items
-    (λ q i. all_begin h window c.args.items.now q c.requires.scope.valid c.requires.items (merged_from c.args.claims.now (place_in c.args.scope.now) ps c.args.seat c.in_ok-seat.seat lists
-    c.in_ok-seat.ensures.ok c.in_ok-kept.kept.items perm q i)))
-
-pub returns-then-workers-eq1-clause-offers : goal.returns-then-workers-eq1-clause-offers
-returns-then-workers-eq1-clause-offers g c =
+pub returns-then-workers-eq1-clause-ok : goal.returns-then-workers-eq1-clause-ok
+returns-then-workers-eq1-clause-ok g c =
     let s = c.args.scope.now in
-    adds c.args.claims.now (place_in s) (all_pairs_in s c.args.items.now) c.args.seat c.in_ok-offer_alone.field-0.0
-    (c.in_ok-offer_alone.field-0.1.items ∷ []) c.in_ok-offer_alone.ensures.offered c.in_ok-offer_alone.field-0.0.hand.offers refl
-
-pub returns-clause-offers : goal.returns-clause-offers
-returns-clause-offers g c =
-    let h = c.args.scope.now.heap.now in
-    let window : List ℕ = c.args.scope.now.window.now in
-    adds c.args.claims.now (place_in c.args.scope.now) (all_pairs h window c.args.items.now) c.args.seat c.in_ok-seat.seat
-    (map (λ (v : Vec (ℕ × ℕ) Global). v.items) c.in_ok-seat.lists.items) c.in_ok-seat.ensures.ok c.still_there.new.seat.hand.offers c.in_ok-won.ensures.seat.2
-
-pub returns-clause-won : goal.returns-clause-won
-returns-clause-won g c =
-    let h = c.args.scope.now.heap.now in
-    let window : List ℕ = c.args.scope.now.window.now in
-    let ps : List (ℕ × ℕ) = all_pairs h window c.args.items.now in
-    let lists = map (λ (v : Vec (ℕ × ℕ) Global). v.items) c.in_ok-seat.lists.items in
-    let perm : IsPermutation (flat_map (λ (l : List (ℕ × ℕ)). l) lists) c.in_ok-kept.kept.items =
-    subst (λ l. IsPermutation l c.in_ok-kept.kept.items) (sym (flat_of_map (λ (l : List (ℕ × ℕ)). l) (λ (v : Vec (ℕ × ℕ) Global). v.items) c.in_ok-seat.lists.items)) c.in_ok-kept.ensures.same in
-    c.in_ok-won.ensures.won
-    ∙ ap (winners (place_in c.args.scope.now) c.in_ok-seat.seat.hand.offers) c.as_slice.ensures.value
-    ∙ round_won c.args.claims.now (place_in c.args.scope.now) ps c.args.seat c.in_ok-seat.seat lists c.in_ok-seat.ensures.ok c.in_ok-kept.kept.items perm
-    c.requires.rise c.requires.above c.in_ok-kept.ensures.in_order
-    ∙ ap (λ (os : List Offer). winners (place_in c.args.scope.now) os ps) (sym c.in_ok-won.ensures.seat.2)
+    let offered = c.in_ok-offer_alone.ensures.offered in record {
+      table = offered.seat;
+      whole = offered.whole;
+      offers = adds c.args.claims.now (place_in s) (all_pairs_in s c.args.items.now) c.args.seat c.in_ok-offer_alone.field-0.0
+          (c.in_ok-offer_alone.field-0.1.items ∷ []) offered c.in_ok-offer_alone.field-0.0.hand.offers refl;
+      won = c.in_ok-offer_alone.ensures.won;
+      settled = offered.settled;
+    }

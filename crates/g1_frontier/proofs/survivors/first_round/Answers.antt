@@ -50,7 +50,7 @@ returns-clause-ok g c =
     let listed : c.as_slice-items.result.now ≡ first_items (length h.roots) c.args.cards.now =
     c.as_slice-items.ensures.value ∙ c.in_ok-first.ensures ∙ ap (λ (l : List ℕ). first_items (length l) c.args.cards.now) c.roots.ensures in
     let none : c.in_ok-claims.seat.hand.offers ≡ [] = ap (λ (v : Hand). v.offers) c.in_ok-claims.ensures.hand in
-    let r = c.in_ok-seat.ensures in
+    let r = c.in_ok-seat.ensures.ok in
     first_search h c.requires.scope.valid window c.args.cards.now c.requires.scope.regions c.requires.cards c.requires.outside c.requires.lead_in
     (place_count c.args.scope.now) (place_in c.args.scope.now) c.requires.scope.numbers
     (record { claims = c.in_ok-claims.claims; seat = c.in_ok-seat.seat; found = c.push_addresses.new.found; from = 0; next = length c.roots.result.now + length c.words.result.now })

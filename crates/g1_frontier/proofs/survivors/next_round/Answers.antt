@@ -77,7 +77,7 @@ returns-clause-ok g c =
     let cut : take (length c.deref.result.now - s.from) (drop s.from c.deref.result.now) ≡ drop s.from s.found.items =
     ap (λ (l : List ℕ). take (length l - s.from) (drop s.from l)) c.deref.ensures.value ∙ rest_is s.found.items s.from in
     let listed : c.as_slice-items.result.now ≡ object_items h s.next (drop s.from s.found.items) = c.as_slice-items.ensures.value ∙ c.in_ok-items.ensures.items ∙ ap (object_items h s.next) cut in
-    let r = c.in_ok-seat.ensures in
+    let r = c.in_ok-seat.ensures.ok in
     next_search h c.requires.scope.valid window c.requires.scope.regions s c.requires.search c.requires.scope.numbers
     (record { claims = s.claims; seat = c.in_ok-seat.seat; found = c.push_addresses.new.found; from = c.len-from.result; next = c.in_ok-items.next })
     r.table

@@ -16,5 +16,11 @@ loop-k-preserved g c =
       rest = λ j a b. slice_above w c.args.count k j e ws ys len c.loop-k-test.true (omega arith) cut new ∙ c.loop-k.invariant.rest j (omega arith) b;
     }
 
+pub returns : goal.returns
+returns g c = record {
+  size = c.loop-k.auto.words;
+  each = λ j lt. c.loop-k.invariant.done j (let e = c.loop-k.auto.k-end in omega (arith, e, lt, c.loop-k-test.false));
+}
+
 pub loop-k-smaller : goal.loop-k-smaller
 loop-k-smaller g c = omega (arith, c.loop-k-test.true)

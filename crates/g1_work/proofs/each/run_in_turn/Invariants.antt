@@ -1,5 +1,5 @@
 use Rattle.g1_work.specs.Worker.{AreBack}
-use Rattle.g1_work.proofs.each.run_all.Given as goal
+use Rattle.g1_work.proofs.each.run_in_turn.Given as goal
 
 abbrev pub invariant-loop-worker : goal.invariant-loop-worker
 invariant-loop-worker g l = record {

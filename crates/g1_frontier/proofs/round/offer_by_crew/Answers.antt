@@ -1,0 +1,46 @@
+use Rattle.std.proofs.Common.{◌∙◌, ℕ, List, Vec, Global, ap, sym, subst, map, IsPermutation, All}
+use Rattle.std.specs.List.{flat_map}
+use Rattle.g1_frontier.specs.Numbers.{BeginsIn}
+use Rattle.g1_claim.specs.declared.rule.Offer.{Offer}
+use Rattle.g1_frontier.specs.Items.{all_pairs}
+use Rattle.g1_claim.specs.Claims.{IsSettled}
+use Rattle.g1_frontier.specs.Round.{winners}
+use Rattle.g1_frontier.proofs.Seeds.{flat_of_map}
+use Rattle.g1_frontier.proofs.Scopes.{all_from_in}
+use Rattle.g1_frontier.proofs.Claimed.{lists_rise, all_begin, adds, merged_from, round_won}
+use Rattle.g1_frontier.specs.Scope.{place_in, all_pairs_in}
+use Rattle.g1_frontier.proofs.round.offer_by_crew.Goals as goal
+
+pub merge-requires : goal.merge-requires
+merge-requires g c = record { rise = lists_rise c.in_ok-seat.lists.items c.in_ok-seat.ensures.ok.rise }
+
+pub still_there-requires-clause-inside : goal.still_there-requires-clause-inside
+still_there-requires-clause-inside g c =
+    let h = c.args.scope.now.heap.now in
+    let window : List ℕ = c.args.scope.now.window.now in
+    let ps : List (ℕ × ℕ) = all_pairs h window c.args.items.now in
+    let lists = map (λ (v : Vec (ℕ × ℕ) Global). v.items) c.in_ok-seat.lists.items in
+    let perm : IsPermutation (flat_map (λ (l : List (ℕ × ℕ)). l) lists) c.in_ok-kept.kept.items =
+    subst (λ l. IsPermutation l c.in_ok-kept.kept.items) (sym (flat_of_map (λ (l : List (ℕ × ℕ)). l) (λ (v : Vec (ℕ × ℕ) Global). v.items) c.in_ok-seat.lists.items)) c.in_ok-kept.ensures.same in
+    subst (All (λ q. BeginsIn h window q.1)) (sym c.as_slice.ensures.value)
+    (all_from_in (λ q. BeginsIn h window q.1) c.in_ok-kept.kept.items
+    (λ q i. all_begin h window c.args.items.now q c.requires.places.scope.valid c.requires.items (merged_from c.args.claims.now (place_in c.args.scope.now) ps c.args.seat c.in_ok-seat.seat lists
+    c.in_ok-seat.ensures.ok c.in_ok-kept.kept.items perm q i)))
+
+pub returns-clause-ok : goal.returns-clause-ok
+returns-clause-ok g c =
+    let ps : List (ℕ × ℕ) = all_pairs_in c.args.scope.now c.args.items.now in
+    let lists = map (λ (v : Vec (ℕ × ℕ) Global). v.items) c.in_ok-seat.lists.items in
+    let perm : IsPermutation (flat_map (λ (l : List (ℕ × ℕ)). l) lists) c.in_ok-kept.kept.items =
+    subst (λ l. IsPermutation l c.in_ok-kept.kept.items) (sym (flat_of_map (λ (l : List (ℕ × ℕ)). l) (λ (v : Vec (ℕ × ℕ) Global). v.items) c.in_ok-seat.lists.items)) c.in_ok-kept.ensures.same in
+    let same = c.in_ok-won.ensures.seat.2 in record {
+      table = c.in_ok-won.ensures.seat.0;
+      whole = c.in_ok-won.ensures.seat.1;
+      offers = adds c.args.claims.now (place_in c.args.scope.now) ps c.args.seat c.in_ok-seat.seat lists c.in_ok-seat.ensures.ok c.still_there.new.seat.hand.offers same;
+      won = c.in_ok-won.ensures.won
+          ∙ ap (winners (place_in c.args.scope.now) c.in_ok-seat.seat.hand.offers) c.as_slice.ensures.value
+          ∙ round_won c.args.claims.now (place_in c.args.scope.now) ps c.args.seat c.in_ok-seat.seat lists c.in_ok-seat.ensures.ok c.in_ok-kept.kept.items perm
+          c.requires.rise c.requires.above c.in_ok-kept.ensures.in_order
+          ∙ ap (λ (os : List Offer). winners (place_in c.args.scope.now) os ps) (sym same);
+      settled = subst IsSettled (sym same) c.in_ok-seat.ensures.ok.settled;
+    }
