@@ -1,5 +1,7 @@
 -- No pause of an image names a device, so a run that is refused gives what it may.
 use Rattle.std.proofs.Common.{◌≡◌, ◌≢◌, ℕ, ◌⊎◌, inl, inr, Bool, List, ◌∷◌, Option, Some, None, IfSome, Result, Ok, Err, refl, sym, ◌∙◌, subst}
+use Rattle.std.specs.Io.KnownBytes.{IsAtEnd}
+use Rattle.std.specs.Prelude.{OnOk}
 use Rattle.std.proofs.KnownBytes.{Keeps-refl}
 use Rattle.g1_words.specs.declared.fault.Fault.{Fault}
 use Rattle.g1_words.specs.declared.fault.Fault.TheVariants as fault
@@ -13,7 +15,7 @@ use Rattle.g1_image.specs.Sink.{Writes}
 use Rattle.g1_choose.specs.declared.parameters.Cost.{Cost}
 use Rattle.g1_pause.specs.declared.settings.Choice.{Choice}
 use Rattle.g1_pause.specs.Answer.{IsEvacuated, IsAnswer, unread}
-use Rattle.g1_pause.specs.Streams.{RunGives, input_mark, output_mark}
+use Rattle.g1_pause.specs.Streams.{RunGives, WritesNoFault, input_mark, output_mark}
 
 evacuated : (cost : Cost) (choice : Choice) (i : Image) (d : Device) → IsEvacuated cost choice i (Err (fault.Device d)) → ⊥
 evacuated cost choice i d e = elim e [ ]
@@ -73,3 +75,33 @@ pub run_written : (cost : Cost) (choice : Choice) (left old new : Option (List �
     → IfSome left (λ xs. RunGives cost choice xs old new r)
 run_written cost choice None old new i j l r t told after text is w = tt
 run_written cost choice (Some xs) old new i j l r t told after text is w = gives cost choice xs text old new r (told xs text t (subst (IsTextIn Two text) after is)) w
+
+-- a run that is refused before it writes keeps what was written
+pub unwritten : (old : Option (List ℕ)) (e : Fault) → WritesNoFault {X = Unit {0}} old old (Err e)
+unwritten old fault.Memory = Keeps-refl old
+unwritten old (fault.Device device.Input) = Keeps-refl old
+unwritten old (fault.Device device.Output) = tt
+unwritten old _ = Keeps-refl old
+
+-- the mark that a refused read leaves is the run's
+pub same_input : (mark : Bool) (e : Fault) → input_mark {X = Image} mark (Err e) ≡ input_mark {X = Unit {0}} mark (Err e)
+same_input mark (fault.Device device.Input) = refl
+same_input mark _ = refl
+
+pub read_out : (left : Option (List ℕ)) (r : Result (Unit {0}) Fault) → IsAtEnd left → OnOk r (IsAtEnd left)
+read_out left (Ok u) end = end
+read_out left (Err e) end = tt
+
+-- what was sent to the sink is no fault of the input's, and is nothing where memory was wanted
+pub sent_keeps : (text : List ℕ) (old new : Option (List ℕ)) (r : Result (Unit {0}) Fault) → Writes text old new r → WritesNoFault old new r
+sent_keeps text old new (Ok u) w = tt
+sent_keeps text old new (Err fault.Memory) w = w
+sent_keeps text old new (Err (fault.Device device.Output)) w = tt
+sent_keeps text old new (Err _) w = absurd w
+
+pub sent_input : (text : List ℕ) (old new : Option (List ℕ)) (r : Result (Unit {0}) Fault) (mark : Bool) → Writes text old new r → mark ≡ input_mark mark r
+sent_input text old new (Err (fault.Device device.Input)) mark w = absurd w
+sent_input text old new (Err fault.Memory) mark w = refl
+sent_input text old new (Err (fault.Device device.Output)) mark w = refl
+sent_input text old new (Ok u) mark w = refl
+sent_input text old new (Err _) mark w = absurd w

@@ -1,13 +1,15 @@
 -- The report of a pause that was made ready.
-use Rattle.std.proofs.Common.{◌≡◌, ℕ, List, length, sym, ◌∙◌, subst}
+use Rattle.std.proofs.Common.{◌≡◌, ℕ, List, length, sym, ◌∙◌, ap, subst}
 use Rattle.std.specs.Prelude.{sum}
 use Rattle.g1_words.specs.Survivors.{Survivors}
 use Rattle.g1_words.specs.Layout.{sizes_of, to_space}
 use Rattle.g1_words.specs.Valid.{IsValid}
-use Rattle.g1_image.specs.Image.{Image}
+use Rattle.g1_image.specs.Image.{Image, IsImage}
 use Rattle.g1_after.specs.Made.{image_moved}
 use Rattle.g1_after.specs.Moved.{IsMoved}
 use Rattle.g1_choose.specs.declared.parameters.Cost.{Cost}
+use Rattle.g1_layout.specs.Plan.{Plan}
+use Rattle.g1_copy.specs.Plans.{IsPauseOf}
 use Rattle.g1_copy.specs.Prepared.{IsMadeFor, Prepared}
 use Rattle.g1_pause.specs.declared.settings.Choice.{Choice}
 use Rattle.g1_pause.specs.declared.report.Report.{Report}
@@ -29,3 +31,10 @@ reported cost choice i set l p x valid chosen made same to objects words humongo
   moved = subst (λ y. IsMoved i y l (image_moved i set l)) (sym same) (made_is_moved i set l (built i.heap valid) made.room.ordinary made.room.survivors made.room.room);
   humongous = humongous ∙ made.humongous;
 }
+
+-- the report of a plan that was made ready
+pub told_of : (cost : Cost) (choice : Choice) (i : Image) (p : Plan) (q : Prepared) (x : Report) → IsImage i → (set : List ℕ) → IsSetFor cost i choice set → IsPauseOf i.heap set p
+    → IsMadeFor q i set p.survivors → x.set.items ≡ set → x.to.items ≡ p.to_space → x.objects ≡ length p.survivors → x.words ≡ p.words → x.humongous.items ≡ q.humongous → IsReport cost choice i x
+told_of cost choice i p q x image set chosen pause made same to objects words humongous =
+    reported cost choice i set p.survivors q x image.heap chosen made same
+    (to ∙ ap (λ (z : Plan). z.to_space) pause.made.plan) objects (words ∙ ap (λ (z : Plan). z.words) pause.made.plan) humongous

@@ -1,7 +1,7 @@
 use Rattle.std.proofs.Common.{◌∙◌}
 use Rattle.std.proofs.lemmas.Result.{err_from_is_err_and}
 use Rattle.g1_words.specs.declared.fault.Device.TheVariants as device
-use Rattle.g1_pause.proofs.NoDevice.{leaves_input, leaves_output, run_unread, run_refused, run_written}
+use Rattle.g1_pause.proofs.NoDevice.{leaves_input, leaves_output, run_unread, run_refused, run_written, unwritten, same_input, read_out, sent_keeps, sent_input}
 use Rattle.g1_pause.proofs.run_streams.pause_run.Goals as goal
 
 pub returns-in_err-before-clause-answer : goal.returns-in_err-before-clause-answer
@@ -14,6 +14,37 @@ pub returns-in_err-before-clause-output : goal.returns-in_err-before-clause-outp
 returns-in_err-before-clause-output g c =
     let same = err_from_is_err_and c.from_residual.result c.from_residual.ensures.1 in
     rw (same.1, same.2) (leaves_output (g.O.Sink.failed c.args.writer.now) c.in_err-before.field-0.0 c.in_err-before.ensures.no_output)
+
+pub returns-in_err-before-clause-unwritten : goal.returns-in_err-before-clause-unwritten
+returns-in_err-before-clause-unwritten g c =
+    let same = err_from_is_err_and c.from_residual.result c.from_residual.ensures.1 in
+    rw (same.1, same.2) (unwritten (g.O.Sink.written c.args.writer.now) c.in_err-before.field-0.0)
+
+pub returns-in_err-before-clause-input : goal.returns-in_err-before-clause-input
+returns-in_err-before-clause-input g c =
+    let same = err_from_is_err_and c.from_residual.result c.from_residual.ensures.1 in
+    rw (same.1, same.2) (c.in_err-before.ensures.marks ∙ same_input (g.I.Source.failed c.args.reader.now) c.in_err-before.field-0.0)
+
+pub returns-in_err-before-clause-end : goal.returns-in_err-before-clause-end
+returns-in_err-before-clause-end g c =
+    let same = err_from_is_err_and c.from_residual.result c.from_residual.ensures.1 in
+    rw same.1 tt
+
+pub returns-in-Ok-clause-end : goal.returns-in-Ok-clause-end
+returns-in-Ok-clause-end g c = read_out (g.I.Source.left c.read_by.new.source) c.write.result c.in_ok-before.ensures.end
+
+pub returns-in-Ok-clause-unwritten : goal.returns-in-Ok-clause-unwritten
+returns-in-Ok-clause-unwritten g c =
+    let text = c.write.ensures.text in
+    sent_keeps text.0 (g.O.Sink.written c.args.writer.now) (g.O.Sink.written c.write.new.sink) c.write.result text.2
+
+pub returns-in-Ok-clause-input : goal.returns-in-Ok-clause-input
+returns-in-Ok-clause-input g c =
+    let text = c.write.ensures.text in
+    c.in_ok-before.ensures.marks ∙ sent_input text.0 (g.O.Sink.written c.args.writer.now) (g.O.Sink.written c.write.new.sink) c.write.result (g.I.Source.failed c.args.reader.now) text.2
+
+pub returns-in-Ok-clause-output : goal.returns-in-Ok-clause-output
+returns-in-Ok-clause-output g c = c.write.ensures.mark
 
 pub returns-in-Ok-clause-answer : goal.returns-in-Ok-clause-answer
 returns-in-Ok-clause-answer g c =
@@ -32,3 +63,9 @@ returns-in-Err-clause-input g c = c.in_ok-before.ensures.marks ∙ leaves_input 
 
 pub returns-in-Err-clause-output : goal.returns-in-Err-clause-output
 returns-in-Err-clause-output g c = leaves_output (g.O.Sink.failed c.args.writer.now) c.in-Err.fault (c.in-Err.ensures.no_device device.Output)
+
+pub returns-in-Err-clause-end : goal.returns-in-Err-clause-end
+returns-in-Err-clause-end g c = tt
+
+pub returns-in-Err-clause-unwritten : goal.returns-in-Err-clause-unwritten
+returns-in-Err-clause-unwritten g c = unwritten (g.O.Sink.written c.args.writer.now) c.in-Err.fault
