@@ -47,8 +47,9 @@ fn push_counts(
     if roots {
         text.push_str(" roots 1")?;
     }
-    for (kind, count) in KINDS.iter().zip(differences.counts.iter()) {
+    for (place, count) in differences.counts.iter().enumerate() {
         if *count > 0 {
+            let kind = KINDS.get(place).copied().unwrap_or("");
             write!(text, " {kind} {count}")?;
         }
     }

@@ -36,6 +36,11 @@ pub struct Word<'a> {
     pub number: Option<u64>,
 }
 
+// The forms of the lines that have a number.
+const ROOT: &str = "'root NUMBER NAME'";
+
+const LABEL: &str = "'label WORD TYPE'";
+
 impl<'a> Names<'a> {
     /// The names in the text of the file of this name.
     pub fn read(alloc: Global, file: &str, text: &'a str) -> Result<Names<'a>, Refusal> {
@@ -46,55 +51,83 @@ impl<'a> Names<'a> {
             objects: Vec::new(alloc),
             kinds: Vec::new(alloc),
         };
-        let mut number = 0u64;
-        for line in text.split('\n') {
-            number = number.saturating_add(1);
-            let words = line
-                .split_ascii_whitespace()
-                .collect::<Vec<&'a str>>(alloc)?;
-            if let Some(expected) = names.add(alloc, words.as_slice())? {
-                return Err(wrong_name(alloc, file, number, expected));
-            }
-        }
+        names.add_lines(alloc, file, text)?;
         names.objects.sort_unstable();
         Ok(names)
     }
 
-    // What is expected instead of these words, if they are no line of names.
+    fn add_lines(&mut self, alloc: Global, file: &str, text: &'a str) -> Result<(), Refusal> {
+        let mut number = 0u64;
+        for line in text.split('\n') {
+            number = number.saturating_add(1);
+            if let Some(expected) = self.add_line(alloc, line)? {
+                return Err(wrong_name(alloc, file, number, expected));
+            }
+        }
+        Ok(())
+    }
+
+    // What is expected instead of this line, if it is no line of names.
+    fn add_line(
+        &mut self,
+        alloc: Global,
+        line: &'a str,
+    ) -> Result<Option<&'static str>, AllocError> {
+        let words = line
+            .split_ascii_whitespace()
+            .collect::<Vec<&'a str>>(alloc)?;
+        match words.as_slice() {
+            [] => Ok(None),
+            [first, rest @ ..] => self.add(alloc, first, rest),
+        }
+    }
+
+    // What is expected instead of a word and those behind it, if they are no line of names.
     fn add(
+        &mut self,
+        alloc: Global,
+        first: &str,
+        rest: &[&'a str],
+    ) -> Result<Option<&'static str>, AllocError> {
+        match first {
+            "root" => add_numbered(&mut self.roots, rest, ROOT, "a whole number behind 'root'"),
+            "label" => {
+                add_numbered(
+                    &mut self.labels,
+                    rest,
+                    LABEL,
+                    "a whole number behind 'label'",
+                )
+            }
+            "type" => self.add_type(alloc, rest),
+            "object" => self.add_object(rest),
+            _ => Ok(Some("'root', 'type', 'label' or 'object'")),
+        }
+    }
+
+    fn add_type(
         &mut self,
         alloc: Global,
         words: &[&'a str],
     ) -> Result<Option<&'static str>, AllocError> {
         match words {
-            [] => Ok(None),
-            ["root", number, name] => {
-                add_numbered(
-                    &mut self.roots,
-                    number,
-                    name,
-                    "a whole number behind 'root'",
-                )
-            }
-            ["label", word, name] => {
-                add_numbered(
-                    &mut self.labels,
-                    word,
-                    name,
-                    "a whole number behind 'label'",
-                )
-            }
-            ["type", name, "slots", rest @ ..] if rest.contains(&"data") => {
+            [name, "slots", rest @ ..] if rest.contains(&"data") => {
                 self.types.push((*name, Vec::from_slice(alloc, rest)?))?;
                 Ok(None)
             }
-            ["object", address, name] => self.add_object(address, name, ""),
-            ["object", address, name, note] => self.add_object(address, name, note),
-            [first, ..] => Ok(Some(expected_of(first))),
+            _ => Ok(Some("'type TYPE slots NAME .. data NAME ..'")),
         }
     }
 
-    fn add_object(
+    fn add_object(&mut self, words: &[&'a str]) -> Result<Option<&'static str>, AllocError> {
+        match words {
+            [address, name] => self.add_kind(address, name, ""),
+            [address, name, note] => self.add_kind(address, name, note),
+            _ => Ok(Some("'object ADDRESS TYPE', and at most one word more")),
+        }
+    }
+
+    fn add_kind(
         &mut self,
         address: &str,
         name: &'a str,
@@ -150,16 +183,19 @@ impl<'a> Names<'a> {
     }
 }
 
-// Adds a name and its number, or returns what is expected instead of the number.
+// Adds a number and its name, or returns what is expected: a line of this form, or its number.
 fn add_numbered<'a>(
     list: &mut Vec<(u64, &'a str)>,
-    number: &str,
-    name: &'a str,
+    words: &[&'a str],
+    form: &'static str,
     expected: &'static str,
 ) -> Result<Option<&'static str>, AllocError> {
+    let [number, name] = words else {
+        return Ok(Some(form));
+    };
     match whole(number) {
         Some(number) => {
-            list.push((number, name))?;
+            list.push((number, *name))?;
             Ok(None)
         }
         None => Ok(Some(expected)),
@@ -199,14 +235,4 @@ fn numbered<'a>(names: &[&'a str], number: u64) -> Option<Word<'a>> {
     }
     let name = names.get(number as usize).copied()?;
     Some(Word { name, number: None })
-}
-
-fn expected_of(first: &str) -> &'static str {
-    match first {
-        "root" => "'root NUMBER NAME'",
-        "type" => "'type TYPE slots NAME .. data NAME ..'",
-        "label" => "'label WORD TYPE'",
-        "object" => "'object ADDRESS TYPE', and at most one word more",
-        _ => "'root', 'type', 'label' or 'object'",
-    }
 }

@@ -25,6 +25,11 @@ pub fn push_named_path(
         None => write!(text, "root {root}")?,
     }
     let runs = runs_of(alloc, heap, names, root, slots)?;
+    push_ends(text, runs.as_slice())
+}
+
+// Adds the steps, of many only the first and the last ones.
+fn push_ends(text: &mut String, runs: &[Run]) -> Result<(), AllocError> {
     let (first, rest) = runs.split_at(runs.len().min(END));
     let (middle, last) = rest.split_at(rest.len().saturating_sub(END));
     push_runs(text, first, false)?;

@@ -67,9 +67,7 @@ impl Search {
         if let Some((number, word)) = stale.roots.first() {
             return Ok(Some((self.path(alloc, 0, *number)?, *word)));
         }
-        for (number, root) in heap.roots().iter().enumerate() {
-            self.add(*root, 0, number as u64)?;
-        }
+        self.add_roots(heap)?;
         for place in 0..heap.words().len() {
             let Some(address) = self.objects.get(place).copied() else {
                 break;
@@ -80,6 +78,13 @@ impl Search {
             }
         }
         Ok(None)
+    }
+
+    fn add_roots(&mut self, heap: &Heap) -> Result<(), AllocError> {
+        for (number, root) in heap.roots().iter().enumerate() {
+            self.add(*root, 0, number as u64)?;
+        }
+        Ok(())
     }
 
     // Adds the object that a word references, if it is new.

@@ -250,7 +250,9 @@ fn word(text: &[u8], at: usize) -> u64 {
 }
 
 fn null(text: &mut [u8], at: usize) {
-    for byte in text.iter_mut().skip(at).take(8) {
-        *byte = 0;
+    for place in at..at.saturating_add(8) {
+        if let Some(byte) = text.get_mut(place) {
+            *byte = 0;
+        }
     }
 }

@@ -40,23 +40,8 @@ pub fn walk(
     most: u64,
 ) -> Result<Differences, AllocError> {
     let mut tour = Tour::new(alloc, sides, most)?;
-    for (number, (old, new)) in sides
-        .before
-        .roots()
-        .iter()
-        .zip(sides.after.roots().iter())
-        .enumerate()
-    {
-        let number = number as u64;
-        let word = stale.and_then(|stale| word_of(stale.roots.as_slice(), number));
-        tour.meet(alloc, sides, Step { from: 0, number }, (*old, *new), word)?;
-    }
-    for place in 0..sides.before.words().len() {
-        let Some(pair) = tour.pairs.get(place).copied() else {
-            break;
-        };
-        tour.visit(alloc, sides, stale, place as u64, pair)?;
-    }
+    tour.meet_roots(alloc, sides, stale)?;
+    tour.visit_all(alloc, sides, stale)?;
     Ok(tour.differences)
 }
 
@@ -94,6 +79,40 @@ impl Tour {
                 counts: [0; 7],
             },
         })
+    }
+
+    // Meets what the roots reference that both heaps have.
+    fn meet_roots(
+        &mut self,
+        alloc: Global,
+        sides: Sides<'_>,
+        stale: Option<&Stale>,
+    ) -> Result<(), AllocError> {
+        for (number, old) in sides.before.roots().iter().enumerate() {
+            let Some(new) = sides.after.roots().get(number) else {
+                break;
+            };
+            let number = number as u64;
+            let word = stale.and_then(|stale| word_of(stale.roots.as_slice(), number));
+            self.meet(alloc, sides, Step { from: 0, number }, (*old, *new), word)?;
+        }
+        Ok(())
+    }
+
+    // Visits the pairs in the order in which they are found.
+    fn visit_all(
+        &mut self,
+        alloc: Global,
+        sides: Sides<'_>,
+        stale: Option<&Stale>,
+    ) -> Result<(), AllocError> {
+        for place in 0..sides.before.words().len() {
+            let Some(pair) = self.pairs.get(place).copied() else {
+                break;
+            };
+            self.visit(alloc, sides, stale, place as u64, pair)?;
+        }
+        Ok(())
     }
 
     // Meets what the slots of two objects reference.

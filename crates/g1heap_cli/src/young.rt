@@ -63,16 +63,24 @@ fn text_with(alloc: Global, text: &[u8], cards: &[u32]) -> Result<Option<Vec<u8>
     let dirty = number(text, Parts::DIRTY_AT).saturating_add(cards.len() as u64);
     let dirty = u32::try_from(dirty).unwrap_or(u32::MAX);
     let mut changed = Vec::from_slice(alloc, log)?;
-    for (byte, new) in changed
-        .iter_mut()
-        .skip(Parts::DIRTY_AT)
-        .zip(dirty.to_le_bytes().iter())
-    {
-        *byte = *new;
-    }
-    for card in cards {
-        changed.extend_from_slice(&card.to_le_bytes())?;
-    }
+    set_number(&mut changed, Parts::DIRTY_AT, dirty);
+    push_cards(&mut changed, cards)?;
     changed.extend_from_slice(sets)?;
     Ok(Some(changed))
+}
+
+// Writes a number at a place of a text.
+fn set_number(text: &mut [u8], at: usize, number: u32) {
+    for (place, new) in number.to_le_bytes().iter().enumerate() {
+        if let Some(byte) = text.get_mut(at.saturating_add(place)) {
+            *byte = *new;
+        }
+    }
+}
+
+fn push_cards(text: &mut Vec<u8>, cards: &[u32]) -> Result<(), AllocError> {
+    for card in cards {
+        text.extend_from_slice(&card.to_le_bytes())?;
+    }
+    Ok(())
 }
