@@ -1,4 +1,4 @@
-use Rattle.std.proofs.Common.{arith, ap, ◌≡◌, ◌∙◌, ℕ, [], length, slice_index}
+use Rattle.std.proofs.Common.{arith, ap, ◌≡◌, ◌∙◌, ℕ, length, slice_index}
 use Rattle.std.proofs.lemmas.List.{get_or-replicate, length-replicate}
 use Rattle.g1_kept.proofs.pairs.start.Goals as goal
 
