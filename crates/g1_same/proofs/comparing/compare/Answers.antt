@@ -30,4 +30,3 @@ returns-clause-same c =
     let count : length g.roots ≡ length h.roots = ap length (sym c.roots-roots.ensures) ∙ c.if-roots.false ∙ ap length c.roots.ensures in
     renaming g h c.in_ok-walk.ensures.before c.in_ok-walk.ensures.after w c.in_ok-stop-2.ensures.walk count c.in_ok-stop-2.ensures.roots
     (none_then (LinksPairs g h w (length w.before.items)) c.in_ok-stop-2.field-0 c.in_default-2.not-Some c.in_ok-stop-2.ensures.pairs)
-

@@ -16,6 +16,12 @@ link-requires-clause-y c =
     let lt : c.loop-number.number < length c.args.after.now.roots = let k = ap length c.roots-roots.ensures in omega (arith, k, c.requires.roots) in
     subst (λ l. Names c.args.after.now (slice_index l c.loop-number.number)) (sym c.roots-others.ensures) (root_names c.args.after.now c.loop-number.number c.valid-2.ensures lt)
 
+pub link-requires-clause-walk : goal.link-requires-clause-walk
+link-requires-clause-walk c = c.loop-number.invariant.walk
+
+pub link-requires-clause-below : goal.link-requires-clause-below
+link-requires-clause-below c = c.loop-number.invariant.below
+
 pub loop-number-preserved : goal.loop-number-preserved
 loop-number-preserved c =
     let g : Heap = c.args.before.now in

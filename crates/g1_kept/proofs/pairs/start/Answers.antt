@@ -1,0 +1,35 @@
+use Rattle.std.proofs.Common.{arith, ap, ◌≡◌, ◌∙◌, ℕ, length, slice_index}
+use Rattle.std.proofs.lemmas.List.{get_or-replicate, length-replicate}
+use Rattle.g1_kept.proofs.pairs.start.Goals as goal
+
+pub returns-clause-walk : goal.returns-clause-walk
+returns-clause-walk c =
+    let p = c.args.pause.now in
+    let m : ℕ = length c.words.result.now in
+    let n : ℕ = length c.words-2.result.now in
+    let before : length c.new.result.items ≡ 0 = ap length c.new.ensures.items in
+    let after : length c.new-2.result.items ≡ 0 = ap length c.new-2.ensures.items in
+    let new_of : length c.in_ok-zeros.field-0.items ≡ m = ap length c.in_ok-zeros.ensures ∙ length-replicate {A = ℕ} m 0 in
+    let old_of : length c.in_ok-zeros-2.field-0.items ≡ n = ap length c.in_ok-zeros-2.ensures ∙ length-replicate {A = ℕ} n 0 in
+    record {
+      table_before = new_of ∙ ap length c.words.ensures;
+      table_after = old_of ∙ ap length c.words-2.ensures;
+      index_before = λ a i lt. (
+        λ e.
+            let none : slice_index c.in_ok-zeros.field-0.items a ≡ 0 = ap (λ l. slice_index l a) c.in_ok-zeros.ensures ∙ get_or-replicate m a 0 0 (omega (arith, lt, new_of)) in
+            absurd (omega (arith, e, none)),
+        λ (p, e). absurd (omega (arith, p, before)),
+      );
+      index_after = λ b i lt. (
+        λ e.
+            let none : slice_index c.in_ok-zeros-2.field-0.items b ≡ 0 = ap (λ l. slice_index l b) c.in_ok-zeros-2.ensures ∙ get_or-replicate n b 0 0 (omega (arith, lt, old_of)) in
+            absurd (omega (arith, e, none)),
+        λ (p, e). absurd (omega (arith, p, after)),
+      );
+      pairs = omega (arith, before, after);
+      names_before = λ i p. absurd (omega (arith, p, before));
+      names_after = λ i p. absurd (omega (arith, p, before));
+      of_set = λ i p. absurd (omega (arith, p, before));
+      room = λ i p. absurd (omega (arith, p, before));
+      matched = λ i p. absurd (omega (arith, p, before));
+    }
