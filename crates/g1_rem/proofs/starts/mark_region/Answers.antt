@@ -1,4 +1,4 @@
-use Rattle.std.proofs.Common.{arith, ap, subst, ◌∙◌, ◌≡◌, ◌≤◌, ◌+◌, ◌*◌, ◌^◌, min, ℕ, length, map}
+use Rattle.std.proofs.Common.{arith, ap, subst, sym, ◌∙◌, ◌≡◌, ◌≤◌, ◌+◌, ◌*◌, ◌^◌, min, ℕ, length, map}
 use Rattle.std.specs.Prelude.{None}
 use Rattle.g1_words.specs.Heap.{start, object_at}
 use Rattle.g1_rem.specs.Marks.{IsMarkedTo}
@@ -42,6 +42,30 @@ pub overflow_add-at-in-objects : goal.overflow_add-at-in-objects
 overflow_add-at-in-objects c =
     let n = front (goal.at.overflow_add-at-in-objects c).In-objects in
     omega (arith, n.fits, c.geometry-geometry.ensures.valid.limits.words_most)
+
+pub mark-requires-clause-card : goal.mark-requires-clause-card
+mark-requires-clause-card c =
+    let k = c.card_words-k.ensures.value in
+    (omega (arith, k, c.card_words-k.ensures.limits.k_least), omega (arith, k, c.card_words-k.ensures.limits.k_most))
+
+pub mark-requires-clause-address : goal.mark-requires-clause-address
+mark-requires-clause-address c = omega (arith, c.min.ensures, c.requires.until)
+
+pub mark-requires-clause-room : goal.mark-requires-clause-room
+mark-requires-clause-room c =
+    let k : c.card_words-k.result ≡ c.args.heap.now.geometry.k = c.card_words-k.ensures.value ∙ ap (λ g. g.k) c.geometry-geometry.ensures.same in
+    subst (λ k. c.args.from + length c.objects.firsts.items * k ≤ 2 ^ 25) (sym k) c.objects.invariant.1
+
+pub mark-requires-in-objects-clause-card : goal.mark-requires-in-objects-clause-card
+mark-requires-in-objects-clause-card c =
+    let k = c.card_words-k.ensures.value in
+    (omega (arith, k, c.card_words-k.ensures.limits.k_least), omega (arith, k, c.card_words-k.ensures.limits.k_most))
+
+pub mark-requires-in-objects-clause-address : goal.mark-requires-in-objects-clause-address
+mark-requires-in-objects-clause-address c = omega (arith, c.min-in-objects.ensures, c.requires.until)
+
+pub mark-requires-in-objects-clause-room : goal.mark-requires-in-objects-clause-room
+mark-requires-in-objects-clause-room c = c.mark.ensures.room
 
 pub objects-smaller : goal.objects-smaller
 objects-smaller c =
