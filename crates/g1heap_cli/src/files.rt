@@ -71,26 +71,15 @@ pub fn read_side<T: Files, R: Read>(
     reader: &mut R,
 ) -> Result<(Found, Vec<u8>), Refusal> {
     if name != STANDARD_STREAM && is_file(rt, name) && !has_lines(rt, alloc, name)? {
-        if let Some(image) = image_in(rt, alloc, name)? {
-            return Ok((Found::Image(After::Image(image)), Vec::new(alloc)));
+        let file = open_file(rt, alloc, name)?;
+        match read(alloc, &mut FromReader::new(file)) {
+            Ok(image) => return Ok((Found::Image(After::Image(image)), Vec::new(alloc))),
+            // Lines may begin behind the bytes that were looked at.
+            Err(Fault::Reference(_)) | Err(Fault::Magic) => (),
+            Err(fault) => return Err(of_file(alloc, name, fault)),
         }
     }
     let bytes = read_bytes(rt, alloc, name, reader)?;
-    found_in(alloc, name, bytes)
-}
-
-// The image in a file, unless the file is to be read once more.
-fn image_in<T: Files>(rt: &T, alloc: Global, name: &str) -> Result<Option<Image>, Refusal> {
-    let file = open_file(rt, alloc, name)?;
-    match read(alloc, &mut FromReader::new(file)) {
-        Ok(image) => Ok(Some(image)),
-        // Lines may begin behind the bytes that were looked at.
-        Err(Fault::Reference(_)) | Err(Fault::Magic) => Ok(None),
-        Err(fault) => Err(of_file(alloc, name, fault)),
-    }
-}
-
-fn found_in(alloc: Global, name: &str, bytes: Vec<u8>) -> Result<(Found, Vec<u8>), Refusal> {
     if is_graph(bytes.as_slice()) {
         return Ok((Found::Lines, bytes));
     }
