@@ -55,28 +55,16 @@ pub fn how_line(
     slots: &[u64],
     how: &How,
 ) -> Result<String, AllocError> {
-    let mut text = String::new(alloc);
-    push_how(alloc, &mut text, sides, root, slots, how)?;
-    Ok(text)
-}
-
-fn push_how(
-    alloc: Global,
-    text: &mut String,
-    sides: Sides<'_>,
-    root: u64,
-    slots: &[u64],
-    how: &How,
-) -> Result<(), AllocError> {
     let kind = kind_word(how);
-    write!(text, "differ {kind} at ")?;
-    push_path(alloc, text, sides, root, slots)?;
+    let mut text = format!(in alloc; "differ {kind} at ")?;
+    push_path(alloc, &mut text, sides, root, slots)?;
     let old = word_at_path(sides.before, root, slots);
     let new = word_at_path(sides.after, root, slots);
-    push_before(text, sides, old)?;
-    push_after(text, sides, new)?;
-    push_detail(text, sides, how, old, new)?;
-    text.push('\n')
+    push_before(&mut text, sides, old)?;
+    push_after(&mut text, sides, new)?;
+    push_detail(&mut text, sides, how, old, new)?;
+    text.push('\n')?;
+    Ok(text)
 }
 
 /// The line of a path that leads to a stale word, which is null in the heap after.
@@ -149,19 +137,14 @@ fn push_stale_word(
     let kind = found.kind;
     write!(text, "in region {region}, {kind} after")?;
     if let Some(old) = old {
-        let what = former(sides.before, address, word == old);
+        let what = match object_at(sides.before, address) {
+            Some(_) if word == old => "the object was before",
+            Some(_) => "another object was before",
+            None => "no object starts",
+        };
         write!(text, ", where {what}")?;
     }
     text.push('\n')
-}
-
-// What was at an address before, where this is or isn't the word before.
-fn former(before: &Heap, address: u64, is_same: bool) -> &'static str {
-    match object_at(before, address) {
-        Some(_) if is_same => "the object was before",
-        Some(_) => "another object was before",
-        None => "no object starts",
-    }
 }
 
 /// What `differ` says of a kind of difference.

@@ -47,9 +47,8 @@ fn push_counts(
     if roots {
         text.push_str(" roots 1")?;
     }
-    for (place, count) in differences.counts.iter().enumerate() {
+    for (kind, count) in KINDS.iter().zip(differences.counts.iter()) {
         if *count > 0 {
-            let kind = KINDS.get(place).copied().unwrap_or("");
             write!(text, " {kind} {count}")?;
         }
     }

@@ -67,7 +67,9 @@ impl Search {
         if let Some((number, word)) = stale.roots.first() {
             return Ok(Some((self.path(alloc, 0, *number)?, *word)));
         }
-        self.add_roots(heap)?;
+        for (number, root) in heap.roots().iter().enumerate() {
+            self.add(*root, 0, number as u64)?;
+        }
         for place in 0..heap.words().len() {
             let Some(address) = self.objects.get(place).copied() else {
                 break;
@@ -78,13 +80,6 @@ impl Search {
             }
         }
         Ok(None)
-    }
-
-    fn add_roots(&mut self, heap: &Heap) -> Result<(), AllocError> {
-        for (number, root) in heap.roots().iter().enumerate() {
-            self.add(*root, 0, number as u64)?;
-        }
-        Ok(())
     }
 
     // Adds the object that a word references, if it is new.

@@ -56,19 +56,16 @@ const KINDS: [Kind; 4] = [
 
 fn push_regions(text: &mut String, heap: &Heap) -> Result<(), AllocError> {
     text.push_str("regions")?;
-    for kind in KINDS.iter() {
-        let count = count_of(heap, *kind);
+    for kind in KINDS {
+        let count = heap
+            .regions()
+            .iter()
+            .filter(|region| region.kind == kind)
+            .count();
         write!(text, " {kind} {count}")?;
     }
     let pinned = heap.regions().iter().filter(|region| region.pinned).count();
     write!(text, " pinned {pinned}\n")
-}
-
-fn count_of(heap: &Heap, kind: Kind) -> usize {
-    heap.regions()
-        .iter()
-        .filter(|region| region.kind == kind)
-        .count()
 }
 
 // The words below the tops of all regions, those of the objects that the roots reach, and the others.
