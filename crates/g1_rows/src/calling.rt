@@ -53,37 +53,23 @@ fn make<R: Threads + Sync>(call: &Call<'_, R>, watch: &mut Watch) -> Result<(), 
         }
         "cost" => pricing::price(call, watch),
         "total" => pricing::add(call, watch),
+        "deal" => sharing::deal(call, watch)?,
+        "claim" => sharing::claim(call, watch)?,
+        "each_chunk" => sharing::square(call, watch)?,
         "each_region_mut" => sharing::number(call, watch),
-        _ => return try_part(call, watch),
+        "merged" => reading::merge(call, watch)?,
+        "read" => reading::receive(call, watch)?,
+        "compare" => comparing::run(call, watch)?,
+        "parse_trace" => tracing::parse(call, watch)?,
+        "run_text" => tracing::run_whole(call, watch)?,
+        "run_trace" => tracing::run_parsed(call, watch)?,
+        "mutator_new" | "step" => tracing::run_steps(call, watch)?,
+        "evacuate" | "report" => pausing::evacuated(call, watch)?,
+        "pause_bytes" => pausing::from_bytes(call, watch)?,
+        "pause_run" => pausing::from_stream(call, watch)?,
+        _ => take_steps(call, watch)?,
     }
     Ok(())
-}
-
-/// Makes a call of a part that may refuse.
-fn try_part<R: Threads + Sync>(call: &Call<'_, R>, watch: &mut Watch) -> Result<(), Fault> {
-    match call.name {
-        "deal" => sharing::deal(call, watch),
-        "claim" => sharing::claim(call, watch),
-        "each_chunk" => sharing::square(call, watch),
-        "merged" => reading::merge(call, watch),
-        "read" => reading::receive(call, watch),
-        "compare" => comparing::run(call, watch),
-        _ => try_whole(call, watch),
-    }
-}
-
-/// Makes a trace or a pause, whole or by its steps.
-fn try_whole<R: Threads + Sync>(call: &Call<'_, R>, watch: &mut Watch) -> Result<(), Fault> {
-    match call.name {
-        "parse_trace" => tracing::parse(call, watch),
-        "run_text" => tracing::run_whole(call, watch),
-        "run_trace" => tracing::run_parsed(call, watch),
-        "mutator_new" | "step" => tracing::run_steps(call, watch),
-        "evacuate" | "report" => pausing::evacuated(call, watch),
-        "pause_bytes" => pausing::from_bytes(call, watch),
-        "pause_run" => pausing::from_stream(call, watch),
-        _ => take_steps(call, watch),
-    }
 }
 
 /// Takes the steps of a pause, in an order in which each has what it asks for, until one is refused.

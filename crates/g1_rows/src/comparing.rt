@@ -14,17 +14,8 @@ pub fn run<R>(call: &Call<'_, R>, watch: &mut Watch) -> Result<(), Fault> {
 
 fn compare_with<R>(call: &Call<'_, R>, before: &Heap, watch: &mut Watch) -> Result<(), Fault> {
     let after = decode(call.alloc, call.given.part(1))?;
-    compare_both(call.alloc, before, after.heap(), watch)
-}
-
-fn compare_both(
-    alloc: Global,
-    before: &Heap,
-    after: &Heap,
-    watch: &mut Watch,
-) -> Result<(), Fault> {
     watch.at("compare");
-    let line = line_of_both(alloc, before, after)?;
+    let line = line_of_both(call.alloc, before, after.heap())?;
     if watch.is_over() {
         watch.made(Ok(line));
     }

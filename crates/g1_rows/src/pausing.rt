@@ -47,17 +47,12 @@ fn sent<R: Threads + Sync>(call: &Call<'_, R>, room: Vec<u8>) -> Result<Vec<u8>,
 pub fn evacuated<R: Threads + Sync>(call: &Call<'_, R>, watch: &mut Watch) -> Result<(), Fault> {
     let tracked = tracked(call)?;
     watch.at(call.name);
-    show(call.name, &answer(call, tracked), watch);
-    Ok(())
-}
-
-/// The image or the report of an answer, or its fault with the image that comes back.
-fn show(name: &str, answer: &Result<(Tracked, Report), (Tracked, Fault)>, watch: &mut Watch) {
-    match answer {
-        Ok((_, report)) if name == "report" => print(report, watch),
+    match &answer(call, tracked) {
+        Ok((_, report)) if call.name == "report" => print(report, watch),
         Ok((after, _)) => watch.image(image(after)),
         Err((back, fault)) => watch.refused(fault, image(back)),
     }
+    Ok(())
 }
 
 /// What `evacuate` promises is not needed here.

@@ -81,22 +81,11 @@ fn miss_of_case<R: Threads + Files + Sync>(
 ) -> Result<Option<String>, Fault> {
     let (left, expected) = case.split_once(" => ").ok_or(BAD)?;
     if matches!(first_word(left), "text" | "image" | "raw") {
-        return miss_of_input(trial, line, given, left, expected);
+        let given = format!(in trial.alloc; "{given}stdin\n{left}\n")?;
+        return miss_text(trial, line, given.as_str(), expected);
     }
     let line = format!(in trial.alloc; "{line} {left}")?;
     miss_text(trial, line.as_str(), given, expected)
-}
-
-/// The same, with this part on standard input.
-fn miss_of_input<R: Threads + Files + Sync>(
-    trial: &Trial<'_, R>,
-    line: &str,
-    given: &str,
-    part: &str,
-    expected: &str,
-) -> Result<Option<String>, Fault> {
-    let given = format!(in trial.alloc; "{given}stdin\n{part}\n")?;
-    miss_text(trial, line, given.as_str(), expected)
 }
 
 fn miss_text<R: Threads + Files + Sync>(

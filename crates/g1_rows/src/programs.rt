@@ -43,31 +43,12 @@ pub fn miss_of<R: Threads + Files + Sync>(
 ) -> Result<Option<String>, Fault> {
     let before = Scene::of_lines(trial.alloc, given)?;
     let after = Scene::of_lines(trial.alloc, expected)?;
-    miss_between(trial, line, &before, &after)
-}
-
-/// As `miss_of`, between two scenes. The files of both are removed.
-fn miss_between<R: Threads + Files + Sync>(
-    trial: &Trial<'_, R>,
-    line: &str,
-    before: &Scene,
-    after: &Scene,
-) -> Result<Option<String>, Fault> {
     write_files(trial, before.files.as_slice())?;
-    let miss = miss_after(trial, line, before, after)?;
+    let left = left_by(trial, line, &before)?;
+    let miss = compare(trial, &left, &after)?;
     remove_files(trial.rt, before.files.as_slice())?;
     remove_files(trial.rt, after.files.as_slice())?;
     Ok(miss)
-}
-
-fn miss_after<R: Threads + Files + Sync>(
-    trial: &Trial<'_, R>,
-    line: &str,
-    before: &Scene,
-    after: &Scene,
-) -> Result<Option<String>, Fault> {
-    let left = left_by(trial, line, before)?;
-    compare(trial, &left, after)
 }
 
 fn write_files<R: Files>(trial: &Trial<'_, R>, files: &[Content]) -> Result<(), Fault> {
@@ -105,11 +86,6 @@ fn left_by<R: Threads + Files + Sync>(
         let bytes = before.stream.bytes(trial.alloc, trial.pictures)?;
         return Ok(call(trial, line, &mut bytes.as_slice())?);
     }
-    left_unread(trial, line)
-}
-
-/// What is left by a program that must not read standard input.
-fn left_unread<R: Threads + Files + Sync>(trial: &Trial<'_, R>, line: &str) -> Result<Left, Fault> {
     let mut reader = Stream::new(Vec::new(trial.alloc), 0, Trouble::Broken);
     let mut left = call(trial, line, &mut reader)?;
     if reader.calls > 0 {
@@ -160,30 +136,17 @@ fn compare<R: Files>(
     left: &Left,
     after: &Scene,
 ) -> Result<Option<String>, Fault> {
-    if !are_streams_as_expected(trial, left, after)? {
-        return Ok(Some(left_text(trial.alloc, left)?));
-    }
-    other_file(trial, after.files.as_slice())
-}
-
-/// Whether the status and the streams are those of a scene.
-fn are_streams_as_expected<R>(
-    trial: &Trial<'_, R>,
-    left: &Left,
-    after: &Scene,
-) -> Result<bool, Fault> {
     let wanted = after.stream.bytes(trial.alloc, trial.pictures)?;
+    let errors = after.errors.as_slice();
     let is_told = if after.is_usage {
         left.errors.starts_with(b"error: ")
     } else {
-        fits(left.errors.as_slice(), after.errors.as_slice())
+        fits(left.errors.as_slice(), errors)
     };
-    Ok(left.status == after.status && is_told && fits(left.out.as_slice(), wanted.as_slice()))
-}
-
-/// The line of the first file that is another one, if there is one.
-fn other_file<R: Files>(trial: &Trial<'_, R>, files: &[Content]) -> Result<Option<String>, Fault> {
-    for file in files {
+    if left.status != after.status || !is_told || !fits(left.out.as_slice(), wanted.as_slice()) {
+        return Ok(Some(left_text(trial.alloc, left)?));
+    }
+    for file in after.files.iter() {
         if !is_as_expected(trial, file)? {
             let name = file.name.as_str();
             return Ok(Some(format!(in trial.alloc; "the file {name} is another one\n")?));

@@ -131,33 +131,13 @@ fn why_not<R: Threads + Files + Sync>(
     if program_rows::is_run(body.as_str()) {
         return program_rows::first_miss(trial, body.as_str());
     }
-    miss_in(trial, body.as_str(), verdicts)
-}
-
-/// What a call returned, if it is not what the lines of its row expect, of which none is a remark.
-fn miss_in<R: Threads + Sync>(
-    trial: &Trial<'_, R>,
-    body: &str,
-    verdicts: &mut Verdicts,
-) -> Result<Option<String>, Fault> {
-    let (call, rest) = body.split_once('\n').ok_or(BAD)?;
+    let (call, rest) = body.as_str().split_once('\n').ok_or(BAD)?;
     let (names, options) = call.split_once(' ').unwrap_or((call, ""));
     let cases = cases_of(trial, options, rest)?;
-    Ok(first_miss(trial, names, cases.as_slice(), verdicts)?)
-}
-
-/// What the first of these calls returned that is not what a case expects.
-fn first_miss<R: Threads + Sync>(
-    trial: &Trial<'_, R>,
-    names: &str,
-    cases: &[Case],
-    verdicts: &mut Verdicts,
-) -> Result<Option<String>, AllocError> {
     for name in names.split(',') {
-        for case in cases {
-            let miss = miss_of(trial, name, case, verdicts)?;
-            if miss.is_some() {
-                return Ok(miss);
+        for case in &cases {
+            if let Some(miss) = miss_of(trial, name, case, verdicts)? {
+                return Ok(Some(miss));
             }
         }
     }
@@ -295,26 +275,14 @@ fn cases_with<R>(trial: &Trial<'_, R>, options: &Given, rest: &str) -> Result<Ve
     let (lines, expected) = rest.split_once("----\n").ok_or(BAD)?;
     let parts = parts_of(trial.alloc, lines, trial.pictures)?;
     let mut cases = Vec::new(trial.alloc);
-    push_cases(trial, options, parts.as_slice(), expected, &mut cases)?;
-    Ok(cases)
-}
-
-/// Adds the case of an answer, or the cases of its lines.
-fn push_cases<R>(
-    trial: &Trial<'_, R>,
-    options: &Given,
-    parts: &[Vec<u8>],
-    expected: &str,
-    cases: &mut Vec<Case>,
-) -> Result<(), Fault> {
     if !expected.contains(" => ") {
-        cases.push(case_of(trial, options, parts, expected)?)?;
-        return Ok(());
+        cases.push(case_of(trial, options, parts.as_slice(), expected)?)?;
+        return Ok(cases);
     }
     for line in expected.trim_end_matches('\n').split('\n') {
-        cases.push(line_case(trial, options, parts, line)?)?;
+        cases.push(line_case(trial, options, parts.as_slice(), line)?)?;
     }
-    Ok(())
+    Ok(cases)
 }
 
 /// The case of these options and parts.

@@ -67,35 +67,23 @@ impl Drawing {
 
     fn read(&mut self, line: &str) -> Result<(), Fault> {
         let mut words = line.split_ascii_whitespace();
-        if let Some(first) = words.next() {
-            self.read_part(first, &mut words)?;
+        match words.next() {
+            None => {}
+            Some("heap") => self.read_heap(&mut words)?,
+            Some("root") => {
+                let word = words.next().and_then(reference).ok_or(BAD)?;
+                self.roots.push(word)?;
+            }
+            Some("dirty") => push_cards(&mut self.dirty, &mut words)?,
+            Some("region") => self.read_region(&mut words)?,
+            Some("remembered") => self.read_remembered(&mut words)?,
+            Some("object") => self.read_object(&mut words)?,
+            Some(_) => return Err(BAD),
         }
         match words.next() {
             None => Ok(()),
             Some(_) => Err(BAD),
         }
-    }
-
-    fn read_part(
-        &mut self,
-        first: &str,
-        words: &mut SplitAsciiWhitespace<'_>,
-    ) -> Result<(), Fault> {
-        match first {
-            "heap" => self.read_heap(words),
-            "root" => self.read_root(words),
-            "dirty" => push_cards(&mut self.dirty, words),
-            "region" => self.read_region(words),
-            "remembered" => self.read_remembered(words),
-            "object" => self.read_object(words),
-            _ => Err(BAD),
-        }
-    }
-
-    /// root REFERENCE
-    fn read_root(&mut self, words: &mut SplitAsciiWhitespace<'_>) -> Result<(), Fault> {
-        let word = words.next().and_then(reference).ok_or(BAD)?;
-        Ok(self.roots.push(word)?)
     }
 
     /// heap W K N [current C]
