@@ -149,30 +149,32 @@ fn with_name<'a>(arg: Arg<'a>, argument: &Argument) -> Arg<'a> {
 
 /// clap's command of a command of the table.
 pub fn build_command<'a>(alloc: Global, usage: &Usage) -> Result<Command<'a>, AllocError> {
-    let mut command = Command::new(alloc, usage.name)
+    let args = args_of(alloc, usage.arguments)?;
+    Command::new(alloc, usage.name)
         .about(usage.about)
-        .after_help(usage.after_help);
-    for argument in usage.arguments {
-        command = with_argument(alloc, command, argument)?;
-    }
-    Ok(command)
+        .after_help(usage.after_help)
+        .args(args)
 }
 
-fn with_argument<'a>(
-    alloc: Global,
-    command: Command<'a>,
-    argument: &Argument,
-) -> Result<Command<'a>, AllocError> {
-    let arg = arg_of(alloc, argument)?;
-    command.arg(arg)
+fn args_of<'a>(alloc: Global, arguments: &[Argument]) -> Result<Vec<Arg<'a>>, AllocError> {
+    let mut args = Vec::new(alloc);
+    for argument in arguments {
+        args.push(arg_of(alloc, argument)?)?;
+    }
+    Ok(args)
 }
 
 fn build_program<'a>(alloc: Global, program: &Program<'_>) -> Result<Command<'a>, AllocError> {
-    let mut command = without_commands(alloc, program)?;
-    for usage in program.commands {
-        command = with_command(alloc, command, usage)?;
+    let commands = commands_of(alloc, program.commands)?;
+    without_commands(alloc, program)?.subcommands(commands)
+}
+
+fn commands_of<'a>(alloc: Global, usages: &[Usage]) -> Result<Vec<Command<'a>>, AllocError> {
+    let mut commands = Vec::new(alloc);
+    for usage in usages {
+        commands.push(build_command(alloc, usage)?)?;
     }
-    Ok(command)
+    Ok(commands)
 }
 
 fn without_commands<'a>(alloc: Global, program: &Program<'_>) -> Result<Command<'a>, AllocError> {
@@ -183,15 +185,6 @@ fn without_commands<'a>(alloc: Global, program: &Program<'_>) -> Result<Command<
         .after_help(program.after_help)
         .subcommand_required(true)
         .bin_name(program.name)
-}
-
-fn with_command<'a>(
-    alloc: Global,
-    command: Command<'a>,
-    usage: &Usage,
-) -> Result<Command<'a>, AllocError> {
-    let added = build_command(alloc, usage)?;
-    command.subcommand(added)
 }
 
 /// What clap finds in the words after the program's name.

@@ -67,23 +67,35 @@ impl Drawing {
 
     fn read(&mut self, line: &str) -> Result<(), Fault> {
         let mut words = line.split_ascii_whitespace();
-        match words.next() {
-            None => {}
-            Some("heap") => self.read_heap(&mut words)?,
-            Some("root") => {
-                let word = words.next().and_then(reference).ok_or(BAD)?;
-                self.roots.push(word)?;
-            }
-            Some("dirty") => push_cards(&mut self.dirty, &mut words)?,
-            Some("region") => self.read_region(&mut words)?,
-            Some("remembered") => self.read_remembered(&mut words)?,
-            Some("object") => self.read_object(&mut words)?,
-            Some(_) => return Err(BAD),
+        if let Some(word) = words.next() {
+            self.read_words(word, &mut words)?;
         }
         match words.next() {
             None => Ok(()),
             Some(_) => Err(BAD),
         }
+    }
+
+    /// What stands behind the first word of a line.
+    fn read_words(
+        &mut self,
+        first: &str,
+        words: &mut SplitAsciiWhitespace<'_>,
+    ) -> Result<(), Fault> {
+        match first {
+            "heap" => self.read_heap(words),
+            "root" => self.read_root(words),
+            "dirty" => push_cards(&mut self.dirty, words),
+            "region" => self.read_region(words),
+            "remembered" => self.read_remembered(words),
+            "object" => self.read_object(words),
+            _ => Err(BAD),
+        }
+    }
+
+    fn read_root(&mut self, words: &mut SplitAsciiWhitespace<'_>) -> Result<(), Fault> {
+        let word = words.next().and_then(reference).ok_or(BAD)?;
+        Ok(self.roots.push(word)?)
     }
 
     /// heap W K N [current C]
@@ -161,21 +173,23 @@ impl Drawing {
 
     fn bytes(&self) -> Result<Vec<u8>, AllocError> {
         let mut out = Vec::from_slice(self.alloc, b"G1IMAGE2")?;
-        push_all(
-            &mut out,
-            &[self.region_words, self.card_words, self.regions],
-        )?;
-        push_count(&mut out, self.roots.len())?;
-        push_count(&mut out, self.dirty.len())?;
-        push_all(&mut out, &[self.current.unwrap_or(self.regions)])?;
-        self.push_table(&mut out)?;
-        push_words(&mut out, &self.roots)?;
-        push_all(&mut out, &self.dirty)?;
-        self.push_remembered(&mut out)?;
-        for part in &self.parts {
-            push_words(&mut out, &part.words)?;
-        }
+        self.push_image(&mut out)?;
         Ok(out)
+    }
+
+    fn push_image(&self, out: &mut Vec<u8>) -> Result<(), AllocError> {
+        let (roots, dirty) = (count(self.roots.len()), count(self.dirty.len()));
+        let current = self.current.unwrap_or(self.regions);
+        let (width, card) = (self.region_words, self.card_words);
+        push_all(out, &[width, card, self.regions, roots, dirty, current])?;
+        self.push_table(out)?;
+        push_words(out, &self.roots)?;
+        push_all(out, &self.dirty)?;
+        self.push_remembered(out)?;
+        for part in &self.parts {
+            push_words(out, &part.words)?;
+        }
+        Ok(())
     }
 
     /// The kind, the used words and the flags of each region. What is left of a humongous object goes on in the regions
@@ -189,9 +203,7 @@ impl Drawing {
                 _ if left > 0 => (CONTINUATION, left, 0),
                 _ => (FREE, 0, 0),
             };
-            push_all(out, &[kind])?;
-            push_count(out, used.min(width))?;
-            push_all(out, &[flags])?;
+            push_all(out, &[kind, count(used.min(width)), flags])?;
             left = used.saturating_sub(width);
         }
         Ok(())
@@ -203,7 +215,8 @@ impl Drawing {
                 Some(part) => part.remembered.as_slice(),
                 None => &[],
             };
-            push_count(out, cards.len())?;
+            let length = count(cards.len());
+            push_all(out, &[length])?;
             push_all(out, cards)?;
         }
         Ok(())
@@ -242,9 +255,9 @@ fn size_and_slots(word: &str) -> Option<(u32, u32)> {
     Some((size.parse::<u32>().ok()?, slots.parse::<u32>().ok()?))
 }
 
-/// Adds how many there are; a test has no more than fit.
-fn push_count(out: &mut Vec<u8>, count: usize) -> Result<(), AllocError> {
-    push_all(out, &[u32::try_from(count).unwrap_or(u32::MAX)])
+/// How many there are; a test has no more than fit.
+fn count(length: usize) -> u32 {
+    u32::try_from(length).unwrap_or(u32::MAX)
 }
 
 fn push_all(out: &mut Vec<u8>, numbers: &[u32]) -> Result<(), AllocError> {
