@@ -46,30 +46,39 @@ pub fn answer<R: Threads + Sync>(
 /// Makes the call, and those before it that it needs.
 fn make<R: Threads + Sync>(call: &Call<'_, R>, watch: &mut Watch) -> Result<(), Fault> {
     match call.name {
+        "settings" | "laid" | "cost" | "total" | "each_region_mut" => {
+            work_out(call, watch);
+            Ok(())
+        }
+        "deal" => sharing::deal(call, watch),
+        "claim" => sharing::claim(call, watch),
+        "each_chunk" => sharing::square(call, watch),
+        "merged" => reading::merge(call, watch),
+        "read" => reading::receive(call, watch),
+        "compare" => comparing::run(call, watch),
+        "parse_trace" => tracing::parse(call, watch),
+        "run_text" => tracing::run_whole(call, watch),
+        "run_trace" => tracing::run_parsed(call, watch),
+        "mutator_new" | "step" => tracing::run_steps(call, watch),
+        "evacuate" | "report" => pausing::evacuated(call, watch),
+        "pause_bytes" => pausing::from_bytes(call, watch),
+        "pause_run" => pausing::from_stream(call, watch),
+        _ => take_steps(call, watch),
+    }
+}
+
+/// Makes a call that refuses nothing.
+fn work_out<R: Threads + Sync>(call: &Call<'_, R>, watch: &mut Watch) {
+    match call.name {
         "settings" => print_settings(&call.settings, watch),
-        "laid" => {
+        "cost" => pricing::price(call, watch),
+        "total" => pricing::add(call, watch),
+        "each_region_mut" => sharing::number(call, watch),
+        _ => {
             watch.at("laid");
             watch.bytes(call.given.part(0));
         }
-        "cost" => pricing::price(call, watch),
-        "total" => pricing::add(call, watch),
-        "deal" => sharing::deal(call, watch)?,
-        "claim" => sharing::claim(call, watch)?,
-        "each_chunk" => sharing::square(call, watch)?,
-        "each_region_mut" => sharing::number(call, watch),
-        "merged" => reading::merge(call, watch)?,
-        "read" => reading::receive(call, watch)?,
-        "compare" => comparing::run(call, watch)?,
-        "parse_trace" => tracing::parse(call, watch)?,
-        "run_text" => tracing::run_whole(call, watch)?,
-        "run_trace" => tracing::run_parsed(call, watch)?,
-        "mutator_new" | "step" => tracing::run_steps(call, watch)?,
-        "evacuate" | "report" => pausing::evacuated(call, watch)?,
-        "pause_bytes" => pausing::from_bytes(call, watch)?,
-        "pause_run" => pausing::from_stream(call, watch)?,
-        _ => take_steps(call, watch)?,
     }
-    Ok(())
 }
 
 /// Takes the steps of a pause, in an order in which each has what it asks for, until one is refused.

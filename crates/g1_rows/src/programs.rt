@@ -1,15 +1,16 @@
 //! The programs by their names: `g1pause`, `g1heap`, and `g1heap_at_terminal`, whose streams are a terminal.
 //!
-//! A program is called as its `main` calls it, over streams in memory. Its files are in the folder of the run. If a row
-//! gives no standard input, the program must not read it: each of its reads fails, and is reported.
+//! A program is called as its `main` calls it, over streams in memory, which go well unless the row says that they fail.
+//! Its files are in the folder of the run. If a row gives no standard input, the program must not read it: each of its
+//! reads fails, and is reported.
 use crate::rows::{Trial, push_shown};
-use crate::scene::{Content, Scene, fits};
+use crate::scene::{Content, Devices, Scene, fits};
 use g1_testing::{Stream, Trouble};
 use g1_words::{Device, Fault};
 use g1heap_cli::Terminals;
 use std::alloc::{AllocError, Global};
 use std::fs::File;
-use std::io::{Read, Write};
+use std::io::{ErrorKind, Read, Write};
 use std::rt::Files;
 use std::thread::Threads;
 use std::{fs, io};
@@ -44,8 +45,10 @@ pub fn miss_of<R: Threads + Files + Sync>(
     let before = Scene::of_lines(trial.alloc, given)?;
     let after = Scene::of_lines(trial.alloc, expected)?;
     write_files(trial, before.files.as_slice())?;
-    let left = left_by(trial, line, &before)?;
-    let miss = compare(trial, &left, &after)?;
+    let miss = match before.devices {
+        Devices::EachRead | Devices::EachWrite => miss_of_each(trial, line, &before, &after)?,
+        _ => miss_of_one(trial, line, &before, &after)?,
+    };
     remove_files(trial.rt, before.files.as_slice())?;
     remove_files(trial.rt, after.files.as_slice())?;
     Ok(miss)
@@ -77,21 +80,71 @@ fn remove_files<R: Files>(rt: &R, files: &[Content]) -> Result<(), Fault> {
     Ok(())
 }
 
+fn miss_of_one<R: Threads + Files + Sync>(
+    trial: &Trial<'_, R>,
+    line: &str,
+    before: &Scene,
+    after: &Scene,
+) -> Result<Option<String>, Fault> {
+    let left = left_by(trial, line, before)?;
+    let wanted = after.stream.bytes(trial.alloc, trial.pictures)?;
+    compare(trial, &left, &wanted, after)
+}
+
 fn left_by<R: Threads + Files + Sync>(
     trial: &Trial<'_, R>,
     line: &str,
     before: &Scene,
 ) -> Result<Left, Fault> {
-    if before.stream.is_there {
-        let bytes = before.stream.bytes(trial.alloc, trial.pictures)?;
-        return Ok(call(trial, line, &mut bytes.as_slice())?);
-    }
-    let mut reader = Stream::new(Vec::new(trial.alloc), 0, Trouble::Broken);
-    let mut left = call(trial, line, &mut reader)?;
-    if reader.calls > 0 {
+    let bytes = before.stream.bytes(trial.alloc, trial.pictures)?;
+    let is_given = before.stream.is_there;
+    let mut reader = if is_given {
+        Stream::of(bytes, usize::MAX)
+    } else {
+        Stream::new(bytes, 0, Trouble::Broken)
+    };
+    let writer = writer_of(trial.alloc, before.devices);
+    let mut left = call(trial, line, &mut reader, writer)?;
+    if !is_given && reader.calls > 0 {
         left.errors.extend_from_slice(b"standard input was read\n")?;
     }
     Ok(left)
+}
+
+fn writer_of(alloc: Global, devices: Devices) -> Stream {
+    let bytes = Vec::new(alloc);
+    match devices {
+        Devices::Gone => Stream::of(bytes, 1).with_errors(1, ErrorKind::BrokenPipe),
+        _ => Stream::of(bytes, usize::MAX),
+    }
+}
+
+/// What a program left in the first run that is not as expected, of those in which a stream fails from some call on.
+fn miss_of_each<R: Threads + Files + Sync>(
+    trial: &Trial<'_, R>,
+    line: &str,
+    before: &Scene,
+    after: &Scene,
+) -> Result<Option<String>, Fault> {
+    let input = before.stream.bytes(trial.alloc, trial.pictures)?;
+    let wanted = after.stream.bytes(trial.alloc, trial.pictures)?;
+    let is_read = matches!(before.devices, Devices::EachRead);
+    let last = if is_read { input.len() } else { wanted.len() };
+    for at in 0..=last {
+        let (reads, writes) = if is_read {
+            (at, usize::MAX)
+        } else {
+            (usize::MAX, at)
+        };
+        let mut reader = Stream::new(input.clone()?, reads, Trouble::Broken);
+        let writer = Stream::new(Vec::new(trial.alloc), writes, Trouble::Broken);
+        let left = call(trial, line, &mut reader, writer)?;
+        let miss = compare(trial, &left, &wanted[..wanted.len().min(writes)], after)?;
+        if miss.is_some() {
+            return Ok(miss);
+        }
+    }
+    Ok(None)
 }
 
 /// The words of a line behind the first one.
@@ -103,17 +156,18 @@ fn words_of(alloc: Global, line: &str) -> Result<Vec<String>, AllocError> {
     Ok(words)
 }
 
-fn call<T: Threads + Files + Sync, R: Read>(
-    trial: &Trial<'_, T>,
+fn call<R: Threads + Files + Sync>(
+    trial: &Trial<'_, R>,
     line: &str,
-    reader: &mut R,
+    reader: &mut Stream,
+    mut writer: Stream,
 ) -> Result<Left, AllocError> {
     let (rt, alloc) = (trial.rt, trial.alloc);
     let words = words_of(alloc, line)?;
     let words = words.as_slice();
-    let (mut out, mut errors) = (Vec::new(alloc), Vec::new(alloc));
+    let mut errors = Vec::new(alloc);
     let status = if line.starts_with("g1pause") {
-        g1pause_cli::program(rt, alloc, words, reader, &mut out, &mut errors)
+        g1pause_cli::program(rt, alloc, words, reader, &mut writer, &mut errors)
     } else {
         let is_at_terminal = line.starts_with("g1heap_at_terminal");
         let terminals = Terminals {
@@ -121,8 +175,9 @@ fn call<T: Threads + Files + Sync, R: Read>(
             output: is_at_terminal,
         };
         let call = g1heap_cli::Call { words, terminals };
-        g1heap_cli::program(rt, alloc, call, reader, &mut out, &mut errors)
+        g1heap_cli::program(rt, alloc, call, reader, &mut writer, &mut errors)
     };
+    let Stream { bytes: out, .. } = writer;
     Ok(Left {
         status,
         out,
@@ -134,16 +189,16 @@ fn call<T: Threads + Files + Sync, R: Read>(
 fn compare<R: Files>(
     trial: &Trial<'_, R>,
     left: &Left,
+    wanted: &[u8],
     after: &Scene,
 ) -> Result<Option<String>, Fault> {
-    let wanted = after.stream.bytes(trial.alloc, trial.pictures)?;
     let errors = after.errors.as_slice();
     let is_told = if after.is_usage {
         left.errors.starts_with(b"error: ")
     } else {
         fits(left.errors.as_slice(), errors)
     };
-    if left.status != after.status || !is_told || !fits(left.out.as_slice(), wanted.as_slice()) {
+    if left.status != after.status || !is_told || !fits(left.out.as_slice(), wanted) {
         return Ok(Some(left_text(trial.alloc, left)?));
     }
     for file in after.files.iter() {

@@ -4,6 +4,10 @@
 //!   line `..` stands for any text.
 //! - `file NAME`: the parts below are in this file; `no file NAME`: there is no such file.
 //! - `stdin`: the parts below are standard input again.
+//! - `each read fails`: the program is run again and again over a reader that gives a byte a call and fails from the first
+//!   call on, from the second on, and so on up to the one that finds the end. Each run has to leave what is expected.
+//!   `each write fails`: the same of a writer, and the N bytes that it took have to be the first N of those expected.
+//! - `the reader goes away`: standard output is a pipe whose reader goes away after a byte.
 //! - `status N`: the exit status, which is 0 if the line is left out. Another line of this list may follow in it.
 //! - `! TEXT`: a line of standard error, in which `\n` ends a line, too. A first or a last line `! ..` stands for any text.
 //! - `usage`: status 2, and a standard error that begins with `error: `.
@@ -45,9 +49,19 @@ impl Content {
     }
 }
 
+/// Which calls of the streams fail.
+#[derive(Clone, Copy)]
+pub enum Devices {
+    Well,
+    EachRead,
+    EachWrite,
+    Gone,
+}
+
 /// What is on the streams and in the files.
 #[derive(Drop)]
 pub struct Scene {
+    pub devices: Devices,
     pub status: u8,
     pub errors: Vec<u8>,
     pub is_usage: bool,
@@ -65,6 +79,7 @@ impl Scene {
     /// `Fault::Line` if a line is not understood; `Fault::Memory`.
     pub fn of_lines(alloc: Global, lines: &str) -> Result<Scene, Fault> {
         let mut scene = Scene {
+            devices: Devices::Well,
             status: 0,
             errors: Vec::new(alloc),
             is_usage: false,
@@ -110,6 +125,9 @@ impl Scene {
                 self.is_usage = true;
                 self.status = 2;
             }
+            "each read fails" => self.devices = Devices::EachRead,
+            "each write fails" => self.devices = Devices::EachWrite,
+            "the reader goes away" => self.devices = Devices::Gone,
             _ => self.push_part(line)?,
         }
         Ok(())

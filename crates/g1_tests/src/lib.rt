@@ -8,8 +8,7 @@
 //! 3. `crowds`: that workers work at the same time, up to 64. `gates` has the gates that see it: a new case of threads
 //!    begins with one of them.
 //! 4. `streams`: images and pauses over readers and writers that give a byte a call, fail, are interrupted or would block.
-//!    `programs`: the programs over such streams, and bytes that are nearly an image. A new case takes a `Stream` of
-//!    g1_testing.
+//!    A new case takes a `Stream` of g1_testing. `images`: bytes that are nearly an image, and images at their limits.
 //!
 //! `expecting` has what tests begin with. Small images are drawn as lines by `g1_testing`, and large ones laid by numbers.
 #![tactic(auto)]
@@ -25,7 +24,7 @@ mod frontier;
 #[cfg(test)]
 mod gates;
 #[cfg(test)]
-mod programs;
+mod images;
 #[cfg(test)]
 mod refusals;
 #[cfg(test)]

@@ -1,6 +1,7 @@
-//! How a program reports a refusal, which words it takes, and devices that fail.
+//! How a program reports a refusal and great numbers, which words it takes, and devices that fail.
 use crate::expecting::expect_equal;
 use g1_command::{Refusal, deliver, read_all, refuse, whole, words};
+use g1_tables::choice_lines;
 use g1_testing::{Stream, Trouble, is_refusal};
 use g1_words::{Device, Fault};
 use std::alloc::{AllocError, Global};
@@ -41,6 +42,14 @@ fn faults_with_great_numbers_have_a_line_and_a_status(rt: HostRuntime) {
     ] {
         expect_refusal(&rt, rt.alloc(), &Refusal::Fault(fault), line, wanted);
     }
+}
+
+#[test]
+fn a_total_has_more_than_64_bits(rt: HostRuntime) -> Result<(), Fail> {
+    let text = choice_lines(rt.alloc(), &[], 0, 1 << 64)?;
+    let expected = b"total 18446744073709551616\n".as_slice();
+    expect_equal(&rt, text.as_slice(), expected);
+    Ok(())
 }
 
 #[test]

@@ -69,20 +69,37 @@ fn bytes_that_are_refused_are_read_to_their_end(rt: HostRuntime) -> Result<(), F
     Ok(())
 }
 
-#[test]
-fn an_image_that_is_read_has_one_length(rt: HostRuntime) -> Result<(), Fail> {
-    let alloc = rt.alloc();
-    let mut bytes = text(alloc, one_object())?;
+/// Images of version 1: one object that a root references, and an object that a slot outside references.
+const OLD: [&str; 2] = [
+    "G1IMAGE1 16 4 4 1 0 4 0 0 1 4 0 0 0 0 =17 0 0 0 0 4/1 =0 =7 =9",
+    "G1IMAGE1 16 4 4 0 0 4 1 2 1 3 0 0 0 0 0 1 0 0 0 2/1 =17 3/0 =1 =2",
+];
+
+fn expect_one_length<T: Threads + Abort + Sync>(
+    rt: &T,
+    alloc: Global,
+    mut bytes: Vec<u8>,
+) -> Result<(), Fault> {
     for cut in 0..bytes.len() {
         let found = bytes_from(alloc, ending(alloc, &bytes[..cut])?);
-        expect_equal(&rt, (cut, found), (cut, Err(Fault::Short)));
+        expect_equal(rt, (cut, found), (cut, Err(Fault::Short)));
     }
     bytes.push(0)?;
     let found = bytes_from(alloc, ending(alloc, &bytes)?);
-    expect_equal(&rt, found, Err(Fault::Trailing));
+    expect_equal(rt, found, Err(Fault::Trailing));
     let mut writer = Stream::of(Vec::new(alloc), 1);
-    let found = pause(&rt, alloc, &mut ending(alloc, &bytes)?, &mut writer);
-    expect_equal(&rt, (found, writer.calls), (Err(Fault::Trailing), 0));
+    let found = pause(rt, alloc, &mut ending(alloc, &bytes)?, &mut writer);
+    expect_equal(rt, (found, writer.calls), (Err(Fault::Trailing), 0));
+    Ok(())
+}
+
+#[test]
+fn an_image_that_is_read_has_one_length(rt: HostRuntime) -> Result<(), Fail> {
+    let alloc = rt.alloc();
+    expect_one_length(&rt, alloc, text(alloc, one_object())?)?;
+    for numbers in OLD {
+        expect_one_length(&rt, alloc, raw(alloc, numbers)?)?;
+    }
     Ok(())
 }
 
