@@ -16,17 +16,6 @@ pub(crate) struct Table {
     words: Vec<u32>,
 }
 
-/// So many regions, none with a position.
-fn no_positions(alloc: Global, regions: u64) -> Result<Vec<Option<u32>>, AllocError>
-    ensures { IfOk result (λ v. v.items ≡ replicate regions None) }
-{
-    let mut positions = Vec::with_capacity(alloc, regions as usize)?;
-    for _r in 0..regions {
-        positions.push(None)?;
-    }
-    Ok(positions)
-}
-
 /// By region number, the position of the region in a set.
 fn positions(alloc: Global, regions: u64, set: &[u32]) -> Result<Vec<Option<u32>>, AllocError>
     requires rising { IsStrictlyIncreasing set.now }
@@ -34,7 +23,7 @@ fn positions(alloc: Global, regions: u64, set: &[u32]) -> Result<Vec<Option<u32>
     requires few { length set.now < 2 ^ 32 }
     ensures { IfOk result (λ v. ArePositions set.now v.items) }
 {
-    let mut positions = no_positions(alloc, regions)?;
+    let mut positions = vec![in alloc; None; regions as usize]?;
     for (i, r) in set.iter().enumerate() {
         positions[*r as usize] = Some(i as u32);
     }

@@ -1,4 +1,4 @@
-use Rattle.std.proofs.Common.{◌≡◌, ◌+◌, ◌-◌, Contains, get_or, length, arith, ap, sym, subst, ◌∙◌}
+use Rattle.std.proofs.Common.{◌≡◌, ◌+◌, ◌-◌, Contains, drop, get_or, length, length-drop, length-take-le, take, arith, ap, sym, subst, ◌∙◌}
 use Rattle.g1_words.specs.Heap.{object_at, start}
 use Rattle.g1_words.specs.Layout.{forward}
 use Rattle.g1_words.specs.Copy.{renamed_words}
@@ -81,3 +81,35 @@ returns c = Filling-all c.args.heap.now c.args.plan.now c.geometry.ensures.valid
 
 pub loop-i-smaller : goal.loop-i-smaller
 loop-i-smaller c = omega (arith, c.loop-i-test.true)
+
+pub object-object-requires-clause-plan : goal.object-object-requires-clause-plan
+object-object-requires-clause-plan c = c.requires.plan
+
+pub object-object-requires-clause-ahead : goal.object-object-requires-clause-ahead
+object-object-requires-clause-ahead c = c.loop-i.invariant.ahead
+
+pub bounds-places-i : goal.bounds-places-i
+bounds-places-i c =
+    let s = in_run c.args.heap.now c.args.plan.now c.geometry.ensures.valid c.requires.plan c.args.run c.requires.run c.loop-i.i (omega arith) (omega arith) in
+    omega (arith, s.index, s.one_each, ap length c.places.ensures)
+
+pub slice_bounds-copy-start : goal.slice_bounds-copy-start
+slice_bounds-copy-start c = omega arith
+
+pub copy-requires-clause-plan : goal.copy-requires-clause-plan
+copy-requires-clause-plan c = c.requires.plan
+
+pub copy-requires-clause-object : goal.copy-requires-clause-object
+copy-requires-clause-object c = c.object-object.ensures.object ∙ ap (object_at c.args.heap.now) (sym (ap (λ o. o.at) c.object-object.ensures.object))
+
+pub copy-requires-clause-size : goal.copy-requires-clause-size
+copy-requires-clause-size c =
+    let h = c.args.heap.now in
+    let words = c.loop-i.words in
+    let from = get_or c.places.result.now c.loop-i.i 0 - c.start-start.result in
+    let s = in_run h c.args.plan.now c.geometry.ensures.valid c.requires.plan c.args.run c.requires.run c.loop-i.i (omega arith) (omega arith) in
+    let base : c.start-start.result ≡ start h c.args.run.region = cc in
+    let read = ap (λ xs. get_or xs c.loop-i.i 0) c.places.ensures in
+    let width : from + c.object-object.result.size - from ≡ c.object-object.result.size = omega arith in
+    ap (λ n. length (take n (drop from words))) width ∙ length-take-le c.object-object.result.size (drop from words)
+    (omega (arith, length-drop from words, s.low, s.high, base, read, ap (λ o. o.size) c.object-object.ensures.object, c.loop-i.invariant.filling.count))

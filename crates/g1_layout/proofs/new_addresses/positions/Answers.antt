@@ -1,7 +1,15 @@
-use Rattle.std.proofs.Common.{◌≡◌, length, get_or, set, Some, refl, ◌∙◌, arith}
-use Rattle.std.proofs.lemmas.List.{length-set}
-use Rattle.g1_layout.proofs.Positions.{Positioned-step, Positioned-end}
+use Rattle.std.proofs.Common.{◌≡◌, length, get_or, set, None, Some, refl, ap, ◌∙◌, arith, rules}
+use Rattle.std.proofs.lemmas.List.{length-replicate, length-set}
+use Rattle.g1_layout.proofs.Positions.{Positioned-start, Positioned-step, Positioned-end}
 use Rattle.g1_layout.proofs.new_addresses.positions.Goals as goal
+
+pub loop-i-init : goal.loop-i-init
+loop-i-init c =
+    let none = c.in_ok-positions.ensures.items_if_clones_equal (λ x same. search rules) in
+    record {
+      positioned = Positioned-start c.args.set.now c.args.regions c.in_ok-positions.positions.items none;
+      count = ap length none ∙ length-replicate c.args.regions None;
+    }
 
 pub loop-i-preserved : goal.loop-i-preserved
 loop-i-preserved c =

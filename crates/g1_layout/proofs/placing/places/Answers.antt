@@ -4,12 +4,16 @@ use Rattle.std.proofs.lemmas.List.{length-take-le}
 use Rattle.g1_words.specs.Heap.{object_at}
 use Rattle.g1_words.specs.Layout.{free_regions, need, next_fit, to_space}
 use Rattle.g1_layout.proofs.Counted.{one_each, size_read}
-use Rattle.g1_layout.proofs.Laying.{Laying-in_need, Placing, Placing-step}
+use Rattle.g1_layout.proofs.Laying.{Laying-in_need, Placing, Placing-end, Placing-step, next_fit_most}
 use Rattle.g1_layout.proofs.placing.places.Goals as goal
 
 -- what is left of an address once its region's words are taken off
 offset : (a w n v : ℕ) → n ≡ a / w → v ≡ n * w → a - v ≡ a % w
 offset a w n v e f = let parts : a / w * w + a % w ≡ a = div-add-mod' a w in let whole : v ≡ a / w * w = f ∙ ap (λ x. x * w) e in omega (arith, parts, whole)
+
+-- a region begins at or below each of its addresses
+region_start : (a w n : ℕ) → n ≡ a / w → n * w ≤ a
+region_start a w n e = let parts : a / w * w + a % w ≡ a = div-add-mod' a w in let whole : n * w ≡ a / w * w = ap (λ x. x * w) e in omega (arith, parts, whole)
 
 pub bounds-sizes-i : goal.bounds-sizes-i
 bounds-sizes-i c = let count = one_each c.args.batch.now.heap.now c.args.batch.now.survivors.now c.args.batch.now.sizes.now c.requires.sizes in omega (arith, count, c.loop-i-test.true)
@@ -61,3 +65,24 @@ loop-i-preserved c =
 
 pub loop-i-smaller : goal.loop-i-smaller
 loop-i-smaller c = omega (arith, c.loop-i-test.true)
+
+pub next_fit-at-requires : goal.next_fit-at-requires
+next_fit-at-requires c =
+    let read = c.from-size.ensures ∙ size_read c.args.batch.now.heap.now c.args.batch.now.survivors.now c.args.batch.now.sizes.now c.loop-i.i c.requires.sizes c.loop-i-test.true in
+    omega (arith, read, c.requires.fits.small c.loop-i.i 0 c.loop-i-test.true, c.loop-i.invariant.laying.near)
+
+pub words_of-requires : goal.words_of-requires
+words_of-requires c = let start = region_start c.next_fit-at.result c.geometry-geometry.result.w c.region_of-number.result c.region_of-number.ensures in omega (arith, start)
+
+pub overflow_sub-at : goal.overflow_sub-at
+overflow_sub-at c = let start = region_start c.next_fit-at.result c.geometry-geometry.result.w c.region_of-number.result c.region_of-number.ensures in omega (arith, start)
+
+pub overflow_add-end : goal.overflow_add-end
+overflow_add-end c =
+    let read = c.from-size.ensures ∙ size_read c.args.batch.now.heap.now c.args.batch.now.survivors.now c.args.batch.now.sizes.now c.loop-i.i c.requires.sizes c.loop-i-test.true in
+    let most = next_fit_most c.geometry-geometry.result.w c.loop-i.end c.from-size.result in
+    omega (arith, read, most, c.requires.fits.small c.loop-i.i 0 c.loop-i-test.true, c.loop-i.invariant.laying.near)
+
+pub returns : goal.returns
+returns c =
+    Placing-end c.args.batch.now.heap.now c.args.batch.now.survivors.now c.loop-i.i c.loop-i.end c.loop-i.places.items c.loop-i.invariant (omega (arith, c.loop-i-test.false, c.loop-i.auto.i-end))
