@@ -5,9 +5,7 @@ ghost use Rattle.g1_image.specs.Image.{flags_of, entry_of, file_of, IsTextIn};
 
 use crate::cursor::{Heading, Version};
 use crate::image::Image;
-use crate::writing::{
-    count, push_heading, push_magic, push_number, push_numbers, push_remembered, push_words,
-};
+use crate::writing::{count, push_heading, push_magic, push_numbers, push_remembered, push_words};
 use g1_words::{Geometry, Region};
 use std::alloc::{AllocError, Global};
 
@@ -37,9 +35,10 @@ fn push_table(out: &mut Vec<u8>, regions: &[Region]) -> Result<(), AllocError>
     ensures { OnOk result (out.new.items ≡ out.old.items ++ table_text Version.Two (map entry_of regions.now)) }
 {
     for region in regions {
-        push_number(out, region.kind.number())?;
-        push_number(out, region.top)?;
-        push_number(out, flags_of(region.pinned))?;
+        push_numbers(
+            out,
+            &[region.kind.number(), region.top, flags_of(region.pinned)],
+        )?;
     }
     Ok(())
 }
