@@ -67,8 +67,7 @@ fn push_parts(out: &mut Vec<u8>, parts: &FileParts<'_>) -> Result<(), AllocError
     push_table(out, parts.regions)?;
     push_words(out, parts.roots)?;
     push_numbers(out, parts.log)?;
-    push_remembered(out, parts.remembered)?;
-    Ok(())
+    push_remembered(out, parts.remembered)
 }
 
 /// The bytes of parts and of the used words behind them, of version 2. They are good only if the parts are an
@@ -100,6 +99,5 @@ pub(crate) fn write_front(out: &mut Vec<u8>, image: &Image) -> Result<(), AllocE
         remembered: image.remembered(),
     };
     out.clear();
-    push_parts(out, &parts)?;
-    Ok(())
+    push_parts(out, &parts)
 }

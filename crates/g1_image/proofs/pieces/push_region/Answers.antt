@@ -6,7 +6,6 @@ use Rattle.g1_image.specs.Growing.{laid_words}
 use Rattle.g1_image.proofs.Taken.{takes_none, takes_more, fails_after}
 use Rattle.g1_image.proofs.Laid.{region_laid, none_laid}
 use Rattle.g1_image.proofs.pieces.push_region.Goals as goal
-use Rattle.g1_image.proofs.pieces.push_region.Goals.{then-top-w, else-top-w}
 
 pub returns-then-top-eq0-clause-ok : goal.returns-then-top-eq0-clause-ok
 returns-then-top-eq0-clause-ok g c =
@@ -18,8 +17,8 @@ pub returns-clause-ok : goal.returns-clause-ok
 returns-clause-ok g c =
     let w = c.args.w in
     let top = c.args.top in
-    let used = c.if-top-w.used in
-    let is : used ≡ min top w = elim c.if-top-w.branch [ then-top-w t ↦ omega (arith, t.used-is, t.if-top-w.true) | else-top-w t ↦ omega (arith, t.used-is, t.if-top-w.false) ] in
+    let used = c.min-used.result in
+    let is : used ≡ min top w = c.min-used.ensures in
     let gap = c.in_ok-push_gap.ensures in
     let first = c.in_ok-push_next.ensures.ok in
     let second = c.in_ok-skip_words.ensures.ok in (
@@ -51,11 +50,8 @@ returns-in_err-push_next-clause-known g c = c.push_next.ensures.known
 
 pub returns-in_err-push_next-clause-err : goal.returns-in_err-push_next-clause-err
 returns-in_err-push_next-clause-err g c =
-    let used = c.if-top-w.used in
-    let most : 8 * used ≤ 8 * c.args.words.left = elim c.if-top-w.branch [
-      | then-top-w t ↦ omega (arith, t.used-is, c.requires.there)
-      | else-top-w t ↦ omega (arith, t.used-is, t.if-top-w.false, c.requires.there)
-    ] in
+    let used = c.min-used.result in
+    let most : 8 * used ≤ 8 * c.args.words.left = omega (arith, c.min-used.ensures, c.requires.there) in
     let left = err_from_is_err_and c.from_residual-in_err-push_next.result c.from_residual-in_err-push_next.ensures.1 in
     rw (left.1, left.2) (fails_after _ _ _ _ _ [] (8 * used) (8 * c.args.words.left) c.in_err-push_next.field-0.0 c.in_ok-push_gap.ensures.none c.in_err-push_next.ensures.err (omega (arith, most)))
 
@@ -64,12 +60,9 @@ returns-in_err-skip_words-clause-known g c = c.skip_words.ensures.known
 
 pub returns-in_err-skip_words-clause-err : goal.returns-in_err-skip_words-clause-err
 returns-in_err-skip_words-clause-err g c =
-    let used = c.if-top-w.used in
+    let used = c.min-used.result in
     let first = c.in_ok-push_next.ensures.ok in
-    let most : length first.0 + 8 * (c.args.top - used) ≤ 8 * c.args.words.left = elim c.if-top-w.branch [
-      | then-top-w t ↦ omega (arith, t.used-is, first.2, c.requires.there)
-      | else-top-w t ↦ omega (arith, t.used-is, t.if-top-w.false, first.2, c.requires.there)
-    ] in
+    let most : length first.0 + 8 * (c.args.top - used) ≤ 8 * c.args.words.left = omega (arith, c.min-used.ensures, first.2, c.requires.there) in
     let left = err_from_is_err_and c.from_residual-in_err-skip_words.result c.from_residual-in_err-skip_words.ensures.1 in
     rw (left.1, left.2) (fails_after _ _ _ _ _ first.0 (8 * (c.args.top - used)) (8 * c.args.words.left) c.in_err-skip_words.field-0.0
     (takes_more _ _ _ _ _ _ [] first.0 c.in_ok-push_gap.ensures.none first.1) c.in_err-skip_words.ensures.err most)

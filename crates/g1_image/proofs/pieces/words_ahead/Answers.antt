@@ -19,26 +19,14 @@ returns-then-not-branch-clause-known g c = c.reach.ensures.known
 pub returns-then-not-branch-clause-err : goal.returns-then-not-branch-clause-err
 returns-then-not-branch-clause-err g c = ends_short _ _ _ (g.S.Source.left c.reach.new.source) (waiting c.reach.new.self) 8 _ c.in_ok-reach.ensures.ok c.if-not-branch.true
 
-pub returns-then-whole-wanted-clause-known : goal.returns-then-whole-wanted-clause-known
-returns-then-whole-wanted-clause-known g c = c.reach.ensures.known
+pub returns-clause-known : goal.returns-clause-known
+returns-clause-known g c = c.reach.ensures.known
 
-pub returns-then-whole-wanted-clause-are_bytes : goal.returns-then-whole-wanted-clause-are_bytes
-returns-then-whole-wanted-clause-are_bytes g c = subst IsBytes c.bytes.ensures.same c.bytes.ensures.are_bytes
+pub returns-clause-are_bytes : goal.returns-clause-are_bytes
+returns-clause-are_bytes g c = subst IsBytes c.bytes.ensures.same c.bytes.ensures.are_bytes
 
-pub returns-then-whole-wanted-clause-kept : goal.returns-then-whole-wanted-clause-kept
-returns-then-whole-wanted-clause-kept g c = c.in_ok-reach.ensures.ok.kept
+pub returns-clause-kept : goal.returns-clause-kept
+returns-clause-kept g c = c.in_ok-reach.ensures.ok.kept
 
-pub returns-then-whole-wanted-clause-mark : goal.returns-then-whole-wanted-clause-mark
-returns-then-whole-wanted-clause-mark g c = c.in_ok-reach.ensures.ok.mark
-
-pub returns-else-whole-wanted-clause-known : goal.returns-else-whole-wanted-clause-known
-returns-else-whole-wanted-clause-known g c = c.reach.ensures.known
-
-pub returns-else-whole-wanted-clause-are_bytes : goal.returns-else-whole-wanted-clause-are_bytes
-returns-else-whole-wanted-clause-are_bytes g c = subst IsBytes c.bytes.ensures.same c.bytes.ensures.are_bytes
-
-pub returns-else-whole-wanted-clause-kept : goal.returns-else-whole-wanted-clause-kept
-returns-else-whole-wanted-clause-kept g c = c.in_ok-reach.ensures.ok.kept
-
-pub returns-else-whole-wanted-clause-mark : goal.returns-else-whole-wanted-clause-mark
-returns-else-whole-wanted-clause-mark g c = c.in_ok-reach.ensures.ok.mark
+pub returns-clause-mark : goal.returns-clause-mark
+returns-clause-mark g c = c.in_ok-reach.ensures.ok.mark
