@@ -87,11 +87,13 @@ fn finish(alloc: Global, drafted: DraftImage) -> Result<Image, Fault>
     ensures ok { IfOk result (λ i. (bytes : List ℕ) → IsDraftOf bytes drafted → IsTextOf bytes i) }
     ensures err { IfErr result (λ e. (bytes : List ℕ) → IsDraftOf bytes drafted → MayFail bytes e) }
 {
-    let log = check_log(alloc, &drafted.draft, &drafted.log)?;
-    check_remembered(&drafted.draft, &drafted.remembered)?;
     let DraftImage {
-        draft, remembered, ..
+        draft,
+        log: cards,
+        remembered,
     } = drafted;
+    let log = check_log(alloc, &draft, &cards)?;
+    check_remembered(&draft, &remembered)?;
     let heap = Heap {
         geometry: draft.geometry,
         words: draft.words,

@@ -1,4 +1,4 @@
-use Rattle.std.proofs.Common.{◌++◌, [], false, get_or, map, append-nil, sym, ap, arith, ◌∙◌}
+use Rattle.std.proofs.Common.{◌++◌, false, get_or, map, append-nil, sym, ap, arith, ◌∙◌}
 use Rattle.std.proofs.lemmas.List.{take_all}
 use Rattle.g1_words.specs.declared.region.Kind.TheVariants.{Free}
 use Rattle.g1_words.specs.declared.region.Region.{Region}
