@@ -1,5 +1,5 @@
 -- Bytes that wait and bytes that come, sent one part after the other.
-use Rattle.std.proofs.Common.{◌≡◌, ℕ, ◌+◌, ◌-◌, ◌≤◌, ◌<◌, List, [], ◌++◌, Option, Some, None, Result, Ok, Err, length, take, drop, refl, sym, ap, ◌∙◌, arith, append_assoc, append-nil}
+use Rattle.std.proofs.Common.{◌≡◌, ℕ, ◌+◌, ◌-◌, ◌≤◌, ◌<◌, List, [], ◌++◌, Bool, Option, Some, None, Result, Ok, Err, length, take, drop, refl, sym, ap, ◌∙◌, arith, append_assoc, append-nil}
 use Rattle.std.proofs.Common.{length-append, length-drop, take-append-drop, length-take-le, subst}
 use Rattle.std.specs.Prelude.{OnOk, IfErr}
 use Rattle.std.proofs.lemmas.List.{take-take}
@@ -10,7 +10,8 @@ use Rattle.std.proofs.KnownBytes.{Appends-nil, Appends-trans}
 use Rattle.g1_words.specs.declared.fault.Fault.{Fault}
 use Rattle.g1_words.specs.declared.fault.Fault.TheVariants.{Device}
 use Rattle.g1_words.specs.declared.fault.Device.TheVariants.{Output}
-use Rattle.g1_image.specs.Sink.{Sent, SendFails, Writes}
+use Rattle.g1_image.specs.Source.{marked}
+use Rattle.g1_image.specs.Sink.{Sent, SendFails, Writes, output_mark}
 
 -- what was written up to a place, and n bytes of what stands behind it, is what is written up to n bytes further
 pub appends_part : (a b c : Option (List ℕ)) (xs : List ℕ) (at n : ℕ) → n ≤ length xs - at → Appends a b (take at xs) → Appends b c (take n (take (length xs - at) (drop at xs)))
@@ -121,6 +122,11 @@ pub rest_written : (a b c : Option (List ℕ)) (front words ys zs : List ℕ) (r
 rest_written a b c front words ys zs (Ok u) p q none f = all_written a b c front words ys p (subst (Sent b c ys []) none q)
 rest_written a b c front words ys zs (Err e) p q none f = subst (λ l. Writes (front ++ l) a c (Err e)) (append-nil words)
     (part_written a c front (words ++ []) e (fails_behind a b c front ys words [] e p f))
+
+-- a run that fails by the output alone has told of it
+pub output_told : (old new : Bool) (a b : Option (List ℕ)) (xs come : List ℕ) (r : Result (Unit {0}) Fault) → new ≡ marked old r → IfErr r (SendFails a b xs come) → new ≡ output_mark old r
+output_told old new a b xs come (Ok u) m f = m
+output_told old new a b xs come (Err e) m f = subst (λ x. new ≡ output_mark {X = Unit {0}} old (Err x)) (sym f.0) m
 
 -- a text that is written into an empty list is the list's
 pub list_written : (a b : Option (List ℕ)) (xs ys text : List ℕ) → a ≡ Some xs → xs ≡ [] → Appends a b text → Some ys ≡ b → ys ≡ text

@@ -1,5 +1,5 @@
 -- The marks of regions that follow one another, joined.
-use Rattle.std.proofs.Common.{◌≡◌, ◌≢◌, ◌≤◌, ◌<◌, ℕ, zero, suc, ◌+◌, ◌-◌, inl, inr, Bool, false, List, [], ◌∷◌, ◌++◌, length, slice_index, slice_index_or, set, arith, refl, sym, ap, subst, ◌∙◌}
+use Rattle.std.proofs.Common.{◌≡◌, ◌≢◌, ◌≤◌, ◌<◌, ℕ, zero, suc, ◌+◌, ◌-◌, ◌*◌, ◌%◌, inl, inr, Bool, false, List, [], ◌∷◌, ◌++◌, length, slice_index, slice_index_or, set, arith, refl, sym, ap, subst, ◌∙◌}
 use Rattle.std.proofs.Common.{get_or-set_other, get_or-set_same, length-set}
 use Rattle.std.specs.Prelude.{IsTrue, Result}
 use Rattle.std.specs.List.{range_with_len, AllZip}
@@ -128,3 +128,16 @@ module _ (h : Heap) (ranges j begin : ℕ) (begins : List ℕ) (lt : j < ranges)
           | inr ne ↦ subst (BeginsMarks h) (sym (there k ne)) (c.whole k (omega (arith, less, ne)))
         ];
       }
+
+-- the first region of all begins 64 marks
+pub zero_begins : (begin w at : ℕ) → at ≡ begin * w → at % 64 ≢ 0 → 1 ≤ begin
+zero_begins zero w at e ne = let none : at ≡ 0 = omega (arith, e) in absurd (ne (ap (λ x. x % 64) none))
+zero_begins (suc begin) w at e ne = omega arith
+
+-- no region behind one begins 64 marks, nor does this one
+pub none_between : (h : Heap) (r begin at : ℕ) → at ≡ start h begin → at % 64 ≢ 0 → ((q : ℕ) → begin < q → q ≤ r → start h q % 64 ≢ 0) →
+    (q : ℕ) → begin - 1 < q → q ≤ r → start h q % 64 ≢ 0
+none_between h r begin at e ne none q gt le = elim (cases_lt begin q) [
+  | inl more ↦ none q more le
+  | inr less ↦ (let same : begin ≡ q = omega (arith, gt, less) in subst (λ p. start h p % 64 ≢ 0) same (subst (λ x. x % 64 ≢ 0) e ne))
+]

@@ -5,7 +5,7 @@ use Rattle.std.specs.List.{range_with_len, AllZip}
 use Rattle.std.proofs.lemmas.Bool.{cases_lt}
 use Rattle.std.proofs.Math.Nat.{mul-le-mul_right}
 use Rattle.g1_words.specs.Heap.{Heap, region, start, end}
-use Rattle.g1_words.specs.Valid.{HasObject}
+use Rattle.g1_words.specs.Valid.{HasObject, IsShapedBy}
 use Rattle.g1_words.specs.declared.object.Object.{Object}
 use Rattle.g1_words.specs.declared.region.Kind.{Kind}
 use Rattle.g1_words.specs.declared.region.Kind.TheVariants.{Free, Ordinary, HumongousFirst, Continuation}
@@ -26,6 +26,13 @@ one_region w a p r from to from2 to2 = elim (cases_lt p r) [
     | inr le ↦ omega (arith, ge, le)
   ]
 ]
+
+-- the used words of an ordinary region lie in the heap
+pub top_in : (h : Heap) (r : ℕ) → (region h r).kind ≡ Ordinary → ShapedBelow h h.geometry.n → r < h.geometry.n → start h r + (region h r).top ≤ h.geometry.n * h.geometry.w
+top_in h r kind shaped lt =
+    let by : IsShapedBy Ordinary h r = subst (λ k. IsShapedBy k h r) kind (shaped r lt).by_kind in
+    let le : r + 1 ≤ h.geometry.n = omega (arith, lt) in
+    omega (arith, by.1, mul-le-mul_right h.geometry.w le)
 
 -- an object that starts in a region is one of that region's
 pub starts_here : (h : Heap) (r : ℕ) (o : Object) → 0 < h.geometry.w → ShapedBelow h h.geometry.n → HasObject h o → start h r ≤ o.at → o.at < start h (r + 1)

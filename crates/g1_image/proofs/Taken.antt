@@ -1,17 +1,18 @@
 -- Bytes that wait, and bytes that are taken from a source one part after the other.
 use Rattle.std.proofs.Common.{◌≡◌, ◌≤◌, ◌<◌, ℕ, zero, suc, ◌+◌, ◌-◌, Bool, List, [], ◌∷◌, ◌++◌, Option, Some, None, length, take, drop, slice_range, arith, refl, sym, ap, ◌∙◌, append_assoc}
 use Rattle.std.proofs.Common.{length-append, length-take, drop-drop, take-append-drop, length-take-le}
-use Rattle.std.specs.Prelude.{IfSome}
+use Rattle.std.specs.Prelude.{IfSome, IsFalse}
 use Rattle.std.proofs.lemmas.List.{take-append-le, drop-take}
 use Rattle.std.proofs.Math.Seq.{take-append-add}
 use lib.Seq.{drop-append-le}
-use Rattle.std.specs.Io.KnownBytes.{Keeps, Consumes, prepend_known}
+use Rattle.std.specs.Io.KnownBytes.{Keeps, Consumes, IsAtEnd, prepend_known}
 use Rattle.std.proofs.KnownBytes.{Consumes-nil, Consumes-trans, prepend_known-read}
 use Rattle.g1_words.specs.declared.fault.Fault.{Fault}
 use Rattle.g1_words.specs.declared.fault.Fault.TheVariants as fault
 use Rattle.g1_words.specs.declared.fault.Device.TheVariants as device
 use Rattle.g1_image.specs.Reading.{IsBytes}
 use Rattle.g1_image.specs.Source.{ReadFails}
+use Rattle.g1_image.specs.Buffer.{IsReadAhead}
 use Rattle.g1_image.specs.Ahead.{Takes, TakeFails}
 
 -- bytes read over what stands behind the bytes that wait
@@ -87,3 +88,20 @@ pub read_takes_none : (m n : Bool) (a : Option (List ℕ)) (k : ℕ) (e : Fault)
 read_takes_none m n a k fault.Memory h = h
 read_takes_none m n a k (fault.Device device.Input) h = h
 read_takes_none m n a k _ h = absurd h
+
+few_wait : (a l : Option (List ℕ)) (w : List ℕ) (k : ℕ) → Keeps a (prepend_known w l) → IsAtEnd l → length w < k → IfSome a (λ xs. length xs < k)
+few_wait None l w k kept end lt = tt
+few_wait (Some x) None w k kept end lt = absurd kept
+few_wait (Some x) (Some y) w k kept end lt = omega (arith, ap length kept, length-append w y, ap length end, lt)
+
+-- the bytes end before so many of them wait
+pub ends_short : (m n : Bool) (a l : Option (List ℕ)) (w : List ℕ) (k : ℕ) (found : Bool) → IsReadAhead m n a (prepend_known w l) l w k found → IsFalse found → TakeFails m n a k fault.Short
+ends_short m n a l w k found r none = (r.mark, few_wait a l w k r.kept (r.ended none).0 (r.ended none).1)
+
+-- bytes wait, and none is taken
+pub takes_nothing : (m n : Bool) (a b : Option (List ℕ)) → n ≡ m → Keeps a b → Takes m n a b []
+takes_nothing m n a b same kept = record { mark = same; bytes = none a b kept; are_bytes = λ i. omega arith } where
+  none : (a b : Option (List ℕ)) → Keeps a b → Consumes a b []
+  none None b kept = tt
+  none (Some x) None kept = absurd kept
+  none (Some x) (Some y) kept = sym kept

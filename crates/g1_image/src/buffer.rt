@@ -85,8 +85,7 @@ impl Buffer {
     {
         let end = self.end;
         if end == self.room.len() {
-            let more = if end < PIECE { PIECE } else { end };
-            self.room.resize(end + more, 0)?;
+            self.room.resize(end + end.max(PIECE), 0)?;
         }
         Ok(())
     }

@@ -173,8 +173,7 @@ impl<'a> Cursor<'a> {
             Some(version) => version,
             None => return Err(Fault::Magic),
         };
-        let (_, rest) = self.rest.split_at(8);
-        self.rest = rest;
+        self.skip(8);
         Ok(version)
     }
 

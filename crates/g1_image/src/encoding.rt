@@ -5,9 +5,7 @@ ghost use Rattle.g1_image.specs.Image.{flags_of, entry_of, file_of, IsTextIn};
 
 use crate::cursor::{Heading, Version};
 use crate::image::Image;
-use crate::writing::{
-    count, push_heading, push_magic, push_number, push_numbers, push_remembered, push_words,
-};
+use crate::writing::{count, push_heading, push_magic, push_numbers, push_remembered, push_words};
 use g1_words::{Geometry, Region};
 use std::alloc::{AllocError, Global};
 
@@ -37,9 +35,10 @@ fn push_table(out: &mut Vec<u8>, regions: &[Region]) -> Result<(), AllocError>
     ensures { OnOk result (out.new.items ≡ out.old.items ++ table_text Version.Two (map entry_of regions.now)) }
 {
     for region in regions {
-        push_number(out, region.kind.number())?;
-        push_number(out, region.top)?;
-        push_number(out, flags_of(region.pinned))?;
+        push_numbers(
+            out,
+            &[region.kind.number(), region.top, flags_of(region.pinned)],
+        )?;
     }
     Ok(())
 }
@@ -68,8 +67,7 @@ fn push_parts(out: &mut Vec<u8>, parts: &FileParts<'_>) -> Result<(), AllocError
     push_table(out, parts.regions)?;
     push_words(out, parts.roots)?;
     push_numbers(out, parts.log)?;
-    push_remembered(out, parts.remembered)?;
-    Ok(())
+    push_remembered(out, parts.remembered)
 }
 
 /// The bytes of parts and of the used words behind them, of version 2. They are good only if the parts are an
@@ -101,6 +99,5 @@ pub(crate) fn write_front(out: &mut Vec<u8>, image: &Image) -> Result<(), AllocE
         remembered: image.remembered(),
     };
     out.clear();
-    push_parts(out, &parts)?;
-    Ok(())
+    push_parts(out, &parts)
 }

@@ -39,8 +39,7 @@ fn push_zeros(out: &mut Vec<u64>, count: u32) -> Result<(), AllocError>
     ensures { OnOk result (out.new.items ≡ out.old.items ++ replicate count 0) }
 {
     let filled = out.len() + count as usize;
-    out.resize(filled, 0)?;
-    Ok(())
+    out.resize(filled, 0)
 }
 
 /// How many whole words wait: at least one, and no more than are wanted.
@@ -58,11 +57,7 @@ fn words_ahead<S: Source>(source: &mut S, ahead: &mut Ahead, wanted: u32) -> Res
         return Err(Fault::Short);
     }
     let whole = ahead.bytes().len() / 8;
-    if whole < wanted as usize {
-        Ok(whole as u32)
-    } else {
-        Ok(wanted)
-    }
+    Ok(whole.min(wanted as usize) as u32)
 }
 
 /// Writes the next words at the end.
@@ -180,7 +175,7 @@ fn push_region<S: Source>(
         laid,
         words_wanted(place, words.taken, words.left),
     )?;
-    let used = if top < w { top } else { w };
+    let used = top.min(w);
     push_next(source, ahead, &mut laid.words, used)?;
     skip_words(source, ahead, top - used)?;
     laid.zeros = w - used;

@@ -1,4 +1,4 @@
-use Rattle.std.proofs.Common.{◌≡◌, ◌≢◌, ◌+◌, ◌-◌, true, false, slice_index, inl, inr, refl, sym, ap, subst, ◌∙◌, arith, below_more}
+use Rattle.std.proofs.Common.{◌≡◌, ◌≢◌, ◌<◌, ◌+◌, ◌-◌, true, false, slice_index, inl, inr, refl, sym, ap, subst, ◌∙◌, arith, below_more}
 use Rattle.std.specs.Prelude.{IsTrue}
 use Rattle.std.proofs.lemmas.List.{get_or_default}
 use Rattle.std.proofs.lemmas.Bool.{cases_lt}
@@ -52,6 +52,7 @@ returns c =
 pub loop-i-preserved : goal.loop-i-preserved
 loop-i-preserved c =
     let h = c.args.draft.now in
+    let cards = c.args.cards.now in
     let place : c.region_of_card.result ≡ region_of_card h (slice_index c.args.cards.now c.loop-i.i) = cc in
     record {
       rising = λ q lt. elim (cases_lt (q + 1) c.loop-i.i) [
@@ -60,7 +61,7 @@ loop-i-preserved c =
             let before : q ≡ c.loop-i.i - 1 = omega arith in
             let here : q + 1 ≡ c.loop-i.i = omega arith in
             elim c.else-i-gt0.branch [
-              | else-i-gt0-via-then-i-gt0+else-cards-i v ↦ omega (arith, ap (slice_index c.args.cards.now) before, ap (slice_index c.args.cards.now) here, v.if-cards-i.false)
+              | else-i-gt0-via-then-i-gt0+else-cards-i v ↦ subst (λ k. slice_index cards q < slice_index cards k) (sym here) (subst (λ k. slice_index cards k < slice_index cards c.loop-i.i) (sym before) v.if-cards-i.false)
               | else-i-gt0-via-else-i-gt0 v ↦ absurd (omega (arith, v.if-i-gt0.false))
             ]
       ];

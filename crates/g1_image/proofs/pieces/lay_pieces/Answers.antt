@@ -1,8 +1,10 @@
-use Rattle.std.proofs.Common.{◌≤◌, ◌+◌, length, arith}
+use Rattle.std.proofs.Common.{◌≤◌, ◌+◌, ◌-◌, ◌*◌, length, arith, ◌∙◌}
 use Rattle.std.proofs.Math.Nat.{mul-le-mul_right}
-use Rattle.g1_image.specs.Text.{Entry}
+use Rattle.std.proofs.lemmas.Result.{err_from_is_err_and}
+use Rattle.g1_image.specs.Text.{Entry, table_words}
 use Rattle.g1_image.specs.Growing.{laid_words}
-use Rattle.g1_image.proofs.Laid.{table_words-next, laid_more}
+use Rattle.g1_image.proofs.Taken.{fails_after}
+use Rattle.g1_image.proofs.Laid.{table_words-next, laid_more, laid_all}
 use Rattle.g1_image.proofs.pieces.lay_pieces.Goals as goal
 
 pub overflow_sub-left : goal.overflow_sub-left
@@ -43,3 +45,37 @@ loop-e-preserved g c =
       within = omega (arith, before.taken, c.from-taken.ensures, next.1);
       part = laid_more _ _ _ _ _ _ c.args.w table i none (laid_words c.loop-e.laid) (laid_words c.push_region.new.laid) here.ok.0 before.part c.loop-e-test.true here.ok.1 here.ok.2 here.ok.3;
     }
+
+pub push_region-requires-clause-known : goal.push_region-requires-clause-known
+push_region-requires-clause-known g c = c.loop-e.invariant.known
+
+pub returns-in_err-push_region-clause-known : goal.returns-in_err-push_region-clause-known
+returns-in_err-push_region-clause-known g c = c.push_region.ensures.known
+
+pub returns-in_err-push_region-clause-err : goal.returns-in_err-push_region-clause-err
+returns-in_err-push_region-clause-err g c =
+    let left = err_from_is_err_and c.from_residual.result c.from_residual.ensures.1 in
+    let part = c.loop-e.invariant.part in
+    let total = c.table_words-total.result in
+    let most : length part.taken + 8 * (total - c.loop-e.taken) ≤ 8 * table_words c.args.table.now =
+    omega (arith, part.size, c.loop-e.invariant.taken, c.loop-e.invariant.within, c.table_words-total.ensures.value) in
+    rw (left.1, left.2) (fails_after _ _ _ _ _ part.taken (8 * (total - c.loop-e.taken)) _ c.in_err-push_region.field-0.0 part.takes c.in_err-push_region.ensures.err most)
+
+pub loop-e-smaller : goal.loop-e-smaller
+loop-e-smaller g c = omega (arith, c.loop-e-test.true)
+
+pub returns-in_err-push_zeros-clause-known : goal.returns-in_err-push_zeros-clause-known
+returns-in_err-push_zeros-clause-known g c = c.loop-e.invariant.known
+
+pub returns-in_err-push_zeros-clause-err : goal.returns-in_err-push_zeros-clause-err
+returns-in_err-push_zeros-clause-err g c =
+    let left = err_from_is_err_and c.from_residual-in_err-push_zeros.result c.from_residual-in_err-push_zeros.ensures.1 in
+    rw (left.1, left.2) c.loop-e.invariant.part.takes.mark
+
+pub returns-clause-known : goal.returns-clause-known
+returns-clause-known g c = c.loop-e.invariant.known
+
+pub returns-clause-ok : goal.returns-clause-ok
+returns-clause-ok g c =
+    let all = laid_all _ _ _ _ c.args.w c.args.table.now c.loop-e.e-index (laid_words c.loop-e.laid) c.loop-e.invariant.part c.loop-e-test.false in
+    (all.0, all.1, all.2, c.in_ok-push_zeros.ensures ∙ all.3)

@@ -1,4 +1,4 @@
-use Rattle.std.proofs.Common.{arith, ◌≤◌, ap, ◌∙◌, ◌++◌}
+use Rattle.std.proofs.Common.{arith, ◌≤◌, length, ap, ◌∙◌, ◌++◌}
 use Rattle.std.proofs.Math.Nat.{min-le_left}
 use Rattle.std.proofs.lemmas.Result.{err_from_is_err_and}
 use Rattle.g1_image.specs.Text.{words_of}
@@ -35,3 +35,27 @@ loop-left-preserved g c =
           c.loop-left.invariant.part c.in_ok-here.ensures.mark c.in_ok-here.ensures.kept
           c.in_ok-here.ensures.are_bytes (omega (arith, count.1, few)) count.2 c.pass.ensures.left (c.in_ok-push_read.ensures ∙ ap (λ b. c.loop-left.out.items ++ words_of here b) c.bytes.ensures.same);
     }
+
+pub words_ahead-requires-clause-some : goal.words_ahead-requires-clause-some
+words_ahead-requires-clause-some g c = omega (arith, c.min.ensures, c.loop-left-test.true)
+
+pub words_ahead-requires-clause-known : goal.words_ahead-requires-clause-known
+words_ahead-requires-clause-known g c = c.loop-left.invariant.known
+
+pub returns-in_err-here-clause-known : goal.returns-in_err-here-clause-known
+returns-in_err-here-clause-known g c = c.words_ahead.ensures.known
+
+pub push_read-requires-clause-few : goal.push_read-requires-clause-few
+push_read-requires-clause-few g c = omega (arith, c.in_ok-here.ensures.count.1, c.min.ensures)
+
+pub push_read-requires-clause-there : goal.push_read-requires-clause-there
+push_read-requires-clause-there g c = omega (arith, c.in_ok-here.ensures.count.2, ap length c.bytes.ensures.same)
+
+pub returns-in_err-push_read-clause-known : goal.returns-in_err-push_read-clause-known
+returns-in_err-push_read-clause-known g c = c.words_ahead.ensures.known
+
+pub loop-left-smaller : goal.loop-left-smaller
+loop-left-smaller g c = omega (arith, c.in_ok-here.ensures.count.0, c.in_ok-here.ensures.count.1, c.min.ensures)
+
+pub returns-clause-known : goal.returns-clause-known
+returns-clause-known g c = c.loop-left.invariant.known

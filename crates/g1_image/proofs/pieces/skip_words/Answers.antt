@@ -24,3 +24,15 @@ loop-left-preserved g c =
           (waiting c.pass.new.self) c.loop-left.invariant.part c.in_ok-here.ensures.mark c.in_ok-here.ensures.kept
           c.in_ok-here.ensures.are_bytes count.1 count.2 c.pass.ensures.left;
     }
+
+pub words_ahead-requires-clause-some : goal.words_ahead-requires-clause-some
+words_ahead-requires-clause-some g c = c.loop-left-test.true
+
+pub words_ahead-requires-clause-known : goal.words_ahead-requires-clause-known
+words_ahead-requires-clause-known g c = c.loop-left.invariant.known
+
+pub returns-in_err-here-clause-known : goal.returns-in_err-here-clause-known
+returns-in_err-here-clause-known g c = c.words_ahead.ensures.known
+
+pub returns-clause-known : goal.returns-clause-known
+returns-clause-known g c = c.loop-left.invariant.known

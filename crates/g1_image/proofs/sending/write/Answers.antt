@@ -5,14 +5,30 @@ use Rattle.g1_words.proofs.Objects.{tops_fit}
 use Rattle.g1_image.specs.declared.cursor.Version.TheVariants.{Two}
 use Rattle.g1_image.specs.Text.{words_text, file_text}
 use Rattle.g1_image.specs.Image.{file_of, used_words}
+use Rattle.g1_image.specs.Source.{marked}
 use Rattle.g1_image.specs.Sink.{unsent, Sent, SendFails, Writes}
-use Rattle.g1_image.proofs.Sent.{part_written, rest_written}
+use Rattle.g1_image.proofs.Sent.{part_written, rest_written, output_told}
 use Rattle.g1_image.proofs.sending.write.Goals as goal
 
 pub returns-in_err-write_front-clause-text : goal.returns-in_err-write_front-clause-text
 returns-in_err-write_front-clause-text g c =
     let same = err_from_is_err_and c.from_residual.result c.from_residual.ensures.1 in
     (file_text (file_of Two c.args.image.now), (c.heap-heap.ensures.valid, tt, refl), rw (same.1, same.2) (Keeps-refl _))
+
+pub returns-in_err-write_front-clause-mark : goal.returns-in_err-write_front-clause-mark
+returns-in_err-write_front-clause-mark g c =
+    let same = err_from_is_err_and c.from_residual.result c.from_residual.ensures.1 in
+    rw (same.1, same.2) refl
+
+pub returns-in_err-behind-clause-text : goal.returns-in_err-behind-clause-text
+returns-in_err-behind-clause-text g c =
+    let same = err_from_is_err_and c.from_residual-in_err-behind.result c.from_residual-in_err-behind.ensures.1 in
+    (file_text (file_of Two c.args.image.now), (c.heap-heap.ensures.valid, tt, refl), rw (same.1, same.2) (Keeps-refl _))
+
+pub returns-in_err-behind-clause-mark : goal.returns-in_err-behind-clause-mark
+returns-in_err-behind-clause-mark g c =
+    let same = err_from_is_err_and c.from_residual-in_err-behind.result c.from_residual-in_err-behind.ensures.1 in
+    rw (same.1, same.2) refl
 
 pub send_used-requires-clause-tops : goal.send_used-requires-clause-tops
 send_used-requires-clause-tops g c =
@@ -49,3 +65,13 @@ returns-clause-text g c =
       subst (λ l. Writes (front ++ l) old new c.flush.result) is (rest_written old between new front words (unsent c.send_used.new.behind)
           (unsent c.flush.new.self) c.flush.result sent c.flush.ensures.ok c.flush.ensures.none c.flush.ensures.err),
     )
+
+pub returns-in_err-send_used-clause-mark : goal.returns-in_err-send_used-clause-mark
+returns-in_err-send_used-clause-mark g c =
+    let same = err_from_is_err_and c.from_residual-in_err-send_used.result c.from_residual-in_err-send_used.ensures.1 in
+    rw (same.1, same.2) (output_told _ _ _ _ _ _ (Err c.in_err-send_used.field-0.0) c.in_err-send_used.ensures.mark c.in_err-send_used.ensures.err)
+
+pub returns-clause-mark : goal.returns-clause-mark
+returns-clause-mark g c =
+    output_told _ _ _ _ _ _ c.flush.result
+    (subst (λ m. g.S.Sink.failed c.flush.new.sink ≡ marked m c.flush.result) c.in_ok-send_used.ensures.mark c.flush.ensures.mark) c.flush.ensures.err

@@ -67,3 +67,27 @@ returns-clause-ok g c =
           (g.S.Source.left c.reach.new.source) (waiting c.reach.new.self)
           c.in_ok-front.ensures.taken words.1.bytes reached.kept ended.0 ended.1,
     )
+
+pub returns-in_err-front-clause-known : goal.returns-in_err-front-clause-known
+returns-in_err-front-clause-known g c = c.take_front.ensures.known
+
+pub lay_pieces-requires-clause-count : goal.lay_pieces-requires-clause-count
+lay_pieces-requires-clause-count g c = omega (arith, ap length c.deref.ensures.value, c.in_ok-front.ensures.ok.entries.how_many, c.in_ok-front.ensures.ok.good.sizes.n_most)
+
+pub lay_pieces-requires-clause-known : goal.lay_pieces-requires-clause-known
+lay_pieces-requires-clause-known g c = c.take_front.ensures.known
+
+pub returns-in_err-words-clause-known : goal.returns-in_err-words-clause-known
+returns-in_err-words-clause-known g c = c.lay_pieces.ensures.known
+
+pub returns-in_err-reach-clause-known : goal.returns-in_err-reach-clause-known
+returns-in_err-reach-clause-known g c = c.reach.ensures.known
+
+pub returns-then-branch-clause-known : goal.returns-then-branch-clause-known
+returns-then-branch-clause-known g c = c.reach.ensures.known
+
+pub returns-clause-known : goal.returns-clause-known
+returns-clause-known g c = c.reach.ensures.known
+
+pub returns-clause-mark : goal.returns-clause-mark
+returns-clause-mark g c = c.in_ok-reach.ensures.ok.mark ∙ c.in_ok-words.ensures.ok.1.mark ∙ c.in_ok-front.ensures.mark
