@@ -12,3 +12,9 @@ pub returns : goal.returns
 returns g c =
     let q = c.loop-from.queue in
     searched c.args.scope.now c.requires.scope c.loop-from.from q c.loop-from.invariant (omega (arith, c.loop-from-test.false, c.len.ensures, q.found.ok))
+
+pub loop-from-init : goal.loop-from-init
+loop-from-init g c = c.in_ok-queue.ensures
+
+pub loop-from-preserved : goal.loop-from-preserved
+loop-from-preserved g c = c.in_ok-search_batch.ensures

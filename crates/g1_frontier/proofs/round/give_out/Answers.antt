@@ -1,4 +1,7 @@
-use Rattle.std.proofs.Common.{arith, ap, ◌≡◌, ◌++◌, [], ◌∷◌, length, length-append}
+use Rattle.std.proofs.Common.{arith, refl, ap, sym, subst, ◌≡◌, ◌-◌, ◌++◌, ◌∙◌, [], ◌∷◌, All, length, length-append}
+use Rattle.std.proofs.lemmas.List.Elements.{All-push}
+use Rattle.g1_claim.specs.declared.rule.Hand.{Hand}
+use Rattle.g1_frontier.specs.Round.{IsFreshHolder}
 use Rattle.g1_frontier.proofs.round.give_out.Goals as goal
 
 pub returns : goal.returns
@@ -20,3 +23,31 @@ returns c =
 
 pub loop-i-smaller : goal.loop-i-smaller
 loop-i-smaller c = omega (arith, c.loop-i-test.true)
+
+pub loop-i-init : goal.loop-i-init
+loop-i-init c =
+    let none = c.in_ok-holders.ensures in record {
+      seat = c.requires.seat.0;
+      shares = omega (arith, c.requires.seat.1);
+      offers = refl;
+      len = omega (arith, none.len);
+      fresh = λ k d lt. absurd (omega (arith, lt, ap length none.items));
+    }
+
+pub loop-i-preserved : goal.loop-i-preserved
+loop-i-preserved c =
+    let i = c.loop-i.invariant in
+    let t = c.args.claims.now in
+    let shares : c.split-theirs.new.seat.hand.shares ≡ c.loop-i.seat.hand.shares - 1 = ap (λ (h : Hand). h.shares) c.split-theirs.ensures.left in record {
+      seat = c.split-theirs.ensures.table;
+      shares = omega (arith, shares, i.shares);
+      offers = ap (λ (h : Hand). h.offers) c.split-theirs.ensures.left ∙ i.offers;
+      len = omega (arith, c.in_ok-push.ensures.len, i.len);
+      fresh = subst (All (IsFreshHolder t)) (sym c.in_ok-push.ensures.items) (All-push (IsFreshHolder t) c.loop-i.holders.items (record { seat = c.split-theirs.result; kept = c.new.result }) i.fresh
+          (record {
+            seat = c.split-theirs.ensures.other;
+            share = ap (λ (h : Hand). h.shares) c.split-theirs.ensures.right;
+            no_offers = ap (λ (h : Hand). h.offers) c.split-theirs.ensures.right;
+            none_kept = c.new.ensures.items;
+          }));
+    }

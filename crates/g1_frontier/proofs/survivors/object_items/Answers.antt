@@ -1,6 +1,6 @@
 use Rattle.std.proofs.Common.{arith, ap, ◌≡◌, ◌∙◌, ◌++◌, ◌∷◌, ◌+◌, [], ℕ, List, get_or, sum_by}
 use Rattle.g1_frontier.specs.declared.item.Item.TheVariants.{Object}
-use Rattle.g1_frontier.specs.Items.{slot_count}
+use Rattle.g1_frontier.specs.Items.{object_items, slot_count}
 use Rattle.g1_frontier.proofs.Turns.{take_all}
 use Rattle.g1_frontier.proofs.Searching.{items_more, total_more}
 use Rattle.g1_frontier.proofs.survivors.object_items.Goals as goal
@@ -25,3 +25,10 @@ returns-clause-next c =
 
 pub loop-at-smaller : goal.loop-at-smaller
 loop-at-smaller c = omega (arith, c.loop-at-test.true)
+
+pub loop-at-init : goal.loop-at-init
+loop-at-init c = record { items = c.in_ok-items.ensures.items; next = omega arith }
+
+pub returns-clause-items : goal.returns-clause-items
+returns-clause-items c =
+    c.loop-at.invariant.items ∙ ap (λ (l : List ℕ). object_items c.args.heap.now c.args.base l) (take_all c.args.addresses.now c.loop-at.at-index c.loop-at-test.false)
