@@ -1,4 +1,4 @@
-use Rattle.std.proofs.Common.{arith, ap, subst, sym, inl, inr, ℕ, ◌≡◌, ◌<◌, ◌+◌, length, slice_index}
+use Rattle.std.proofs.Common.{arith, ap, subst, sym, inl, inr, ℕ, ◌<◌, ◌+◌, length, slice_index}
 use Rattle.g1_words.specs.Heap.{Heap}
 use Rattle.g1_same.specs.declared.walk.Walk.{Walk}
 use Rattle.g1_same.specs.declared.difference.How.{How}
