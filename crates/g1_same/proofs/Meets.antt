@@ -17,7 +17,7 @@ use Rattle.g1_same.proofs.Words.{known_here, split_here, joined_here, new_before
 abbrev Compared : Heap → Heap → ℕ → ℕ → Type 0
 Compared g h a b = AreAlike g h a b ⊎ ((how : How) × ((p : List ℕ) → IsClash g h p how (suc a) (suc b)) × IsLower g h how a b)
 
-same_header : (x y : ℕ) → x / 2 ^ 32 ≡ y / 2 ^ 32 → x % 2 ^ 32 ≡ y % 2 ^ 32 → x ≡ y
+pub same_header : (x y : ℕ) → x / 2 ^ 32 ≡ y / 2 ^ 32 → x % 2 ^ 32 ≡ y % 2 ^ 32 → x ≡ y
 same_header x y d m = omega (arith, d, m)
 
 -- the data words of this number are equal

@@ -1,9 +1,11 @@
 -- Two texts are judged as their images are.
-use Rattle.std.proofs.Common.{ℕ, List}
+use Rattle.std.proofs.Common.{ℕ, List, inl, inr, sym, subst}
+use Rattle.g1_words.specs.declared.fault.Fault.{Fault}
 use Rattle.g1_image.specs.Image.{Image, IsTextOf}
+use Rattle.g1_image.specs.Faults.{MayFail, FaultOf}
 use Rattle.g1judge.specs.declared.verdict.Verdict.{Verdict}
 use Rattle.g1judge.specs.declared.verdict.Verdict.TheVariants.{Good, Same, Differ, NoImage, Uncovered, Loss, NoSet, Memory}
-use Rattle.g1judge.specs.Judged.{AreUnread, JudgesImages, JudgesPair, JudgesSet, JudgesKept}
+use Rattle.g1judge.specs.Judged.{IsText, IsUnread, AreUnread, JudgesImages, JudgesPair, JudgesSet, JudgesKept}
 
 pub texts_judged : (before after : List ℕ) (g h : Image) (v : Verdict) → IsTextOf before g → IsTextOf after h → JudgesImages g h v → JudgesPair before after v
 texts_judged before after g h Good s t j = absurd j
@@ -45,3 +47,26 @@ unread_kept before after set (Uncovered slot) j = absurd j
 unread_kept before after set (Loss l) j = absurd j
 unread_kept before after set (NoSet region) j = absurd j
 unread_kept before after set Memory j = j
+
+-- the verdict of two byte strings of which the first was not read, or the second
+pub first_unread : (before after : List ℕ) (e : Fault) (v : Verdict) → MayFail before e → IsUnread 1 e v → AreUnread before after v
+first_unread before after e (NoImage image f) (inl m) u = absurd (u.2 m)
+first_unread before after e (NoImage image f) (inr k) u = inl (u.0, subst (FaultOf before) (sym u.1) k)
+first_unread before after e Memory may u = tt
+first_unread before after e Good may u = absurd u
+first_unread before after e (Same objects words) may u = absurd u
+first_unread before after e (Differ d ends) may u = absurd u
+first_unread before after e (Uncovered slot) may u = absurd u
+first_unread before after e (Loss l) may u = absurd u
+first_unread before after e (NoSet region) may u = absurd u
+
+pub second_unread : (before after : List ℕ) (e : Fault) (v : Verdict) → IsText before → MayFail after e → IsUnread 2 e v → AreUnread before after v
+second_unread before after e (NoImage image f) text (inl m) u = absurd (u.2 m)
+second_unread before after e (NoImage image f) text (inr k) u = inr (u.0, text, subst (FaultOf after) (sym u.1) k)
+second_unread before after e Memory text may u = tt
+second_unread before after e Good text may u = absurd u
+second_unread before after e (Same objects words) text may u = absurd u
+second_unread before after e (Differ d ends) text may u = absurd u
+second_unread before after e (Uncovered slot) text may u = absurd u
+second_unread before after e (Loss l) text may u = absurd u
+second_unread before after e (NoSet region) text may u = absurd u

@@ -1,13 +1,17 @@
-use Rattle.std.proofs.Common.{arith, ap, subst, sym, suc, ℕ, ◌≡◌, ◌<◌, ◌+◌, ◌∙◌, Contains, slice_index}
+use Rattle.std.proofs.Common.{arith, ap, subst, sym, suc, inl, inr, ℕ, ◌≡◌, ◌<◌, ◌+◌, ◌∙◌, length, Contains, slice_index}
 use Rattle.std.proofs.lemmas.List.{get_or_read}
 use Rattle.g1_words.specs.Heap.{Heap, word, object_at, objects}
 use Rattle.g1_same.specs.declared.walk.Walk.{Walk}
 use Rattle.g1_same.specs.declared.difference.How.{How}
-use Rattle.g1_same.specs.Walk.{IsLeast, Names, IsLinked, IsSeen, IsBelow, HasGrown}
+use Rattle.g1_same.specs.Walk.{IsLeast, Names, IsEarlier, IsLinked, IsSeen, IsBelow, HasGrown}
 use Rattle.g1_same.proofs.Heaps.{slot_names}
-use Rattle.g1_same.proofs.Adding.{grown_more, pairs_fit}
+use Rattle.g1_same.proofs.Adding.{grown_more, grown_same, pairs_fit}
 use Rattle.g1_same.proofs.Steps.{none_then, some_then, slots_more, slots_kept, slot_way, has_slots, pair_read}
 use Rattle.g1_same.proofs.comparing.link_slots.Goals as goal
+
+earlier_place : (p q i n : ℕ) → IsEarlier p q (i + 1) n → IsEarlier p q (i + 2) 0
+earlier_place p q i n (inl lt) = inl (omega (arith, lt))
+earlier_place p q i n (inr e) = inl (omega (arith, e.0))
 
 pub object-old-requires : goal.object-old-requires
 object-old-requires c =
@@ -177,3 +181,81 @@ returns-clause-linked c =
     c.slots-here.result.now c.object-old.ensures.value c.words.ensures c.slots-here.ensures.count c.slots-here.ensures.each in
     let refs = ap (λ z. (object_at c.args.before.now z).refs) pair.before in
     λ n p. c.loop-number.invariant.linked n (omega (arith, p, refs, c.loop-number-test.false, here.count))
+
+pub index-requires : goal.index-requires
+index-requires c = omega (arith, c.requires.place, c.args.walk.now.before.ok)
+
+pub index-requires-2 : goal.index-requires-2
+index-requires-2 c = omega (arith, c.requires.place, c.requires.walk.pairs, c.args.walk.now.after.ok)
+
+pub slots-here-requires-clause-refs : goal.slots-here-requires-clause-refs
+slots-here-requires-clause-refs c = c.object-old.ensures.refs
+
+pub slots-there-requires-clause-refs : goal.slots-there-requires-clause-refs
+slots-there-requires-clause-refs c = c.object-new.ensures.refs
+
+pub slots-here-requires-clause-within : goal.slots-here-requires-clause-within
+slots-here-requires-clause-within c =
+    let at = ap (λ o. o.at) c.object-old.ensures.value in
+    let words = ap length c.words.ensures in
+    omega (arith, at, words, c.object-old.ensures.within)
+
+pub slots-there-requires-clause-within : goal.slots-there-requires-clause-within
+slots-there-requires-clause-within c =
+    let at = ap (λ o. o.at) c.object-new.ensures.value in
+    let words = ap length c.words-2.ensures in
+    omega (arith, at, words, c.object-new.ensures.within)
+
+pub loop-number-init : goal.loop-number-init
+loop-number-init c =
+    record {
+      walk = c.requires.walk;
+      grown = grown_same c.args.walk.now;
+      linked = λ n p. absurd (omega (arith, p));
+      below = c.requires.below;
+    }
+
+pub offset_bounds-here-number : goal.offset_bounds-here-number
+offset_bounds-here-number c =
+    let refs = c.slots-here.ensures.count in
+    let few = ap (λ o. o.refs) c.object-old.ensures.value in
+    record { fits = omega (arith, c.loop-number-test.true, refs, few) }
+
+pub offset_bounds-there-number : goal.offset_bounds-there-number
+offset_bounds-there-number c =
+    let refs = c.slots-here.ensures.count in
+    let few = ap (λ o. o.refs) c.object-old.ensures.value in
+    record { fits = omega (arith, c.loop-number-test.true, refs, few) }
+
+pub overflow_cast-way : goal.overflow_cast-way
+overflow_cast-way c =
+    let refs = c.slots-here.ensures.count in
+    let few = ap (λ o. o.refs) c.object-old.ensures.value in
+    record { fits = omega (arith, c.loop-number-test.true, refs, few) }
+
+pub bounds-here-number : goal.bounds-here-number
+bounds-here-number c = c.loop-number-test.true
+
+pub link-requires-clause-walk : goal.link-requires-clause-walk
+link-requires-clause-walk c = c.loop-number.invariant.walk
+
+pub link-requires-clause-backward : goal.link-requires-clause-backward
+link-requires-clause-backward c = omega (arith, c.requires.place, c.loop-number.invariant.grown.more)
+
+pub returns-in-Some-clause-walk : goal.returns-in-Some-clause-walk
+returns-in-Some-clause-walk c = c.in_ok-how.ensures.walk
+
+pub returns-in-Some-clause-below : goal.returns-in-Some-clause-below
+returns-in-Some-clause-below c = λ i lt. earlier_place _ _ c.args.place (c.loop-number.number + 1) (c.in_ok-how.ensures.below i lt)
+
+pub returns-clause-walk : goal.returns-clause-walk
+returns-clause-walk c = c.loop-number.invariant.walk
+
+pub returns-clause-grown : goal.returns-clause-grown
+returns-clause-grown c = c.loop-number.invariant.grown
+
+pub returns-clause-below : goal.returns-clause-below
+returns-clause-below c = λ i lt. earlier_place _ _ c.args.place c.loop-number.number (c.loop-number.invariant.below i lt)
+
+pub loop-number-smaller : goal.loop-number-smaller
+loop-number-smaller c = omega (arith, c.loop-number-test.true)

@@ -1,8 +1,18 @@
 use Rattle.std.proofs.Common.{arith, subst, sym, suc, ℕ, ◌<◌, length}
 use Rattle.g1_same.specs.Walk.{IsLinked, IsWay}
 use Rattle.g1_words.proofs.Sound.{object_in}
-use Rattle.g1_same.proofs.Adding.{IsAdded, added_walk, added_linked, added_below, linked_by, pairs_fit}
+use Rattle.g1_same.proofs.Adding.{IsAdded, earlier_next, grown_same, added_grown, added_walk, added_linked, added_below, linked_by, pairs_fit}
 use Rattle.g1_same.proofs.meeting.link.Goals as goal
+
+added : (c : goal.In_ok-add-in-New) → IsAdded c.args.walk.now c.add.new.self c.args.way.from c.args.way.number c.in-New.a c.in-New.b
+added c = record {
+  before = c.in_ok-add-in-New.ensures.before;
+  after = c.in_ok-add-in-New.ensures.after;
+  from = c.in_ok-add-in-New.ensures.from;
+  number = c.in_ok-add-in-New.ensures.number;
+  new_of = c.in_ok-add-in-New.ensures.new_of;
+  old_of = c.in_ok-add-in-New.ensures.old_of;
+}
 
 pub add-requires-clause-a : goal.add-requires-clause-a
 add-requires-clause-a c =
@@ -30,18 +40,10 @@ returns-in_ok-add-in-New-clause-walk c =
     let y_in = c.requires.y b met.1 in
     let x_lt : a < length w.new_of.items = let o = object_in g a c.valid.ensures x_in in omega (arith, o.0, o.1, c.requires.walk.table_before) in
     let y_lt : b < length w.old_of.items = let o = object_in h b c.valid-2.ensures y_in in omega (arith, o.0, o.1, c.requires.walk.table_after) in
-    let e : IsAdded w v c.args.way.from c.args.way.number a b = record {
-      before = c.in_ok-add-in-New.ensures.before;
-      after = c.in_ok-add-in-New.ensures.after;
-      from = c.in_ok-add-in-New.ensures.from;
-      number = c.in_ok-add-in-New.ensures.number;
-      new_of = c.in_ok-add-in-New.ensures.new_of;
-      old_of = c.in_ok-add-in-New.ensures.old_of;
-    } in
     let way : IsWay g h w.before.items w.after.items c.args.way.from c.args.way.number (suc a) (suc b) =
     subst (λ z. IsWay g h w.before.items w.after.items c.args.way.from c.args.way.number z (suc b)) met.0
     (subst (λ z. IsWay g h w.before.items w.after.items c.args.way.from c.args.way.number c.args.x z) met.1 c.requires.way) in
-    added_walk g h w v c.args.way.from c.args.way.number a b c.requires.walk e x_in y_in met.4 x_lt y_lt met.2 met.3 way c.requires.backward c.requires.below
+    added_walk g h w v c.args.way.from c.args.way.number a b c.requires.walk (added c) x_in y_in met.4 x_lt y_lt met.2 met.3 way c.requires.backward c.requires.below
 
 pub returns-in_ok-add-in-New-clause-linked : goal.returns-in_ok-add-in-New-clause-linked
 returns-in_ok-add-in-New-clause-linked c =
@@ -52,16 +54,8 @@ returns-in_ok-add-in-New-clause-linked c =
     let met = c.in-New.ensures in
     let a : ℕ = c.in-New.a in
     let b : ℕ = c.in-New.b in
-    let e : IsAdded w v c.args.way.from c.args.way.number a b = record {
-      before = c.in_ok-add-in-New.ensures.before;
-      after = c.in_ok-add-in-New.ensures.after;
-      from = c.in_ok-add-in-New.ensures.from;
-      number = c.in_ok-add-in-New.ensures.number;
-      new_of = c.in_ok-add-in-New.ensures.new_of;
-      old_of = c.in_ok-add-in-New.ensures.old_of;
-    } in
     subst (λ z. IsLinked v c.args.way.from c.args.way.number z c.args.y) (sym met.0)
-    (subst (λ z. IsLinked v c.args.way.from c.args.way.number (suc a) z) (sym met.1) (added_linked g h w v c.args.way.from c.args.way.number a b c.requires.walk e))
+    (subst (λ z. IsLinked v c.args.way.from c.args.way.number (suc a) z) (sym met.1) (added_linked g h w v c.args.way.from c.args.way.number a b c.requires.walk (added c)))
 
 pub returns-in_ok-add-in-New-clause-below : goal.returns-in_ok-add-in-New-clause-below
 returns-in_ok-add-in-New-clause-below c =
@@ -72,15 +66,41 @@ returns-in_ok-add-in-New-clause-below c =
     let met = c.in-New.ensures in
     let a : ℕ = c.in-New.a in
     let b : ℕ = c.in-New.b in
-    let e : IsAdded w v c.args.way.from c.args.way.number a b = record {
-      before = c.in_ok-add-in-New.ensures.before;
-      after = c.in_ok-add-in-New.ensures.after;
-      from = c.in_ok-add-in-New.ensures.from;
-      number = c.in_ok-add-in-New.ensures.number;
-      new_of = c.in_ok-add-in-New.ensures.new_of;
-      old_of = c.in_ok-add-in-New.ensures.old_of;
-    } in
-    added_below g h w v c.args.way.from c.args.way.number a b c.requires.walk e c.requires.below
+    added_below g h w v c.args.way.from c.args.way.number a b c.requires.walk (added c) c.requires.below
 
 pub returns-in-Known-clause-linked : goal.returns-in-Known-clause-linked
 returns-in-Known-clause-linked c = linked_by c.args.walk.now c.args.way.from c.args.way.number c.args.x c.args.y c.requires.below c.in-Known.ensures
+
+pub meet-requires-clause-walk : goal.meet-requires-clause-walk
+meet-requires-clause-walk c = c.requires.walk
+
+pub meet-requires-clause-x : goal.meet-requires-clause-x
+meet-requires-clause-x c = c.requires.x
+
+pub meet-requires-clause-y : goal.meet-requires-clause-y
+meet-requires-clause-y c = c.requires.y
+
+pub returns-in-Known-clause-walk : goal.returns-in-Known-clause-walk
+returns-in-Known-clause-walk c = c.requires.walk
+
+pub returns-in-Known-clause-grown : goal.returns-in-Known-clause-grown
+returns-in-Known-clause-grown c = grown_same c.args.walk.now
+
+pub returns-in-Known-clause-below : goal.returns-in-Known-clause-below
+returns-in-Known-clause-below c = λ i lt. earlier_next _ _ c.args.way.from c.args.way.number (c.requires.below i lt)
+
+pub returns-in-Clash-clause-walk : goal.returns-in-Clash-clause-walk
+returns-in-Clash-clause-walk c = c.requires.walk
+
+pub returns-in-Clash-clause-grown : goal.returns-in-Clash-clause-grown
+returns-in-Clash-clause-grown c = grown_same c.args.walk.now
+
+pub returns-in-Clash-clause-below : goal.returns-in-Clash-clause-below
+returns-in-Clash-clause-below c = λ i lt. earlier_next _ _ c.args.way.from c.args.way.number (c.requires.below i lt)
+
+pub returns-in-Clash-clause-clash : goal.returns-in-Clash-clause-clash
+returns-in-Clash-clause-clash c = (c.in-Clash.ensures.0, c.requires.below, c.in-Clash.ensures.1)
+
+pub returns-in_ok-add-in-New-clause-grown : goal.returns-in_ok-add-in-New-clause-grown
+returns-in_ok-add-in-New-clause-grown c =
+    added_grown c.args.before.now c.args.after.now c.args.walk.now c.add.new.self c.args.way.from c.args.way.number c.in-New.a c.in-New.b c.requires.walk (added c)

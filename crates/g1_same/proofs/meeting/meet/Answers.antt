@@ -1,7 +1,7 @@
-use Rattle.std.proofs.Common.{arith, subst, sym, suc, ℕ, ◌≡◌, ◌≢◌, ◌<◌, ◌-◌, ◌∙◌, length, slice_index}
+use Rattle.std.proofs.Common.{arith, subst, sym, suc, inl, ℕ, ◌≡◌, ◌≢◌, ◌<◌, ◌-◌, ◌∙◌, length, slice_index}
 use Rattle.std.proofs.lemmas.List.{get_or_read}
 use Rattle.g1_same.specs.Walk.{IsPaired, IsSeen, IsLeast}
-use Rattle.g1_same.proofs.Words.{named_below, known_here, split_here, joined_here, seen_of, new_before, new_after, least_of}
+use Rattle.g1_same.proofs.Words.{named, named_below, known_here, split_here, joined_here, seen_of, new_before, new_after, least_of}
 use Rattle.g1_same.proofs.meeting.meet.Goals as goal
 
 some : (n : ℕ) → n ≢ 0 → n ≡ suc (n - 1)
@@ -126,3 +126,30 @@ returns-in-Some c =
     c.if-i-ne0-2.false) (new_after g h w left right c.requires.walk (c.args.x - 1) (c.args.y - 1) c.index-i.result.now c.index-j.result.now x_lt y_lt is_i is_j none) c.in-Some.ensures.lower in
     subst (λ z. IsSeen g h w c.in-Some.how z c.args.y × IsLeast g h w c.in-Some.how z c.args.y) (sym x_is)
     (subst (λ z. IsSeen g h w c.in-Some.how (suc (c.args.x - 1)) z × IsLeast g h w c.in-Some.how (suc (c.args.x - 1)) z) (sym y_is) (seen, least))
+
+pub returns-then-y-eq0 : goal.returns-then-y-eq0
+returns-then-y-eq0 c = inl (c.if-x-eq0.true, c.if-y-eq0.true)
+
+pub returns-then-x-eq0 : goal.returns-then-x-eq0
+returns-then-x-eq0 c = (λ p. (c.if-x-eq0.true, c.if-y-eq0.false), tt)
+
+pub returns-then-y-eq0-2 : goal.returns-then-y-eq0-2
+returns-then-y-eq0-2 c = (λ p. (c.if-x-eq0.false, c.if-y-eq0-2.true), tt)
+
+pub overflow_sub-a : goal.overflow_sub-a
+overflow_sub-a c = omega (arith, c.if-x-eq0.false)
+
+pub overflow_sub-b : goal.overflow_sub-b
+overflow_sub-b c = omega (arith, c.if-y-eq0-2.false)
+
+pub overflow_sub-i : goal.overflow_sub-i
+overflow_sub-i c = omega (arith, c.if-i-ne0.true)
+
+pub overflow_sub-j : goal.overflow_sub-j
+overflow_sub-j c = omega (arith, c.if-i-j.true, c.if-i-ne0.false)
+
+pub objects_differ-requires-clause-a : goal.objects_differ-requires-clause-a
+objects_differ-requires-clause-a c = named c.args.before.now c.args.x c.if-x-eq0.false c.requires.x
+
+pub objects_differ-requires-clause-b : goal.objects_differ-requires-clause-b
+objects_differ-requires-clause-b c = named c.args.after.now c.args.y c.if-y-eq0-2.false c.requires.y
