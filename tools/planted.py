@@ -16,9 +16,11 @@ A row is a must-fail edit (`rt help`) whose first line says what it turns:
 The rows of a crate are tried in one check of a copy. There each row has a function of its own, which is written behind
 the others of its file: the function that it turns, under another name, with its contract and its proof. All functions
 of the crate count by their contracts, which `rt ci` has just proved: in the copy their bodies are cut off, and a hole
-is their proof. A method of a trait, a function that calls itself and a row that changes more than its function are tried
-in place. If a function calls one that is tried in place and was refused, its row is tried again without the other. Each
-crate with rows has one that proves, so that a check which refuses everything is seen.
+is their proof. The copy of a program has no `main`, unless a row turns it: so it is checked as a library, for which the
+prover reads no code of the libraries below. A method of a trait, a function that calls itself and a row that changes
+more than its function are tried in place. If a function calls one that is tried in place and was refused, its row is
+tried again without the other. Each crate with rows has one that proves, so that a check which refuses everything is
+seen.
 
 With --unchanged each row is tried without its change, and has to be proved: so a refusal is of the row and not of the
 other name.
@@ -291,16 +293,27 @@ class Trial:
             for row in batch:
                 if row.twin:
                     self.add_twin(room, row)
+            if "main" in self.functions and not any("main" in row.touched for row in batch):
+                self.take_main(room)
             asked = {row.asked() for row in batch}
             if self.with_holes:
                 for function in self.functions.values():
-                    if function.is_plain and function.opens < function.last - 1 and function.name not in asked:
+                    if function.is_plain and function.opens < function.last - 1 and function.name not in {*asked, "main"}:
                         self.leave_open(room, function)
             flags = ["--jobs", "1", "--allow-holes", *(word for name in sorted(asked) for word in ("--only", name))]
             lib = self.rt.rtlib
             words = [lib.RATTLE, "check", *self.crate.words(flags, keeps=False), "--incremental", self.kept]
             how = {"cwd": room, "stdin": subprocess.DEVNULL, "stdout": subprocess.PIPE, "stderr": subprocess.STDOUT}
             return subprocess.run([*lib.guarded(), *words], **how, errors="replace").stdout
+
+    def take_main(self, room):
+        """Takes `main` from a copied program, which is then checked as a library."""
+        function = self.functions["main"]
+        file = pathlib.Path(room, function.path)
+        lines = file.read_text().split("\n")
+        first = function.first - len(head_of(lines, function))
+        lines[first:function.last + 1] = [""] * (function.last + 1 - first)
+        file.write_text("\n".join(lines))
 
     def add_twin(self, room, row):
         """Writes a row's function, as the row turns it, behind the others of its file, and its proof beside theirs."""

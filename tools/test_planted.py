@@ -47,6 +47,8 @@ lines = text.split("\\n")
 if "garbled" in text:
     print(f"src/lib.rt:{1 + next(at for at, line in enumerate(lines) if 'garbled' in line)}:5: error: expected the end of the file")
     sys.exit(1)
+if ("fn main(" in text or "The program" in text) and not any(it.startswith("main") for it in asked):
+    sys.exit("a program is checked with all that it links")
 for name in asked:
     kept = pathlib.Path("proofs", name, "Proof.antt").exists()
     is_open = "wrong" in bodies[name]
@@ -255,6 +257,15 @@ class Planted(unittest.TestCase):
     def test_a_row_that_only_takes_a_name_away_is_bad(self):
         self.row("turned", "second", "    2", "    gone")
         self.assertIn("BAD: only its proof refuses it", self.tried()[0]["turned"])
+
+    def test_the_copy_of_a_program_has_no_main(self):
+        self.folder.joinpath("crates/toy/src/lib.rt").write_text(f"/// The program.\nfn main()\n{{\n    first();\n}}\n\n{TOY}")
+        self.row("turned", "second", "    2", "    2 + wrong")
+        rows, last, status = self.tried()
+        self.assertEqual((last, status), ("1 refused, 0 failed", 0))
+        self.row("turned", "main", "    first();", "    wrong();")
+        rows, last, status = self.tried()
+        self.assertEqual(rows["turned"], "refused: main: not proved: `returns`")
 
     def test_a_row_that_names_no_function_or_another_is_bad(self):
         self.row("nobody", "fourth", "    2", "    2 + wrong")
