@@ -92,10 +92,10 @@ pub fn make_graph(alloc: Global, text: &[u8]) -> Result<Vec<u8>, Wrong>
     if let Some((number, expected)) = first_stale {
         return Err(Wrong::Line { number, expected });
     }
-    match decode(alloc, bytes.as_slice()) {
-        Ok(_) => Ok(bytes),
-        Err(fault) => Err(Wrong::Fault(fault)),
+    if let Err(fault) = decode(alloc, bytes.as_slice()) {
+        return Err(Wrong::Fault(fault));
     }
+    Ok(bytes)
 }
 
 // What lines say, before any object has an address.
