@@ -1,11 +1,36 @@
-use Rattle.std.proofs.Common.{◌≡◌, ◌<◌, ◌*◌, ◌^◌, ◌+◌, [], ◌∷◌, ◌++◌, length, map, drop, append_assoc, sym, ◌∙◌, ap, subst, arith}
-use Rattle.std.specs.Prelude.{decimal}
+use Rattle.std.proofs.Common.{◌≡◌, ◌≤◌, ◌<◌, ℕ, ◌*◌, ◌^◌, ◌+◌, [], ◌∷◌, ◌++◌, length, map, drop, append_assoc, sym, ◌∙◌, ap, subst, arith}
+use Rattle.std.specs.Prelude.{decimal, IfSome}
 use Rattle.std.proofs.lemmas.Result.{err_from_is_err_and}
+use Rattle.g1_words.specs.Geometry.{Geometry}
+use Rattle.g1_words.specs.declared.region.Kind.{Kind}
+use Rattle.g1_words.specs.declared.region.Kind.TheVariants.{Ordinary, HumongousFirst, Free, Continuation}
 use Rattle.g1_text.specs.Lines.{reference_word}
 use Rattle.g1_text.specs.Content.{Content, HasRoom, top_behind, beyond_behind, size_with}
 use Rattle.g1_text.specs.Drafts.{content}
 use Rattle.g1_text.proofs.Results.{ok_one, not_both}
 use Rattle.g1_text.proofs.draft.Draft.add_object.Goals as goal
+
+-- an object's address is within its region
+top_within : (k : Kind) (g : Geometry) (r t size : ℕ) → HasRoom k g r t size → t ≤ g.w
+top_within Ordinary g r t size room = omega (arith, room.1)
+top_within HumongousFirst g r t size room = omega (arith, room.0)
+top_within Free g r t size room = absurd room
+top_within Continuation g r t size room = absurd room
+
+pub returns-in_err-size : goal.returns-in_err-size
+returns-in_err-size c = λ at slots values after e takes.
+    let rest = map reference_word slots ++ map decimal values in
+    let number = c.take_number-told.ensures at ((decimal (size_with slots values) ++ 47 ∷ decimal (length slots)) ∷ rest) takes.8 (ap (drop 1) e) in
+    let read = c.size.ensures.full (size_with slots values) (length slots) rest (omega arith) (omega (arith, takes.10)) number.1 in
+    absurd (not_both c.in_err-size.was read.0)
+
+pub returns-in_err-follows : goal.returns-in_err-follows
+returns-in_err-follows c = λ at slots values after e takes.
+    let q = takes.1 in
+    let rest = map reference_word slots ++ map decimal values in
+    let number = c.take_number-told.ensures at ((decimal (size_with slots values) ++ 47 ∷ decimal (length slots)) ∷ rest) takes.8 (ap (drop 1) e) in
+    let next = c.next_address-at.ensures takes.0 q takes.4 takes.6 (top_within q.kind c.args.self.now.geometry (length takes.0) q.top (size_with slots values) takes.9) in
+    absurd (c.in_err-follows.ensures (subst (λ told. IfSome told (λ t. t ≡ c.next_address-at.result)) (sym number.0) (takes.7 ∙ sym next)))
 
 pub returns-in_err-take_room : goal.returns-in_err-take_room
 returns-in_err-take_room c = λ at slots values after e takes.
