@@ -309,18 +309,16 @@ impl Draft {
         let at = self.next_address();
         follows(told, "object", at)?;
         self.take_room(size)?;
-        let place = self.words.len();
-        self.words.push(header_word(size, slots))?;
-        let data = size.saturating_sub(slots).saturating_sub(1);
-        add_content(words, &mut self.words, slots, data)?;
         self.objects.push(Placed {
             at,
             slots,
-            place,
+            place: self.words.len(),
             line,
         })?;
         count_object(&mut self.lines.regions);
-        Ok(())
+        self.words.push(header_word(size, slots))?;
+        let data = size.saturating_sub(slots).saturating_sub(1);
+        add_content(words, &mut self.words, slots, data)
     }
 }
 

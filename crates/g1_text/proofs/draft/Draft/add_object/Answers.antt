@@ -1,6 +1,6 @@
 use Rattle.std.proofs.Common.{◌≡◌, ◌≤◌, ◌<◌, ℕ, ◌*◌, ◌^◌, ◌+◌, [], ◌∷◌, ◌++◌, length, map, drop, append_assoc, sym, ◌∙◌, ap, subst, arith}
 use Rattle.std.specs.Prelude.{decimal, IfSome}
-use Rattle.std.proofs.lemmas.Result.{err_from_is_err_and}
+use Rattle.std.proofs.lemmas.Result.{MatchResult-weaker}
 use Rattle.g1_words.specs.Geometry.{Geometry}
 use Rattle.g1_words.specs.declared.region.Kind.{Kind}
 use Rattle.g1_words.specs.declared.region.Kind.TheVariants.{Ordinary, HumongousFirst, Free, Continuation}
@@ -44,18 +44,6 @@ returns-in_err-take_room c = λ at slots values after e takes.
     let room = c.take_room.ensures.room takes.0 q takes.4 takes.6 (subst (λ n. n < 2 ^ 32) (sym size) takes.10) (subst (λ n. HasRoom q.kind g (length takes.0) q.top n) (sym size) takes.9) in
     absurd (not_both c.in_err-take_room.was room.0)
 
-pub returns-in_err-add_content : goal.returns-in_err-add_content
-returns-in_err-add_content c = λ at slots values after e takes.
-    let rest = map reference_word slots ++ map decimal values in
-    let number = c.take_number-told.ensures at ((decimal (size_with slots values) ++ 47 ∷ decimal (length slots)) ∷ rest) takes.8 (ap (drop 1) e) in
-    let read = c.size.ensures.full (size_with slots values) (length slots) rest (omega arith) (omega (arith, takes.10)) number.1 in
-    let pair = ok_one c.in_ok-size.was read.0 in
-    let size : c.in_ok-size.size ≡ length slots + length values + 1 = ap (λ x. x.0) pair in
-    let refs : c.in_ok-size.slots ≡ length slots = ap (λ x. x.1) pair in
-    let others : c.saturating_sub-data.result ≡ length values = omega (arith, c.saturating_sub-data.ensures, c.saturating_sub.ensures, size, refs) in
-    let left = err_from_is_err_and c.from_residual-in_err-add_content.result c.from_residual-in_err-add_content.ensures.1 in
-    rw (left.1, left.2) (c.in_err-add_content.ensures slots values refs others (omega (arith, refs, others, takes.10)) takes.11 takes.12 read.1)
-
 pub returns : goal.returns
 returns c = λ at slots values after e takes.
     let s = content c.args.self.now in
@@ -73,8 +61,8 @@ returns c = λ at slots values after e takes.
     let room = taken.1
     ∙ ap (λ n. record s { regions = below ++ record q { top = top_behind q.kind g q.top n } ∷ []; beyond = beyond_behind q.kind g s.beyond n }) size in
     let had = ap (λ (x : Content). x.words) room in
-    let headed = c.in_ok-push.ensures.items ∙ (λ i. had i ++ (c.header_word.ensures ∙ (λ j. size j * 2 ^ 32 + refs j)) i ∷ []) in
-    let words = c.in_ok-add_content.ensures slots values refs others (omega (arith, refs, others, takes.10)) takes.11 takes.12 read.1
-    ∙ ap (λ xs. xs ++ (slots ++ values)) headed ∙ append_assoc s.words ((size_with slots values * 2 ^ 32 + length slots) ∷ []) (slots ++ values) in
+    let headed = c.in_ok-push-2.ensures.items ∙ (λ i. had i ++ (c.header_word.ensures ∙ (λ j. size j * 2 ^ 32 + refs j)) i ∷ []) in
+    let more = ap (λ xs. xs ++ (slots ++ values)) headed ∙ append_assoc s.words ((size_with slots values * 2 ^ 32 + length slots) ∷ []) (slots ++ values) in
     let counts = c.count_object.ensures takes.2 takes.3 (ap (λ (x : Content). x.counts) room ∙ takes.5) takes.13 in
-    (λ i. record (room i) { words = words i; counts = counts i }) ∙ sym takes.14
+    let added = c.add_content.ensures slots values refs others (omega (arith, refs, others, takes.10)) takes.11 takes.12 read.1 in
+    MatchResult-weaker c.add_content.result added (λ _ e. (λ i. record (room i) { words = (e ∙ more) i; counts = counts i }) ∙ sym takes.14) (λ _ m. m)
