@@ -7,7 +7,7 @@ use crate::draft::{Draft, Heading};
 use crate::expected::{Expected, Refusal, Wrong};
 use crate::packing::pack;
 use crate::placing::{Entry, Places, choose_sizes, place, regions_needed};
-use crate::reading::{HeapSizes, sizes};
+use crate::reading::{HeapSizes, add_data, add_zeros, given_words, sizes};
 use crate::words::{Words, size_and_slots};
 use g1_image::decode;
 use g1_words::{Geometry, MOST_ROOTS, header_word};
@@ -65,14 +65,24 @@ pub fn read_graph<'a>(alloc: Global, text: &'a [u8]) -> Result<Graph<'a>, Wrong>
 // Finds a place for each object, and fills the graph.
 fn fill<'a>(alloc: Global, graph: &mut Graph<'a>, lines: &Lines<'a>) -> Result<(), Wrong> {
     let mut draft = begin(alloc, lines)?;
-    let places = match place(alloc, &mut draft, lines.entries.as_slice()) {
-        Ok(places) => places,
-        Err(refusal) => return Err(refusal.at(lines.heading)),
-    };
-    fill_roots(graph, &mut draft, lines, &places)?;
-    fill_objects(alloc, graph, &mut draft, lines, &places)?;
-    cover(&mut draft)?;
-    graph.text = pack(alloc, &draft)?;
+    match place(alloc, &mut draft, lines.entries.as_slice()) {
+        Ok(places) => fill_places(alloc, graph, &mut draft, lines, &places),
+        Err(refusal) => Err(refusal.at(lines.heading)),
+    }
+}
+
+// Fills the places that were found.
+fn fill_places<'a>(
+    alloc: Global,
+    graph: &mut Graph<'a>,
+    draft: &mut Draft,
+    lines: &Lines<'a>,
+    places: &Places,
+) -> Result<(), Wrong> {
+    fill_roots(graph, draft, lines, places)?;
+    fill_objects(alloc, graph, draft, lines, places)?;
+    cover(draft)?;
+    graph.text = pack(alloc, draft)?;
     Ok(())
 }
 
@@ -92,10 +102,10 @@ pub fn make_graph(alloc: Global, text: &[u8]) -> Result<Vec<u8>, Wrong>
     if let Some((number, expected)) = first_stale {
         return Err(Wrong::Line { number, expected });
     }
-    match decode(alloc, bytes.as_slice()) {
-        Ok(_) => Ok(bytes),
-        Err(fault) => Err(Wrong::Fault(fault)),
+    if let Err(fault) = decode(alloc, bytes.as_slice()) {
+        return Err(Wrong::Fault(fault));
     }
+    Ok(bytes)
 }
 
 // What lines say, before any object has an address.
@@ -332,28 +342,40 @@ fn fill_object<'a>(
         .split_ascii_whitespace()
         .skip(3)
         .collect::<Vec<&'a str>>(alloc)?;
-    let mut words = Words::new(content.as_slice());
-    let (size, slots) = (u64::from(entry.size), u64::from(entry.slots));
-    let count = size.saturating_sub(1);
-    let data = count.saturating_sub(slots);
-    let open = words.take_last("..");
-    let given = words.len() as u64;
-    if given > count || (given < count && !open) {
-        return Err(Expected::Content(slots, data).into());
-    }
+    fill_words(graph, out, lines, places, object, content.as_slice())
+}
+
+// The words of an object, from those of its line.
+fn fill_words<'a>(
+    graph: &mut Graph<'a>,
+    out: &mut Vec<u64>,
+    lines: &Lines<'a>,
+    places: &Places,
+    object: Named<'a>,
+    content: &[&'a str],
+) -> Result<(), Refusal> {
+    let (size, slots) = (u64::from(object.entry.size), u64::from(object.entry.slots));
+    let data = size.saturating_sub(slots).saturating_sub(1);
+    let (given, missing) = given_words(&mut Words::new(&*content), slots, data)?;
     out.push(header_word(size, slots))?;
-    for place in 0..given {
-        let word = if place < slots {
-            let _ = words.next();
-            let name = content.get(place as usize).copied().unwrap_or("-");
-            slot_word(graph, lines, places, object, place, name)?
-        } else {
-            words.number("data word")?
-        };
+    let (names, numbers) = content.split_at(content.len().min(slots.min(given) as usize));
+    fill_slots(graph, out, lines, places, object, names)?;
+    add_data(&mut Words::new(numbers), out, given.saturating_sub(slots))?;
+    add_zeros(out, missing)?;
+    Ok(())
+}
+
+fn fill_slots<'a>(
+    graph: &mut Graph<'a>,
+    out: &mut Vec<u64>,
+    lines: &Lines<'a>,
+    places: &Places,
+    object: Named<'a>,
+    names: &[&'a str],
+) -> Result<(), AllocError> {
+    for (slot, name) in names.iter().enumerate() {
+        let word = slot_word(graph, lines, places, object, slot as u64, *name)?;
         out.push(word)?;
-    }
-    for _ in given..count {
-        out.push(0)?;
     }
     Ok(())
 }

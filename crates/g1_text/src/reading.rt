@@ -309,18 +309,16 @@ impl Draft {
         let at = self.next_address();
         follows(told, "object", at)?;
         self.take_room(size)?;
-        let place = self.words.len();
-        self.words.push(header_word(size, slots))?;
-        let data = size.saturating_sub(slots).saturating_sub(1);
-        add_content(words, &mut self.words, slots, data)?;
         self.objects.push(Placed {
             at,
             slots,
-            place,
+            place: self.words.len(),
             line,
         })?;
         count_object(&mut self.lines.regions);
-        Ok(())
+        self.words.push(header_word(size, slots))?;
+        let data = size.saturating_sub(slots).saturating_sub(1);
+        add_content(words, &mut self.words, slots, data)
     }
 }
 
@@ -367,7 +365,11 @@ fn add_content(
 }
 
 // How many slots and data words a line gives, and how many its two dots stand for.
-fn given_words(words: &mut Words<'_>, slots: u64, count: u64) -> Result<(u64, u64), Expected>
+pub(crate) fn given_words(
+    words: &mut Words<'_>,
+    slots: u64,
+    count: u64,
+) -> Result<(u64, u64), Expected>
     ensures { (refs values : List ℕ) → slots ≡ length refs → count ≡ length values → slots + count < 2 ^ 64 → All (λ x. x < 2 ^ 64) refs → All (λ x. x < 2 ^ 64) values → words.old ≡ map reference_word refs ++ map decimal values → (result ≡ Ok (slots + count, 0)) × (words.new ≡ map reference_word refs ++ map decimal values) }
 {
     let whole = slots.saturating_add(count);
@@ -392,7 +394,11 @@ fn add_references(words: &mut Words<'_>, content: &mut Vec<u64>, count: u64) -> 
     Ok(())
 }
 
-fn add_data(words: &mut Words<'_>, content: &mut Vec<u64>, count: u64) -> Result<(), Refusal>
+pub(crate) fn add_data(
+    words: &mut Words<'_>,
+    content: &mut Vec<u64>,
+    count: u64,
+) -> Result<(), Refusal>
     ensures { (xs : List ℕ) (rest : List (List ℕ)) → count ≡ length xs → All (λ x. x < 2 ^ 64) xs → words.old ≡ map decimal xs ++ rest → MatchResult result (λ _. (words.new ≡ rest) × (content.new.items ≡ content.old.items ++ xs)) (λ e. e ≡ Refusal.Memory) }
 {
     for _ in 0..count {
@@ -402,7 +408,7 @@ fn add_data(words: &mut Words<'_>, content: &mut Vec<u64>, count: u64) -> Result
     Ok(())
 }
 
-fn add_zeros(content: &mut Vec<u64>, count: u64) -> Result<(), AllocError>
+pub(crate) fn add_zeros(content: &mut Vec<u64>, count: u64) -> Result<(), AllocError>
     ensures { OnOk result (content.new.items ≡ content.old.items ++ replicate count 0) }
 {
     for _ in 0..count {

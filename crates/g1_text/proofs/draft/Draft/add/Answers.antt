@@ -5,15 +5,91 @@ use Rattle.g1_text.specs.Content.{Content, Line, Root, Dirty, Numbers, Remembere
 use Rattle.g1_text.specs.Drafts.{content, Becomes}
 use Rattle.g1_text.proofs.draft.Draft.add.Goals as goal
 
-module _ (s : Content) (first : List ℕ) (words : List (List ℕ)) (X : Content → Type 0) (is : first ≡ codes "region") where
+-- the third byte of a line's first word, which tells the words apart
+abbrev third : List (List ℕ) → ℕ
+third words = get_or (get_or words 0 []) 2 0
+
+module _ (s : Content) (words : List (List ℕ)) (X : Content → Type 0) where
+  in_root : ((m x : ℕ) (c : Content) → codes "root" ∷ words ≡ words_of (Root m x) → Takes s (Root m x) c → X c)
+      → (l : Line) (c : Content) → codes "root" ∷ words ≡ words_of l → Takes s l c → X c
+  in_root f (Root m x) c e takes = f m x c e takes
+  in_root f (Dirty cards) c e takes = let d : 111 ≡ 114 = ap third e in absurd (omega (arith, d))
+  in_root f (Numbers r k t o m p) c e takes = let d : 111 ≡ 103 = ap third e in absurd (omega (arith, d))
+  in_root f (Remembered r cards) c e takes = let d : 111 ≡ 109 = ap third e in absurd (omega (arith, d))
+  in_root f (Holds at slots values) c e takes = let d : 111 ≡ 106 = ap third e in absurd (omega (arith, d))
+
+  in_dirty : ((cards : List ℕ) (c : Content) → codes "dirty" ∷ words ≡ words_of (Dirty cards) → Takes s (Dirty cards) c → X c)
+      → (l : Line) (c : Content) → codes "dirty" ∷ words ≡ words_of l → Takes s l c → X c
+  in_dirty f (Root m x) c e takes = let d : 114 ≡ 111 = ap third e in absurd (omega (arith, d))
+  in_dirty f (Dirty cards) c e takes = f cards c e takes
+  in_dirty f (Numbers r k t o m p) c e takes = let d : 114 ≡ 103 = ap third e in absurd (omega (arith, d))
+  in_dirty f (Remembered r cards) c e takes = let d : 114 ≡ 109 = ap third e in absurd (omega (arith, d))
+  in_dirty f (Holds at slots values) c e takes = let d : 114 ≡ 106 = ap third e in absurd (omega (arith, d))
+
   in_region : ((r : ℕ) (k : Kind) (t o m : ℕ) (p : Bool) (c : Content) → codes "region" ∷ words ≡ words_of (Numbers r k t o m p) → Takes s (Numbers r k t o m p) c → X c)
-      → (l : Line) (c : Content) → first ∷ words ≡ words_of l → Takes s l c → X c
-  in_region f (Root m x) c e takes = let d : 103 ≡ 111 = ap (λ ws. get_or (get_or ws 0 []) 2 0) ((λ i. sym is i ∷ words) ∙ e) in absurd (omega (arith, d))
-  in_region f (Dirty cards) c e takes = let d : 103 ≡ 114 = ap (λ ws. get_or (get_or ws 0 []) 2 0) ((λ i. sym is i ∷ words) ∙ e) in absurd (omega (arith, d))
-  in_region f (Numbers r k t o m p) c e takes = f r k t o m p c ((λ i. sym is i ∷ words) ∙ e) takes
-  in_region f (Remembered r cards) c e takes = let d : 103 ≡ 109 = ap (λ ws. get_or (get_or ws 0 []) 2 0) ((λ i. sym is i ∷ words) ∙ e) in absurd (omega (arith, d))
-  in_region f (Holds at slots values) c e takes = let d : 103 ≡ 106 = ap (λ ws. get_or (get_or ws 0 []) 2 0) ((λ i. sym is i ∷ words) ∙ e) in absurd (omega (arith, d))
+      → (l : Line) (c : Content) → codes "region" ∷ words ≡ words_of l → Takes s l c → X c
+  in_region f (Root m x) c e takes = let d : 103 ≡ 111 = ap third e in absurd (omega (arith, d))
+  in_region f (Dirty cards) c e takes = let d : 103 ≡ 114 = ap third e in absurd (omega (arith, d))
+  in_region f (Numbers r k t o m p) c e takes = f r k t o m p c e takes
+  in_region f (Remembered r cards) c e takes = let d : 103 ≡ 109 = ap third e in absurd (omega (arith, d))
+  in_region f (Holds at slots values) c e takes = let d : 103 ≡ 106 = ap third e in absurd (omega (arith, d))
+
+  in_remembered : ((r : ℕ) (cards : List ℕ) (c : Content) → codes "remembered" ∷ words ≡ words_of (Remembered r cards) → Takes s (Remembered r cards) c → X c)
+      → (l : Line) (c : Content) → codes "remembered" ∷ words ≡ words_of l → Takes s l c → X c
+  in_remembered f (Root m x) c e takes = let d : 109 ≡ 111 = ap third e in absurd (omega (arith, d))
+  in_remembered f (Dirty cards) c e takes = let d : 109 ≡ 114 = ap third e in absurd (omega (arith, d))
+  in_remembered f (Numbers r k t o m p) c e takes = let d : 109 ≡ 103 = ap third e in absurd (omega (arith, d))
+  in_remembered f (Remembered r cards) c e takes = f r cards c e takes
+  in_remembered f (Holds at slots values) c e takes = let d : 109 ≡ 106 = ap third e in absurd (omega (arith, d))
+
+  in_object : ((at : ℕ) (slots values : List ℕ) (c : Content) → codes "object" ∷ words ≡ words_of (Holds at slots values) → Takes s (Holds at slots values) c → X c)
+      → (l : Line) (c : Content) → codes "object" ∷ words ≡ words_of l → Takes s l c → X c
+  in_object f (Root m x) c e takes = let d : 106 ≡ 111 = ap third e in absurd (omega (arith, d))
+  in_object f (Dirty cards) c e takes = let d : 106 ≡ 114 = ap third e in absurd (omega (arith, d))
+  in_object f (Numbers r k t o m p) c e takes = let d : 106 ≡ 103 = ap third e in absurd (omega (arith, d))
+  in_object f (Remembered r cards) c e takes = let d : 106 ≡ 109 = ap third e in absurd (omega (arith, d))
+  in_object f (Holds at slots values) c e takes = f at slots values c e takes
+
+-- no other line begins so
+not_covered : (words : List (List ℕ)) (l : Line) → codes "covered" ∷ words ≡ words_of l → ⊥
+not_covered words (Root m x) e = let d : 118 ≡ 111 = ap third e in absurd (omega (arith, d))
+not_covered words (Dirty cards) e = let d : 118 ≡ 114 = ap third e in absurd (omega (arith, d))
+not_covered words (Numbers r k t o m p) e = let d : 118 ≡ 103 = ap third e in absurd (omega (arith, d))
+not_covered words (Remembered r cards) e = let d : 118 ≡ 109 = ap third e in absurd (omega (arith, d))
+not_covered words (Holds at slots values) e = let d : 118 ≡ 106 = ap third e in absurd (omega (arith, d))
+
+none_of : (first : List ℕ) (words : List (List ℕ)) → (first ≡ codes "root" → ⊥) → (first ≡ codes "dirty" → ⊥) → (first ≡ codes "region" → ⊥)
+    → (first ≡ codes "remembered" → ⊥) → (first ≡ codes "object" → ⊥) → (l : Line) → first ∷ words ≡ words_of l → ⊥
+none_of first words root dirty region remembered object (Root m x) e = root (ap (λ ws. get_or ws 0 []) e)
+none_of first words root dirty region remembered object (Dirty cards) e = dirty (ap (λ ws. get_or ws 0 []) e)
+none_of first words root dirty region remembered object (Numbers r k t o m p) e = region (ap (λ ws. get_or ws 0 []) e)
+none_of first words root dirty region remembered object (Remembered r cards) e = remembered (ap (λ ws. get_or ws 0 []) e)
+none_of first words root dirty region remembered object (Holds at slots values) e = object (ap (λ ws. get_or ws 0 []) e)
+
+pub returns-in-root : goal.returns-in-root
+returns-in-root c = λ l after e takes.
+    in_root (content c.args.self.now) c.args.words (λ d. Becomes c.add_root.result (content c.add_root.new.self) d) c.add_root.ensures l after ((λ i. sym c.in-root.is i ∷ c.args.words) ∙ e) takes
+
+pub returns-in-dirty : goal.returns-in-dirty
+returns-in-dirty c = λ l after e takes.
+    in_dirty (content c.args.self.now) c.args.words (λ d. Becomes c.add_dirty.result (content c.add_dirty.new.self) d) c.add_dirty.ensures l after ((λ i. sym c.in-dirty.is i ∷ c.args.words) ∙ e) takes
+
+pub returns-in-covered : goal.returns-in-covered
+returns-in-covered c = λ l after e takes. absurd (not_covered c.args.words l ((λ i. sym c.in-covered.is i ∷ c.args.words) ∙ e))
 
 pub returns-in-region : goal.returns-in-region
 returns-in-region c = λ l after e takes.
-    in_region (content c.args.self.now) c.args.first.now c.args.words (λ d. Becomes c.add_region.result (content c.add_region.new.self) d) c.in-region.is c.add_region.ensures l after e takes
+    in_region (content c.args.self.now) c.args.words (λ d. Becomes c.add_region.result (content c.add_region.new.self) d) c.add_region.ensures l after ((λ i. sym c.in-region.is i ∷ c.args.words) ∙ e) takes
+
+pub returns-in-remembered : goal.returns-in-remembered
+returns-in-remembered c = λ l after e takes.
+    in_remembered (content c.args.self.now) c.args.words (λ d. Becomes c.add_remembered.result (content c.add_remembered.new.self) d) c.add_remembered.ensures l after ((λ i. sym c.in-remembered.is i ∷ c.args.words) ∙ e) takes
+
+pub returns-in-object : goal.returns-in-object
+returns-in-object c = λ l after e takes.
+    in_object (content c.args.self.now) c.args.words (λ d. Becomes c.add_object.result (content c.add_object.new.self) d) c.add_object.ensures l after ((λ i. sym c.in-object.is i ∷ c.args.words) ∙ e) takes
+
+pub returns-in_default : goal.returns-in_default
+returns-in_default c = λ l after e takes.
+    let other = c.in_default in
+    absurd (none_of c.args.first.now c.args.words other.not-root other.not-dirty other.not-region other.not-remembered other.not-object l e)

@@ -1,11 +1,36 @@
-use Rattle.std.proofs.Common.{◌≡◌, ◌<◌, ◌*◌, ◌^◌, ◌+◌, [], ◌∷◌, ◌++◌, length, map, drop, append_assoc, sym, ◌∙◌, ap, subst, arith}
-use Rattle.std.specs.Prelude.{decimal}
-use Rattle.std.proofs.lemmas.Result.{err_from_is_err_and}
+use Rattle.std.proofs.Common.{◌≡◌, ◌≤◌, ◌<◌, ℕ, ◌*◌, ◌^◌, ◌+◌, [], ◌∷◌, ◌++◌, length, map, drop, append_assoc, sym, ◌∙◌, ap, subst, arith}
+use Rattle.std.specs.Prelude.{decimal, IfSome}
+use Rattle.std.proofs.lemmas.Result.{MatchResult-weaker}
+use Rattle.g1_words.specs.Geometry.{Geometry}
+use Rattle.g1_words.specs.declared.region.Kind.{Kind}
+use Rattle.g1_words.specs.declared.region.Kind.TheVariants.{Ordinary, HumongousFirst, Free, Continuation}
 use Rattle.g1_text.specs.Lines.{reference_word}
 use Rattle.g1_text.specs.Content.{Content, HasRoom, top_behind, beyond_behind, size_with}
 use Rattle.g1_text.specs.Drafts.{content}
 use Rattle.g1_text.proofs.Results.{ok_one, not_both}
 use Rattle.g1_text.proofs.draft.Draft.add_object.Goals as goal
+
+-- an object's address is within its region
+top_within : (k : Kind) (g : Geometry) (r t size : ℕ) → HasRoom k g r t size → t ≤ g.w
+top_within Ordinary g r t size room = omega (arith, room.1)
+top_within HumongousFirst g r t size room = omega (arith, room.0)
+top_within Free g r t size room = absurd room
+top_within Continuation g r t size room = absurd room
+
+pub returns-in_err-size : goal.returns-in_err-size
+returns-in_err-size c = λ at slots values after e takes.
+    let rest = map reference_word slots ++ map decimal values in
+    let number = c.take_number-told.ensures at ((decimal (size_with slots values) ++ 47 ∷ decimal (length slots)) ∷ rest) takes.8 (ap (drop 1) e) in
+    let read = c.size.ensures.full (size_with slots values) (length slots) rest (omega arith) (omega (arith, takes.10)) number.1 in
+    absurd (not_both c.in_err-size.was read.0)
+
+pub returns-in_err-follows : goal.returns-in_err-follows
+returns-in_err-follows c = λ at slots values after e takes.
+    let q = takes.1 in
+    let rest = map reference_word slots ++ map decimal values in
+    let number = c.take_number-told.ensures at ((decimal (size_with slots values) ++ 47 ∷ decimal (length slots)) ∷ rest) takes.8 (ap (drop 1) e) in
+    let next = c.next_address-at.ensures takes.0 q takes.4 takes.6 (top_within q.kind c.args.self.now.geometry (length takes.0) q.top (size_with slots values) takes.9) in
+    absurd (c.in_err-follows.ensures (subst (λ told. IfSome told (λ t. t ≡ c.next_address-at.result)) (sym number.0) (takes.7 ∙ sym next)))
 
 pub returns-in_err-take_room : goal.returns-in_err-take_room
 returns-in_err-take_room c = λ at slots values after e takes.
@@ -18,18 +43,6 @@ returns-in_err-take_room c = λ at slots values after e takes.
     let size = ap (λ x. x.0) pair in
     let room = c.take_room.ensures.room takes.0 q takes.4 takes.6 (subst (λ n. n < 2 ^ 32) (sym size) takes.10) (subst (λ n. HasRoom q.kind g (length takes.0) q.top n) (sym size) takes.9) in
     absurd (not_both c.in_err-take_room.was room.0)
-
-pub returns-in_err-add_content : goal.returns-in_err-add_content
-returns-in_err-add_content c = λ at slots values after e takes.
-    let rest = map reference_word slots ++ map decimal values in
-    let number = c.take_number-told.ensures at ((decimal (size_with slots values) ++ 47 ∷ decimal (length slots)) ∷ rest) takes.8 (ap (drop 1) e) in
-    let read = c.size.ensures.full (size_with slots values) (length slots) rest (omega arith) (omega (arith, takes.10)) number.1 in
-    let pair = ok_one c.in_ok-size.was read.0 in
-    let size : c.in_ok-size.size ≡ length slots + length values + 1 = ap (λ x. x.0) pair in
-    let refs : c.in_ok-size.slots ≡ length slots = ap (λ x. x.1) pair in
-    let others : c.saturating_sub-data.result ≡ length values = omega (arith, c.saturating_sub-data.ensures, c.saturating_sub.ensures, size, refs) in
-    let left = err_from_is_err_and c.from_residual-in_err-add_content.result c.from_residual-in_err-add_content.ensures.1 in
-    rw (left.1, left.2) (c.in_err-add_content.ensures slots values refs others (omega (arith, refs, others, takes.10)) takes.11 takes.12 read.1)
 
 pub returns : goal.returns
 returns c = λ at slots values after e takes.
@@ -48,8 +61,8 @@ returns c = λ at slots values after e takes.
     let room = taken.1
     ∙ ap (λ n. record s { regions = below ++ record q { top = top_behind q.kind g q.top n } ∷ []; beyond = beyond_behind q.kind g s.beyond n }) size in
     let had = ap (λ (x : Content). x.words) room in
-    let headed = c.in_ok-push.ensures.items ∙ (λ i. had i ++ (c.header_word.ensures ∙ (λ j. size j * 2 ^ 32 + refs j)) i ∷ []) in
-    let words = c.in_ok-add_content.ensures slots values refs others (omega (arith, refs, others, takes.10)) takes.11 takes.12 read.1
-    ∙ ap (λ xs. xs ++ (slots ++ values)) headed ∙ append_assoc s.words ((size_with slots values * 2 ^ 32 + length slots) ∷ []) (slots ++ values) in
+    let headed = c.in_ok-push-2.ensures.items ∙ (λ i. had i ++ (c.header_word.ensures ∙ (λ j. size j * 2 ^ 32 + refs j)) i ∷ []) in
+    let more = ap (λ xs. xs ++ (slots ++ values)) headed ∙ append_assoc s.words ((size_with slots values * 2 ^ 32 + length slots) ∷ []) (slots ++ values) in
     let counts = c.count_object.ensures takes.2 takes.3 (ap (λ (x : Content). x.counts) room ∙ takes.5) takes.13 in
-    (λ i. record (room i) { words = words i; counts = counts i }) ∙ sym takes.14
+    let added = c.add_content.ensures slots values refs others (omega (arith, refs, others, takes.10)) takes.11 takes.12 read.1 in
+    MatchResult-weaker c.add_content.result added (λ _ e. (λ i. record (room i) { words = (e ∙ more) i; counts = counts i }) ∙ sym takes.14) (λ _ m. m)

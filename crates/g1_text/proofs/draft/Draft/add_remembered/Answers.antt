@@ -1,7 +1,9 @@
 use Rattle.std.proofs.Common.{◌≡◌, ◌<◌, ℕ, zero, suc, List, [], ◌∷◌, ◌++◌, length, get_or, drop, set, refl, sym, ◌∙◌, ap, arith, Vec, Global}
+use Rattle.std.proofs.lemmas.List.{length-map}
+use Rattle.std.proofs.lemmas.Result.{err_from_is_err_and}
 use Rattle.g1_text.specs.Lines.{cards_words}
 use Rattle.g1_text.specs.Drafts.{content}
-use Rattle.g1_text.proofs.Results.{ok_one}
+use Rattle.g1_text.proofs.Results.{ok_one, not_both}
 use Rattle.g1_text.proofs.Gathering.{map_set, map_at}
 use Rattle.g1_text.proofs.draft.Draft.add_remembered.Goals as goal
 
@@ -9,6 +11,24 @@ any_default : {A : Type 0} (xs : List A) (n : ℕ) (d e : A) → n < length xs �
 any_default [] n d e lt = absurd (omega (arith, lt))
 any_default (x ∷ xs) zero d e lt = refl
 any_default (x ∷ xs) (suc n) d e lt = any_default xs n d e (omega (arith, lt))
+
+pub returns-in_err-region : goal.returns-in_err-region
+returns-in_err-region c = λ r cards after e takes.
+    let number = c.number.ensures r (cards_words cards) takes.1 (ap (drop 1) e) in
+    absurd (not_both c.in_err-region.was number.0)
+
+pub returns-in_default : goal.returns-in_default
+returns-in_default c = λ r cards after e takes.
+    let number = c.number.ensures r (cards_words cards) takes.1 (ap (drop 1) e) in
+    let same = ok_one c.in_ok-region.was number.0 in
+    let sets = length-map c.args.self.now.remembered.items (λ (v : Vec ℕ Global). v.items) in
+    absurd (omega (arith, same, sets, takes.0, c.in_default.ensures))
+
+pub returns-in_err-add_cards : goal.returns-in_err-add_cards
+returns-in_err-add_cards c = λ r cards after e takes.
+    let number = c.number.ensures r (cards_words cards) takes.1 (ap (drop 1) e) in
+    let left = err_from_is_err_and c.from_residual-in_err-add_cards.result c.from_residual-in_err-add_cards.ensures.1 in
+    rw (left.1, left.2) (c.in_err-add_cards.ensures cards takes.2 number.1)
 
 pub returns : goal.returns
 returns c = λ r cards after e takes.
