@@ -1,5 +1,5 @@
 -- The text of lines that are pushed one after the other.
-use Rattle.std.proofs.Common.{◌≡◌, ℕ, zero, suc, ◌+◌, ◌<◌, ◌≤◌, inl, inr, List, [], ◌∷◌, ◌++◌, length, get_or, take, map, flat_map, Contains, refl, sym, ◌∙◌, ap, subst, arith, append_assoc}
+use Rattle.std.proofs.Common.{◌≡◌, ℕ, zero, suc, ◌+◌, ◌<◌, ◌≤◌, ◌==◌, inl, inr, false, List, [], ◌∷◌, ◌++◌, length, get_or, take, map, flat_map, Contains, refl, sym, ◌∙◌, ap, subst, arith, append_assoc}
 use Rattle.std.specs.Prelude.{Result, Ok, Err, OnOk, is_ok, if◌then◌else◌, decimal, codes, slice_index}
 use Rattle.std.specs.List.{range_with_len}
 use Rattle.std.proofs.lemmas.List.{flat_map_more}
@@ -12,7 +12,8 @@ use Rattle.g1_words.proofs.Members.{In, Contains-from_in, map_cases, In-flat_map
 use Rattle.g1_words.proofs.Indices.{get_or-In}
 use Rattle.g1_words.proofs.Computed.{In-range, in_region_has, contains_has}
 use Rattle.g1_words.proofs.Sound.{has_is, object_in}
-use Rattle.g1_text.specs.Lines.{line_text, further, text_of, reference_word, root_line, root_lines, slot_values, data_values, object_line}
+use Rattle.g1_image.specs.Image.{Image}
+use Rattle.g1_text.specs.Lines.{line_text, further, text_of, reference_word, heading, root_line, root_lines, cards_words, log_lines, slot_values, data_values, object_line, region_lines, image_text}
 
 -- one item more
 pub one_more : {X : Type 0} (f : X → List ℕ) (old now after : List ℕ) (xs : List X) (i : ℕ) (d : X) → i < length xs →
@@ -110,6 +111,24 @@ numbers_end old first now after word numbers i le p q r =
     four old first now now after word (flat_map (λ x. 32 ∷ decimal x) (take i numbers)) [] (10 ∷ []) p q (sym (append_none now)) r
     ∙ ap (λ xs. old ++ (word ++ xs)) (ap (λ xs. flat_map (λ x. 32 ∷ decimal x) xs ++ 10 ∷ []) (take_all i numbers le) ∙ sym (further_words decimal numbers))
 
+-- the head of an object's line
+pub header_end : (old first now after : List ℕ) (o : Object) → first ≡ old ++ (codes "object " ++ decimal o.at) → now ≡ first ++ 32 ∷ decimal o.size → after ≡ now ++ 47 ∷ decimal o.refs
+    → after ≡ old ++ (codes "object " ++ (decimal o.at ++ 32 ∷ (decimal o.size ++ 47 ∷ decimal o.refs)))
+header_end old first now after o p q r = four old first now now after (codes "object " ++ decimal o.at) (32 ∷ decimal o.size) [] (47 ∷ decimal o.refs) p q (sym (append_none now)) r
+
+-- a root's line, piece by piece
+pub root_end : (old first now after : List ℕ) (m x : ℕ) → first ≡ old ++ (codes "root " ++ decimal m) → now ≡ first ++ 32 ∷ reference_word x → after ≡ now ++ 10 ∷ []
+    → after ≡ old ++ line_text (root_line m x)
+root_end old first now after m x p q r = four old first now now after (codes "root " ++ decimal m) (32 ∷ reference_word x) [] (10 ∷ []) p q (sym (append_none now)) r
+
+-- the line of the log
+pub log_end : (old first after : List ℕ) (cards : List ℕ) → false ≡ (length cards == 0) → first ≡ old ++ codes "dirty" → after ≡ first ++ further (cards_words cards)
+    → after ≡ old ++ text_of (log_lines cards)
+log_end old first after [] some p q = grind arith
+log_end old first after (card ∷ cards) some p q =
+    let words : List ℕ = further (cards_words (card ∷ cards)) in
+    q ∙ ap (λ xs. xs ++ words) p ∙ append_assoc old (codes "dirty") words ∙ ap (λ xs. old ++ xs) (sym (append_none (codes "dirty" ++ words)))
+
 -- an object's line, piece by piece
 pub object_end : (old first middle now after cells others words : List ℕ) (o : Object) → cells ≡ slot_values words o → others ≡ data_values words o
     → first ≡ old ++ (codes "object " ++ (decimal o.at ++ 32 ∷ (decimal o.size ++ 47 ∷ decimal o.refs))) → middle ≡ first ++ flat_map (λ x. 32 ∷ reference_word x) cells
@@ -144,3 +163,14 @@ roots_end old now roots n e p =
 pub lines_end : (f : ℕ → List (List (List ℕ))) (old now : List ℕ) (n m : ℕ) → n ≡ m →
     now ≡ old ++ flat_map (λ r. text_of (f r)) (range_with_len 0 n) → now ≡ old ++ text_of (flat_map f (range_with_len 0 m))
 lines_end f old now n m e p = p ∙ ap (λ x. old ++ flat_map (λ r. text_of (f r)) (range_with_len 0 x)) e ∙ ap (λ xs. old ++ xs) (sym (text_flat_map f (range_with_len 0 m)))
+
+-- all lines of an image, part by part
+pub image_end : (i : Image) (none first middle now after : List ℕ) → none ≡ [] → first ≡ none ++ line_text (heading i) → middle ≡ first ++ text_of (root_lines i.heap.roots)
+    → now ≡ middle ++ text_of (log_lines i.log) → after ≡ now ++ text_of (flat_map (region_lines i) (regions i.heap)) → after ≡ image_text i
+image_end i none first middle now after e p q r s =
+    let roots : List (List (List ℕ)) = root_lines i.heap.roots in
+    let log : List (List (List ℕ)) = log_lines i.log in
+    let lines : List (List (List ℕ)) = flat_map (region_lines i) (regions i.heap) in
+    four [] first middle now after (line_text (heading i)) (text_of roots) (text_of log) (text_of lines) (p ∙ ap (λ xs. xs ++ line_text (heading i)) e) q r s
+    ∙ ap (λ xs. line_text (heading i) ++ xs)
+    (sym (append_assoc (text_of roots) (text_of log) (text_of lines)) ∙ ap (λ xs. xs ++ text_of lines) (sym (text_append roots log)) ∙ sym (text_append (roots ++ log) lines))

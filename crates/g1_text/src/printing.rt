@@ -96,10 +96,9 @@ fn push_roots(text: &mut String, roots: &[u64]) -> Result<(), AllocError>
 fn push_root(text: &mut String, number: usize, root: u64) -> Result<(), AllocError>
     ensures { OnOk result (string_bytes text.new ≡ string_bytes text.old ++ line_text (root_line number root)) }
 {
-    match root.checked_sub(1) {
-        Some(address) => writeln!(text, "root {number} {address}"),
-        None => writeln!(text, "root {number} -"),
-    }
+    push_field(text, "root ", number as u64)?;
+    push_reference(text, root)?;
+    text.push_str("\n")
 }
 
 fn push_log(text: &mut String, cards: &[u32]) -> Result<(), AllocError>
@@ -118,7 +117,7 @@ fn push_cards(text: &mut String, cards: &[u32]) -> Result<(), AllocError>
 {
     text.push_str(" cards")?;
     for card in cards {
-        write!(text, " {card}")?;
+        push_field(text, " ", u64::from(*card))?;
     }
     text.push_str("\n")
 }
@@ -210,11 +209,9 @@ fn push_object(text: &mut String, words: &[u64], object: &Object) -> Result<(), 
 fn push_header(text: &mut String, object: &Object) -> Result<(), AllocError>
     ensures { OnOk result (string_bytes text.new ≡ string_bytes text.old ++ (codes "object " ++ (decimal object.now.at ++ 32 ∷ (decimal object.now.size ++ 47 ∷ decimal object.now.refs)))) }
 {
-    text.push_str("object ")?;
-    push_number(text, object.at)?;
-    push_spaced(text, object.size)?;
-    text.push_str("/")?;
-    push_number(text, object.refs)
+    push_field(text, "object ", object.at)?;
+    push_field(text, " ", object.size)?;
+    push_field(text, "/", object.refs)
 }
 
 fn push_references(text: &mut String, references: &[u64]) -> Result<(), AllocError>
@@ -230,16 +227,16 @@ fn push_data(text: &mut String, words: &[u64]) -> Result<(), AllocError>
     ensures { OnOk result (string_bytes text.new ≡ string_bytes text.old ++ flat_map (λ x. 32 ∷ decimal x) words.now) }
 {
     for word in words {
-        push_spaced(text, *word)?;
+        push_field(text, " ", *word)?;
     }
     Ok(())
 }
 
-// A space and a number.
-fn push_spaced(text: &mut String, value: u64) -> Result<(), AllocError>
-    ensures { OnOk result (string_bytes text.new ≡ string_bytes text.old ++ (32 ∷ decimal value)) }
+// A number, and the text before it.
+fn push_field(text: &mut String, lead: &str, value: u64) -> Result<(), AllocError>
+    ensures { OnOk result (string_bytes text.new ≡ string_bytes text.old ++ (lead.now ++ decimal value)) }
 {
-    text.push_str(" ")?;
+    text.push_str(lead)?;
     push_number(text, value)
 }
 
@@ -256,7 +253,7 @@ fn push_reference(text: &mut String, reference: u64) -> Result<(), AllocError>
     ensures { OnOk result (string_bytes text.new ≡ string_bytes text.old ++ (32 ∷ reference_word reference)) }
 {
     match reference.checked_sub(1) {
-        Some(address) => push_spaced(text, address),
+        Some(address) => push_field(text, " ", address),
         None => text.push_str(" -"),
     }
 }
