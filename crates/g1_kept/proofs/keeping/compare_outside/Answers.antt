@@ -1,4 +1,4 @@
-use Rattle.std.proofs.Common.{arith, ap, subst, sym, suc, ℕ, ◌≡◌, ◌≢◌, ◌<◌, ◌+◌, ◌∙◌, inl, inr, true, IsFalse}
+use Rattle.std.proofs.Common.{length, ◌*◌, arith, ap, subst, sym, suc, ℕ, ◌≡◌, ◌≢◌, ◌<◌, ◌+◌, ◌∙◌, inl, inr, true, IsFalse}
 use Rattle.std.proofs.lemmas.Bool.{cases_lt, false≢true}
 use Rattle.g1_words.specs.declared.region.Kind.TheVariants.{Free}
 use Rattle.g1_words.specs.Lists.{has}
@@ -87,3 +87,60 @@ returns-in-Some-clause-lost c = some_then (λ (l : Lost). IsLossIn c.args.pause.
 
 pub returns-in-Some-clause-first : goal.returns-in-Some-clause-first
 returns-in-Some-clause-first c = some_then (λ (l : Lost). IsMetFirstIn c.args.pause.now l) c.in_ok-lost.field-0 c.in-Some.lost c.in-Some.is c.in_ok-lost.ensures.first
+
+pub is_compared-requires-clause-before : goal.is_compared-requires-clause-before
+is_compared-requires-clause-before c = let e = ap (λ s. s.n) c.geometry.ensures.same in omega (arith, c.loop-region-test.true, c.regions-region-end.ensures.value, e)
+
+pub is_compared-requires-clause-after : goal.is_compared-requires-clause-after
+is_compared-requires-clause-after c =
+    let e = ap (λ s. s.n) c.geometry.ensures.same in
+    let same = ap (λ s. s.n) c.requires.table.geometry in
+    omega (arith, c.loop-region-test.true, c.regions-region-end.ensures.value, e, same)
+
+pub compare_region-requires-clause-region : goal.compare_region-requires-clause-region
+compare_region-requires-clause-region c = let e = ap (λ s. s.n) c.geometry.ensures.same in omega (arith, c.loop-region-test.true, c.regions-region-end.ensures.value, e)
+
+pub compare_region-requires-clause-outside : goal.compare_region-requires-clause-outside
+compare_region-requires-clause-outside c = (c.is_compared.ensures.0 c.if-is_compared.true).0
+
+pub compare_region-requires-clause-used : goal.compare_region-requires-clause-used
+compare_region-requires-clause-used c = (c.is_compared.ensures.0 c.if-is_compared.true).1
+
+pub compare_region-requires-clause-in_use : goal.compare_region-requires-clause-in_use
+compare_region-requires-clause-in_use c = (c.is_compared.ensures.0 c.if-is_compared.true).2
+
+pub loop-region-smaller : goal.loop-region-smaller
+loop-region-smaller c = omega (arith, c.loop-region-test.true)
+
+pub returns-in-Some-clause-compared : goal.returns-in-Some-clause-compared
+returns-in-Some-clause-compared c = tt
+
+pub returns-in-Some-clause-searched : goal.returns-in-Some-clause-searched
+returns-in-Some-clause-searched c = tt
+
+pub returns-clause-walk : goal.returns-clause-walk
+returns-clause-walk c = c.loop-region.invariant.walk
+
+pub returns-clause-grown : goal.returns-clause-grown
+returns-clause-grown c = c.loop-region.invariant.grown
+
+pub returns-clause-lost : goal.returns-clause-lost
+returns-clause-lost c = tt
+
+pub returns-clause-first : goal.returns-clause-first
+returns-clause-first c = tt
+
+pub returns-clause-compared : goal.returns-clause-compared
+returns-clause-compared c =
+    let e = ap (λ s. s.n) c.geometry.ensures.same in
+    λ r lt. c.loop-region.invariant.compared r (omega (arith, lt, c.loop-region-test.false, c.regions-region-end.ensures.value, e))
+
+pub returns-clause-searched : goal.returns-clause-searched
+returns-clause-searched c =
+    let pause = c.args.pause.now in
+    let g : Heap = pause.before.now in
+    let w : Pairs = c.loop-region.pairs in
+    let n = ap (λ s. s.n) c.geometry.ensures.same in
+    let last : c.loop-region.region ≡ g.geometry.n = omega (arith, n, c.loop-region-test.false, c.loop-region.auto.region-end, c.regions-region-end.ensures.value) in
+    let end : suc (start g c.loop-region.region) ≡ suc (length g.words) = ap (λ r. suc (r * g.geometry.w)) last ∙ ap suc (sym c.valid.ensures.word_count) in
+    subst (λ z. Searches pause.fill pause.set.now g pause.after.now w z 0) end c.loop-region.invariant.search

@@ -105,3 +105,27 @@ pub returns-clause-compared : goal.returns-clause-compared
 returns-clause-compared c = λ i lt.
     let all : c.len.result ≤ c.loop-place.place = c.loop-place-test.false in
     c.loop-place.invariant.compared i (omega (arith, lt, all, c.len.ensures, c.loop-place.pairs.before.ok))
+
+pub index-a-requires : goal.index-a-requires
+index-a-requires c = omega (arith, c.loop-place-test.true, c.len.ensures, c.loop-place.pairs.before.ok)
+
+pub index-b-requires : goal.index-b-requires
+index-b-requires c = omega (arith, c.loop-place-test.true, c.len.ensures, c.loop-place.pairs.before.ok, c.loop-place.pairs.after.ok, c.loop-place.invariant.walk.pairs)
+
+pub returns-clause-walk : goal.returns-clause-walk
+returns-clause-walk c = c.loop-place.invariant.walk
+
+pub returns-clause-grown : goal.returns-clause-grown
+returns-clause-grown c = c.loop-place.invariant.grown
+
+pub returns-clause-lost : goal.returns-clause-lost
+returns-clause-lost c = tt
+
+pub returns-clause-first : goal.returns-clause-first
+returns-clause-first c = tt
+
+pub returns-in-Some-clause-compared : goal.returns-in-Some-clause-compared
+returns-in-Some-clause-compared c = tt
+
+pub overflow_add-place : goal.overflow_add-place
+overflow_add-place c = record { fits = omega (arith, c.loop-place-test.true, c.len.type_inv) }

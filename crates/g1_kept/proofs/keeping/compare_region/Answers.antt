@@ -1,3 +1,4 @@
+use Rattle.g1_kept.specs.Pause.{IsLossIn}
 use Rattle.std.proofs.Common.{arith, subst, sym, suc, ℕ, List, ◌≡◌, ◌<◌, ◌≤◌, length, slice_index, Contains}
 use Rattle.std.proofs.lemmas.List.{get_or_read}
 use Rattle.g1_words.specs.Heap.{Heap, object_at, objects}
@@ -120,3 +121,51 @@ returns-clause-searched c =
     let all : length starts ≤ c.loop-place.place = omega (arith, c.loop-place-test.false, c.len-place-end.ensures, c.in-Ok.starts.ok) in
     along_end pause.fill pause.set.now g h c.valid.ensures c.valid-2.ensures c.requires.table c.args.region c.requires.region c.requires.outside
     c.requires.used c.requires.in_use starts c.in-Ok.ensures.ok c.loop-place.pairs c.loop-place.place c.loop-place.invariant.along all
+
+pub compare_pair-requires-clause-walk : goal.compare_pair-requires-clause-walk
+compare_pair-requires-clause-walk c = c.loop-place.invariant.walk
+
+pub index-at-requires : goal.index-at-requires
+index-at-requires c = omega (arith, c.loop-place-test.true, c.len-place-end.ensures, c.in-Ok.starts.ok)
+
+pub returns-clause-walk : goal.returns-clause-walk
+returns-clause-walk c = c.loop-place.invariant.walk
+
+pub returns-clause-grown : goal.returns-clause-grown
+returns-clause-grown c = c.loop-place.invariant.grown
+
+pub returns-clause-lost : goal.returns-clause-lost
+returns-clause-lost c = tt
+
+pub returns-clause-first : goal.returns-clause-first
+returns-clause-first c = tt
+
+pub returns-in-Err-clause-compared : goal.returns-in-Err-clause-compared
+returns-in-Err-clause-compared c = tt
+
+pub returns-in-Err-clause-first : goal.returns-in-Err-clause-first
+returns-in-Err-clause-first c = tt
+
+pub returns-in-Err-clause-grown : goal.returns-in-Err-clause-grown
+returns-in-Err-clause-grown c = tt
+
+pub returns-in-Err-clause-lost : goal.returns-in-Err-clause-lost
+returns-in-Err-clause-lost c = tt
+
+pub returns-in-Err-clause-searched : goal.returns-in-Err-clause-searched
+returns-in-Err-clause-searched c = tt
+
+pub returns-in-Err-clause-walk : goal.returns-in-Err-clause-walk
+returns-in-Err-clause-walk c = tt
+
+pub returns-in-Some-clause-compared : goal.returns-in-Some-clause-compared
+returns-in-Some-clause-compared c = tt
+
+pub returns-in-Some-clause-searched : goal.returns-in-Some-clause-searched
+returns-in-Some-clause-searched c = tt
+
+pub returns-in-Some-clause-walk : goal.returns-in-Some-clause-walk
+returns-in-Some-clause-walk c = c.in_ok-lost.ensures.walk
+
+pub returns-in-Some-clause-lost : goal.returns-in-Some-clause-lost
+returns-in-Some-clause-lost c = some_then (λ (l : Lost). IsLossIn c.args.pause.now l) c.in_ok-lost.field-0 c.in-Some.lost c.in-Some.is c.in_ok-lost.ensures.lost

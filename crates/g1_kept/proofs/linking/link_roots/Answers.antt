@@ -125,3 +125,39 @@ returns-in-Some-clause-walk c = c.in_ok-lost.ensures.walk
 
 pub returns-in-Some-clause-lost : goal.returns-in-Some-clause-lost
 returns-in-Some-clause-lost c = some_then (λ (l : Lost). IsLossIn c.args.pause.now l) c.in_ok-lost.field-0 c.in-Some.lost c.in-Some.is c.in_ok-lost.ensures.lost
+
+pub bounds-old-number : goal.bounds-old-number
+bounds-old-number c = c.loop-number-test.true
+
+pub link-requires-clause-sizes : goal.link-requires-clause-sizes
+link-requires-clause-sizes c = c.requires.sizes
+
+pub offset_bounds-old-number : goal.offset_bounds-old-number
+offset_bounds-old-number c =
+    let roots = ap length c.roots-old.ensures in
+    record { fits = omega (arith, c.loop-number-test.true, roots, c.valid.ensures.root_count) }
+
+pub offset_bounds-new-number : goal.offset_bounds-new-number
+offset_bounds-new-number c =
+    let roots = ap length c.roots-old.ensures in
+    record { fits = omega (arith, c.loop-number-test.true, roots, c.valid.ensures.root_count) }
+
+pub returns-in-Some-clause-paired : goal.returns-in-Some-clause-paired
+returns-in-Some-clause-paired c = tt
+
+pub returns-in-Some-clause-searched : goal.returns-in-Some-clause-searched
+returns-in-Some-clause-searched c = tt
+
+pub returns-clause-walk : goal.returns-clause-walk
+returns-clause-walk c = c.loop-number.invariant.walk
+
+pub returns-clause-lost : goal.returns-clause-lost
+returns-clause-lost c = tt
+
+pub returns-clause-first : goal.returns-clause-first
+returns-clause-first c = tt
+
+pub returns-clause-paired : goal.returns-clause-paired
+returns-clause-paired c =
+    let roots = ap length c.roots-old.ensures in
+    λ n lt. c.loop-number.invariant.paired n (omega (arith, lt, roots, c.loop-number-test.false))

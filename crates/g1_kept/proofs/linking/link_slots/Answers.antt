@@ -1,4 +1,4 @@
-use Rattle.std.proofs.Common.{arith, ap, refl, subst, sym, suc, ℕ, ◌≡◌, ◌≤◌, ◌<◌, ◌+◌, ◌∙◌, ◌%◌, ◌^◌, slice_index}
+use Rattle.std.proofs.Common.{arith, ap, refl, subst, sym, suc, ℕ, ◌≡◌, ◌≤◌, ◌<◌, ◌+◌, ◌∙◌, ◌%◌, ◌^◌, slice_index, length}
 use Rattle.g1_words.specs.Heap.{Heap, word, object_at}
 use Rattle.g1_same.specs.Walk.{Names}
 use Rattle.g1_same.proofs.Heaps.{slot_names}
@@ -174,3 +174,63 @@ returns-in-Some-clause-walk c = c.in_ok-lost.ensures.walk
 
 pub returns-in-Some-clause-lost : goal.returns-in-Some-clause-lost
 returns-in-Some-clause-lost c = some_then (λ (l : Lost). IsLossIn c.args.pause.now l) c.in_ok-lost.field-0 c.in-Some.lost c.in-Some.is c.in_ok-lost.ensures.lost
+
+pub bounds-here-number : goal.bounds-here-number
+bounds-here-number c = c.loop-number-test.true
+
+pub link-requires-clause-sizes : goal.link-requires-clause-sizes
+link-requires-clause-sizes c = c.requires.sizes
+
+pub offset_bounds-here-number : goal.offset_bounds-here-number
+offset_bounds-here-number c =
+    let refs = c.slots-here.ensures.count in
+    let few = ap (λ o. o.refs) c.object-old.ensures.value in
+    record { fits = omega (arith, c.loop-number-test.true, refs, few) }
+
+pub offset_bounds-there-number : goal.offset_bounds-there-number
+offset_bounds-there-number c =
+    let refs = c.slots-here.ensures.count in
+    let few = ap (λ o. o.refs) c.object-old.ensures.value in
+    record { fits = omega (arith, c.loop-number-test.true, refs, few) }
+
+pub slots-here-requires-clause-refs : goal.slots-here-requires-clause-refs
+slots-here-requires-clause-refs c = c.object-old.ensures.refs
+
+pub slots-there-requires-clause-refs : goal.slots-there-requires-clause-refs
+slots-there-requires-clause-refs c = c.object-new.ensures.refs
+
+pub slots-here-requires-clause-within : goal.slots-here-requires-clause-within
+slots-here-requires-clause-within c =
+    let at = ap (λ o. o.at) c.object-old.ensures.value in
+    let words = ap length c.words.ensures in
+    omega (arith, at, words, c.object-old.ensures.within)
+
+pub slots-there-requires-clause-within : goal.slots-there-requires-clause-within
+slots-there-requires-clause-within c =
+    let at = ap (λ o. o.at) c.object-new.ensures.value in
+    let words = ap length c.words-2.ensures in
+    omega (arith, at, words, c.object-new.ensures.within)
+
+pub returns-in-Some-clause-paired : goal.returns-in-Some-clause-paired
+returns-in-Some-clause-paired c = tt
+
+pub returns-in-Some-clause-passed : goal.returns-in-Some-clause-passed
+returns-in-Some-clause-passed c = tt
+
+pub returns-clause-walk : goal.returns-clause-walk
+returns-clause-walk c = c.loop-number.invariant.walk
+
+pub returns-clause-grown : goal.returns-clause-grown
+returns-clause-grown c = c.loop-number.invariant.grown
+
+pub returns-clause-lost : goal.returns-clause-lost
+returns-clause-lost c = tt
+
+pub returns-clause-first : goal.returns-clause-first
+returns-clause-first c = tt
+
+pub object-old-requires : goal.object-old-requires
+object-old-requires c = c.requires.pair.before
+
+pub object-new-requires : goal.object-new-requires
+object-new-requires c = c.requires.pair.after

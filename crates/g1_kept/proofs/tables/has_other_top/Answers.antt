@@ -1,5 +1,5 @@
-use Rattle.std.proofs.Common.{◌≡◌, ◌≢◌, ℕ, true, inl, inr, not, eqb, eqb-true, eq-eqb, arith, ap, sym, ◌∙◌}
-use Rattle.std.proofs.lemmas.Bool.{cases_Bool, false≢true, ltb-true, lt-ltb, not_from_true}
+use Rattle.std.proofs.Common.{◌≡◌, ◌≢◌, ℕ, true, inl, inr, not, eqb, eqb-true, eq-eqb, arith, ap, sym, ◌∙◌, false}
+use Rattle.std.proofs.lemmas.Bool.{cases_Bool, false≢true, ltb-true, lt-ltb, not_from_true, ltb-false}
 use Rattle.g1_words.specs.declared.region.Region.{Region}
 use Rattle.g1_words.specs.declared.region.Kind.TheVariants.{Ordinary}
 use Rattle.g1_words.specs.Heap.{kind, top}
@@ -9,6 +9,9 @@ use Rattle.g1_kept.proofs.tables.has_other_top.Goals.{else-fill-via-then-fill+el
 
 differ : (a b : ℕ) → not (eqb a b) ≡ true → a ≢ b
 differ a b e same = false≢true (sym (not_from_true (eqb a b) (eq-eqb a b same)) ∙ e)
+
+equal : (a b : ℕ) → not (eqb a b) ≡ false → a ≡ b
+equal a b e = elim (cases_Bool (eqb a b)) [ inl t ↦ eqb-true a b t | inr f ↦ absurd (false≢true (sym e ∙ ap not f)) ]
 
 differs : (a b : ℕ) → a ≢ b → not (eqb a b) ≡ true
 differs a b other = elim (cases_Bool (eqb a b)) [ inl t ↦ absurd (other (eqb-true a b t)) | inr f ↦ ap not f ]
@@ -52,3 +55,24 @@ returns-else-fill-clause-other c =
           let other = other_changed c.args.fill g h r c.valid.ensures c.valid-2.ensures c.requires.sizes c.requires.region o in
           differs c.region-new.result.top c.region-old.result.top (λ same. other (new ∙ same ∙ sym old)),
     )
+
+pub returns-then-is_ordinary-clause-filled : goal.returns-then-is_ordinary-clause-filled
+returns-then-is_ordinary-clause-filled c = λ e.
+    let new : top c.args.after.now c.args.number ≡ c.region-new.result.top = sym (ap (λ (q : Region). q.top) c.region-new.ensures) in
+    let old : top c.args.before.now c.args.number ≡ c.region-old.result.top = sym (ap (λ (q : Region). q.top) c.region-old.ensures) in
+    let le = ltb-false c.region-new.result.top c.region-old.result.top e in
+    omega (arith, new, old, le)
+
+pub returns-else-fill-clause-filled : goal.returns-else-fill-clause-filled
+returns-else-fill-clause-filled c = λ e.
+    let new : top c.args.after.now c.args.number ≡ c.region-new.result.top = sym (ap (λ (q : Region). q.top) c.region-new.ensures) in
+    let old : top c.args.before.now c.args.number ≡ c.region-old.result.top = sym (ap (λ (q : Region). q.top) c.region-old.ensures) in
+    let same = equal c.region-new.result.top c.region-old.result.top e in
+    omega (arith, new, old, same)
+
+pub returns-else-fill-clause-above : goal.returns-else-fill-clause-above
+returns-else-fill-clause-above c = λ e i le less.
+    let new : top c.args.after.now c.args.number ≡ c.region-new.result.top = sym (ap (λ (q : Region). q.top) c.region-new.ensures) in
+    let old : top c.args.before.now c.args.number ≡ c.region-old.result.top = sym (ap (λ (q : Region). q.top) c.region-old.ensures) in
+    let same = equal c.region-new.result.top c.region-old.result.top e in
+    absurd (omega (arith, new, old, same, le, less))

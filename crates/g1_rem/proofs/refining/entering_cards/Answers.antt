@@ -1,4 +1,6 @@
-use Rattle.std.proofs.Common.{sym, subst, map}
+use Rattle.g1_rem.specs.Starts.{IsStartsOf, card_count}
+use Rattle.std.proofs.Common.{sym, subst, map, ◌<◌, All}
+use Rattle.std.specs.List.Sorted.{IsStrictlyIncreasing}
 use Rattle.g1_words.specs.Heap.{Heap}
 use Rattle.g1_rem.specs.Entering.{AreEntering, AreRefining}
 use Rattle.g1_rem.proofs.Entering.{lent_back, refining_all}
@@ -14,3 +16,14 @@ returns g c =
     (subst (λ (h : Heap). AreEntering h c.deref.result.now (map (λ s. s.items) c.add_cards.new.entering)) c.heap-heap.ensures.same c.in_ok-add_cards.ensures) in
     subst (λ l. AreRefining c.args.image.now (map (λ s. s.items) l)) (sym written)
     (refining_all c.args.image.now dirty (map (λ s. s.items) new) c.in_ok-dirty.ensures.rising c.in_ok-dirty.ensures.same told)
+
+pub add_cards-requires-clause-starts : goal.add_cards-requires-clause-starts
+add_cards-requires-clause-starts g c = subst (λ (h : Heap). IsStartsOf h c.args.starts.now) (sym c.heap-heap.ensures.same) c.requires
+
+pub add_cards-requires-clause-rising : goal.add_cards-requires-clause-rising
+add_cards-requires-clause-rising g c = subst IsStrictlyIncreasing (sym c.deref.ensures.value) c.in_ok-dirty.ensures.rising
+
+pub add_cards-requires-clause-inside : goal.add_cards-requires-clause-inside
+add_cards-requires-clause-inside g c =
+    subst (λ (h : Heap). All (λ n. n < card_count h) c.deref.result.now) (sym c.heap-heap.ensures.same)
+    (subst (All (λ n. n < card_count c.args.image.now.heap)) (sym c.deref.ensures.value) c.in_ok-dirty.ensures.inside)

@@ -96,3 +96,26 @@ pub returns-clause-told : goal.returns-clause-told
 returns-clause-told c =
     marking_end c.args.heap.now c.args.from c.args.until c.args.region c.objects.at c.objects_end-end.result
     (map address_below c.objects.firsts.items) c.objects.invariant.0 (omega (arith, c.objects-test.false))
+
+pub returns-in_err-mark-clause-room : goal.returns-in_err-mark-clause-room
+returns-in_err-mark-clause-room c =
+    let k : c.card_words-k.result ≡ c.args.heap.now.geometry.k = c.card_words-k.ensures.value ∙ ap (λ g. g.k) c.geometry-geometry.ensures.same in
+    subst (λ k. c.args.from + length c.mark.new.firsts.items * k ≤ 2 ^ 25) k c.mark.ensures.room
+
+pub returns-in_err-mark-2-clause-room : goal.returns-in_err-mark-2-clause-room
+returns-in_err-mark-2-clause-room c =
+    let k : c.card_words-k.result ≡ c.args.heap.now.geometry.k = c.card_words-k.ensures.value ∙ ap (λ g. g.k) c.geometry-geometry.ensures.same in
+    subst (λ k. c.args.from + length c.mark-in-objects.new.firsts.items * k ≤ 2 ^ 25) k c.mark-in-objects.ensures.room
+
+pub overflow_add-at : goal.overflow_add-at
+overflow_add-at c =
+    let n = front (goal.at.overflow_add-at c).In-objects in
+    omega (arith, n.fits, c.size_at-size.ensures, c.geometry-geometry.ensures.valid.word_count, c.geometry-geometry.ensures.valid.limits.words_most)
+
+pub returns-clause-room : goal.returns-clause-room
+returns-clause-room c = c.objects.invariant.1
+
+pub overflow_add-at-in-objects-2 : goal.overflow_add-at-in-objects-2
+overflow_add-at-in-objects-2 c =
+    let n = front (goal.at.overflow_add-at-in-objects-2 c).In-objects in
+    omega (arith, n.fits, c.size_at-size.ensures, c.geometry-geometry.ensures.valid.word_count, c.geometry-geometry.ensures.valid.limits.words_most)

@@ -1,4 +1,4 @@
-use Rattle.std.proofs.Common.{◌≡◌, ◌+◌, ◌-◌, ◌∷◌, ◌++◌, ℕ, List, arith, ap, sym, subst}
+use Rattle.std.proofs.Common.{◌≡◌, ◌+◌, ◌-◌, ◌∷◌, ◌++◌, ℕ, List, arith, ap, sym, subst, ◌∙◌}
 use Rattle.std.specs.List.{range_with_len}
 use Rattle.std.proofs.lemmas.Result.{err_from_is_err_and}
 use Rattle.g1_rem.proofs.Bare.{range_front}
@@ -43,3 +43,18 @@ returns-clause-ahead c = λ rest l.
 
 pub loop-slot-smaller : goal.loop-slot-smaller
 loop-slot-smaller c = omega (arith, c.loop-slot-test.true)
+
+pub is_entry-requires : goal.is_entry-requires
+is_entry-requires c = omega (arith, c.loop-slot-test.true, c.requires.slots)
+
+pub take_entry-requires-clause-region : goal.take_entry-requires-clause-region
+take_entry-requires-clause-region c = c.requires.region
+
+pub take_entry-requires-clause-known : goal.take_entry-requires-clause-known
+take_entry-requires-clause-known c = c.requires.known
+
+pub take_entry-requires-clause-slot : goal.take_entry-requires-clause-slot
+take_entry-requires-clause-slot c = omega (arith, c.loop-slot-test.true, c.requires.slots)
+
+pub take_entry-requires-clause-entry : goal.take_entry-requires-clause-entry
+take_entry-requires-clause-entry c = sym c.is_entry.ensures.same ∙ c.if-is_entry.true
