@@ -1,7 +1,7 @@
 -- Items cut into chunks.
-use Rattle.std.proofs.Common.{◌≡◌, ℕ, zero, suc, ◌+◌, ◌-◌, ◌*◌, ◌/◌, ◌<◌, ◌≤◌, inl, inr, List, [], ◌∷◌, ◌++◌, length, take, drop, sym, refl, ap, ◌∙◌, subst, arith, lt_of_not-le}
+use Rattle.std.proofs.Common.{◌≡◌, ℕ, zero, suc, ◌+◌, ◌-◌, ◌*◌, ◌/◌, ◌<◌, ◌≤◌, inl, inr, List, [], ◌∷◌, ◌++◌, length, take, drop, min, sym, refl, ap, ◌∙◌, subst, arith, lt_of_not-le}
 use Rattle.std.specs.List.{flat_map, enumerate_from}
-use Rattle.std.proofs.lemmas.List.{drop-drop}
+use Rattle.std.proofs.lemmas.List.{drop-drop, take_rest, take_min}
 use Rattle.std.proofs.lemmas.List.Concat.{flat_map-append}
 use Rattle.std.proofs.lemmas.Nat.{div-add-mod'}
 use Rattle.std.proofs.Math.Nat.{mod-lt, mul-le-mul_right, mul-le-mul_left}
@@ -40,6 +40,14 @@ no_more_than n c pos =
       | yes h ↦ h
       | no h ↦ let lt : n < q = lt_of_not-le h in let e = none_empty n c n pos lt in let m : n * 1 ≤ n * c = mul-le-mul_left n (omega arith) in absurd (omega (arith, e, m))
     ]
+
+-- a chunk's items are cut from the rest of all
+pub piece_cut : {A : Type 0} (size k n : ℕ) (xs : List A) → n ≡ min (length (take (length xs - k * size) (drop (k * size) xs))) size →
+    take n (take (length xs - k * size) (drop (k * size) xs)) ≡ piece size k xs
+piece_cut size k n xs e =
+    let rest = take_rest xs (k * size) in
+    let least : n ≡ min size (length (drop (k * size) xs)) = omega (arith, e, ap length rest) in
+    ap (λ l. take n l) rest ∙ ap (λ m. take m (drop (k * size) xs)) least ∙ take_min size (drop (k * size) xs)
 
 module _ {A B : Type 0} (f : A → List B) (size : ℕ) (xs : List A) where
   -- the pieces of all chunks are the items

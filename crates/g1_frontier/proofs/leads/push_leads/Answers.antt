@@ -1,7 +1,9 @@
-use Rattle.std.proofs.Common.{arith, ◌∙◌, ap, sym, subst, ℕ, length, get_or}
+use Rattle.std.proofs.Common.{arith, ◌≡◌, ◌∙◌, ap, sym, subst, ℕ, List, length, get_or, take, flat_map}
+use Rattle.std.proofs.lemmas.List.{take_all}
 use Rattle.g1_words.specs.Heap.{word}
 use Rattle.g1_words.specs.Valid.{IsReference}
 use Rattle.g1_words.proofs.Members.{In}
+use Rattle.g1_rem.specs.Slots.{slots_on}
 use Rattle.g1_frontier.specs.Scope.{names_in}
 use Rattle.g1_frontier.specs.Queue.{HasListed}
 use Rattle.g1_frontier.proofs.Listed.{listed_none, listed_more}
@@ -47,3 +49,10 @@ loop-slot-preserved c =
     let p : ℕ = get_or xs i 0 in
     listed_more s (λ p. names_in s (word s.heap.now p)) xs i c.args.leads.now.items c.loop-slot.leads.items c.push_lead.new.words.items c.loop-slot-test.true c.loop-slot.invariant
     (subst (λ l. HasListed s (names_in s (get_or l p 0)) c.loop-slot.leads.items c.push_lead.new.words.items) c.words-words.ensures c.in_ok-push_lead.ensures)
+
+pub returns : goal.returns
+returns c =
+    let s = c.args.scope.now in
+    let xs : List ℕ = c.as_slice-slot-items.result.now in
+    let all : take c.loop-slot.slot-index xs ≡ slots_on s.heap.now c.args.card = take_all c.loop-slot.slot-index xs c.loop-slot-test.false ∙ c.as_slice-slot-items.ensures ∙ c.slots_on-slots.ensures.items in
+    subst (λ l. HasListed s (flat_map (λ p. names_in s (word s.heap.now p)) l) c.args.leads.now.items c.loop-slot.leads.items) all c.loop-slot.invariant

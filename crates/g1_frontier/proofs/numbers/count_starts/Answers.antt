@@ -1,8 +1,9 @@
-use Rattle.std.proofs.Common.{arith, ap, sym, ◌≡◌, ◌+◌, ◌++◌, ◌∷◌, [], ◌∙◌, ℕ, map, length, get_or}
-use Rattle.std.proofs.lemmas.List.{map-append, length-map, length-take-le, take_more}
+use Rattle.std.proofs.Common.{arith, ap, sym, subst, ◌≡◌, ◌+◌, ◌*◌, ◌++◌, ◌∷◌, [], ◌∙◌, ℕ, map, length, get_or}
+use Rattle.std.proofs.lemmas.List.{map-append, length-map, length-take-le, take_all, take_more}
 use Rattle.std.proofs.lemmas.Nat.{ones-le}
 use Rattle.g1_frontier.specs.declared.numbers.Block.{Block}
-use Rattle.g1_frontier.specs.Numbers.{counted_on}
+use Rattle.g1_words.specs.Marks.{marks_of}
+use Rattle.g1_frontier.specs.Numbers.{AreCounted, counted_on}
 use Rattle.g1_frontier.proofs.Counts.{counted_few, counted_on_more, AreCounted-more}
 use Rattle.g1_frontier.proofs.numbers.count_starts.Goals as goal
 use Rattle.g1_frontier.proofs.numbers.count_starts.Goals.{In-loop-bits}
@@ -31,3 +32,19 @@ loop-bits-preserved c =
       count = ap (λ n. n + c.from-count.result) c.loop-bits.invariant.count ∙ ap (λ n. counted_on 0 c.loop-bits.blocks.items + n) c.from-count.ensures
           ∙ sym (counted_on_more 0 c.loop-bits.blocks.items b) ∙ ap (counted_on 0) (sym more);
     }
+
+pub loop-bits-init : goal.loop-bits-init
+loop-bits-init c =
+    let none : c.in_ok-blocks.blocks.items ≡ [] = c.in_ok-blocks.ensures.items in
+    record {
+      counted = subst (AreCounted 0) (sym none) tt;
+      same = ap (map (λ (b : Block). b.starts)) none;
+      count = ap (counted_on 0) (sym none);
+    }
+
+pub returns : goal.returns
+returns c =
+    let starts = c.args.starts.now in
+    let same : map (λ (b : Block). b.starts) c.loop-bits.blocks.items ≡ starts = c.loop-bits.invariant.same ∙ take_all c.loop-bits.bits-index starts c.loop-bits-test.false in
+    let long : length c.loop-bits.blocks.items ≡ length starts = sym (length-map c.loop-bits.blocks.items (λ (b : Block). b.starts)) ∙ ap length same in
+    λ i. marks_of (64 * long i) (same i)

@@ -1,4 +1,7 @@
-use Rattle.std.proofs.Common.{ap, ◌++◌, ◌∙◌, ℕ, List, Vec, Global, [], ◌∷◌, map}
+use Rattle.std.proofs.Common.{ap, ◌++◌, ◌∙◌, ℕ, List, Vec, Global, Some, [], ◌∷◌, map}
+use Rattle.std.proofs.lemmas.List.Elements.{All-pop}
+use Rattle.g1_claim.specs.Claims.{IsSeatOf}
+use Rattle.g1_frontier.specs.declared.offering.Holder.{Holder}
 use Rattle.g1_frontier.proofs.round.take_in.Goals as goal
 
 pub returns : goal.returns
@@ -13,3 +16,11 @@ returns c = record {
       ++ map (λ h. h.kept.items) c.pop.new.self.items) (c.in_ok-push.ensures.items ∙ ap (λ (l : List (Vec (ℕ × ℕ) Global)). l ++ c.in-Some.last.kept ∷ []) c.new-lists.ensures.items);
   settled = c.settled.ensures.whole;
 }
+
+pub join_all-requires-clause-seat : goal.join_all-requires-clause-seat
+join_all-requires-clause-seat c =
+    (All-pop (λ (h : Holder). IsSeatOf c.args.claims.now h.seat) c.args.holders.items c.pop.new.self.items (Some c.in-Some.last) c.in-Some.ensures.items c.requires.seats).1
+
+pub join_all-requires-clause-others : goal.join_all-requires-clause-others
+join_all-requires-clause-others c =
+    (All-pop (λ (h : Holder). IsSeatOf c.args.claims.now h.seat) c.args.holders.items c.pop.new.self.items (Some c.in-Some.last) c.in-Some.ensures.items c.requires.seats).0

@@ -2,7 +2,7 @@ use Rattle.std.proofs.Common.{◌≡◌, ℕ, List, inl, inr, arith, ap, sym, su
 use Rattle.std.proofs.lemmas.Result.{IfOk-weaker}
 use Rattle.g1_words.specs.Survivors.{Survivors, seeds, children}
 use Rattle.g1_words.proofs.Unique.{breadth_first_unique}
-use Rattle.g1_frontier.specs.Window.{AreWindowPositions}
+use Rattle.g1_frontier.specs.Window.{AreRising, AreWindowPositions}
 use Rattle.g1_frontier.proofs.Numberings.{scope_by_either}
 use Rattle.g1_frontier.proofs.survivors.discover.Goals as goal
 use Rattle.g1_frontier.proofs.survivors.discover.Goals.{then-takes_rounds+in_ok-new_by, else-takes_rounds}
@@ -28,3 +28,27 @@ returns-clause-only g c =
     let window : List ℕ = c.args.window.now in
     IfOk-weaker c.survivors_in.result (λ v. Survivors h window v.items) (λ v. (l : List ℕ) → Survivors h window l → l ≡ v.items)
     (λ v b l a. breadth_first_unique (seeds h window) (children h window) l v.items a b) c.survivors_in.ensures.ok
+
+pub positions-requires-clause-regions : goal.positions-requires-clause-regions
+positions-requires-clause-regions g c = subst (λ n. AreRising n c.args.window.now) (sym (c.regions.ensures.value ∙ ap (λ g. g.n) c.geometry.ensures.same)) c.requires.window
+
+pub positions-requires-clause-few : goal.positions-requires-clause-few
+positions-requires-clause-few g c = omega (arith, c.regions.ensures.value, c.regions.ensures.limits.n_most)
+
+pub new-requires : goal.new-requires
+new-requires g c = c.requires.team
+
+pub returns-clause-ok : goal.returns-clause-ok
+returns-clause-ok g c = c.survivors_in.ensures.ok
+
+pub returns-clause-memory : goal.returns-clause-memory
+returns-clause-memory g c = c.survivors_in.ensures.memory
+
+pub survivors_in-requires-clause-cards : goal.survivors_in-requires-clause-cards
+survivors_in-requires-clause-cards g c κs within = c.requires.cards
+
+pub survivors_in-requires-clause-outside : goal.survivors_in-requires-clause-outside
+survivors_in-requires-clause-outside g c κs within = c.requires.outside
+
+pub survivors_in-requires-clause-lead_in : goal.survivors_in-requires-clause-lead_in
+survivors_in-requires-clause-lead_in g c κs within = c.requires.lead_in

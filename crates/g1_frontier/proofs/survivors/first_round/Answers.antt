@@ -63,3 +63,20 @@ returns-clause-ok g c =
     ((c.as_slice.ensures.value ∙ r.won ∙ ap (λ l. winners (place_in c.args.scope.now) c.in_ok-seat.seat.hand.offers (all_pairs h window l)) listed) i)))
     refl
     (λ i. length (c.roots.ensures i) + length (c.words.ensures i))
+
+pub round_in-requires-clause-scope : goal.round_in-requires-clause-scope
+round_in-requires-clause-scope g c κs within = c.requires.scope
+
+pub round_in-requires-clause-table : goal.round_in-requires-clause-table
+round_in-requires-clause-table g c κs within = c.in_ok-claims.ensures.seat
+
+pub round_in-requires-clause-whole : goal.round_in-requires-clause-whole
+round_in-requires-clause-whole g c κs within = ap (λ (v : Hand). v.shares) c.in_ok-claims.ensures.hand
+
+pub round_in-requires-clause-places : goal.round_in-requires-clause-places
+round_in-requires-clause-places g c κs within = omega (arith, c.in_ok-claims.ensures.places, c.places.ensures)
+
+pub round_in-requires-clause-above : goal.round_in-requires-clause-above
+round_in-requires-clause-above g c κs within =
+    let none : c.in_ok-claims.seat.hand.offers ≡ [] = ap (λ (v : Hand). v.offers) c.in_ok-claims.ensures.hand in
+    λ k d lt. absurd (omega (arith, lt, ap length none))

@@ -88,3 +88,18 @@ returns-clause-ok g c =
     ∙ ap (λ l. winners (place_in c.args.scope.now) c.in_ok-seat.seat.hand.offers (all_pairs h window l)) listed))
     (omega (arith, c.len-from.ensures, s.found.ok))
     (c.in_ok-items.ensures.next ∙ ap (λ l. s.next + sum_by (slot_count h) l) cut)
+
+pub round_in-requires-clause-scope : goal.round_in-requires-clause-scope
+round_in-requires-clause-scope g c κs within = c.requires.scope
+
+pub round_in-requires-clause-table : goal.round_in-requires-clause-table
+round_in-requires-clause-table g c κs within = c.requires.search.seat
+
+pub round_in-requires-clause-whole : goal.round_in-requires-clause-whole
+round_in-requires-clause-whole g c κs within = c.requires.search.whole
+
+pub round_in-requires-clause-places : goal.round_in-requires-clause-places
+round_in-requires-clause-places g c κs within = omega (arith, c.requires.search.places)
+
+pub returns-clause-from : goal.returns-clause-from
+returns-clause-from g c = c.len-from.ensures

@@ -18,3 +18,39 @@ returns-clause-ok g c =
     ends (seeds c.args.scope.now.heap.now c.args.scope.now.window.now) (children c.args.scope.now.heap.now c.args.scope.now.window.now) s.found.items
     s.from (omega (arith, c.loop-search-test.false, c.len.ensures, s.found.ok)) i.in_order
     (λ a k. i.reached a (Contains-from_in s.found.items a k))
+
+pub search_alone-requires-clause-scope : goal.search_alone-requires-clause-scope
+search_alone-requires-clause-scope g c κs within = c.requires.scope
+
+pub search_alone-requires-clause-cards : goal.search_alone-requires-clause-cards
+search_alone-requires-clause-cards g c κs within = c.requires.cards
+
+pub search_alone-requires-clause-outside : goal.search_alone-requires-clause-outside
+search_alone-requires-clause-outside g c κs within = c.requires.outside
+
+pub search_alone-requires-clause-lead_in : goal.search_alone-requires-clause-lead_in
+search_alone-requires-clause-lead_in g c κs within = c.requires.lead_in
+
+pub first_round-requires-clause-scope : goal.first_round-requires-clause-scope
+first_round-requires-clause-scope g c κs within = c.requires.scope
+
+pub first_round-requires-clause-cards : goal.first_round-requires-clause-cards
+first_round-requires-clause-cards g c κs within = c.requires.cards
+
+pub first_round-requires-clause-outside : goal.first_round-requires-clause-outside
+first_round-requires-clause-outside g c κs within = c.requires.outside
+
+pub first_round-requires-clause-lead_in : goal.first_round-requires-clause-lead_in
+first_round-requires-clause-lead_in g c κs within = c.requires.lead_in
+
+pub next_round-requires-clause-scope : goal.next_round-requires-clause-scope
+next_round-requires-clause-scope g c κs within = c.requires.scope
+
+pub next_round-requires-clause-search : goal.next_round-requires-clause-search
+next_round-requires-clause-search g c κs within = c.loop-search.invariant
+
+pub loop-search-init : goal.loop-search-init
+loop-search-init g c = c.in_ok-search.ensures.ok
+
+pub loop-search-preserved : goal.loop-search-preserved
+loop-search-preserved g c = c.in_ok-search-2.ensures.ok

@@ -60,3 +60,16 @@ loop-slot-preserved c =
     subst (λ l. HasNoted s l c.args.self.now c.note.new.self)
     (flat_map_more f [] (range_with_len first (p - first)) p ∙ ap (flat_map f) (range_more first p c.loop-slot.auto.slot))
     (noted_append s c.requires.scope (flat_map f (range_with_len first (p - first))) (f p) c.args.self.now c.loop-slot.self c.note.new.self c.loop-slot.invariant one)
+
+pub note-requires-clause-scope : goal.note-requires-clause-scope
+note-requires-clause-scope c = c.requires.scope
+
+pub note-requires-clause-queue : goal.note-requires-clause-queue
+note-requires-clause-queue c = c.loop-slot.invariant.queue
+
+pub returns : goal.returns
+returns c =
+    let s = c.args.scope.now in
+    let o = c.args.object.now in
+    let end : c.loop-slot.slot - (o.at + 1) ≡ o.refs = omega (arith, c.loop-slot.auto.slot, c.loop-slot-test.false, c.loop-slot.auto.slot-end) in
+    subst (λ n. HasNoted s (flat_map (λ p. names_in s (word s.heap.now p)) (range_with_len (o.at + 1) n)) c.args.self.now c.loop-slot.self) end c.loop-slot.invariant
