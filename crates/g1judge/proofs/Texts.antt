@@ -1,11 +1,15 @@
 -- Two texts are judged as their images are.
-use Rattle.std.proofs.Common.{ℕ, List, inl, inr, sym, subst}
+use Rattle.std.proofs.Common.{◌≡◌, ◌⊎◌, ℕ, List, inl, inr, sym, subst, ap, arith, slice_index}
 use Rattle.g1_words.specs.declared.fault.Fault.{Fault}
 use Rattle.g1_image.specs.Image.{Image, IsTextOf}
 use Rattle.g1_image.specs.Faults.{MayFail, FaultOf}
 use Rattle.g1judge.specs.declared.verdict.Verdict.{Verdict}
 use Rattle.g1judge.specs.declared.verdict.Verdict.TheVariants.{Good, Same, Differ, NoImage, Uncovered, Loss, NoSet, Memory}
-use Rattle.g1judge.specs.Judged.{IsText, IsUnread, AreUnread, JudgesImages, JudgesPair, JudgesSet, JudgesKept}
+use Rattle.g1_choose.specs.Named.{AreTakeable, IsFirstBad}
+use Rattle.g1_words.specs.Heap.{Heap}
+use Rattle.g1_words.specs.declared.fault.Fault.TheVariants as fault
+use Rattle.g1judge.specs.Answered.{at_of, place_of}
+use Rattle.g1judge.specs.Judged.{IsText, IsUnread, AreUnread, IsRefused, JudgesImages, JudgesLoss, JudgesPair, JudgesSet, JudgesKept}
 
 pub texts_judged : (before after : List ℕ) (g h : Image) (v : Verdict) → IsTextOf before g → IsTextOf after h → JudgesImages g h v → JudgesPair before after v
 texts_judged before after g h Good s t j = absurd j
@@ -70,3 +74,19 @@ second_unread before after e (Differ d ends) text may u = absurd u
 second_unread before after e (Uncovered slot) text may u = absurd u
 second_unread before after e (Loss l) text may u = absurd u
 second_unread before after e (NoSet region) text may u = absurd u
+
+-- a set that the first heap allows is judged by what is lost
+pub loss_judged : (g h : Image) (set : List ℕ) (v : Verdict) → AreTakeable g.heap set → JudgesLoss set g.heap h.heap v → JudgesSet g h set v
+loss_judged g h set Good t j = (t, j)
+loss_judged g h set (Same objects words) t j = absurd j
+loss_judged g h set (Differ d ends) t j = absurd j
+loss_judged g h set (NoImage image e) t j = absurd j
+loss_judged g h set (Uncovered slot) t j = absurd j
+loss_judged g h set (Loss l) t j = (t, j)
+loss_judged g h set (NoSet region) t j = absurd j
+loss_judged g h set Memory t j = tt
+
+-- and one that it does not allow by its first bad region
+pub refusal_judged : (h : Heap) (set : List ℕ) (region : ℕ) → (fault.Set region ≡ fault.Memory) ⊎ ((i : ℕ) × IsFirstBad h set i × (fault.Set region ≡ fault.Set (slice_index set i))) → IsRefused h set region
+refusal_judged h set region (inl e) = absurd (omega (arith, ap place_of e))
+refusal_judged h set region (inr (i, bad, e)) = (i, bad, ap at_of e)

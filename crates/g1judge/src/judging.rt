@@ -113,10 +113,11 @@ fn judge_set(alloc: Global, before: &Image, after: &Image, set: &[u32]) -> Verdi
     ensures { JudgesSet before.now after.now set.now result }
 {
     match given(alloc, before.heap(), set) {
-        Err(Fault::Set(region)) => Verdict::NoSet(region),
-        Err(_) => Verdict::Memory,
-        Ok(_) => judge_loss(alloc, before.heap(), after.heap(), set),
+        Err(Fault::Set(region)) => return Verdict::NoSet(region),
+        Err(_) => return Verdict::Memory,
+        Ok(_) => (),
     }
+    judge_loss(alloc, before.heap(), after.heap(), set)
 }
 
 /// Whether the second of two byte strings is the text of an image that keeps what a pause of these
