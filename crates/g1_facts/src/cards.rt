@@ -30,7 +30,7 @@ fn gained_cards(
     let mut gained = Vec::new(alloc);
     for (region, old) in before.iter().enumerate() {
         if let Some(new) = after.get(region) {
-            add_gained(&mut gained, region, old.as_slice(), new.as_slice())?;
+            add_gained(alloc, &mut gained, region, old.as_slice(), new.as_slice())?;
         }
     }
     gained.sort_unstable();
@@ -39,18 +39,14 @@ fn gained_cards(
 
 // Adds the cards that the set of a region gains.
 fn add_gained(
+    alloc: Global,
     gained: &mut Vec<(u32, usize)>,
     region: usize,
     before: &[u32],
     after: &[u32],
 ) -> Result<(), AllocError> {
-    if before == after {
-        return Ok(());
-    }
-    for card in after {
-        if before.binary_search(card).is_err() {
-            gained.push((*card, region))?;
-        }
+    for card in joined_cards(alloc, before, after)?.as_slice() {
+        gained.push((*card, region))?;
     }
     Ok(())
 }
