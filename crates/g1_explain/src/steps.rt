@@ -210,7 +210,7 @@ fn push_writes(
     }
     let heap = before.image.heap();
     let (plan, prepared) = (&steps.plan, &steps.prepared);
-    push_room(text, plan.need(), free_count(heap.regions()) as u64)?;
+    push_room(text, plan.need(), free_count(heap.regions()))?;
     push_places(text, heap, plan, &steps.sizes)?;
     push_patches(text, heap, prepared)?;
     push_humongous_objects(alloc, text, before, steps)?;

@@ -32,10 +32,7 @@ fn push_roots(text: &mut String, before: &[u64], after: &[u64]) -> Result<(), Al
 /// with it.
 pub fn is_kept(heap: &Heap, prepared: &Prepared, slot: u64) -> bool {
     let region = region_of(&heap.geometry(), slot) as usize;
-    prepared
-        .regions()
-        .get(region)
-        .is_some_and(|region| region.kind.is_used())
+    matches!(prepared.regions().get(region), Some(region) if region.kind.is_used())
 }
 
 /// How many slots are patched.
@@ -122,9 +119,10 @@ pub fn push_heading_changes(text: &mut String, image: &Image) -> Result<(), Allo
 }
 
 /// How many of some regions are free.
-pub fn free_count(regions: &[Region]) -> usize {
-    regions
-        .iter()
-        .filter(|region| region.kind.is_free())
-        .count()
+pub fn free_count(regions: &[Region]) -> u64 {
+    let mut count = 0u64;
+    for region in regions {
+        count = count.saturating_add(u64::from(region.kind.is_free()));
+    }
+    count
 }

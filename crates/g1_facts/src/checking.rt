@@ -96,19 +96,21 @@ fn is_written(steps: &Steps, after: &Image) -> bool {
 
 // Whether an object of each survivor's size is at its place.
 fn are_placed(heap: &Heap, steps: &Steps) -> bool {
-    steps
-        .plan
-        .places()
-        .iter()
-        .zip(steps.sizes.iter())
-        .all(|(place, size)| size_in(heap, *place) == *size)
+    for (index, place) in steps.plan.places().iter().enumerate() {
+        if steps.sizes.get(index) != Some(&size_in(heap, *place)) {
+            return false;
+        }
+    }
+    true
 }
 
 // Whether each slot that is patched, and is of an object that isn't freed, has its new word.
 fn are_patched(heap: &Heap, steps: &Steps) -> bool {
     let prepared = &steps.prepared;
-    prepared.patches().iter().all(|patch| {
-        let (slot, word) = *patch;
-        !is_kept(heap, prepared, slot) || word_at(heap, slot) == word
-    })
+    for (slot, word) in prepared.patches() {
+        if is_kept(heap, prepared, *slot) && word_at(heap, *slot) != *word {
+            return false;
+        }
+    }
+    true
 }

@@ -28,7 +28,7 @@ fn push_live(
         if region.kind.is_ordinary() {
             let bytes = live.get(number).copied().unwrap_or(0);
             let garbage = garbage_in(*region, bytes);
-            let cards = remembered.get(number).map_or(0, |set| set.len());
+            let cards = remembered.get(number).map_or(0, Vec::len);
             writeln!(
                 text,
                 "live {number} {bytes} garbage {garbage} cards {cards}"

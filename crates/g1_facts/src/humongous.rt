@@ -7,9 +7,7 @@ use std::alloc::AllocError;
 
 /// Whether the object of a humongous run starts in a region.
 pub fn is_humongous(heap: &Heap, region: usize) -> bool {
-    heap.regions()
-        .get(region)
-        .is_some_and(|region| region.kind.is_humongous_first())
+    matches!(heap.regions().get(region), Some(region) if region.kind.is_humongous_first())
 }
 
 /// Adds a line for each humongous object: what keeps it, or the regions that are freed with it.

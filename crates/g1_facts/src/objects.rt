@@ -39,7 +39,10 @@ pub fn slots_at(heap: &Heap, at: u64) -> &[u64] {
 
 /// The words of the object at an address, the header included.
 pub fn size_in(heap: &Heap, at: u64) -> u64 {
-    object_in(heap, at).map_or(0, |object| object.size)
+    match object_in(heap, at) {
+        Some(object) => object.size,
+        None => 0,
+    }
 }
 
 /// The words of each of the objects at some addresses.

@@ -80,13 +80,10 @@ pub fn push_card(
     region: u32,
     card: u32,
 ) -> Result<(), AllocError> {
-    let is_remembered = image
-        .remembered()
-        .get(region as usize)
-        .is_some_and(|set| set.as_slice().binary_search(&card).is_ok());
-    if is_remembered {
-        writeln!(text, "card {card} remembered {region}")
-    } else {
-        writeln!(text, "card {card} dirty")
+    match image.remembered().get(region as usize) {
+        Some(set) if set.binary_search(&card).is_ok() => {
+            writeln!(text, "card {card} remembered {region}")
+        }
+        _ => writeln!(text, "card {card} dirty"),
     }
 }
