@@ -1,5 +1,6 @@
-use Rattle.std.proofs.Common.{◌≡◌, ◌≤◌, ◌+◌, ◌*◌, inr, arith, refl, slice_index, sym, ap, subst, length, ◌∙◌}
+use Rattle.std.proofs.Common.{◌≡◌, ◌≤◌, ◌+◌, ◌*◌, inl, inr, arith, refl, slice_index, sym, ap, subst, length, ◌∙◌}
 use Rattle.std.specs.Prelude.{Ok, Err}
+use Rattle.std.proofs.lemmas.Result.{err_from_is_err_and}
 use Rattle.std.proofs.Math.Nat.{mul-le-mul_right}
 use Rattle.g1_image.specs.Draft.{ShapedBelow}
 use Rattle.g1_image.specs.Marks.{StartsOf}
@@ -55,3 +56,16 @@ returns c =
     let all : slice_index begins c.loop-part.part-index ≡ h.geometry.n = ap (slice_index begins) last ∙ c.requires.cut.cut.last in
     let shaped : ShapedBelow h h.geometry.n = subst (ShapedBelow h) all c.loop-part.invariant.shaped in
     record { ok = record { starts = StartsOf-all h c.loop-part.marks shaped (subst (λ x. StartsOf h 0 x c.loop-part.marks) all c.loop-part.invariant.starts); shaped = shaped }; err = tt }
+
+pub loop-part-smaller : goal.loop-part-smaller
+loop-part-smaller c = omega (arith, c.loop-part-test.true)
+
+pub returns-in_err-marks-clause-err : goal.returns-in_err-marks-clause-err
+returns-in_err-marks-clause-err c =
+    let left = err_from_is_err_and c.from_residual.result c.from_residual.ensures.1 in
+    rw (left.1, left.2) (inl refl)
+
+pub returns-in_err-append-in-Ok-clause-err : goal.returns-in_err-append-in-Ok-clause-err
+returns-in_err-append-in-Ok-clause-err c =
+    let left = err_from_is_err_and c.from_residual-in_err-append-in-Ok.result c.from_residual-in_err-append-in-Ok.ensures.1 in
+    rw (left.1, left.2) (inl refl)
