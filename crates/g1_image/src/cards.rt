@@ -38,19 +38,6 @@ fn put_log(draft: &Draft, log: &[u32], cards: &mut IndexSet<u32>) -> Result<(), 
     Ok(())
 }
 
-/// The log's cards, or the first that isn't good.
-fn check_log(alloc: Global, draft: &Draft, log: &[u32]) -> Result<IndexSet<u32>, Fault>
-    requires { length log.now < 2 ^ 32 }
-    ensures ok { IfOk result (λ s. (s.keys ≡ log.now) × LogIsGood draft.now log.now) }
-    ensures err { IfErr result (λ e. (e ≡ Fault.Memory) ⊎ ((i : ℕ) × (e ≡ Fault.Card (Stand.Dirty i)) × IsFirstBreach (IsGoodLogged draft.now log.now) (length log.now) i)) }
-{
-    // A log with more cards than the heap has one of them twice.
-    let most = draft.geometry().cards() as usize;
-    let mut cards = IndexSet::with_capacity(alloc, log.len().min(most))?;
-    put_log(draft, log, &mut cards)?;
-    Ok(cards)
-}
-
 /// Returns whether a remembered set may be that of a region.
 fn is_remembered_set(draft: &Draft, r: u32, cards: &[u32]) -> bool
     requires there { r < draft.now.geometry.n }
@@ -106,7 +93,10 @@ pub(crate) fn check_cards(
     ensures sets { OnOk result (SetsAreGood draft.now (map (λ s. s.items) remembered.now)) }
     ensures err { IfErr result (λ e. (e ≡ Fault.Memory) ⊎ ((s : Stand) × (e ≡ Fault.Card s) × CardFault draft.now log.now (map (λ s. s.items) remembered.now) s)) }
 {
-    let cards = check_log(alloc, draft, log)?;
+    // A log with more cards than the heap has one of them twice.
+    let most = draft.geometry().cards() as usize;
+    let mut cards = IndexSet::with_capacity(alloc, log.len().min(most))?;
+    put_log(draft, log, &mut cards)?;
     check_remembered(draft, remembered)?;
     Ok(cards)
 }

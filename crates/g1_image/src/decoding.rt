@@ -89,7 +89,9 @@ fn finish(alloc: Global, drafted: DraftImage) -> Result<Image, Fault>
 {
     let log = check_cards(alloc, &drafted.draft, &drafted.log, &drafted.remembered)?;
     let DraftImage {
-        draft, remembered, ..
+        draft,
+        remembered,
+        ..
     } = drafted;
     let heap = Heap {
         geometry: draft.geometry,

@@ -43,3 +43,15 @@ loop-r-preserved c =
 
 pub loop-r-smaller : goal.loop-r-smaller
 loop-r-smaller c = omega (arith, c.loop-r-test.true)
+
+pub loop-r-init : goal.loop-r-init
+loop-r-init c = λ q lt. absurd (omega (arith, lt))
+
+pub bounds-remembered-r : goal.bounds-remembered-r
+bounds-remembered-r c = omega (arith, c.loop-r-test.true, c.regions-regions.ensures.value, ap (λ g. g.n) c.geometry.ensures.same, c.requires.one_each)
+
+pub is_remembered_set-requires-clause-there : goal.is_remembered_set-requires-clause-there
+is_remembered_set-requires-clause-there c = omega (arith, c.loop-r-test.true, c.regions-regions.ensures.value, ap (λ g. g.n) c.geometry.ensures.same)
+
+pub returns-clause-ok : goal.returns-clause-ok
+returns-clause-ok c = λ r lt. c.loop-r.invariant r (omega (arith, lt, c.loop-r-test.false, c.regions-regions.ensures.value, ap (λ g. g.n) c.geometry.ensures.same))

@@ -8,7 +8,6 @@ use Rattle.g1_image.proofs.checks.check_references.Goals as goal
 pub check_roots-requires : goal.check_roots-requires
 check_roots-requires c = c.requires.starts
 
-
 pub returns-in_err-check_roots-clause-err : goal.returns-in_err-check_roots-clause-err
 returns-in_err-check_roots-clause-err c =
     let p = err_from_is_err_and c.from_residual.result c.from_residual.ensures.1 in

@@ -2,7 +2,6 @@ use Rattle.std.proofs.Common.{◌≡◌, ◌+◌, ◌*◌, subst, ap, ◌∙◌,
 use Rattle.g1_words.specs.Heap.{start}
 use Rattle.g1_image.specs.Marks.{Marked}
 use Rattle.g1_image.proofs.Rows.{marked_one, next_start}
-
 use Rattle.g1_image.proofs.shape.mark_humongous.Goals as goal
 
 pub set-requires : goal.set-requires

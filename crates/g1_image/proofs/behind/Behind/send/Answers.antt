@@ -1,4 +1,4 @@
-use Rattle.std.proofs.Common.{◌≡◌, [], ◌++◌, ap, refl, ◌∙◌}
+use Rattle.std.proofs.Common.{◌≡◌, [], ◌++◌, ap, refl, ◌∙◌, arith}
 use Rattle.std.proofs.lemmas.Grind.{flat_map-append}
 use Rattle.std.proofs.lemmas.Result.{err_from_is_err_and}
 use Rattle.g1_image.specs.Text.{u64, words_text}
@@ -30,3 +30,9 @@ loop-rest-preserved g c =
           (sent_more _ _ _ _ _ _ _ _ c.in_ok-make_room.ensures.ok (sent_waits _ _ (words_text front) _ c.put.ensures));
       mark = c.in_ok-make_room.ensures.mark ∙ c.loop-rest.invariant.mark;
     }
+
+pub split_at-requires : goal.split_at-requires
+split_at-requires g c = omega (arith, c.min-count.ensures)
+
+pub put-requires : goal.put-requires
+put-requires g c = omega (arith, c.min-count.ensures, c.split_at.ensures.front_len, c.in_ok-make_room.ensures.room)
