@@ -18,12 +18,12 @@ returns c =
     let h = c.args.draft.now in
     let r = c.args.r in
     let q = c.header-o.result in
-    let w : c.region_words-region_words.result ≡ h.geometry.w = cc in
+    let w : c.region_words-region_words.result ≡ h.geometry.w = c.region_words-region_words.ensures.value ∙ ap (λ g. g.w) c.geometry-geometry.ensures.same in
     let wide : c.geometry-geometry.result.w ≡ h.geometry.w = ap (λ g. g.w) c.geometry-geometry.ensures.same in
-    let place : c.start.result ≡ start h r = cc in
+    let place : c.start.result ≡ start h r = c.start.ensures.value ∙ ap (λ g. r * g.w) c.geometry-geometry.ensures.same in
     let word : slice_index h.words (start h r) ≡ q.size * 2 ^ 32 + q.refs = sym (λ t. slice_index (c.words.ensures.same t) (place t)) ∙ c.header-o.ensures.word in
     let at : q.at ≡ start h r = c.header-o.ensures.at ∙ place in
-    let top : c.from-top.result ≡ (region h r).top = cc in
+    let top : c.from-top.result ≡ (region h r).top = c.from-top.ensures ∙ ap (λ x. x.top) c.region.ensures in
     let least : c.min-least.result ≡ min h.geometry.w q.size = omega (arith, c.min-least.ensures, w) in (
       (λ t. (
         q,

@@ -94,7 +94,7 @@ loop-r-preserved c =
       latest = λ shaped. elim c.if-is_humongous_first.branch [
         | then-is_humongous_first w ↦
             let q : Object = w.header-size.result in
-            let place : w.start-then-is_humongous_first.result ≡ start h r = cc in
+            let place : w.start-then-is_humongous_first.result ≡ start h r = w.start-then-is_humongous_first.ensures.value ∙ ap (λ g. r * g.w) c.geometry-geometry.ensures.same in
             let kind : (region h r).kind ≡ HumongousFirst = sym (ap (λ q. q.kind) c.region.ensures) ∙ c.is_humongous_first.ensures.0 w.if-is_humongous_first.true in
             let word : slice_index h.words (start h r) ≡ q.size * 2 ^ 32 + q.refs = sym (λ t. slice_index (w.words.ensures.same t) (place t)) ∙ w.header-size.ensures.word in
             let l : Latest h (r + 1) r q.size = Latest-first h r q (w.header-size.ensures.at ∙ place) word w.header-size.ensures.refs w.header-size.ensures.size (good shaped) kind in
