@@ -58,9 +58,3 @@ returns-clause-known c =
 pub returns-in_err-geometry-clause-err : goal.returns-in_err-geometry-clause-err
 returns-in_err-geometry-clause-err c =
     absurd (c.in_err-geometry.ensures.err.1 (rw (c.from.ensures, c.from-2.ensures, c.from-3.ensures) c.requires.good.sizes))
-
-pub regions-requires : goal.regions-requires
-regions-requires c = omega (arith, c.requires.table, c.requires.good.sizes.n_most)
-
-pub check_flags-requires : goal.check_flags-requires
-check_flags-requires c = omega (arith, c.requires.table, c.requires.good.sizes.n_most)

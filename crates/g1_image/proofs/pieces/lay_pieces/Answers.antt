@@ -79,6 +79,3 @@ pub returns-clause-ok : goal.returns-clause-ok
 returns-clause-ok g c =
     let all = laid_all _ _ _ _ c.args.w c.args.table.now c.loop-e.e-index (laid_words c.loop-e.laid) c.loop-e.invariant.part c.loop-e-test.false in
     (all.0, all.1, all.2, c.in_ok-push_zeros.ensures ∙ all.3)
-
-pub table_words-total-requires : goal.table_words-total-requires
-table_words-total-requires g c = c.requires.count

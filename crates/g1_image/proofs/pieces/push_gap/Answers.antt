@@ -35,6 +35,3 @@ returns-clause-none g c = takes_nothing _ _ _ _ c.in_ok-reach.ensures.ok.mark c.
 
 pub returns-clause-words : goal.returns-clause-words
 returns-clause-words g c = c.in_ok-push_zeros.ensures
-
-pub reach-requires : goal.reach-requires
-reach-requires g c = record { known = c.requires.known }

@@ -72,15 +72,3 @@ returns-clause-known g c = c.skip_words.ensures.known
 
 pub returns-clause-zeros : goal.returns-clause-zeros
 returns-clause-zeros g c = omega arith
-
-pub push_next-requires : goal.push_next-requires
-push_next-requires g c = record { known = c.push_gap.ensures.known }
-
-pub skip_words-requires : goal.skip_words-requires
-skip_words-requires g c = record { known = c.push_next.ensures.known }
-
-pub overflow_sub-top : goal.overflow_sub-top
-overflow_sub-top g c = omega (arith, c.min-used.ensures)
-
-pub returns-then-top-eq0-clause-zeros : goal.returns-then-top-eq0-clause-zeros
-returns-then-top-eq0-clause-zeros g c = omega arith

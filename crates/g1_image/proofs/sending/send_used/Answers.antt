@@ -50,6 +50,3 @@ loop-r-preserved g c =
 
 pub loop-r-smaller : goal.loop-r-smaller
 loop-r-smaller g c = omega (arith, c.loop-r-test.true)
-
-pub returns-clause-mark : goal.returns-clause-mark
-returns-clause-mark g c = c.loop-r.invariant.mark

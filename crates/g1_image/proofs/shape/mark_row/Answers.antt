@@ -59,6 +59,3 @@ pub returns-clause-marked : goal.returns-clause-marked
 returns-clause-marked c = λ t.
     let e : c.loop-at.at ≡ c.args.to = omega (arith, c.loop-at.invariant.checked.order, c.loop-at-test.false) in
     subst (λ x. Marked (λ k. InRow c.args.words.now c.args.from x (c.args.base + k)) c.args.marks.now c.loop-at.marks) e c.loop-at.invariant.marked
-
-pub header-o-requires : goal.header-o-requires
-header-o-requires c = omega (arith, c.loop-at-test.true, c.requires.in_words)

@@ -6,7 +6,7 @@ use Rattle.g1_image.specs.Draft.{ShapedBelow}
 use Rattle.g1_image.specs.Marks.{StartsOf}
 use Rattle.g1_image.specs.Shapes.{IsShapedRange}
 use Rattle.g1_image.proofs.Rows.{StartsOf-all}
-use Rattle.g1_image.proofs.ShapedRanges.{StartsOf-append, part_at}
+use Rattle.g1_image.proofs.ShapedRanges.{StartsOf-none, StartsOf-append, part_at}
 use Rattle.g1_image.proofs.starts.Shaping.join.Goals as goal
 use Rattle.g1_image.proofs.starts.Shaping.join.Goals.{In-Ok, In-Err}
 
@@ -56,6 +56,15 @@ returns c =
     let all : slice_index begins c.loop-part.part-index ≡ h.geometry.n = ap (slice_index begins) last ∙ c.requires.cut.cut.last in
     let shaped : ShapedBelow h h.geometry.n = subst (ShapedBelow h) all c.loop-part.invariant.shaped in
     record { ok = record { starts = StartsOf-all h c.loop-part.marks shaped (subst (λ x. StartsOf h 0 x c.loop-part.marks) all c.loop-part.invariant.starts); shaped = shaped }; err = tt }
+
+pub loop-part-init : goal.loop-part-init
+loop-part-init c =
+    let h = c.args.self.now.draft.now in
+    let first : slice_index c.args.self.now.begins.now 0 ≡ 0 = c.requires.cut.cut.first in
+    record {
+      starts = subst (λ x. StartsOf h 0 x c.in_ok-marks.marks) (sym first) (subst (StartsOf h 0 0) (sym c.in_ok-marks.ensures) (StartsOf-none h 0));
+      shaped = λ q lt. absurd (omega (arith, first, lt));
+    }
 
 pub loop-part-smaller : goal.loop-part-smaller
 loop-part-smaller c = omega (arith, c.loop-part-test.true)
