@@ -134,7 +134,7 @@ StartsOf-all h marks shaped m =
       count = omega (arith, m.count, zero);
     }
 
-next_start : (h : Heap) (r p : ℕ) → r < p → start h r + h.geometry.w ≤ start h p
+pub next_start : (h : Heap) (r p : ℕ) → r < p → start h r + h.geometry.w ≤ start h p
 next_start h r p lt = let le : r + 1 ≤ p = omega arith in omega (arith, mul-le-mul_right h.geometry.w le)
 
 apart_in : (k : Kind) (h : Heap) (r p : ℕ) (o q : Object) → (region h r).kind ≡ k → IsShapedBy k h r → StandsIn k h r o → StandsIn (region h p).kind h p q →

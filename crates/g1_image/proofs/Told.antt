@@ -1,5 +1,5 @@
 -- A text that is read from a source: what its front and its words make of all of it.
-use Rattle.std.proofs.Common.{◌≡◌, ◌≢◌, ◌<◌, inl, inr, ℕ, ◌*◌, Bool, true, false, List, [], ◌∷◌, ◌++◌, Option, Some, None, length, drop}
+use Rattle.std.proofs.Common.{◌≡◌, ◌≢◌, ◌<◌, ◌⊎◌, inl, inr, ℕ, ◌*◌, Bool, true, false, List, [], ◌∷◌, ◌++◌, Option, Some, None, length, drop}
 use Rattle.std.proofs.Common.{arith, refl, sym, ap, subst, ◌∙◌, append_assoc, append-nil, length-append}
 use Rattle.std.specs.Prelude.{IfSome, IfOk, IfErr, Result, Ok, Err}
 use Rattle.std.proofs.lemmas.List.{get_or_append_left}
@@ -23,6 +23,50 @@ read_fails l m n a fault.Memory same h = h ∙ same
 read_fails l m n a (fault.Device device.Input) same h = h
 read_fails l m n a (fault.Device device.Output) same h = absurd h
 read_fails l m n a _ same h = absurd h
+
+-- it was read out all the same, or wanted memory
+pub read_out_failed : (X : Type 0) (m n : Bool) (left : Option (List ℕ)) (e : Fault) → ReadFails m n e → IsReadOut {X = X} left (Err e)
+read_out_failed X m n left fault.Memory h = tt
+read_out_failed X m n left (fault.Device device.Input) h = tt
+read_out_failed X m n left (fault.Device device.Output) h = absurd h
+read_out_failed X m n left _ h = absurd h
+
+-- what isn't a fault of the bytes may leave some of them
+pub not_read_out : (X : Type 0) (left : Option (List ℕ)) (e : Fault) → (e ≡ fault.Memory) ⊎ (e ≡ fault.Device device.Input) → IsReadOut {X = X} left (Err e)
+not_read_out X left e (inl p) = subst (λ x. IsReadOut {X = X} left (Err x)) (sym p) tt
+not_read_out X left e (inr p) = subst (λ x. IsReadOut {X = X} left (Err x)) (sym p) tt
+
+-- the mark tells whether a read failed
+pub text_mark : (X : Type 0) (m n : Bool) (a : Option (List ℕ)) (e : Fault) → TextFails m n a e → n ≡ input_mark {X = X} m (Err e)
+text_mark X m n a fault.Memory h = h
+text_mark X m n a (fault.Device device.Input) h = h
+text_mark X m n a (fault.Device device.Output) h = absurd h
+text_mark X m n a e h = h.0
+
+-- a fault of the bytes leaves it as it was
+pub text_unmarked : (m n : Bool) (a : Option (List ℕ)) (e : Fault) → TextFails m n a e → e ≢ fault.Device device.Input → n ≡ m
+text_unmarked m n a fault.Memory h ne = h
+text_unmarked m n a (fault.Device device.Input) h ne = absurd (ne refl)
+text_unmarked m n a (fault.Device device.Output) h ne = absurd h
+text_unmarked m n a e h ne = h.0
+
+memory_may : (a : Option (List ℕ)) → IfSome a (λ xs. MayFail xs fault.Memory)
+memory_may None = tt
+memory_may (Some x) = inl refl
+
+bytes_may : (a : Option (List ℕ)) (e : Fault) → IfSome a (λ xs. FaultOf xs e) → IfSome a (λ xs. MayFail xs e)
+bytes_may None e h = tt
+bytes_may (Some x) e h = inr h
+
+-- a text isn't read because a read failed, or for its own fault, or for want of memory
+pub text_may : (m n : Bool) (a : Option (List ℕ)) (e : Fault) → TextFails m n a e → (e ≡ fault.Device device.Input) ⊎ IfSome a (λ xs. MayFail xs e)
+text_may m n a fault.Memory h = inr (memory_may a)
+text_may m n a (fault.Device device.Input) h = inl refl
+text_may m n a (fault.Device device.Output) h = absurd h
+text_may m n a e h = inr (bytes_may a e h.1)
+
+pub text_no_output : (m n : Bool) (a : Option (List ℕ)) (e : Fault) → TextFails m n a e → e ≢ fault.Device device.Output
+text_no_output m n a e h p = subst (TextFails m n a) p h
 
 -- a wrong magic is wrong whatever follows
 pub magic_stays : (bytes more : List ℕ) → FaultOf bytes fault.Magic → FaultOf (bytes ++ more) fault.Magic

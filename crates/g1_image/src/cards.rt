@@ -1,6 +1,6 @@
 ghost use Rattle.std.specs.Prelude.{◌≡◌, ◌≤◌, ◌<◌, ◌+◌, ◌*◌, ◌/◌, ◌^◌, ◌⊎◌, ℕ, List, [], All, map, length, slice_index, slice_index_or, IsTrue, ◌↔◌, OnOk, IfOk, IfErr};
 ghost use Rattle.g1_image.specs.Image.{IsUsedCard, IsRememberedSet};
-ghost use Rattle.g1_image.specs.Faults.{IsFirstBreach, IsGoodLogged, LogIsGood, IsGoodSet, SetsAreGood};
+ghost use Rattle.g1_image.specs.Faults.{IsFirstBreach, IsGoodLogged, LogIsGood, IsGoodSet, SetsAreGood, CardFault};
 
 use crate::draft::Draft;
 use g1_words::{Fault, Stand};
@@ -38,19 +38,6 @@ fn put_log(draft: &Draft, log: &[u32], cards: &mut IndexSet<u32>) -> Result<(), 
     Ok(())
 }
 
-/// The log's cards, or the first that isn't good.
-pub(crate) fn check_log(alloc: Global, draft: &Draft, log: &[u32]) -> Result<IndexSet<u32>, Fault>
-    requires { length log.now < 2 ^ 32 }
-    ensures ok { IfOk result (λ s. (s.keys ≡ log.now) × LogIsGood draft.now log.now) }
-    ensures err { IfErr result (λ e. (e ≡ Fault.Memory) ⊎ ((i : ℕ) × (e ≡ Fault.Card (Stand.Dirty i)) × IsFirstBreach (IsGoodLogged draft.now log.now) (length log.now) i)) }
-{
-    // A log with more cards than the heap has one of them twice.
-    let most = draft.geometry().cards() as usize;
-    let mut cards = IndexSet::with_capacity(alloc, log.len().min(most))?;
-    put_log(draft, log, &mut cards)?;
-    Ok(cards)
-}
-
 /// Returns whether a remembered set may be that of a region.
 fn is_remembered_set(draft: &Draft, r: u32, cards: &[u32]) -> bool
     requires there { r < draft.now.geometry.n }
@@ -77,7 +64,7 @@ fn is_remembered_set(draft: &Draft, r: u32, cards: &[u32]) -> bool
 }
 
 /// Returns the first region whose remembered set isn't good.
-pub(crate) fn check_remembered(draft: &Draft, remembered: &[Vec<u32>]) -> Result<(), Fault>
+fn check_remembered(draft: &Draft, remembered: &[Vec<u32>]) -> Result<(), Fault>
     requires one_each { length remembered.now ≡ draft.now.geometry.n }
     requires counts { All (λ s. length s < 2 ^ 32) (map (λ s. s.items) remembered.now) }
     ensures ok { OnOk result (SetsAreGood draft.now (map (λ s. s.items) remembered.now)) }
@@ -90,4 +77,26 @@ pub(crate) fn check_remembered(draft: &Draft, remembered: &[Vec<u32>]) -> Result
         }
     }
     Ok(())
+}
+
+/// The log's cards, or the first fault of all cards: the log is checked before the remembered sets.
+pub(crate) fn check_cards(
+    alloc: Global,
+    draft: &Draft,
+    log: &[u32],
+    remembered: &[Vec<u32>],
+) -> Result<IndexSet<u32>, Fault>
+    requires log { length log.now < 2 ^ 32 }
+    requires one_each { length remembered.now ≡ draft.now.geometry.n }
+    requires counts { All (λ s. length s < 2 ^ 32) (map (λ s. s.items) remembered.now) }
+    ensures log { IfOk result (λ s. (s.keys ≡ log.now) × LogIsGood draft.now log.now) }
+    ensures sets { OnOk result (SetsAreGood draft.now (map (λ s. s.items) remembered.now)) }
+    ensures err { IfErr result (λ e. (e ≡ Fault.Memory) ⊎ ((s : Stand) × (e ≡ Fault.Card s) × CardFault draft.now log.now (map (λ s. s.items) remembered.now) s)) }
+{
+    // A log with more cards than the heap has one of them twice.
+    let most = draft.geometry().cards() as usize;
+    let mut cards = IndexSet::with_capacity(alloc, log.len().min(most))?;
+    put_log(draft, log, &mut cards)?;
+    check_remembered(draft, remembered)?;
+    Ok(cards)
 }

@@ -1,5 +1,5 @@
-ghost use Rattle.std.specs.Prelude.{OnOk, IfOk, IfErr};
-ghost use Rattle.g1_image.specs.Faults.{IsGoodHeap, RootsAreGood};
+ghost use Rattle.std.specs.Prelude.{OnOk, IfErr};
+ghost use Rattle.g1_image.specs.Faults.{IsGoodHeap, HeapFault};
 ghost use Rattle.g1_image.specs.Checks.{AreShapedStarts, HeapMayFail};
 
 use crate::draft::Draft;
@@ -10,31 +10,14 @@ use g1_words::{Fault, Marks};
 use std::alloc::Global;
 use std::thread::Threads;
 
-/// The addresses where objects start, or the first fault of a heap's regions and roots.
-fn checked_starts(alloc: Global, draft: &Draft) -> Result<Marks, Fault>
-    ensures ok { IfOk result (AreShapedStarts draft.now) }
-    ensures roots { OnOk result (RootsAreGood draft.now) }
-    ensures err { IfErr result (HeapMayFail draft.now) }
+/// Returns the first fault of a heap's references: its roots are checked before its slots.
+fn check_references(draft: &Draft, marks: &Marks) -> Result<(), Fault>
+    requires { AreShapedStarts draft.now marks.now }
+    ensures ok { OnOk result (IsGoodHeap draft.now) }
+    ensures err { IfErr result (HeapFault draft.now) }
 {
-    let marks = shaped_starts(alloc, draft)?;
-    check_roots(draft, &marks)?;
-    Ok(marks)
-}
-
-/// As `checked_starts`, with this many workers at most. One if it is 0.
-fn checked_starts_by(
-    rt: &(impl Threads + Sync),
-    alloc: Global,
-    draft: &Draft,
-    workers: u64,
-) -> Result<Marks, Fault>
-    ensures ok { IfOk result (AreShapedStarts draft.now) }
-    ensures roots { OnOk result (RootsAreGood draft.now) }
-    ensures err { IfErr result (HeapMayFail draft.now) }
-{
-    let marks = shaped_starts_by(rt, alloc, draft, workers)?;
-    check_roots(draft, &marks)?;
-    Ok(marks)
+    check_roots(draft, marks)?;
+    check_slots(draft, marks)
 }
 
 /// Returns the first fault of a heap's regions and references.
@@ -42,9 +25,8 @@ pub(crate) fn check_heap(alloc: Global, draft: &Draft) -> Result<(), Fault>
     ensures ok { OnOk result (IsGoodHeap draft.now) }
     ensures err { IfErr result (HeapMayFail draft.now) }
 {
-    let marks = checked_starts(alloc, draft)?;
-    check_slots(draft, &marks)?;
-    Ok(())
+    let marks = shaped_starts(alloc, draft)?;
+    check_references(draft, &marks)
 }
 
 /// As `check_heap`, with this many workers at most. One if it is 0.
@@ -57,7 +39,7 @@ pub(crate) fn check_heap_by(
     ensures ok { OnOk result (IsGoodHeap draft.now) }
     ensures err { IfErr result (HeapMayFail draft.now) }
 {
-    let marks = checked_starts_by(rt, alloc, draft, workers)?;
-    check_slots_by(rt, alloc, draft, &marks, workers)?;
-    Ok(())
+    let marks = shaped_starts_by(rt, alloc, draft, workers)?;
+    check_roots(draft, &marks)?;
+    check_slots_by(rt, alloc, draft, &marks, workers)
 }

@@ -169,12 +169,13 @@ impl<'a> Cursor<'a> {
         if self.rest.len() < 8 {
             return Err(Fault::Short);
         }
-        let version = match Version::of_digit(self.rest[7]) {
-            Some(version) => version,
-            None => return Err(Fault::Magic),
-        };
-        self.skip(8);
-        Ok(version)
+        match Version::of_digit(self.rest[7]) {
+            Some(version) => {
+                self.skip(8);
+                Ok(version)
+            }
+            None => Err(Fault::Magic),
+        }
     }
 
     /// Takes the magic and a heading within the limits, or returns the fault of the bytes.
@@ -183,14 +184,15 @@ impl<'a> Cursor<'a> {
         ensures err { IfErr result (FaultOf self.old) }
     {
         let version = self.magic()?;
-        let heading = match self.heading() {
-            Some(heading) => heading,
-            None => return Err(Fault::Short),
-        };
-        if !is_good_heading(&heading) {
-            return Err(Fault::Geometry);
+        match self.heading() {
+            Some(heading) => {
+                if !is_good_heading(&heading) {
+                    return Err(Fault::Geometry);
+                }
+                Ok((heading, version))
+            }
+            None => Err(Fault::Short),
         }
-        Ok((heading, version))
     }
 }
 

@@ -5,7 +5,7 @@ ghost use Rattle.g1_image.specs.Plain.{heap_of_parts};
 ghost use Rattle.g1_image.specs.Front.{IsLaidOut};
 ghost use Rattle.g1_image.specs.Drafted.{IsDraftOf};
 
-use crate::cards::{check_log, check_remembered};
+use crate::cards::check_cards;
 use crate::checks::{check_heap, check_heap_by};
 use crate::cursor::{Entry, Heading};
 use crate::draft::Draft;
@@ -87,13 +87,12 @@ fn finish(alloc: Global, drafted: DraftImage) -> Result<Image, Fault>
     ensures ok { IfOk result (λ i. (bytes : List ℕ) → IsDraftOf bytes drafted → IsTextOf bytes i) }
     ensures err { IfErr result (λ e. (bytes : List ℕ) → IsDraftOf bytes drafted → MayFail bytes e) }
 {
+    let log = check_cards(alloc, &drafted.draft, &drafted.log, &drafted.remembered)?;
     let DraftImage {
         draft,
-        log: cards,
         remembered,
+        ..
     } = drafted;
-    let log = check_log(alloc, &draft, &cards)?;
-    check_remembered(&draft, &remembered)?;
     let heap = Heap {
         geometry: draft.geometry,
         words: draft.words,

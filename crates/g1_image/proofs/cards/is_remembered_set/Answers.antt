@@ -1,4 +1,4 @@
-use Rattle.std.proofs.Common.{◌≡◌, ◌≢◌, ◌<◌, ◌+◌, ◌-◌, true, false, slice_index, inl, inr, refl, sym, ap, subst, ◌∙◌, arith, below_more}
+use Rattle.std.proofs.Common.{◌≡◌, ◌≢◌, ◌<◌, ◌+◌, ◌-◌, ◌*◌, ◌/◌, true, false, slice_index, inl, inr, refl, sym, ap, subst, ◌∙◌, arith, below_more}
 use Rattle.std.specs.Prelude.{IsTrue}
 use Rattle.std.proofs.lemmas.List.{get_or_default}
 use Rattle.std.proofs.lemmas.Bool.{cases_lt}
@@ -25,7 +25,7 @@ returns-then-not-is_used c = (no_truth, λ s. c.if-not-is_used.ensures.1 (s.else
 pub returns-then-region_of_card-from : goal.returns-then-region_of_card-from
 returns-then-region_of_card-from c =
     let h = c.args.draft.now in
-    let place : c.region_of_card.result ≡ region_of_card h (slice_index c.args.cards.now c.loop-i.i) = cc in
+    let place : c.region_of_card.result ≡ region_of_card h (slice_index c.args.cards.now c.loop-i.i) = c.region_of_card.ensures.value ∙ ap (λ g. slice_index c.args.cards.now c.loop-i.i * g.k / g.w) c.geometry-geometry.ensures.same in
     (no_truth, λ s. absurd ((s.elsewhere c.loop-i.i 0 c.loop-i-test.true).1 (sym place ∙ c.if-region_of_card-from.true ∙ c.from.ensures)))
 
 pub returns-then-cards-i : goal.returns-then-cards-i
@@ -53,7 +53,7 @@ pub loop-i-preserved : goal.loop-i-preserved
 loop-i-preserved c =
     let h = c.args.draft.now in
     let cards = c.args.cards.now in
-    let place : c.region_of_card.result ≡ region_of_card h (slice_index c.args.cards.now c.loop-i.i) = cc in
+    let place : c.region_of_card.result ≡ region_of_card h (slice_index c.args.cards.now c.loop-i.i) = c.region_of_card.ensures.value ∙ ap (λ g. slice_index c.args.cards.now c.loop-i.i * g.k / g.w) c.geometry-geometry.ensures.same in
     record {
       rising = λ q lt. elim (cases_lt (q + 1) c.loop-i.i) [
         | inl l ↦ c.loop-i.invariant.rising q l

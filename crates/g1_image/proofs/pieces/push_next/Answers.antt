@@ -59,3 +59,6 @@ loop-left-smaller g c = omega (arith, c.in_ok-here.ensures.count.0, c.in_ok-here
 
 pub returns-clause-known : goal.returns-clause-known
 returns-clause-known g c = c.loop-left.invariant.known
+
+pub pass-requires : goal.pass-requires
+pass-requires g c = c.in_ok-here.ensures.count.2

@@ -1,3 +1,4 @@
+use Rattle.std.proofs.Common.{arith}
 use Rattle.std.proofs.lemmas.Result.{err_from_is_err_and}
 use Rattle.g1_image.specs.Ahead.{waiting}
 use Rattle.g1_image.proofs.Laid.{skipped_none, skipped_more, skipped_all, skipped_fails}
@@ -36,3 +37,12 @@ returns-in_err-here-clause-known g c = c.words_ahead.ensures.known
 
 pub returns-clause-known : goal.returns-clause-known
 returns-clause-known g c = c.loop-left.invariant.known
+
+pub pass-requires : goal.pass-requires
+pass-requires g c = c.in_ok-here.ensures.count.2
+
+pub loop-left-smaller : goal.loop-left-smaller
+loop-left-smaller g c = omega (arith, c.in_ok-here.ensures.count.0, c.in_ok-here.ensures.count.1)
+
+pub overflow_sub-left : goal.overflow_sub-left
+overflow_sub-left g c = c.in_ok-here.ensures.count.1

@@ -1,4 +1,4 @@
-use Rattle.std.proofs.Common.{subst}
+use Rattle.std.proofs.Common.{subst, ap, length, arith}
 use Rattle.std.proofs.lemmas.Result.{err_from_is_err_and}
 use Rattle.g1_image.specs.Ahead.{waiting}
 use Rattle.g1_image.specs.Reading.{IsBytes}
@@ -30,3 +30,12 @@ returns-clause-kept g c = c.in_ok-reach.ensures.ok.kept
 
 pub returns-clause-mark : goal.returns-clause-mark
 returns-clause-mark g c = c.in_ok-reach.ensures.ok.mark
+
+pub reach-requires : goal.reach-requires
+reach-requires g c = record { known = c.requires.known }
+
+pub returns-clause-count : goal.returns-clause-count
+returns-clause-count g c =
+    let same = ap length c.bytes.ensures.same in
+    let some = c.in_ok-reach.ensures.ok.there c.if-not-branch.false in
+    (omega (arith, c.min.ensures, same, some, c.requires.some), omega (arith, c.min.ensures), omega (arith, c.min.ensures, same))

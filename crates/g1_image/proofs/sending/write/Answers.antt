@@ -1,4 +1,4 @@
-use Rattle.std.proofs.Common.{◌≡◌, ◌++◌, Err, refl, subst}
+use Rattle.std.proofs.Common.{◌≡◌, ◌++◌, ◌∙◌, Err, refl, ap, subst}
 use Rattle.std.proofs.KnownBytes.{Keeps-refl}
 use Rattle.std.proofs.lemmas.Result.{err_from_is_err_and}
 use Rattle.g1_words.proofs.Objects.{tops_fit}
@@ -9,6 +9,18 @@ use Rattle.g1_image.specs.Source.{marked}
 use Rattle.g1_image.specs.Sink.{unsent, Sent, SendFails, Writes}
 use Rattle.g1_image.proofs.Sent.{part_written, rest_written, output_told}
 use Rattle.g1_image.proofs.sending.write.Goals as goal
+use Rattle.g1_image.proofs.sending.write.Goals.{After-words}
+use Rattle.g1_image.proofs.sending.write.Given.{Over}
+
+-- the words that are sent are those of the image's heap
+words_are : (g : Over) (c : After-words g) → words_text (used_words c.region_words.result c.regions.result.now c.words.result.now)
+    ≡ words_text (used_words c.args.image.now.heap.geometry.w c.args.image.now.heap.regions c.args.image.now.heap.words)
+words_are g c =
+    let same = c.heap-heap.ensures.same in
+    let width : c.region_words.result ≡ c.args.image.now.heap.geometry.w = c.region_words.ensures.value ∙ ap (λ q. q.w) c.geometry.ensures.same ∙ ap (λ h. h.geometry.w) same in
+    let regions = c.regions.ensures ∙ ap (λ h. h.regions) same in
+    let words = c.words.ensures ∙ ap (λ h. h.words) same in
+    λ t. words_text (used_words (width t) (regions t) (words t))
 
 pub returns-in_err-write_front-clause-text : goal.returns-in_err-write_front-clause-text
 returns-in_err-write_front-clause-text g c =
@@ -33,7 +45,7 @@ returns-in_err-behind-clause-mark g c =
 pub send_used-requires-clause-tops : goal.send_used-requires-clause-tops
 send_used-requires-clause-tops g c =
     let h = c.heap-heap.result.now in
-    let width : c.region_words.result ≡ h.geometry.w = cc in
+    let width : c.region_words.result ≡ h.geometry.w = c.region_words.ensures.value ∙ ap (λ g. g.w) c.geometry.ensures.same in
     rw (width, c.regions.ensures) (tops_fit h c.geometry.ensures.valid)
 
 pub returns-in_err-send_used-clause-text : goal.returns-in_err-send_used-clause-text
@@ -44,7 +56,7 @@ returns-in_err-send_used-clause-text g c =
     let e = c.in_err-send_used.field-0.0 in
     let front = c.write_front.new.out.items in
     let words = words_text (used_words c.region_words.result c.regions.result.now c.words.result.now) in
-    let is : words ≡ words_text (used_words i.heap.geometry.w i.heap.regions i.heap.words) = cc in
+    let is : words ≡ words_text (used_words i.heap.geometry.w i.heap.regions i.heap.words) = words_are g (goal.at.returns-in_err-send_used-clause-text g c).After-words in
     let fails : SendFails old new front words e = subst (λ l. SendFails old new l words e) c.in_ok-behind.ensures c.in_err-send_used.ensures.err in
     let same = err_from_is_err_and c.from_residual-in_err-send_used.result c.from_residual-in_err-send_used.ensures.1 in
     (front ++ words_text (file_of Two i).words, c.in_ok-write_front.ensures, rw (same.1, same.2) (subst (λ l. Writes (front ++ l) old new (Err e)) is (part_written old new front words e fails)))
@@ -57,7 +69,7 @@ returns-clause-text g c =
     let new = g.S.Sink.written c.flush.new.sink in
     let front = c.write_front.new.out.items in
     let words = words_text (used_words c.region_words.result c.regions.result.now c.words.result.now) in
-    let is : words ≡ words_text (used_words i.heap.geometry.w i.heap.regions i.heap.words) = cc in
+    let is : words ≡ words_text (used_words i.heap.geometry.w i.heap.regions i.heap.words) = words_are g (goal.at.returns-clause-text g c).After-words in
     let sent : Sent old between front words (unsent c.send_used.new.behind) =
     subst (λ l. Sent old between l words (unsent c.send_used.new.behind)) c.in_ok-behind.ensures c.in_ok-send_used.ensures.ok in (
       front ++ words_text (file_of Two i).words,

@@ -17,9 +17,9 @@ returns-then-before-size c = λ shaped. never (λ s.
 pub returns : goal.returns
 returns c = λ shaped.
     let h = c.args.draft.now in
-    let w : c.region_words-region_words.result ≡ h.geometry.w = cc in
+    let w : c.region_words-region_words.result ≡ h.geometry.w = c.region_words-region_words.ensures.value ∙ ap (λ g. g.w) c.geometry-geometry.ensures.same in
     let e : c.start-before.result ≡ (c.args.r - c.args.first) * h.geometry.w = c.start-before.ensures.value ∙ ap (λ g. (c.args.r - c.args.first) * g.w) c.geometry-geometry.ensures.same in
-    let top : c.from-top.result ≡ (region h c.args.r).top = cc in
+    let top : c.from-top.result ≡ (region h c.args.r).top = c.from-top.ensures ∙ ap (λ x. x.top) c.region.ensures in
     let least : c.min.result ≡ min h.geometry.w (c.args.size - (c.args.r - c.args.first) * h.geometry.w) = omega (arith, c.min.ensures, e, w) in (
       (λ t. continued_by h c.args.r c.args.first c.args.size (c.requires.latest shaped) shaped (omega arith) (omega (arith, e, c.if-before-size.false))
           (sym top ∙ eqb-true c.from-top.result c.min.result t ∙ least)),

@@ -13,7 +13,7 @@ returns c =
 
 pub region-requires : goal.region-requires
 region-requires c =
-    let n : c.regions-regions.result ≡ c.args.draft.now.geometry.n = cc in
+    let n : c.regions-regions.result ≡ c.args.draft.now.geometry.n = c.regions-regions.ensures.value ∙ ap (λ g. g.n) c.geometry-geometry.ensures.same in
     omega (arith, n, c.if-r-i.false)
 
 pub loop-geometry-smaller : goal.loop-geometry-smaller

@@ -1,8 +1,8 @@
-use Rattle.std.proofs.Common.{◌≡◌, ℕ, ◌<◌, ◌≤◌, ◌+◌, ◌*◌, length, arith, ap, ◌∙◌}
+use Rattle.std.proofs.Common.{◌≡◌, refl, true, false, ℕ, ◌<◌, ◌≤◌, ◌+◌, ◌*◌, length, arith, ap, ◌∙◌}
 use Rattle.std.proofs.Math.Nat.{mul-le-mul_right}
 use Rattle.g1_words.specs.Heap.{region, start, end}
 use Rattle.g1_image.proofs.Tests.{never}
-use Rattle.g1_image.proofs.Rows.{marked_as}
+use Rattle.g1_image.proofs.Rows.{marked_as, next_start}
 use Rattle.g1_image.proofs.shape.mark_ordinary.Goals as goal
 
 pub returns-clause-marked : goal.returns-clause-marked
@@ -45,3 +45,37 @@ mark_row-requires-clause-sizes c =
     let ends = row_end g.n g.w c.args.r c.start-start.result c.from-top.result c.region_words.result c.requires.there (c.start-start.ensures.value ∙ ap (λ q. c.args.r * q.w) same)
     (c.region_words.ensures.value ∙ ap (λ q. q.w) same) c.if-top-region_words.false in
     omega (arith, ends, c.words.ensures.draft.limits.words_most)
+
+pub region-requires : goal.region-requires
+region-requires c = c.requires.there
+
+pub mark_row-requires-clause-order : goal.mark_row-requires-clause-order
+mark_row-requires-clause-order c = omega arith
+
+pub mark_row-requires-clause-below : goal.mark_row-requires-clause-below
+mark_row-requires-clause-below c =
+    let from : c.start-start.result ≡ start c.args.draft.now c.args.r = c.start-start.ensures.value ∙ ap (λ g. c.args.r * g.w) c.geometry-geometry.ensures.same in
+    omega (arith, from, c.requires.below)
+
+pub mark_row-requires-clause-above : goal.mark_row-requires-clause-above
+mark_row-requires-clause-above c =
+    let h = c.args.draft.now in
+    let r = c.args.r in
+    let from : c.start-start.result ≡ start h r = c.start-start.ensures.value ∙ ap (λ g. r * g.w) c.geometry-geometry.ensures.same in
+    let w : c.region_words.result ≡ h.geometry.w = c.region_words.ensures.value ∙ ap (λ g. g.w) c.geometry-geometry.ensures.same in
+    omega (arith, from, w, next_start h r (r + 1) (omega arith), c.if-top-region_words.false, c.requires.above)
+
+pub returns-then-top-eq0-clause-marked : goal.returns-then-top-eq0-clause-marked
+returns-then-top-eq0-clause-marked c t = let e : false ≡ true = t in cc
+
+pub returns-then-top-eq0-clause-size : goal.returns-then-top-eq0-clause-size
+returns-then-top-eq0-clause-size c = refl
+
+pub returns-then-top-region_words-clause-marked : goal.returns-then-top-region_words-clause-marked
+returns-then-top-region_words-clause-marked c t = let e : false ≡ true = t in cc
+
+pub returns-then-top-region_words-clause-size : goal.returns-then-top-region_words-clause-size
+returns-then-top-region_words-clause-size c = refl
+
+pub returns-clause-size : goal.returns-clause-size
+returns-clause-size c = c.mark_row.ensures.size

@@ -2,6 +2,7 @@ use Rattle.std.proofs.Common.{◌≡◌, ◌≤◌, ◌+◌, ◌*◌, ◌^◌, a
 use Rattle.std.proofs.Math.Nat.{mul-le-mul_right}
 use Rattle.std.proofs.lemmas.List.{length-replicate}
 use Rattle.std.specs.Prelude.{Bool}
+use Rattle.std.proofs.lemmas.Result.{err_from_is_err_and}
 use Rattle.g1_words.specs.Heap.{region, start}
 use Rattle.g1_words.specs.Valid.{IsShaped}
 use Rattle.g1_words.specs.declared.object.Object.{Object}
@@ -93,7 +94,7 @@ loop-r-preserved c =
       latest = λ shaped. elim c.if-is_humongous_first.branch [
         | then-is_humongous_first w ↦
             let q : Object = w.header-size.result in
-            let place : w.start-then-is_humongous_first.result ≡ start h r = cc in
+            let place : w.start-then-is_humongous_first.result ≡ start h r = w.start-then-is_humongous_first.ensures.value ∙ ap (λ g. r * g.w) c.geometry-geometry.ensures.same in
             let kind : (region h r).kind ≡ HumongousFirst = sym (ap (λ q. q.kind) c.region.ensures) ∙ c.is_humongous_first.ensures.0 w.if-is_humongous_first.true in
             let word : slice_index h.words (start h r) ≡ q.size * 2 ^ 32 + q.refs = sym (λ t. slice_index (w.words.ensures.same t) (place t)) ∙ w.header-size.ensures.word in
             let l : Latest h (r + 1) r q.size = Latest-first h r q (w.header-size.ensures.at ∙ place) word w.header-size.ensures.refs w.header-size.ensures.size (good shaped) kind in
@@ -106,3 +107,17 @@ loop-r-preserved c =
       marks = Marks-more h c.args.from r c.start-base.result c.loop-r.marks c.mark_region.new.marks (omega (arith, c.loop-r.auto.r)) c.loop-r.invariant.marks (c.if-not-mark_region.ensures.marked refl);
       count = omega (arith, c.loop-r.invariant.count, c.mark_region.ensures.size);
     }
+
+pub loop-r-smaller : goal.loop-r-smaller
+loop-r-smaller c = omega (arith, c.loop-r-test.true)
+
+pub mark_region-requires-clause-there : goal.mark_region-requires-clause-there
+mark_region-requires-clause-there c = omega (arith, c.loop-r-test.true, c.requires.regions)
+
+pub region-requires : goal.region-requires
+region-requires c = omega (arith, c.loop-r-test.true, c.requires.regions)
+
+pub returns-in_err-marks-clause-memory : goal.returns-in_err-marks-clause-memory
+returns-in_err-marks-clause-memory c =
+    let left = err_from_is_err_and c.from_residual.result c.from_residual.ensures.1 in
+    rw (left.1, left.2) refl

@@ -1,4 +1,4 @@
-use Rattle.std.proofs.Common.{map, refl, subst, ◌∙◌, arith}
+use Rattle.std.proofs.Common.{map, length, ap, refl, subst, ◌∙◌, arith}
 use Rattle.std.proofs.KnownBytes.{Keeps-refl, Keeps-trans}
 use Rattle.std.proofs.lemmas.Result.{err_from_is_err_and}
 use Rattle.g1_image.specs.Ahead.{waiting}
@@ -44,3 +44,30 @@ returns-then-not-more-clause-err g c =
       | then-not-more-via-then-not-more t ↦ at_end l w (λ b. FaultOf b e) (c.in_ok-more.ensures.ok.ended t.if-not-more.true).0 f
       | then-not-more-via-else-not-more+then-is_final t ↦ whatever_follows l w (λ b. FaultOf b e) (λ ys. t.is_final.ensures t.if-is_final.true w ys f)
     ])
+
+pub loop-more-smaller : goal.loop-more-smaller
+loop-more-smaller g c = omega (arith, c.in_ok-more.ensures.ok.there c.if-not-more.false, c.len-wanted.ensures.value, c.len-wanted.ensures.bound, c.loop-more.invariant.some)
+
+pub overflow_mul-wanted : goal.overflow_mul-wanted
+overflow_mul-wanted g c = omega (arith, c.len-wanted.ensures.bound)
+
+pub reach-requires : goal.reach-requires
+reach-requires g c = record { known = c.loop-more.invariant.known }
+
+pub pass-requires : goal.pass-requires
+pass-requires g c = omega (arith, c.in-Ok.ensures.count, ap length c.bytes.ensures.same)
+
+pub returns-in-Ok-clause-known : goal.returns-in-Ok-clause-known
+returns-in-Ok-clause-known g c = c.pass.ensures.end (g.S.Source.left c.reach.new.source) c.reach.ensures.known
+
+pub returns-in-Ok-clause-mark : goal.returns-in-Ok-clause-mark
+returns-in-Ok-clause-mark g c = c.in_ok-more.ensures.ok.mark ∙ c.loop-more.invariant.mark
+
+pub returns-in-Ok-clause-ok : goal.returns-in-Ok-clause-ok
+returns-in-Ok-clause-ok g c = c.in-Ok.ensures.ok
+
+pub returns-in_err-more-clause-known : goal.returns-in_err-more-clause-known
+returns-in_err-more-clause-known g c = c.reach.ensures.known
+
+pub returns-then-not-more-clause-known : goal.returns-then-not-more-clause-known
+returns-then-not-more-clause-known g c = c.reach.ensures.known

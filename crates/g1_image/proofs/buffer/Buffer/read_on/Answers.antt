@@ -1,4 +1,6 @@
-use Rattle.std.proofs.Common.{rules, ◌≡◌, ◌≤◌, ◌+◌, ◌-◌, ◌++◌, length, take, slice_range, sym, ap, subst, ◌∙◌, ◌<◌, arith, length-append, length-take-le}
+use Rattle.std.proofs.Common.{rules, false, true, refl, ◌≡◌, ◌≤◌, ◌+◌, ◌-◌, ◌++◌, length, take, slice_range, sym, ap, subst, ◌∙◌, ◌<◌, arith, length-append, length-take-le}
+use Rattle.g1_image.specs.declared.buffer.Buffer.{Buffer}
+use Rattle.std.proofs.KnownBytes.{Keeps-refl}
 use Rattle.std.specs.Vec.{with_items}
 use Rattle.std.proofs.lemmas.List.{with_items_is, places}
 use Rattle.std.proofs.lemmas.Result.{err_from_is_err_and}
@@ -10,7 +12,7 @@ use Rattle.g1_image.specs.Buffer.{buffered}
 use Rattle.g1_image.proofs.Taken.{read_behind, keeps_read}
 use Rattle.g1_image.proofs.buffer.Buffer.read_on.Goals as goal
 use Rattle.g1_image.proofs.buffer.Buffer.read_on.Given.{Over}
-use Rattle.g1_image.proofs.buffer.Buffer.read_on.Goals.{In_ok-count, then-self-gt0, else-self-gt0}
+use Rattle.g1_image.proofs.buffer.Buffer.read_on.Goals.{In_ok-count, After-grow, then-self-gt0, else-self-gt0}
 
 -- what waits after the read: what waited before it, and what was read
 waits : (g : Over) (c : In_ok-count g) →
@@ -70,3 +72,39 @@ pub returns-in_err-count-clause-err : goal.returns-in_err-count-clause-err
 returns-in_err-count-clause-err g c =
     let left = err_from_is_err_and c.from_residual-in_err-count.result c.from_residual-in_err-count.ensures.1 in
     rw (left.1, left.2) (subst (λ e. ReadFails (g.S.Source.failed c.args.source.now) (g.S.Source.failed c.read.new.self) e) (sym c.in_err-count.ensures.fault) c.in_err-count.ensures.mark)
+
+pub returns-clause-mark : goal.returns-clause-mark
+returns-clause-mark g c = c.in_ok-count.ensures.mark
+
+-- a source that was not seen to end before is not seen to by what comes before the read
+not_ended : (g : Over) (c : After-grow g) → c.grow.new.self.ended ≡ false
+not_ended g c = c.grow.ensures.end ∙ elim c.if-self-gt0.branch [
+  | then-self-gt0 w ↦ ap (λ (b : Buffer). b.ended) w.self-is ∙ w.move_to_front.ensures.end
+  | else-self-gt0 w ↦ ap (λ (b : Buffer). b.ended) w.self-is
+] ∙ c.if-self.false
+
+pub returns-in_err-count-clause-known : goal.returns-in_err-count-clause-known
+returns-in_err-count-clause-known g c = λ t. let clash : false ≡ true = sym (not_ended g (goal.at.returns-in_err-count-clause-known g c).After-grow) ∙ t in cc
+
+pub returns-in_err-grow-clause-known : goal.returns-in_err-grow-clause-known
+returns-in_err-grow-clause-known g c = λ t. let clash : false ≡ true = sym (not_ended g (goal.at.returns-in_err-grow-clause-known g c).After-grow) ∙ t in cc
+
+pub returns-in_err-grow-clause-err : goal.returns-in_err-grow-clause-err
+returns-in_err-grow-clause-err g c =
+    let left = err_from_is_err_and c.from_residual.result c.from_residual.ensures.1 in
+    rw (left.1, left.2) refl
+
+pub returns-then-self-clause-known : goal.returns-then-self-clause-known
+returns-then-self-clause-known g c = c.requires.known
+
+pub returns-then-self-clause-kept : goal.returns-then-self-clause-kept
+returns-then-self-clause-kept g c = Keeps-refl _
+
+pub returns-then-self-clause-more : goal.returns-then-self-clause-more
+returns-then-self-clause-more g c = λ t. let clash : false ≡ true = t in cc
+
+pub returns-then-self-clause-end : goal.returns-then-self-clause-end
+returns-then-self-clause-end g c = λ _. (c.requires.known c.if-self.true, refl)
+
+pub returns-then-self-clause-mark : goal.returns-then-self-clause-mark
+returns-then-self-clause-mark g c = refl

@@ -1,11 +1,12 @@
-use Rattle.std.proofs.Common.{◌≡◌, ◌≤◌, ◌+◌, ◌*◌, inr, arith, refl, slice_index, sym, ap, subst, length, ◌∙◌}
+use Rattle.std.proofs.Common.{◌≡◌, ◌≤◌, ◌+◌, ◌*◌, inl, inr, arith, refl, slice_index, sym, ap, subst, length, ◌∙◌}
 use Rattle.std.specs.Prelude.{Ok, Err}
+use Rattle.std.proofs.lemmas.Result.{err_from_is_err_and}
 use Rattle.std.proofs.Math.Nat.{mul-le-mul_right}
 use Rattle.g1_image.specs.Draft.{ShapedBelow}
 use Rattle.g1_image.specs.Marks.{StartsOf}
 use Rattle.g1_image.specs.Shapes.{IsShapedRange}
 use Rattle.g1_image.proofs.Rows.{StartsOf-all}
-use Rattle.g1_image.proofs.ShapedRanges.{StartsOf-append, part_at}
+use Rattle.g1_image.proofs.ShapedRanges.{StartsOf-none, StartsOf-append, part_at}
 use Rattle.g1_image.proofs.starts.Shaping.join.Goals as goal
 use Rattle.g1_image.proofs.starts.Shaping.join.Goals.{In-Ok, In-Err}
 
@@ -55,3 +56,25 @@ returns c =
     let all : slice_index begins c.loop-part.part-index ≡ h.geometry.n = ap (slice_index begins) last ∙ c.requires.cut.cut.last in
     let shaped : ShapedBelow h h.geometry.n = subst (ShapedBelow h) all c.loop-part.invariant.shaped in
     record { ok = record { starts = StartsOf-all h c.loop-part.marks shaped (subst (λ x. StartsOf h 0 x c.loop-part.marks) all c.loop-part.invariant.starts); shaped = shaped }; err = tt }
+
+pub loop-part-init : goal.loop-part-init
+loop-part-init c =
+    let h = c.args.self.now.draft.now in
+    let first : slice_index c.args.self.now.begins.now 0 ≡ 0 = c.requires.cut.cut.first in
+    record {
+      starts = subst (λ x. StartsOf h 0 x c.in_ok-marks.marks) (sym first) (subst (StartsOf h 0 0) (sym c.in_ok-marks.ensures) (StartsOf-none h 0));
+      shaped = λ q lt. absurd (omega (arith, first, lt));
+    }
+
+pub loop-part-smaller : goal.loop-part-smaller
+loop-part-smaller c = omega (arith, c.loop-part-test.true)
+
+pub returns-in_err-marks-clause-err : goal.returns-in_err-marks-clause-err
+returns-in_err-marks-clause-err c =
+    let left = err_from_is_err_and c.from_residual.result c.from_residual.ensures.1 in
+    rw (left.1, left.2) (inl refl)
+
+pub returns-in_err-append-in-Ok-clause-err : goal.returns-in_err-append-in-Ok-clause-err
+returns-in_err-append-in-Ok-clause-err c =
+    let left = err_from_is_err_and c.from_residual-in_err-append-in-Ok.result c.from_residual-in_err-append-in-Ok.ensures.1 in
+    rw (left.1, left.2) (inl refl)
