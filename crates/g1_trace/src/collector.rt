@@ -61,14 +61,18 @@ pub(crate) fn pause<R: Threads + Sync, G: Gate + Sync>(
     ensures same { IfErr result.1 (λ e. result.0 ≡ tracked) }
 {
     let (workers, chunk) = (collector.team.workers(), collector.team.chunk());
-    let settings = Settings::new(workers, chunk, collector.cost, Choice::Budget(budget)).unwrap();
-    match evacuate(
-        collector.rt,
-        collector.alloc,
-        tracked,
-        &settings,
-        collector.gate,
-    ) {
+    let evacuated = {
+        let choice = Choice::Budget(budget);
+        let settings = Settings::new(workers, chunk, collector.cost, choice).unwrap();
+        evacuate(
+            collector.rt,
+            collector.alloc,
+            tracked,
+            &settings,
+            collector.gate,
+        )
+    };
+    match evacuated {
         Ok((tracked, _report)) => (tracked, Ok(Reply::Ok)),
         Err((tracked, fault)) => match fault {
             Fault::Memory => (tracked, Err(Fault::Memory)),

@@ -1,7 +1,7 @@
 use crate::command::Reply;
 
 /// What a command does to a store. A reference is 0 (null) or an object and 1.
-#[derive(Debug, Clone, Copy, PartialEq, Eq)]
+#[derive(Clone, Copy)]
 pub enum Effect {
     /// Nothing.
     Nothing,
@@ -18,7 +18,7 @@ pub enum Effect {
 }
 
 /// What a command replies and does if there is place.
-#[derive(Debug, Clone, Copy, PartialEq, Eq)]
+#[derive(Clone, Copy)]
 pub struct Answer {
     pub reply: Reply,
     pub effect: Effect,

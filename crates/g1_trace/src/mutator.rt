@@ -220,25 +220,4 @@ impl Mutator {
         let (tracked, outcome) = carry_out(collector, tracked, told);
         (Mutator { tracked }, outcome)
     }
-
-    /// The mutator after a command, and the reply.
-    ///
-    /// # Errors
-    ///
-    /// `Fault::Memory`.
-    pub(crate) fn advance<R: Threads + Sync, G: Gate + Sync>(
-        self,
-        command: &Command,
-        collector: &Collector<'_, R, G>,
-    ) -> Result<(Mutator, Reply), Fault>
-        ensures tracked { IfOk result (λ r. IsTracked self) }
-        ensures replied { IfOk result (λ r. IsStep collector.now.cost self command.now r.1 r.0) }
-        ensures memory { IfErr result (λ e. e ≡ Fault.Memory) }
-    {
-        let (mutator, outcome) = self.execute(command, collector);
-        match outcome {
-            Ok(reply) => Ok((mutator, reply)),
-            Err(fault) => Err(fault),
-        }
-    }
 }

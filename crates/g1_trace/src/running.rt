@@ -50,9 +50,14 @@ fn answer_command<R: Threads + Sync, G: Gate + Sync>(
     ensures answered { IfOk result (λ m. (reply : ReplyOf) × IsStep collector.now.cost mutator command.now reply m × (replies.new.items ≡ replies.old.items ++ reply ∷ [])) }
     ensures memory { IfErr result (λ e. e ≡ Fault.Memory) }
 {
-    let (next, reply) = mutator.advance(command, collector)?;
-    replies.push(reply)?;
-    Ok(next)
+    let (next, outcome) = mutator.execute(command, collector);
+    match outcome {
+        Ok(reply) => {
+            replies.push(reply)?;
+            Ok(next)
+        }
+        Err(fault) => Err(fault),
+    }
 }
 
 /// The replies to a trace, one a command.

@@ -95,9 +95,14 @@ fn answer_line<'a, R: Threads + Sync, G: Gate + Sync>(
         Ok(read) => read,
         Err(fault) => return Err(fault),
     };
-    let (next, reply) = mutator.advance(&command, collector)?;
-    push_reply(text, reply)?;
-    Ok((next, more))
+    let (next, outcome) = mutator.execute(&command, collector);
+    match outcome {
+        Ok(reply) => {
+            push_reply(text, reply)?;
+            Ok((next, more))
+        }
+        Err(fault) => Err(fault),
+    }
 }
 
 /// The replies to the trace whose text the bytes are, a line each. Each line is read, done and

@@ -1,10 +1,10 @@
-use Rattle.std.proofs.Common.{◌≡◌, ◌+◌, Some, None, inl, refl, sym, ◌∙◌, ap, subst, arith}
+use Rattle.std.proofs.Common.{◌≡◌, ◌+◌, Some, None, inl, inr, refl, sym, ◌∙◌, ap, subst, arith, rules}
 use Rattle.g1_words.specs.Heap.{Heap}
 use Rattle.g1_image.specs.Image.{Image}
-use Rattle.g1_trace.specs.declared.command.Reply.TheVariants.{Full}
+use Rattle.g1_trace.specs.declared.command.Reply.TheVariants.{Full, Ok as Done}
 use Rattle.g1_trace.specs.Commands.{Effect, SetRoot, SetSlot}
 use Rattle.g1_trace.specs.Mutator.{heap_view, place_for, IsEffect}
-use Rattle.g1_trace.specs.Views.{EffectFits}
+use Rattle.g1_trace.specs.Views.{EffectFits, ForPause}
 use Rattle.g1_trace.proofs.Carrying.{slot_inside, slot_small, slot_kept}
 use Rattle.g1_trace.proofs.KeptTracked.{root_tracked}
 use Rattle.g1_trace.proofs.NewKept.{new_tracked}
@@ -95,3 +95,16 @@ returns-in-None-clause-done g c =
     sym (c.place_for-place.ensures ∙ ap (λ (h : Heap). place_for h (1 + c.in-MakeNew.refs + c.in-MakeNew.words)) (c.heap.ensures.same
     ∙ ap (λ (x : Image). x.heap) c.image.ensures.same)) ∙ c.in-None.is in
     subst (λ (e : Effect). IsEffect c.args.collector.now.cost i e c.args.told.reply Full i) (sym c.in-MakeNew.is) (inl (found, refl, refl))
+
+pub returns-in-MakePause-clause-done : goal.returns-in-MakePause-clause-done
+returns-in-MakePause-clause-done g c =
+    let told : c.args.told.reply ≡ Done = subst (λ (e : Effect). ForPause e (c.args.told.reply ≡ Done)) c.in-MakePause.is c.requires.paused in
+    rw (c.in-MakePause.is, told) (search rules)
+
+pub returns-in-Some-clause-done : goal.returns-in-Some-clause-done
+returns-in-Some-clause-done g c =
+    let found : place_for c.args.tracked.heap (1 + c.in-MakeNew.refs + c.in-MakeNew.words) ≡ Some c.in-Some.r =
+    sym (c.place_for-place.ensures ∙ ap (λ (h : Heap). place_for h (1 + c.in-MakeNew.refs + c.in-MakeNew.words)) (c.heap.ensures.same
+    ∙ ap (λ (x : Image). x.heap) c.image.ensures.same)) ∙ c.in-Some.is in
+    subst (λ (e : Effect). IsEffect c.args.collector.now.cost c.args.tracked e c.args.told.reply c.args.told.reply c.place_object.new.tracked) (sym c.in-MakeNew.is)
+    (inr (c.in-Some.r, found, refl, c.place_object.ensures))

@@ -1,4 +1,4 @@
-use Rattle.std.proofs.Common.{◌≡◌, ◌+◌, ◌-◌, ◌*◌, ℕ, List, get_or, take, arith, below_more}
+use Rattle.std.proofs.Common.{◌≡◌, ◌+◌, ◌-◌, ◌*◌, ℕ, List, get_or, take, refl, arith, below_more}
 use Rattle.g1_trace.specs.Lines.{read_on}
 use Rattle.g1_trace.proofs.Numerals.{read_more, none_large}
 use Rattle.g1_trace.proofs.parsing.leading_digits.Goals as goal
@@ -21,3 +21,18 @@ loop-i-preserved c =
       value = omega (arith, e, v, c.from.ensures, c.in-Some.ensures.some);
       fits = c.in-Some.ensures.fits;
     }
+
+pub overflow_sub-b : goal.overflow_sub-b
+overflow_sub-b c = omega arith
+
+pub returns-then-b-lt48-clause-within : goal.returns-then-b-lt48-clause-within
+returns-then-b-lt48-clause-within c = omega arith
+
+pub bounds-bytes-i : goal.bounds-bytes-i
+bounds-bytes-i c = c.loop-i-test.true
+
+pub returns-then-b-lt48-clause-value : goal.returns-then-b-lt48-clause-value
+returns-then-b-lt48-clause-value c = c.loop-i.invariant.value
+
+pub loop-i-init : goal.loop-i-init
+loop-i-init c = record { digits = λ k lt. absurd (omega (arith, lt)); value = refl; fits = omega arith }
