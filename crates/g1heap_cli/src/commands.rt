@@ -53,9 +53,7 @@ pub fn program<T: Threads + Sync + Files, R: Read, W: Write, E: Write>(
 
 // What a call asks for, if it may.
 fn read_call(alloc: Global, call: Call<'_>) -> Result<Request, Refusal> {
-    let request = parse(alloc, call.words)?;
-    allow(alloc, call.terminals, &request)?;
-    Ok(request)
+    allow(alloc, call.terminals, parse(alloc, call.words)?)
 }
 
 // Does what is asked, and returns the status.
@@ -69,7 +67,8 @@ fn answer<T: Threads + Sync + Files, R: Read, W: Write>(
     match request {
         Request::Help(text) => Ok(deliver_text(0, text.as_bytes(), writer)?),
         Request::Same(same) => {
-            let (status, text) = compare_files(rt, alloc, same, reader)?;
+            let mut text = String::new(alloc);
+            let status = compare_files(rt, alloc, same, reader, &mut text)?;
             Ok(deliver_text(status, text.as_bytes(), writer)?)
         }
         Request::Print {

@@ -1,6 +1,7 @@
 //! What two heaps show, in one line.
 use crate::names::Names;
 use crate::naming::{push_named_data, push_named_object, push_named_path};
+use crate::places::value_at;
 use crate::reaching::Path;
 use g1_same::{Difference, How, Renaming};
 use g1_words::{Heap, Object, header, object_at, region_of};
@@ -20,67 +21,73 @@ pub struct Sides<'a> {
 }
 
 /// The line that says how much is reached if two heaps show the same graph.
-pub fn same_line(alloc: Global, before: &Heap, renaming: &Renaming) -> Result<String, AllocError> {
+pub fn push_same_line(
+    text: &mut String,
+    before: &Heap,
+    renaming: &Renaming,
+) -> Result<(), AllocError> {
     let objects = renaming.before.len();
     let mut words = 0u64;
     for address in renaming.before.iter() {
-        let size = object_in(before, *address).map_or(0, |object| object.size);
-        words = words.saturating_add(size);
+        if let Some(object) = object_in(before, *address) {
+            words = words.saturating_add(object.size);
+        }
     }
-    format!(in alloc; "same objects {objects} words {words}\n")
+    write!(text, "same objects {objects} words {words}\n")
 }
 
 /// The line that says where two heaps differ: the path from a root, what is there, and how it
 /// differs.
-pub fn difference_line(
+pub fn push_difference_line(
     alloc: Global,
+    text: &mut String,
     sides: Sides<'_>,
     difference: &Difference,
-) -> Result<String, AllocError> {
+) -> Result<(), AllocError> {
     match difference {
         Difference::Roots { before, after } => {
-            format!(in alloc; "differ roots: {before} before, {after} after\n")
+            write!(text, "differ roots: {before} before, {after} after\n")
         }
         Difference::At { root, slots, how } => {
-            how_line(alloc, sides, *root, slots.as_slice(), how)
+            push_how_line(alloc, text, sides, *root, slots.as_slice(), how)
         }
     }
 }
 
 /// The line of a path that leads to words which disagree like this.
-pub fn how_line(
+pub fn push_how_line(
     alloc: Global,
+    text: &mut String,
     sides: Sides<'_>,
     root: u64,
     slots: &[u64],
     how: &How,
-) -> Result<String, AllocError> {
+) -> Result<(), AllocError> {
     let kind = kind_word(how);
-    let mut text = format!(in alloc; "differ {kind} at ")?;
-    push_path(alloc, &mut text, sides, root, slots)?;
+    write!(text, "differ {kind} at ")?;
+    push_path(alloc, text, sides, root, slots)?;
     let old = word_at_path(sides.before, root, slots);
     let new = word_at_path(sides.after, root, slots);
-    push_before(&mut text, sides, old)?;
-    push_after(&mut text, sides, new)?;
-    push_detail(&mut text, sides, how, old, new)?;
-    text.push('\n')?;
-    Ok(text)
+    push_before(text, sides, old)?;
+    push_after(text, sides, new)?;
+    push_detail(text, sides, how, old, new)?;
+    text.push('\n')
 }
 
 /// The line of a path that leads to a stale word, which is null in the heap after.
-pub fn stale_line(
+pub fn push_stale_line(
     alloc: Global,
+    text: &mut String,
     sides: Sides<'_>,
     path: &Path,
     word: u64,
-) -> Result<String, AllocError> {
-    let Path { root, slots } = path;
-    let mut text = String::from_str(alloc, "differ stale at ")?;
-    push_path(alloc, &mut text, sides, *root, slots.as_slice())?;
-    let old = word_at_path(sides.before, *root, slots.as_slice());
-    push_before(&mut text, sides, old)?;
-    push_stale(&mut text, sides, old, word)?;
-    Ok(text)
+) -> Result<(), AllocError> {
+    let (root, slots) = (path.root, path.slots.as_slice());
+    text.push_str("differ stale at ")?;
+    push_path(alloc, text, sides, root, slots)?;
+    let old = word_at_path(sides.before, root, slots);
+    push_before(text, sides, old)?;
+    push_stale(text, sides, old, word)
 }
 
 // A stale word, by name if the file after has names.
@@ -102,18 +109,13 @@ fn push_stale_name(
 ) -> Result<(), AllocError> {
     let place = word.saturating_sub(1) as usize;
     let name = match sides.stale_names {
-        Some(names) => names.get(place).copied(),
-        None => None,
+        Some(names) => names.get(place).copied().unwrap_or("-"),
+        None => "-",
     };
-    let was = old
-        .checked_sub(1)
-        .and_then(|address| label(sides.labels[0], address));
-    let still = if was.is_some() && was == name {
-        "still is"
-    } else {
-        "is"
+    let still = match old.checked_sub(1) {
+        Some(address) if label(sides.labels[0], address) == Some(name) => "still is",
+        _ => "is",
     };
-    let name = name.unwrap_or("-");
     write!(
         text,
         "; the word {still} {name}, which no object after has\n"
@@ -136,15 +138,15 @@ fn push_stale_word(
     };
     let kind = found.kind;
     write!(text, "in region {region}, {kind} after")?;
-    if let Some(old) = old {
-        let what = match object_at(sides.before, address) {
-            Some(_) if word == old => "the object was before",
-            Some(_) => "another object was before",
-            None => "no object starts",
-        };
-        write!(text, ", where {what}")?;
-    }
-    text.push('\n')
+    let Some(old) = old else {
+        return text.push('\n');
+    };
+    let what = match object_at(sides.before, address) {
+        Some(_) if word == old => "the object was before",
+        Some(_) => "another object was before",
+        None => "no object starts",
+    };
+    write!(text, ", where {what}\n")
 }
 
 /// What `differ` says of a kind of difference.
@@ -187,12 +189,15 @@ fn push_before(text: &mut String, sides: Sides<'_>, word: u64) -> Result<(), All
 
 fn push_after(text: &mut String, sides: Sides<'_>, word: u64) -> Result<(), AllocError> {
     push_word(text, ", ", sides.labels[1], word)?;
-    if let Some(names) = sides.names {
-        if let Some(name) = first_data(sides.after, word).and_then(|label| names.label(label)) {
-            write!(text, " ({name})")?;
-        }
+    if let Some(name) = type_after(sides, word) {
+        write!(text, " ({name})")?;
     }
     text.push_str(" after")
+}
+
+// The type of the object after that a word references, by its first data word.
+fn type_after<'a>(sides: Sides<'a>, word: u64) -> Option<&'a str> {
+    sides.names?.label(first_data(sides.after, word)?)
 }
 
 type Labels<'a> = Option<&'a [(u64, &'a str)]>;
@@ -222,12 +227,7 @@ fn push_object(text: &mut String, labels: Labels<'_>, address: u64) -> Result<()
 }
 
 fn label<'a>(labels: Labels<'a>, address: u64) -> Option<&'a str> {
-    let labels = labels?;
-    let below = labels.partition_point(|(at, _)| *at < address);
-    match labels.get(below) {
-        Some((at, name)) if *at == address => Some(*name),
-        _ => None,
-    }
+    value_at(labels?, address)
 }
 
 // How two words at one place disagree.
@@ -238,49 +238,45 @@ fn push_detail(
     old: u64,
     new: u64,
 ) -> Result<(), AllocError> {
+    let [old_names, new_names] = sides.labels;
     match how {
         How::NullBefore => Ok(()),
         How::NullAfter => Ok(()),
-        How::Split {
-            object,
-            first,
-            second: _,
-        } => push_met(text, sides, (*object, 0), (*first, 1)),
-        How::Joined {
-            first,
-            second: _,
-            object,
-        } => push_met(text, sides, (*object, 1), (*first, 0)),
+        How::Split { object, first, .. } => {
+            push_met(
+                text,
+                (old_names, *object, "before"),
+                (new_names, *first, "after"),
+            )
+        }
+        How::Joined { object, first, .. } => {
+            push_met(
+                text,
+                (new_names, *object, "after"),
+                (old_names, *first, "before"),
+            )
+        }
         How::Size { before, after } => push_numbers(text, "size", *before, *after),
         How::Slots { before, after } => push_numbers(text, "slots", *before, *after),
         How::Data { word } => push_data(text, sides, *word, old, new),
     }
 }
 
-const WHEN: [&str; 2] = ["before", "after"];
+// The names of a side, the address of an object of it, and which side it is.
+type Met<'a> = (Labels<'a>, u64, &'a str);
 
 // An object that an earlier path leads to, each with the side that it is of.
-fn push_met(
-    text: &mut String,
-    sides: Sides<'_>,
-    object: (u64, usize),
-    first: (u64, usize),
-) -> Result<(), AllocError> {
+fn push_met(text: &mut String, object: Met<'_>, first: Met<'_>) -> Result<(), AllocError> {
     text.push_str("; ")?;
-    push_of_side(text, sides, object)?;
+    push_of_side(text, object)?;
     text.push_str(" is ")?;
-    push_of_side(text, sides, first)?;
+    push_of_side(text, first)?;
     text.push_str(" on an earlier path")
 }
 
-fn push_of_side(
-    text: &mut String,
-    sides: Sides<'_>,
-    object: (u64, usize),
-) -> Result<(), AllocError> {
-    let (address, side) = object;
-    push_object(text, sides.labels.get(side).copied().flatten(), address)?;
-    let when = WHEN.get(side).copied().unwrap_or("");
+fn push_of_side(text: &mut String, object: Met<'_>) -> Result<(), AllocError> {
+    let (labels, address, when) = object;
+    push_object(text, labels, address)?;
     write!(text, " {when}")
 }
 
@@ -344,6 +340,14 @@ pub fn object_in(heap: &Heap, address: u64) -> Option<Object> {
         Some(header(words, address))
     } else {
         None
+    }
+}
+
+/// How many slots the object at an address has, if there is one.
+pub fn slots_of(heap: &Heap, address: u64) -> u64 {
+    match object_in(heap, address) {
+        Some(object) => object.refs,
+        None => 0,
     }
 }
 

@@ -58,32 +58,32 @@ pub enum After {
 #[derive(Drop)]
 pub enum Found {
     /// Lines of objects by name.
-    Lines,
+    Lines(Vec<u8>),
     Image(After),
 }
 
-/// What is in a file, or what the reader gives, with the bytes if they are lines. A file whose fault is a reference or
+/// What is in a file, or what the reader gives. A file whose fault is a reference or
 /// the magic is read once more, as bytes: its stale words are found, or its lines behind comments.
 pub fn read_side<T: Files, R: Read>(
     rt: &T,
     alloc: Global,
     name: &str,
     reader: &mut R,
-) -> Result<(Found, Vec<u8>), Refusal> {
+) -> Result<Found, Refusal> {
     if name != STANDARD_STREAM && is_file(rt, name) && !has_lines(rt, alloc, name)? {
         let file = open_file(rt, alloc, name)?;
         match read(alloc, &mut FromReader::new(file)) {
-            Ok(image) => return Ok((Found::Image(After::Image(image)), Vec::new(alloc))),
+            Ok(image) => return Ok(Found::Image(After::Image(image))),
             // Lines may begin behind the bytes that were looked at.
             Err(Fault::Reference(_)) | Err(Fault::Magic) => (),
             Err(fault) => return Err(of_file(alloc, name, fault)),
         }
     }
-    let bytes = read_bytes(rt, alloc, name, reader)?;
+    let mut bytes = read_bytes(rt, alloc, name, reader)?;
     if is_graph(bytes.as_slice()) {
-        return Ok((Found::Lines, bytes));
+        return Ok(Found::Lines(bytes));
     }
-    Ok((Found::Image(after_of(alloc, name, bytes)?), Vec::new(alloc)))
+    Ok(Found::Image(after_of(alloc, name, &mut bytes)?))
 }
 
 // How many bytes of a file are looked at for the first word of lines.
@@ -103,8 +103,8 @@ fn is_file<T: Files>(rt: &T, name: &str) -> bool {
     }
 }
 
-fn after_of(alloc: Global, name: &str, bytes: Vec<u8>) -> Result<After, Refusal> {
-    match decode(alloc, bytes.as_slice()) {
+fn after_of(alloc: Global, name: &str, bytes: &mut [u8]) -> Result<After, Refusal> {
+    match decode(alloc, bytes) {
         Ok(image) => Ok(After::Image(image)),
         Err(fault) => match fault {
             Fault::Reference(_) => without_stale(alloc, name, bytes, fault),
@@ -117,14 +117,13 @@ fn after_of(alloc: Global, name: &str, bytes: Vec<u8>) -> Result<After, Refusal>
 fn without_stale(
     alloc: Global,
     name: &str,
-    bytes: Vec<u8>,
+    bytes: &mut [u8],
     fault: Fault,
 ) -> Result<After, Refusal> {
-    let mut bytes = bytes;
-    let Some(stale) = null_stale(alloc, &mut bytes)? else {
+    let Some(stale) = null_stale(alloc, bytes)? else {
         return Err(of_file(alloc, name, fault));
     };
-    match decode(alloc, bytes.as_slice()) {
+    match decode(alloc, bytes) {
         Ok(image) => Ok(After::Stale {
             image,
             stale,

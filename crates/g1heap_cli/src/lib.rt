@@ -16,6 +16,7 @@ mod names;
 mod naming;
 mod options;
 mod output;
+mod places;
 mod reaching;
 mod refusal;
 mod regions;

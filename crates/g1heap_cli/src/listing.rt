@@ -1,53 +1,53 @@
 //! The lines of `same --all`: the first differences, and how many there are of each kind.
-use crate::comparing::{Sides, how_line, stale_line};
+use crate::comparing::{Sides, push_how_line, push_stale_line};
 use crate::stale::Stale;
-use crate::tour::{Differences, Found, KINDS, What, walk};
+use crate::tour::{Found, KINDS, Tour, What};
 use std::alloc::{AllocError, Global};
 
-/// The line of the first difference, those of the walk's next ones up to the number asked, and the line of all numbers.
-pub fn all_lines(
+/// The lines behind that of the first difference: those of the walk's next ones up to the number asked, and the line of
+/// all numbers.
+pub fn push_others(
     alloc: Global,
+    text: &mut String,
     sides: Sides<'_>,
     stale: Option<&Stale>,
     most: u64,
-    first: String,
-) -> Result<String, AllocError> {
-    let mut text = first;
+) -> Result<(), AllocError> {
     let roots = sides.before.roots().len() != sides.after.roots().len();
     // The walk finds no difference of the numbers of roots, and finds each other first one again.
     let skipped = if roots { 0 } else { 1 };
     let listed = if roots { most.saturating_sub(1) } else { most };
-    let differences = walk(alloc, sides, stale, listed)?;
-    for found in differences.first.iter().skip(skipped) {
-        let line = found_line(alloc, sides, found)?;
-        text.push_str(line.as_str())?;
+    let mut tour = Tour::new(alloc, sides, listed)?;
+    tour.walk(alloc, sides, stale)?;
+    for found in tour.first.iter().skip(skipped) {
+        push_found(alloc, text, sides, found)?;
     }
-    push_counts(&mut text, roots, &differences)?;
-    Ok(text)
+    push_counts(text, roots, &tour.counts)
 }
 
-fn found_line(alloc: Global, sides: Sides<'_>, found: &Found) -> Result<String, AllocError> {
+fn push_found(
+    alloc: Global,
+    text: &mut String,
+    sides: Sides<'_>,
+    found: &Found,
+) -> Result<(), AllocError> {
     let path = &found.path;
     match &found.what {
-        What::Stale(word) => stale_line(alloc, sides, path, *word),
-        What::How(how) => how_line(alloc, sides, path.root, path.slots.as_slice(), how),
+        What::Stale(word) => push_stale_line(alloc, text, sides, path, *word),
+        What::How(how) => push_how_line(alloc, text, sides, path.root, path.slots.as_slice(), how),
     }
 }
 
-fn push_counts(
-    text: &mut String,
-    roots: bool,
-    differences: &Differences,
-) -> Result<(), AllocError> {
+fn push_counts(text: &mut String, roots: bool, counts: &[u64]) -> Result<(), AllocError> {
     let mut all = u64::from(roots);
-    for count in differences.counts.iter() {
+    for count in counts {
         all = all.saturating_add(*count);
     }
     write!(text, "differences {all}:")?;
     if roots {
         text.push_str(" roots 1")?;
     }
-    for (kind, count) in KINDS.iter().zip(differences.counts.iter()) {
+    for (kind, count) in KINDS.iter().zip(counts.iter()) {
         if *count > 0 {
             write!(text, " {kind} {count}")?;
         }

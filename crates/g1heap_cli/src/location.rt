@@ -61,7 +61,7 @@ fn first_of_run(heap: &Heap, region: u32) -> u64 {
     let geometry = heap.geometry();
     for number in (0..region).rev() {
         let found = heap.regions().get(number as usize);
-        if found.is_some_and(|region| region.kind.is_humongous_first()) {
+        if matches!(found, Some(region) if region.kind.is_humongous_first()) {
             return geometry.start(number);
         }
     }
@@ -73,7 +73,11 @@ fn holder(alloc: Global, heap: &Heap, region: u32, address: u64) -> Result<u64, 
     requires { region < heap.now.geometry.n }
 {
     let starts = objects_in(alloc, heap, region)?;
-    let before = starts.as_slice().partition_point(|start| *start <= address);
-    let last = before.saturating_sub(1);
-    Ok(starts.get(last).copied().unwrap_or(0))
+    let mut last = 0;
+    for start in starts.as_slice() {
+        if *start <= address {
+            last = *start;
+        }
+    }
+    Ok(last)
 }

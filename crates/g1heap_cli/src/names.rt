@@ -1,5 +1,6 @@
 //! What a program calls its roots, its objects and the words in them.
-use crate::refusal::wrong_name;
+use crate::places::value_at;
+use crate::refusal::wrong_line;
 use g1_command::{Refusal, whole};
 use std::alloc::{AllocError, Global};
 
@@ -61,7 +62,7 @@ impl<'a> Names<'a> {
         for line in text.split('\n') {
             number = number.saturating_add(1);
             if let Some(expected) = self.add_line(alloc, line)? {
-                return Err(wrong_name(alloc, file, number, expected));
+                return Err(wrong_line(alloc, file, number, &expected, ""));
             }
         }
         Ok(())
@@ -153,11 +154,8 @@ impl<'a> Names<'a> {
 
     /// The kind of the object at an address.
     pub fn object(&self, address: u64) -> Option<Kind<'a>> {
-        let below = self.objects.partition_point(|(at, _)| *at < address);
-        match self.objects.get(below) {
-            Some((at, place)) if *at == address => self.kinds.get(*place as usize).copied(),
-            _ => None,
-        }
+        let place = value_at(self.objects.as_slice(), address)?;
+        self.kinds.get(place as usize).copied()
     }
 
     /// The name of a slot of the object at an address, which has `slots` of them.
@@ -208,10 +206,12 @@ fn border(words: &[&str], slots: u64) -> usize {
     if words.get(slots as usize) == Some(&"data") {
         return slots as usize;
     }
-    words
-        .iter()
-        .position(|word| *word == "data")
-        .unwrap_or(words.len())
+    for (place, word) in words.iter().enumerate() {
+        if *word == "data" {
+            return place;
+        }
+    }
+    words.len()
 }
 
 fn found<'a>(list: &[(u64, &'a str)], key: u64) -> Option<&'a str> {

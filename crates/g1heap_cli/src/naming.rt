@@ -1,5 +1,5 @@
 //! A difference in the names that a program has for it.
-use crate::comparing::{object_in, word_at};
+use crate::comparing::{slots_of, word_at};
 use crate::names::{Names, Word};
 use g1_words::Heap;
 use std::alloc::{AllocError, Global};
@@ -24,7 +24,8 @@ pub fn push_named_path(
         Some(name) => text.push_str(name)?,
         None => write!(text, "root {root}")?,
     }
-    let runs = runs_of(alloc, heap, names, root, slots)?;
+    let mut runs = Vec::new(alloc);
+    add_runs(alloc, &mut runs, heap, names, root, slots)?;
     push_ends(text, runs.as_slice())
 }
 
@@ -55,24 +56,25 @@ struct Run {
     count: u64,
 }
 
-fn runs_of(
+fn add_runs(
     alloc: Global,
+    runs: &mut Vec<Run>,
     heap: &Heap,
     names: &Names<'_>,
     root: u64,
     slots: &[u64],
-) -> Result<Vec<Run>, AllocError> {
-    let mut runs = Vec::new(alloc);
+) -> Result<(), AllocError> {
     let mut word = word_at(heap.roots(), root);
     for slot in slots {
-        let step = step(alloc, heap, names, word.saturating_sub(1), *slot)?;
-        push_step(&mut runs, step)?;
+        let mut step = String::new(alloc);
+        push_step(&mut step, heap, names, word.saturating_sub(1), *slot)?;
+        add_step(runs, step)?;
         word = word_at(heap.words(), word.saturating_add(*slot));
     }
-    Ok(runs)
+    Ok(())
 }
 
-fn push_step(runs: &mut Vec<Run>, step: String) -> Result<(), AllocError> {
+fn add_step(runs: &mut Vec<Run>, step: String) -> Result<(), AllocError> {
     if let Some(run) = runs.last_mut() {
         if run.step == step {
             run.count = run.count.saturating_add(1);
@@ -108,27 +110,23 @@ fn push_run(text: &mut String, run: &Run) -> Result<(), AllocError> {
 }
 
 // The step from an object by a slot.
-fn step(
-    alloc: Global,
+fn push_step(
+    text: &mut String,
     heap: &Heap,
     names: &Names<'_>,
     address: u64,
     slot: u64,
-) -> Result<String, AllocError> {
-    let slots = object_in(heap, address).map_or(0, |object| object.refs);
-    let mut text = String::new(alloc);
-    match names.slot(address, slots, slot) {
-        None => write!(text, " slot {slot}")?,
-        Some(Word { name, number }) => {
-            if !name.is_empty() {
-                write!(text, ".{name}")?;
-            }
-            if let Some(number) = number {
-                write!(text, "[{number}]")?;
-            }
-        }
+) -> Result<(), AllocError> {
+    let Some(Word { name, number }) = names.slot(address, slots_of(heap, address), slot) else {
+        return write!(text, " slot {slot}");
+    };
+    if !name.is_empty() {
+        write!(text, ".{name}")?;
     }
-    Ok(text)
+    match number {
+        Some(number) => write!(text, "[{number}]"),
+        None => Ok(()),
+    }
 }
 
 /// The type of an object, and what else is said of it, in parentheses.
@@ -156,8 +154,7 @@ pub fn push_named_data(
     address: u64,
     word: u64,
 ) -> Result<(), AllocError> {
-    let slots = object_in(heap, address).map_or(0, |object| object.refs);
-    match names.data(address, slots, word) {
+    match names.data(address, slots_of(heap, address), word) {
         None => Ok(()),
         Some(Word { name, number: None }) => write!(text, ", {name},"),
         Some(

@@ -95,7 +95,7 @@ pub struct Same {
 }
 
 /// What is printed of an image.
-#[derive(Clone, Copy, PartialEq, Eq)]
+#[derive(Clone, Copy)]
 pub enum Part {
     Whole,
     Region(u32),
@@ -192,16 +192,19 @@ fn output_of(alloc: Global, values: &ArgMatches<'_>) -> Result<Output, AllocErro
 
 // Refuses to read standard input for two of the files.
 fn check_streams(alloc: Global, values: &ArgMatches<'_>) -> Result<(), Misuse> {
-    let is_standard = |id: &str| values.get_str(id) == Some(STANDARD_STREAM);
-    let (before, after) = (is_standard(BEFORE.id), is_standard(AFTER.id));
+    let (before, after) = (is_standard(values, &BEFORE), is_standard(values, &AFTER));
     let message = if before && after {
         "only one of the images can be standard input"
-    } else if is_standard(NAMES.id) && (before || after) {
+    } else if is_standard(values, &NAMES) && (before || after) {
         "only one of the files can be standard input"
     } else {
         return Ok(());
     };
     Err(Misuse::Value(String::from_str(alloc, message)?))
+}
+
+fn is_standard(values: &ArgMatches<'_>, argument: &Argument) -> bool {
+    values.get_str(argument.id) == Some(STANDARD_STREAM)
 }
 
 fn all_of(alloc: Global, values: &ArgMatches<'_>) -> Result<Option<u64>, Misuse> {
@@ -232,9 +235,9 @@ fn fill_of(alloc: Global, values: &ArgMatches<'_>) -> Result<bool, Misuse> {
     Ok(fill)
 }
 
-fn same_of(alloc: Global, values: &ArgMatches<'_>) -> Result<Same, Misuse> {
+fn same_of(alloc: Global, values: &ArgMatches<'_>) -> Result<Request, Misuse> {
     check_streams(alloc, values)?;
-    Ok(Same {
+    Ok(Request::Same(Same {
         before: name_of(alloc, values, &BEFORE)?,
         after: name_of(alloc, values, &AFTER)?,
         covered: values.get_flag(COVERED.id),
@@ -243,18 +246,18 @@ fn same_of(alloc: Global, values: &ArgMatches<'_>) -> Result<Same, Misuse> {
         fill: fill_of(alloc, values)?,
         names: name_if_given(alloc, values, &NAMES)?,
         all: all_of(alloc, values)?,
-    })
+    }))
 }
 
-fn explain_of(alloc: Global, values: &ArgMatches<'_>) -> Result<Explain, Misuse> {
-    Ok(Explain {
+fn explain_of(alloc: Global, values: &ArgMatches<'_>) -> Result<Request, Misuse> {
+    Ok(Request::Explain(Explain {
         image: name_of(alloc, values, &IMAGE)?,
         cost: cost_of(alloc, values)?,
         budget: number(alloc, values, &BUDGET)?,
         set: set_of(alloc, values)?,
         map: values.get_flag(MAP.id),
         output: output_of(alloc, values)?,
-    })
+    }))
 }
 
 // The number of the command, and the file.
@@ -268,15 +271,15 @@ fn image_of(alloc: Global, values: &ArgMatches<'_>) -> Result<Option<ImageAfter>
     }
 }
 
-fn trace_of(alloc: Global, values: &ArgMatches<'_>) -> Result<Trace, Misuse> {
-    Ok(Trace {
+fn trace_of(alloc: Global, values: &ArgMatches<'_>) -> Result<Request, Misuse> {
+    Ok(Request::Trace(Trace {
         name: name_of(alloc, values, &TRACED)?,
         cost: cost_of(alloc, values)?,
         live: values.get_flag(LIVE.id),
         numbered: values.get_flag(NUMBERED.id),
         explain: values.get_flag(EXPLAINED.id),
         image: image_of(alloc, values)?,
-    })
+    }))
 }
 
 fn print_of(alloc: Global, values: &ArgMatches<'_>) -> Result<Request, Misuse> {
@@ -304,11 +307,11 @@ fn make_of(alloc: Global, values: &ArgMatches<'_>) -> Result<Request, Misuse> {
 // What the values of a command ask for.
 fn request_of(alloc: Global, name: &str, values: &ArgMatches<'_>) -> Result<Request, Misuse> {
     match name {
-        "same" => Ok(Request::Same(same_of(alloc, values)?)),
+        "same" => same_of(alloc, values),
         "print" => print_of(alloc, values),
-        "explain" => Ok(Request::Explain(explain_of(alloc, values)?)),
+        "explain" => explain_of(alloc, values),
         "why" => why_of(alloc, values),
-        "trace" => Ok(Request::Trace(trace_of(alloc, values)?)),
+        "trace" => trace_of(alloc, values),
         _ => make_of(alloc, values),
     }
 }

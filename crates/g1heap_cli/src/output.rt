@@ -41,14 +41,26 @@ pub fn write_file<T: Files>(
     answer: &[u8],
 ) -> Result<(), Refusal> {
     match fs::metadata(rt, name) {
-        Ok(found) if !found.is_file() => write_device(rt, alloc, name, answer),
+        Ok(found) if !found.is_file() => {
+            let device = OpenOptions::new().write(true).open(rt, name);
+            write_whole(alloc, name, device, answer)
+        }
         _ => replace(rt, alloc, name, answer),
     }
 }
 
-fn write_device<T: Files>(rt: &T, alloc: Global, name: &str, answer: &[u8]) -> Result<(), Refusal> {
-    let mut file = check_done(alloc, name, OpenOptions::new().write(true).open(rt, name))?;
-    check_written(alloc, name, file.write_all(answer))
+// Writes an answer for the file of this name to what was opened.
+fn write_whole<F: Write + Drop>(
+    alloc: Global,
+    name: &str,
+    opened: io::Result<F>,
+    answer: &[u8],
+) -> Result<(), Refusal> {
+    let mut file = check_done(alloc, name, opened)?;
+    match file.write_all(answer) {
+        Ok(()) => Ok(()),
+        Err(_) => Err(of_file(alloc, name, Fault::Device(Device::Output))),
+    }
 }
 
 fn replace<T: Files>(rt: &T, alloc: Global, name: &str, answer: &[u8]) -> Result<(), Refusal> {
@@ -67,8 +79,7 @@ fn write_beside<T: Files>(
     beside: &str,
     answer: &[u8],
 ) -> Result<(), Refusal> {
-    let mut file = check_done(alloc, name, File::create(rt, beside))?;
-    check_written(alloc, name, file.write_all(answer))?;
+    write_whole(alloc, name, File::create(rt, beside), answer)?;
     check_done(alloc, name, fs::rename(rt, beside, name))
 }
 
@@ -81,8 +92,11 @@ fn free_name<T: Files>(rt: &T, alloc: Global, name: &str) -> Result<String, Refu
         let beside = format!(in alloc; "{name}.part{number}")?;
         match File::create_new(rt, beside.as_str()) {
             Ok(_) => return Ok(beside),
-            Err(error) if error.kind() == ErrorKind::AlreadyExists => (),
-            Err(error) => return Err(failure(alloc, name, &error)),
+            Err(error) => {
+                if error.kind() != ErrorKind::AlreadyExists {
+                    return Err(failure(alloc, name, &error));
+                }
+            }
         }
     }
     Err(unwritable(alloc, name))
@@ -100,12 +114,5 @@ fn check_done<V: Drop>(alloc: Global, name: &str, done: io::Result<V>) -> Result
     match done {
         Ok(value) => Ok(value),
         Err(error) => Err(failure(alloc, name, &error)),
-    }
-}
-
-fn check_written(alloc: Global, name: &str, done: io::Result<()>) -> Result<(), Refusal> {
-    match done {
-        Ok(()) => Ok(()),
-        Err(_) => Err(of_file(alloc, name, Fault::Device(Device::Output))),
     }
 }

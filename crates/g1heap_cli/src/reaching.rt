@@ -1,6 +1,8 @@
 //! Paths from the roots, in the order in which two heaps are compared.
-use crate::stale::{Stale, word_of};
-use g1_words::{Heap, Marks, header};
+use crate::comparing::{slots_of, word_at};
+use crate::places::value_at;
+use crate::stale::Stale;
+use g1_words::{Heap, Marks};
 use std::alloc::{AllocError, Global};
 
 /// A root and slots, by number, that lead to a word.
@@ -10,22 +12,38 @@ pub struct Path {
     pub slots: Vec<u64>,
 }
 
+/// A step of a walk: 0 and a root's number, or 1 more than the place of the object whose slot is next, and the
+/// slot's number.
+#[derive(Clone, Copy)]
+pub struct Step {
+    pub from: u64,
+    pub number: u64,
+}
+
 impl Path {
+    /// The path whose last step is this one. The others are those to the objects, by their places.
+    pub fn of_steps(alloc: Global, steps: &[Step], last: Step) -> Result<Path, AllocError> {
+        let mut slots = Vec::new(alloc);
+        let mut step = last;
+        for _ in 0..steps.len() {
+            let Some(place) = step.from.checked_sub(1) else {
+                break;
+            };
+            slots.push(step.number)?;
+            let first = Step { from: 0, number: 0 };
+            step = steps.get(place as usize).copied().unwrap_or(first);
+        }
+        slots.reverse();
+        Ok(Path {
+            root: step.number,
+            slots,
+        })
+    }
+
     /// Whether this path is that one, or comes before it: it has fewer slots, or as many, and the lower
     /// number where the two first differ.
     pub fn is_at_most(&self, root: u64, slots: &[u64]) -> bool {
-        if self.slots.len() != slots.len() {
-            return self.slots.len() < slots.len();
-        }
-        if self.root != root {
-            return self.root < root;
-        }
-        for (here, there) in self.slots.iter().zip(slots.iter()) {
-            if here != there {
-                return here < there;
-            }
-        }
-        true
+        (self.slots.len(), self.root, self.slots.as_slice()) <= (slots.len(), root, slots)
     }
 }
 
@@ -36,16 +54,20 @@ pub fn first_stale(
     stale: &Stale,
 ) -> Result<Option<(Path, u64)>, AllocError> {
     let mut search = Search::new(alloc, heap)?;
-    search.run(alloc, heap, stale)
+    match search.run(heap, stale)? {
+        Some((last, word)) => {
+            let path = Path::of_steps(alloc, search.steps.as_slice(), last)?;
+            Ok(Some((path, word)))
+        }
+        None => Ok(None),
+    }
 }
 
-// The objects that were found, breadth first, and how each was.
+// The objects that were found, breadth first, and the step to each.
 #[derive(Drop)]
 struct Search {
     objects: Vec<u64>,
-    // 0 if a root references the object, else 1 more than the place of the object whose slot does; and the
-    // number of that root or slot.
-    ways: Vec<(u64, u64)>,
+    steps: Vec<Step>,
     seen: Marks,
 }
 
@@ -53,37 +75,35 @@ impl Search {
     fn new(alloc: Global, heap: &Heap) -> Result<Search, AllocError> {
         Ok(Search {
             objects: Vec::new(alloc),
-            ways: Vec::new(alloc),
+            steps: Vec::new(alloc),
             seen: Marks::none(alloc, heap.words().len())?,
         })
     }
 
-    fn run(
-        &mut self,
-        alloc: Global,
-        heap: &Heap,
-        stale: &Stale,
-    ) -> Result<Option<(Path, u64)>, AllocError> {
+    // The step to the first stale word, and that word.
+    fn run(&mut self, heap: &Heap, stale: &Stale) -> Result<Option<(Step, u64)>, AllocError> {
         if let Some((number, word)) = stale.roots.first() {
-            return Ok(Some((self.path(alloc, 0, *number)?, *word)));
+            let number = *number;
+            return Ok(Some((Step { from: 0, number }, *word)));
         }
         for (number, root) in heap.roots().iter().enumerate() {
-            self.add(*root, 0, number as u64)?;
+            let number = number as u64;
+            self.add(*root, Step { from: 0, number })?;
         }
         for place in 0..heap.words().len() {
             let Some(address) = self.objects.get(place).copied() else {
                 break;
             };
-            if let Some((number, word)) = self.visit(heap, stale, place, address)? {
-                let from = place as u64 + 1;
-                return Ok(Some((self.path(alloc, from, number)?, word)));
+            let found = self.visit(heap, stale, place as u64, address)?;
+            if found.is_some() {
+                return Ok(found);
             }
         }
         Ok(None)
     }
 
     // Adds the object that a word references, if it is new.
-    fn add(&mut self, word: u64, from: u64, number: u64) -> Result<(), AllocError> {
+    fn add(&mut self, word: u64, step: Step) -> Result<(), AllocError> {
         let Some(address) = word.checked_sub(1) else {
             return Ok(());
         };
@@ -91,7 +111,7 @@ impl Search {
         if at < self.seen.len() && !self.seen.is_set(at) {
             self.seen.set(at);
             self.objects.push(address)?;
-            self.ways.push((from, number))?;
+            self.steps.push(step)?;
         }
         Ok(())
     }
@@ -101,39 +121,18 @@ impl Search {
         &mut self,
         heap: &Heap,
         stale: &Stale,
-        place: usize,
+        place: u64,
         address: u64,
-    ) -> Result<Option<(u64, u64)>, AllocError> {
-        let words = heap.words();
-        if address >= words.len() as u64 {
-            return Ok(None);
-        }
-        let from = (place as u64).saturating_add(1);
-        for number in 0..header(words, address).refs {
+    ) -> Result<Option<(Step, u64)>, AllocError> {
+        let from = place.saturating_add(1);
+        for number in 0..slots_of(heap, address) {
             let at = address.saturating_add(1).saturating_add(number);
-            if let Some(word) = word_of(stale.slots.as_slice(), at) {
-                return Ok(Some((number, word)));
+            let step = Step { from, number };
+            if let Some(word) = value_at(stale.slots.as_slice(), at) {
+                return Ok(Some((step, word)));
             }
-            self.add(words.get(at as usize).copied().unwrap_or(0), from, number)?;
+            self.add(word_at(heap.words(), at), step)?;
         }
         Ok(None)
-    }
-
-    // The path whose last step is this one.
-    fn path(&self, alloc: Global, from: u64, number: u64) -> Result<Path, AllocError> {
-        let mut slots = Vec::new(alloc);
-        let (mut from, mut number) = (from, number);
-        for _ in 0..self.ways.len() {
-            let Some(place) = from.checked_sub(1) else {
-                break;
-            };
-            slots.push(number)?;
-            (from, number) = self.ways.get(place as usize).copied().unwrap_or((0, 0));
-        }
-        slots.reverse();
-        Ok(Path {
-            root: number,
-            slots,
-        })
     }
 }

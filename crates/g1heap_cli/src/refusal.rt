@@ -1,16 +1,17 @@
 //! The refusals that name a file.
 use crate::location::Location;
 use g1_command::Refusal;
-use g1_text::Expected;
 use g1_words::Fault;
 use std::alloc::{AllocError, Global};
+use std::fmt::Display;
 
 /// A fault of the file of this name. Running out of memory is of no file.
 pub fn of_file(alloc: Global, name: &str, fault: Fault) -> Refusal {
     if fault == Fault::Memory {
         return Refusal::Fault(fault);
     }
-    let (number, hint) = (fault.number(), hint_for(fault));
+    let number = fault.number();
+    let hint = if fault == Fault::Magic { NO_IMAGE } else { "" };
     refusal(
         fault.status(),
         format!(in alloc; "g1heap: {name}: fault {number}: {fault}\n{hint}"),
@@ -18,13 +19,8 @@ pub fn of_file(alloc: Global, name: &str, fault: Fault) -> Refusal {
 }
 
 // What to do about a file that is no image at all.
-fn hint_for(fault: Fault) -> &'static str {
-    match fault {
-        Fault::Magic =>
-            "g1heap: it is no image; 'g1heap make' makes an image of lines, and 'g1heap trace' replies to a trace\n",
-        _ => "",
-    }
-}
+const NO_IMAGE: &str =
+    "g1heap: it is no image; 'g1heap make' makes an image of lines, and 'g1heap trace' replies to a trace\n";
 
 /// A file that can't be opened.
 pub fn unopenable(alloc: Global, name: &str) -> Refusal {
@@ -36,15 +32,14 @@ pub fn unwritable(alloc: Global, name: &str) -> Refusal {
     refusal(7, format!(in alloc; "g1heap: {name}: can't be written\n"))
 }
 
-/// A line, of these bytes of a file, that is not what is expected there.
-pub fn wrong_line(
+/// A line that is not what is expected there, and what to do about it.
+pub fn wrong_line<E: Display>(
     alloc: Global,
     name: &str,
-    bytes: &[u8],
     number: u64,
-    expected: &Expected,
+    expected: &E,
+    hint: &str,
 ) -> Refusal {
-    let hint = if is_image(bytes) { IMAGE_HINT } else { "" };
     refusal(
         3,
         format!(in alloc; "g1heap: {name}: line {number}: expected {expected}\n{hint}"),
@@ -56,45 +51,15 @@ pub fn is_image(bytes: &[u8]) -> bool {
     bytes.starts_with(b"G1IMAGE")
 }
 
-// What to do about an image where lines are read.
-const IMAGE_HINT: &str =
+/// What to do about an image where lines are read.
+pub const IMAGE_HINT: &str =
     "g1heap: it is an image; 'g1heap print' prints its lines, and 'g1heap explain' those of a pause\n";
-
-/// A line of a trace that is not what is expected there.
-pub fn wrong_trace_line(
-    alloc: Global,
-    name: &str,
-    number: u64,
-    expected: g1_session::Expected,
-) -> Refusal {
-    refusal(
-        3,
-        format!(in alloc; "g1heap: {name}: line {number}: expected {expected}\n"),
-    )
-}
-
-/// An image where a trace is read.
-pub fn image_for_trace(alloc: Global, name: &str) -> Refusal {
-    let expected = g1_session::Expected::Heap;
-    refusal(
-        3,
-        format!(in alloc; "g1heap: {name}: line 1: expected {expected}\n{IMAGE_HINT}"),
-    )
-}
 
 /// A command that a trace doesn't have.
 pub fn no_command(alloc: Global, name: &str, command: u64, commands: u64) -> Refusal {
     refusal(
         2,
         format!(in alloc; "g1heap: {name}: no command {command}: the trace has {commands}\n"),
-    )
-}
-
-/// A line of a file of names that is not what is expected there.
-pub fn wrong_name(alloc: Global, name: &str, number: u64, expected: &str) -> Refusal {
-    refusal(
-        3,
-        format!(in alloc; "g1heap: {name}: line {number}: expected {expected}\n"),
     )
 }
 

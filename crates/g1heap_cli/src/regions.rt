@@ -11,18 +11,17 @@ pub fn tie(alloc: Global, words: &[String]) -> Result<Vec<String>, AllocError> {
     let mut tied = Vec::new(alloc);
     let mut follows = Follows::Word;
     for (place, word) in words.iter().enumerate() {
-        let next = words.get(place.saturating_add(1));
-        let (word, then) = tie_word(alloc, follows, word.as_str(), next)?;
-        follows = then;
-        if let Some(word) = word {
-            tied.push(word)?;
-        }
+        let next = match words.get(place.saturating_add(1)) {
+            Some(next) => next.as_str(),
+            None => "",
+        };
+        follows = tie_word(alloc, &mut tied, follows, word.as_str(), next)?;
     }
     Ok(tied)
 }
 
 // What a word may be.
-#[derive(Clone, Copy, PartialEq, Eq)]
+#[derive(Clone, Copy)]
 enum Follows {
     Word,
     /// A value of `--set`, or any other word.
@@ -31,31 +30,31 @@ enum Follows {
     File,
 }
 
-// What becomes of a word, and what the next one may be.
+// Adds what becomes of a word, and returns what the next one may be.
 fn tie_word(
     alloc: Global,
+    tied: &mut Vec<String>,
     follows: Follows,
     word: &str,
-    next: Option<&String>,
-) -> Result<(Option<String>, Follows), AllocError> {
+    next: &str,
+) -> Result<Follows, AllocError> {
     let then = match follows {
         Follows::File => Follows::File,
         _ if word == "--" => Follows::File,
-        _ if word == OPTION && next.is_some_and(|next| is_list(next.as_str())) => {
-            return Ok((None, Follows::Region));
-        }
+        _ if word == OPTION && is_list(next) => return Ok(Follows::Region),
         Follows::Region if is_list(word) => {
-            let word = format!(in alloc; "{OPTION}={word}")?;
-            return Ok((Some(word), Follows::Region));
+            tied.push(format!(in alloc; "{OPTION}={word}")?)?;
+            return Ok(Follows::Region);
         }
         _ => Follows::Word,
     };
-    Ok((Some(String::from_str(alloc, word)?), then))
+    tied.push(String::from_str(alloc, word)?)?;
+    Ok(then)
 }
 
 fn is_list(word: &str) -> bool {
     let bytes = word.as_bytes();
-    bytes.first().is_some_and(|first| first.is_ascii_digit())
+    matches!(bytes.first(), Some(b'0'..=b'9'))
         && bytes.iter().all(|byte| byte.is_ascii_digit() || matches!(*byte, b',' | b'-'))
 }
 
@@ -86,17 +85,13 @@ fn push_part(
     part: &str,
     regions: &mut Vec<u32>,
 ) -> Result<(), Misuse> {
-    match part.split_once('-') {
-        None => regions.push(region_in(alloc, set, part)?)?,
-        Some((first, last)) => {
-            let (first, last) = (region_in(alloc, set, first)?, region_in(alloc, set, last)?);
-            if last < first || last - first >= MOST {
-                return Err(no_range(alloc, set, part)?);
-            }
-            push_range(first, last, regions)?;
-        }
+    // A region alone is a range of one.
+    let (first, last) = part.split_once('-').unwrap_or((part, part));
+    let (first, last) = (region_in(alloc, set, first)?, region_in(alloc, set, last)?);
+    if last < first || last - first >= MOST {
+        return Err(no_range(alloc, set, part)?);
     }
-    Ok(())
+    Ok(push_range(first, last, regions)?)
 }
 
 // No heap has this many regions.

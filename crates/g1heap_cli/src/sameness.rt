@@ -1,12 +1,12 @@
 //! Whether two files have one heap, and what else is asked of them.
-use crate::comparing::{Sides, difference_line, same_line, stale_line};
-use crate::files::{read_bytes, read_side};
-use crate::listing::all_lines;
+use crate::comparing::{Sides, push_difference_line, push_same_line, push_stale_line};
+use crate::files::{Found, read_bytes, read_side};
+use crate::listing::push_others;
 use crate::names::Names;
 use crate::options::Same;
 use crate::reaching::{Path, first_stale};
-use crate::refusal::{no_region, not_for_lines, of_file, wrong_name};
-use crate::sides::{Side, Strays, check_whole, open, refuse_lines};
+use crate::refusal::{no_region, not_for_lines, of_file, wrong_line};
+use crate::sides::{Side, Strays, check_whole, open_image, open_lines, refuse_lines};
 use crate::stale::Stale;
 use crate::young::with_dirty;
 use g1_choose::given;
@@ -22,16 +22,17 @@ use std::rt::Files;
 use std::str;
 use std::thread::Threads;
 
-/// The status and the lines for two files. The status is 1 if they differ.
+/// Adds the lines for two files, and returns the status, which is 1 if they differ.
 pub fn compare_files<T: Threads + Sync + Files, R: Read>(
     rt: &T,
     alloc: Global,
     same: &Same,
     reader: &mut R,
-) -> Result<(u8, String), Refusal> {
+    text: &mut String,
+) -> Result<u8, Refusal> {
     let mut lines = Vec::new(alloc);
     match read_and_open(rt, alloc, same.before.as_str(), reader, &mut lines) {
-        Ok(before) => compare_to_after(rt, alloc, same, &before, reader),
+        Ok(before) => compare_to_after(rt, alloc, same, &before, reader, text),
         Err(refusal) => Err(refusal),
     }
 }
@@ -43,11 +44,12 @@ fn compare_to_after<T: Threads + Sync + Files, R: Read>(
     same: &Same,
     before: &Side<'_>,
     reader: &mut R,
-) -> Result<(u8, String), Refusal> {
+    text: &mut String,
+) -> Result<u8, Refusal> {
     check_whole(alloc, same.before.as_str(), before)?;
     let mut lines = Vec::new(alloc);
     match read_and_open(rt, alloc, same.after.as_str(), reader, &mut lines) {
-        Ok(after) => compare_to_side(rt, alloc, same, before, after, reader),
+        Ok(after) => compare_to_side(rt, alloc, same, before, after, reader, text),
         Err(refusal) => Err(refusal),
     }
 }
@@ -60,9 +62,13 @@ fn read_and_open<'a, T: Files, R: Read>(
     reader: &mut R,
     lines: &'a mut Vec<u8>,
 ) -> Result<Side<'a>, Refusal> {
-    let (found, bytes) = read_side(rt, alloc, name, reader)?;
-    *lines = bytes;
-    open(alloc, name, found, lines.as_slice())
+    match read_side(rt, alloc, name, reader)? {
+        Found::Lines(bytes) => {
+            *lines = bytes;
+            open_lines(alloc, name, lines.as_slice())
+        }
+        Found::Image(after) => Ok(open_image(alloc, after)),
+    }
 }
 
 // Only what is the same is asked for cover.
@@ -73,9 +79,10 @@ fn compare_to_side<T: Threads + Sync + Files, R: Read>(
     before: &Side<'_>,
     after: Side<'_>,
     reader: &mut R,
-) -> Result<(u8, String), Refusal> {
-    match compare_asked(rt, alloc, same, before, &after, reader) {
-        Ok((0, text)) if same.covered => with_cover(text, check_cover(rt, alloc, same, after)),
+    text: &mut String,
+) -> Result<u8, Refusal> {
+    match compare_asked(rt, alloc, same, before, &after, reader, text) {
+        Ok(0) if same.covered => push_cover(rt, alloc, same, after, text),
         compared => compared,
     }
 }
@@ -88,10 +95,11 @@ fn compare_asked<T: Files, R: Read>(
     before: &Side<'_>,
     after: &Side<'_>,
     reader: &mut R,
-) -> Result<(u8, String), Refusal> {
+    text: &mut String,
+) -> Result<u8, Refusal> {
     check_asked(alloc, same, before, after)?;
     match read_names(rt, alloc, same, reader) {
-        Ok(text) => compare_named(alloc, same, text.as_slice(), before, after),
+        Ok(names) => compare_named(alloc, same, names.as_slice(), before, after, text),
         Err(refusal) => Err(refusal),
     }
 }
@@ -112,15 +120,16 @@ fn read_names<T: Files, R: Read>(
 fn compare_named(
     alloc: Global,
     same: &Same,
-    text: &[u8],
+    names: &[u8],
     before: &Side<'_>,
     after: &Side<'_>,
-) -> Result<(u8, String), Refusal> {
+    text: &mut String,
+) -> Result<u8, Refusal> {
     let Some(file) = &same.names else {
-        return compare_sides(alloc, same, None, before, after);
+        return compare_sides(alloc, same, None, before, after, text);
     };
-    match names_in(alloc, file.as_str(), text) {
-        Ok(names) => compare_sides(alloc, same, Some(&names), before, after),
+    match names_in(alloc, file.as_str(), names) {
+        Ok(names) => compare_sides(alloc, same, Some(&names), before, after, text),
         Err(refusal) => Err(refusal),
     }
 }
@@ -148,7 +157,7 @@ fn check_asked(
 fn names_in<'a>(alloc: Global, file: &str, text: &'a [u8]) -> Result<Names<'a>, Refusal> {
     match str::from_utf8(text) {
         Ok(text) => Names::read(alloc, file, text),
-        Err(_) => Err(wrong_name(alloc, file, 1, "text in UTF-8")),
+        Err(_) => Err(wrong_line(alloc, file, 1, &"text in UTF-8", "")),
     }
 }
 
@@ -158,11 +167,12 @@ fn compare_sides(
     names: Option<&Names<'_>>,
     before: &Side<'_>,
     after: &Side<'_>,
-) -> Result<(u8, String), Refusal> {
+    text: &mut String,
+) -> Result<u8, Refusal> {
     let sides = sides_of(names, before, after);
     match &after.stale {
-        None => compare_heaps(alloc, same, sides),
-        Some(strays) => compare_stale(alloc, same, sides, strays),
+        None => compare_heaps(alloc, same, sides, text),
+        Some(strays) => compare_stale(alloc, same, sides, strays, text),
     }
 }
 
@@ -208,38 +218,44 @@ pub fn compare_images<'x>(
         labels: [None, None],
         stale_names: None,
     };
-    compare_heaps(alloc, same, sides)
+    let mut text = String::new(alloc);
+    let status = compare_heaps(alloc, same, sides, &mut text)?;
+    Ok((status, text))
 }
 
-fn compare_heaps(alloc: Global, same: &Same, sides: Sides<'_>) -> Result<(u8, String), Refusal> {
+fn compare_heaps(
+    alloc: Global,
+    same: &Same,
+    sides: Sides<'_>,
+    text: &mut String,
+) -> Result<u8, Refusal> {
     match compare(alloc, sides.before, sides.after) {
-        Ok(Ok(renaming)) => same_answer(alloc, same, sides, &renaming),
-        Ok(Err(difference)) => difference_answer(alloc, same, sides, &difference),
+        Ok(Ok(renaming)) => push_same(alloc, same, sides, &renaming, text),
+        Ok(Err(difference)) => push_differences(alloc, same, sides, &difference, text),
         Err(fault) => Err(Refusal::Fault(fault)),
     }
 }
 
-fn same_answer(
+fn push_same(
     alloc: Global,
     same: &Same,
     sides: Sides<'_>,
     renaming: &Renaming,
-) -> Result<(u8, String), Refusal> {
-    let mut text = same_line(alloc, sides.before, renaming)?;
-    match push_kept(alloc, same, sides, &mut text) {
-        Ok(status) => Ok((status, text)),
-        Err(refusal) => Err(refusal),
-    }
+    text: &mut String,
+) -> Result<u8, Refusal> {
+    push_same_line(text, sides.before, renaming)?;
+    push_kept(alloc, same, sides, text)
 }
 
-fn difference_answer(
+fn push_differences(
     alloc: Global,
     same: &Same,
     sides: Sides<'_>,
     difference: &Difference,
-) -> Result<(u8, String), Refusal> {
-    let line = difference_line(alloc, sides, difference)?;
-    Ok((1, with_all(alloc, same, sides, None, line)?))
+    text: &mut String,
+) -> Result<u8, Refusal> {
+    push_difference_line(alloc, text, sides, difference)?;
+    push_all(alloc, same, sides, None, text)
 }
 
 // The first difference, of those between the graphs and the first stale word that the roots reach.
@@ -248,62 +264,67 @@ fn compare_stale(
     same: &Same,
     sides: Sides<'_>,
     strays: &Strays<'_>,
-) -> Result<(u8, String), Refusal> {
-    let line = first_line(alloc, same, sides, strays)?;
-    Ok((1, with_all(alloc, same, sides, Some(&strays.words), line)?))
+    text: &mut String,
+) -> Result<u8, Refusal> {
+    push_first(alloc, same, sides, strays, text)?;
+    push_all(alloc, same, sides, Some(&strays.words), text)
 }
 
-fn first_line(
+fn push_first(
     alloc: Global,
     same: &Same,
     sides: Sides<'_>,
     strays: &Strays<'_>,
-) -> Result<String, Refusal> {
+    text: &mut String,
+) -> Result<(), Refusal> {
     let first = first_stale(alloc, sides.after, &strays.words)?;
     match compare(alloc, sides.before, sides.after) {
-        Ok(compared) => stale_answer(alloc, same, sides, strays, &compared, &first),
+        Ok(compared) => push_of_both(alloc, same, sides, strays, &compared, &first, text),
         Err(fault) => Err(Refusal::Fault(fault)),
     }
 }
 
 // If there is no difference, the file after is refused for its fault.
-fn stale_answer(
+fn push_of_both(
     alloc: Global,
     same: &Same,
     sides: Sides<'_>,
     strays: &Strays<'_>,
     compared: &Result<Renaming, Difference>,
     first: &Option<(Path, u64)>,
-) -> Result<String, Refusal> {
+    text: &mut String,
+) -> Result<(), Refusal> {
     match (compared, first) {
-        (Ok(_), None) => Err(refuse_lines(alloc, same.after.as_str(), &[], strays.wrong)),
-        (Err(difference), None) => Ok(difference_line(alloc, sides, difference)?),
-        (Err(difference), Some((path, _))) if !comes_first(path, difference) => {
-            Ok(difference_line(alloc, sides, difference)?)
+        (Err(difference), _) if !comes_first(first, difference) => {
+            Ok(push_difference_line(alloc, text, sides, difference)?)
         }
-        (_, Some((path, word))) => Ok(stale_line(alloc, sides, path, *word)?),
+        (_, Some((path, word))) => Ok(push_stale_line(alloc, text, sides, path, *word)?),
+        (_, None) => Err(refuse_lines(alloc, same.after.as_str(), &[], strays.wrong)),
     }
 }
 
-fn comes_first(path: &Path, difference: &Difference) -> bool {
-    match difference {
-        Difference::Roots { .. } => false,
-        Difference::At { root, slots, .. } => path.is_at_most(*root, slots.as_slice()),
+// Whether a stale word, if there is one, comes before a difference.
+fn comes_first(first: &Option<(Path, u64)>, difference: &Difference) -> bool {
+    match (first, difference) {
+        (Some((path, _)), Difference::At { root, slots, .. }) => {
+            path.is_at_most(*root, slots.as_slice())
+        }
+        _ => false,
     }
 }
 
-// The line of the first difference, and those of others and their numbers, if that is asked.
-fn with_all(
+// The lines of other differences and their numbers, if that is asked, behind that of the first one.
+fn push_all(
     alloc: Global,
     same: &Same,
     sides: Sides<'_>,
     stale: Option<&Stale>,
-    line: String,
-) -> Result<String, AllocError> {
-    match same.all {
-        Some(most) => all_lines(alloc, sides, stale, most, line),
-        None => Ok(line),
+    text: &mut String,
+) -> Result<u8, Refusal> {
+    if let Some(most) = same.all {
+        push_others(alloc, text, sides, stale, most)?;
     }
+    Ok(1)
 }
 
 // What a pause of the set keeps, if a set is given. If something is lost, only that is reported.
@@ -330,11 +351,12 @@ fn push_kept(
 }
 
 // The image that is asked for cover: the cards of young regions count as dirty.
-fn with_young(alloc: Global, same: &Same, after: Image) -> Result<Image, Refusal> {
+fn with_young(alloc: Global, same: &Same, after: Side<'_>) -> Result<Image, Refusal> {
+    let Side { image, .. } = after;
     if same.young.is_empty() {
-        return Ok(after);
+        return Ok(image);
     }
-    dirtied(alloc, same, &after)
+    dirtied(alloc, same, &image)
 }
 
 // A copy in which the cards of young regions are dirty.
@@ -376,28 +398,20 @@ fn lost(alloc: Global, same: &Same, old: &Heap, new: &Heap) -> Result<Option<Los
 }
 
 // The line of cover, or the refusal if a slot lacks it.
-fn with_cover(text: String, checked: Result<(), Refusal>) -> Result<(u8, String), Refusal> {
-    match checked {
-        Ok(()) => {
-            let mut text = text;
-            text.push_str("covered\n")?;
-            Ok((0, text))
-        }
-        Err(refusal) => Err(refusal),
-    }
-}
-
-fn check_cover<T: Threads + Sync>(
+fn push_cover<T: Threads + Sync>(
     rt: &T,
     alloc: Global,
     same: &Same,
     after: Side<'_>,
-) -> Result<(), Refusal> {
-    let Side { image, .. } = after;
-    let image = with_young(alloc, same, image)?;
+    text: &mut String,
+) -> Result<u8, Refusal> {
+    let image = with_young(alloc, same, after)?;
     match uncovered(rt, alloc, image) {
         Some(fault) => Err(of_file(alloc, same.after.as_str(), fault)),
-        None => Ok(()),
+        None => {
+            text.push_str("covered\n")?;
+            Ok(0)
+        }
     }
 }
 

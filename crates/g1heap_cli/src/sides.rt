@@ -1,6 +1,6 @@
 //! The two files that are compared: images, or lines of objects by name.
-use crate::files::{After, Found};
-use crate::refusal::{of_file, wrong_line};
+use crate::files::After;
+use crate::refusal::{IMAGE_HINT, is_image, of_file, wrong_line};
 use crate::stale::Stale;
 use g1_command::Refusal;
 use g1_image::{Image, decode};
@@ -25,27 +25,19 @@ pub struct Strays<'a> {
     pub wrong: Wrong,
 }
 
-/// Opens what a file has, whose lines these are if it has lines.
-pub fn open<'a>(
-    alloc: Global,
-    name: &str,
-    found: Found,
-    lines: &'a [u8],
-) -> Result<Side<'a>, Refusal> {
-    match found {
-        Found::Lines => open_lines(alloc, name, lines),
-        Found::Image(After::Image(image)) => Ok(Side {
+/// The side of an image.
+pub fn open_image<'a>(alloc: Global, after: After) -> Side<'a> {
+    match after {
+        After::Image(image) => Side {
             image,
             labels: None,
             stale: None,
-        }),
-        Found::Image(
-            After::Stale {
-                image,
-                stale,
-                fault,
-            },
-        ) => Ok(Side {
+        },
+        After::Stale {
+            image,
+            stale,
+            fault,
+        } => Side {
             image,
             labels: None,
             stale: Some(Strays {
@@ -53,7 +45,7 @@ pub fn open<'a>(
                 names: Vec::new(alloc),
                 wrong: Wrong::Fault(fault),
             }),
-        }),
+        },
     }
 }
 
@@ -65,8 +57,8 @@ pub fn check_whole(alloc: Global, name: &str, side: &Side<'_>) -> Result<(), Ref
     }
 }
 
-// Lines with names that no object has are an image once these names are null.
-fn open_lines<'a>(alloc: Global, name: &str, lines: &'a [u8]) -> Result<Side<'a>, Refusal> {
+/// The side of lines. Lines with names that no object has are an image once these names are null.
+pub fn open_lines<'a>(alloc: Global, name: &str, lines: &'a [u8]) -> Result<Side<'a>, Refusal> {
     let graph = match read_graph(alloc, lines) {
         Ok(graph) => graph,
         Err(wrong) => return Err(refuse_lines(alloc, name, lines, wrong)),
@@ -89,33 +81,39 @@ fn strays_in<'a>(alloc: Global, graph: &Graph<'a>) -> Result<Option<Strays<'a>>,
         return Ok(None);
     };
     let mut names = Vec::new(alloc);
-    let roots = strays_named(alloc, &mut names, graph.stale_roots.as_slice())?;
-    let slots = strays_named(alloc, &mut names, graph.stale_slots.as_slice())?;
+    let mut words = Stale {
+        roots: Vec::new(alloc),
+        slots: Vec::new(alloc),
+    };
+    add_strays(&mut names, &mut words.roots, graph.stale_roots.as_slice())?;
+    add_strays(&mut names, &mut words.slots, graph.stale_slots.as_slice())?;
     Ok(Some(Strays {
-        words: Stale { roots, slots },
+        words,
         names,
         wrong: Wrong::Line { number, expected },
     }))
 }
 
-// The places of stale words, each with the word that stands for its name, which is added to the names.
-fn strays_named<'a>(
-    alloc: Global,
+// Adds the places of stale words, each with the word that stands for its name, which is added to the names.
+fn add_strays<'a>(
     names: &mut Vec<&'a str>,
+    words: &mut Vec<(u64, u64)>,
     stale: &[(u64, &'a str)],
-) -> Result<Vec<(u64, u64)>, AllocError> {
-    let mut words = Vec::new(alloc);
+) -> Result<(), AllocError> {
     for (place, name) in stale {
         names.push(*name)?;
         words.push((*place, names.len() as u64))?;
     }
-    Ok(words)
+    Ok(())
 }
 
 /// The refusal of a file for its words that reference no object, or for its lines, which are in these bytes.
 pub fn refuse_lines(alloc: Global, name: &str, bytes: &[u8], wrong: Wrong) -> Refusal {
     match wrong {
-        Wrong::Line { number, expected } => wrong_line(alloc, name, bytes, number, &expected),
+        Wrong::Line { number, expected } => {
+            let hint = if is_image(bytes) { IMAGE_HINT } else { "" };
+            wrong_line(alloc, name, number, &expected, hint)
+        }
         Wrong::Fault(fault) => of_file(alloc, name, fault),
     }
 }

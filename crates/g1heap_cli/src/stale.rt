@@ -12,27 +12,20 @@ pub struct Stale {
     pub slots: Vec<(u64, u64)>,
 }
 
-/// The word of a root of this number, or of a slot at this address, if it is among these.
-pub fn word_of(stale: &[(u64, u64)], place: u64) -> Option<u64> {
-    let below = stale.partition_point(|(at, _)| *at < place);
-    match stale.get(below) {
-        Some((at, word)) if *at == place => Some(*word),
-        _ => None,
-    }
-}
-
 /// Makes each stale word of an image's text null, and returns what the words were. All rules but those on
 /// references and on cards have to hold for the text.
-pub fn null_stale(alloc: Global, text: &mut Vec<u8>) -> Result<Option<Stale>, AllocError> {
+pub fn null_stale(alloc: Global, text: &mut [u8]) -> Result<Option<Stale>, AllocError> {
     let Some(parts) = Parts::of(text) else {
         return Ok(None);
     };
     let words = words_from(alloc, text, parts.words_at)?;
     let objects = Objects::find(alloc, text, &parts, &words)?;
-    let stale = Stale {
-        roots: null_roots(alloc, text, &parts, &objects)?,
-        slots: null_slots(alloc, text, &parts, &objects, &words)?,
+    let mut stale = Stale {
+        roots: Vec::new(alloc),
+        slots: Vec::new(alloc),
     };
+    null_roots(text, &parts, &objects, &mut stale.roots)?;
+    null_slots(text, &parts, &objects, &words, &mut stale.slots)?;
     Ok(Some(stale))
 }
 
@@ -79,9 +72,10 @@ impl Parts {
     // The kind and the used words of a region.
     fn region(&self, text: &[u8], region: u32) -> (Option<Kind>, u64) {
         let at = past(self.table_at, region as usize, self.entry);
-        let kind = u32::try_from(number(text, at))
-            .ok()
-            .and_then(Kind::of_number);
+        let kind = match u32::try_from(number(text, at)) {
+            Ok(kind) => Kind::of_number(kind),
+            Err(_) => None,
+        };
         (kind, number(text, at.saturating_add(4)))
     }
 }
@@ -202,13 +196,13 @@ impl Objects {
     }
 }
 
+// Adds the number and the word of each stale root, and makes it null.
 fn null_roots(
-    alloc: Global,
-    text: &mut Vec<u8>,
+    text: &mut [u8],
     parts: &Parts,
     objects: &Objects,
-) -> Result<Vec<(u64, u64)>, AllocError> {
-    let mut stale = Vec::new(alloc);
+    stale: &mut Vec<(u64, u64)>,
+) -> Result<(), AllocError> {
     for number in 0..parts.roots {
         let at = past(parts.roots_at, number, 8);
         let word = word(text, at);
@@ -217,17 +211,17 @@ fn null_roots(
             null(text, at);
         }
     }
-    Ok(stale)
+    Ok(())
 }
 
+// Adds the address and the word of each stale slot, and makes it null.
 fn null_slots(
-    alloc: Global,
-    text: &mut Vec<u8>,
+    text: &mut [u8],
     parts: &Parts,
     objects: &Objects,
     words: &[u64],
-) -> Result<Vec<(u64, u64)>, AllocError> {
-    let mut stale = Vec::new(alloc);
+    stale: &mut Vec<(u64, u64)>,
+) -> Result<(), AllocError> {
     for found in &objects.list {
         for slot in 1..=found.object.refs {
             let place = found.place.saturating_add(slot) as usize;
@@ -238,7 +232,7 @@ fn null_slots(
             }
         }
     }
-    Ok(stale)
+    Ok(())
 }
 
 // The word of 64 bits at a place, or 0 if no bytes are there.

@@ -18,22 +18,22 @@ pub fn summary<T: Threads + Sync>(rt: &T, alloc: Global, image: &Image) -> Resul
     let heap = image.heap();
     let starts = Starts::build(alloc, heap)?;
     let live = live_bytes(rt, alloc, heap, &starts, WORKERS, CHUNK, &Open)?;
-    Ok(lines(alloc, image, live.as_slice())?)
+    let mut text = String::new(alloc);
+    push_lines(&mut text, image, live.as_slice())?;
+    Ok(text)
 }
 
-fn lines(alloc: Global, image: &Image, live: &[u64]) -> Result<String, AllocError> {
+fn push_lines(text: &mut String, image: &Image, live: &[u64]) -> Result<(), AllocError> {
     let heap = image.heap();
-    let mut text = String::new(alloc);
-    push_sizes(&mut text, heap)?;
-    push_regions(&mut text, heap)?;
-    push_words(&mut text, heap, live)?;
+    push_sizes(text, heap)?;
+    push_regions(text, heap)?;
+    push_words(text, heap, live)?;
     let (remembered, dirty) = (remembered_cards(image), image.log().len());
     let roots = heap.roots().len();
     write!(
         text,
         "cards remembered {remembered} dirty {dirty}\nroots {roots}\n"
-    )?;
-    Ok(text)
+    )
 }
 
 fn push_sizes(text: &mut String, heap: &Heap) -> Result<(), AllocError> {
@@ -57,15 +57,27 @@ const KINDS: [Kind; 4] = [
 fn push_regions(text: &mut String, heap: &Heap) -> Result<(), AllocError> {
     text.push_str("regions")?;
     for kind in KINDS {
-        let count = heap
-            .regions()
-            .iter()
-            .filter(|region| region.kind == kind)
-            .count();
+        let count = count_of(heap, kind);
         write!(text, " {kind} {count}")?;
     }
-    let pinned = heap.regions().iter().filter(|region| region.pinned).count();
+    let pinned = count_pinned(heap);
     write!(text, " pinned {pinned}\n")
+}
+
+fn count_of(heap: &Heap, kind: Kind) -> u64 {
+    let mut count = 0u64;
+    for region in heap.regions() {
+        count = count.saturating_add(u64::from(region.kind == kind));
+    }
+    count
+}
+
+fn count_pinned(heap: &Heap) -> u64 {
+    let mut count = 0u64;
+    for region in heap.regions() {
+        count = count.saturating_add(u64::from(region.pinned));
+    }
+    count
 }
 
 // The words below the tops of all regions, those of the objects that the roots reach, and the others.

@@ -34,38 +34,34 @@ const TRACE: &str = "g1heap: waiting for a trace on standard input, which Ctrl-D
 
 // What is said of the request if standard input is read for it.
 fn waiting_text(request: &Request) -> Option<&'static str> {
-    match request {
-        Request::Help(_) => None,
-        Request::Same(same) if is_standard(&same.before) || is_standard(&same.after) => Some(IMAGE),
-        Request::Same(same) => same
-            .names
-            .as_ref()
-            .and_then(|names| is_standard(names).then_some(NAMES)),
-        Request::Print { image, .. } => is_standard(image).then_some(IMAGE),
-        Request::Make { lines, .. } => is_standard(lines).then_some(LINES),
-        Request::Explain(explain) => is_standard(&explain.image).then_some(IMAGE),
-        Request::Why { image, .. } => is_standard(image).then_some(IMAGE),
-        Request::Trace(trace) => is_standard(&trace.name).then_some(TRACE),
-    }
+    let (name, text) = match request {
+        Request::Help(_) => return None,
+        Request::Same(same) if is_standard(&same.before) || is_standard(&same.after) => {
+            return Some(IMAGE);
+        }
+        Request::Same(same) => (same.names.as_ref()?, NAMES),
+        Request::Print { image, .. } => (image, IMAGE),
+        Request::Make { lines, .. } => (lines, LINES),
+        Request::Explain(explain) => (&explain.image, IMAGE),
+        Request::Why { image, .. } => (image, IMAGE),
+        Request::Trace(trace) => (&trace.name, TRACE),
+    };
+    is_standard(name).then_some(text)
 }
 
 fn is_standard(name: &String) -> bool {
     name.as_str() == STANDARD_STREAM
 }
 
-/// Refuses to write an image to a terminal, but not if standard output is asked for.
-pub fn allow(alloc: Global, terminals: Terminals, request: &Request) -> Result<(), Refusal> {
-    let is_bytes = matches!(
-        request,
+/// The request, unless an image is to be written to a terminal: that is refused if standard output is not asked for.
+pub fn allow(alloc: Global, terminals: Terminals, request: Request) -> Result<Request, Refusal> {
+    match request {
         Request::Make {
             output: Output::Default,
             ..
-        }
-    );
-    if terminals.output && is_bytes {
-        return Err(Refusal::usage(String::from_str(alloc, BYTES)?));
+        } if terminals.output => Err(Refusal::usage(String::from_str(alloc, BYTES)?)),
+        allowed => Ok(allowed),
     }
-    Ok(())
 }
 
 const BYTES: &str =

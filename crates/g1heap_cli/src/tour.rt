@@ -1,7 +1,8 @@
 //! All differences of two heaps, as far as a walk behind the first one finds them.
-use crate::comparing::{Sides, object_in, word_at};
-use crate::reaching::Path;
-use crate::stale::{Stale, word_of};
+use crate::comparing::{Sides, object_in, slots_of, word_at};
+use crate::places::value_at;
+use crate::reaching::{Path, Step};
+use crate::stale::Stale;
 use g1_same::How;
 use g1_words::{Heap, Object};
 use std::alloc::{AllocError, Global};
@@ -24,61 +25,54 @@ pub enum What {
 /// The kinds of differences, as lines have them.
 pub const KINDS: [&str; 7] = ["stale", "null", "split", "joined", "size", "slots", "data"];
 
-/// The first differences of the walk, and how many there are of each of `KINDS`.
+/// A walk of both heaps, and what it finds.
 #[derive(Drop)]
-pub struct Differences {
+pub struct Tour {
+    /// The first differences.
     pub first: Vec<Found>,
+    /// How many differences there are of each of `KINDS`.
     pub counts: [u64; 7],
-}
-
-/// Walks both heaps at once from as many roots as both have, in the order in which they are compared. The walk
-/// goes on behind objects whose data words alone differ. It does not go on behind any other difference.
-pub fn walk(
-    alloc: Global,
-    sides: Sides<'_>,
-    stale: Option<&Stale>,
+    // How many differences are first.
     most: u64,
-) -> Result<Differences, AllocError> {
-    let mut tour = Tour::new(alloc, sides, most)?;
-    tour.meet_roots(alloc, sides, stale)?;
-    tour.visit_all(alloc, sides, stale)?;
-    Ok(tour.differences)
-}
-
-// How a pair is found: 0 and a root's number, or 1 more than the place of a pair, and a slot's number.
-#[derive(Clone, Copy)]
-struct Step {
-    from: u64,
-    number: u64,
-}
-
-#[derive(Drop)]
-struct Tour {
     // The address before and the address after of each pair of objects, and the step to it.
     pairs: Vec<(u64, u64)>,
     steps: Vec<Step>,
     // By address before, and by address after, 1 more than the place of a pair.
     new_of: Vec<u32>,
     old_of: Vec<u32>,
-    most: u64,
-    differences: Differences,
 }
 
 impl Tour {
-    fn new(alloc: Global, sides: Sides<'_>, most: u64) -> Result<Tour, AllocError> {
+    /// A walk that keeps this many differences.
+    pub fn new(alloc: Global, sides: Sides<'_>, most: u64) -> Result<Tour, AllocError> {
         let new_of = vec![in alloc; 0u32; sides.before.words().len()]?;
         let old_of = vec![in alloc; 0u32; sides.after.words().len()]?;
         Ok(Tour {
+            first: Vec::new(alloc),
+            counts: [0; 7],
+            most,
             pairs: Vec::new(alloc),
             steps: Vec::new(alloc),
             new_of,
             old_of,
-            most,
-            differences: Differences {
-                first: Vec::new(alloc),
-                counts: [0; 7],
-            },
         })
+    }
+
+    /// Walks both heaps at once from as many roots as both have, in the order in which they are compared. The
+    /// walk goes on behind objects whose data words alone differ. It does not go on behind any other difference.
+    pub fn walk(
+        &mut self,
+        alloc: Global,
+        sides: Sides<'_>,
+        stale: Option<&Stale>,
+    ) -> Result<(), AllocError> {
+        let none: &[(u64, u64)] = &[];
+        let (roots, slots) = match stale {
+            Some(stale) => (stale.roots.as_slice(), stale.slots.as_slice()),
+            None => (none, none),
+        };
+        self.meet_roots(alloc, sides, roots)?;
+        self.visit_all(alloc, sides, slots)
     }
 
     // Meets what the roots reference that both heaps have.
@@ -86,14 +80,14 @@ impl Tour {
         &mut self,
         alloc: Global,
         sides: Sides<'_>,
-        stale: Option<&Stale>,
+        stale: &[(u64, u64)],
     ) -> Result<(), AllocError> {
         for (number, old) in sides.before.roots().iter().enumerate() {
             let Some(new) = sides.after.roots().get(number) else {
                 break;
             };
             let number = number as u64;
-            let word = stale.and_then(|stale| word_of(stale.roots.as_slice(), number));
+            let word = value_at(stale, number);
             self.meet(alloc, sides, Step { from: 0, number }, (*old, *new), word)?;
         }
         Ok(())
@@ -104,7 +98,7 @@ impl Tour {
         &mut self,
         alloc: Global,
         sides: Sides<'_>,
-        stale: Option<&Stale>,
+        stale: &[(u64, u64)],
     ) -> Result<(), AllocError> {
         for place in 0..sides.before.words().len() {
             let Some(pair) = self.pairs.get(place).copied() else {
@@ -120,16 +114,17 @@ impl Tour {
         &mut self,
         alloc: Global,
         sides: Sides<'_>,
-        stale: Option<&Stale>,
+        stale: &[(u64, u64)],
         place: u64,
         pair: (u64, u64),
     ) -> Result<(), AllocError> {
         let (a, b) = pair;
         let from = place.saturating_add(1);
-        for number in 0..object_in(sides.before, a).map_or(0, |object| object.refs) {
+        for number in 0..slots_of(sides.before, a) {
+            let at = slot_at(b, number);
             let old = word_at(sides.before.words(), slot_at(a, number));
-            let new = word_at(sides.after.words(), slot_at(b, number));
-            let word = stale.and_then(|stale| word_of(stale.slots.as_slice(), slot_at(b, number)));
+            let new = word_at(sides.after.words(), at);
+            let word = value_at(stale, at);
             self.meet(alloc, sides, Step { from, number }, (old, new), word)?;
         }
         Ok(())
@@ -217,33 +212,14 @@ impl Tour {
     }
 
     fn report(&mut self, alloc: Global, step: Step, what: What) -> Result<(), AllocError> {
-        if (self.differences.first.len() as u64) < self.most {
-            let path = self.path(alloc, step)?;
-            self.differences.first.push(Found { path, what })?;
+        if (self.first.len() as u64) < self.most {
+            let path = Path::of_steps(alloc, self.steps.as_slice(), step)?;
+            self.first.push(Found { path, what })?;
         }
-        if let Some(count) = self.differences.counts.get_mut(kind_of(&what)) {
+        if let Some(count) = self.counts.get_mut(kind_of(&what)) {
             *count = count.saturating_add(1);
         }
         Ok(())
-    }
-
-    // The path whose last step is this one.
-    fn path(&self, alloc: Global, step: Step) -> Result<Path, AllocError> {
-        let mut slots = Vec::new(alloc);
-        let mut step = step;
-        for _ in 0..self.steps.len() {
-            let Some(place) = step.from.checked_sub(1) else {
-                break;
-            };
-            slots.push(step.number)?;
-            let first = Step { from: 0, number: 0 };
-            step = self.steps.get(place as usize).copied().unwrap_or(first);
-        }
-        slots.reverse();
-        Ok(Path {
-            root: step.number,
-            slots,
-        })
     }
 }
 
@@ -288,11 +264,12 @@ fn first_difference(sides: Sides<'_>, pair: (u64, u64)) -> Option<How> {
         return Some(How::Slots { before, after });
     }
     let (here, there) = (data_of(sides.before, &old), data_of(sides.after, &new));
-    let word = here
-        .iter()
-        .zip(there.iter())
-        .position(|(old, new)| old != new)?;
-    Some(How::Data { word: word as u64 })
+    for (word, old) in here.iter().enumerate() {
+        if there.get(word) != Some(old) {
+            return Some(How::Data { word: word as u64 });
+        }
+    }
+    None
 }
 
 fn data_of<'a>(heap: &'a Heap, object: &Object) -> &'a [u64] {

@@ -3,7 +3,7 @@ use crate::explaining::of_failure;
 use crate::files::{STANDARD_STREAM, open_file};
 use crate::options::Trace;
 use crate::output::write_file;
-use crate::refusal::{image_for_trace, is_image, no_command, of_file, wrong_trace_line};
+use crate::refusal::{IMAGE_HINT, is_image, no_command, of_file, wrong_line};
 use g1_command::{LineReader, Refusal, deliver_text};
 use g1_explain::{Explanation, Form, explain};
 use g1_image::{Image, decode, encode};
@@ -121,8 +121,9 @@ fn write_all<T: Files, W: Write>(
     state: &mut State,
     writer: &mut W,
 ) -> Result<u8, Refusal> {
-    if let (Some(wanted), Some(bytes)) = (&job.trace.image, state.image.take()) {
+    if let (Some(wanted), Some(bytes)) = (&job.trace.image, &state.image) {
         write_file(job.rt, job.alloc, wanted.file.as_str(), bytes.as_slice())?;
+        state.image = None;
     }
     let status = deliver_text(0, state.replies.as_slice(), writer)?;
     state.replies.clear();
@@ -172,7 +173,8 @@ fn content_of<'l>(
     number: u64,
 ) -> Result<&'l [u8], Refusal> {
     if number == 1 && is_image(line) {
-        return Err(image_for_trace(alloc, trace.name.as_str()));
+        let name = trace.name.as_str();
+        return Err(wrong_line(alloc, name, 1, &Expected::Heap, IMAGE_HINT));
     }
     match line.split_last() {
         Some((b'\n', content)) => Ok(content),
@@ -197,7 +199,7 @@ fn add_reply(alloc: Global, trace: &Trace, reply: Reply, state: &mut State) -> R
 }
 
 fn wrong(alloc: Global, trace: &Trace, number: u64, expected: Expected) -> Refusal {
-    wrong_trace_line(alloc, trace.name.as_str(), number, expected)
+    wrong_line(alloc, trace.name.as_str(), number, &expected, "")
 }
 
 fn push_numbered(

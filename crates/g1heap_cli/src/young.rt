@@ -8,10 +8,8 @@ use std::alloc::{AllocError, Global};
 pub fn with_dirty(alloc: Global, image: &Image, young: &[u32]) -> Result<Image, Fault> {
     let text = encode(alloc, image)?;
     let cards = cards_of(alloc, image, young)?;
-    match text_with(alloc, text.as_slice(), cards.as_slice())? {
-        Some(text) => decode(alloc, text.as_slice()),
-        None => decode(alloc, text.as_slice()),
-    }
+    let text = text_with(alloc, text.as_slice(), cards.as_slice())?;
+    decode(alloc, text.as_slice())
 }
 
 // The cards of these regions that are not dirty, each once.
@@ -22,17 +20,13 @@ fn cards_of(alloc: Global, image: &Image, young: &[u32]) -> Result<Vec<u32>, All
         .checked_div(geometry.card_words())
         .unwrap_or(0);
     let mut cards = Vec::new(alloc);
-    for (region, found) in image.heap().regions().iter().enumerate() {
-        if found.kind != Kind::Free && is_among(young, region) {
-            let first = (region as u64).saturating_mul(in_region);
+    for region in 0..geometry.regions() as u32 {
+        if young.contains(&region) && image.heap().region(region).kind != Kind::Free {
+            let first = u64::from(region).saturating_mul(in_region);
             push_clean(image, first, in_region, &mut cards)?;
         }
     }
     Ok(cards)
-}
-
-fn is_among(regions: &[u32], region: usize) -> bool {
-    regions.iter().any(|among| *among as usize == region)
 }
 
 // Adds those of `count` cards, from the first on, that are not dirty.
@@ -53,20 +47,18 @@ fn push_clean(
 }
 
 // The text with these cards behind those of its log.
-fn text_with(alloc: Global, text: &[u8], cards: &[u32]) -> Result<Option<Vec<u8>>, AllocError> {
+fn text_with(alloc: Global, text: &[u8], cards: &[u32]) -> Result<Vec<u8>, AllocError> {
     let Some(parts) = Parts::of(text) else {
-        return Ok(None);
+        return Vec::from_slice(alloc, text);
     };
-    let (Some(log), Some(sets)) = (text.get(..parts.sets_at), text.get(parts.sets_at..)) else {
-        return Ok(None);
-    };
+    let (log, sets) = text.split_at(parts.sets_at.min(text.len()));
     let dirty = number(text, Parts::DIRTY_AT).saturating_add(cards.len() as u64);
     let dirty = u32::try_from(dirty).unwrap_or(u32::MAX);
     let mut changed = Vec::from_slice(alloc, log)?;
     set_number(&mut changed, Parts::DIRTY_AT, dirty);
     push_cards(&mut changed, cards)?;
     changed.extend_from_slice(sets)?;
-    Ok(Some(changed))
+    Ok(changed)
 }
 
 // Writes a number at a place of a text.
