@@ -122,22 +122,6 @@ name_for (Copy r q) = (name.Copy, refl)
 name_for (Drop r) = (name.Drop, refl)
 name_for (Pause b) = (name.Pause, refl)
 
--- every name, in the order in which they are looked for
-abbrev pub all_names : List Name
-all_names = name.Get ∷ name.Put ∷ name.Set ∷ name.New ∷ name.Drop ∷ name.Copy ∷ name.Say ∷ name.Same ∷ name.Pause ∷ []
-
--- a word that is none of them in that order is no name
-pub none_of_all : (word : List ℕ) → ((k : ℕ) → k < 9 → word ≡ spelled (get_or all_names k name.Get) → ⊥) → (n : Name) → word ≡ spelled n → ⊥
-none_of_all word none name.Get = none 0 (omega arith)
-none_of_all word none name.Put = none 1 (omega arith)
-none_of_all word none name.Set = none 2 (omega arith)
-none_of_all word none name.New = none 3 (omega arith)
-none_of_all word none name.Drop = none 4 (omega arith)
-none_of_all word none name.Copy = none 5 (omega arith)
-none_of_all word none name.Say = none 6 (omega arith)
-none_of_all word none name.Same = none 7 (omega arith)
-none_of_all word none name.Pause = none 8 (omega arith)
-
 spelled_word : (n : Name) → NoSpace (spelled n)
 spelled_word n = let k = named_so n in subst NoSpace k.1 (name_word k.0)
 

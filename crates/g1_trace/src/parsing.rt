@@ -189,45 +189,23 @@ enum Numbers {
     Three(u64, u64, u64),
 }
 
-/// The bytes of a command's name.
-fn spelling(name: Name) -> &'static [u8]
-    ensures { result.now ≡ spelled name }
-{
-    match name {
-        Name::New => b"new",
-        Name::Get => b"get",
-        Name::Put => b"put",
-        Name::Set => b"set",
-        Name::Say => b"say",
-        Name::Same => b"same",
-        Name::Copy => b"copy",
-        Name::Drop => b"drop",
-        Name::Pause => b"pause",
-    }
-}
-
 /// The command's name that a word spells.
 fn name_from(word: &[u8]) -> Option<Name>
     ensures some { IfSome result (λ name. word.now ≡ spelled name) }
     ensures none { IfNone result ((name : NameOf) → word.now ≡ spelled name → ⊥) }
 {
-    let names = [
-        Name::Get,
-        Name::Put,
-        Name::Set,
-        Name::New,
-        Name::Drop,
-        Name::Copy,
-        Name::Say,
-        Name::Same,
-        Name::Pause,
-    ];
-    for name in &names {
-        if word == spelling(*name) {
-            return Some(*name);
-        }
+    match word {
+        b"get" => Some(Name::Get),
+        b"put" => Some(Name::Put),
+        b"set" => Some(Name::Set),
+        b"new" => Some(Name::New),
+        b"drop" => Some(Name::Drop),
+        b"copy" => Some(Name::Copy),
+        b"say" => Some(Name::Say),
+        b"same" => Some(Name::Same),
+        b"pause" => Some(Name::Pause),
+        _ => None,
     }
-    None
 }
 
 /// The command's name that the bytes begin with, and the bytes after the space that follows it.
