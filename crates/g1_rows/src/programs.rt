@@ -28,7 +28,7 @@ struct Left {
 
 /// Whether a program has this name.
 pub fn is_program(name: &str) -> bool {
-    NAMES.iter().any(|program| *program == name)
+    NAMES.contains(&name)
 }
 
 /// What a program left that is called by a line of its words, if it is not what the row expects.
@@ -68,7 +68,10 @@ fn write_file<R: Files>(rt: &R, name: &str, bytes: &[u8]) -> io::Result<()> {
 }
 
 fn done(attempt: io::Result<()>) -> Result<(), Fault> {
-    attempt.map_err(|_| Fault::Device(Device::Output))
+    match attempt {
+        Ok(()) => Ok(()),
+        Err(_) => Err(Fault::Device(Device::Output)),
+    }
 }
 
 fn remove_files<R: Files>(rt: &R, files: &[Content]) -> Result<(), Fault> {
