@@ -46,12 +46,12 @@ pub fn miss_of<R: Threads + Files + Sync>(
     let after = Scene::of_lines(trial.alloc, expected)?;
     write_files(trial, before.files.as_slice())?;
     let miss = match before.devices {
-        Devices::EachRead | Devices::EachWrite => miss_of_each(trial, line, &before, &after)?,
-        _ => miss_of_one(trial, line, &before, &after)?,
+        Devices::EachRead | Devices::EachWrite => miss_of_each(trial, line, &before, &after),
+        _ => miss_of_one(trial, line, &before, &after),
     };
     remove_files(trial.rt, before.files.as_slice())?;
     remove_files(trial.rt, after.files.as_slice())?;
-    Ok(miss)
+    miss
 }
 
 fn write_files<R: Files>(trial: &Trial<'_, R>, files: &[Content]) -> Result<(), Fault> {

@@ -104,7 +104,7 @@ fn draw(alloc: Global, block: &str, pictures: &mut Vec<Picture>) -> Result<(), F
     Ok(pictures.push(Picture { name, bytes })?)
 }
 
-fn first_line(block: &str) -> &str {
+pub fn first_line(block: &str) -> &str {
     block.split_once('\n').unwrap_or((block, "")).0
 }
 
@@ -225,12 +225,14 @@ fn miss_text(
 
 /// Adds bytes as they are if they are lines of text, else as hexadecimal.
 pub fn push_shown(text: &mut String, bytes: &[u8]) -> Result<(), AllocError> {
-    let is_plain = bytes.iter().all(|byte| *byte == b'\n'
-        || byte.is_ascii_graphic()
-        || *byte == b' ');
+    for byte in bytes {
+        if *byte != b'\n' && *byte != b' ' && !byte.is_ascii_graphic() {
+            return push_digits(text, bytes);
+        }
+    }
     match str::from_utf8(bytes) {
-        Ok(lines) if is_plain => text.push_str(lines),
-        _ => push_digits(text, bytes),
+        Ok(lines) => text.push_str(lines),
+        Err(_) => push_digits(text, bytes),
     }
 }
 

@@ -56,7 +56,7 @@ fn is_made_again(alloc: Global, bytes: &[u8]) -> Result<bool, Fail> {
 
 #[test]
 fn prints_and_makes_images_at_their_limits(rt: HostRuntime) -> Result<(), Fail> {
-    for numbers in LIMITS {
+    for numbers in LIMITS.iter() {
         let bytes = raw(rt.alloc(), numbers)?;
         assert!(rt; is_made_again(rt.alloc(), &bytes)?, "{numbers}");
     }
