@@ -46,10 +46,22 @@ pub fn answer<R: Threads + Sync>(
 /// Makes the call, and those before it that it needs.
 fn make<R: Threads + Sync>(call: &Call<'_, R>, watch: &mut Watch) -> Result<(), Fault> {
     match call.name {
-        "settings" | "laid" | "cost" | "total" | "each_region_mut" => {
-            work_out(call, watch);
-            Ok(())
+        "settings" => print_settings(&call.settings, watch),
+        "cost" => pricing::price(call, watch),
+        "total" => pricing::add(call, watch),
+        "each_region_mut" => sharing::number(call, watch),
+        "laid" => {
+            watch.at("laid");
+            watch.bytes(call.given.part(0));
         }
+        _ => return try_to_make(call, watch),
+    }
+    Ok(())
+}
+
+/// Makes a call that may be refused.
+fn try_to_make<R: Threads + Sync>(call: &Call<'_, R>, watch: &mut Watch) -> Result<(), Fault> {
+    match call.name {
         "deal" => sharing::deal(call, watch),
         "claim" => sharing::claim(call, watch),
         "each_chunk" => sharing::square(call, watch),
@@ -64,20 +76,6 @@ fn make<R: Threads + Sync>(call: &Call<'_, R>, watch: &mut Watch) -> Result<(), 
         "pause_bytes" => pausing::from_bytes(call, watch),
         "pause_run" => pausing::from_stream(call, watch),
         _ => take_steps(call, watch),
-    }
-}
-
-/// Makes a call that refuses nothing.
-fn work_out<R: Threads + Sync>(call: &Call<'_, R>, watch: &mut Watch) {
-    match call.name {
-        "settings" => print_settings(&call.settings, watch),
-        "cost" => pricing::price(call, watch),
-        "total" => pricing::add(call, watch),
-        "each_region_mut" => sharing::number(call, watch),
-        _ => {
-            watch.at("laid");
-            watch.bytes(call.given.part(0));
-        }
     }
 }
 

@@ -76,7 +76,7 @@ impl Given {
     }
 
     fn push_word(&mut self, alloc: Global, word: &str) -> Result<(), Fault> {
-        if OPTIONS.iter().any(|option| *option == word) {
+        if OPTIONS.contains(&word) {
             return self.push_option(alloc, word);
         }
         let last = self.settings.last_mut().ok_or(BAD)?;
@@ -92,7 +92,7 @@ impl Given {
     }
 
     fn push_option(&mut self, alloc: Global, name: &str) -> Result<(), Fault> {
-        if self.settings.iter().any(|it| it.name.as_str() == name) {
+        if self.setting(name).is_some() {
             return Err(BAD);
         }
         let name = String::from_str(alloc, name)?;
@@ -114,14 +114,21 @@ impl Given {
         Ok(same)
     }
 
-    /// The numbers of an option; none if it is not there.
-    pub fn numbers(&self, option: &str) -> &[u64] {
+    fn setting(&self, name: &str) -> Option<&Setting> {
         for setting in &self.settings {
-            if setting.name.as_str() == option {
-                return setting.numbers.as_slice();
+            if setting.name.as_str() == name {
+                return Some(setting);
             }
         }
-        &[]
+        None
+    }
+
+    /// The numbers of an option; none if it is not there.
+    pub fn numbers(&self, option: &str) -> &[u64] {
+        match self.setting(option) {
+            Some(setting) => setting.numbers.as_slice(),
+            None => &[],
+        }
     }
 
     /// The first number of an option, or another one.

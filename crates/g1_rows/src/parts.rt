@@ -43,9 +43,7 @@ impl Laying {
             self.finish(alloc)?;
         }
         if word == "heap" || !self.drawing.is_empty() {
-            self.drawing.push_str(line)?;
-            self.drawing.push_str("\n")?;
-            return Ok(());
+            return Ok(push_line(&mut self.drawing, line)?);
         }
         if let Some(times) = line.strip_prefix("times ") {
             return self.push_times(alloc, times);
@@ -97,7 +95,7 @@ pub fn parts_of(alloc: Global, lines: &str, pictures: &[Picture]) -> Result<Vec<
 }
 
 fn is_drawn(word: &str) -> bool {
-    DRAWN.iter().any(|drawn| *drawn == word)
+    DRAWN.contains(&word)
 }
 
 /// What a line begins with, up to a space.
@@ -109,7 +107,7 @@ fn part_of(alloc: Global, line: &str, pictures: &[Picture]) -> Result<Vec<u8>, F
     match line.split_once(' ') {
         Some(("image", name)) => bytes_of_picture(alloc, name, pictures),
         Some(("hex", digits)) => bytes_of(alloc, digits),
-        Some(("text", text)) => Ok(unescape(alloc, text)?),
+        Some(("text", text)) => unescape(alloc, text),
         Some(("raw", numbers)) => raw(alloc, numbers),
         Some(("|", text)) => line_of(alloc, text),
         _ if line == "|" => line_of(alloc, ""),
@@ -118,15 +116,32 @@ fn part_of(alloc: Global, line: &str, pictures: &[Picture]) -> Result<Vec<u8>, F
 }
 
 fn line_of(alloc: Global, text: &str) -> Result<Vec<u8>, Fault> {
-    let mut line = Vec::from_slice(alloc, text.as_bytes())?;
-    line.push(b'\n')?;
+    let mut line = Vec::new(alloc);
+    push_bytes(&mut line, text)?;
     Ok(line)
 }
 
+/// Adds the bytes of a line and of its end.
+fn push_bytes(bytes: &mut Vec<u8>, line: &str) -> Result<(), AllocError> {
+    bytes.extend_from_slice(line.as_bytes())?;
+    bytes.extend_from_slice(b"\n")
+}
+
 fn bytes_of_picture(alloc: Global, name: &str, pictures: &[Picture]) -> Result<Vec<u8>, Fault> {
-    let mut all = pictures.iter();
-    let named = all.find(|it| it.name.as_str() == name).ok_or(BAD)?;
-    Ok(named.bytes.to_vec(alloc)?)
+    match picture_of(pictures, name) {
+        Some(picture) => Ok(picture.bytes.to_vec(alloc)?),
+        None => Err(BAD),
+    }
+}
+
+/// The image of this name.
+pub fn picture_of<'a>(pictures: &'a [Picture], name: &str) -> Option<&'a Picture> {
+    for picture in pictures {
+        if picture.name.as_str() == name {
+            return Some(picture);
+        }
+    }
+    None
 }
 
 /// The bytes with these hexadecimal digits, two for each.
@@ -150,7 +165,7 @@ fn bytes_of(alloc: Global, digits: &str) -> Result<Vec<u8>, Fault> {
 }
 
 /// The bytes of a text, in which `\n` ends a line, and `\t` and `\r` are what they are elsewhere.
-pub fn unescape(alloc: Global, text: &str) -> Result<Vec<u8>, AllocError> {
+pub fn unescape(alloc: Global, text: &str) -> Result<Vec<u8>, Fault> {
     let mut bytes = Vec::new(alloc);
     let mut is_escaped = false;
     for byte in text.bytes() {
@@ -170,12 +185,18 @@ pub fn unescape(alloc: Global, text: &str) -> Result<Vec<u8>, AllocError> {
 }
 
 /// All parts, one after another.
-pub fn join(alloc: Global, parts: &[Vec<u8>]) -> Result<Vec<u8>, AllocError> {
+pub fn join(alloc: Global, parts: &[Vec<u8>]) -> Result<Vec<u8>, Fault> {
     let mut bytes = Vec::new(alloc);
     for part in parts {
         bytes.extend_from_slice(part.as_slice())?;
     }
     Ok(bytes)
+}
+
+/// Adds a line and its end.
+pub fn push_line(text: &mut String, line: &str) -> Result<(), AllocError> {
+    text.push_str(line)?;
+    text.push_str("\n")
 }
 
 /// A trace's text and its replies, of lines `COMMAND [REPLY]`.
@@ -185,12 +206,10 @@ pub fn trace_of(alloc: Global, lines: &str) -> Result<(Vec<u8>, Vec<u8>), AllocE
     for line in lines.split('\n') {
         let (command, reply) = line.split_once(" [").unwrap_or((line, ""));
         if !line.is_empty() {
-            commands.extend_from_slice(command.as_bytes())?;
-            commands.push(b'\n')?;
+            push_bytes(&mut commands, command)?;
         }
         if let Some(reply) = reply.strip_suffix("]") {
-            replies.extend_from_slice(reply.as_bytes())?;
-            replies.push(b'\n')?;
+            push_bytes(&mut replies, reply)?;
         }
     }
     Ok((commands, replies))

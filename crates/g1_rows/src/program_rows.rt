@@ -4,9 +4,9 @@
 //! - If there are several lines `PROGRAM WORD ..`, each of them has to leave the same.
 //! - In a row of many cases each line below `----` is `WORD .. => ANSWER`, for further words, or `PART => ANSWER`, for
 //!   what is on standard input: a `text`, an `image` or `raw` bytes.
-use crate::parts::{BAD, first_word};
+use crate::parts::{BAD, first_word, push_line};
 use crate::programs::{is_program, miss_of};
-use crate::rows::Trial;
+use crate::rows::{Trial, first_line};
 use g1_words::Fault;
 use std::alloc::{AllocError, Global};
 use std::rt::Files;
@@ -14,7 +14,7 @@ use std::thread::Threads;
 
 /// Whether the lines of a row begin with a program.
 pub fn is_run(body: &str) -> bool {
-    is_program(first_word(body.split_once('\n').unwrap_or((body, "")).0))
+    is_program(first_word(first_line(body)))
 }
 
 /// What a program left, if it is not what the row expects.
@@ -46,8 +46,7 @@ fn without_runs(alloc: Global, above: &str) -> Result<String, AllocError> {
     let mut given = String::new(alloc);
     for line in above.split('\n') {
         if !is_program(first_word(line)) {
-            given.push_str(line)?;
-            given.push_str("\n")?;
+            push_line(&mut given, line)?;
         }
     }
     Ok(given)

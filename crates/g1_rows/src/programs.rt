@@ -28,7 +28,7 @@ struct Left {
 
 /// Whether a program has this name.
 pub fn is_program(name: &str) -> bool {
-    NAMES.iter().any(|program| *program == name)
+    NAMES.contains(&name)
 }
 
 /// What a program left that is called by a line of its words, if it is not what the row expects.
@@ -46,12 +46,12 @@ pub fn miss_of<R: Threads + Files + Sync>(
     let after = Scene::of_lines(trial.alloc, expected)?;
     write_files(trial, before.files.as_slice())?;
     let miss = match before.devices {
-        Devices::EachRead | Devices::EachWrite => miss_of_each(trial, line, &before, &after)?,
-        _ => miss_of_one(trial, line, &before, &after)?,
+        Devices::EachRead | Devices::EachWrite => miss_of_each(trial, line, &before, &after),
+        _ => miss_of_one(trial, line, &before, &after),
     };
     remove_files(trial.rt, before.files.as_slice())?;
     remove_files(trial.rt, after.files.as_slice())?;
-    Ok(miss)
+    miss
 }
 
 fn write_files<R: Files>(trial: &Trial<'_, R>, files: &[Content]) -> Result<(), Fault> {
@@ -68,7 +68,10 @@ fn write_file<R: Files>(rt: &R, name: &str, bytes: &[u8]) -> io::Result<()> {
 }
 
 fn done(attempt: io::Result<()>) -> Result<(), Fault> {
-    attempt.map_err(|_| Fault::Device(Device::Output))
+    match attempt {
+        Ok(()) => Ok(()),
+        Err(_) => Err(Fault::Device(Device::Output)),
+    }
 }
 
 fn remove_files<R: Files>(rt: &R, files: &[Content]) -> Result<(), Fault> {

@@ -44,7 +44,10 @@ fn verified<R: Threads + Sync>(call: &Call<'_, R>, read: Image) -> Result<Tracke
 
 /// The image of the bytes, if no call on the way is watched.
 pub fn tracked<R: Threads + Sync>(call: &Call<'_, R>) -> Result<Tracked, Fault> {
-    verified(call, decode(call.alloc, call.given.part(0))?).map_err(|(_, fault)| fault)
+    match verified(call, decode(call.alloc, call.given.part(0))?) {
+        Ok(tracked) => Ok(tracked),
+        Err((_, fault)) => Err(fault),
+    }
 }
 
 /// The image of the bytes, straight from a reader of them.

@@ -14,7 +14,7 @@
 //! large chunks: all of them are tried.
 use crate::calling::answer;
 use crate::given::Given;
-use crate::parts::{BAD, Picture, join, parts_of, trace_of};
+use crate::parts::{BAD, Picture, join, parts_of, picture_of, push_line, trace_of};
 use crate::program_rows;
 use crate::verdicts::Verdicts;
 use g1_testing::is_refusal;
@@ -47,7 +47,8 @@ pub fn judge<R: Threads + Files + Sync>(
     is_refused: bool,
 ) -> Result<Verdicts, AllocError> {
     let mut verdicts = Verdicts::new(alloc);
-    let pictures = draw_all(alloc, text, &mut verdicts)?;
+    let mut pictures = Vec::new(alloc);
+    draw_all(alloc, text, &mut pictures, &mut verdicts)?;
     let trial = Trial {
         rt,
         alloc,
@@ -64,43 +65,46 @@ pub fn judge<R: Threads + Files + Sync>(
 }
 
 fn is_remark(block: &str) -> bool {
-    block
-        .split('\n')
-        .all(|line| line.is_empty() || line.starts_with('#'))
+    for line in block.split('\n') {
+        if !line.is_empty() && !line.starts_with('#') {
+            return false;
+        }
+    }
+    true
 }
 
-/// The images that blocks of a text draw.
+/// Adds the images that blocks of a text draw.
 fn draw_all(
     alloc: Global,
     text: &str,
+    pictures: &mut Vec<Picture>,
     verdicts: &mut Verdicts,
-) -> Result<Vec<Picture>, AllocError> {
-    let mut pictures = Vec::new(alloc);
+) -> Result<(), AllocError> {
     for block in text.split("\n\n") {
         let block = block.trim_matches('\n');
         if let Some(rest) = block.strip_prefix("image ") {
-            match draw(alloc, rest, pictures.as_slice()) {
-                Ok(picture) => pictures.push(picture)?,
+            match draw(alloc, rest, pictures) {
+                Ok(()) => {}
                 Err(Fault::Memory) => return Err(AllocError),
                 Err(_) => verdicts.fail(first_line(block), "it draws no image with a new name\n")?,
             }
         }
     }
-    Ok(pictures)
+    Ok(())
 }
 
-/// The image of a name and its lines. No other has the name.
-fn draw(alloc: Global, block: &str, pictures: &[Picture]) -> Result<Picture, Fault> {
+/// Adds the image of a name and its lines. No other has the name.
+fn draw(alloc: Global, block: &str, pictures: &mut Vec<Picture>) -> Result<(), Fault> {
     let (name, lines) = block.split_once('\n').ok_or(BAD)?;
-    if pictures.iter().any(|it| it.name.as_str() == name) {
+    if picture_of(pictures, name).is_some() {
         return Err(BAD);
     }
     let bytes = join(alloc, parts_of(alloc, lines, pictures)?.as_slice())?;
     let name = String::from_str(alloc, name)?;
-    Ok(Picture { name, bytes })
+    Ok(pictures.push(Picture { name, bytes })?)
 }
 
-fn first_line(block: &str) -> &str {
+pub fn first_line(block: &str) -> &str {
     block.split_once('\n').unwrap_or((block, "")).0
 }
 
@@ -184,8 +188,7 @@ fn miss_of_team<R: Threads + Sync>(
         let found = answer(trial.rt, trial.alloc, name, &case.given, team)?;
         let is_same = found.bytes.as_slice() == case.expected.as_slice();
         let part = case.given.part(0);
-        let is_memory = found.is_refused
-            && is_refusal(trial.alloc, name, &found.bytes, &case.expected, part)?;
+        let is_memory = found.is_refused && is_refusal(name, &found.bytes, &case.expected, part);
         if !is_same && !is_memory {
             return Ok(Some(miss_text(trial.alloc, name, case, team, &found.bytes)?));
         }
@@ -222,12 +225,14 @@ fn miss_text(
 
 /// Adds bytes as they are if they are lines of text, else as hexadecimal.
 pub fn push_shown(text: &mut String, bytes: &[u8]) -> Result<(), AllocError> {
-    let is_plain = bytes.iter().all(|byte| *byte == b'\n'
-        || byte.is_ascii_graphic()
-        || *byte == b' ');
+    for byte in bytes {
+        if *byte != b'\n' && *byte != b' ' && !byte.is_ascii_graphic() {
+            return push_digits(text, bytes);
+        }
+    }
     match str::from_utf8(bytes) {
-        Ok(lines) if is_plain => text.push_str(lines),
-        _ => push_digits(text, bytes),
+        Ok(lines) => text.push_str(lines),
+        Err(_) => push_digits(text, bytes),
     }
 }
 
@@ -244,8 +249,7 @@ fn without_remarks(alloc: Global, block: &str) -> Result<String, AllocError> {
     let mut body = String::new(alloc);
     for line in block.split('\n') {
         if !line.starts_with('#') {
-            body.push_str(line)?;
-            body.push_str("\n")?;
+            push_line(&mut body, line)?;
         }
     }
     Ok(body)

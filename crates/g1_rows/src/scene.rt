@@ -11,7 +11,7 @@
 //! - `status N`: the exit status, which is 0 if the line is left out. Another line of this list may follow in it.
 //! - `! TEXT`: a line of standard error, in which `\n` ends a line, too. A first or a last line `! ..` stands for any text.
 //! - `usage`: status 2, and a standard error that begins with `error: `.
-use crate::parts::{BAD, Picture, join, parts_of, unescape};
+use crate::parts::{BAD, Picture, join, parts_of, push_line, unescape};
 use g1_words::Fault;
 use std::alloc::{AllocError, Global};
 
@@ -32,10 +32,9 @@ impl Content {
         })
     }
 
-    fn push(&mut self, line: &str) -> Result<(), AllocError> {
+    fn push(&mut self, line: &str) -> Result<(), Fault> {
         self.is_there = true;
-        self.lines.push_str(line)?;
-        self.lines.push_str("\n")
+        Ok(push_line(&mut self.lines, line)?)
     }
 
     /// The bytes that the lines say.
@@ -45,7 +44,7 @@ impl Content {
     /// `Fault::Line` if a line says nothing; `Fault::Memory`.
     pub fn bytes(&self, alloc: Global, pictures: &[Picture]) -> Result<Vec<u8>, Fault> {
         let parts = parts_of(alloc, self.lines.as_str(), pictures)?;
-        Ok(join(alloc, parts.as_slice())?)
+        join(alloc, parts.as_slice())
     }
 }
 
@@ -78,12 +77,13 @@ impl Scene {
     ///
     /// `Fault::Line` if a line is not understood; `Fault::Memory`.
     pub fn of_lines(alloc: Global, lines: &str) -> Result<Scene, Fault> {
+        let stream = Content::new(alloc, "", false)?;
         let mut scene = Scene {
             devices: Devices::Well,
             status: 0,
             errors: Vec::new(alloc),
             is_usage: false,
-            stream: Content::new(alloc, "", false)?,
+            stream,
             files: Vec::new(alloc),
             is_in_file: false,
         };
@@ -108,13 +108,13 @@ impl Scene {
             return Ok(());
         }
         if let Some(text) = line.strip_prefix("!") {
-            return Ok(self.push_error(alloc, text)?);
+            return self.push_error(alloc, text);
         }
         if let Some(name) = line.strip_prefix("file ") {
-            return Ok(self.begin_file(alloc, name, true)?);
+            return self.begin_file(alloc, name, true);
         }
         if let Some(name) = line.strip_prefix("no file ") {
-            return Ok(self.begin_file(alloc, name, false)?);
+            return self.begin_file(alloc, name, false);
         }
         match line {
             "stdin" => {
@@ -128,25 +128,24 @@ impl Scene {
             "each read fails" => self.devices = Devices::EachRead,
             "each write fails" => self.devices = Devices::EachWrite,
             "the reader goes away" => self.devices = Devices::Gone,
-            _ => self.push_part(line)?,
+            _ => return self.push_part(line),
         }
         Ok(())
     }
 
-    fn push_error(&mut self, alloc: Global, text: &str) -> Result<(), AllocError> {
+    fn push_error(&mut self, alloc: Global, text: &str) -> Result<(), Fault> {
         let text = text.strip_prefix(" ").unwrap_or(text);
         let line = unescape(alloc, text)?;
         self.errors.extend_from_slice(line.as_slice())?;
-        self.errors.extend_from_slice(b"\n")
+        Ok(self.errors.push(b'\n')?)
     }
 
-    fn begin_file(&mut self, alloc: Global, name: &str, is_there: bool) -> Result<(), AllocError> {
+    fn begin_file(&mut self, alloc: Global, name: &str, is_there: bool) -> Result<(), Fault> {
         self.is_in_file = true;
-        self.files.push(Content::new(alloc, name, is_there)?)?;
-        Ok(())
+        Ok(self.files.push(Content::new(alloc, name, is_there)?)?)
     }
 
-    fn push_part(&mut self, line: &str) -> Result<(), AllocError> {
+    fn push_part(&mut self, line: &str) -> Result<(), Fault> {
         if !self.is_in_file {
             return self.stream.push(line);
         }

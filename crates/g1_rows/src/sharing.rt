@@ -15,7 +15,7 @@ pub fn deal<R>(call: &Call<'_, R>, watch: &mut Watch) -> Result<(), Fault> {
     let (dealer, mut seat) = Dealer::new(call.alloc, chunks)?;
     let whole = g1_deal::shares(&seat);
     let mut other = dealer.split(&mut seat);
-    let parts = [g1_deal::shares(&seat), g1_deal::shares(&other)];
+    let (left, split) = (g1_deal::shares(&seat), g1_deal::shares(&other));
     let first = dealer.take(&mut seat);
     let drawn = dealer.drawn(&mut other);
     dealer.join(&mut seat, other);
@@ -26,7 +26,7 @@ pub fn deal<R>(call: &Call<'_, R>, watch: &mut Watch) -> Result<(), Fault> {
     let fifth = dealer.take(&mut seat);
     let cursor = dealer.close(seat);
     if watch.is_over() {
-        watch.list(&[whole, parts[0], parts[1], joined]);
+        watch.list(&[whole, left, split, joined]);
         for draw in [first, second, third, fourth, fifth] {
             watch.list(&[draw.unwrap_or(chunks)]);
         }
@@ -42,7 +42,7 @@ pub fn claim<R>(call: &Call<'_, R>, watch: &mut Watch) -> Result<(), Fault> {
     let (claims, mut seat) = Claims::new(call.alloc, 2)?;
     let whole = g1_claim::shares(&seat);
     let mut other = claims.split(&mut seat);
-    let parts = [g1_claim::shares(&seat), g1_claim::shares(&other)];
+    let (left, split) = (g1_claim::shares(&seat), g1_claim::shares(&other));
     let before = claims.least(&mut other, 0);
     let first = claims.offer(&mut seat, 0, 9);
     let second = claims.offer(&mut seat, 0, 9);
@@ -53,7 +53,7 @@ pub fn claim<R>(call: &Call<'_, R>, watch: &mut Watch) -> Result<(), Fault> {
     let joined = g1_claim::shares(&seat);
     let words = claims.close(seat);
     if watch.is_over() {
-        watch.list(&[whole, parts[0], parts[1], joined]);
+        watch.list(&[whole, left, split, joined]);
         watch.list(&[first, second, third, fourth]);
         watch.list(&[before, after]);
         watch.list(words.as_slice());

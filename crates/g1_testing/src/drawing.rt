@@ -27,7 +27,7 @@ struct Drawing {
     region_words: u32,
     card_words: u32,
     regions: u32,
-    current: Option<u32>,
+    current: u32,
     roots: Vec<u64>,
     dirty: Vec<u32>,
     parts: Vec<Part>,
@@ -44,11 +44,12 @@ pub(crate) fn bytes_of(alloc: Global, lines: &str) -> Result<Vec<u8>, Fault> {
     for line in lines.split('\n') {
         number = number.saturating_add(1);
         match drawing.read(line) {
+            Ok(()) => {}
             Err(Fault::Line(_)) => return Err(Fault::Line(number)),
-            outcome => outcome?,
+            Err(fault) => return Err(fault),
         }
     }
-    Ok(drawing.bytes()?)
+    drawing.bytes(alloc)
 }
 
 impl Drawing {
@@ -58,7 +59,7 @@ impl Drawing {
             region_words: 0,
             card_words: 0,
             regions: 0,
-            current: None,
+            current: 0,
             roots: Vec::new(alloc),
             dirty: Vec::new(alloc),
             parts: Vec::new(alloc),
@@ -103,11 +104,11 @@ impl Drawing {
         self.region_words = number(words)?;
         self.card_words = number(words)?;
         self.regions = number(words)?;
-        match words.next() {
-            None => {}
-            Some("current") => self.current = Some(number(words)?),
+        self.current = match words.next() {
+            None => self.regions,
+            Some("current") => number(words)?,
             Some(_) => return Err(BAD),
-        }
+        };
         Ok(())
     }
 
@@ -123,22 +124,23 @@ impl Drawing {
             _ => return Err(BAD),
         };
         match words.next() {
-            None => Ok(self.begin(kind, 0)?),
-            Some("pinned") => Ok(self.begin(kind, 1)?),
+            None => self.begin(kind, 0),
+            Some("pinned") => self.begin(kind, 1),
             Some(_) => Err(BAD),
         }
     }
 
-    fn begin(&mut self, kind: u32, flags: u32) -> Result<(), AllocError> {
+    fn begin(&mut self, kind: u32, flags: u32) -> Result<(), Fault> {
         let remembered = Vec::new(self.alloc);
         let words = Vec::new(self.alloc);
-        self.parts.push(Part {
-            kind,
-            flags,
-            remembered,
-            words,
-        })?;
-        Ok(())
+        Ok(
+            self.parts.push(Part {
+                kind,
+                flags,
+                remembered,
+                words,
+            })?,
+        )
     }
 
     /// remembered R cards CARD .., below the line of region R
@@ -155,13 +157,11 @@ impl Drawing {
     fn read_object(&mut self, words: &mut SplitAsciiWhitespace<'_>) -> Result<(), Fault> {
         let (size, slots) = words.next().and_then(size_and_slots).ok_or(BAD)?;
         let part = self.parts.last_mut().ok_or(BAD)?;
+        let end = part.words.len().saturating_add(size as usize);
         part.words.push(u64::from(size) << 32 | u64::from(slots))?;
-        let mut is_rest = false;
         for place in 1..size {
-            let word = if is_rest { None } else { words.next() };
-            is_rest |= word == Some("..");
-            let value = match word {
-                _ if is_rest => Some(0),
+            let value = match words.next() {
+                Some("..") => return Ok(part.words.resize(end, 0)?),
                 Some(word) if place <= slots => reference(word),
                 Some(word) => word.parse::<u64>().ok(),
                 None => None,
@@ -171,17 +171,19 @@ impl Drawing {
         Ok(())
     }
 
-    fn bytes(&self) -> Result<Vec<u8>, AllocError> {
-        let mut out = Vec::from_slice(self.alloc, b"G1IMAGE2")?;
+    fn bytes(&self, alloc: Global) -> Result<Vec<u8>, Fault> {
+        let mut out = Vec::from_slice(alloc, b"G1IMAGE2")?;
         self.push_image(&mut out)?;
         Ok(out)
     }
 
     fn push_image(&self, out: &mut Vec<u8>) -> Result<(), AllocError> {
         let (roots, dirty) = (count(self.roots.len()), count(self.dirty.len()));
-        let current = self.current.unwrap_or(self.regions);
         let (width, card) = (self.region_words, self.card_words);
-        push_all(out, &[width, card, self.regions, roots, dirty, current])?;
+        push_all(
+            out,
+            &[width, card, self.regions, roots, dirty, self.current],
+        )?;
         self.push_table(out)?;
         push_words(out, &self.roots)?;
         push_all(out, &self.dirty)?;
@@ -224,8 +226,10 @@ impl Drawing {
 }
 
 fn number(words: &mut SplitAsciiWhitespace<'_>) -> Result<u32, Fault> {
-    let number = words.next().and_then(|word| word.parse::<u32>().ok());
-    number.ok_or(BAD)
+    match words.next() {
+        Some(word) => word.parse::<u32>().ok().ok_or(BAD),
+        None => Err(BAD),
+    }
 }
 
 /// cards CARD ..

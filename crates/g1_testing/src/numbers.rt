@@ -42,15 +42,15 @@ fn whole(text: &str) -> Result<u64, Fault> {
 fn push_group(bytes: &mut Vec<u8>, group: &str, place: u64) -> Result<(), Fault> {
     for number in group.split(',') {
         match number.split_once("..") {
-            Some((from, to)) => push_range(bytes, at(from, place)?, at(to, place)?)?,
+            Some((from, to)) => push_range(bytes, from, to, place)?,
             None => push_one(bytes, number, place)?,
         }
     }
     Ok(())
 }
 
-fn push_range(bytes: &mut Vec<u8>, from: u64, to: u64) -> Result<(), Fault> {
-    for number in from..to {
+fn push_range(bytes: &mut Vec<u8>, from: &str, to: &str, place: u64) -> Result<(), Fault> {
+    for number in at(from, place)?..at(to, place)? {
         push_number(bytes, number)?;
     }
     Ok(())

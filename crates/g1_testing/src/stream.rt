@@ -2,7 +2,7 @@ use std::io;
 use std::io::{ErrorKind, Read, Write};
 
 /// What a call that doesn't go well answers.
-#[derive(Clone, Copy, PartialEq, Eq, Debug)]
+#[derive(Clone, Copy, Debug)]
 pub enum Trouble {
     /// An error, at this call alone.
     Error,
@@ -69,8 +69,8 @@ impl Stream {
         self
     }
 
-    /// Whether bytes move.
-    fn turn(&mut self, length: usize) -> io::Result<bool> {
+    /// How many bytes may move.
+    fn turn(&mut self, length: usize) -> io::Result<usize> {
         let is_at = self.turns == self.trouble_at;
         let is_behind = self.turns > self.trouble_at;
         self.turns = self.turns.wrapping_add(1);
@@ -79,17 +79,17 @@ impl Stream {
             Trouble::OutOfMemory if is_at || is_behind => ErrorKind::OutOfMemory,
             Trouble::Error if is_at => ErrorKind::Other,
             Trouble::Interrupted if is_at => ErrorKind::Interrupted,
-            Trouble::Nothing if is_at => return Ok(false),
+            Trouble::Nothing if is_at => return Ok(0),
             _ => {
                 self.asked = self.asked.wrapping_add(length);
                 self.longest = self.longest.max(length);
-                return Ok(true);
+                return Ok(self.most);
             }
         };
         Err(io::Error::from(error))
     }
 
-    fn call(&mut self, length: usize) -> io::Result<bool> {
+    fn call(&mut self, length: usize) -> io::Result<usize> {
         self.calls = self.calls.wrapping_add(1);
         if self.errors_left > 0 {
             self.errors_left -= 1;
@@ -102,10 +102,7 @@ impl Stream {
 
 impl Read for Stream {
     fn read(&mut self, buf: &mut [u8]) -> io::Result<usize> {
-        if !self.call(buf.len())? {
-            return Ok(0);
-        }
-        let most = buf.len().min(self.most);
+        let most = self.call(buf.len())?.min(buf.len());
         let from = self.given.min(self.bytes.len());
         let mut rest = &self.bytes[from..];
         let count = rest.read(&mut buf[..most])?;
@@ -116,10 +113,7 @@ impl Read for Stream {
 
 impl Write for Stream {
     fn write(&mut self, buf: &[u8]) -> io::Result<usize> {
-        if !self.call(buf.len())? {
-            return Ok(0);
-        }
-        let most = buf.len().min(self.most);
+        let most = self.call(buf.len())?.min(buf.len());
         self.bytes.extend_from_slice(&buf[..most])?;
         Ok(most)
     }

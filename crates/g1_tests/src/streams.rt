@@ -97,7 +97,7 @@ fn expect_one_length<T: Threads + Abort + Sync>(
 fn an_image_that_is_read_has_one_length(rt: HostRuntime) -> Result<(), Fail> {
     let alloc = rt.alloc();
     expect_one_length(&rt, alloc, text(alloc, one_object())?)?;
-    for numbers in OLD {
+    for numbers in OLD.iter() {
         expect_one_length(&rt, alloc, raw(alloc, numbers)?)?;
     }
     Ok(())
@@ -136,8 +136,8 @@ fn workers_read_the_same_image(rt: HostRuntime) -> Result<(), Fail> {
 }
 
 /// How often a reader is called that gives this image, and for how many bytes in all.
-fn asked(alloc: Global, bytes: Vec<u8>, longest: usize) -> Result<(usize, usize), Fault> {
-    let mut reader = Stream::of(bytes, longest);
+fn asked(alloc: Global, bytes: &[u8], longest: usize) -> Result<(usize, usize), Fault> {
+    let mut reader = Stream::of(bytes.to_vec(alloc)?, longest);
     read_from(alloc, &mut reader)?;
     Ok((reader.calls, reader.asked))
 }
@@ -146,11 +146,11 @@ fn asked(alloc: Global, bytes: Vec<u8>, longest: usize) -> Result<(usize, usize)
 fn a_reader_is_asked_for_each_byte_once(rt: HostRuntime) -> Result<(), Fail> {
     let alloc = rt.alloc();
     let bytes = raw(alloc, LONG_FRONT)?;
-    let (calls, count) = asked(alloc, bytes.clone()?, usize::MAX)?;
+    let (calls, count) = asked(alloc, &bytes, usize::MAX)?;
     assert!(rt; calls < 32, "{calls} calls");
     assert!(rt; count / 4 < bytes.len(), "{count} bytes");
     // A reader that begins the front again for each byte more doesn't end within a test's time.
-    let (calls, _) = asked(alloc, bytes.clone()?, 1)?;
+    let (calls, _) = asked(alloc, &bytes, 1)?;
     expect_equal(&rt, calls, bytes.len() + 1);
     Ok(())
 }
@@ -161,10 +161,9 @@ fn a_call_that_is_interrupted_often_is_made_again(rt: HostRuntime) -> Result<(),
     let alloc = rt.alloc();
     let bytes = raw(alloc, LONG_FRONT)?;
     for often in [2, 3, 10] {
-        let reader = Stream::of(bytes.clone()?, usize::MAX);
-        let mut reader = reader.with_errors(often, ErrorKind::Interrupted);
-        let writer = Stream::of(Vec::new(alloc), 65_536);
-        let mut writer = writer.with_errors(often, ErrorKind::Interrupted);
+        let kind = ErrorKind::Interrupted;
+        let mut reader = Stream::of(bytes.clone()?, usize::MAX).with_errors(often, kind);
+        let mut writer = Stream::of(Vec::new(alloc), 65_536).with_errors(often, kind);
         copy(alloc, &mut reader, &mut writer)?;
         assert!(rt; reader.calls > often && writer.calls > often, "{often}");
         assert!(rt; writer.bytes.as_slice() == bytes.as_slice(), "{often}");
