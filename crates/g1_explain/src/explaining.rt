@@ -1,6 +1,10 @@
 //! The lines of a pause.
-use crate::steps::take_steps;
-use g1_facts::{Failure, Form, Steps, check_pause, push_map, push_room};
+use crate::checking::check_pause;
+use crate::failure::Failure;
+use crate::form::Form;
+use crate::places::push_map;
+use crate::steps::push_steps;
+use crate::totals::{Written, push_room};
 use g1_image::Image;
 use g1_pause::Settings;
 use g1_rem::{Tracked, verify};
@@ -58,29 +62,29 @@ fn push_tracked<R: Threads + Sync>(
     settings: &Settings,
     form: Form,
 ) -> Result<Option<Fault>, Failure> {
-    let taken = take_steps(rt, alloc, text, form, &tracked, settings);
-    check_pause(rt, alloc, tracked, settings, &taken)?;
-    push_outcome(text, form, &taken)
+    let written = push_steps(rt, alloc, text, form, &tracked, settings);
+    check_pause(rt, alloc, tracked, settings, &written)?;
+    push_outcome(text, form, &written)
 }
 
 // Adds the lines of the answer, or the refusal.
 fn push_outcome(
     text: &mut String,
     form: Form,
-    taken: &Result<Steps, Failure>,
+    written: &Result<Written, Failure>,
 ) -> Result<Option<Fault>, Failure> {
-    match taken {
-        Ok(steps) => push_answer(text, steps, form),
+    match written {
+        Ok(written) => push_answer(text, written, form),
         Err(Failure::Fault(fault)) => push_refusal(text, *fault),
         Err(Failure::Contradiction) => Err(Failure::Contradiction),
     }
 }
 
 // A map has the lines of its own alone.
-fn push_answer(text: &mut String, steps: &Steps, form: Form) -> Result<Option<Fault>, Failure> {
+fn push_answer(text: &mut String, written: &Written, form: Form) -> Result<Option<Fault>, Failure> {
     if form == Form::Map {
         text.clear();
-        push_map(text, &steps.plan, &steps.sizes)?;
+        push_map(text, &written.plan, &written.sizes)?;
     }
     Ok(None)
 }

@@ -1,14 +1,13 @@
 //! What finds each object: the first reference to it, in the order of the search.
-ghost use Rattle.g1_rem.specs.Starts.{IsStartsOf};
-
-use crate::cards::card_slots;
-use g1_facts::{Failure, Finder, Form, push_each, slots_at, word_at};
-use g1_pause::Before;
-use g1_rem::Starts;
+use crate::failure::Failure;
+use crate::finder::Finder;
+use crate::objects::{slots_at, word_at};
+use crate::places::push_each;
+use crate::walkable::Walkable;
 use g1_words::Heap;
 use std::alloc::{AllocError, Global};
 
-/// Adds a line for each survivor: its numbers, and what finds it. A map has none.
+/// Adds a line for each survivor: its numbers, and what finds it.
 ///
 /// # Errors
 ///
@@ -16,22 +15,15 @@ use std::alloc::{AllocError, Global};
 pub(crate) fn push_survivors(
     alloc: Global,
     text: &mut String,
-    form: Form,
-    before: &Before<'_>,
+    walkable: &Walkable<'_>,
     cards: &[u32],
     survivors: &[u64],
-) -> Result<(), Failure>
-    requires { IsStartsOf before.now.image.now.heap before.now.starts.now }
-{
-    if form == Form::Map {
-        return Ok(());
-    }
-    let heap = before.image.heap();
-    let finders = finders(alloc, heap, before.starts, cards, survivors)?;
+) -> Result<(), Failure> {
+    let finders = finders(alloc, walkable, cards, survivors)?;
     if finders.len() < survivors.len() {
         return Err(Failure::Contradiction);
     }
-    push_each(text, heap, survivors, &finders)?;
+    push_each(text, walkable.heap(), survivors, &finders)?;
     Ok(())
 }
 
@@ -61,27 +53,28 @@ impl<'a> Meeting<'a> {
 
 // The reference word to the object at a place of a list.
 fn word_to(found: &[u64], place: usize) -> u64 {
-    found.get(place).map_or(0, |at| at.saturating_add(1))
+    match found.get(place) {
+        Some(at) => at.saturating_add(1),
+        None => 0,
+    }
 }
 
 /// The finder of each object of a list that `discover` gave for these cards, or of a beginning of such a
 /// list. There are fewer if the list is another.
 pub(crate) fn finders(
     alloc: Global,
-    heap: &Heap,
-    starts: &Starts,
+    walkable: &Walkable<'_>,
     cards: &[u32],
     found: &[u64],
-) -> Result<Vec<Finder>, AllocError>
-    requires { IsStartsOf heap.now starts.now }
-{
+) -> Result<Vec<Finder>, AllocError> {
+    let heap = walkable.heap();
     let mut meeting = Meeting {
         found,
         finders: Vec::with_capacity(alloc, found.len())?,
         next: word_to(found, 0),
     };
     meet_roots(heap, &mut meeting)?;
-    meet_cards(alloc, heap, starts, cards, &mut meeting)?;
+    meet_cards(alloc, walkable, cards, &mut meeting)?;
     meet_objects(heap, found, &mut meeting)?;
     Ok(meeting.finders)
 }
@@ -95,16 +88,13 @@ fn meet_roots(heap: &Heap, meeting: &mut Meeting<'_>) -> Result<(), AllocError> 
 
 fn meet_cards(
     alloc: Global,
-    heap: &Heap,
-    starts: &Starts,
+    walkable: &Walkable<'_>,
     cards: &[u32],
     meeting: &mut Meeting<'_>,
-) -> Result<(), AllocError>
-    requires { IsStartsOf heap.now starts.now }
-{
+) -> Result<(), AllocError> {
     for card in cards {
-        let slots = card_slots(alloc, heap, starts, *card);
-        meet_card(heap, *card, slots.as_slice(), meeting)?;
+        let slots = walkable.slots_on(alloc, *card);
+        meet_card(walkable.heap(), *card, slots.as_slice(), meeting)?;
     }
     Ok(())
 }

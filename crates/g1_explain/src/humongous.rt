@@ -1,10 +1,9 @@
-//! What references each humongous object.
-ghost use Rattle.std.specs.Prelude.{◌<◌};
-ghost use Rattle.g1_rem.specs.Starts.{IsStartsOf};
-
-use crate::cards::card_slots;
-use g1_facts::{Finder, is_humongous, is_marked, size_in, slots_at, word_at};
-use g1_rem::Starts;
+//! Humongous objects: what keeps each, and which are freed.
+use crate::cards::is_marked;
+use crate::failure::Failure;
+use crate::finder::{Finder, push_found};
+use crate::objects::{size_in, slots_at, word_at};
+use crate::walkable::Walkable;
 use g1_words::{Heap, Marks, region_of};
 use std::alloc::{AllocError, Global};
 
@@ -12,17 +11,15 @@ use std::alloc::{AllocError, Global};
 /// outside the set and outside the object on the cards of its refined set, else a survivor's slot.
 pub(crate) fn keepers(
     alloc: Global,
-    heap: &Heap,
-    starts: &Starts,
+    walkable: &Walkable<'_>,
     refined: &[Vec<u32>],
     set: &Marks,
     survivors: &[u64],
-) -> Result<Vec<Option<Finder>>, AllocError>
-    requires { IsStartsOf heap.now starts.now }
-{
+) -> Result<Vec<Option<Finder>>, AllocError> {
+    let heap = walkable.heap();
     let mut keepers = vec![in alloc; None; heap.regions().len()]?;
     keep_by_roots(heap, &mut keepers);
-    keep_by_cards(alloc, heap, starts, refined, set, &mut keepers);
+    keep_by_cards(alloc, walkable, refined, set, &mut keepers);
     if is_one_left(heap, &keepers) {
         keep_by_survivors(heap, survivors, &mut keepers);
     }
@@ -47,18 +44,15 @@ fn keep_by_roots(heap: &Heap, keepers: &mut [Option<Finder>]) {
 
 fn keep_by_cards(
     alloc: Global,
-    heap: &Heap,
-    starts: &Starts,
+    walkable: &Walkable<'_>,
     refined: &[Vec<u32>],
     set: &Marks,
     keepers: &mut [Option<Finder>],
-)
-    requires { IsStartsOf heap.now starts.now }
-{
-    for region in 0..keepers.len() {
-        if region < refined.len() && is_humongous(heap, region) && keepers[region].is_none() {
+) {
+    for region in 0..keepers.len().min(refined.len()) {
+        if is_humongous(walkable.heap(), region) && keepers[region].is_none() {
             let cards = refined[region].as_slice();
-            keepers[region] = card_keeper(alloc, heap, starts, set, region as u64, cards);
+            keepers[region] = card_keeper(alloc, walkable, set, region as u64, cards);
         }
     }
 }
@@ -67,14 +61,12 @@ fn keep_by_cards(
 /// object of a region.
 pub(crate) fn card_keeper(
     alloc: Global,
-    heap: &Heap,
-    starts: &Starts,
+    walkable: &Walkable<'_>,
     set: &Marks,
     region: u64,
     cards: &[u32],
-) -> Option<Finder>
-    requires { IsStartsOf heap.now starts.now }
-{
+) -> Option<Finder> {
+    let heap = walkable.heap();
     let geometry = heap.geometry();
     let at = region.saturating_mul(geometry.region_words());
     let end = region.saturating_add(geometry.regions_for(size_in(heap, at)));
@@ -82,7 +74,7 @@ pub(crate) fn card_keeper(
         let home = geometry.region_of_card(*card);
         let is_own = region <= home && home < end;
         if !is_own && !is_marked(set, home) {
-            let slots = card_slots(alloc, heap, starts, *card);
+            let slots = walkable.slots_on(alloc, *card);
             if let Some(slot) = slot_to(heap, slots.as_slice(), at) {
                 return Some(Finder::Card { card: *card, slot });
             }
@@ -121,4 +113,66 @@ fn keep_by_slots(heap: &Heap, index: usize, slots: &[u64], keepers: &mut [Option
     for (slot, word) in slots.iter().enumerate() {
         keep(heap, keepers, *word, Finder::Object { index, slot });
     }
+}
+
+/// Whether the object of a humongous run starts in a region.
+pub(crate) fn is_humongous(heap: &Heap, region: usize) -> bool {
+    matches!(heap.regions().get(region), Some(region) if region.kind.is_humongous_first())
+}
+
+/// Adds a line for each humongous object: what keeps it, or the regions that are freed with it.
+///
+/// # Errors
+///
+/// `Failure::Contradiction` if the objects that nothing keeps aren't those that are freed.
+pub(crate) fn push_humongous(
+    text: &mut String,
+    heap: &Heap,
+    survivors: &[u64],
+    keepers: &[Option<Finder>],
+    freed: &[u32],
+) -> Result<(), Failure> {
+    for region in 0..heap.geometry().regions() as u32 {
+        if is_humongous(heap, region as usize) {
+            let keeper = keepers.get(region as usize).copied().flatten();
+            push_fate(text, heap, survivors, region, keeper, freed)?;
+        }
+    }
+    Ok(())
+}
+
+// The line of the humongous object of a region.
+fn push_fate(
+    text: &mut String,
+    heap: &Heap,
+    survivors: &[u64],
+    region: u32,
+    keeper: Option<Finder>,
+    freed: &[u32],
+) -> Result<(), Failure> {
+    let at = heap.geometry().start(region);
+    write!(text, "humongous {at}")?;
+    match (keeper, freed.binary_search(&region)) {
+        (Some(finder), Err(_)) => push_kept(text, survivors, finder)?,
+        (None, Ok(_)) => push_freed(text, heap, region, at)?,
+        _ => return Err(Failure::Contradiction),
+    }
+    Ok(())
+}
+
+// Ends the line of an object with what keeps it.
+fn push_kept(text: &mut String, survivors: &[u64], finder: Finder) -> Result<(), AllocError> {
+    text.push_str(" kept")?;
+    push_found(text, survivors, finder)
+}
+
+// Ends the line of the object at an address with its regions.
+fn push_freed(text: &mut String, heap: &Heap, region: u32, at: u64) -> Result<(), AllocError> {
+    text.push_str(" freed")?;
+    let first = u64::from(region);
+    let end = first.saturating_add(heap.geometry().regions_for(size_in(heap, at)));
+    for number in first..end {
+        write!(text, " {number}")?;
+    }
+    text.push('\n')
 }

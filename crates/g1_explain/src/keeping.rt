@@ -1,19 +1,16 @@
 //! What keeps an object.
-ghost use Rattle.std.specs.Prelude.{◌<◌};
-ghost use Rattle.g1_rem.specs.Starts.{IsStartsOf};
-ghost use Rattle.g1_rem.specs.Entries.{AreEntryCards};
-
+use crate::cards::mark_regions;
+use crate::failure::Failure;
+use crate::finder::{Finder, push_object};
 use crate::finders::finders;
 use crate::humongous::card_keeper;
-use g1_facts::{
-    Failure, Finder, mark_regions, push_card, push_garbage, push_object, push_path, push_path_line,
-    push_pin, size_in,
-};
+use crate::paths::{push_card, push_garbage, push_path, push_path_line, push_pin};
+use crate::walkable::Walkable;
 use g1_frontier::discover;
 use g1_image::Image;
 use g1_mark::live_objects;
 use g1_rem::{Starts, cards_into_region};
-use g1_words::{Fault, Heap, region_of};
+use g1_words::{Heap, region_of};
 use g1_work::{Open, Team};
 use std::alloc::{AllocError, Global};
 use std::thread::Threads;
@@ -23,11 +20,10 @@ const WORKERS: u64 = 1;
 
 const CHUNK: u64 = 64;
 
-// An object that is asked about: its address and its region, in an image with these starts.
+// An object that is asked about: its address and its region.
 #[derive(Drop)]
 struct Target<'a> {
-    image: &'a Image,
-    starts: &'a Starts,
+    walkable: &'a Walkable<'a>,
     region: u32,
     at: u64,
 }
@@ -68,10 +64,14 @@ fn explain_object<R: Threads + Sync>(
     at: u64,
 ) -> Result<(), Failure> {
     let starts = Starts::build(alloc, image.heap())?;
-    if explain_live(rt, alloc, text, image.heap(), &starts, at)? {
+    let walkable = Walkable {
+        image,
+        starts: &starts,
+    };
+    if explain_live(rt, alloc, text, &walkable, at)? {
         Ok(())
     } else {
-        explain_dead(rt, alloc, text, image, &starts, at)
+        explain_dead(rt, alloc, text, &walkable, at)
     }
 }
 
@@ -80,32 +80,16 @@ fn explain_live<R: Threads + Sync>(
     rt: &R,
     alloc: Global,
     text: &mut String,
-    heap: &Heap,
-    starts: &Starts,
+    walkable: &Walkable<'_>,
     at: u64,
-) -> Result<bool, Failure>
-    requires { IsStartsOf heap.now starts.now }
-{
+) -> Result<bool, Failure> {
     let team = Team::new(WORKERS, CHUNK);
-    let live = live_objects(rt, alloc, heap, starts, team, &Open)?;
-    explain_found(alloc, text, heap, starts, &live, at)
-}
-
-// Adds the path from a root to the object, if it is among those that the roots reach.
-fn explain_found(
-    alloc: Global,
-    text: &mut String,
-    heap: &Heap,
-    starts: &Starts,
-    live: &[u64],
-    at: u64,
-) -> Result<bool, Failure>
-    requires { IsStartsOf heap.now starts.now }
-{
-    let Some(path) = path_to(alloc, heap, starts, &[], live, at)? else {
+    let heap = walkable.image.heap();
+    let live = live_objects(rt, alloc, heap, walkable.starts, team, &Open)?;
+    let Some(path) = path_to(alloc, walkable, &[], &live, at)? else {
         return Ok(false);
     };
-    push_live(text, heap, live, at, &path)?;
+    push_live(text, heap, &live, at, &path)?;
     Ok(true)
 }
 
@@ -124,23 +108,29 @@ fn push_live(
 // first one first.
 fn path_to(
     alloc: Global,
-    heap: &Heap,
-    starts: &Starts,
+    walkable: &Walkable<'_>,
     cards: &[u32],
     found: &[u64],
     at: u64,
-) -> Result<Option<Vec<Finder>>, Failure>
-    requires { IsStartsOf heap.now starts.now }
-{
-    let Some(index) = found.iter().position(|address| *address == at) else {
+) -> Result<Option<Vec<Finder>>, Failure> {
+    let Some(index) = index_of(found, at) else {
         return Ok(None);
     };
     let until = found.get(..index.saturating_add(1)).unwrap_or(found);
-    let finders = finders(alloc, heap, starts, cards, until)?;
+    let finders = finders(alloc, walkable, cards, until)?;
     if finders.len() < until.len() {
         return Err(Failure::Contradiction);
     }
     Ok(Some(path_back(alloc, &finders, index)?))
+}
+
+fn index_of(found: &[u64], at: u64) -> Option<usize> {
+    for (index, address) in found.iter().enumerate() {
+        if *address == at {
+            return Some(index);
+        }
+    }
+    None
 }
 
 // The finders from the one of an object back to the first one, in the order of the path.
@@ -161,61 +151,43 @@ fn path_back(alloc: Global, finders: &[Finder], index: usize) -> Result<Vec<Find
     Ok(path)
 }
 
-// An object that no root leads to.
+// An object that no root leads to: the cards that lead into its region, and the objects that would survive from
+// them if that region alone were collected.
 fn explain_dead<R: Threads + Sync>(
     rt: &R,
     alloc: Global,
     text: &mut String,
-    image: &Image,
-    starts: &Starts,
+    walkable: &Walkable<'_>,
     at: u64,
-) -> Result<(), Failure>
-    requires { IsStartsOf image.now.heap starts.now }
-{
-    let heap = image.heap();
+) -> Result<(), Failure> {
+    let heap = walkable.image.heap();
     let number = region_of(&heap.geometry(), at);
     if number >= heap.geometry().regions() {
         return Err(Failure::Contradiction);
     }
     let region = number as u32;
     let target = Target {
-        image,
-        starts,
+        walkable,
         region,
         at,
     };
-    let cards = cards_into_region(alloc, image, region)?;
+    let cards = cards_into_region(alloc, walkable.image, region)?;
     if heap.region(region).kind.is_humongous_first() {
         return Ok(explain_humongous(alloc, text, &target, &cards)?);
     }
-    let found = survivors_in(rt, alloc, &target, &cards)?;
-    explain_ordinary(alloc, text, &target, &cards, &found)
-}
-
-// The objects that would survive if the object's region alone were collected, from these cards.
-fn survivors_in<R: Threads + Sync>(
-    rt: &R,
-    alloc: Global,
-    target: &Target<'_>,
-    cards: &[u32],
-) -> Result<Vec<u64>, Fault>
-    requires starts { IsStartsOf target.now.image.now.heap target.now.starts.now }
-    requires region { target.now.region < target.now.image.now.heap.geometry.n }
-    requires cards { AreEntryCards target.now.image.now target.now.region cards.now }
-{
-    let heap = target.image.heap();
-    let window = [target.region];
-    discover(
+    let window = [region];
+    let found = discover(
         rt,
         alloc,
         heap,
-        target.starts,
+        walkable.starts,
         &window,
-        cards,
+        &cards,
         WORKERS,
         CHUNK,
         &Open,
-    )
+    )?;
+    explain_ordinary(alloc, text, &target, &cards, &found)
 }
 
 // A humongous object: a slot of another object keeps it, or it is garbage.
@@ -224,18 +196,15 @@ fn explain_humongous(
     text: &mut String,
     target: &Target<'_>,
     cards: &[u32],
-) -> Result<(), AllocError>
-    requires { IsStartsOf target.now.image.now.heap target.now.starts.now }
-{
+) -> Result<(), AllocError> {
     let Target {
-        image,
-        starts,
+        walkable,
         region,
         at,
     } = *target;
-    let heap = image.heap();
+    let heap = walkable.heap();
     let none = mark_regions(alloc, heap, &[])?;
-    match card_keeper(alloc, heap, starts, &none, u64::from(region), cards) {
+    match card_keeper(alloc, walkable, &none, u64::from(region), cards) {
         Some(finder) => push_kept(text, target, &[at], &[finder]),
         None => push_garbage(text, heap, region, at),
     }
@@ -248,13 +217,13 @@ fn explain_ordinary(
     target: &Target<'_>,
     cards: &[u32],
     found: &[u64],
-) -> Result<(), Failure>
-    requires { IsStartsOf target.now.image.now.heap target.now.starts.now }
-{
-    let heap = target.image.heap();
-    match path_to(alloc, heap, target.starts, cards, found, target.at)? {
+) -> Result<(), Failure> {
+    match path_to(alloc, target.walkable, cards, found, target.at)? {
         Some(path) => Ok(push_kept(text, target, found, &path)?),
-        None => Ok(push_garbage(text, heap, target.region, target.at)?),
+        None => {
+            let heap = target.walkable.heap();
+            Ok(push_garbage(text, heap, target.region, target.at)?)
+        }
     }
 }
 
@@ -263,14 +232,12 @@ fn push_kept(
     target: &Target<'_>,
     found: &[u64],
     path: &[Finder],
-) -> Result<(), AllocError>
-    requires { IsStartsOf target.now.image.now.heap target.now.starts.now }
-{
-    let heap = target.image.heap();
+) -> Result<(), AllocError> {
+    let heap = target.walkable.heap();
     push_path_line(text, "kept", target.at, path)?;
     if let Some(Finder::Card { card, slot }) = path.first() {
-        push_card(text, target.image, target.region, *card)?;
-        push_holder(text, heap, target.starts, *card, *slot)?;
+        push_card(text, target.walkable.image, target.region, *card)?;
+        push_holder(text, target.walkable, *card, *slot)?;
     }
     push_path(text, heap, found, path)?;
     push_pin(text, heap, target.region)
@@ -278,35 +245,13 @@ fn push_kept(
 
 fn push_holder(
     text: &mut String,
-    heap: &Heap,
-    starts: &Starts,
+    walkable: &Walkable<'_>,
     card: u32,
     slot: u64,
-) -> Result<(), AllocError>
-    requires { IsStartsOf heap.now starts.now }
-{
-    if let Some(at) = holder_of(heap, starts, card, slot) {
-        push_object(text, heap, "holder", at)?;
+) -> Result<(), AllocError> {
+    if let Some(at) = walkable.holder(card, slot) {
+        push_object(text, walkable.heap(), "holder", at)?;
         writeln!(text, " slot {slot}")?;
     }
     Ok(())
-}
-
-// The object that holds a slot on a card: from the one over the card's first word, an object at a time.
-fn holder_of(heap: &Heap, starts: &Starts, card: u32, slot: u64) -> Option<u64>
-    requires { IsStartsOf heap.now starts.now }
-{
-    let geometry = heap.geometry();
-    if u64::from(card) >= geometry.cards() {
-        return None;
-    }
-    let mut at = u64::from(starts.first(card)?);
-    for _ in 0..geometry.card_words() {
-        let next = at.saturating_add(size_in(heap, at));
-        if slot < next {
-            break;
-        }
-        at = next;
-    }
-    Some(at)
 }

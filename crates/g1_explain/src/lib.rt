@@ -1,9 +1,8 @@
 //! A pause as lines, one fact a line, and what keeps an object.
 //!
-//! 1. `explain` makes the calls of a pause one after another, as `evacuate` of `g1_pause` does, and adds
-//!    the lines of each to a text: the dirty cards, the choice, the cards that lead in, the survivors and
-//!    what finds each, their places, and what `prepare_on` has prepared. If a call refuses the pause, the
-//!    text ends there with the refusal.
+//! 1. `explain` takes the steps of a pause, as `evacuate` of `g1_pause` does, and adds the lines of each to a
+//!    text: the dirty cards, the choice, the cards that lead in, the survivors and what finds each, their
+//!    places, and all that the pause writes. If a step refuses the pause, the text ends there with the refusal.
 //! 2. What finds a survivor is the first reference to it. The survivors are in the order of their first
 //!    references, so one pass over the references, in the order of the search, meets each in its turn:
 //!    a reference that is the first one to a survivor leads to the next one of the list.
@@ -15,12 +14,24 @@
 #![tactic(auto)]
 
 mod cards;
+mod changes;
+mod checking;
+mod choosing;
 mod explaining;
+mod failure;
+mod finder;
 mod finders;
+mod form;
 mod humongous;
 mod keeping;
+mod objects;
+mod paths;
+mod places;
 mod steps;
+mod totals;
+mod walkable;
 
 pub use explaining::{Explanation, explain};
-pub use g1_facts::{Failure, Form};
+pub use failure::Failure;
+pub use form::Form;
 pub use keeping::why;

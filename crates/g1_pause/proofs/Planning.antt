@@ -1,5 +1,5 @@
 -- What each step of a pause asks of the steps before it.
-use Rattle.std.proofs.Common.{◌≡◌, ℕ, ◌⊎◌, inl, inr, ◌<◌, ◌≤◌, List, length, map, All, Result, Ok, Err, refl, sym, ◌∙◌, subst}
+use Rattle.std.proofs.Common.{◌≡◌, ℕ, ◌⊎◌, inl, inr, ◌<◌, ◌≤◌, List, length, map, All, Result, Ok, Err, refl, sym, ◌∙◌, ap, subst}
 use Rattle.std.specs.Prelude.{IfErr}
 use Rattle.std.specs.List.Sorted.{IsStrictlyIncreasing}
 use Rattle.std.proofs.lemmas.Bool.{cases_lt}
@@ -23,6 +23,7 @@ use Rattle.g1_copy.specs.Laws.{CardsLeadIn, CardsStandOutside}
 use Rattle.g1_copy.specs.Plans.{IsPauseOf}
 use Rattle.g1_pause.specs.declared.settings.Choice.{Choice}
 use Rattle.g1_pause.specs.Answer.{IsSetFor, IsEvacuated, no_room}
+use Rattle.g1_pause.specs.Steps.{LacksRoom}
 use Rattle.g1_pause.proofs.CollectionSets.{set_ordinary, set_regions}
 
 -- the cards are cards of the heap, rising
@@ -30,6 +31,13 @@ pub cards_there : (h : Heap) (cards set : List ℕ) (remembered : List (List ℕ
 cards_there h cards set remembered outside e =
     let k = outside h remembered set in
     record { rise = subst IsStrictlyIncreasing (sym e) k.0; below = subst (All (λ c. c < card_count h)) (sym e) k.1 }
+
+-- a set whose survivors need more regions than are free has no pause
+pub refused_for_room : (cost : Cost) (choice : Choice) (i : Image) (set l : List ℕ) (needed free : ℕ) → IsSetFor cost i choice set → LacksRoom i set l needed free
+    → IsEvacuated cost choice i (Err (Room needed free))
+refused_for_room cost choice i set l needed free chosen short =
+    let lacks : length (free_regions i.heap) < need i.heap l = rw (short.needs, short.frees) at short.lacks in
+    rw (short.needs, short.frees) (no_room set l chosen short.found lacks)
 
 module _ (cost : Cost) (choice : Choice) (i : Image) (h : Heap) (heap : h ≡ i.heap) (set : List ℕ) (chosen : IsSetFor cost i choice set) where
   -- the set is one of regions
@@ -69,6 +77,26 @@ module _ (cost : Cost) (choice : Choice) (i : Image) (h : Heap) (heap : h ≡ i.
             subst (λ g. IsEvacuated cost choice i (Err (Room (need g l) (length (free_regions g))))) (sym heap)
             (no_room set l chosen (subst (λ g. Survivors g set l) heap there) (subst (λ g. length (free_regions g) < need g l) heap lt)) in
             inr (subst (λ (z : Fault). IsEvacuated cost choice i (Err z)) (sym faults) here)
+      ]
+
+  -- where there is no room for them, they need more regions than are free
+  pub set_lacks_room : {X : Type 0} (l m : List ℕ) (r : Result X Fault) (needed free : ℕ) → r ≡ Err (Room needed free) → l ≡ m → Survivors i.heap set m
+      → (length (free_regions h) < need h l → r ≡ Err (Room (need h l) (length (free_regions h))))
+      → (need h l ≤ length (free_regions h) → IfErr r (λ e. e ≡ Memory))
+      → LacksRoom i set m needed free
+  set_lacks_room {X} l m r needed free is k found room memory =
+      elim (cases_lt (length (free_regions h)) (need h l)) [
+        | inr le ↦ (let clash : Room needed free ≡ Memory = subst (λ q. IfErr q (λ e. e ≡ Memory)) is (memory le) in cc)
+        | inl lt ↦
+            let same : ◌≡◌ {A = Result X Fault} (Err (Room needed free)) (Err (Room (need h l) (length (free_regions h)))) = sym is ∙ room lt in
+            let n : needed ≡ need h l = cc in
+            let f : free ≡ length (free_regions h) = cc in
+            record {
+              found = found;
+              needs = n ∙ ap (need h) k ∙ ap (λ g. need g m) heap;
+              frees = f ∙ ap (λ g. length (free_regions g)) heap;
+              lacks = rw (n, f) lt;
+            }
       ]
 
   -- where they are, the plan is one for the set and its survivors

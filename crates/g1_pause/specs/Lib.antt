@@ -6,3 +6,4 @@ pub mod Planned
 pub mod Laws
 pub mod Streams
 pub mod Bought
+pub mod Steps

@@ -1,31 +1,17 @@
-ghost use Rattle.std.specs.Prelude.{◌≡◌, ◌⊎◌, map, Err, IfSome, IfNone, IfOk, IfErr};
-ghost use Rattle.g1_words.specs.Heap.{regions};
+ghost use Rattle.std.specs.Prelude.{◌≡◌, ◌⊎◌, Err, IfSome, IfNone, IfOk, IfErr};
 ghost use Rattle.g1_words.specs.Live.{IsLiveBytes};
-ghost use Rattle.g1_image.specs.Cards.{refined};
-ghost use Rattle.g1_rem.specs.Starts.{IsStartsOf};
 ghost use Rattle.g1_choose.specs.Choice.{MayBeLive};
 ghost use Rattle.g1_pause.specs.Answer.{IsSetFor, IsEvacuated};
 ghost use Rattle.g1_pause.specs.Bought.{IsBought, IsListed};
 
+use crate::before::Before;
 use crate::settings::{Choice, Settings};
 use g1_choose::{Candidate, choose_in_order, given};
-use g1_image::Image;
 use g1_mark::live_bytes;
-use g1_rem::Starts;
 use g1_words::Fault;
 use g1_work::Gate;
 use std::alloc::Global;
 use std::thread::Threads;
-
-/// An image before its pause, and what the steps of the pause go by.
-#[derive(Clone, Copy)]
-pub struct Before<'a> {
-    pub image: &'a Image,
-    /// The starts of its heap.
-    pub starts: &'a Starts,
-    /// Its refined remembered sets.
-    pub remembered: &'a [Vec<u32>],
-}
 
 /// A collection set.
 #[derive(Drop)]
@@ -61,47 +47,58 @@ pub fn collection_set<R: Threads + Sync, G: Gate + Sync>(
     settings: &Settings,
     gate: &G,
 ) -> Result<CollectionSet, Fault>
-    requires starts { IsStartsOf before.now.image.now.heap before.now.starts.now }
-    requires remembered { map (λ s. s.items) before.now.remembered.now ≡ map (refined before.now.image.now) (regions before.now.image.now.heap) }
-    ensures set { IfOk result (λ x. IsSetFor settings.now.cost before.now.image.now settings.now.choice x.regions.items) }
-    ensures bought { IfOk result (λ x. IfSome x.bought (IsBought settings.now.cost settings.now.choice before.now.image.now)) }
+    ensures set { IfOk result (λ x. IsSetFor settings.now.cost before.now settings.now.choice x.regions.items) }
+    ensures bought { IfOk result (λ x. IfSome x.bought (IsBought settings.now.cost settings.now.choice before.now)) }
     ensures listed { IfOk result (λ x. IfNone x.bought (IsListed settings.now.choice)) }
-    ensures refused { IfErr result (λ e. (e ≡ Fault.Memory) ⊎ IsEvacuated settings.now.cost settings.now.choice before.now.image.now (Err e)) }
+    ensures refused { IfErr result (λ e. (e ≡ Fault.Memory) ⊎ IsEvacuated settings.now.cost settings.now.choice before.now (Err e)) }
 {
-    let heap = before.image.heap();
     match settings.choice() {
         Choice::Given(list) => {
-            let regions = given(alloc, heap, list)?;
+            let regions = given(alloc, before.image().heap(), list)?;
             Ok(CollectionSet {
                 regions,
                 bought: None,
             })
         }
-        Choice::Budget(budget) => {
-            let live = count_live(rt, alloc, before, settings, gate)?;
-            let dirty = before.image.log().len() as u64;
-            let cost = settings.cost();
-            let chosen = choose_in_order(
-                alloc,
-                heap,
-                dirty,
-                before.remembered,
-                &live,
-                &cost,
-                *budget,
-            )?;
-            let bought = Bought {
-                budget: *budget,
-                live,
-                order: chosen.order,
-                taken: chosen.taken,
-            };
-            Ok(CollectionSet {
-                regions: chosen.regions,
-                bought: Some(bought),
-            })
-        }
+        Choice::Budget(budget) => { buy_regions(rt, alloc, before, settings, *budget, gate) }
     }
+}
+
+/// What a budget buys.
+fn buy_regions<R: Threads + Sync, G: Gate + Sync>(
+    rt: &R,
+    alloc: Global,
+    before: &Before<'_>,
+    settings: &Settings,
+    budget: u64,
+    gate: &G,
+) -> Result<CollectionSet, Fault>
+    ensures set { IfOk result (λ x. IsSetFor settings.now.cost before.now (Choice.Budget budget) x.regions.items) }
+    ensures bought { IfOk result (λ x. IfSome x.bought (IsBought settings.now.cost (Choice.Budget budget) before.now)) }
+    ensures some { IfOk result (λ x. IfNone x.bought ⊥) }
+    ensures memory { IfErr result (λ e. e ≡ Fault.Memory) }
+{
+    let live = count_live(rt, alloc, before, settings, gate)?;
+    let image = before.image();
+    let chosen = choose_in_order(
+        alloc,
+        image.heap(),
+        image.log().len() as u64,
+        before.remembered(),
+        &live,
+        &settings.cost(),
+        budget,
+    )?;
+    let bought = Bought {
+        budget,
+        live,
+        order: chosen.order,
+        taken: chosen.taken,
+    };
+    Ok(CollectionSet {
+        regions: chosen.regions,
+        bought: Some(bought),
+    })
 }
 
 /// The live bytes of each region, which a choice by a budget goes by.
@@ -116,9 +113,8 @@ pub fn count_live<R: Threads + Sync, G: Gate + Sync>(
     settings: &Settings,
     gate: &G,
 ) -> Result<Vec<u64>, Fault>
-    requires starts { IsStartsOf before.now.image.now.heap before.now.starts.now }
-    ensures counted { IfOk result (λ v. IsLiveBytes before.now.image.now.heap v.items) }
-    ensures within_used { IfOk result (λ v. MayBeLive before.now.image.now.heap v.items) }
+    ensures counted { IfOk result (λ v. IsLiveBytes before.now.heap v.items) }
+    ensures within_used { IfOk result (λ v. MayBeLive before.now.heap v.items) }
     ensures memory { IfErr result (λ e. e ≡ Fault.Memory) }
 {
     let (workers, chunk) = (settings.workers(), settings.chunk());
@@ -126,8 +122,8 @@ pub fn count_live<R: Threads + Sync, G: Gate + Sync>(
     live_bytes(
         rt,
         alloc,
-        before.image.heap(),
-        before.starts,
+        before.image().heap(),
+        before.starts(),
         workers,
         chunk,
         gate,

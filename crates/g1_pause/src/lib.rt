@@ -4,7 +4,8 @@
 //! `pause_bytes` reads an image, sees that every reference is covered, evacuates and writes the image
 //! after. `evacuate` goes by these steps:
 //!
-//! 1. The table of starts and the refined remembered sets are built once, and lent to what follows.
+//! 1. The table of starts and the refined remembered sets are built once, as `Before`, which is lent to
+//!    what follows. `take_steps` has the steps up to where all is prepared.
 //! 2. The collection set is what the budget buys by the refined sets and the live bytes, or the
 //!    regions that the caller gives.
 //! 3. The cards of those refined sets lead into the set. From the roots and from them its survivors
@@ -18,6 +19,7 @@
 //! gate leave no trace in it.
 #![tactic(auto)]
 
+mod before;
 mod bytes;
 mod choosing;
 mod evacuating;
@@ -25,11 +27,14 @@ pub mod laws;
 mod report;
 mod run_streams;
 mod settings;
+mod steps;
 
+pub use before::Before;
 pub use bytes::pause_bytes;
-pub use choosing::{Before, Bought, CollectionSet, collection_set, count_live};
+pub use choosing::{Bought, CollectionSet, collection_set, count_live};
 pub use evacuating::evacuate;
 pub use g1_image::{FromReader, Sink, Source, ToWriter};
 pub use report::Report;
 pub use run_streams::pause_run;
 pub use settings::{Choice, Settings};
+pub use steps::{Outcome, Steps, take_steps};

@@ -1,5 +1,7 @@
 //! What the roots reach of each region, and which regions a budget buys, line by line.
 ghost use Rattle.std.specs.Prelude.{◌≡◌, ◌++◌, length, map, string_bytes, OnOk, IfOk, IfErr};
+ghost use Rattle.g1_words.specs.Heap.{regions};
+ghost use Rattle.g1_image.specs.Cards.{refined};
 ghost use Rattle.g1_choose.specs.Cost.{IsCost};
 ghost use Rattle.g1_choose.specs.Choice.{MayBeLive};
 ghost use Rattle.g1_text.specs.Lines.{text_of};
@@ -8,7 +10,7 @@ ghost use Rattle.g1_tables.specs.Tables.{live_lines, line_of, choice_lines, List
 use g1_choose::{Candidate, Cost, buy, order};
 use g1_mark::live_bytes;
 use g1_pause::{Before, Settings, count_live};
-use g1_rem::{Starts, Tracked, image, refine_by};
+use g1_rem::{Starts, Tracked};
 use g1_words::{Fault, Heap};
 use g1_work::Open;
 use std::alloc::{AllocError, Global};
@@ -59,14 +61,7 @@ pub fn candidates<T: Threads + Sync>(
     ensures text { IfOk result (λ v. IsChoiceText settings.now.cost tracked.now budget v.items) }
     ensures memory { IfErr result (λ e. e ≡ Fault.Memory) }
 {
-    let image = image(tracked);
-    let starts = Starts::build_by(rt, alloc, image.heap(), settings.workers())?;
-    let remembered = refine_by(rt, alloc, tracked, &starts, settings.workers())?;
-    let before = Before {
-        image,
-        starts: &starts,
-        remembered: &remembered,
-    };
+    let before = Before::new(rt, alloc, tracked, settings.workers())?;
     let live = count_live(rt, alloc, &before, settings, &Open)?;
     candidate_lines(alloc, &before, &live, &settings.cost(), budget)
 }
@@ -80,14 +75,13 @@ fn candidate_lines(
     budget: u64,
 ) -> Result<Vec<u8>, Fault>
     requires parameters { IsCost parameters.now }
-    requires remembered { length before.now.remembered.now ≡ before.now.image.now.heap.geometry.n }
-    requires live_bytes { MayBeLive before.now.image.now.heap live.now }
-    ensures text { IfOk result (λ v. ListsChoice parameters.now before.now.image.now.heap (map (λ s. s.items) before.now.remembered.now) live.now (length before.now.image.now.log) budget v.items) }
+    requires live_bytes { MayBeLive before.now.heap live.now }
+    ensures text { IfOk result (λ v. ListsChoice parameters.now before.now.heap (map (refined before.now) (regions before.now.heap)) live.now (length before.now.log) budget v.items) }
     ensures memory { IfErr result (λ e. e ≡ Fault.Memory) }
 {
-    let heap = before.image.heap();
-    let dirty = before.image.log().len() as u64;
-    let order = order(alloc, heap, before.remembered, live, parameters)?;
+    let image = before.image();
+    let dirty = image.log().len() as u64;
+    let order = order(alloc, image.heap(), before.remembered(), live, parameters)?;
     let purchase = buy(&order, parameters, dirty, budget);
     choice_lines(alloc, &order, purchase.taken, purchase.total)
 }

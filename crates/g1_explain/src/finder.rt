@@ -5,7 +5,7 @@ use std::alloc::AllocError;
 
 /// A reference that leads to an object.
 #[derive(Clone, Copy)]
-pub enum Finder {
+pub(crate) enum Finder {
     /// The root of this number.
     Root { number: usize },
     /// The slot at this address, on this card.
@@ -15,7 +15,11 @@ pub enum Finder {
 }
 
 /// Adds what a finder is.
-pub fn push_finder(text: &mut String, found: &[u64], finder: Finder) -> Result<(), AllocError> {
+pub(crate) fn push_finder(
+    text: &mut String,
+    found: &[u64],
+    finder: Finder,
+) -> Result<(), AllocError> {
     match finder {
         Finder::Root { number } => write!(text, "root {number}"),
         Finder::Card { card, slot } => write!(text, "card {card} slot {slot}"),
@@ -27,7 +31,12 @@ pub fn push_finder(text: &mut String, found: &[u64], finder: Finder) -> Result<(
 }
 
 /// Adds a word and the numbers of the object at an address.
-pub fn push_object(text: &mut String, heap: &Heap, word: &str, at: u64) -> Result<(), AllocError> {
+pub(crate) fn push_object(
+    text: &mut String,
+    heap: &Heap,
+    word: &str,
+    at: u64,
+) -> Result<(), AllocError> {
     let (size, refs) = match object_in(heap, at) {
         Some(Object { size, refs, .. }) => (size, refs),
         None => (0, 0),
@@ -36,7 +45,11 @@ pub fn push_object(text: &mut String, heap: &Heap, word: &str, at: u64) -> Resul
 }
 
 /// Ends a line with what finds its object.
-pub fn push_found(text: &mut String, found: &[u64], finder: Finder) -> Result<(), AllocError> {
+pub(crate) fn push_found(
+    text: &mut String,
+    found: &[u64],
+    finder: Finder,
+) -> Result<(), AllocError> {
     text.push_str(" by ")?;
     push_finder(text, found, finder)?;
     text.push('\n')

@@ -6,7 +6,7 @@ use g1_words::Heap;
 use std::alloc::AllocError;
 
 /// Adds the first line of a path to the object at an address.
-pub fn push_path_line(
+pub(crate) fn push_path_line(
     text: &mut String,
     word: &str,
     at: u64,
@@ -28,7 +28,7 @@ fn push_reference(text: &mut String, finder: Finder) -> Result<(), AllocError> {
 }
 
 /// Adds a line for each object on a path.
-pub fn push_path(
+pub(crate) fn push_path(
     text: &mut String,
     heap: &Heap,
     found: &[u64],
@@ -55,7 +55,7 @@ fn target_of(heap: &Heap, found: &[u64], finder: Finder) -> u64 {
 }
 
 /// Adds that an object of a region is garbage, with the region's pin.
-pub fn push_garbage(
+pub(crate) fn push_garbage(
     text: &mut String,
     heap: &Heap,
     region: u32,
@@ -66,7 +66,7 @@ pub fn push_garbage(
 }
 
 /// Adds that no pause takes a region, if it is pinned.
-pub fn push_pin(text: &mut String, heap: &Heap, region: u32) -> Result<(), AllocError> {
+pub(crate) fn push_pin(text: &mut String, heap: &Heap, region: u32) -> Result<(), AllocError> {
     match heap.regions().get(region as usize) {
         Some(entry) if entry.pinned => writeln!(text, "pinned {region}"),
         _ => Ok(()),
@@ -74,7 +74,7 @@ pub fn push_pin(text: &mut String, heap: &Heap, region: u32) -> Result<(), Alloc
 }
 
 /// Adds why a card is looked at if a region is collected.
-pub fn push_card(
+pub(crate) fn push_card(
     text: &mut String,
     image: &Image,
     region: u32,

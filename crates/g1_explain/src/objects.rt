@@ -3,12 +3,12 @@ use g1_words::{Heap, Object, header, slots};
 use std::alloc::{AllocError, Global};
 
 /// The word at an address; 0 if it is beyond the heap.
-pub fn word_at(heap: &Heap, address: u64) -> u64 {
+pub(crate) fn word_at(heap: &Heap, address: u64) -> u64 {
     heap.words().get(address as usize).copied().unwrap_or(0)
 }
 
 /// The object whose header is at an address, if it ends within the heap.
-pub fn object_in(heap: &Heap, at: u64) -> Option<Object> {
+pub(crate) fn object_in(heap: &Heap, at: u64) -> Option<Object> {
     let words = heap.words();
     let length = words.len() as u64;
     if at >= length {
@@ -23,7 +23,7 @@ pub fn object_in(heap: &Heap, at: u64) -> Option<Object> {
 }
 
 /// The reference words of the object at an address.
-pub fn slots_at(heap: &Heap, at: u64) -> &[u64] {
+pub(crate) fn slots_at(heap: &Heap, at: u64) -> &[u64] {
     let words = heap.words();
     let length = words.len() as u64;
     if at >= length {
@@ -38,7 +38,7 @@ pub fn slots_at(heap: &Heap, at: u64) -> &[u64] {
 }
 
 /// The words of the object at an address, the header included.
-pub fn size_in(heap: &Heap, at: u64) -> u64 {
+pub(crate) fn size_in(heap: &Heap, at: u64) -> u64 {
     match object_in(heap, at) {
         Some(object) => object.size,
         None => 0,
@@ -46,7 +46,11 @@ pub fn size_in(heap: &Heap, at: u64) -> u64 {
 }
 
 /// The words of each of the objects at some addresses.
-pub fn sizes_of(alloc: Global, heap: &Heap, addresses: &[u64]) -> Result<Vec<u64>, AllocError> {
+pub(crate) fn sizes_of(
+    alloc: Global,
+    heap: &Heap,
+    addresses: &[u64],
+) -> Result<Vec<u64>, AllocError> {
     let mut sizes = Vec::with_capacity(alloc, addresses.len())?;
     for at in addresses {
         sizes.push(size_in(heap, *at))?;
@@ -55,7 +59,7 @@ pub fn sizes_of(alloc: Global, heap: &Heap, addresses: &[u64]) -> Result<Vec<u64
 }
 
 /// The sum of some sizes.
-pub fn sum_of(sizes: &[u64]) -> u64 {
+pub(crate) fn sum_of(sizes: &[u64]) -> u64 {
     let mut sum = 0u64;
     for size in sizes {
         sum = sum.saturating_add(*size);

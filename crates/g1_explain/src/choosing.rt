@@ -5,15 +5,15 @@ use g1_words::{Heap, Kind, Region};
 use std::alloc::AllocError;
 
 /// Adds the lines of what each region has, and of how far a budget goes. A pause of no region costs `base`.
-pub fn push_bought(
+pub(crate) fn push_bought(
     text: &mut String,
     before: &Before<'_>,
     base: u128,
     bought: &Bought,
 ) -> Result<(), AllocError> {
-    let heap = before.image.heap();
+    let heap = before.image().heap();
     writeln!(text, "budget {} base {base}", bought.budget)?;
-    push_live(text, heap, before.remembered, &bought.live)?;
+    push_live(text, heap, before.remembered(), &bought.live)?;
     push_excluded(text, heap, &bought.live)?;
     push_candidates(text, &bought.order, base, bought.taken)
 }

@@ -7,7 +7,11 @@ use g1_words::{Heap, Region, region_of};
 use std::alloc::{AllocError, Global};
 
 /// Adds a line for each root, and then for each slot that is patched, that references a survivor.
-pub fn push_patches(text: &mut String, heap: &Heap, prepared: &Prepared) -> Result<(), AllocError> {
+pub(crate) fn push_patches(
+    text: &mut String,
+    heap: &Heap,
+    prepared: &Prepared,
+) -> Result<(), AllocError> {
     push_roots(text, heap.roots(), prepared.roots())?;
     for (slot, new) in prepared.patches() {
         if is_kept(heap, prepared, *slot) {
@@ -30,13 +34,13 @@ fn push_roots(text: &mut String, before: &[u64], after: &[u64]) -> Result<(), Al
 
 /// Whether a slot outside the set is there after the pause: a humongous object that is freed takes its own
 /// with it.
-pub fn is_kept(heap: &Heap, prepared: &Prepared, slot: u64) -> bool {
+pub(crate) fn is_kept(heap: &Heap, prepared: &Prepared, slot: u64) -> bool {
     let region = region_of(&heap.geometry(), slot) as usize;
     matches!(prepared.regions().get(region), Some(region) if region.kind.is_used())
 }
 
 /// How many slots are patched.
-pub fn patch_count(heap: &Heap, prepared: &Prepared) -> u64 {
+pub(crate) fn patch_count(heap: &Heap, prepared: &Prepared) -> u64 {
     let mut count = 0u64;
     for (slot, _) in prepared.patches() {
         if is_kept(heap, prepared, *slot) {
@@ -59,7 +63,7 @@ fn push_patch(
 }
 
 /// Adds the lines of each remembered set that changes: the cards that join it, and those that leave it.
-pub fn push_remembered(
+pub(crate) fn push_remembered(
     alloc: Global,
     text: &mut String,
     refined: &[Vec<u32>],
@@ -92,7 +96,7 @@ fn push_set_change(
 }
 
 /// Adds a line for each region whose line in the table changes.
-pub fn push_regions(
+pub(crate) fn push_regions(
     text: &mut String,
     before: &[Region],
     after: &[Region],
@@ -108,7 +112,7 @@ pub fn push_regions(
 }
 
 /// Adds the lines of the heading's entries that change.
-pub fn push_heading_changes(text: &mut String, image: &Image) -> Result<(), AllocError> {
+pub(crate) fn push_heading_changes(text: &mut String, image: &Image) -> Result<(), AllocError> {
     if !image.log().is_empty() {
         text.push_str("log empty\n")?;
     }
@@ -119,7 +123,7 @@ pub fn push_heading_changes(text: &mut String, image: &Image) -> Result<(), Allo
 }
 
 /// How many of some regions are free.
-pub fn free_count(regions: &[Region]) -> u64 {
+pub(crate) fn free_count(regions: &[Region]) -> u64 {
     let mut count = 0u64;
     for region in regions {
         count = count.saturating_add(u64::from(region.kind.is_free()));

@@ -5,7 +5,7 @@ use g1_words::{Heap, region_of};
 use std::alloc::AllocError;
 
 /// Adds the line of each survivor, with its finder.
-pub fn push_each(
+pub(crate) fn push_each(
     text: &mut String,
     heap: &Heap,
     survivors: &[u64],
@@ -21,7 +21,7 @@ pub fn push_each(
 }
 
 /// Adds a line for each survivor's place, and for each region that is left with a gap.
-pub fn push_places(
+pub(crate) fn push_places(
     text: &mut String,
     heap: &Heap,
     plan: &Plan,
@@ -62,7 +62,7 @@ fn push_gap(
 }
 
 /// Adds a line for each survivor: its address before, its address after, and its words.
-pub fn push_map(text: &mut String, plan: &Plan, sizes: &[u64]) -> Result<(), AllocError> {
+pub(crate) fn push_map(text: &mut String, plan: &Plan, sizes: &[u64]) -> Result<(), AllocError> {
     let places = plan.places();
     for (index, at) in plan.survivors().iter().enumerate() {
         if let (Some(place), Some(size)) = (places.get(index), sizes.get(index)) {

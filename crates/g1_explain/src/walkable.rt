@@ -1,0 +1,71 @@
+//! A heap whose objects can be found from its cards.
+ghost use Rattle.std.specs.Prelude.{◌<◌};
+
+use crate::objects::size_in;
+use g1_image::Image;
+use g1_pause::Before;
+use g1_rem::{Starts, slots_on};
+use g1_words::Heap;
+use smallvec::SmallVec;
+use std::alloc::Global;
+use std::marker::Model;
+
+/// An image, and the starts of its heap.
+#[derive(Drop)]
+pub(crate) struct Walkable<'a> {
+    pub(crate) image: &'a Image,
+    pub(crate) starts: &'a Starts,
+}
+
+impl<'a> Model for Walkable<'a> {
+    ghost use Rattle.g1_image.specs.Image.{Image as ImageOf};
+    ghost use Rattle.g1_rem.specs.Starts.{IsStartsOf};
+
+    ghost Value = { ImageOf };
+
+    ghost view = { λ w. w.image.now };
+
+    ghost invariant = { λ w. IsStartsOf w.image.now.heap w.starts.now };
+}
+
+impl<'a> Walkable<'a> {
+    /// The image of a pause before it.
+    pub(crate) fn of(before: &'a Before<'_>) -> Walkable<'a> {
+        Walkable {
+            image: before.image(),
+            starts: before.starts(),
+        }
+    }
+
+    pub(crate) fn heap(&self) -> &'a Heap {
+        self.image.heap()
+    }
+
+    /// The addresses of the slots on a card, rising.
+    pub(crate) fn slots_on(&self, alloc: Global, card: u32) -> SmallVec<u64, 64> {
+        let heap = self.image.heap();
+        if u64::from(card) < heap.geometry().cards() {
+            slots_on(alloc, heap, self.starts, card)
+        } else {
+            SmallVec::new(alloc)
+        }
+    }
+
+    /// The object that holds a slot on a card: from the one over the card's first word, an object at a time.
+    pub(crate) fn holder(&self, card: u32, slot: u64) -> Option<u64> {
+        let heap = self.image.heap();
+        let geometry = heap.geometry();
+        if u64::from(card) >= geometry.cards() {
+            return None;
+        }
+        let mut at = u64::from(self.starts.first(card)?);
+        for _ in 0..geometry.card_words() {
+            let next = at.saturating_add(size_in(heap, at));
+            if slot < next {
+                break;
+            }
+            at = next;
+        }
+        Some(at)
+    }
+}

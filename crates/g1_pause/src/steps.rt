@@ -1,0 +1,148 @@
+ghost use Rattle.std.specs.Prelude.{◌≡◌, ◌⊎◌, map, Err, IfSome, IfNone, IfOk, IfErr};
+ghost use Rattle.g1_words.specs.Heap.{regions};
+ghost use Rattle.g1_words.specs.Survivors.{Survivors};
+ghost use Rattle.g1_image.specs.Cards.{refined};
+ghost use Rattle.g1_rem.specs.EntryCards.{cards_into};
+ghost use Rattle.g1_pause.specs.Answer.{IsEvacuated, IsSetFor};
+ghost use Rattle.g1_pause.specs.Bought.{IsBought, IsListed};
+ghost use Rattle.g1_pause.specs.Steps.{IsOutcome};
+
+use crate::before::Before;
+use crate::choosing::{CollectionSet, collection_set};
+use crate::settings::Settings;
+use g1_copy::{Basis, Prepared, prepare_on};
+use g1_frontier::discover;
+use g1_layout::{Plan, place};
+use g1_rem::cards_into;
+use g1_words::Fault;
+use g1_work::Gate;
+use std::alloc::Global;
+use std::thread::Threads;
+
+/// What the steps of a pause give before it changes anything.
+#[derive(Drop)]
+pub struct Steps {
+    pub collection: CollectionSet,
+    /// The cards that lead into the set, rising.
+    pub cards: Vec<u32>,
+    pub outcome: Outcome,
+}
+
+/// Whether the survivors have room.
+#[derive(Drop)]
+pub enum Outcome {
+    /// Where the survivors go, and all that the pause writes.
+    Ready {
+        plan: Plan,
+        prepared: Prepared,
+    },
+    /// The survivors, which need more regions than are free.
+    NoRoom {
+        survivors: Vec<u64>,
+        need: u64,
+        free: u64,
+    },
+}
+
+/// The steps of a pause up to the first one that refuses it. The image stays as it is, so that a refusal
+/// leaves nothing to undo.
+///
+/// # Errors
+///
+/// `Fault::Set` with the first region of a given list that can't be taken; `Fault::Memory`. That there is no
+/// room for the survivors is an outcome.
+pub fn take_steps<R: Threads + Sync, G: Gate + Sync>(
+    rt: &R,
+    alloc: Global,
+    before: &Before<'_>,
+    settings: &Settings,
+    gate: &G,
+) -> Result<Steps, Fault>
+    ensures set { IfOk result (λ x. IsSetFor settings.now.cost before.now settings.now.choice x.collection.regions.items) }
+    ensures bought { IfOk result (λ x. IfSome x.collection.bought (IsBought settings.now.cost settings.now.choice before.now)) }
+    ensures listed { IfOk result (λ x. IfNone x.collection.bought (IsListed settings.now.choice)) }
+    ensures cards { IfOk result (λ x. x.cards.items ≡ cards_into before.now.heap (map (refined before.now) (regions before.now.heap)) x.collection.regions.items) }
+    ensures outcome { IfOk result (λ x. IsOutcome before.now x.collection.regions.items x.outcome) }
+    ensures refused { IfErr result (λ e. (e ≡ Fault.Memory) ⊎ IsEvacuated settings.now.cost settings.now.choice before.now (Err e)) }
+{
+    let collection = collection_set(rt, alloc, before, settings, gate)?;
+    let set: &[u32] = &collection.regions;
+    let (cards, survivors) = find_survivors(rt, alloc, before, set, settings, gate)?;
+    let outcome = lay_out(rt, alloc, before, set, &cards, survivors, settings)?;
+    Ok(Steps {
+        collection,
+        cards,
+        outcome,
+    })
+}
+
+/// The cards that lead into a set, and its survivors.
+fn find_survivors<R: Threads + Sync, G: Gate + Sync>(
+    rt: &R,
+    alloc: Global,
+    before: &Before<'_>,
+    set: &[u32],
+    settings: &Settings,
+    gate: &G,
+) -> Result<(Vec<u32>, Vec<u64>), Fault>
+    requires { IsSetFor settings.now.cost before.now settings.now.choice set.now }
+    ensures cards { IfOk result (λ x. x.0.items ≡ cards_into before.now.heap (map (refined before.now) (regions before.now.heap)) set.now) }
+    ensures survivors { IfOk result (λ x. Survivors before.now.heap set.now x.1.items) }
+    ensures memory { IfErr result (λ e. e ≡ Fault.Memory) }
+{
+    let heap = before.image().heap();
+    let cards = cards_into(alloc, heap, before.remembered(), set)?;
+    g1_copy::laws::cards_lead_in();
+    g1_frontier::laws::refined_lead_in();
+    let survivors = discover(
+        rt,
+        alloc,
+        heap,
+        before.starts(),
+        set,
+        &cards,
+        settings.workers(),
+        settings.chunk(),
+        gate,
+    )?;
+    Ok((cards, survivors))
+}
+
+/// Where a set's survivors go, and what the pause writes, if they have room.
+fn lay_out<R: Threads + Sync>(
+    rt: &R,
+    alloc: Global,
+    before: &Before<'_>,
+    set: &[u32],
+    cards: &[u32],
+    survivors: Vec<u64>,
+    settings: &Settings,
+) -> Result<Outcome, Fault>
+    requires set { IsSetFor settings.now.cost before.now settings.now.choice set.now }
+    requires cards { cards.now ≡ cards_into before.now.heap (map (refined before.now) (regions before.now.heap)) set.now }
+    requires survivors { Survivors before.now.heap set.now survivors.items }
+    ensures outcome { IfOk result (λ x. IsOutcome before.now set.now x) }
+    ensures refused { IfErr result (λ e. (e ≡ Fault.Memory) ⊎ IsEvacuated settings.now.cost settings.now.choice before.now (Err e)) }
+{
+    g1_layout::laws::placeable();
+    match place(alloc, before.image().heap(), set, &survivors) {
+        Err(Fault::Room { need, free }) => Ok(Outcome::NoRoom {
+            survivors,
+            need,
+            free,
+        }),
+        Err(fault) => Err(fault),
+        Ok(plan) => {
+            let basis = Basis {
+                tracked: before.tracked(),
+                starts: before.starts(),
+                remembered: before.remembered(),
+                set,
+                plan: &plan,
+                cards,
+            };
+            let prepared = prepare_on(rt, alloc, &basis, settings.workers())?;
+            Ok(Outcome::Ready { plan, prepared })
+        }
+    }
+}
