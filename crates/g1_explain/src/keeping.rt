@@ -233,11 +233,12 @@ fn push_kept(
     found: &[u64],
     path: &[Finder],
 ) -> Result<(), AllocError> {
-    let heap = target.walkable.heap();
+    let walkable = target.walkable;
+    let heap = walkable.heap();
     push_path_line(text, "kept", target.at, path)?;
     if let Some(Finder::Card { card, slot }) = path.first() {
-        push_card(text, target.walkable.image, target.region, *card)?;
-        push_holder(text, target.walkable, *card, *slot)?;
+        push_card(text, walkable.image, target.region, *card)?;
+        push_holder(text, walkable, *card, *slot)?;
     }
     push_path(text, heap, found, path)?;
     push_pin(text, heap, target.region)

@@ -74,14 +74,15 @@ fn push_search(
 
 // What the pause writes, unless the survivors have no room.
 fn written_of(alloc: Global, before: &Before<'_>, steps: Steps) -> Result<Written, Failure> {
-    match steps.outcome {
+    let Steps { cards, outcome, .. } = steps;
+    match outcome {
         Outcome::NoRoom { need, free, .. } => Err(Failure::Fault(Fault::Room { need, free })),
         Outcome::Ready { plan, prepared } => {
             let sizes = sizes_of(alloc, before.image().heap(), plan.survivors())?;
             Ok(Written {
                 plan,
                 prepared,
-                cards: steps.cards.len(),
+                cards: cards.len(),
                 sizes,
             })
         }

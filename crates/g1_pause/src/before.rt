@@ -1,4 +1,4 @@
-ghost use Rattle.std.specs.Prelude.{◌≡◌, map, IfOk, IfErr};
+ghost use Rattle.std.specs.Prelude.{◌≡◌, map, length, IfOk, IfErr};
 ghost use Rattle.g1_words.specs.Heap.{regions};
 ghost use Rattle.g1_image.specs.Cards.{IsTracked, refined};
 ghost use Rattle.g1_rem.specs.Starts.{IsStartsOf};
@@ -82,7 +82,8 @@ impl<'a> Before<'a> {
 
     /// The refined remembered sets, by region number.
     pub fn remembered(&self) -> &[Vec<u32>]
-        ensures { map (λ s. s.items) result.now ≡ map (refined self.now) (regions self.now.heap) }
+        ensures one_each { length result.now ≡ self.now.heap.geometry.n }
+        ensures refined { map (λ s. s.items) result.now ≡ map (refined self.now) (regions self.now.heap) }
     {
         &self.remembered
     }

@@ -1,9 +1,12 @@
 -- What is written of a choice.
-use Rattle.std.proofs.Common.{◌≡◌, ℕ, zero, suc, ◌≤◌, inl, inr, List, [], ◌∷◌, ◌++◌, map, flat_map, take, drop, length, All, refl, sym, ◌∙◌, ap, arith, Vec}
+use Rattle.std.proofs.Common.{◌≡◌, ℕ, zero, suc, ◌≤◌, inl, inr, List, [], ◌∷◌, ◌++◌, map, flat_map, take, drop, length, All, refl, sym, ◌∙◌, ap, subst, arith, Vec}
 use Rattle.std.specs.Prelude.{min, codes, slice_index, Result, Ok, Err, IfOk}
 use Rattle.std.specs.List.{range_with_len}
 use Rattle.std.proofs.lemmas.Bool.{cases_lt}
-use Rattle.g1_words.specs.Heap.{Heap}
+use Rattle.g1_words.specs.Heap.{Heap, regions}
+use Rattle.g1_words.specs.Live.{IsLiveBytes}
+use Rattle.g1_image.specs.Image.{Image}
+use Rattle.g1_image.specs.Cards.{refined}
 use Rattle.g1_choose.specs.declared.parameters.Cost.{Cost}
 use Rattle.g1_choose.specs.declared.candidate.Candidate.{Candidate}
 use Rattle.g1_choose.specs.declared.buying.Purchase.{Purchase}
@@ -13,7 +16,7 @@ use Rattle.g1_choose.specs.Bought.{IsPurchase}
 use Rattle.g1_choose.proofs.Budget.{longest_from_paid, pause_cost-told}
 use Rattle.g1_text.specs.Lines.{line_text, text_of}
 use Rattle.g1_text.proofs.Printed.{text_append, text_map, take_all}
-use Rattle.g1_tables.specs.Tables.{live_line, live_lines, candidate_line, line_of, choice_lines, total_line, region_line_of, ListsChoice}
+use Rattle.g1_tables.specs.Tables.{live_line, live_lines, candidate_line, line_of, choice_lines, total_line, region_line_of, ListsChoice, IsChoiceText}
 
 take_least : {X : Type 0} (xs : List X) (n : ℕ) → take (min (length xs) n) xs ≡ take n xs
 take_least xs n = elim (cases_lt n (length xs)) [
@@ -102,6 +105,18 @@ module _ (c : Cost) (h : Heap) (remembered : List (List ℕ)) (lives : List ℕ)
       → IsPurchase c d budget xs p → IfOk r (λ v. v.items ≡ text_of (choice_lines line_of xs p.taken p.total)) → IfOk r (λ v. ListsChoice c h remembered lives d budget v.items)
   lists_if_ok d budget xs p (Ok v) o bought e = lists_choice d budget xs p v.items o bought e
   lists_if_ok d budget xs p (Err f) o bought e = tt
+
+-- the text of a choice by an image and its live bytes, of an answer that may be out of memory
+pub choice_if_ok : {Z E : Type 0} (c k : Cost) (i j : Image) (budget : ℕ) (lives live : List ℕ) (r : Result (Vec ℕ Z) E) → k ≡ c → j ≡ i → lives ≡ live → IsLiveBytes j.heap live
+    → IfOk r (λ v. ListsChoice k j.heap (map (refined j) (regions j.heap)) lives (length j.log) budget v.items) → IfOk r (λ v. IsChoiceText c i budget v.items)
+choice_if_ok c k i j budget lives live (Ok v) price same items counted lists = record {
+  lives = live;
+  counted = subst (λ (x : Image). IsLiveBytes x.heap live) same counted;
+  choice = subst (λ (x : Image). ListsChoice c x.heap (map (refined x) (regions x.heap)) live (length x.log) budget v.items) same
+      (subst (λ l. ListsChoice c j.heap (map (refined j) (regions j.heap)) l (length j.log) budget v.items) items
+      (subst (λ (p : Cost). ListsChoice p j.heap (map (refined j) (regions j.heap)) lives (length j.log) budget v.items) price lists));
+}
+choice_if_ok c k i j budget lives live (Err f) price same items counted lists = tt
 
 -- the lines of all live bytes
 pub live_end : (lives text : List ℕ) (n : ℕ) → n ≡ length lives → text ≡ flat_map (λ r. line_text (live_line r (slice_index lives r))) (range_with_len 0 n) → text ≡ text_of (live_lines lives)

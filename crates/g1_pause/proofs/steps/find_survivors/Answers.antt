@@ -1,15 +1,11 @@
 use Rattle.std.proofs.Common.{◌≡◌, refl, sym, ◌∙◌, ap, map}
-use Rattle.g1_words.specs.Heap.{regions}
+use Rattle.g1_words.specs.Heap.{Heap}
 use Rattle.g1_image.specs.Image.{Image}
-use Rattle.g1_image.specs.Cards.{refined}
-use Rattle.g1_rem.specs.EntryCards.{cards_into}
-use Rattle.g1_frontier.proofs.Leading.{remembered_one_each}
 use Rattle.g1_pause.proofs.Planning.{cards_there, set_there, set_leads}
 use Rattle.g1_pause.proofs.steps.find_survivors.Goals as goal
 
 pub cards_into-requires-clause-remembered : goal.cards_into-requires-clause-remembered
-cards_into-requires-clause-remembered g c =
-    remembered_one_each (λ s. s.items) c.args.before.now c.image.result.now c.heap-heap.result.now c.remembered.result.now c.image.ensures.same c.heap-heap.ensures.same c.remembered.ensures
+cards_into-requires-clause-remembered g c = c.remembered.ensures.one_each ∙ sym (ap (λ (h : Heap). h.geometry.n) (c.heap-heap.ensures.same ∙ ap (λ (j : Image). j.heap) c.image.ensures.same))
 
 pub cards_into-requires-clause-set : goal.cards_into-requires-clause-set
 cards_into-requires-clause-set g c =
@@ -31,11 +27,11 @@ discover-requires-clause-outside g c κs within =
     let he : c.heap-heap.result.now ≡ c.args.before.now.heap = c.heap-heap.ensures.same ∙ ap (λ (j : Image). j.heap) c.image.ensures.same in
     (set_leads c.args.settings.now.cost c.args.settings.now.choice c.args.before.now c.heap-heap.result.now he c.args.set.now c.requires
     c.deref.result.now c.args.set.now c.args.set.now (map (λ s. s.items) c.remembered.result.now) c.image.ensures.tracked c.cards_lead_in.ensures.refined c.refined_lead_in.ensures.window
-    (c.deref.ensures.value ∙ c.in_ok-cards.ensures.ok) refl refl c.remembered.ensures).0
+    (c.deref.ensures.value ∙ c.in_ok-cards.ensures.ok) refl refl c.remembered.ensures.refined).0
 
 pub discover-requires-clause-lead_in : goal.discover-requires-clause-lead_in
 discover-requires-clause-lead_in g c κs within =
     let he : c.heap-heap.result.now ≡ c.args.before.now.heap = c.heap-heap.ensures.same ∙ ap (λ (j : Image). j.heap) c.image.ensures.same in
     (set_leads c.args.settings.now.cost c.args.settings.now.choice c.args.before.now c.heap-heap.result.now he c.args.set.now c.requires
     c.deref.result.now c.args.set.now c.args.set.now (map (λ s. s.items) c.remembered.result.now) c.image.ensures.tracked c.cards_lead_in.ensures.refined c.refined_lead_in.ensures.window
-    (c.deref.ensures.value ∙ c.in_ok-cards.ensures.ok) refl refl c.remembered.ensures).1
+    (c.deref.ensures.value ∙ c.in_ok-cards.ensures.ok) refl refl c.remembered.ensures.refined).1
