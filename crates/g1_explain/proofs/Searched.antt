@@ -1,8 +1,8 @@
 -- The cards of a search of one region.
-use Rattle.std.proofs.Common.{◌≡◌, ◌≢◌, ◌<◌, ℕ, inl, inr, ◌*◌, ◌/◌, true, List, [], ◌∷◌, Contains, sym, ap, ◌∙◌, arith, refl, eq-eqb}
+use Rattle.std.proofs.Common.{◌≡◌, ◌≢◌, ◌<◌, ℕ, inl, inr, ◌*◌, ◌/◌, true, List, [], ◌∷◌, Contains, sym, ap, subst, ◌∙◌, arith, refl, eq-eqb}
 use Rattle.std.specs.List.{range_with_len}
 use Rattle.std.proofs.lemmas.Bool.{false≢true}
-use Rattle.g1_words.specs.Heap.{region_of}
+use Rattle.g1_words.specs.Heap.{Heap, region_of}
 use Rattle.g1_words.specs.References.{Ref}
 use Rattle.g1_words.specs.Lists.{has}
 use Rattle.g1_words.proofs.Computed.{range_below}
@@ -49,3 +49,11 @@ module _ (i : Image) (good : IsImage i) (r : ℕ) (inside : r < i.heap.geometry.
         let out : region_of i.heap e.slot ≢ r = λ z. false≢true (sym f ∙ has_from_in (r ∷ []) (region_of i.heap e.slot) (inl (sym z))) in
         elim (l.whole e c (leads e into out)) [ inl m ↦ m | inr m ↦ absurd (In-from_contains [] e.slot m) ]),
   )
+
+-- the same of the image's heap, of a region below their number
+pub region_cards : (i : Image) (h : Heap) → h ≡ i.heap → IsImage i → (r n : ℕ) → n ≡ h.geometry.n → r < n → (found cards : List ℕ) → cards ≡ found → AreEntryCards i r found
+    → AreCards h cards × AreOutside h (r ∷ []) cards × LeadIn h (r ∷ []) cards
+region_cards i h same good r n count below found cards e entries =
+    let inside : r < i.heap.geometry.n = subst (λ m. r < m) (count ∙ ap (λ (g : Heap). g.geometry.n) same) below in
+    subst (λ g. AreCards g cards × AreOutside g (r ∷ []) cards × LeadIn g (r ∷ []) cards) (sym same)
+    (entry_cards_lead_in i good r inside cards (subst (AreEntryCards i r) (sym e) entries))
