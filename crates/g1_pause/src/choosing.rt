@@ -60,7 +60,7 @@ pub fn collection_set<R: Threads + Sync, G: Gate + Sync>(
                 bought: None,
             })
         }
-        Choice::Budget(budget) => { buy_regions(rt, alloc, before, settings, *budget, gate) }
+        Choice::Budget(budget) => buy_regions(rt, alloc, before, settings, *budget, gate),
     }
 }
 
