@@ -1,3 +1,4 @@
+use crate::parsing::{Name, name_from, split_at_byte};
 use thiserror::Error;
 
 /// What a line of a trace has to be, by its first word.
@@ -32,19 +33,21 @@ pub enum Expected {
 impl Expected {
     /// What a line that begins like this has to be.
     pub(crate) fn of_line(line: &[u8]) -> Expected {
-        let end = line.iter().position(|byte| *byte == b' ');
-        let (name, _) = line.split_at(end.unwrap_or(line.len()));
-        match name {
-            b"new" => Expected::New,
-            b"get" => Expected::Get,
-            b"put" => Expected::Put,
-            b"set" => Expected::Set,
-            b"say" => Expected::Say,
-            b"same" => Expected::Same,
-            b"copy" => Expected::Copy,
-            b"drop" => Expected::Drop,
-            b"pause" => Expected::Pause,
-            _ => Expected::Command,
+        let word = match split_at_byte(line, b' ') {
+            Some((word, _)) => word,
+            None => line,
+        };
+        match name_from(word) {
+            Some(Name::New) => Expected::New,
+            Some(Name::Get) => Expected::Get,
+            Some(Name::Put) => Expected::Put,
+            Some(Name::Set) => Expected::Set,
+            Some(Name::Say) => Expected::Say,
+            Some(Name::Same) => Expected::Same,
+            Some(Name::Copy) => Expected::Copy,
+            Some(Name::Drop) => Expected::Drop,
+            Some(Name::Pause) => Expected::Pause,
+            None => Expected::Command,
         }
     }
 }
