@@ -1,34 +1,44 @@
 use crate::parsing::{Name, name_from, split_at_byte};
-use thiserror::Error;
+use std::error::Error;
+use std::fmt;
 
 /// What a line of a trace has to be, by its first word.
-#[derive(Debug, Clone, Copy, Error)]
+#[derive(Debug, Clone, Copy)]
 pub enum Expected {
-    #[error("'heap W K N ROOTS', four numbers without leading zeros")]
     Heap,
-    #[error("'new ROOT SLOTS WORDS'")]
     New,
-    #[error("'get ROOT FROM SLOT'")]
     Get,
-    #[error("'put ROOT SLOT FROM'")]
     Put,
-    #[error("'set ROOT WORD VALUE'")]
     Set,
-    #[error("'say ROOT WORD'")]
     Say,
-    #[error("'same ROOT ROOT'")]
     Same,
-    #[error("'copy ROOT FROM'")]
     Copy,
-    #[error("'drop ROOT'")]
     Drop,
-    #[error("'pause BUDGET'")]
     Pause,
-    #[error("a command: new, get, put, set, say, same, copy, drop or pause")]
     Command,
-    #[error("the end of the line, a byte 10")]
     End,
 }
+
+impl fmt::Display for Expected {
+    fn fmt<W: fmt::Write>(&self, f: &mut fmt::Formatter<W>) -> fmt::Result {
+        f.write_str(match self {
+            Expected::Heap => "'heap W K N ROOTS', four numbers without leading zeros",
+            Expected::New => "'new ROOT SLOTS WORDS'",
+            Expected::Get => "'get ROOT FROM SLOT'",
+            Expected::Put => "'put ROOT SLOT FROM'",
+            Expected::Set => "'set ROOT WORD VALUE'",
+            Expected::Say => "'say ROOT WORD'",
+            Expected::Same => "'same ROOT ROOT'",
+            Expected::Copy => "'copy ROOT FROM'",
+            Expected::Drop => "'drop ROOT'",
+            Expected::Pause => "'pause BUDGET'",
+            Expected::Command => "a command: new, get, put, set, say, same, copy, drop or pause",
+            Expected::End => "the end of the line, a byte 10",
+        })
+    }
+}
+
+impl Error for Expected {}
 
 impl Expected {
     /// What a line that begins like this has to be.
