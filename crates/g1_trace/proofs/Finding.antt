@@ -28,12 +28,6 @@ all_pass : (p : ℕ → Bool) (a n : ℕ) → ((q : ℕ) → a ≤ q → q < a +
 all_pass p a zero f = refl
 all_pass p a (suc n) f = (λ t. f a (omega arith) (omega arith) t && all_pass p (a + 1) n (λ q l h. f q (omega (arith, l)) (omega (arith, h))) t)
 
-pub used_test : (k : Kind) → k ≢ Free → is_free k ≡ false
-used_test Free n = absurd (n refl)
-used_test Ordinary n = refl
-used_test HumongousFirst n = refl
-used_test Continuation n = refl
-
 false_by : (b : Bool) → (b ≡ true → ⊥) → b ≡ false
 false_by true f = absurd (f refl)
 false_by false f = refl

@@ -19,10 +19,6 @@ named_of_words h (p ∷ ps) = ap (λ xs. named (word h p) ++ xs) (named_of_words
 children_same : (h : Heap) (b : ℕ) → flat_map named ((heap_view h).slots b) ≡ targets h b
 children_same h b = named_of_words h (slots (object_at h b))
 
-pub live_seen : (h : Heap) (a : ℕ) → Live h a → Seen (heap_view h) a
-live_seen h a (seed c) = seed c
-live_seen h b (child {a = a} r c) = child (live_seen h a r) (subst (λ xs. Contains xs b) (sym (children_same h a)) c)
-
 pub seen_live : (h : Heap) (a : ℕ) → Seen (heap_view h) a → Live h a
 seen_live h a (seed c) = seed c
 seen_live h b (child {a = a} r c) = child (seen_live h a r) (subst (λ xs. Contains xs b) (children_same h a) c)

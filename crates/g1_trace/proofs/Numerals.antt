@@ -42,15 +42,6 @@ read_part xs i = let e = ap (read_on 0) (take_drop i xs) in let f = read_append 
 abbrev pub BeginDigits : List ℕ → ℕ → Type 0
 BeginDigits xs n = (k : ℕ) → k < n → IsInRange 48 57 (get_or xs k 0)
 
-pub digits_taken : (n : ℕ) (xs : List ℕ) → BeginDigits xs n → AreDigits (take n xs)
-digits_taken n xs f k lt = let r = get_take n k xs lt in subst (IsInRange 48 57) (sym r.0) (f k r.1)
-
-pub number_ends : (n : ℕ) (xs : List ℕ) → n ≤ length xs → (n < length xs → IsInRange 48 57 (get_or xs n 0) → ⊥) → IsNumberEnd (drop n xs)
-number_ends zero [] le e = tt
-number_ends zero (x ∷ xs) le e = e (omega arith)
-number_ends (suc n) [] le e = tt
-number_ends (suc n) (x ∷ xs) le e = number_ends n xs (omega (arith, le)) (λ lt. e (omega (arith, lt)))
-
 digits_tail : (d : ℕ) (ds : List ℕ) → AreDigits (d ∷ ds) → AreDigits ds
 digits_tail d ds a k lt = a (suc k) (omega (arith, lt))
 

@@ -1,13 +1,12 @@
 -- The table of regions as the regions of a run are taken one after another.
-use Rattle.std.proofs.Common.{◌≡◌, ◌≢◌, ℕ, suc, ◌+◌, ◌-◌, ◌*◌, ◌/◌, ◌%◌, ◌<◌, ◌≤◌, inl, inr, Bool, true, false, cond, ◌&&◌, List, [], ◌∷◌, length, get_or, set, min, refl, sym, ◌∙◌, ap}
-use Rattle.std.proofs.Common.{arith, eqb, ltb, leb, lt-ltb, le-ltb, le-leb, ltb-true, leb-true, eq-eqb, div-add-mod'}
+use Rattle.std.proofs.Common.{◌≡◌, ◌≢◌, ℕ, suc, ◌+◌, ◌-◌, ◌*◌, ◌/◌, ◌<◌, ◌≤◌, inl, inr, Bool, true, false, cond, ◌&&◌, List, [], ◌∷◌, length, get_or, set, min, refl, sym, ◌∙◌, ap}
+use Rattle.std.proofs.Common.{arith, eqb, ltb, leb, lt-ltb, le-ltb, le-leb, ltb-true, leb-true, eq-eqb}
 use Rattle.std.specs.Int.{div_ceil}
 use Rattle.std.proofs.lemmas.Bool.{cases_lt}
 use Rattle.std.proofs.lemmas.Grind.{div_ceil_times}
 use Rattle.std.proofs.lemmas.Nat.{div-mul-add}
 use Rattle.std.proofs.lemmas.List.{length-set, get_or-set_same, get_or-set_other}
 use Rattle.std.proofs.lemmas.List.FromFn.{get_or-map-range_with_len, length-map-range_with_len}
-use Rattle.std.proofs.Math.Nat.{mul-le-mul_right, add-mul}
 use Rattle.g1_words.specs.declared.region.Region.{Region}
 use Rattle.g1_words.specs.declared.region.Kind.TheVariants.{HumongousFirst, Continuation}
 use Rattle.g1_words.specs.Heap.{free_region, region_with}
@@ -31,15 +30,6 @@ same_bool true false f g = sym (f refl)
 same_bool false true f g = g refl
 same_bool false false f g = refl
 
--- how many regions so many words take
-pub below_size : (w size i : ℕ) → 0 < w → i < (size + (w - 1)) / w → i * w < size
-below_size w size i p l =
-    let s : (i + 1) * w ≡ i * w + 1 * w = add-mul i 1 w in
-    let m : ℕ = (size + (w - 1)) / w in
-    let d : (size + (w - 1)) / w * w + (size + (w - 1)) % w ≡ size + (w - 1) = div-add-mod' (size + (w - 1)) w in
-    let le : (i + 1) * w ≤ (size + (w - 1)) / w * w = mul-le-mul_right w (omega (arith, l)) in
-    omega (arith, s, d, le, p)
-
 -- the two ways to round up
 pub rounded_up : (w size : ℕ) → 0 < w → div_ceil size w ≡ (size + (w - 1)) / w
 rounded_up w size p =
@@ -48,9 +38,6 @@ rounded_up w size p =
     sym (ap (λ x. x / w) row ∙ div-mul-add (div_ceil size w) w (size + (w - 1) - div_ceil size w * w) (omega (arith, k.0, k.1, p)))
 
 module _ (w : ℕ) (regions : List Region) (r size : ℕ) where
-  in_first : ℕ → ℕ → Bool
-  in_first m q = leb r q && ltb q (r + m)
-
   at_taken : (m q : ℕ) → q < length regions
       → get_or (run_taken w regions r size m) q free_region ≡ cond (leb r q && ltb q (r + m)) (run_region (table_heap w regions) r size q) (get_or regions q free_region)
   at_taken m q lt = get_or-map-range_with_len (λ q. cond (leb r q && ltb q (r + m)) (run_region (table_heap w regions) r size q)

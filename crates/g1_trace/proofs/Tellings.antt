@@ -1,8 +1,8 @@
 -- Lines that are read, done and answered in turn: the beginning, one line more, the end, and the first bad line.
-use Rattle.std.proofs.Common.{◌≡◌, ◌⊎◌, ℕ, ◌+◌, ◌≤◌, inl, inr, List, [], ◌∷◌, ◌++◌, length, flat_map, refl, sym, ◌∙◌, ap, subst, arith, append_assoc, length-append}
+use Rattle.std.proofs.Common.{◌≡◌, ℕ, ◌+◌, ◌≤◌, inl, inr, List, [], ◌∷◌, ◌++◌, length, flat_map, refl, sym, ◌∙◌, ap, subst, arith, append_assoc, length-append}
 use Rattle.std.proofs.lemmas.Grind.{flat_map-append}
 use Rattle.g1_words.specs.declared.fault.Fault.{Fault}
-use Rattle.g1_words.specs.declared.fault.Fault.TheVariants.{Memory, Line}
+use Rattle.g1_words.specs.declared.fault.Fault.TheVariants.{Line}
 use Rattle.g1_words.specs.Geometry.{Geometry}
 use Rattle.g1_image.specs.Image.{Image}
 use Rattle.g1_image.specs.Cards.{IsTracked}
@@ -127,11 +127,10 @@ bad_so_far cost bytes i rest text lines so b =
     let count = so.count in
     bad_later bytes so.sizes.w so.sizes.k so.sizes.n so.roots so.commands rest (lines + 1) so.read (omega (arith, count)) b
 
--- memory is refused, or the next line is the first bad one
+-- the next line is the first bad one
 pub so_far_refused : (cost : Cost) (bytes : List ℕ) (i : Image) (rest text : List ℕ) (lines : ℕ) (fault : Fault) → IsSoFar cost bytes i rest text lines
-    → (fault ≡ Memory) ⊎ ((fault ≡ Line (lines + 1)) × ((m : ℕ) → IsBadRest (m + 1) rest)) → IsRefusal bytes fault
-so_far_refused cost bytes i rest text lines fault so (inl e) = inl e
-so_far_refused cost bytes i rest text lines fault so (inr (e, bad)) = inr (inl (lines + 1, e, bad_so_far cost bytes i rest text lines so (bad (length so.commands))))
+    → (fault ≡ Line (lines + 1)) × ((m : ℕ) → IsBadRest (m + 1) rest) → IsRefusal bytes fault
+so_far_refused cost bytes i rest text lines fault so (e, bad) = inr (inl (lines + 1, e, bad_so_far cost bytes i rest text lines so (bad (length so.commands))))
 
 -- ---- numbers outside the limits
 

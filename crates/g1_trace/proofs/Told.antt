@@ -1,6 +1,7 @@
 -- What is read of a heap, told as the table of commands tells it.
-use Rattle.std.proofs.Common.{◌≡◌, ◌≢◌, ℕ, suc, ◌+◌, ◌-◌, ◌<◌, ◌≤◌, inl, inr, cond, List, Contains, length, get_or, refl, sym, ◌∙◌, ap, subst, arith, lt-ltb, le-ltb}
+use Rattle.std.proofs.Common.{◌≡◌, ◌≢◌, ℕ, suc, ◌+◌, ◌-◌, ◌<◌, ◌≤◌, inl, inr, Bool, true, false, cond, eqb, List, Contains, length, get_or, refl, sym, ◌∙◌, ap, subst, arith, lt-ltb, le-ltb}
 use Rattle.std.proofs.lemmas.List.FromFn.{get_or-map-range_with_len, length-map-range_with_len}
+use Rattle.std.specs.Int.{from_bool}
 use Rattle.g1_words.specs.Geometry.{most_words}
 use Rattle.g1_words.specs.declared.object.Object.{Object}
 use Rattle.g1_words.specs.Heap.{Heap, word, object_at, objects}
@@ -8,7 +9,7 @@ use Rattle.g1_words.specs.Valid.{IsReference, IsValid}
 use Rattle.g1_words.proofs.Bounds.{object_within}
 use Rattle.g1_words.proofs.Computed.{has_contains}
 use Rattle.g1_words.proofs.Sound.{has_is, sound}
-use Rattle.g1_trace.specs.declared.command.Command.TheVariants.{Get, Put, Set, Say}
+use Rattle.g1_trace.specs.declared.command.Command.TheVariants.{Get, Put, Set, Say, Same}
 use Rattle.g1_trace.specs.declared.command.Reply.{Reply}
 use Rattle.g1_trace.specs.declared.command.Reply.TheVariants.{Ok, Range, Number}
 use Rattle.g1_trace.specs.Commands.{View, Nothing, SetRoot, SetSlot, SetValue, Answer, answer, answer_of, in_range, not_null, within}
@@ -109,6 +110,18 @@ module _ (h : Heap) (r q m : ℕ) (o : Object) (lr : r < length h.roots) (lq : q
       ap (λ y. answer Ok (SetSlot o.at m y)) w
       ∙ sym (range_yes (heap_view h) r _ lr ∙ range_yes (heap_view h) q _ lq ∙ names (heap_view h) (get_or h.roots r 0) o.at _ e
       ∙ within_yes (heap_view h) m ((heap_view h).slots o.at) _ (omega (arith, c, f, lt)))
+
+-- ---- two roots are compared
+
+same_number : (b : Bool) → from_bool b ≡ cond b 1 0
+same_number true = refl
+same_number false = refl
+
+pub same_done : (h : Heap) (r q : ℕ) → r < length h.roots → q < length h.roots → (x y n : ℕ) → x ≡ get_or h.roots r 0 → y ≡ get_or h.roots q 0 → n ≡ from_bool (eqb x y)
+    → answer (Number n) Nothing ≡ answer_of (heap_view h) (Same r q)
+same_done h r q lr lq x y n is other e =
+    let same : n ≡ cond (eqb (get_or h.roots r 0) (get_or h.roots q 0)) 1 0 = e ∙ same_number (eqb x y) ∙ (λ t. cond (eqb (is t) (other t)) 1 0) in
+    ap (λ z. answer (Number z) Nothing) same ∙ sym (range_yes (heap_view h) r _ lr ∙ range_yes (heap_view h) q _ lq)
 
 -- ---- one root: a data word is read or written
 

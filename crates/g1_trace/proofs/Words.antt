@@ -1,5 +1,5 @@
 -- A word at the beginning of some bytes, and what follows it.
-use Rattle.std.proofs.Common.{◌≡◌, ◌≢◌, ℕ, zero, suc, ◌<◌, ◌≤◌, List, [], ◌∷◌, ◌++◌, length, get_or, take, drop, refl, sym, ◌∙◌, ap, arith}
+use Rattle.std.proofs.Common.{◌≡◌, ◌≢◌, ℕ, zero, suc, ◌<◌, List, [], ◌∷◌, ◌++◌, length, get_or, take, drop, refl, sym, ◌∙◌, ap, arith}
 use Rattle.std.specs.Prelude.{⊤}
 
 -- the bytes are at their end, or go on with a space
@@ -36,18 +36,3 @@ get_take zero k xs lt = absurd (omega (arith, lt))
 get_take (suc i) k [] lt = absurd (omega (arith, lt))
 get_take (suc i) zero (x ∷ xs) lt = (refl, omega arith)
 get_take (suc i) (suc k) (x ∷ xs) lt = let r = get_take i k xs (omega (arith, lt)) in (r.0, omega (arith, r.1))
-
--- bytes that agree with a word begin with it
-pub agree_word : (word bytes : List ℕ) → length word ≤ length bytes → ((k : ℕ) → k < length word → get_or bytes k 0 ≡ get_or word k 0) → bytes ≡ word ++ drop (length word) bytes
-agree_word [] bytes le f = refl
-agree_word (w ∷ word) [] le f = absurd (omega (arith, le))
-agree_word (w ∷ word) (b ∷ bytes) le f =
-    let first : b ≡ w = f 0 (omega arith) in
-    let rest = agree_word word bytes (omega (arith, le)) (λ k lt. f (suc k) (omega (arith, lt))) in
-    (λ t. first t ∷ rest t)
-
--- what stands in a beginning stands in the whole
-pub get_front : (xs ys : List ℕ) (k : ℕ) → k < length xs → get_or (xs ++ ys) k 0 ≡ get_or xs k 0
-get_front [] ys k lt = absurd (omega (arith, lt))
-get_front (x ∷ xs) ys zero lt = refl
-get_front (x ∷ xs) ys (suc k) lt = get_front xs ys k (omega (arith, lt))

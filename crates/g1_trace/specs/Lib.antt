@@ -10,3 +10,4 @@ pub mod Laws
 pub mod TraceText
 pub mod Lines
 pub mod Telling
+pub mod Session

@@ -1,4 +1,4 @@
-ghost use Rattle.std.specs.Prelude.{◌≡◌, ◌+◌, ◌*◌, ◌/◌, ◌-◌, ◌<◌, ◌≤◌, ◌^◌, length, find, min, Some, ◌==◌, if◌then◌else◌};
+ghost use Rattle.std.specs.Prelude.{◌≡◌, ◌+◌, ◌*◌, ◌/◌, ◌-◌, ◌<◌, ◌≤◌, length, find, min, Some, ◌==◌, if◌then◌else◌};
 ghost use Rattle.g1_words.specs.Geometry.{most_region_words, most_regions, most_words};
 ghost use Rattle.g1_words.specs.Heap.{end, region_with, regions, top};
 ghost use Rattle.g1_words.specs.Valid.{IsValid};

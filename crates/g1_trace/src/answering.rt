@@ -117,11 +117,8 @@ fn answer_same(heap: &Heap, root: u64, other: u64) -> Result<Answer, Reply>
     ensures { answer_from result ≡ answer_of (heap_view heap.now) (Command.Same root other) }
 {
     let value = root_value(heap, root)?;
-    if value == root_value(heap, other)? {
-        Ok(number(1))
-    } else {
-        Ok(number(0))
-    }
+    let other_value = root_value(heap, other)?;
+    Ok(number(u64::from(value == other_value)))
 }
 
 fn answer_copy(heap: &Heap, root: u64, from: u64) -> Result<Answer, Reply>

@@ -18,6 +18,11 @@
 //! by line and returns the replies as text. The replies are determined by the trace and the cost:
 //! those of a plain store, which never moves or frees an object, with `full` and `room` exactly if
 //! the heap beside it has no place.
+//!
+//! A `Session` answers a trace line by line, so that a program with a pipe can use the heap while it
+//! runs. Its first line gives the sizes and makes the heap. Each later one is a command, an empty
+//! line, or a comment, which begins with `#`. Any other line is refused with what was expected there,
+//! and nothing changes.
 #![tactic(auto)]
 
 mod allocating;
@@ -25,17 +30,21 @@ mod answering;
 mod collector;
 mod command;
 mod effect;
+mod expected;
 pub mod laws;
 mod mutator;
 mod parsing;
 mod running;
+mod session;
 mod telling;
 mod trace;
 mod writing;
 
 pub use command::{Command, Reply};
+pub use expected::Expected;
 pub use mutator::Mutator;
 pub use parsing::{first_line, later_line, parse_trace};
 pub use running::run_trace;
+pub use session::{Answer, Session, Wrong};
 pub use telling::{push_reply, run_text};
 pub use trace::Trace;

@@ -1,4 +1,4 @@
-ghost use Rattle.std.specs.Prelude.{◌≡◌, ◌≤◌, ◌<◌, ◌⊎◌, ℕ, List, [], map, replicate, slice_set, IfOk, IfErr};
+ghost use Rattle.std.specs.Prelude.{◌≡◌, ◌≤◌, ◌<◌, ◌⊎◌, slice_set, IfOk, IfErr};
 ghost use Rattle.g1_words.specs.Geometry.{most_roots};
 ghost use Rattle.g1_image.specs.Cards.{IsTracked};
 ghost use Rattle.g1_image.specs.Image.{Image as ImageOf};
@@ -19,7 +19,7 @@ use crate::laws;
 use crate::writing::{set_root, set_slot, set_value};
 use g1_choose::Cost;
 use g1_image::Image;
-use g1_rem::{Tracked, image};
+use g1_rem::{Tracked, image, no_cards};
 use g1_words::{Fault, Geometry, Heap, Kind, MOST_ROOTS, Region, header};
 use g1_work::{Gate, Team};
 use indexmap::IndexSet;
@@ -60,18 +60,6 @@ fn free_heap(alloc: Global, geometry: Geometry, roots: u64) -> Result<Heap, Faul
         roots: vec![in alloc; 0u64; roots as usize]?,
         current: None,
     })
-}
-
-/// An empty remembered set for each region.
-fn no_remembered(alloc: Global, regions: u64) -> Result<Vec<Vec<u32>>, Fault>
-    ensures ok { IfOk result (λ v. map (λ s. s.items) v.items ≡ replicate regions []) }
-    ensures memory { IfErr result (λ e. e ≡ Fault.Memory) }
-{
-    let mut remembered: Vec<Vec<u32>> = Vec::new(alloc);
-    for _r in 0..regions {
-        remembered.push(Vec::new(alloc))?;
-    }
-    Ok(remembered)
 }
 
 /// Writes a data word of an object. Its header says where its data words begin.
@@ -153,7 +141,7 @@ impl Mutator {
         let heap = free_heap(alloc, geometry, roots)?;
         let image = Image {
             heap,
-            remembered: no_remembered(alloc, geometry.regions())?,
+            remembered: no_cards(alloc, geometry.regions())?,
             log: IndexSet::new(alloc),
         };
         Ok(Mutator {

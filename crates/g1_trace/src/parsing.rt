@@ -138,30 +138,13 @@ fn four(bytes: &[u8]) -> Option<(u64, u64, u64, u64)>
     }
 }
 
-/// The bytes after a word that they begin with.
-fn after<'a>(bytes: &'a [u8], word: &[u8]) -> Option<&'a [u8]>
-    ensures some { IfSome result (λ rest. bytes.now ≡ word.now ++ rest.now) }
-    ensures none { IfNone result ((more : List ℕ) → bytes.now ≡ word.now ++ more → ⊥) }
-{
-    if bytes.len() < word.len() {
-        return None;
-    }
-    for (i, b) in word.iter().enumerate() {
-        if bytes[i] != *b {
-            return None;
-        }
-    }
-    let (_, rest) = bytes.split_at(word.len());
-    Some(rest)
-}
-
 /// The numbers of a trace's first line, without its end: words a region, words a card, regions and roots.
 pub fn first_line(line: &[u8]) -> Option<(u64, u64, u64, u64)>
     ensures some { IfSome result (λ r. line.now ≡ heap_line r.0 r.1 r.2 r.3) }
     ensures fits { IfSome result (λ r. AllFit (r.0 ∷ r.1 ∷ r.2 ∷ r.3 ∷ [])) }
     ensures none { IfNone result (IsHeapLine line.now → ⊥) }
 {
-    match after(line, b"heap") {
+    match line.strip_prefix(b"heap") {
         Some(rest) => four(rest),
         None => None,
     }
@@ -169,7 +152,7 @@ pub fn first_line(line: &[u8]) -> Option<(u64, u64, u64, u64)>
 
 /// A command's name.
 #[derive(Clone, Copy)]
-enum Name {
+pub(crate) enum Name {
     New,
     Get,
     Put,
@@ -190,7 +173,7 @@ enum Numbers {
 }
 
 /// The command's name that a word spells.
-fn name_from(word: &[u8]) -> Option<Name>
+pub(crate) fn name_from(word: &[u8]) -> Option<Name>
     ensures some { IfSome result (λ name. word.now ≡ spelled name) }
     ensures none { IfNone result ((name : NameOf) → word.now ≡ spelled name → ⊥) }
 {
@@ -366,7 +349,7 @@ pub fn later_line(line: &[u8]) -> Option<Command>
 }
 
 /// The bytes before the first byte of a value, and those after it; None if no byte has the value.
-fn split_at_byte(bytes: &[u8], value: u8) -> Option<(&[u8], &[u8])>
+pub(crate) fn split_at_byte(bytes: &[u8], value: u8) -> Option<(&[u8], &[u8])>
     ensures some { IfSome result (λ r. (bytes.now ≡ r.0.now ++ value ∷ r.1.now) × ((k : ℕ) → k < length r.0.now → slice_index r.0.now k ≢ value)) }
     ensures none { IfNone result ((k : ℕ) → k < length bytes.now → slice_index bytes.now k ≢ value) }
 {

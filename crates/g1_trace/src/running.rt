@@ -1,15 +1,13 @@
-ghost use Rattle.std.specs.Prelude.{◌≡◌, ◌⊎◌, List, [], ◌∷◌, ◌++◌, Ok, OnOk, IfOk, IfErr};
-ghost use Rattle.g1_image.specs.Cards.{IsTracked};
+ghost use Rattle.std.specs.Prelude.{◌≡◌, ◌⊎◌, List, Ok, IfOk, IfErr};
 ghost use Rattle.g1_choose.specs.Cost.{IsCost};
 ghost use Rattle.g1_work.specs.Team.{IsTeam};
 ghost use Rattle.g1_trace.specs.declared.command.Reply.{Reply as ReplyOf};
-ghost use Rattle.g1_trace.specs.Mutator.{IsStep};
 ghost use Rattle.g1_trace.specs.Run.{IsRun, empty_image};
 ghost use Rattle.g1_trace.specs.Running.{AreLimits, IsHeapSize};
 ghost use Rattle.g1_trace.specs.TraceText.{sizes};
 
 use crate::collector::Collector;
-use crate::command::{Command, Reply};
+use crate::command::Reply;
 use crate::laws;
 use crate::mutator::Mutator;
 use crate::trace::Trace;
@@ -31,31 +29,6 @@ pub(crate) fn start(alloc: Global, w: u64, k: u64, n: u64, roots: u64) -> Result
 {
     match Geometry::new(w, k, n) {
         Ok(geometry) => Mutator::new(alloc, geometry, roots),
-        Err(fault) => Err(fault),
-    }
-}
-
-/// Does a command and adds its reply: the heap after it.
-///
-/// # Errors
-///
-/// `Fault::Memory`.
-fn answer_command<R: Threads + Sync, G: Gate + Sync>(
-    collector: &Collector<'_, R, G>,
-    mutator: Mutator,
-    command: &Command,
-    replies: &mut Vec<Reply>,
-) -> Result<Mutator, Fault>
-    ensures tracked { IfOk result (λ m. IsTracked mutator) }
-    ensures answered { IfOk result (λ m. (reply : ReplyOf) × IsStep collector.now.cost mutator command.now reply m × (replies.new.items ≡ replies.old.items ++ reply ∷ [])) }
-    ensures memory { IfErr result (λ e. e ≡ Fault.Memory) }
-{
-    let (next, outcome) = mutator.execute(command, collector);
-    match outcome {
-        Ok(reply) => {
-            replies.push(reply)?;
-            Ok(next)
-        }
         Err(fault) => Err(fault),
     }
 }
@@ -89,7 +62,10 @@ pub fn run_trace<R: Threads + Sync, G: Gate + Sync>(
     let mut mutator = start(alloc, trace.w, trace.k, trace.n, trace.roots)?;
     let mut replies = Vec::new(alloc);
     for command in &trace.commands {
-        mutator = answer_command(&collector, mutator, command, &mut replies)?;
+        let (next, outcome) = mutator.execute(command, &collector);
+        mutator = next;
+        let reply = outcome?;
+        replies.push(reply)?;
     }
     Ok(replies)
 }

@@ -1,10 +1,5 @@
-ghost use Rattle.std.specs.Prelude.{◌≡◌, ◌⊎◌, ◌++◌, ◌∷◌, ◌+◌, ◌<◌, List, ℕ, length, OnOk, IfOk, IfErr};
-ghost use Rattle.g1_image.specs.Cards.{IsTracked};
+ghost use Rattle.std.specs.Prelude.{◌≡◌, ◌++◌, ◌+◌, ◌<◌, List, ℕ, OnOk, IfOk, IfErr};
 ghost use Rattle.g1_choose.specs.Cost.{IsCost};
-ghost use Rattle.g1_trace.specs.declared.command.Command.{Command as CommandOf};
-ghost use Rattle.g1_trace.specs.declared.command.Reply.{Reply as ReplyOf};
-ghost use Rattle.g1_trace.specs.Mutator.{IsStep};
-ghost use Rattle.g1_trace.specs.TraceText.{AllFit, command_line, numbers_of, IsBadRest};
 ghost use Rattle.g1_trace.specs.Telling.{reply_line, IsTold, IsRefusal, IsBegun, BeginsOutside};
 
 use crate::collector::Collector;
@@ -73,38 +68,6 @@ fn begin(alloc: Global, bytes: &[u8]) -> Result<(Mutator, &[u8]), Fault>
     }
 }
 
-/// Reads the first of some later lines, does its command and adds the reply's line to the text: the
-/// heap after it, and the lines after it.
-///
-/// # Errors
-///
-/// `Fault::Line` with the line's number if it isn't of its form; `Fault::Memory`.
-fn answer_line<'a, R: Threads + Sync, G: Gate + Sync>(
-    collector: &Collector<'_, R, G>,
-    mutator: Mutator,
-    lines: &'a [u8],
-    number: u64,
-    text: &mut Vec<u8>,
-) -> Result<(Mutator, &'a [u8]), Fault>
-    requires some { 0 < length lines.now }
-    ensures tracked { IfOk result (λ r. IsTracked mutator) }
-    ensures answered { IfOk result (λ r. (c : CommandOf) × (reply : ReplyOf) × (lines.now ≡ command_line c ++ 10 ∷ r.1.now) × AllFit (numbers_of c) × IsStep collector.now.cost mutator c reply r.0 × (text.new.items ≡ text.old.items ++ reply_line reply)) }
-    ensures refused { IfErr result (λ e. (e ≡ Fault.Memory) ⊎ ((e ≡ Fault.Line number) × ((m : ℕ) → IsBadRest (m + 1) lines.now))) }
-{
-    let (command, more) = match next_command(lines, number) {
-        Ok(read) => read,
-        Err(fault) => return Err(fault),
-    };
-    let (next, outcome) = mutator.execute(&command, collector);
-    match outcome {
-        Ok(reply) => {
-            push_reply(text, reply)?;
-            Ok((next, more))
-        }
-        Err(fault) => Err(fault),
-    }
-}
-
 /// The replies to the trace whose text the bytes are, a line each. Each line is read, done and
 /// answered in turn, and nothing is kept of it but the reply's text.
 ///
@@ -133,8 +96,11 @@ pub fn run_text<R: Threads + Sync, G: Gate + Sync>(
     let mut text: Vec<u8> = Vec::new(alloc);
     let mut lines: u64 = 1;
     while rest.len() > 0 {
-        let (next, more) = answer_line(&collector, mutator, rest, lines + 1, &mut text)?;
+        let (command, more) = next_command(rest, lines + 1)?;
+        let (next, outcome) = mutator.execute(&command, &collector);
         mutator = next;
+        let reply = outcome?;
+        push_reply(&mut text, reply)?;
         lines += 1;
         rest = more;
     }

@@ -1,4 +1,5 @@
 use Rattle.std.proofs.Common.{◌≡◌, ℕ, ◌<◌, List, ◌++◌, length, get_or, sym, subst, arith}
+use Rattle.std.specs.Prelude.{IfOk}
 use Rattle.g1_image.specs.Image.{Image}
 use Rattle.g1_trace.specs.declared.command.Command.{Command}
 use Rattle.g1_trace.specs.declared.command.Command.TheVariants.{New}
@@ -34,20 +35,21 @@ loop-command-preserved g c =
     let i : Image = c.loop-command.mutator in
     let k : ℕ = c.loop-command.command-index in
     let d : Command = New 0 0 0 in
-    let next : Image = c.in_ok-mutator-2.mutator in
-    let answered = c.in_ok-mutator-2.ensures.answered in
-    let longer : List Reply = c.answer_command.new.replies.items in
+    let next : Image = c.execute-next.result.0 in
+    let reply : Reply = c.in_ok-reply.reply in
+    let longer : List Reply = c.push.new.self.items in
     let lt : k < length all = omega (arith, c.loop-command-test.true) in
-    let step = subst (λ k. IsStep k i (get_or all c.loop-command.command-index d) answered.0 next) c.new-collector.ensures answered.1 in
-    let plain = c.traces.ensures.step c.args.cost.now inv.plain.0 i (get_or all k d) answered.0 next c.in_ok-mutator-2.ensures.tracked inv.plain.1 step in
+    let told = subst (λ o. IfOk o (λ r. IsStep c.new-collector.result.cost i (get_or all k d) r next)) c.in_ok-reply.was c.execute-next.ensures.replied in
+    let step : IsStep c.args.cost.now i (get_or all k d) reply next = subst (λ x. IsStep x i (get_or all k d) reply next) c.new-collector.ensures told in
+    let plain = c.traces.ensures.step c.args.cost.now inv.plain.0 i (get_or all k d) reply next c.execute-next.ensures.tracked inv.plain.1 step in
     record {
       heap = leads_on (IsStep c.args.cost.now) (empty_image (sizes c.args.trace.now) c.args.trace.now.roots) all c.loop-command.replies.items i next k
-          d answered.0 longer lt inv.heap step answered.2;
+          d reply longer lt inv.heap step c.in_ok-push.ensures.items;
       plain = (
         plain.0,
         plain.2,
         leads_on IsPlainStep (empty_store c.args.trace.now.roots) all c.loop-command.replies.items inv.plain.0 plain.0 k d
-            answered.0 longer lt inv.plain.2 plain.1 answered.2,
+            reply longer lt inv.plain.2 plain.1 c.in_ok-push.ensures.items,
       );
     }
 

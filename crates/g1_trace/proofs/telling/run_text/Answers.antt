@@ -1,5 +1,5 @@
 use Rattle.std.proofs.lemmas.Result.{err_from_is_err_and}
-use Rattle.std.proofs.Common.{arith, subst}
+use Rattle.std.proofs.Common.{IfOk, arith, subst}
 use Rattle.g1_trace.specs.Mutator.{IsStep}
 use Rattle.g1_trace.specs.TraceText.{command_line}
 use Rattle.g1_trace.proofs.Texts.{shorter}
@@ -13,22 +13,26 @@ loop-rest-init g c = so_far_start c.args.cost.now c.args.bytes.now c.in_ok-mutat
 pub loop-rest-preserved : goal.loop-rest-preserved
 loop-rest-preserved g c =
     let l = c.loop-rest in
-    let a = c.in_ok-next.ensures.answered in
-    let step = subst (λ k. IsStep k l.mutator a.0 a.1 c.in_ok-next.next) c.new-collector.ensures a.4 in
-    so_far_answered c.args.cost.now c.args.bytes.now l.mutator c.in_ok-next.next l.rest.now l.text.items c.in_ok-next.more.now c.answer_line.new.text.items l.lines
-    c.traces.ensures.step c.in_ok-next.ensures.tracked l.invariant (a.0, a.1, a.2, a.3, step, a.5)
+    let line = c.in_ok-command in
+    let reply = c.in_ok-reply.reply in
+    let next = c.execute-next.result.0 in
+    let told = subst (λ o. IfOk o (λ r. IsStep c.new-collector.result.cost l.mutator line.command r next)) c.in_ok-reply.was c.execute-next.ensures.replied in
+    let step = subst (λ k. IsStep k l.mutator line.command reply next) c.new-collector.ensures told in
+    so_far_answered c.args.cost.now c.args.bytes.now l.mutator next l.rest.now l.text.items line.more.now c.push_reply.new.text.items l.lines
+    c.traces.ensures.step c.execute-next.ensures.tracked l.invariant (line.command, reply, line.ensures.text, line.ensures.fits, step, c.in_ok-push_reply.ensures)
 
 pub loop-rest-smaller : goal.loop-rest-smaller
 loop-rest-smaller g c =
-    let answered = c.in_ok-next.ensures.answered in
-    let less = shorter c.loop-rest.rest.now (command_line answered.0) c.in_ok-next.more.now answered.2 in
+    let line = c.in_ok-command in
+    let less = shorter c.loop-rest.rest.now (command_line line.command) line.more.now line.ensures.text in
     omega (arith, less)
 
-pub returns-in_err-next-clause-refused : goal.returns-in_err-next-clause-refused
-returns-in_err-next-clause-refused g c =
+pub returns-in_err-command-clause-refused : goal.returns-in_err-command-clause-refused
+returns-in_err-command-clause-refused g c =
     let l = c.loop-rest in
-    let p = err_from_is_err_and c.from_residual-in_err-next.result c.from_residual-in_err-next.ensures.1 in
-    rw (p.1, p.2) (so_far_refused c.args.cost.now c.args.bytes.now l.mutator l.rest.now l.text.items l.lines c.in_err-next.field-0.0 l.invariant c.in_err-next.ensures.refused)
+    let e = c.in_err-command in
+    let p = err_from_is_err_and c.from_residual-in_err-command.result c.from_residual-in_err-command.ensures.1 in
+    rw (p.1, p.2) (so_far_refused c.args.cost.now c.args.bytes.now l.mutator l.rest.now l.text.items l.lines e.field-0.0 l.invariant (e.ensures.fault, e.ensures.bad))
 
 pub returns-clause-told : goal.returns-clause-told
 returns-clause-told g c =

@@ -8,10 +8,10 @@ use Rattle.g1_trace.specs.declared.command.Reply.{Reply as ReplyOf}
 use Rattle.g1_trace.specs.TraceText.{heap_line, command_line}
 use Rattle.g1_trace.specs.Run.{empty_image}
 use Rattle.g1_trace.specs.Mutator.{IsStep}
-use Rattle.g1_session.specs.declared.session.Session.{Session}
-use Rattle.g1_session.specs.declared.session.Session.TheVariants.{Begun, Open}
-use Rattle.g1_session.specs.declared.session.Answer.{Answer}
-use Rattle.g1_session.specs.declared.session.Answer.TheVariants.{Nothing, Reply}
+use Rattle.g1_trace.specs.declared.session.Session.{Session}
+use Rattle.g1_trace.specs.declared.session.Session.TheVariants.{Begun, Open}
+use Rattle.g1_trace.specs.declared.session.Answer.{Answer}
+use Rattle.g1_trace.specs.declared.session.Answer.TheVariants.{Nothing, Reply}
 
 -- the line is empty, or its first byte is a number sign
 abbrev pub IsComment : List ℕ → Type 0

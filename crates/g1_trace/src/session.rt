@@ -1,15 +1,17 @@
 ghost use Rattle.std.specs.Prelude.{◌≡◌, ◌↔◌, IsTrue, IfOk, IfErr};
-ghost use Rattle.g1_words.specs.Geometry.{Geometry as GeometryOf};
 ghost use Rattle.g1_trace.specs.TraceText.{command_line};
-ghost use Rattle.g1_trace.specs.Run.{empty_image};
-ghost use Rattle.g1_session.specs.declared.session.Session.TheVariants.{Begun, Open as OpenOf};
-ghost use Rattle.g1_session.specs.Session.{IsComment, IsDone};
+ghost use Rattle.g1_trace.specs.declared.session.Session.TheVariants.{Begun, Open as OpenOf};
+ghost use Rattle.g1_trace.specs.Session.{IsComment, IsDone};
 
+use crate::collector::Collector;
+use crate::command::{Command, Reply};
 use crate::expected::Expected;
+use crate::mutator::Mutator;
+use crate::parsing::{first_line, later_line};
+use crate::running::start;
 use g1_image::Image;
 use g1_pause::Settings;
-use g1_trace::{Command, Mutator, Reply, first_line, later_line};
-use g1_words::{Fault, Geometry};
+use g1_words::Fault;
 use g1_work::Open;
 use std::alloc::Global;
 use std::thread::Threads;
@@ -116,7 +118,7 @@ fn begin(alloc: Global, line: &[u8], settings: &Settings) -> (Session, Result<An
     let Some((w, k, n, roots)) = first_line(line) else {
         return (Session::Begun, Err(Wrong::Line(Expected::Heap)));
     };
-    match make_heap(alloc, w, k, n, roots) {
+    match start(alloc, w, k, n, roots) {
         Ok(mutator) => {
             let session = Session::Open {
                 mutator,
@@ -126,13 +128,6 @@ fn begin(alloc: Global, line: &[u8], settings: &Settings) -> (Session, Result<An
         }
         Err(fault) => (Session::Begun, Err(Wrong::Fault(fault))),
     }
-}
-
-fn make_heap(alloc: Global, w: u64, k: u64, n: u64, roots: u64) -> Result<Mutator, Fault>
-    ensures { IfOk result (λ m. (g : GeometryOf) × (g.w ≡ w) × (g.k ≡ k) × (g.n ≡ n) × (m ≡ empty_image g roots)) }
-{
-    let geometry = Geometry::new(w, k, n)?;
-    Mutator::new(alloc, geometry, roots)
 }
 
 // Does a command.
@@ -147,9 +142,9 @@ fn step<R: Threads + Sync>(
     ensures done { IfOk result.1 (λ a. IsDone settings.now.cost (OpenOf mutator commands) (command_line command.now) a result.0) }
     ensures same { IfErr result.1 (λ _. result.0 ≡ OpenOf mutator commands) }
 {
-    let (workers, chunk) = (settings.workers(), settings.chunk());
     let cost = settings.cost();
-    let (mutator, outcome) = mutator.step(rt, alloc, command, &cost, workers, chunk, &Open);
+    let collector = Collector::new(rt, alloc, &cost, settings.team(), &Open);
+    let (mutator, outcome) = mutator.execute(command, &collector);
     match outcome {
         Ok(reply) => {
             let commands = commands.saturating_add(1);
