@@ -47,7 +47,7 @@ fn read_lines(alloc: Global, draft: &mut Option<Draft>, text: &[u8]) -> Result<u
 }
 
 // The bytes up to the first LF, and those behind it. `split` would look at one byte after the other.
-fn first_line(text: &[u8]) -> (&[u8], Option<&[u8]>)
+pub(crate) fn first_line(text: &[u8]) -> (&[u8], Option<&[u8]>)
     ensures { MatchOption result.1 (parts_of text.now ≡ result.0.now ∷ []) (λ left. (length left.now < length text.now) × (parts_of text.now ≡ result.0.now ∷ parts_of left.now)) }
 {
     match memchr(b'\n', text) {
