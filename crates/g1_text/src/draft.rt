@@ -86,11 +86,13 @@ impl Draft {
         ensures { IfOk result (λ d. content d ≡ begun geometry current heading.roots heading.dirty) }
     {
         let count = geometry.regions() as usize;
+        let remembered = empty_remembered(alloc, count)?;
+        let remembered_lines = vec![in alloc; heading.line; count]?;
         let lines = Lines {
             heading,
             roots: Vec::new(alloc),
             log: Vec::new(alloc),
-            remembered: vec![in alloc; heading.line; count]?,
+            remembered: remembered_lines,
             regions: Vec::new(alloc),
         };
         Ok(Draft {
@@ -99,7 +101,7 @@ impl Draft {
             roots: Vec::new(alloc),
             log: Vec::new(alloc),
             regions: Vec::new(alloc),
-            remembered: empty_remembered(alloc, count)?,
+            remembered,
             words: Vec::new(alloc),
             objects: Vec::new(alloc),
             beyond: 0,

@@ -156,15 +156,25 @@ impl<'a> Lines<'a> {
 
     // The words of a line.
     fn read_words(&mut self, number: u64, line: &'a str, words: &[&'a str]) -> Result<(), Refusal> {
-        match words {
-            [] => Ok(()),
-            [first, ..] if first.starts_with('#') => Ok(()),
-            [first, sizes @ ..] if self.heading == 0 => self.begin(number, first, sizes),
-            ["root", name] => self.add_root(number, name),
-            ["root", ..] => Err(Expected::NamedRoot.into()),
-            ["object", name, size, ..] => self.add_object(number, line, name, size),
-            ["object", _] => Err(Expected::Size.into()),
-            ["object"] => Err(Expected::Name.into()),
+        let Some((first, rest)) = words.split_first() else {
+            return Ok(());
+        };
+        if first.starts_with('#') {
+            return Ok(());
+        }
+        if self.heading == 0 {
+            return self.begin(number, first, rest);
+        }
+        match *first {
+            "root" => match rest {
+                [name] => self.add_root(number, name),
+                _ => Err(Expected::NamedRoot.into()),
+            },
+            "object" => match rest {
+                [name, size, ..] => self.add_object(number, line, name, size),
+                [_] => Err(Expected::Size.into()),
+                [] => Err(Expected::Name.into()),
+            },
             _ => Err(Expected::GraphLine.into()),
         }
     }
@@ -199,7 +209,7 @@ impl<'a> Lines<'a> {
         name: &'a str,
         size: &str,
     ) -> Result<(), Refusal> {
-        if name == "-" || name == ".." {
+        if matches!(name, "-" | "..") {
             return Err(Expected::Name.into());
         }
         let (size, slots) = short_size(size)?;
@@ -350,7 +360,8 @@ fn fill_words<'a>(
     entry: &Entry<'a>,
     content: &[&'a str],
 ) -> Result<(), Refusal> {
-    let (size, slots) = (u64::from(entry.size), u64::from(entry.slots));
+    let size = u64::from(entry.size);
+    let slots = u64::from(entry.slots);
     let data = size.saturating_sub(slots).saturating_sub(1);
     let (given, missing) = given_words(&mut Words::new(&*content), slots, data)?;
     out.push(header_word(size, slots))?;

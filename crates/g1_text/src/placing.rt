@@ -50,7 +50,8 @@ pub(crate) fn choose_sizes(entries: &[Entry<'_>]) -> Result<Geometry, Expected> 
 
 /// How many regions the objects take, as `place` lays them.
 pub(crate) fn regions_needed(geometry: &Geometry, entries: &[Entry<'_>]) -> u64 {
-    let (mut regions, mut room) = (0u64, 0u64);
+    let mut regions = 0u64;
+    let mut room = 0u64;
     for entry in entries {
         let size = u64::from(entry.size);
         if geometry.is_humongous(size) {

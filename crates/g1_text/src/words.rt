@@ -150,7 +150,9 @@ impl<'a> Words<'a> {
         if self.take("-") {
             return Ok(0);
         }
-        let address = self.take_number().ok_or(Expected::Reference)?;
+        let Some(address) = self.take_number() else {
+            return Err(Expected::Reference);
+        };
         address.checked_add(1).ok_or(Expected::Reference)
     }
 
