@@ -81,12 +81,13 @@ fn at(lines: &[u64], place: u32, expected: Expected, fault: Fault) -> Wrong {
 
 // The line of the object that a slot belongs to: the last one below the slot.
 fn slot_line(draft: &Draft, slot: u64, fault: Fault) -> Wrong {
-    let below = draft.objects.partition_point(|object| object.at < slot);
-    match draft.objects[..below].last() {
-        Some(object) => Wrong::Line {
-            number: object.line,
-            expected: Expected::Slot(slot.saturating_sub(object.at).saturating_sub(1)),
-        },
-        None => Wrong::Fault(fault),
+    for object in draft.objects.iter().rev() {
+        if object.at < slot {
+            return Wrong::Line {
+                number: object.line,
+                expected: Expected::Slot(slot - object.at - 1),
+            };
+        }
     }
+    Wrong::Fault(fault)
 }

@@ -489,14 +489,7 @@ fn check_number(number: u64, next: u64, regions: u64) -> Result<(), Expected>
 fn region_kind(words: &mut Words<'_>) -> Result<Kind, Expected>
     ensures { (k : KindOf) (rest : List (List ℕ)) → words.old ≡ kind_word k ∷ rest → (result ≡ Ok k) × (words.new ≡ rest) }
 {
-    kind(words.next().unwrap_or(""))
-}
-
-// The kind that this word is the text of.
-fn kind(word: &str) -> Result<Kind, Expected>
-    ensures { (k : KindOf) → word.now ≡ kind_word k → result ≡ Ok k }
-{
-    match word {
+    match words.next().unwrap_or("") {
         "free" => Ok(Kind::Free),
         "ordinary" => Ok(Kind::Ordinary),
         "humongous" => Ok(Kind::HumongousFirst),
