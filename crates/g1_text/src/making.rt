@@ -9,10 +9,9 @@ ghost use Rattle.g1_text.specs.Made.{IsImageText};
 use crate::covering::cover;
 use crate::draft::Draft;
 use crate::expected::{Expected, Wrong};
-use crate::packing::pack;
+use crate::packing::{check_bytes, pack};
 use crate::reading::read;
 use crate::settling::settle;
-use g1_image::decode;
 use g1_words::{Fault, Place, Stand};
 use std::alloc::Global;
 
@@ -49,8 +48,8 @@ fn check_and_pack(alloc: Global, draft: &Draft) -> Result<Vec<u8>, Wrong>
 {
     settle(draft)?;
     let bytes = pack(alloc, draft)?;
-    match decode(alloc, bytes.as_slice()) {
-        Ok(_) => Ok(bytes),
+    match check_bytes(alloc, bytes.as_slice()) {
+        Ok(()) => Ok(bytes),
         Err(fault) => Err(trace(draft, fault)),
     }
 }

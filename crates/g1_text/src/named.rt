@@ -5,11 +5,10 @@ ghost use Rattle.g1_text.specs.Made.{IsImageText};
 use crate::covering::cover;
 use crate::draft::{Draft, Heading, Placed};
 use crate::expected::{Expected, Refusal, Wrong};
-use crate::packing::pack;
+use crate::packing::{check_bytes, pack};
 use crate::placing::{Entry, choose_sizes, place, regions_needed};
 use crate::reading::{HeapSizes, add_data, add_zeros, first_line, given_words, sizes};
 use crate::words::{Words, cut_words, size_and_slots};
-use g1_image::decode;
 use g1_words::{Geometry, MOST_ROOTS, header_word};
 use std::alloc::{AllocError, Global};
 use std::collections::HashMap;
@@ -98,7 +97,7 @@ pub fn make_graph(alloc: Global, text: &[u8]) -> Result<Vec<u8>, Wrong>
     if let Some((number, expected)) = first_stale {
         return Err(Wrong::Line { number, expected });
     }
-    if let Err(fault) = decode(alloc, bytes.as_slice()) {
+    if let Err(fault) = check_bytes(alloc, bytes.as_slice()) {
         return Err(Wrong::Fault(fault));
     }
     Ok(bytes)
