@@ -137,7 +137,7 @@ fn begin(alloc: Global, first: &str, mut words: Words<'_>, line: u64) -> Result<
     let Ok(geometry) = Geometry::new(told.w, told.k, told.n) else {
         return Err(Expected::Sizes.into());
     };
-    Ok(Draft::new(alloc, geometry, current, heading)?)
+    Draft::new(alloc, geometry, current, heading)
 }
 
 /// The words of a region and of a card, and the number of regions.
