@@ -52,10 +52,6 @@ pub fn is_graph(text: &[u8]) -> bool {
 /// The first line that is not what is expected there, by its number, and what is expected. `Fault::Memory` else.
 pub fn read_graph<'a>(alloc: Global, text: &'a [u8]) -> Result<Graph<'a>, Wrong> {
     let mut lines = read_lines(alloc, text)?;
-    let mut draft = match lay_out(alloc, &mut lines) {
-        Ok(draft) => draft,
-        Err(refusal) => return Err(refusal.at(lines.heading)),
-    };
     let mut graph = Graph {
         text: Vec::new(alloc),
         names: Vec::new(alloc),
@@ -63,12 +59,20 @@ pub fn read_graph<'a>(alloc: Global, text: &'a [u8]) -> Result<Graph<'a>, Wrong>
         stale_slots: Vec::new(alloc),
         first_stale: None,
     };
-    fill(alloc, &mut graph, &mut draft, &lines)?;
+    fill(alloc, &mut graph, &mut lines)?;
     Ok(graph)
 }
 
+// Finds a place for each object, and fills the graph.
+fn fill<'a>(alloc: Global, graph: &mut Graph<'a>, lines: &mut Lines<'a>) -> Result<(), Wrong> {
+    match lay_out(alloc, lines) {
+        Ok(mut draft) => fill_places(alloc, graph, &mut draft, lines),
+        Err(refusal) => Err(refusal.at(lines.heading)),
+    }
+}
+
 // Fills the places that were found.
-fn fill<'a>(
+fn fill_places<'a>(
     alloc: Global,
     graph: &mut Graph<'a>,
     draft: &mut Draft,
