@@ -61,8 +61,9 @@ fn add_card(remembered: &mut Vec<Vec<u32>>, region: u64, card: u64) -> Result<()
     let Some(set) = remembered.get_mut(region as usize) else {
         return Ok(());
     };
-    if set.last() != Some(&card) {
-        set.push(card)?;
+    match set.last() {
+        Some(last) if *last == card => (),
+        _ => set.push(card)?,
     }
     Ok(())
 }

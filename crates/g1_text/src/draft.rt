@@ -70,7 +70,7 @@ pub(crate) struct Told {
 }
 
 impl Draft {
-    ghost use Rattle.std.specs.Prelude.{◌≡◌, ◌≤◌, ◌<◌, ◌^◌, ◌+◌, ◌-◌, ◌*◌, ◌++◌, [], ◌∷◌, List, Some, Ok, false, length, min, IfOk, OnOk};
+    ghost use Rattle.std.specs.Prelude.{◌≡◌, ◌≤◌, ◌<◌, ◌^◌, ◌+◌, ◌-◌, ◌*◌, ◌++◌, [], ◌∷◌, List, Some, Ok, false, length, min, IfOk, OnOk, MatchResult};
     ghost use Rattle.g1_words.specs.declared.region.Region.{Region as RegionOf};
     ghost use Rattle.g1_words.specs.declared.region.Kind.TheVariants.{Continuation};
     ghost use Rattle.g1_text.specs.Content.{begun, HasRoom, top_behind, beyond_behind};
@@ -82,15 +82,17 @@ impl Draft {
         geometry: Geometry,
         current: Option<u32>,
         heading: Heading,
-    ) -> Result<Draft, AllocError>
-        ensures { IfOk result (λ d. content d ≡ begun geometry current heading.roots heading.dirty) }
+    ) -> Result<Draft, Refusal>
+        ensures { MatchResult result (λ d. content d ≡ begun geometry current heading.roots heading.dirty) (λ e. e ≡ Refusal.Memory) }
     {
         let count = geometry.regions() as usize;
+        let remembered = empty_remembered(alloc, count)?;
+        let remembered_lines = vec![in alloc; heading.line; count]?;
         let lines = Lines {
             heading,
             roots: Vec::new(alloc),
             log: Vec::new(alloc),
-            remembered: vec![in alloc; heading.line; count]?,
+            remembered: remembered_lines,
             regions: Vec::new(alloc),
         };
         Ok(Draft {
@@ -99,7 +101,7 @@ impl Draft {
             roots: Vec::new(alloc),
             log: Vec::new(alloc),
             regions: Vec::new(alloc),
-            remembered: empty_remembered(alloc, count)?,
+            remembered,
             words: Vec::new(alloc),
             objects: Vec::new(alloc),
             beyond: 0,

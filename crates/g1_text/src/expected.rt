@@ -83,6 +83,19 @@ impl Expected {
             _ => "",
         }
     }
+
+    // The number that alone stands in the text, and what is before and behind it.
+    fn number(&self) -> Option<(&'static str, u64, &'static str)> {
+        match *self {
+            Expected::Roots(most) => Some(("at most ", most, " roots")),
+            Expected::Slot(slot) => Some(("'-' or the address of an object in slot ", slot, "")),
+            Expected::NamedSlot(slot) => Some(("'-' or the name of an object in slot ", slot, "")),
+            Expected::Regions(least) => Some(("at least ", least, " regions")),
+            Expected::AtMost(most) => Some(("an object of at most ", most, " words")),
+            Expected::AtLeast(least) => Some(("an object of at least ", least, " words")),
+            _ => None,
+        }
+    }
 }
 
 impl fmt::Display for Expected {
@@ -91,31 +104,14 @@ impl fmt::Display for Expected {
             Expected::Word(word) => write!(f, "'{word}'"),
             Expected::Number(what) => write!(f, "a whole number as {what}"),
             Expected::Follows(what, number) => write!(f, "{what} {number}"),
-            Expected::Roots(most) => write_around(f, "at most ", *most, " roots"),
-            Expected::Slot(slot) => {
-                write_around(f, "'-' or the address of an object in slot ", *slot, "")
-            }
-            Expected::NamedSlot(slot) => {
-                write_around(f, "'-' or the name of an object in slot ", *slot, "")
-            }
-            Expected::Regions(least) => write_around(f, "at least ", *least, " regions"),
             Expected::Region(first, last) => write!(f, "a region from {first} to {last}"),
-            Expected::AtMost(most) => write_around(f, "an object of at most ", *most, " words"),
-            Expected::AtLeast(least) => write_around(f, "an object of at least ", *least, " words"),
             Expected::Content(slots, data) => write!(f, "{slots} slots and {data} data words"),
-            _ => f.write_str(self.text()),
+            _ => match self.number() {
+                Some((lead, number, tail)) => write!(f, "{lead}{number}{tail}"),
+                None => f.write_str(self.text()),
+            },
         }
     }
-}
-
-// A number with the texts around it.
-fn write_around<W: fmt::Write>(
-    f: &mut fmt::Formatter<W>,
-    lead: &str,
-    number: u64,
-    tail: &str,
-) -> fmt::Result {
-    write!(f, "{lead}{number}{tail}")
 }
 
 impl std::error::Error for Expected {}

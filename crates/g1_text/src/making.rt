@@ -9,10 +9,9 @@ ghost use Rattle.g1_text.specs.Made.{IsImageText};
 use crate::covering::cover;
 use crate::draft::Draft;
 use crate::expected::{Expected, Wrong};
-use crate::packing::pack;
+use crate::packing::{check_bytes, pack};
 use crate::reading::read;
 use crate::settling::settle;
-use g1_image::decode;
 use g1_words::{Fault, Place, Stand};
 use std::alloc::Global;
 
@@ -49,8 +48,8 @@ fn check_and_pack(alloc: Global, draft: &Draft) -> Result<Vec<u8>, Wrong>
 {
     settle(draft)?;
     let bytes = pack(alloc, draft)?;
-    match decode(alloc, bytes.as_slice()) {
-        Ok(_) => Ok(bytes),
+    match check_bytes(alloc, bytes.as_slice()) {
+        Ok(()) => Ok(bytes),
         Err(fault) => Err(trace(draft, fault)),
     }
 }
@@ -81,12 +80,13 @@ fn at(lines: &[u64], place: u32, expected: Expected, fault: Fault) -> Wrong {
 
 // The line of the object that a slot belongs to: the last one below the slot.
 fn slot_line(draft: &Draft, slot: u64, fault: Fault) -> Wrong {
-    let below = draft.objects.partition_point(|object| object.at < slot);
-    match draft.objects[..below].last() {
-        Some(object) => Wrong::Line {
-            number: object.line,
-            expected: Expected::Slot(slot.saturating_sub(object.at).saturating_sub(1)),
-        },
-        None => Wrong::Fault(fault),
+    for object in draft.objects.iter().rev() {
+        if object.at < slot {
+            return Wrong::Line {
+                number: object.line,
+                expected: Expected::Slot(slot - object.at - 1),
+            };
+        }
     }
+    Wrong::Fault(fault)
 }

@@ -3,13 +3,12 @@ ghost use Rattle.std.specs.Prelude.{IfOk};
 ghost use Rattle.g1_text.specs.Made.{IsImageText};
 
 use crate::covering::cover;
-use crate::draft::{Draft, Heading};
+use crate::draft::{Draft, Heading, Placed};
 use crate::expected::{Expected, Refusal, Wrong};
-use crate::packing::pack;
-use crate::placing::{Entry, Places, choose_sizes, place, regions_needed};
-use crate::reading::{HeapSizes, add_data, add_zeros, given_words, sizes};
-use crate::words::{Words, size_and_slots};
-use g1_image::decode;
+use crate::packing::{check_bytes, pack};
+use crate::placing::{Entry, choose_sizes, place, regions_needed};
+use crate::reading::{HeapSizes, add_data, add_zeros, first_line, given_words, sizes};
+use crate::words::{Words, cut_words, size_and_slots};
 use g1_words::{Geometry, MOST_ROOTS, header_word};
 use std::alloc::{AllocError, Global};
 use std::collections::HashMap;
@@ -32,13 +31,15 @@ pub struct Graph<'a> {
 
 /// Whether a text has lines of objects by name: the first word that is no comment is `graph`.
 pub fn is_graph(text: &[u8]) -> bool {
-    for line in text.split(|byte| *byte == b'\n') {
+    let mut rest = Some(text);
+    'lines: while let Some(left) = rest {
+        let (line, behind) = first_line(left);
         let Ok(line) = str::from_utf8(line) else {
             return false;
         };
         match line.split_ascii_whitespace().next() {
             Some(first) if !first.starts_with('#') => return first == "graph",
-            _ => (),
+            _ => rest = behind,
         }
     }
     false
@@ -50,7 +51,7 @@ pub fn is_graph(text: &[u8]) -> bool {
 ///
 /// The first line that is not what is expected there, by its number, and what is expected. `Fault::Memory` else.
 pub fn read_graph<'a>(alloc: Global, text: &'a [u8]) -> Result<Graph<'a>, Wrong> {
-    let lines = read_lines(alloc, text)?;
+    let mut lines = read_lines(alloc, text)?;
     let mut graph = Graph {
         text: Vec::new(alloc),
         names: Vec::new(alloc),
@@ -58,15 +59,14 @@ pub fn read_graph<'a>(alloc: Global, text: &'a [u8]) -> Result<Graph<'a>, Wrong>
         stale_slots: Vec::new(alloc),
         first_stale: None,
     };
-    fill(alloc, &mut graph, &lines)?;
+    fill(alloc, &mut graph, &mut lines)?;
     Ok(graph)
 }
 
 // Finds a place for each object, and fills the graph.
-fn fill<'a>(alloc: Global, graph: &mut Graph<'a>, lines: &Lines<'a>) -> Result<(), Wrong> {
-    let mut draft = begin(alloc, lines)?;
-    match place(alloc, &mut draft, lines.entries.as_slice()) {
-        Ok(places) => fill_places(alloc, graph, &mut draft, lines, &places),
+fn fill<'a>(alloc: Global, graph: &mut Graph<'a>, lines: &mut Lines<'a>) -> Result<(), Wrong> {
+    match lay_out(alloc, lines) {
+        Ok(mut draft) => fill_places(alloc, graph, &mut draft, lines),
         Err(refusal) => Err(refusal.at(lines.heading)),
     }
 }
@@ -77,10 +77,9 @@ fn fill_places<'a>(
     graph: &mut Graph<'a>,
     draft: &mut Draft,
     lines: &Lines<'a>,
-    places: &Places,
 ) -> Result<(), Wrong> {
-    fill_roots(graph, draft, lines, places)?;
-    fill_objects(alloc, graph, draft, lines, places)?;
+    fill_roots(graph, &mut draft.roots, lines)?;
+    fill_objects(alloc, graph, draft, lines)?;
     cover(draft)?;
     graph.text = pack(alloc, draft)?;
     Ok(())
@@ -102,13 +101,13 @@ pub fn make_graph(alloc: Global, text: &[u8]) -> Result<Vec<u8>, Wrong>
     if let Some((number, expected)) = first_stale {
         return Err(Wrong::Line { number, expected });
     }
-    if let Err(fault) = decode(alloc, bytes.as_slice()) {
+    if let Err(fault) = check_bytes(alloc, bytes.as_slice()) {
         return Err(Wrong::Fault(fault));
     }
     Ok(bytes)
 }
 
-// What lines say, before any object has an address.
+// What lines say, and the addresses of the objects once they have them.
 #[derive(Drop)]
 struct Lines<'a> {
     heading: u64,
@@ -117,6 +116,8 @@ struct Lines<'a> {
     entries: Vec<Entry<'a>>,
     // The place of each name's entry.
     places: HashMap<&'a str, u64>,
+    // The places of the entries in the order of their addresses.
+    order: Vec<u64>,
 }
 
 fn read_lines<'a>(alloc: Global, text: &'a [u8]) -> Result<Lines<'a>, Wrong> {
@@ -126,39 +127,57 @@ fn read_lines<'a>(alloc: Global, text: &'a [u8]) -> Result<Lines<'a>, Wrong> {
         roots: Vec::new(alloc),
         entries: Vec::new(alloc),
         places: HashMap::new(alloc),
+        order: Vec::new(alloc),
     };
+    let mut words = Vec::new(alloc);
     let mut number = 0u64;
-    for line in text.split(|byte| *byte == b'\n') {
+    let mut rest = Some(text);
+    'lines: while let Some(left) = rest {
+        let (line, behind) = first_line(left);
         number = number.saturating_add(1);
-        if let Err(refusal) = lines.read(alloc, number, line) {
+        if let Err(refusal) = lines.read(&mut words, number, line) {
             return Err(refusal.at(number));
         }
+        rest = behind;
     }
     Ok(lines)
 }
 
 impl<'a> Lines<'a> {
-    fn read(&mut self, alloc: Global, number: u64, line: &'a [u8]) -> Result<(), Refusal> {
+    fn read(
+        &mut self,
+        words: &mut Vec<&'a str>,
+        number: u64,
+        line: &'a [u8],
+    ) -> Result<(), Refusal> {
         let Ok(line) = str::from_utf8(line) else {
             return Err(Expected::Text.into());
         };
-        let words = line
-            .split_ascii_whitespace()
-            .collect::<Vec<&'a str>>(alloc)?;
+        cut_words(words, line)?;
         self.read_words(number, line, words.as_slice())
     }
 
     // The words of a line.
     fn read_words(&mut self, number: u64, line: &'a str, words: &[&'a str]) -> Result<(), Refusal> {
-        match words {
-            [] => Ok(()),
-            [first, ..] if first.starts_with('#') => Ok(()),
-            [first, sizes @ ..] if self.heading == 0 => self.begin(number, first, sizes),
-            ["root", name] => self.add_root(number, name),
-            ["root", ..] => Err(Expected::NamedRoot.into()),
-            ["object", name, size, ..] => self.add_object(number, line, name, size),
-            ["object", _] => Err(Expected::Size.into()),
-            ["object"] => Err(Expected::Name.into()),
+        let Some((first, rest)) = words.split_first() else {
+            return Ok(());
+        };
+        if first.starts_with('#') {
+            return Ok(());
+        }
+        if self.heading == 0 {
+            return self.begin(number, first, rest);
+        }
+        match *first {
+            "root" => match rest {
+                [name] => self.add_root(number, name),
+                _ => Err(Expected::NamedRoot.into()),
+            },
+            "object" => match rest {
+                [name, size, ..] => self.add_object(number, line, name, size),
+                [_] => Err(Expected::Size.into()),
+                [] => Err(Expected::Name.into()),
+            },
             _ => Err(Expected::GraphLine.into()),
         }
     }
@@ -193,7 +212,7 @@ impl<'a> Lines<'a> {
         name: &'a str,
         size: &str,
     ) -> Result<(), Refusal> {
-        if name == "-" || name == ".." {
+        if matches!(name, "-" | "..") {
             return Err(Expected::Name.into());
         }
         let (size, slots) = short_size(size)?;
@@ -207,18 +226,19 @@ impl<'a> Lines<'a> {
             slots,
             number,
             line,
+            at: 0,
         })?;
         Ok(())
     }
 
     // The reference word that a name stands for, if it is null's or an object's.
-    fn reference(&self, places: &Places, name: &str) -> Option<u64> {
+    fn reference(&self, name: &str) -> Option<u64> {
         if name == "-" {
             return Some(0);
         }
         let place = *self.places.get(&name)?;
-        let address = places.addresses.get(place as usize)?;
-        Some(address.saturating_add(1))
+        let entry = self.entries.get(place as usize)?;
+        Some(entry.at.saturating_add(1))
     }
 }
 
@@ -244,19 +264,20 @@ fn short_size(text: &str) -> Result<(u32, u32), Expected> {
     }
 }
 
-// A heap of the sizes that the first line has, or of chosen ones, with nothing in it.
-fn begin(alloc: Global, lines: &Lines<'_>) -> Result<Draft, Wrong> {
-    let number = lines.heading;
+// A heap of the sizes that the first line has, or of chosen ones, in which each object has an address.
+fn lay_out(alloc: Global, lines: &mut Lines<'_>) -> Result<Draft, Refusal> {
     let geometry = match sizes_of(lines) {
         Ok(geometry) => geometry,
-        Err(expected) => return Err(Wrong::Line { number, expected }),
+        Err(expected) => return Err(expected.into()),
     };
     let heading = Heading {
-        line: number,
+        line: lines.heading,
         roots: None,
         dirty: None,
     };
-    Ok(Draft::new(alloc, geometry, None, heading)?)
+    let mut draft = Draft::new(alloc, geometry, None, heading)?;
+    place(&mut draft, lines.entries.as_mut_slice(), &mut lines.order)?;
+    Ok(draft)
 }
 
 fn sizes_of(lines: &Lines<'_>) -> Result<Geometry, Expected> {
@@ -279,12 +300,11 @@ fn sizes_of(lines: &Lines<'_>) -> Result<Geometry, Expected> {
 
 fn fill_roots<'a>(
     graph: &mut Graph<'a>,
-    draft: &mut Draft,
+    roots: &mut Vec<u64>,
     lines: &Lines<'a>,
-    places: &Places,
 ) -> Result<(), AllocError> {
     for (number, (line, name)) in lines.roots.iter().enumerate() {
-        let word = match lines.reference(places, name) {
+        let word = match lines.reference(name) {
             Some(word) => word,
             None => {
                 graph.stale_roots.push((number as u64, *name))?;
@@ -292,16 +312,9 @@ fn fill_roots<'a>(
                 0
             }
         };
-        draft.roots.push(word)?;
+        roots.push(word)?;
     }
     Ok(())
-}
-
-// An object with a name, and its address.
-#[derive(Clone, Copy)]
-struct Named<'a> {
-    entry: Entry<'a>,
-    at: u64,
 }
 
 // The words of the objects, in the order of their addresses.
@@ -310,17 +323,13 @@ fn fill_objects<'a>(
     graph: &mut Graph<'a>,
     draft: &mut Draft,
     lines: &Lines<'a>,
-    places: &Places,
 ) -> Result<(), Wrong> {
-    for place in &places.order {
+    let mut words = Vec::new(alloc);
+    for place in &lines.order {
         let Some(entry) = lines.entries.get(*place as usize) else {
             continue;
         };
-        let object = Named {
-            entry: *entry,
-            at: places.addresses.get(*place as usize).copied().unwrap_or(0),
-        };
-        if let Err(refusal) = fill_object(alloc, graph, &mut draft.words, lines, places, object) {
+        if let Err(refusal) = fill_object(graph, draft, lines, entry, &mut words) {
             return Err(refusal.at(entry.number));
         }
     }
@@ -328,21 +337,22 @@ fn fill_objects<'a>(
 }
 
 fn fill_object<'a>(
-    alloc: Global,
     graph: &mut Graph<'a>,
-    out: &mut Vec<u64>,
+    draft: &mut Draft,
     lines: &Lines<'a>,
-    places: &Places,
-    object: Named<'a>,
+    entry: &Entry<'a>,
+    words: &mut Vec<&'a str>,
 ) -> Result<(), Refusal> {
-    let entry = object.entry;
-    graph.names.push((object.at, entry.name))?;
-    let content = entry
-        .line
-        .split_ascii_whitespace()
-        .skip(3)
-        .collect::<Vec<&'a str>>(alloc)?;
-    fill_words(graph, out, lines, places, object, content.as_slice())
+    graph.names.push((entry.at, entry.name))?;
+    draft.objects.push(Placed {
+        at: entry.at,
+        slots: u64::from(entry.slots),
+        place: draft.words.len(),
+        line: entry.number,
+    })?;
+    words.clear();
+    words.extend(entry.line.split_ascii_whitespace().skip(3))?;
+    fill_words(graph, &mut draft.words, lines, entry, words.as_slice())
 }
 
 // The words of an object, from those of its line.
@@ -350,16 +360,16 @@ fn fill_words<'a>(
     graph: &mut Graph<'a>,
     out: &mut Vec<u64>,
     lines: &Lines<'a>,
-    places: &Places,
-    object: Named<'a>,
+    entry: &Entry<'a>,
     content: &[&'a str],
 ) -> Result<(), Refusal> {
-    let (size, slots) = (u64::from(object.entry.size), u64::from(object.entry.slots));
+    let size = u64::from(entry.size);
+    let slots = u64::from(entry.slots);
     let data = size.saturating_sub(slots).saturating_sub(1);
     let (given, missing) = given_words(&mut Words::new(&*content), slots, data)?;
     out.push(header_word(size, slots))?;
     let (names, numbers) = content.split_at(content.len().min(slots.min(given) as usize));
-    fill_slots(graph, out, lines, places, object, names)?;
+    fill_slots(graph, out, lines, entry, names)?;
     add_data(&mut Words::new(numbers), out, given.saturating_sub(slots))?;
     add_zeros(out, missing)?;
     Ok(())
@@ -369,40 +379,33 @@ fn fill_slots<'a>(
     graph: &mut Graph<'a>,
     out: &mut Vec<u64>,
     lines: &Lines<'a>,
-    places: &Places,
-    object: Named<'a>,
+    entry: &Entry<'a>,
     names: &[&'a str],
 ) -> Result<(), AllocError> {
     for (slot, name) in names.iter().enumerate() {
-        let word = slot_word(graph, lines, places, object, slot as u64, *name)?;
+        let word = match lines.reference(name) {
+            Some(word) => word,
+            None => {
+                graph.add_stale_slot(entry, slot as u64, name)?;
+                0
+            }
+        };
         out.push(word)?;
     }
     Ok(())
 }
 
-fn slot_word<'a>(
-    graph: &mut Graph<'a>,
-    lines: &Lines<'a>,
-    places: &Places,
-    object: Named<'a>,
-    slot: u64,
-    name: &'a str,
-) -> Result<u64, AllocError> {
-    match lines.reference(places, name) {
-        Some(word) => Ok(word),
-        None => {
-            graph.add_stale_slot(object.at, slot, name)?;
-            graph.expect(object.entry.number, Expected::NamedSlot(slot));
-            Ok(0)
-        }
-    }
-}
-
 impl<'a> Graph<'a> {
-    // Keeps a slot of the object at an address, and the name in it.
-    fn add_stale_slot(&mut self, at: u64, slot: u64, name: &'a str) -> Result<(), AllocError> {
-        let address = at.saturating_add(1).saturating_add(slot);
+    // Keeps a slot of an object, and the name in it.
+    fn add_stale_slot(
+        &mut self,
+        entry: &Entry<'a>,
+        slot: u64,
+        name: &'a str,
+    ) -> Result<(), AllocError> {
+        let address = entry.at.saturating_add(1).saturating_add(slot);
         self.stale_slots.push((address, name))?;
+        self.expect(entry.number, Expected::NamedSlot(slot));
         Ok(())
     }
 

@@ -1,11 +1,14 @@
-ghost use Rattle.std.specs.Prelude.{◌≡◌, IfOk};
+ghost use Rattle.std.specs.Prelude.{◌≡◌, IfOk, IfErr, OnOk};
 ghost use Rattle.g1_image.specs.Text.{file_text};
 ghost use Rattle.g1_image.specs.Parts.{CountsFit};
+ghost use Rattle.g1_image.specs.Faults.{MayFail};
 ghost use Rattle.g1_text.specs.Content.{file_with};
 ghost use Rattle.g1_text.specs.Drafts.{content};
+ghost use Rattle.g1_text.specs.Made.{IsImageText};
 
 use crate::draft::Draft;
-use g1_image::{FileParts, encode_parts};
+use g1_image::{FileParts, decode, encode_parts};
+use g1_words::Fault;
 use std::alloc::{AllocError, Global};
 
 /// Packs what was read into bytes, good or not.
@@ -21,4 +24,15 @@ pub(crate) fn pack(alloc: Global, draft: &Draft) -> Result<Vec<u8>, AllocError>
         remembered: draft.remembered.as_slice(),
     };
     encode_parts(alloc, &parts, draft.words.as_slice())
+}
+
+/// Finds that bytes are those of an image.
+pub(crate) fn check_bytes(alloc: Global, bytes: &[u8]) -> Result<(), Fault>
+    ensures ok { OnOk result (IsImageText bytes.now) }
+    ensures err { IfErr result (MayFail bytes.now) }
+{
+    match decode(alloc, bytes) {
+        Ok(_) => Ok(()),
+        Err(fault) => Err(fault),
+    }
 }

@@ -1,9 +1,9 @@
-use crate::draft::{Draft, Placed};
+use crate::draft::Draft;
 use crate::expected::{Expected, Refusal};
 use g1_words::{Geometry, Kind};
-use std::alloc::{AllocError, Global};
+use std::alloc::AllocError;
 
-/// An object with a name that has no address yet: the line that says what is in it.
+/// An object with a name: the line that says what is in it, and its address, which is 0 until it is placed.
 #[derive(Clone, Copy)]
 pub(crate) struct Entry<'a> {
     pub(crate) name: &'a str,
@@ -11,13 +11,7 @@ pub(crate) struct Entry<'a> {
     pub(crate) slots: u32,
     pub(crate) number: u64,
     pub(crate) line: &'a str,
-}
-
-/// The address of each entry, and the entries in the order of their addresses.
-#[derive(Drop)]
-pub(crate) struct Places {
-    pub(crate) addresses: Vec<u64>,
-    pub(crate) order: Vec<u64>,
+    pub(crate) at: u64,
 }
 
 const CARD_WORDS: u64 = 64;
@@ -42,7 +36,10 @@ pub(crate) fn choose_sizes(entries: &[Entry<'_>]) -> Result<Geometry, Expected> 
         let needed = regions_needed(&widest, entries);
         let roomy = needed.saturating_mul(2).max(2);
         if roomy <= most {
-            return Geometry::new(region_words, CARD_WORDS, roomy).map_err(|_| Expected::Sizes);
+            return match Geometry::new(region_words, CARD_WORDS, roomy) {
+                Ok(geometry) => Ok(geometry),
+                Err(_) => Err(Expected::Sizes),
+            };
         }
         if needed <= most && enough.is_none() {
             enough = Some(widest);
@@ -53,7 +50,8 @@ pub(crate) fn choose_sizes(entries: &[Entry<'_>]) -> Result<Geometry, Expected> 
 
 /// How many regions the objects take, as `place` lays them.
 pub(crate) fn regions_needed(geometry: &Geometry, entries: &[Entry<'_>]) -> u64 {
-    let (mut regions, mut room) = (0u64, 0u64);
+    let mut regions = 0u64;
+    let mut room = 0u64;
     for entry in entries {
         let size = u64::from(entry.size);
         if geometry.is_humongous(size) {
@@ -68,44 +66,24 @@ pub(crate) fn regions_needed(geometry: &Geometry, entries: &[Entry<'_>]) -> u64 
     regions
 }
 
-/// Lays the objects end to end, and then the humongous ones in regions of their own.
+/// Lays the objects end to end, and then the humongous ones in regions of their own. Adds their places among the entries
+/// to a list, in the order of their addresses.
 pub(crate) fn place(
-    alloc: Global,
     draft: &mut Draft,
-    entries: &[Entry<'_>],
-) -> Result<Places, Refusal> {
-    let mut places = Places {
-        addresses: vec![in alloc; 0u64; entries.len()]?,
-        order: Vec::new(alloc),
-    };
-    let mut words = 0usize;
+    entries: &mut [Entry<'_>],
+    order: &mut Vec<u64>,
+) -> Result<(), Refusal> {
     for humongous in [false, true] {
-        for (number, entry) in entries.iter().enumerate() {
-            if draft.geometry.is_humongous(u64::from(entry.size)) == humongous {
-                let at = make_room(draft, u64::from(entry.size), humongous)?;
-                places.add(number, at)?;
-                draft.objects.push(Placed {
-                    at,
-                    slots: u64::from(entry.slots),
-                    place: words,
-                    line: entry.number,
-                })?;
-                words = words.saturating_add(entry.size as usize);
+        for (number, entry) in entries.iter_mut().enumerate() {
+            let size = u64::from(entry.size);
+            if draft.geometry.is_humongous(size) == humongous {
+                entry.at = make_room(draft, size, humongous)?;
+                order.push(number as u64)?;
             }
         }
     }
     draft.close()?;
-    Ok(places)
-}
-
-impl Places {
-    fn add(&mut self, number: usize, at: u64) -> Result<(), AllocError> {
-        if let Some(address) = self.addresses.get_mut(number) {
-            *address = at;
-        }
-        self.order.push(number as u64)?;
-        Ok(())
-    }
+    Ok(())
 }
 
 // The address of room for an object, in the last region if it is enough.

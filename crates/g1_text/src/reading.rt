@@ -47,7 +47,7 @@ fn read_lines(alloc: Global, draft: &mut Option<Draft>, text: &[u8]) -> Result<u
 }
 
 // The bytes up to the first LF, and those behind it. `split` would look at one byte after the other.
-fn first_line(text: &[u8]) -> (&[u8], Option<&[u8]>)
+pub(crate) fn first_line(text: &[u8]) -> (&[u8], Option<&[u8]>)
     ensures { MatchOption result.1 (parts_of text.now ≡ result.0.now ∷ []) (λ left. (length left.now < length text.now) × (parts_of text.now ≡ result.0.now ∷ parts_of left.now)) }
 {
     match memchr(b'\n', text) {
@@ -92,12 +92,11 @@ fn read_words(
     alloc: Global,
     draft: &mut Option<Draft>,
     number: u64,
-    words: Words<'_>,
+    mut words: Words<'_>,
 ) -> Result<(), Refusal>
     ensures says { (c : Content) → says_something words.entry ≡ true → Says (said draft.old) words.entry c → MatchResult result (λ _. said draft.new ≡ Some c) (λ e. e ≡ Refusal.Memory) }
     ensures nothing { says_something words.entry ≡ false → MatchResult result (λ _. said draft.new ≡ said draft.old) (λ e. e ≡ Refusal.Memory) }
 {
-    let mut words = words;
     let Some(first) = words.next() else {
         return Ok(());
     };
@@ -127,10 +126,9 @@ fn begin_or_add(
 }
 
 // heap W K N [roots R] [dirty D] [current none|C]
-fn begin(alloc: Global, first: &str, words: Words<'_>, line: u64) -> Result<Draft, Refusal>
+fn begin(alloc: Global, first: &str, mut words: Words<'_>, line: u64) -> Result<Draft, Refusal>
     ensures { (c : Content) → Begins (first.now ∷ words.entry) c → MatchResult result (λ d. content d ≡ c) (λ e. e ≡ Refusal.Memory) }
 {
-    let mut words = words;
     if first != "heap" {
         return Err(Expected::Heading.into());
     }
@@ -139,7 +137,7 @@ fn begin(alloc: Global, first: &str, words: Words<'_>, line: u64) -> Result<Draf
     let Ok(geometry) = Geometry::new(told.w, told.k, told.n) else {
         return Err(Expected::Sizes.into());
     };
-    Ok(Draft::new(alloc, geometry, current, heading)?)
+    Draft::new(alloc, geometry, current, heading)
 }
 
 /// The words of a region and of a card, and the number of regions.
@@ -161,10 +159,9 @@ pub(crate) fn sizes(words: &mut Words<'_>) -> Result<HeapSizes, Expected>
 }
 
 // [roots R] [dirty D] [current none|C]
-fn heading(words: Words<'_>, line: u64) -> Result<(Heading, Option<u32>), Expected>
+fn heading(mut words: Words<'_>, line: u64) -> Result<(Heading, Option<u32>), Expected>
     ensures { (roots dirty : ℕ) (c : Option ℕ) → roots < 2 ^ 64 → dirty < 2 ^ 64 → IfSome c (λ r. r < 2 ^ 32) → words.entry ≡ codes "roots" ∷ decimal roots ∷ codes "dirty" ∷ decimal dirty ∷ codes "current" ∷ current_word c ∷ [] → result ≡ Ok (record { line = line; roots = Some roots; dirty = Some dirty }, c) }
 {
-    let mut words = words;
     let roots = words.take_named("roots")?;
     let dirty = words.take_named("dirty")?;
     let current = current(&mut words)?;
@@ -243,10 +240,9 @@ impl Draft {
     }
 
     // remembered REGION cards CARD ..
-    fn add_remembered(&mut self, words: Words<'_>, line: u64) -> Result<(), Refusal>
+    fn add_remembered(&mut self, mut words: Words<'_>, line: u64) -> Result<(), Refusal>
         ensures { (r : ℕ) (cards : List ℕ) (c : Content) → codes "remembered" ∷ words.entry ≡ words_of (Remembered r cards) → Takes (content self.old) (Remembered r cards) c → Becomes result (content self.new) c }
     {
-        let mut words = words;
         let region = words.number("region")?;
         let last = self.geometry.regions().saturating_sub(1);
         let Some(set) = self.remembered.get_mut(region as usize) else {
@@ -258,10 +254,9 @@ impl Draft {
     }
 
     // region [NUMBER] KIND [top WORDS] [objects COUNT] [cards COUNT] [pinned]
-    fn add_region(&mut self, words: Words<'_>, line: u64) -> Result<(), Refusal>
+    fn add_region(&mut self, mut words: Words<'_>, line: u64) -> Result<(), Refusal>
         ensures { (r : ℕ) (k : KindOf) (t o m : ℕ) (p : Bool) (c : Content) → codes "region" ∷ words.entry ≡ words_of (Numbers r k t o m p) → Takes (content self.old) (Numbers r k t o m p) c → Becomes result (content self.new) c }
     {
-        let mut words = words;
         let told = words.take_number();
         let kind = region_kind(&mut words)?;
         let region = self.begin_region(told, kind)?;
@@ -300,10 +295,9 @@ impl Draft {
     }
 
     // object [ADDRESS] SIZE/SLOTS SLOT .. WORD .. [..]
-    fn add_object(&mut self, words: Words<'_>, line: u64) -> Result<(), Refusal>
+    fn add_object(&mut self, mut words: Words<'_>, line: u64) -> Result<(), Refusal>
         ensures { (at : ℕ) (slots values : List ℕ) (c : Content) → codes "object" ∷ words.entry ≡ words_of (Holds at slots values) → Takes (content self.old) (Holds at slots values) c → Becomes result (content self.new) c }
     {
-        let mut words = words;
         let told = words.take_number();
         let (size, slots) = size(&mut words)?;
         let at = self.next_address();
@@ -348,14 +342,13 @@ fn count_object(regions: &mut Vec<Told>)
 
 // Two dots at the end stand for null slots and data words of 0.
 fn add_content(
-    words: Words<'_>,
+    mut words: Words<'_>,
     content: &mut Vec<u64>,
     slots: u64,
     count: u64,
 ) -> Result<(), Refusal>
     ensures { (refs values : List ℕ) → slots ≡ length refs → count ≡ length values → slots + count < 2 ^ 64 → All (λ x. x < 2 ^ 64) refs → All (λ x. x < 2 ^ 64) values → words.entry ≡ map reference_word refs ++ map decimal values → MatchResult result (λ _. content.new.items ≡ content.old.items ++ (refs ++ values)) (λ e. e ≡ Refusal.Memory) }
 {
-    let mut words = words;
     let (given, missing) = given_words(&mut words, slots, count)?;
     let references = slots.min(given);
     add_references(&mut words, content, references)?;
@@ -418,10 +411,9 @@ pub(crate) fn add_zeros(content: &mut Vec<u64>, count: u64) -> Result<(), AllocE
 }
 
 // [NUMBER] REFERENCE
-fn root(words: Words<'_>, next: u64) -> Result<u64, Expected>
+fn root(mut words: Words<'_>, next: u64) -> Result<u64, Expected>
     ensures { (x : ℕ) → x < 2 ^ 64 → words.entry ≡ decimal next ∷ reference_word x ∷ [] → result ≡ Ok x }
 {
-    let mut words = words;
     if words.len() > 1 {
         let told = words.take_number();
         follows(told, "root", next)?;
@@ -432,10 +424,9 @@ fn root(words: Words<'_>, next: u64) -> Result<u64, Expected>
 }
 
 // cards CARD ..
-fn add_cards(words: Words<'_>, cards: &mut Vec<u32>) -> Result<(), Refusal>
+fn add_cards(mut words: Words<'_>, cards: &mut Vec<u32>) -> Result<(), Refusal>
     ensures { (xs : List ℕ) → All (λ x. x < 2 ^ 32) xs → words.entry ≡ cards_words xs → MatchResult result (λ _. cards.new.items ≡ cards.old.items ++ xs) (λ e. e ≡ Refusal.Memory) }
 {
-    let mut words = words;
     words.word("cards")?;
     for _ in 0..words.len() {
         let card = words.short_number("card")?;
@@ -473,10 +464,9 @@ fn size(words: &mut Words<'_>) -> Result<(u64, u64), Expected>
 }
 
 // [pinned]
-fn is_pinned(kind: Kind, words: Words<'_>) -> Result<bool, Expected>
+fn is_pinned(kind: Kind, mut words: Words<'_>) -> Result<bool, Expected>
     ensures { (p : Bool) → (IsTrue p → kind ≡ Kind.Ordinary) → words.entry ≡ pinned_words p → result ≡ Ok p }
 {
-    let mut words = words;
     let pinned = kind.is_ordinary() && words.take("pinned");
     words.end()?;
     Ok(pinned)
@@ -499,14 +489,7 @@ fn check_number(number: u64, next: u64, regions: u64) -> Result<(), Expected>
 fn region_kind(words: &mut Words<'_>) -> Result<Kind, Expected>
     ensures { (k : KindOf) (rest : List (List ℕ)) → words.old ≡ kind_word k ∷ rest → (result ≡ Ok k) × (words.new ≡ rest) }
 {
-    kind(words.next().unwrap_or(""))
-}
-
-// The kind that this word is the text of.
-fn kind(word: &str) -> Result<Kind, Expected>
-    ensures { (k : KindOf) → word.now ≡ kind_word k → result ≡ Ok k }
-{
-    match word {
+    match words.next().unwrap_or("") {
         "free" => Ok(Kind::Free),
         "ordinary" => Ok(Kind::Ordinary),
         "humongous" => Ok(Kind::HumongousFirst),

@@ -125,7 +125,9 @@ impl<'a> Words<'a> {
     pub(crate) fn short_number(&mut self, what: &'static str) -> Result<u32, Expected>
         ensures { (n : ℕ) (rest : List (List ℕ)) → n < 2 ^ 32 → self.old ≡ decimal n ∷ rest → (result ≡ Ok n) × (self.new ≡ rest) }
     {
-        let number = self.number(what)?;
+        let Some(number) = self.take_number() else {
+            return Err(Expected::Number(what));
+        };
         match u32::try_from(number) {
             Ok(number) => Ok(number),
             Err(_) => Err(Expected::Number(what)),
@@ -136,10 +138,12 @@ impl<'a> Words<'a> {
     pub(crate) fn take_named(&mut self, word: &'static str) -> Result<Option<u64>, Expected>
         ensures { (n : ℕ) (rest : List (List ℕ)) → n < 2 ^ 64 → self.old ≡ word.now ∷ decimal n ∷ rest → (result ≡ Ok (Some n)) × (self.new ≡ rest) }
     {
-        if self.take(word) {
-            Ok(Some(self.number(word)?))
-        } else {
-            Ok(None)
+        if !self.take(word) {
+            return Ok(None);
+        }
+        match self.take_number() {
+            Some(number) => Ok(Some(number)),
+            None => Err(Expected::Number(word)),
         }
     }
 
@@ -150,7 +154,9 @@ impl<'a> Words<'a> {
         if self.take("-") {
             return Ok(0);
         }
-        let address = self.take_number().ok_or(Expected::Reference)?;
+        let Some(address) = self.take_number() else {
+            return Err(Expected::Reference);
+        };
         address.checked_add(1).ok_or(Expected::Reference)
     }
 

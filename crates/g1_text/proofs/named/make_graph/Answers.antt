@@ -6,4 +6,4 @@ pub returns-in-Err : goal.returns-in-Err
 returns-in-Err c = record { image = tt }
 
 pub returns : goal.returns
-returns c = record { image = subst IsImageText c.as_slice.ensures.value (c.in_default-decode.field-0, c.in_default-decode.ensures.ok) }
+returns c = record { image = subst IsImageText c.as_slice.ensures.value c.in_default-check_bytes.ensures.ok }

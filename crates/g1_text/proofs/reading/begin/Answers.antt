@@ -1,5 +1,6 @@
 use Rattle.std.proofs.Common.{◌≡◌, [], ◌∷◌, drop, sym, ◌∙◌, ap, subst, arith}
 use Rattle.std.specs.Prelude.{decimal, codes}
+use Rattle.std.proofs.lemmas.Result.{MatchResult-weaker}
 use Rattle.g1_words.specs.Geometry.{IsWithinLimits}
 use Rattle.g1_text.specs.Lines.{current_word}
 use Rattle.g1_text.specs.Content.{begun}
@@ -33,4 +34,5 @@ returns c = λ after b.
     let heading = ok_one c.in_ok-heading.was (c.heading.ensures b.roots b.dirty b.current b.root_count b.dirty_count b.region read.1) in
     let parts = c.in-Ok.ensures.ok in
     let geometry : c.in-Ok.geometry ≡ b.geometry = λ i. record { w = (parts.0 ∙ ap (λ x. x.w) sizes) i; k = (parts.1 ∙ ap (λ x. x.k) sizes) i; n = (parts.2 ∙ ap (λ x. x.n) sizes) i } in
-    c.in_ok-new.ensures ∙ (λ i. begun (geometry i) ((heading i).1) ((heading i).0.roots) ((heading i).0.dirty)) ∙ sym b.says
+    let says = (λ i. begun (geometry i) ((heading i).1) ((heading i).0.roots) ((heading i).0.dirty)) ∙ sym b.says in
+    MatchResult-weaker c.new-2.result c.new-2.ensures (λ _ e. e ∙ says) (λ _ m. m)
