@@ -51,16 +51,8 @@ fn word<R: Env>(rt: &R, alloc: Global, place: usize) -> Result<Option<Vec<u8>>, 
 fn not_text(alloc: Global, number: usize, bytes: &[u8]) -> Result<String, AllocError> {
     let mut text = format!(in alloc; "error: word {number} is not text: '")?;
     for chunk in bytes.utf8_chunks() {
-        text.push_str(chunk.valid())?;
-        push_bytes(&mut text, chunk.invalid())?;
+        write!(text, "{}{}", chunk.valid(), chunk.invalid().escape_ascii())?;
     }
     text.push_str("'\n")?;
     Ok(text)
-}
-
-fn push_bytes(text: &mut String, bytes: &[u8]) -> Result<(), AllocError> {
-    for byte in bytes {
-        write!(text, "\\x{byte:02x}")?;
-    }
-    Ok(())
 }

@@ -1,5 +1,4 @@
 //! A program's commands as a table, and what clap makes of it.
-use crate::refusal::Refusal;
 use clap::{Arg, ArgAction, ArgMatches, Command, Error};
 use std::alloc::{AllocError, Global};
 use std::ops::RangeInclusive;
@@ -94,97 +93,65 @@ impl Argument {
 }
 
 fn arg_of<'a>(alloc: Global, argument: &Argument) -> Result<Arg<'a>, AllocError> {
+    let (counts, action, is_needed) = rules(argument);
     let arg = Arg::new(alloc, argument.id)
         .help(argument.help)
         .value_names(argument.values)
-        .num_args(counts(argument))
-        .action(action(argument.form))
-        .required(is_needed(argument))
+        .num_args(counts)
+        .action(action)
+        .required(is_needed)
         .default_values(argument.default)
         .conflicts_with_all(argument.conflicts)?;
-    Ok(with_name(arg, argument))
-}
-
-// How many values it takes.
-fn counts(argument: &Argument) -> RangeInclusive<usize> {
-    let count = argument.values.len();
-    match argument.form {
-        Form::ManyValues => 1..=usize::MAX,
-        Form::ManyPlaces => 0..=usize::MAX,
-        _ => count..=count,
-    }
-}
-
-fn action(form: Form) -> ArgAction {
-    match form {
-        Form::Flag => ArgAction::SetTrue,
-        Form::ManyValues | Form::ManyPlaces => ArgAction::Append,
-        _ => ArgAction::Set,
-    }
-}
-
-fn is_needed(argument: &Argument) -> bool {
-    match argument.form {
-        Form::NeededValue => true,
-        Form::Place => argument.default.is_empty(),
-        _ => false,
-    }
-}
-
-fn is_place(form: Form) -> bool {
-    matches!(form, Form::Place | Form::ManyPlaces)
-}
-
-// An option has a name, and may have a letter.
-fn with_name<'a>(arg: Arg<'a>, argument: &Argument) -> Arg<'a> {
-    if is_place(argument.form) {
-        return arg;
+    if matches!(argument.form, Form::Place | Form::ManyPlaces) {
+        return Ok(arg);
     }
     let arg = arg.long(argument.id);
     match argument.letter {
-        Some(letter) => arg.short(letter),
-        None => arg,
+        Some(letter) => Ok(arg.short(letter)),
+        None => Ok(arg),
     }
 }
 
-/// clap's command of a command of the table.
-pub fn build_command<'a>(alloc: Global, usage: &Usage) -> Result<Command<'a>, AllocError> {
-    let args = args_of(alloc, usage.arguments)?;
-    Command::new(alloc, usage.name)
+// How many values it takes, what is done with them, and whether it has to be given.
+fn rules(argument: &Argument) -> (RangeInclusive<usize>, ArgAction, bool) {
+    let count = argument.values.len();
+    match argument.form {
+        Form::Flag => (count..=count, ArgAction::SetTrue, false),
+        Form::Value => (count..=count, ArgAction::Set, false),
+        Form::NeededValue => (count..=count, ArgAction::Set, true),
+        Form::ManyValues => (1..=usize::MAX, ArgAction::Append, false),
+        Form::Place => (count..=count, ArgAction::Set, argument.default.is_empty()),
+        Form::ManyPlaces => (0..=usize::MAX, ArgAction::Append, false),
+    }
+}
+
+/// clap's command of a command of the table, under this name.
+pub fn build_command<'a>(
+    alloc: Global,
+    name: &'a str,
+    usage: &Usage,
+) -> Result<Command<'a>, AllocError> {
+    let mut command = Command::new(alloc, name)
         .about(usage.about)
-        .after_help(usage.after_help)
-        .args(args)
-}
-
-fn args_of<'a>(alloc: Global, arguments: &[Argument]) -> Result<Vec<Arg<'a>>, AllocError> {
-    let mut args = Vec::new(alloc);
-    for argument in arguments {
-        args.push(arg_of(alloc, argument)?)?;
+        .after_help(usage.after_help);
+    for argument in usage.arguments {
+        command = command.arg(arg_of(alloc, argument)?)?;
     }
-    Ok(args)
+    Ok(command)
 }
 
 fn build_program<'a>(alloc: Global, program: &Program<'_>) -> Result<Command<'a>, AllocError> {
-    let commands = commands_of(alloc, program.commands)?;
-    without_commands(alloc, program)?.subcommands(commands)
-}
-
-fn commands_of<'a>(alloc: Global, usages: &[Usage]) -> Result<Vec<Command<'a>>, AllocError> {
-    let mut commands = Vec::new(alloc);
-    for usage in usages {
-        commands.push(build_command(alloc, usage)?)?;
-    }
-    Ok(commands)
-}
-
-fn without_commands<'a>(alloc: Global, program: &Program<'_>) -> Result<Command<'a>, AllocError> {
-    Command::new(alloc, program.name)
+    let mut command = Command::new(alloc, program.name)
         .no_binary_name(true)
         .version(program.version)
         .about(program.about)
         .after_help(program.after_help)
         .subcommand_required(true)
-        .bin_name(program.name)
+        .bin_name(program.name)?;
+    for usage in program.commands {
+        command = command.subcommand(build_command(alloc, usage.name, usage)?)?;
+    }
+    Ok(command)
 }
 
 /// What clap finds in the words after the program's name.
@@ -196,23 +163,12 @@ pub fn match_words<'a>(
     build_program(alloc, program)?.try_get_matches_from(words)
 }
 
-/// The command among the matches, and its values.
-///
-/// # Errors
-///
-/// A usage text if there is none, and `Fault::Memory`.
-pub fn find_command<'m, 'a>(
-    alloc: Global,
-    program: &Program<'_>,
-    matches: &'m ArgMatches<'a>,
-) -> Result<(Usage, &'m ArgMatches<'a>), Refusal> {
-    if let Some((name, values)) = matches.subcommand() {
-        for usage in program.commands {
-            if usage.name == name {
-                return Ok((*usage, values));
-            }
+/// The program's command of this name.
+pub fn command_named<'p>(program: &Program<'p>, name: &str) -> Option<&'p Usage> {
+    for usage in program.commands {
+        if usage.name == name {
+            return Some(usage);
         }
     }
-    let text = String::from_str(alloc, "error: a command is required\n")?;
-    Err(Refusal::usage(text))
+    None
 }

@@ -1,15 +1,16 @@
 //! Whole numbers among the values that clap found.
 use crate::refusal::Refusal;
-use crate::table::{Argument, Program, Usage, build_command, find_command};
+use crate::table::{Argument, Program, Usage, build_command, command_named};
 use clap::error::ErrorKind;
-use clap::{ArgMatches, Command, Error};
+use clap::{ArgMatches, Error};
 use g1_words::Fault;
 use std::alloc::{AllocError, AllocFailed, Global};
 
 impl Argument {
     /// What is wrong with a value that is no number of this argument's.
     pub fn refuse(&self, alloc: Global, value: &str) -> Result<Misuse, AllocError> {
-        let (shown, range) = (self.shown(alloc)?, self.range);
+        let shown = self.shown(alloc)?;
+        let range = self.range;
         Ok(Misuse::Value(format!(in alloc;
             "invalid value '{value}' for '{shown}': not a whole number ({range})"
         )?))
@@ -17,7 +18,8 @@ impl Argument {
 
     /// What is wrong with a use of this argument without another one, which it needs.
     pub fn needs(&self, alloc: Global, other: &Argument) -> Result<Misuse, AllocError> {
-        let (shown, other) = (self.shown(alloc)?, other.shown(alloc)?);
+        let shown = self.shown(alloc)?;
+        let other = other.shown(alloc)?;
         Ok(Misuse::Value(format!(in alloc; "'{shown}' needs '{other}'")?))
     }
 }
@@ -63,13 +65,13 @@ fn with_usage(
     message: &str,
 ) -> Result<String, AllocError> {
     let path = format!(in alloc; "{} {}", program.name, usage.name)?;
-    let usage = usage_of(build_command(alloc, usage)?, path.as_str())?;
+    let usage = usage_of(alloc, path.as_str(), usage)?;
     format!(in alloc; "error: {message}\n\n{usage}\n\nFor more information, try '{path} --help'.\n")
 }
 
 // The usage of a command that is called by this path.
-fn usage_of(command: Command<'_>, path: &str) -> Result<String, AllocError> {
-    command.bin_name(path)?.render_usage()
+fn usage_of(alloc: Global, path: &str, usage: &Usage) -> Result<String, AllocError> {
+    build_command(alloc, path, usage)?.render_usage()
 }
 
 /// What the command among the matches asks for, by this function of its name and its values.
@@ -85,11 +87,16 @@ pub fn read_request<Q: Drop, F: Fn(Global, &str, &ArgMatches<'_>) -> Result<Q, M
 ) -> Result<Q, Refusal>
     requires { F.IsAlwaysCallable request_of }
 {
-    let (usage, values) = find_command(alloc, program, matches)?;
-    match request_of(alloc, usage.name, values) {
-        Ok(request) => Ok(request),
-        Err(misuse) => Err(misuse.refusal(alloc, program, &usage)),
+    if let Some((name, values)) = matches.subcommand()
+        && let Some(usage) = command_named(program, name)
+    {
+        return match request_of(alloc, name, values) {
+            Ok(request) => Ok(request),
+            Err(misuse) => Err(misuse.refusal(alloc, program, usage)),
+        };
     }
+    let text = String::from_str(alloc, "error: a command is required\n")?;
+    Err(Refusal::usage(text))
 }
 
 /// What clap says instead of matches: a text that was asked for, or why the words are no request.
@@ -131,7 +138,10 @@ pub fn required_number(
     values: &ArgMatches<'_>,
     argument: &Argument,
 ) -> Result<u64, Misuse> {
-    Ok(number(alloc, values, argument)?.unwrap_or(0))
+    match values.get_str(argument.id) {
+        None => Ok(0),
+        Some(text) => number_in(alloc, argument, text),
+    }
 }
 
 /// The number that a part of an argument's value is.
@@ -169,9 +179,10 @@ pub fn regions(
 
 /// The region that a part of an argument's value names.
 pub fn region_in(alloc: Global, argument: &Argument, text: &str) -> Result<u32, Misuse> {
-    let number = number_in(alloc, argument, text)?;
-    match u32::try_from(number) {
-        Ok(region) => Ok(region),
-        Err(_) => Err(argument.refuse(alloc, text)?),
+    if let Some(number) = whole(text)
+        && let Ok(region) = u32::try_from(number)
+    {
+        return Ok(region);
     }
+    Err(argument.refuse(alloc, text)?)
 }

@@ -1,6 +1,6 @@
 //! Images as lines: they are read into a drawing, and its bytes are laid by hand.
 use g1_words::Fault;
-use std::alloc::{AllocError, Global};
+use std::alloc::Global;
 use std::str::SplitAsciiWhitespace;
 
 /// A line that draws nothing.
@@ -11,16 +11,16 @@ const FREE: u32 = 0;
 
 const CONTINUATION: u32 = 3;
 
-/// A region: its kind and flags, the cards that it remembers, and all words of its objects.
+/// A region: its kind and flags, how many words its objects have, and the cards that it remembers.
 #[derive(Drop)]
 struct Part {
     kind: u32,
     flags: u32,
+    used: usize,
     remembered: Vec<u32>,
-    words: Vec<u64>,
 }
 
-/// An image as far as its lines are read. It may break any rule of images.
+/// An image as far as its lines are read, with the words of all objects. It may break any rule of images.
 #[derive(Drop)]
 struct Drawing {
     alloc: Global,
@@ -31,6 +31,7 @@ struct Drawing {
     roots: Vec<u64>,
     dirty: Vec<u32>,
     parts: Vec<Part>,
+    words: Vec<u64>,
 }
 
 /// The bytes, of version 2, of the image that the lines draw.
@@ -38,7 +39,7 @@ struct Drawing {
 /// # Errors
 ///
 /// `Fault::Line` with the number of the first line that draws nothing, counted from 1; `Fault::Memory`.
-pub(crate) fn bytes_of(alloc: Global, lines: &str) -> Result<Vec<u8>, Fault> {
+pub fn text(alloc: Global, lines: &str) -> Result<Vec<u8>, Fault> {
     let mut drawing = Drawing::new(alloc);
     let mut number = 0u64;
     for line in lines.split('\n') {
@@ -49,7 +50,7 @@ pub(crate) fn bytes_of(alloc: Global, lines: &str) -> Result<Vec<u8>, Fault> {
             Err(fault) => return Err(fault),
         }
     }
-    drawing.bytes(alloc)
+    drawing.bytes()
 }
 
 impl Drawing {
@@ -63,40 +64,35 @@ impl Drawing {
             roots: Vec::new(alloc),
             dirty: Vec::new(alloc),
             parts: Vec::new(alloc),
+            words: Vec::new(alloc),
         }
     }
 
     fn read(&mut self, line: &str) -> Result<(), Fault> {
         let mut words = line.split_ascii_whitespace();
-        if let Some(word) = words.next() {
-            self.read_words(word, &mut words)?;
-        }
-        match words.next() {
-            None => Ok(()),
+        let read = match words.next() {
+            None => return Ok(()),
+            Some("heap") => self.read_heap(&mut words),
+            Some("root") => self.read_root(&mut words),
+            Some("dirty") => push_cards(&mut self.dirty, &mut words),
+            Some("region") => self.read_region(&mut words),
+            Some("remembered") => self.read_remembered(&mut words),
+            Some("object") => self.read_object(&mut words),
             Some(_) => Err(BAD),
+        };
+        if read.is_ok() && words.next().is_some() {
+            return Err(BAD);
         }
-    }
-
-    /// What stands behind the first word of a line.
-    fn read_words(
-        &mut self,
-        first: &str,
-        words: &mut SplitAsciiWhitespace<'_>,
-    ) -> Result<(), Fault> {
-        match first {
-            "heap" => self.read_heap(words),
-            "root" => self.read_root(words),
-            "dirty" => push_cards(&mut self.dirty, words),
-            "region" => self.read_region(words),
-            "remembered" => self.read_remembered(words),
-            "object" => self.read_object(words),
-            _ => Err(BAD),
-        }
+        read
     }
 
     fn read_root(&mut self, words: &mut SplitAsciiWhitespace<'_>) -> Result<(), Fault> {
-        let word = words.next().and_then(reference).ok_or(BAD)?;
-        Ok(self.roots.push(word)?)
+        if let Some(word) = words.next()
+            && let Some(root) = reference(word)
+        {
+            return Ok(self.roots.push(root)?);
+        }
+        Err(BAD)
     }
 
     /// heap W K N [current C]
@@ -123,24 +119,22 @@ impl Drawing {
             Some("humongous") => 2,
             _ => return Err(BAD),
         };
-        match words.next() {
-            None => self.begin(kind, 0),
-            Some("pinned") => self.begin(kind, 1),
-            Some(_) => Err(BAD),
-        }
+        let flags = match words.next() {
+            None => 0,
+            Some("pinned") => 1,
+            Some(_) => return Err(BAD),
+        };
+        self.begin(kind, flags)
     }
 
     fn begin(&mut self, kind: u32, flags: u32) -> Result<(), Fault> {
-        let remembered = Vec::new(self.alloc);
-        let words = Vec::new(self.alloc);
-        Ok(
-            self.parts.push(Part {
-                kind,
-                flags,
-                remembered,
-                words,
-            })?,
-        )
+        let part = Part {
+            kind,
+            flags,
+            used: 0,
+            remembered: Vec::new(self.alloc),
+        };
+        Ok(self.parts.push(part)?)
     }
 
     /// remembered R cards CARD .., below the line of region R
@@ -155,53 +149,57 @@ impl Drawing {
 
     /// object SIZE/SLOTS REFERENCE .. WORD .., with ".." for null slots and data words of 0
     fn read_object(&mut self, words: &mut SplitAsciiWhitespace<'_>) -> Result<(), Fault> {
-        let (size, slots) = words.next().and_then(size_and_slots).ok_or(BAD)?;
-        let part = self.parts.last_mut().ok_or(BAD)?;
-        let end = part.words.len().saturating_add(size as usize);
-        part.words.push(u64::from(size) << 32 | u64::from(slots))?;
+        let (size, slots) = size_and_slots(words)?;
+        let Some(part) = self.parts.last_mut() else {
+            return Err(BAD);
+        };
+        // The header is a word of its own, whatever size it says.
+        let used = size.max(1) as usize;
+        part.used = part.used.saturating_add(used);
+        let end = self.words.len().saturating_add(used);
+        self.words.push(u64::from(size) << 32 | u64::from(slots))?;
         for place in 1..size {
             let value = match words.next() {
-                Some("..") => return Ok(part.words.resize(end, 0)?),
+                Some("..") => break,
                 Some(word) if place <= slots => reference(word),
                 Some(word) => word.parse::<u64>().ok(),
                 None => None,
             };
-            part.words.push(value.ok_or(BAD)?)?;
+            let Some(value) = value else {
+                return Err(BAD);
+            };
+            self.words.push(value)?;
         }
-        Ok(())
+        Ok(self.words.resize(end, 0)?)
     }
 
-    fn bytes(&self, alloc: Global) -> Result<Vec<u8>, Fault> {
-        let mut out = Vec::from_slice(alloc, b"G1IMAGE2")?;
-        self.push_image(&mut out)?;
+    fn bytes(&self) -> Result<Vec<u8>, Fault> {
+        let mut out = Vec::from_slice(self.alloc, b"G1IMAGE2")?;
+        let header = [
+            self.region_words,
+            self.card_words,
+            self.regions,
+            count(self.roots.len()),
+            count(self.dirty.len()),
+            self.current,
+        ];
+        push_all(&mut out, &header)?;
+        self.push_table(&mut out)?;
+        push_words(&mut out, &self.roots)?;
+        push_all(&mut out, &self.dirty)?;
+        self.push_remembered(&mut out)?;
+        push_words(&mut out, &self.words)?;
         Ok(out)
-    }
-
-    fn push_image(&self, out: &mut Vec<u8>) -> Result<(), AllocError> {
-        let (roots, dirty) = (count(self.roots.len()), count(self.dirty.len()));
-        let (width, card) = (self.region_words, self.card_words);
-        push_all(
-            out,
-            &[width, card, self.regions, roots, dirty, self.current],
-        )?;
-        self.push_table(out)?;
-        push_words(out, &self.roots)?;
-        push_all(out, &self.dirty)?;
-        self.push_remembered(out)?;
-        for part in &self.parts {
-            push_words(out, &part.words)?;
-        }
-        Ok(())
     }
 
     /// The kind, the used words and the flags of each region. What is left of a humongous object goes on in the regions
     /// behind it.
-    fn push_table(&self, out: &mut Vec<u8>) -> Result<(), AllocError> {
+    fn push_table(&self, out: &mut Vec<u8>) -> Result<(), Fault> {
         let width = self.region_words as usize;
         let mut left = 0usize;
         for region in 0..self.regions as usize {
             let (kind, used, flags) = match self.parts.get(region) {
-                Some(part) if part.kind != FREE => (part.kind, part.words.len(), part.flags),
+                Some(part) if part.kind != FREE => (part.kind, part.used, part.flags),
                 _ if left > 0 => (CONTINUATION, left, 0),
                 _ => (FREE, 0, 0),
             };
@@ -211,14 +209,13 @@ impl Drawing {
         Ok(())
     }
 
-    fn push_remembered(&self, out: &mut Vec<u8>) -> Result<(), AllocError> {
+    fn push_remembered(&self, out: &mut Vec<u8>) -> Result<(), Fault> {
         for region in 0..self.regions as usize {
             let cards = match self.parts.get(region) {
                 Some(part) => part.remembered.as_slice(),
                 None => &[],
             };
-            let length = count(cards.len());
-            push_all(out, &[length])?;
+            push_all(out, &[count(cards.len())])?;
             push_all(out, cards)?;
         }
         Ok(())
@@ -226,17 +223,19 @@ impl Drawing {
 }
 
 fn number(words: &mut SplitAsciiWhitespace<'_>) -> Result<u32, Fault> {
-    match words.next() {
-        Some(word) => word.parse::<u32>().ok().ok_or(BAD),
-        None => Err(BAD),
+    if let Some(word) = words.next()
+        && let Ok(number) = word.parse::<u32>()
+    {
+        return Ok(number);
     }
+    Err(BAD)
 }
 
 /// cards CARD ..
 fn push_cards(cards: &mut Vec<u32>, words: &mut SplitAsciiWhitespace<'_>) -> Result<(), Fault> {
-    if words.next() != Some("cards") {
+    let Some("cards") = words.next() else {
         return Err(BAD);
-    }
+    };
     for word in words {
         match word.parse::<u32>() {
             Ok(card) => cards.push(card)?,
@@ -254,9 +253,15 @@ fn reference(word: &str) -> Option<u64> {
     word.parse::<u64>().ok()?.checked_add(1)
 }
 
-fn size_and_slots(word: &str) -> Option<(u32, u32)> {
-    let (size, slots) = word.split_once('/')?;
-    Some((size.parse::<u32>().ok()?, slots.parse::<u32>().ok()?))
+fn size_and_slots(words: &mut SplitAsciiWhitespace<'_>) -> Result<(u32, u32), Fault> {
+    if let Some(word) = words.next()
+        && let Some((size, slots)) = word.split_once('/')
+        && let Ok(size) = size.parse::<u32>()
+        && let Ok(slots) = slots.parse::<u32>()
+    {
+        return Ok((size, slots));
+    }
+    Err(BAD)
 }
 
 /// How many there are; a test has no more than fit.
@@ -264,14 +269,14 @@ fn count(length: usize) -> u32 {
     u32::try_from(length).unwrap_or(u32::MAX)
 }
 
-fn push_all(out: &mut Vec<u8>, numbers: &[u32]) -> Result<(), AllocError> {
+fn push_all(out: &mut Vec<u8>, numbers: &[u32]) -> Result<(), Fault> {
     for number in numbers {
         out.extend_from_slice(&number.to_le_bytes())?;
     }
     Ok(())
 }
 
-fn push_words(out: &mut Vec<u8>, words: &[u64]) -> Result<(), AllocError> {
+fn push_words(out: &mut Vec<u8>, words: &[u64]) -> Result<(), Fault> {
     for word in words {
         out.extend_from_slice(&word.to_le_bytes())?;
     }

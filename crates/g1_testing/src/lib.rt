@@ -17,21 +17,13 @@ pub mod pictures;
 mod refusal;
 mod stream;
 
+pub use drawing::text;
 use g1_image::{Image, decode};
 use g1_words::Fault;
 pub use numbers::raw;
 pub use refusal::is_refusal;
 use std::alloc::Global;
 pub use stream::{Stream, Trouble};
-
-/// The bytes of the image that the lines draw.
-///
-/// # Errors
-///
-/// `Fault::Line` with the number of the first line that draws nothing, counted from 1; `Fault::Memory`.
-pub fn text(alloc: Global, lines: &str) -> Result<Vec<u8>, Fault> {
-    drawing::bytes_of(alloc, lines)
-}
 
 /// The image that the lines draw.
 ///

@@ -27,15 +27,18 @@ pub fn raw(alloc: Global, numbers: &str) -> Result<Vec<u8>, Fault> {
 fn push_groups(bytes: &mut Vec<u8>, text: &str) -> Result<(), Fault> {
     let (group, counts) = text.split_once('*').unwrap_or((text, "1"));
     let (count, times) = counts.split_once('*').unwrap_or((counts, "1"));
-    let (count, times) = (whole(count)?, whole(times)?);
-    for place in 0..count.saturating_mul(times) {
+    let count = whole(count)?;
+    for place in 0..count.saturating_mul(whole(times)?) {
         push_group(bytes, group, place.checked_rem(count).unwrap_or(0))?;
     }
     Ok(())
 }
 
 fn whole(text: &str) -> Result<u64, Fault> {
-    text.parse::<u64>().ok().ok_or(BAD)
+    match text.parse::<u64>() {
+        Ok(number) => Ok(number),
+        Err(_) => Err(BAD),
+    }
 }
 
 /// The numbers of a group that is repeated, at this place.

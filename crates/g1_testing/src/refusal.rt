@@ -20,12 +20,15 @@ pub fn is_refusal(call: &str, found: &[u8], answer: &[u8], given: &[u8]) -> bool
     }
 }
 
-/// Whether the lines that do not say `Memory` are the answer.
+/// Whether the lines that do not say `Memory` are the answer. They are text.
 fn is_without_memory(found: &[u8], answer: &[u8]) -> bool {
+    let Ok(lines) = str::from_utf8(found) else {
+        return false;
+    };
     let mut rest = answer;
-    for line in found.split_inclusive(|byte| *byte == b'\n') {
-        if line != MEMORY {
-            match rest.strip_prefix(line) {
+    for line in lines.split_inclusive('\n') {
+        if line.as_bytes() != MEMORY {
+            match rest.strip_prefix(line.as_bytes()) {
                 Some(more) => rest = more,
                 None => return false,
             }

@@ -2,7 +2,7 @@ use std::io;
 use std::io::{ErrorKind, Read, Write};
 
 /// What a call that doesn't go well answers.
-#[derive(Clone, Copy, Debug)]
+#[derive(Clone, Copy)]
 pub enum Trouble {
     /// An error, at this call alone.
     Error,

@@ -2,20 +2,21 @@
 ghost use Rattle.std.specs.Prelude.{◌<◌, ◌^◌};
 ghost use Rattle.g1_work.specs.Team.{AreWorkers};
 
-use crate::expecting::{UNIT, bytes_after, collecting, expect_equal};
+use crate::expecting::{UNIT, collecting, expect_bytes, expect_equal, expect_list};
 use crate::gates::{Counting, Crowd};
 use crate::work::{Numbers, squared_chunks};
-use g1_image::decode;
+use g1_image::{decode, encode};
 use g1_mark::live_bytes;
-use g1_rem::Starts;
+use g1_pause::{Settings, evacuate};
+use g1_rem::{Starts, image, verify};
 use g1_testing::pictures::{shared, shared_after};
 use g1_testing::{raw, text};
 use g1_trace::run_text;
 use g1_words::Fault;
 use g1_work::{Gate, Part, Team, each_region_mut};
 use std::alloc::Global;
+use std::ops::Range;
 use std::process::Abort;
-use std::test::Fail;
 use std::thread::Threads;
 use std::time::Clock;
 
@@ -25,7 +26,7 @@ fn expect_filled<T: Threads + Clock + Abort + Sync>(
     alloc: Global,
     workers: u64,
     regions: u64,
-) -> Result<(), Fail>
+) -> Result<(), Fault>
     requires { AreWorkers workers }
 {
     let gate = Crowd::new(rt, Part::Fill, workers, 1);
@@ -39,7 +40,7 @@ fn expect_filled<T: Threads + Clock + Abort + Sync>(
 }
 
 #[test]
-fn all_workers_fill_regions_at_once(rt: HostRuntime) -> Result<(), Fail> {
+fn all_workers_fill_regions_at_once(rt: HostRuntime) -> Result<(), Fault> {
     let alloc = rt.alloc();
     for (workers, regions) in [
         (2, 8),
@@ -61,7 +62,7 @@ fn expect_drawn<T: Threads + Clock + Abort + Sync>(
     alloc: Global,
     workers: u64,
     chunks: u64,
-) -> Result<(), Fail>
+) -> Result<(), Fault>
     requires workers { AreWorkers workers }
     requires chunks { chunks < 2 ^ 32 }
 {
@@ -76,7 +77,7 @@ fn expect_drawn<T: Threads + Clock + Abort + Sync>(
 }
 
 #[test]
-fn all_workers_draw_chunks_at_once(rt: HostRuntime) -> Result<(), Fail> {
+fn all_workers_draw_chunks_at_once(rt: HostRuntime) -> Result<(), Fault> {
     let alloc = rt.alloc();
     for (workers, chunks) in [(2, 9), (2, 64), (2, 1_000), (3, 3), (4, 1_000), (5, 5)] {
         expect_drawn(&rt, alloc, workers, chunks)?;
@@ -87,51 +88,53 @@ fn all_workers_draw_chunks_at_once(rt: HostRuntime) -> Result<(), Fail> {
     Ok(())
 }
 
-/// The bytes of an image after a pause that collects these regions.
-fn paused<T: Threads + Sync, G: Gate + Sync>(
-    rt: &T,
+/// The bytes of an image after a pause.
+fn bytes_after<R: Threads + Sync, G: Gate + Sync>(
+    rt: &R,
     alloc: Global,
     before: &[u8],
-    regions: &[u32],
-    workers: u64,
-    chunk: u64,
+    settings: &Settings,
     gate: &G,
 ) -> Result<Vec<u8>, Fault> {
-    let settings = collecting(alloc, regions, workers, chunk)?;
-    bytes_after(rt, alloc, decode(alloc, before)?, &settings, gate)
+    let before = match verify(rt, alloc, decode(alloc, before)?) {
+        Ok(before) => before,
+        Err((_, fault)) => return Err(fault),
+    };
+    match evacuate(rt, alloc, before, settings, gate) {
+        Ok((after, _)) => encode(alloc, image(&after)),
+        Err((_, fault)) => Err(fault),
+    }
 }
 
-/// Sees that a pause that collects these regions makes the one picture of the other.
-fn expect_pause<T: Threads + Abort + Sync, G: Gate + Sync>(
+/// Sees what a pause of this many workers makes of the shared picture.
+fn expect_shared<T: Threads + Abort + Sync, G: Gate + Sync>(
     rt: &T,
     alloc: Global,
-    pictures: (&str, &str),
-    regions: &[u32],
     workers: u64,
     gate: &G,
-) -> Result<(), Fail> {
-    let before = text(alloc, pictures.0)?;
-    let found = paused(rt, alloc, &before, regions, workers, 1, gate)?;
-    expect_equal(rt, found.as_slice(), text(alloc, pictures.1)?.as_slice());
+) -> Result<(), Fault> {
+    let before = text(alloc, shared())?;
+    let settings = collecting(alloc, &[1], workers, 1)?;
+    let found = bytes_after(rt, alloc, &before, &settings, gate)?;
+    expect_list(rt, &found, &text(alloc, shared_after())?);
     Ok(())
 }
 
 /// Two workers meet in both rounds of the search, and two and four when they write.
 #[test]
-fn workers_meet_in_each_round(rt: HostRuntime) -> Result<(), Fail> {
-    let alloc = rt.alloc();
+fn workers_meet_in_each_round(rt: HostRuntime) -> Result<(), Fault> {
     for (part, workers, times) in [(Part::Deal, 2, 2), (Part::Fill, 2, 1), (Part::Fill, 4, 1)] {
         let gate = Crowd::new(&rt, part, workers, times);
-        expect_pause(&rt, alloc, (shared(), shared_after()), &[1], workers, &gate)?;
+        expect_shared(&rt, rt.alloc(), workers, &gate)?;
         expect_equal(&rt, gate.met(), times);
     }
     Ok(())
 }
 
 #[test]
-fn a_commit_fills_a_run_for_each_worker(rt: HostRuntime) -> Result<(), Fail> {
+fn a_commit_fills_a_run_for_each_worker(rt: HostRuntime) -> Result<(), Fault> {
     let gate = Counting::new(Part::Fill);
-    expect_pause(&rt, rt.alloc(), (shared(), shared_after()), &[1], 3, &gate)?;
+    expect_shared(&rt, rt.alloc(), 3, &gate)?;
     expect_equal(&rt, gate.calls(), 0x01_0101);
     Ok(())
 }
@@ -158,81 +161,82 @@ const WIDE: &str = "G1IMAGE2 65536 64 256 128 0 256 \
 const WIDE_AFTER: &str = "G1IMAGE2 65536 64 256 128 0 256 \
     0,0,0*128 1,49152,0*128 =8388609+65536*128 0*256 49152/0,0..98302*128";
 
+/// Sees that this many of 64 workers do a part of the pause at the same time that collects these regions, and that it makes
+/// the one image of the other.
+fn expect_at_once<T: Threads + Clock + Abort + Sync>(
+    rt: &T,
+    alloc: Global,
+    images: (&str, &str),
+    regions: Range<u32>,
+    part: Part,
+    workers: u64,
+) -> Result<(), Fault> {
+    let gate = Crowd::new(rt, part, workers, 1);
+    let before = raw(alloc, images.0)?;
+    let settings = collecting(alloc, &regions.collect::<Vec<u32>>(alloc)?, 64, CHUNK)?;
+    let found = bytes_after(rt, alloc, &before, &settings, &gate)?;
+    expect_equal(rt, gate.met(), 1);
+    expect_bytes(rt, &found, &raw(alloc, images.1)?);
+    Ok(())
+}
+
 /// All search the field, and two write it: they fill 32 regions, clear as many, and write as many patches as the object has slots.
 /// All write the wide heap.
 #[test]
-fn all_workers_search_and_write_at_once(rt: HostRuntime) -> Result<(), Fail> {
+fn all_workers_search_and_write_at_once(rt: HostRuntime) -> Result<(), Fault> {
     let alloc = rt.alloc();
-    for (before, after, regions, part, workers) in [
-        (FIELD, FIELD_AFTER, (33, 65), Part::Deal, 64),
-        (FIELD, FIELD_AFTER, (33, 65), Part::Fill, 2),
-        (WIDE, WIDE_AFTER, (0, 128), Part::Fill, 64),
-    ] {
-        let gate = Crowd::new(&rt, part, workers, 1);
-        let set = (regions.0..regions.1).collect::<Vec<u32>>(alloc)?;
-        let before = raw(alloc, before)?;
-        let found = paused(&rt, alloc, &before, &set, 64, CHUNK, &gate)?;
-        expect_equal(&rt, gate.met(), 1);
-        assert!(rt; found.as_slice() == raw(alloc, after)?.as_slice());
-    }
-    Ok(())
+    expect_at_once(&rt, alloc, (FIELD, FIELD_AFTER), 33..65, Part::Deal, 64)?;
+    expect_at_once(&rt, alloc, (FIELD, FIELD_AFTER), 33..65, Part::Fill, 2)?;
+    expect_at_once(&rt, alloc, (WIDE, WIDE_AFTER), 0..128, Part::Fill, 64)
 }
 
-/// The live bytes of each region of the image of these bytes.
-fn live_of<R: Threads + Sync, G: Gate + Sync>(
-    rt: &R,
+/// Sees that a team that counts the live bytes of each region of an image meets this many times.
+fn expect_live<T: Threads + Clock + Abort + Sync>(
+    rt: &T,
     alloc: Global,
     bytes: &[u8],
     team: Team,
-    gate: &G,
-) -> Result<Vec<u64>, Fault> {
-    let image = decode(alloc, bytes)?;
+    times: u64,
+    expected: &[u64],
+) -> Result<(), Fault> {
     let (workers, chunk) = (team.workers(), team.chunk());
+    let gate = Crowd::new(rt, Part::Deal, workers, times);
+    let image = decode(alloc, bytes)?;
     let starts = Starts::build(alloc, image.heap())?;
-    live_bytes(rt, alloc, image.heap(), &starts, workers, chunk, gate)
+    let live = live_bytes(rt, alloc, image.heap(), &starts, workers, chunk, &gate)?;
+    expect_equal(rt, gate.met(), times);
+    expect_list(rt, &live, expected);
+    Ok(())
 }
 
 #[test]
-fn workers_meet_when_live_bytes_are_counted(rt: HostRuntime) -> Result<(), Fail> {
-    let alloc = rt.alloc();
-    let gate = Crowd::new(&rt, Part::Deal, 2, 2);
-    let live = live_of(&rt, alloc, &text(alloc, shared())?, Team::new(2, 1), &gate)?;
-    expect_equal(&rt, gate.met(), 2);
-    expect_equal(&rt, live.as_slice(), [0, 56, 0, 0].as_slice());
-    Ok(())
+fn workers_meet_when_live_bytes_are_counted(rt: HostRuntime) -> Result<(), Fault> {
+    let bytes = text(rt.alloc(), shared())?;
+    let expected = [0, 56, 0, 0];
+    expect_live(&rt, rt.alloc(), &bytes, Team::new(2, 1), 2, &expected)
 }
 
 /// They meet in the third round, after the root's and that of the object that it references.
 #[test]
-fn all_workers_count_live_bytes_at_once(rt: HostRuntime) -> Result<(), Fail> {
-    let alloc = rt.alloc();
-    let gate = Crowd::new(&rt, Part::Deal, 64, 1);
-    let field = raw(alloc, FIELD)?;
-    let live = live_of(&rt, alloc, &field, Team::new(64, CHUNK), &gate)?;
-    expect_equal(&rt, gate.met(), 1);
-    expect_equal(&rt, live.len(), 128);
-    for (region, bytes) in live.iter().enumerate() {
-        let expected = match region {
-            0 => 8 * 131_073,
-            33..=64 => 8 * 4_096,
-            _ => 0,
-        };
-        expect_equal(&rt, *bytes, expected);
-    }
-    Ok(())
+fn all_workers_count_live_bytes_at_once(rt: HostRuntime) -> Result<(), Fault> {
+    let bytes = raw(rt.alloc(), FIELD)?;
+    let mut expected = [0; 128];
+    expected[0] = 8 * 131_073;
+    expected[33..65].fill(8 * 4_096);
+    expect_live(&rt, rt.alloc(), &bytes, Team::new(64, CHUNK), 1, &expected)
 }
 
 /// Two roots reference two objects when the pause comes.
 static TRACE: &[u8] = b"heap 16 4 4 2\nnew 0 0 1\nnew 1 0 1\nset 0 0 5\npause 1000\nsay 0 0\n";
 
 #[test]
-fn the_workers_of_a_trace_pause_at_once(rt: HostRuntime) -> Result<(), Fail> {
+fn the_workers_of_a_trace_pause_at_once(rt: HostRuntime) -> Result<(), Fault> {
     let alloc = rt.alloc();
     for part in [Part::Deal, Part::Fill] {
         let gate = Crowd::new(&rt, part, 2, 1);
         let text = run_text(&rt, alloc, TRACE, &UNIT, Team::new(2, 1), &gate)?;
-        assert!(rt; gate.met() > 0, "{part:?}");
-        expect_equal(&rt, text.as_slice(), b"ok\nok\nok\nok\n5\n".as_slice());
+        expect_equal(&rt, (part, gate.met() > 0), (part, true));
+        expect_list(&rt, &text, b"ok\nok\nok\nok\n5\n");
     }
     Ok(())
 }

@@ -1,14 +1,10 @@
 //! What tests begin with, and what they see.
 use g1_choose::Cost;
-use g1_image::{Image, encode};
-use g1_pause::{Choice, Settings, evacuate};
-use g1_rem::{Tracked, image, verify};
+use g1_pause::{Choice, Settings};
 use g1_words::Fault;
-use g1_work::Gate;
 use std::alloc::Global;
 use std::fmt::Debug;
 use std::process::Abort;
-use std::thread::Threads;
 
 /// What the parts of a pause cost.
 pub(crate) const UNIT: Cost = Cost {
@@ -23,6 +19,20 @@ pub(crate) fn expect_equal<T: Abort, V: PartialEq + Debug + Drop>(rt: &T, found:
     assert_eq!(rt; found, expected);
 }
 
+/// The same of a list.
+pub(crate) fn expect_list<T: Abort, V: PartialEq + Debug + Drop>(
+    rt: &T,
+    found: &[V],
+    expected: &[V],
+) {
+    expect_equal(rt, found, expected);
+}
+
+/// The same of bytes that are too many to be reported.
+pub(crate) fn expect_bytes<T: Abort>(rt: &T, found: &[u8], expected: &[u8]) {
+    expect_equal(rt, found == expected, true);
+}
+
 /// The settings of a pause that collects these regions.
 pub(crate) fn collecting(
     alloc: Global,
@@ -31,31 +41,4 @@ pub(crate) fn collecting(
     chunk: u64,
 ) -> Result<Settings, Fault> {
     Settings::new(workers, chunk, UNIT, Choice::Given(regions.to_vec(alloc)?))
-}
-
-/// The image, if its slots are covered.
-pub(crate) fn tracked<R: Threads + Sync>(
-    rt: &R,
-    alloc: Global,
-    image: Image,
-) -> Result<Tracked, Fault> {
-    match verify(rt, alloc, image) {
-        Ok(tracked) => Ok(tracked),
-        Err((_, fault)) => Err(fault),
-    }
-}
-
-/// The bytes of the image after a pause.
-pub(crate) fn bytes_after<R: Threads + Sync, G: Gate + Sync>(
-    rt: &R,
-    alloc: Global,
-    before: Image,
-    settings: &Settings,
-    gate: &G,
-) -> Result<Vec<u8>, Fault> {
-    let before = tracked(rt, alloc, before)?;
-    match evacuate(rt, alloc, before, settings, gate) {
-        Ok((after, _)) => encode(alloc, image(&after)),
-        Err((_, fault)) => Err(fault),
-    }
 }

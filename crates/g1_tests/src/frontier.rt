@@ -4,16 +4,15 @@ ghost use Rattle.g1_rem.specs.Starts.{IsStartsOf};
 ghost use Rattle.g1_frontier.specs.Items.{first_items, object_items};
 ghost use Rattle.g1_frontier.specs.Window.{AreRegions, AreCards, AreOutside, LeadIn};
 
-use crate::expecting::{expect_equal, tracked};
+use crate::expecting::expect_list;
 use g1_claim::{Claims, EMPTY};
 use g1_frontier::{Item, claim_round};
-use g1_rem::{Starts, Tracked, image, refine};
+use g1_rem::{Starts, Tracked, image, refine, verify};
 use g1_testing::image as drawn;
 use g1_testing::pictures::shared;
 use g1_words::{Fault, Heap, object_at};
 use g1_work::Open;
 use std::alloc::{AllocError, Global};
-use std::test::Fail;
 use std::thread::Threads;
 
 /// What two rounds over region 1 leave: the ranks and addresses that each won, and the words of the
@@ -129,23 +128,20 @@ fn two_rounds<R: Threads + Sync>(
 }
 
 fn rounds_of_shared<R: Threads + Sync>(rt: &R, alloc: Global) -> Result<Rounds, Fault> {
-    let tracked = tracked(rt, alloc, drawn(alloc, shared())?)?;
-    two_rounds(rt, alloc, &tracked)
+    match verify(rt, alloc, drawn(alloc, shared())?) {
+        Ok(tracked) => two_rounds(rt, alloc, &tracked),
+        Err((_, fault)) => Err(fault),
+    }
 }
 
 #[test]
-fn the_least_rank_of_each_place_stays_its_word(rt: HostRuntime) -> Result<(), Fail> {
+fn the_least_rank_of_each_place_stays_its_word(rt: HostRuntime) -> Result<(), Fault> {
     let two = rounds_of_shared(&rt, rt.alloc())?;
-    expect_equal(&rt, two.first.as_slice(), [(0, 21), (1, 16)].as_slice());
-    assert!(rt; two.second.is_empty());
-    expect_equal(&rt, two.words.len(), 16);
-    for (place, word) in two.words.iter().enumerate() {
-        let expected = match place {
-            0 => 1,
-            5 => 0,
-            _ => EMPTY,
-        };
-        expect_equal(&rt, *word, expected);
-    }
+    expect_list(&rt, &two.first, &[(0, 21), (1, 16)]);
+    expect_list(&rt, &two.second, &[]);
+    let mut words = [EMPTY; 16];
+    words[0] = 1;
+    words[5] = 0;
+    expect_list(&rt, &two.words, &words);
     Ok(())
 }

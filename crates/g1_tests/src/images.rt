@@ -1,4 +1,5 @@
 //! Bytes that are nearly an image, and images at their limits.
+use crate::expecting::expect_equal;
 use g1_image::{decode, encode};
 use g1_testing::raw;
 use g1_text::{image_lines, make};
@@ -20,8 +21,8 @@ fn expect_kept_or_refused<T: Abort>(rt: &T, alloc: Global, bytes: &mut [u8]) -> 
         let was = bytes[at];
         for byte in 0..=255u8 {
             bytes[at] = byte;
-            let expected = is_kept_or_refused(alloc, bytes)?;
-            assert!(rt; expected, "{byte} at {at}");
+            let is_so = is_kept_or_refused(alloc, bytes)?;
+            expect_equal(rt, (at, byte, is_so), (at, byte, true));
         }
         bytes[at] = was;
     }
@@ -32,10 +33,9 @@ fn expect_kept_or_refused<T: Abort>(rt: &T, alloc: Global, bytes: &mut [u8]) -> 
 const OUTSIDE_SLOT: &str = "G1IMAGE2 16 4 4 0 0 4 1,2,0 1,3,0 0,0,0*2 0 1 0 0 0 2/1 =17 3/0 =1 =2";
 
 #[test]
-fn a_changed_byte_is_refused_or_kept(rt: HostRuntime) -> Result<(), Fail> {
+fn a_changed_byte_is_refused_or_kept(rt: HostRuntime) -> Result<(), Fault> {
     let mut bytes = raw(rt.alloc(), OUTSIDE_SLOT)?;
-    expect_kept_or_refused(&rt, rt.alloc(), bytes.as_mut_slice())?;
-    Ok(())
+    expect_kept_or_refused(&rt, rt.alloc(), bytes.as_mut_slice())
 }
 
 // Images with as many roots, objects in a region, cards or regions as there may be, and one that has the last region current.
@@ -58,7 +58,8 @@ fn is_made_again(alloc: Global, bytes: &[u8]) -> Result<bool, Fail> {
 fn prints_and_makes_images_at_their_limits(rt: HostRuntime) -> Result<(), Fail> {
     for numbers in LIMITS.iter() {
         let bytes = raw(rt.alloc(), numbers)?;
-        assert!(rt; is_made_again(rt.alloc(), &bytes)?, "{numbers}");
+        let is_so = is_made_again(rt.alloc(), &bytes)?;
+        expect_equal(&rt, (*numbers, is_so), (*numbers, true));
     }
     Ok(())
 }

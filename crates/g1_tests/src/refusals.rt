@@ -1,5 +1,5 @@
 //! How a program reports a refusal and great numbers, which words it takes, and devices that fail.
-use crate::expecting::expect_equal;
+use crate::expecting::{expect_equal, expect_list};
 use g1_command::{Refusal, deliver, read_all, refuse, whole, words};
 use g1_tables::choice_lines;
 use g1_testing::{Stream, Trouble, is_refusal};
@@ -47,8 +47,7 @@ fn faults_with_great_numbers_have_a_line_and_a_status(rt: HostRuntime) {
 #[test]
 fn a_total_has_more_than_64_bits(rt: HostRuntime) -> Result<(), Fail> {
     let text = choice_lines(rt.alloc(), &[], 0, 1 << 64)?;
-    let expected = b"total 18446744073709551616\n".as_slice();
-    expect_equal(&rt, text.as_slice(), expected);
+    expect_list(&rt, &text, b"total 18446744073709551616\n");
     Ok(())
 }
 
@@ -95,7 +94,7 @@ fn expect_devices<T: Abort>(
     let mut writer = failing(alloc, b"", left, trouble)?;
     let delivered = deliver(text, &mut writer);
     expect_equal(rt, delivered, outcome(text, left, Device::Output));
-    expect_equal(rt, writer.bytes.as_slice(), &text[..left.min(text.len())]);
+    expect_list(rt, &writer.bytes, &text[..left.min(text.len())]);
     Ok(())
 }
 
@@ -145,7 +144,7 @@ impl Env for Called {
 // Words with one that is not text are refused by these lines.
 fn expect_shown<T: Abort>(rt: &T, alloc: Global, called: &'static [&'static [u8]], line: &str) {
     match words(&Called { words: called }, alloc) {
-        Ok(_) => panic!(rt; "{line}"),
+        Ok(_) => expect_equal(rt, "no refusal", line),
         Err(refusal) => expect_refusal(rt, alloc, &refusal, line, 2),
     }
 }
@@ -184,24 +183,26 @@ fn words_may_be_long_or_empty(rt: HostRuntime) -> Result<(), Refusal> {
 }
 
 // What a call that was refused memory may leave, of an image and an answer.
+static LEFT: [(&str, &[u8], bool); 13] = [
+    ("order", b"fault 13: memory\n", true),
+    ("order", b"7\nfault 13: memory\n", true),
+    ("order", b"8\nfault 13: memory\n", false),
+    ("order", b"fault 11: room need 1 free 0\n", false),
+    ("order", b"fault 13: memory\nG1IMAGE2 ..", false),
+    ("order", b"-\n", false),
+    ("order", b"", false),
+    ("evacuate", b"fault 13: memory\nG1IMAGE2 ..", true),
+    ("evacuate", b"fault 13: memory\nG1IMAGE2 .-", false),
+    ("evacuate", b"fault 13: memory\n", false),
+    ("verify", b"fault 13: memory\n7\n8\n", false),
+    ("step", b"7\nfault 13: memory\n8\n", true),
+    ("step", b"fault 13: memory\n8\n", false),
+];
+
 #[test]
 fn a_refusal_leaves_memory_alone(rt: HostRuntime) {
-    let (image, answer) = (b"G1IMAGE2 ..".as_slice(), b"7\n8\n".as_slice());
-    for (call, found, is_so) in [
-        ("order", b"fault 13: memory\n".as_slice(), true),
-        ("order", b"7\nfault 13: memory\n", true),
-        ("order", b"8\nfault 13: memory\n", false),
-        ("order", b"fault 11: room need 1 free 0\n", false),
-        ("order", b"fault 13: memory\nG1IMAGE2 ..", false),
-        ("order", b"-\n", false),
-        ("order", b"", false),
-        ("evacuate", b"fault 13: memory\nG1IMAGE2 ..", true),
-        ("evacuate", b"fault 13: memory\nG1IMAGE2 .-", false),
-        ("evacuate", b"fault 13: memory\n", false),
-        ("verify", b"fault 13: memory\n7\n8\n", false),
-        ("step", b"7\nfault 13: memory\n8\n", true),
-        ("step", b"fault 13: memory\n8\n", false),
-    ] {
-        assert!(rt; is_refusal(call, found, answer, image) == is_so, "{call}");
+    for (call, found, is_so) in &LEFT {
+        let is_refused = is_refusal(call, found, b"7\n8\n", b"G1IMAGE2 ..");
+        expect_equal(&rt, (*call, *found, is_refused), (*call, *found, *is_so));
     }
 }

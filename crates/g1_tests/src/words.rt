@@ -1,10 +1,9 @@
 //! Addresses, and where regions and cards start.
 use crate::expecting::expect_equal;
-use g1_words::{Geometry, Object, card_of, header, region_of, slots_of};
-use std::test::Fail;
+use g1_words::{Fault, Geometry, Object, card_of, header, region_of, slots_of};
 
 #[test]
-fn addresses_by_division(rt: HostRuntime) -> Result<(), Fail> {
+fn addresses_by_division(rt: HostRuntime) -> Result<(), Fault> {
     let geometry = Geometry::new(16, 4, 4)?;
     for (address, region, card) in [
         (0, 0, 0),
@@ -13,8 +12,8 @@ fn addresses_by_division(rt: HostRuntime) -> Result<(), Fail> {
         (63, 3, 15),
         (640, 40, 160),
     ] {
-        expect_equal(&rt, region_of(&geometry, address), region);
-        expect_equal(&rt, card_of(&geometry, address), card);
+        let found = (region_of(&geometry, address), card_of(&geometry, address));
+        expect_equal(&rt, found, (region, card));
     }
     Ok(())
 }
@@ -28,7 +27,7 @@ fn an_object_by_its_header(rt: HostRuntime) {
 }
 
 #[test]
-fn starts_of_regions_and_cards(rt: HostRuntime) -> Result<(), Fail> {
+fn starts_of_regions_and_cards(rt: HostRuntime) -> Result<(), Fault> {
     let geometry = Geometry::new(32, 8, 6)?;
     expect_equal(&rt, geometry.words(), 192);
     for (region, start) in [(0, 0), (1, 32), (5, 160)] {
@@ -36,8 +35,8 @@ fn starts_of_regions_and_cards(rt: HostRuntime) -> Result<(), Fail> {
     }
     expect_equal(&rt, geometry.cards(), 24);
     for (card, start, region) in [(0, 0, 0), (3, 24, 0), (4, 32, 1), (23, 184, 5)] {
-        expect_equal(&rt, geometry.card_start(card), start);
-        expect_equal(&rt, geometry.region_of_card(card), region);
+        let found = (geometry.card_start(card), geometry.region_of_card(card));
+        expect_equal(&rt, found, (start, region));
     }
     Ok(())
 }

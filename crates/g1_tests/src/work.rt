@@ -2,13 +2,12 @@
 ghost use Rattle.std.specs.Prelude.{◌≡◌, ◌<◌, ◌+◌, ◌^◌, ◌*◌, ◌≤◌, ℕ, IfOk, slice_index, length, replicate};
 ghost use Rattle.g1_words.specs.declared.fault.Fault.TheVariants.{Line};
 
-use crate::expecting::expect_equal;
+use crate::expecting::{expect_equal, expect_list};
 use crate::gates::{Counting, Noting};
 use g1_words::Fault;
 use g1_work::{Fill, Gate, Open, Part, Task, each_chunk, each_region_mut};
 use std::alloc::Global;
 use std::sync::atomic::{AtomicBool, Ordering};
-use std::test::Fail;
 use std::thread::Threads;
 
 // Squares the chunk, and keeps one more than it.
@@ -72,26 +71,24 @@ impl Task for Refuses {
 }
 
 #[test]
-fn a_failed_run_is_the_answer(rt: HostRuntime) -> Result<(), Fail> {
+fn a_failed_run_is_the_answer(rt: HostRuntime) -> Result<(), Fault> {
     let states = vec![in rt.alloc(); (); 3]?;
-    match each_chunk(&rt, rt.alloc(), states, 8, &Refuses, &Open) {
-        Ok(_) => panic!(rt; "no fault"),
-        Err(fault) => expect_equal(&rt, fault, Fault::Line(5)),
-    }
+    let told = each_chunk(&rt, rt.alloc(), states, 8, &Refuses, &Open).err();
+    expect_equal(&rt, told, Some(Fault::Line(5)));
     Ok(())
 }
 
 const FIRST_EIGHT: [u64; 8] = [0, 1, 4, 9, 16, 25, 36, 49];
 
 #[test]
-fn the_gate_is_told_of_each_chunk_once(rt: HostRuntime) -> Result<(), Fail> {
+fn the_gate_is_told_of_each_chunk_once(rt: HostRuntime) -> Result<(), Fault> {
     let gate = Counting::new(Part::Deal);
     let (states, outs) = squared_chunks(&rt, rt.alloc(), 3, 8, &gate)?;
     expect_equal(&rt, gate.calls(), 0x0101_0101_0101_0101);
     // The states are as many as the workers, and one of them saw the last chunk.
     let greatest = states.iter().max().copied();
     expect_equal(&rt, (states.len(), greatest), (3, Some(8)));
-    expect_equal(&rt, outs.as_slice(), FIRST_EIGHT.as_slice());
+    expect_list(&rt, &outs, &FIRST_EIGHT);
     squared_chunks(&rt, rt.alloc(), 3, 1, &gate)?;
     expect_equal(&rt, gate.calls(), 0x0101_0101_0101_0102);
     Ok(())
@@ -124,7 +121,7 @@ impl<'a> Task for Late<'a> {
 }
 
 #[test]
-fn the_gate_is_told_before_the_run(rt: HostRuntime) -> Result<(), Fail> {
+fn the_gate_is_told_before_the_run(rt: HostRuntime) -> Result<(), Fault> {
     let alloc = rt.alloc();
     for (workers, chunks) in [(1, 1), (1, 64), (3, 64)] {
         let gate = Noting::new();
@@ -168,14 +165,14 @@ impl Gate for Waiting {
 
 // A worker that is kept at its chunk leaves the others to another one.
 #[test]
-fn one_worker_draws_while_another_waits(rt: HostRuntime) -> Result<(), Fail> {
+fn one_worker_draws_while_another_waits(rt: HostRuntime) -> Result<(), Fault> {
     let gate = Waiting {
         noting: Noting::new(),
         missed: AtomicBool::new(false),
     };
     let (_, outs) = squared_chunks(&rt, rt.alloc(), 2, 8, &gate)?;
-    assert!(rt; !gate.missed.load(Ordering::SeqCst), "a gate gave up");
-    expect_equal(&rt, outs.as_slice(), FIRST_EIGHT.as_slice());
+    expect_equal(&rt, gate.missed.load(Ordering::SeqCst), false);
+    expect_list(&rt, &outs, &FIRST_EIGHT);
     Ok(())
 }
 
