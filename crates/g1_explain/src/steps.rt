@@ -40,10 +40,7 @@ pub(crate) fn push_steps<R: Threads + Sync>(
     push_dirty(alloc, text, before.image(), before.remembered())?;
     let steps = take_steps(rt, alloc, &before, settings, &Open)?;
     push_search(alloc, text, form, &before, settings, &steps)?;
-    let written = written_of(alloc, &before, steps)?;
-    push_writes(alloc, text, form, &before, &written)?;
-    push_totals(text, before.image().heap(), &written)?;
-    Ok(written)
+    push_written(alloc, text, form, &before, steps)
 }
 
 // The lines of the choice, of the cards that lead into the set and of the survivors. A map has those of the choice.
@@ -70,6 +67,20 @@ fn push_search(
         Outcome::NoRoom { survivors, .. } => survivors.as_slice(),
     };
     push_survivors(alloc, text, &walkable, &steps.cards, survivors)
+}
+
+// Adds the lines of what the pause writes, and of the totals, unless the survivors have no room.
+fn push_written(
+    alloc: Global,
+    text: &mut String,
+    form: Form,
+    before: &Before<'_>,
+    steps: Steps,
+) -> Result<Written, Failure> {
+    let written = written_of(alloc, before, steps)?;
+    push_writes(alloc, text, form, before, &written)?;
+    push_totals(text, before.image().heap(), &written)?;
+    Ok(written)
 }
 
 // What the pause writes, unless the survivors have no room.
