@@ -1,4 +1,4 @@
-ghost use Rattle.std.specs.Prelude.{◌≡◌, ◌⊎◌, ℕ, Ok, Err, Result, IfOk, IfErr};
+ghost use Rattle.std.specs.Prelude.{◌≡◌, ◌⊎◌, Ok, Err, Result, IfOk, IfErr};
 ghost use Rattle.g1_words.specs.declared.fault.Fault.{Fault as FaultOf};
 ghost use Rattle.g1_image.specs.Cards.{IsTracked};
 ghost use Rattle.g1_image.specs.Image.{Image as ImageOf};

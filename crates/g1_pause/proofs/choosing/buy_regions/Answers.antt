@@ -1,8 +1,7 @@
-use Rattle.std.proofs.Common.{◌≡◌, ◌∙◌, sym, ap, map, length, refl}
-use Rattle.std.specs.Prelude.{List, ℕ}
+use Rattle.std.proofs.Common.{◌∙◌, ap, map, length, refl}
 use Rattle.g1_image.specs.Image.{Image}
 use Rattle.g1_pause.specs.declared.settings.Choice.TheVariants.{Budget}
-use Rattle.g1_pause.proofs.Chosen.{GoesBy, bought_set, bought_by}
+use Rattle.g1_pause.proofs.Chosen.{bought_set, bought_by}
 use Rattle.g1_pause.proofs.choosing.buy_regions.Goals as goal
 
 pub returns-clause-set : goal.returns-clause-set

@@ -1,6 +1,5 @@
-use Rattle.std.proofs.Common.{ℕ, Err, inl, ◌∙◌, sym, subst, ap}
+use Rattle.std.proofs.Common.{ℕ, Err, ◌∙◌, sym, subst, ap}
 use Rattle.std.proofs.lemmas.Result.{err_from_is_err_and}
-use Rattle.std.specs.Prelude.{IfOk, IfSome, IfNone}
 use Rattle.g1_image.specs.Image.{Image}
 use Rattle.g1_pause.proofs.Refused.{named_refused}
 use Rattle.g1_pause.proofs.Chosen.{given_set}

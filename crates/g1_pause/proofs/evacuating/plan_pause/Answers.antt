@@ -1,4 +1,4 @@
-use Rattle.std.proofs.Common.{◌≡◌, inr, ◌∙◌, subst, Err}
+use Rattle.std.proofs.Common.{inr, ◌∙◌, subst, Err}
 use Rattle.g1_image.specs.Image.{Image}
 use Rattle.g1_words.specs.declared.fault.Fault.TheVariants.{Room}
 use Rattle.g1_copy.specs.Plans.{IsPauseOf}

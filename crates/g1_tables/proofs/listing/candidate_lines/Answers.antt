@@ -5,7 +5,6 @@ use Rattle.g1_image.specs.Image.{Image}
 use Rattle.g1_image.specs.Cards.{refined}
 use Rattle.g1_choose.specs.declared.candidate.Candidate.{Candidate}
 use Rattle.g1_choose.specs.declared.buying.Purchase.{Purchase}
-use Rattle.g1_choose.specs.Candidate.{IsCandidateOrder}
 use Rattle.g1_choose.specs.Bought.{IsPurchase}
 use Rattle.g1_text.specs.Lines.{text_of}
 use Rattle.g1_tables.specs.Tables.{choice_lines, line_of}
