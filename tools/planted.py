@@ -403,7 +403,9 @@ class Trial:
     def settle_refused(self, row, told, lines):
         goals = re.search(r"`search` did not prove (.*?)(?:;|$)", told)
         folder = "proofs/" + row.asked().replace("::", "/") + "/"
-        faults = [it for it in lines if re.match(rf"(?:\./)?{re.escape(folder)}\S+ error", it)]
+        is_fault = re.compile(rf"(?:\./)?{re.escape(folder)}\S+ error").match
+        # (a long one goes on in the line behind it)
+        faults = [f"{it} {more.strip()}" if more.startswith("  ") else it for it, more in zip(lines, [*lines[1:], ""]) if is_fault(it)]
         reasons = [it for it in faults if not NAMES.search(it)]
         function = self.functions[row.function]
         notes = [re.match(r"note: (\S+?):(\d+):\d+: (.*)", it) for it in lines]

@@ -54,7 +54,11 @@ for name in asked:
     is_open = "wrong" in bodies[name]
     called = [it for it in bodies if it != name and f"{it}(" in bodies[name] and "wrong" in bodies[it]]
     calls = f"; it calls `toy::{called[0]}`, which is not proved" if called else ""
-    if "gone" in bodies[name]:
+    if "parted" in bodies[name]:
+        print(f"./proofs/{name}/Answers.antt:1:2: error: `returns`: record `Lts.View.In-After-call`")
+        print("  has no field `x`")
+        print(f"fn toy::{name}: not proved")
+    elif "gone" in bodies[name]:
         print(f"./proofs/{name}/Answers.antt:1:2: error: `c` has no field `x`")
         print(f"fn toy::{name}: not proved")
     elif is_open:
@@ -256,6 +260,10 @@ class Planted(unittest.TestCase):
 
     def test_a_row_that_only_takes_a_name_away_is_bad(self):
         self.row("turned", "second", "    2", "    gone")
+        self.assertIn("BAD: only its proof refuses it", self.tried()[0]["turned"])
+
+    def test_a_name_that_the_next_line_misses_is_taken_away(self):
+        self.row("turned", "second", "    2", "    parted")
         self.assertIn("BAD: only its proof refuses it", self.tried()[0]["turned"])
 
     def test_the_copy_of_a_program_has_no_main(self):
