@@ -61,24 +61,6 @@ module _ (cost : Cost) (choice : Choice) (i : Image) (h : Heap) (heap : h ≡ i.
       let can : CanPlace h set m = placeable h set m valid (set_there set refl).rise ordinary (subst (λ zs. Survivors h zs m) f found) in
       subst (λ zs. CanPlace h zs l) (sym e) (subst (CanPlace h set) (sym k) can)
 
-  -- where they are not, too few regions are free or memory is wanting
-  pub set_refused : {X : Type 0} (ys l m : List ℕ) (r : Result X Fault) (fault : Fault) → r ≡ Err fault → ys ≡ set → l ≡ m → Survivors h ys m
-      → (length (free_regions h) < need h l → r ≡ Err (Room (need h l) (length (free_regions h))))
-      → (need h l ≤ length (free_regions h) → IfErr r (λ e. e ≡ Memory))
-      → (fault ≡ Memory) ⊎ IsEvacuated cost choice i (Err fault)
-  set_refused {X} ys l m r fault is f k found room memory =
-      elim (cases_lt (length (free_regions h)) (need h l)) [
-        | inr le ↦ inl (subst (λ q. IfErr q (λ e. e ≡ Memory)) is (memory le))
-        | inl lt ↦
-            let same : ◌≡◌ {A = Result X Fault} (Err fault) (Err (Room (need h l) (length (free_regions h)))) = sym is ∙ room lt in
-            let faults : fault ≡ Room (need h l) (length (free_regions h)) = cc in
-            let there : Survivors h set l = subst (λ zs. Survivors h zs l) f (subst (Survivors h ys) (sym k) found) in
-            let here : IsEvacuated cost choice i (Err (Room (need h l) (length (free_regions h)))) =
-            subst (λ g. IsEvacuated cost choice i (Err (Room (need g l) (length (free_regions g))))) (sym heap)
-            (no_room set l chosen (subst (λ g. Survivors g set l) heap there) (subst (λ g. length (free_regions g) < need g l) heap lt)) in
-            inr (subst (λ (z : Fault). IsEvacuated cost choice i (Err z)) (sym faults) here)
-      ]
-
   -- where there is no room for them, they need more regions than are free
   pub set_lacks_room : {X : Type 0} (l m : List ℕ) (r : Result X Fault) (needed free : ℕ) → r ≡ Err (Room needed free) → l ≡ m → Survivors i.heap set m
       → (length (free_regions h) < need h l → r ≡ Err (Room (need h l) (length (free_regions h))))

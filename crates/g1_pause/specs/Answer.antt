@@ -3,7 +3,7 @@ use Rattle.std.specs.Prelude.{◌≡◌, ℕ, List, ◌∷◌, ◌≤◌, ◌<�
 use Rattle.std.specs.Global.{Global}
 use Rattle.g1_words.specs.declared.fault.Fault.{Fault}
 use Rattle.g1_words.specs.declared.fault.Fault.TheVariants.{Uncovered, Set, Room}
-use Rattle.g1_words.specs.Heap.{regions}
+use Rattle.g1_words.specs.Heap.{Heap, regions}
 use Rattle.g1_words.specs.Lists.{has}
 use Rattle.g1_words.specs.Survivors.{Survivors}
 use Rattle.g1_words.specs.Live.{IsLiveBytes}
@@ -31,6 +31,11 @@ IsSetFor cost i (Budget b) set =
     (lives : List ℕ) × IsLiveBytes i.heap lives
     × IsChosen cost i.heap (map (refined i) (regions i.heap)) lives (length i.log) b set
 IsSetFor cost i (Given list) set = AreTakeable i.heap list.items × (set ≡ filter (has list.items) (regions i.heap))
+
+-- the fault of a choice: the first region of the list that can't be taken; a budget has none
+abbrev pub FaultOfChoice : Heap → Choice → Fault → Type 0
+FaultOfChoice h (Budget b) e = ⊥
+FaultOfChoice h (Given list) e = (k : ℕ) × IsFirstBad h list.items k × (e ≡ Set (slice_index list.items k))
 
 -- what the pause of an image gives: the first region of the list that can't be taken, or that the free regions have no room for the survivors, or the image after
 pub data IsEvacuated (cost : Cost) (choice : Choice) (i : Image) : Result Image Fault → Type 0 where

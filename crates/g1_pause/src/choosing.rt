@@ -1,7 +1,7 @@
-ghost use Rattle.std.specs.Prelude.{◌≡◌, ◌⊎◌, Err, IfSome, IfNone, IfOk, IfErr};
+ghost use Rattle.std.specs.Prelude.{◌≡◌, ◌⊎◌, IfSome, IfNone, IfOk, IfErr};
 ghost use Rattle.g1_words.specs.Live.{IsLiveBytes};
 ghost use Rattle.g1_choose.specs.Choice.{MayBeLive};
-ghost use Rattle.g1_pause.specs.Answer.{IsSetFor, IsEvacuated};
+ghost use Rattle.g1_pause.specs.Answer.{IsSetFor, FaultOfChoice};
 ghost use Rattle.g1_pause.specs.Bought.{IsBought, IsListed};
 
 use crate::before::Before;
@@ -50,7 +50,7 @@ pub fn collection_set<R: Threads + Sync, G: Gate + Sync>(
     ensures set { IfOk result (λ x. IsSetFor settings.now.cost before.now settings.now.choice x.regions.items) }
     ensures bought { IfOk result (λ x. IfSome x.bought (IsBought settings.now.cost settings.now.choice before.now)) }
     ensures listed { IfOk result (λ x. IfNone x.bought (IsListed settings.now.choice)) }
-    ensures refused { IfErr result (λ e. (e ≡ Fault.Memory) ⊎ IsEvacuated settings.now.cost settings.now.choice before.now (Err e)) }
+    ensures refused { IfErr result (λ e. (e ≡ Fault.Memory) ⊎ FaultOfChoice before.now.heap settings.now.choice e) }
 {
     match settings.choice() {
         Choice::Given(list) => {

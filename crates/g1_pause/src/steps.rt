@@ -1,9 +1,9 @@
-ghost use Rattle.std.specs.Prelude.{◌≡◌, ◌⊎◌, map, Err, IfSome, IfNone, IfOk, IfErr};
+ghost use Rattle.std.specs.Prelude.{◌≡◌, ◌⊎◌, map, IfSome, IfNone, IfOk, IfErr};
 ghost use Rattle.g1_words.specs.Heap.{regions};
 ghost use Rattle.g1_words.specs.Survivors.{Survivors};
 ghost use Rattle.g1_image.specs.Cards.{refined};
 ghost use Rattle.g1_rem.specs.EntryCards.{cards_into};
-ghost use Rattle.g1_pause.specs.Answer.{IsEvacuated, IsSetFor};
+ghost use Rattle.g1_pause.specs.Answer.{IsSetFor, FaultOfChoice};
 ghost use Rattle.g1_pause.specs.Bought.{IsBought, IsListed};
 ghost use Rattle.g1_pause.specs.Steps.{IsOutcome};
 
@@ -63,7 +63,7 @@ pub fn take_steps<R: Threads + Sync, G: Gate + Sync>(
     ensures listed { IfOk result (λ x. IfNone x.collection.bought (IsListed settings.now.choice)) }
     ensures cards { IfOk result (λ x. x.cards.items ≡ cards_into before.now.heap (map (refined before.now) (regions before.now.heap)) x.collection.regions.items) }
     ensures outcome { IfOk result (λ x. IsOutcome before.now x.collection.regions.items x.outcome) }
-    ensures refused { IfErr result (λ e. (e ≡ Fault.Memory) ⊎ IsEvacuated settings.now.cost settings.now.choice before.now (Err e)) }
+    ensures refused { IfErr result (λ e. (e ≡ Fault.Memory) ⊎ FaultOfChoice before.now.heap settings.now.choice e) }
 {
     let collection = collection_set(rt, alloc, before, settings, gate)?;
     let set: &[u32] = &collection.regions;
@@ -122,7 +122,7 @@ fn lay_out<R: Threads + Sync>(
     requires cards { cards.now ≡ cards_into before.now.heap (map (refined before.now) (regions before.now.heap)) set.now }
     requires survivors { Survivors before.now.heap set.now survivors.items }
     ensures outcome { IfOk result (λ x. IsOutcome before.now set.now x) }
-    ensures refused { IfErr result (λ e. (e ≡ Fault.Memory) ⊎ IsEvacuated settings.now.cost settings.now.choice before.now (Err e)) }
+    ensures memory { IfErr result (λ e. e ≡ Fault.Memory) }
 {
     g1_layout::laws::placeable();
     match place(alloc, before.image().heap(), set, &survivors) {
@@ -131,7 +131,8 @@ fn lay_out<R: Threads + Sync>(
             need,
             free,
         }),
-        Err(fault) => Err(fault),
+        // The only other fault of a plan.
+        Err(_) => Err(Fault::Memory),
         Ok(plan) => {
             let basis = Basis {
                 tracked: before.tracked(),

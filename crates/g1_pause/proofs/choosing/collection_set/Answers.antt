@@ -9,7 +9,7 @@ use Rattle.g1_pause.proofs.choosing.collection_set.Goals as goal
 pub returns-in_err-regions-in-Given-clause-refused : goal.returns-in_err-regions-in-Given-clause-refused
 returns-in_err-regions-in-Given-clause-refused g c =
     let p = err_from_is_err_and c.from_residual.result c.from_residual.ensures.1 in
-    rw (p.1, p.2) (named_refused {X = ℕ} c.args.settings.now.cost c.args.settings.now.choice c.args.before.now c.heap.result.now c.in-Given.list c.deref.result.now
+    rw (p.1, p.2) (named_refused {X = ℕ} c.args.settings.now.choice c.args.before.now.heap c.heap.result.now c.in-Given.list c.deref.result.now
     (Err c.in_err-regions-in-Given.field-0.0) (sym c.choice.ensures ∙ c.in-Given.is) (c.heap.ensures.same ∙ ap (λ (j : Image). j.heap) c.image.ensures.same)
     c.deref.ensures.value c.in_err-regions-in-Given.ensures.err)
 

@@ -1,4 +1,5 @@
 use Rattle.std.proofs.Common.{inr, ◌∙◌, subst, Err}
+use Rattle.std.proofs.lemmas.Result.{err_from_is_err_and}
 use Rattle.g1_image.specs.Image.{Image}
 use Rattle.g1_words.specs.declared.fault.Fault.TheVariants.{Room}
 use Rattle.g1_copy.specs.Plans.{IsPauseOf}
@@ -6,6 +7,7 @@ use Rattle.g1_copy.specs.Prepared.{IsMadeFor}
 use Rattle.g1_pause.specs.Answer.{IsSetFor, IsEvacuated}
 use Rattle.g1_pause.specs.Steps.{IsOutcome}
 use Rattle.g1_pause.proofs.Planning.{refused_for_room}
+use Rattle.g1_pause.proofs.Refused.{choice_refused}
 use Rattle.g1_pause.proofs.Reported.{told_of}
 use Rattle.g1_pause.proofs.evacuating.plan_pause.Goals as goal
 
@@ -15,6 +17,12 @@ returns-in-NoRoom-clause-refused g c =
     inr (subst (λ (i : Image). IsEvacuated c.args.settings.now.cost c.args.settings.now.choice i (Err (Room c.in-NoRoom.need c.in-NoRoom.free))) c.in_ok-before.ensures.image
     (refused_for_room c.args.settings.now.cost c.args.settings.now.choice c.in_ok-before.before set c.in-NoRoom.survivors.items c.in-NoRoom.need c.in-NoRoom.free
     c.in_ok-collection.ensures.set (subst (IsOutcome c.in_ok-before.before set) c.in-NoRoom.is c.in_ok-collection.ensures.outcome)))
+
+pub returns-in_err-collection-clause-refused : goal.returns-in_err-collection-clause-refused
+returns-in_err-collection-clause-refused g c =
+    let p = err_from_is_err_and c.from_residual-in_err-collection.result c.from_residual-in_err-collection.ensures.1 in
+    rw (p.1, p.2) (choice_refused c.args.settings.now.cost c.args.settings.now.choice c.args.tracked.now c.in_ok-before.before c.in_err-collection.field-0.0
+    c.in_ok-before.ensures.image c.in_err-collection.ensures.refused)
 
 pub returns-clause-report : goal.returns-clause-report
 returns-clause-report g c =

@@ -3,7 +3,7 @@ use Rattle.g1_words.specs.Survivors.{Survivors}
 use Rattle.g1_image.specs.Image.{Image}
 use Rattle.g1_copy.specs.Plans.{IsPauseOf}
 use Rattle.g1_copy.specs.Prepared.{IsMadeFor}
-use Rattle.g1_pause.proofs.Planning.{set_places, set_planned, set_lacks_room, set_refused}
+use Rattle.g1_pause.proofs.Planning.{set_places, set_planned, set_lacks_room}
 use Rattle.g1_pause.proofs.steps.lay_out.Goals as goal
 
 pub place-requires : goal.place-requires
@@ -39,10 +39,3 @@ returns-in-Err-Room-clause-outcome g c =
     rw (c.in-Err-Room.need-is, c.in-Err-Room.free-is) (set_lacks_room c.args.settings.now.cost c.args.settings.now.choice c.args.before.now c.heap.result.now he c.args.set.now c.requires.set
     c.deref.result.now c.args.survivors.items c.place.result c.in-Err-Room.need c.in-Err-Room.free (c.in-Err-Room.is ∙ ap Err c.in-Err-Room.field-0-is) c.deref.ensures.value c.requires.survivors
     c.place.ensures.room c.place.ensures.memory)
-
-pub returns-in-Err-clause-refused : goal.returns-in-Err-clause-refused
-returns-in-Err-clause-refused g c =
-    let he : c.heap.result.now ≡ c.args.before.now.heap = c.heap.ensures.same ∙ ap (λ (j : Image). j.heap) c.image.ensures.same in
-    set_refused c.args.settings.now.cost c.args.settings.now.choice c.args.before.now c.heap.result.now he c.args.set.now c.requires.set
-    c.args.set.now c.deref.result.now c.args.survivors.items c.place.result c.in-Err.fault c.in-Err.is refl c.deref.ensures.value
-    (subst (λ h. Survivors h c.args.set.now c.args.survivors.items) (sym he) c.requires.survivors) c.place.ensures.room c.place.ensures.memory
