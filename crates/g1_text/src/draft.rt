@@ -163,7 +163,7 @@ impl Draft {
         ensures { 0 < self.old.beyond → Becomes result (content self.new) (record (content self.old) { regions = (content self.old).regions ++ record { kind = Kind.Continuation; top = min self.old.geometry.w self.old.beyond; pinned = false } ∷ []; beyond = self.old.beyond - min self.old.geometry.w self.old.beyond }) }
     {
         if self.beyond == 0 {
-            return Err(Expected::NoContinuation.into());
+            return Err(Refusal::Expected(Expected::NoContinuation));
         }
         self.continue_run()?;
         Ok(())

@@ -3,10 +3,9 @@ ghost use Rattle.std.specs.Prelude.{◌≡◌};
 use g1_words::Fault;
 use std::alloc::{AllocError, AllocFailed};
 use std::fmt;
-use thiserror::Error;
 
 /// What should be in a line instead of what is there.
-#[derive(Debug, Clone, Copy)]
+#[derive(Clone, Copy)]
 pub enum Expected {
     Text,
     Heading,
@@ -114,15 +113,19 @@ impl fmt::Display for Expected {
     }
 }
 
+impl fmt::Debug for Expected {
+    fn fmt<W: fmt::Write>(&self, f: &mut fmt::Formatter<W>) -> fmt::Result {
+        fmt::Display::fmt(self, f)
+    }
+}
+
 impl std::error::Error for Expected {}
 
 /// Why lines are no image.
-#[derive(Debug, Clone, Copy, Error)]
+#[derive(Debug, Clone, Copy)]
 pub enum Wrong {
     /// The line of this number, counted from 1.
-    #[error("line {number}: expected {expected}")]
     Line { number: u64, expected: Expected },
-    #[error("{0}")]
     Fault(Fault),
 }
 

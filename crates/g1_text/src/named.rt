@@ -52,6 +52,14 @@ pub fn is_graph(text: &[u8]) -> bool {
 /// The first line that is not what is expected there, by its number, and what is expected. `Fault::Memory` else.
 pub fn read_graph<'a>(alloc: Global, text: &'a [u8]) -> Result<Graph<'a>, Wrong> {
     let mut lines = read_lines(alloc, text)?;
+    match lay_out(alloc, &mut lines) {
+        Ok(mut draft) => fill(alloc, &mut draft, &lines),
+        Err(refusal) => Err(refusal.at(lines.heading)),
+    }
+}
+
+// Fills the places that were found.
+fn fill<'a>(alloc: Global, draft: &mut Draft, lines: &Lines<'a>) -> Result<Graph<'a>, Wrong> {
     let mut graph = Graph {
         text: Vec::new(alloc),
         names: Vec::new(alloc),
@@ -59,30 +67,11 @@ pub fn read_graph<'a>(alloc: Global, text: &'a [u8]) -> Result<Graph<'a>, Wrong>
         stale_slots: Vec::new(alloc),
         first_stale: None,
     };
-    fill(alloc, &mut graph, &mut lines)?;
-    Ok(graph)
-}
-
-// Finds a place for each object, and fills the graph.
-fn fill<'a>(alloc: Global, graph: &mut Graph<'a>, lines: &mut Lines<'a>) -> Result<(), Wrong> {
-    match lay_out(alloc, lines) {
-        Ok(mut draft) => fill_places(alloc, graph, &mut draft, lines),
-        Err(refusal) => Err(refusal.at(lines.heading)),
-    }
-}
-
-// Fills the places that were found.
-fn fill_places<'a>(
-    alloc: Global,
-    graph: &mut Graph<'a>,
-    draft: &mut Draft,
-    lines: &Lines<'a>,
-) -> Result<(), Wrong> {
-    fill_roots(graph, &mut draft.roots, lines)?;
-    fill_objects(alloc, graph, draft, lines)?;
+    fill_roots(&mut graph, &mut draft.roots, lines)?;
+    fill_objects(alloc, &mut graph, draft, lines)?;
     cover(draft)?;
     graph.text = pack(alloc, draft)?;
-    Ok(())
+    Ok(graph)
 }
 
 /// The bytes of the image that lines of objects by name describe.
@@ -151,7 +140,7 @@ impl<'a> Lines<'a> {
         line: &'a [u8],
     ) -> Result<(), Refusal> {
         let Ok(line) = str::from_utf8(line) else {
-            return Err(Expected::Text.into());
+            return Err(Refusal::Expected(Expected::Text));
         };
         cut_words(words, line)?;
         self.read_words(number, line, words.as_slice())
@@ -171,21 +160,21 @@ impl<'a> Lines<'a> {
         match *first {
             "root" => match rest {
                 [name] => self.add_root(number, name),
-                _ => Err(Expected::NamedRoot.into()),
+                _ => Err(Refusal::Expected(Expected::NamedRoot)),
             },
             "object" => match rest {
                 [name, size, ..] => self.add_object(number, line, name, size),
-                [_] => Err(Expected::Size.into()),
-                [] => Err(Expected::Name.into()),
+                [_] => Err(Refusal::Expected(Expected::Size)),
+                [] => Err(Refusal::Expected(Expected::Name)),
             },
-            _ => Err(Expected::GraphLine.into()),
+            _ => Err(Refusal::Expected(Expected::GraphLine)),
         }
     }
 
     // graph [W K N]
     fn begin(&mut self, number: u64, first: &str, told: &[&str]) -> Result<(), Refusal> {
         if first != "graph" {
-            return Err(Expected::Graph.into());
+            return Err(Refusal::Expected(Expected::Graph));
         }
         self.heading = number;
         if !told.is_empty() {
@@ -198,7 +187,7 @@ impl<'a> Lines<'a> {
     fn add_root(&mut self, number: u64, name: &'a str) -> Result<(), Refusal> {
         let most = u64::from(MOST_ROOTS);
         if self.roots.len() as u64 >= most {
-            return Err(Expected::Roots(most).into());
+            return Err(Refusal::Expected(Expected::Roots(most)));
         }
         self.roots.push((number, name))?;
         Ok(())
@@ -213,12 +202,12 @@ impl<'a> Lines<'a> {
         size: &str,
     ) -> Result<(), Refusal> {
         if matches!(name, "-" | "..") {
-            return Err(Expected::Name.into());
+            return Err(Refusal::Expected(Expected::Name));
         }
         let (size, slots) = short_size(size)?;
         let place = self.entries.len() as u64;
         if self.places.insert(name, place)?.is_some() {
-            return Err(Expected::NewName.into());
+            return Err(Refusal::Expected(Expected::NewName));
         }
         self.entries.push(Entry {
             name,
@@ -268,7 +257,7 @@ fn short_size(text: &str) -> Result<(u32, u32), Expected> {
 fn lay_out(alloc: Global, lines: &mut Lines<'_>) -> Result<Draft, Refusal> {
     let geometry = match sizes_of(lines) {
         Ok(geometry) => geometry,
-        Err(expected) => return Err(expected.into()),
+        Err(expected) => return Err(Refusal::Expected(expected)),
     };
     let heading = Heading {
         line: lines.heading,

@@ -1,4 +1,4 @@
-ghost use Rattle.std.specs.Prelude.{◌≡◌, ◌<◌, ◌+◌, ◌^◌, ℕ, Bool, List, [], ◌∷◌, ◌++◌, Option, None, Some, Ok, true, false, IsUtf8, length, map, replicate, decimal, codes, All, IsTrue, IfSome, IfOk, IfErr, OnOk, MatchOption, MatchResult};
+ghost use Rattle.std.specs.Prelude.{◌≡◌, ◌<◌, ◌+◌, ◌^◌, ℕ, Bool, List, [], ◌∷◌, ◌++◌, Option, None, Some, Ok, true, false, IsUtf8, length, map, replicate, decimal, codes, All, IsTrue, IfSome, IfOk, OnOk, MatchOption, MatchResult};
 ghost use Rattle.g1_words.specs.declared.region.Kind.{Kind as KindOf};
 ghost use Rattle.g1_words.specs.declared.region.Region.{Region as RegionOf};
 ghost use Rattle.g1_words.specs.Kind.{kind_word};
@@ -81,7 +81,7 @@ fn read_line<'a>(
     ensures nothing { IsUtf8 line.now → says_something (words_in line.now) ≡ false → MatchResult result (λ _. said draft.new ≡ said draft.old) (λ e. e ≡ Refusal.Memory) }
 {
     let Ok(line) = str::from_utf8(line) else {
-        return Err(Expected::Text.into());
+        return Err(Refusal::Expected(Expected::Text));
     };
     cut_words(words, line)?;
     read_words(alloc, draft, number, Words::new(words.as_slice()))
@@ -130,12 +130,12 @@ fn begin(alloc: Global, first: &str, mut words: Words<'_>, line: u64) -> Result<
     ensures { (c : Content) → Begins (first.now ∷ words.entry) c → MatchResult result (λ d. content d ≡ c) (λ e. e ≡ Refusal.Memory) }
 {
     if first != "heap" {
-        return Err(Expected::Heading.into());
+        return Err(Refusal::Expected(Expected::Heading));
     }
     let told = sizes(&mut words)?;
     let (heading, current) = heading(words, line)?;
     let Ok(geometry) = Geometry::new(told.w, told.k, told.n) else {
-        return Err(Expected::Sizes.into());
+        return Err(Refusal::Expected(Expected::Sizes));
     };
     Draft::new(alloc, geometry, current, heading)
 }
@@ -204,7 +204,7 @@ impl Draft {
             "region" => self.add_region(words, line),
             "remembered" => self.add_remembered(words, line),
             "object" => self.add_object(words, line),
-            _ => Err(Expected::Line.into()),
+            _ => Err(Refusal::Expected(Expected::Line)),
         }
     }
 
@@ -215,7 +215,7 @@ impl Draft {
         let next = self.roots.len() as u64;
         let most = u64::from(MOST_ROOTS);
         if next >= most {
-            return Err(Expected::Roots(most).into());
+            return Err(Refusal::Expected(Expected::Roots(most)));
         }
         let reference = root(words, next)?;
         self.roots.push(reference)?;
@@ -246,7 +246,7 @@ impl Draft {
         let region = words.number("region")?;
         let last = self.geometry.regions().saturating_sub(1);
         let Some(set) = self.remembered.get_mut(region as usize) else {
-            return Err(Expected::Region(0, last).into());
+            return Err(Refusal::Expected(Expected::Region(0, last)));
         };
         add_cards(words, set)?;
         set_line(&mut self.lines.remembered, region as usize, line);
@@ -271,17 +271,17 @@ impl Draft {
     fn begin_region(&mut self, told: Option<u64>, kind: Kind) -> Result<usize, Refusal>
         ensures { told ≡ Some (length (content self.old).regions) → length (content self.old).regions < self.old.geometry.n → MayFollow (content self.old) kind → MatchResult result (λ r. (r ≡ length (content self.old).regions) × (content self.new ≡ with_region (content self.old) kind)) (λ e. e ≡ Refusal.Memory) }
     {
-        if kind.is_continuation() {
-            let region = self.region_number(told)?;
-            self.continue_run_to(region)?;
-            Ok(region as usize)
-        } else {
+        if !kind.is_continuation() {
             self.close_run()?;
-            let region = self.region_number(told)?;
+        }
+        let region = self.region_number(told)?;
+        if kind.is_continuation() {
+            self.continue_run_to(region)?;
+        } else {
             self.fill_up_to(region)?;
             self.add_empty(kind)?;
-            Ok(region as usize)
         }
+        Ok(region as usize)
     }
 
     // The number of a region behind the last one: the next one, unless a line has another.
