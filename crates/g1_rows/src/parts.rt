@@ -39,7 +39,7 @@ struct Laying {
 impl Laying {
     fn push_line(&mut self, alloc: Global, line: &str, pictures: &[Picture]) -> Result<(), Fault> {
         let word = first_word(line);
-        if word == "heap" || !is_drawn(word) || self.drawing.is_empty() {
+        if !DRAWN.contains(&word) {
             self.finish(alloc)?;
         }
         if word == "heap" || !self.drawing.is_empty() {
@@ -92,10 +92,6 @@ pub fn parts_of(alloc: Global, lines: &str, pictures: &[Picture]) -> Result<Vec<
     laying.finish(alloc)?;
     let Laying { parts, .. } = laying;
     Ok(parts)
-}
-
-fn is_drawn(word: &str) -> bool {
-    DRAWN.contains(&word)
 }
 
 /// What a line begins with, up to a space.

@@ -5,7 +5,7 @@
 //! - In a row of many cases each line below `----` is `WORD .. => ANSWER`, for further words, or `PART => ANSWER`, for
 //!   what is on standard input: a `text`, an `image` or `raw` bytes.
 use crate::parts::{BAD, first_word, push_line};
-use crate::programs::{is_program, miss_of};
+use crate::programs::{is_program, is_so};
 use crate::rows::{Trial, first_line};
 use g1_words::Fault;
 use std::alloc::{AllocError, Global};
@@ -93,9 +93,11 @@ fn miss_text<R: Threads + Files + Sync>(
     given: &str,
     expected: &str,
 ) -> Result<Option<String>, Fault> {
-    let Some(left) = miss_of(trial, line, given, expected)? else {
+    let mut text = format!(in trial.alloc; "{line}\n")?;
+    if is_so(trial, line, given, expected, &mut text)? {
         return Ok(None);
-    };
+    }
     let expected = expected.trim_end_matches('\n');
-    Ok(Some(format!(in trial.alloc; "{line}\n{left}in place of\n{expected}\n")?))
+    write!(text, "in place of\n{expected}\n")?;
+    Ok(Some(text))
 }

@@ -18,11 +18,11 @@ use std::{fs, io};
 /// The names of the programs.
 const NAMES: [&str; 3] = ["g1pause", "g1heap", "g1heap_at_terminal"];
 
-/// What a program left on its streams.
+/// What a program left: its status, standard output, and what is on standard error.
 #[derive(Drop)]
 struct Left {
     status: u8,
-    out: Vec<u8>,
+    writer: Stream,
     errors: Vec<u8>,
 }
 
@@ -31,27 +31,26 @@ pub fn is_program(name: &str) -> bool {
     NAMES.contains(&name)
 }
 
-/// What a program left that is called by a line of its words, if it is not what the row expects.
+/// Whether a program that is called by a line of its words leaves what the row expects. If it doesn't, `why` says what it
+/// left.
 ///
 /// # Errors
 ///
 /// `Fault::Line` if a line is not understood; `Fault::Device` if a file cannot be written, read or removed; `Fault::Memory`.
-pub fn miss_of<R: Threads + Files + Sync>(
+pub fn is_so<R: Threads + Files + Sync>(
     trial: &Trial<'_, R>,
     line: &str,
     given: &str,
     expected: &str,
-) -> Result<Option<String>, Fault> {
+    why: &mut String,
+) -> Result<bool, Fault> {
     let before = Scene::of_lines(trial.alloc, given)?;
     let after = Scene::of_lines(trial.alloc, expected)?;
     write_files(trial, before.files.as_slice())?;
-    let miss = match before.devices {
-        Devices::EachRead | Devices::EachWrite => miss_of_each(trial, line, &before, &after),
-        _ => miss_of_one(trial, line, &before, &after),
-    };
+    let is_so = are_runs_so(trial, line, &before, &after, why);
     remove_files(trial.rt, before.files.as_slice())?;
     remove_files(trial.rt, after.files.as_slice())?;
-    miss
+    is_so
 }
 
 fn write_files<R: Files>(trial: &Trial<'_, R>, files: &[Content]) -> Result<(), Fault> {
@@ -83,71 +82,72 @@ fn remove_files<R: Files>(rt: &R, files: &[Content]) -> Result<(), Fault> {
     Ok(())
 }
 
-fn miss_of_one<R: Threads + Files + Sync>(
+fn are_runs_so<R: Threads + Files + Sync>(
     trial: &Trial<'_, R>,
     line: &str,
     before: &Scene,
     after: &Scene,
-) -> Result<Option<String>, Fault> {
-    let left = left_by(trial, line, before)?;
+    why: &mut String,
+) -> Result<bool, Fault> {
+    let input = before.stream.bytes(trial.alloc, trial.pictures)?;
     let wanted = after.stream.bytes(trial.alloc, trial.pictures)?;
-    compare(trial, &left, &wanted, after)
+    let last = match before.devices {
+        Devices::EachRead => input.len(),
+        Devices::EachWrite => wanted.len(),
+        _ => 0,
+    };
+    for at in 0..=last {
+        let left = left_by(trial, line, before, input.as_slice(), at)?;
+        let taken = match before.devices {
+            Devices::EachWrite => at,
+            _ => usize::MAX,
+        };
+        let wanted = &wanted[..wanted.len().min(taken)];
+        if !is_as_wanted(trial, &left, wanted, after, why)? {
+            return Ok(false);
+        }
+    }
+    Ok(true)
 }
 
+/// What a program leaves in a run; the stream that fails does so from the call of this number on.
 fn left_by<R: Threads + Files + Sync>(
     trial: &Trial<'_, R>,
     line: &str,
     before: &Scene,
-) -> Result<Left, Fault> {
-    let bytes = before.stream.bytes(trial.alloc, trial.pictures)?;
-    let is_given = before.stream.is_there;
-    let mut reader = if is_given {
-        Stream::of(bytes, usize::MAX)
-    } else {
-        Stream::new(bytes, 0, Trouble::Broken)
+    input: &[u8],
+    at: usize,
+) -> Result<Left, AllocError> {
+    let mut left = Left {
+        status: 0,
+        writer: writer_of(trial.alloc, before.devices, at),
+        errors: Vec::new(trial.alloc),
     };
-    let writer = writer_of(trial.alloc, before.devices);
-    let mut left = call(trial, line, &mut reader, writer)?;
-    if !is_given && reader.calls > 0 {
+    let mut reader = reader_of(input.to_vec(trial.alloc)?, before, at);
+    run(trial, line, &mut reader, &mut left)?;
+    if before.is_closed() && reader.calls > 0 {
         left.errors.extend_from_slice(b"standard input was read\n")?;
     }
     Ok(left)
 }
 
-fn writer_of(alloc: Global, devices: Devices) -> Stream {
-    let bytes = Vec::new(alloc);
-    match devices {
-        Devices::Gone => Stream::of(bytes, 1).with_errors(1, ErrorKind::BrokenPipe),
-        _ => Stream::of(bytes, usize::MAX),
+fn reader_of(input: Vec<u8>, before: &Scene, at: usize) -> Stream {
+    match before.devices {
+        Devices::EachRead => Stream::new(input, at, Trouble::Broken),
+        Devices::EachWrite => Stream::new(input, usize::MAX, Trouble::Broken),
+        _ if before.is_closed() => Stream::new(input, 0, Trouble::Broken),
+        _ => Stream::of(input, usize::MAX),
     }
 }
 
-/// What a program left in the first run that is not as expected, of those in which a stream fails from some call on.
-fn miss_of_each<R: Threads + Files + Sync>(
-    trial: &Trial<'_, R>,
-    line: &str,
-    before: &Scene,
-    after: &Scene,
-) -> Result<Option<String>, Fault> {
-    let input = before.stream.bytes(trial.alloc, trial.pictures)?;
-    let wanted = after.stream.bytes(trial.alloc, trial.pictures)?;
-    let is_read = matches!(before.devices, Devices::EachRead);
-    let last = if is_read { input.len() } else { wanted.len() };
-    for at in 0..=last {
-        let (reads, writes) = if is_read {
-            (at, usize::MAX)
-        } else {
-            (usize::MAX, at)
-        };
-        let mut reader = Stream::new(input.clone()?, reads, Trouble::Broken);
-        let writer = Stream::new(Vec::new(trial.alloc), writes, Trouble::Broken);
-        let left = call(trial, line, &mut reader, writer)?;
-        let miss = compare(trial, &left, &wanted[..wanted.len().min(writes)], after)?;
-        if miss.is_some() {
-            return Ok(miss);
-        }
+fn writer_of(alloc: Global, devices: Devices, at: usize) -> Stream {
+    let bytes = Vec::new(alloc);
+    match devices {
+        Devices::EachRead => Stream::new(bytes, usize::MAX, Trouble::Broken),
+        Devices::EachWrite => Stream::new(bytes, at, Trouble::Broken),
+        Devices::Gone => Stream::of(bytes, 1).with_errors(1, ErrorKind::BrokenPipe),
+        Devices::Well => Stream::of(bytes, usize::MAX),
     }
-    Ok(None)
 }
 
 /// The words of a line behind the first one.
@@ -159,18 +159,18 @@ fn words_of(alloc: Global, line: &str) -> Result<Vec<String>, AllocError> {
     Ok(words)
 }
 
-fn call<R: Threads + Files + Sync>(
+fn run<R: Threads + Files + Sync>(
     trial: &Trial<'_, R>,
     line: &str,
     reader: &mut Stream,
-    mut writer: Stream,
-) -> Result<Left, AllocError> {
+    left: &mut Left,
+) -> Result<(), AllocError> {
     let (rt, alloc) = (trial.rt, trial.alloc);
     let words = words_of(alloc, line)?;
     let words = words.as_slice();
-    let mut errors = Vec::new(alloc);
-    let status = if line.starts_with("g1pause") {
-        g1pause_cli::program(rt, alloc, words, reader, &mut writer, &mut errors)
+    let (writer, errors) = (&mut left.writer, &mut left.errors);
+    left.status = if line.starts_with("g1pause") {
+        g1pause_cli::program(rt, alloc, words, reader, writer, errors)
     } else {
         let is_at_terminal = line.starts_with("g1heap_at_terminal");
         let terminals = Terminals {
@@ -178,39 +178,36 @@ fn call<R: Threads + Files + Sync>(
             output: is_at_terminal,
         };
         let call = g1heap_cli::Call { words, terminals };
-        g1heap_cli::program(rt, alloc, call, reader, &mut writer, &mut errors)
+        g1heap_cli::program(rt, alloc, call, reader, writer, errors)
     };
-    let Stream { bytes: out, .. } = writer;
-    Ok(Left {
-        status,
-        out,
-        errors,
-    })
+    Ok(())
 }
 
-/// What was left, as lines, if it is not what has to be.
-fn compare<R: Files>(
+/// Whether a program left these bytes on standard output, and else what it has to leave.
+fn is_as_wanted<R: Files>(
     trial: &Trial<'_, R>,
     left: &Left,
     wanted: &[u8],
     after: &Scene,
-) -> Result<Option<String>, Fault> {
-    let errors = after.errors.as_slice();
+    why: &mut String,
+) -> Result<bool, Fault> {
+    let errors = left.errors.as_slice();
     let is_told = if after.is_usage {
-        left.errors.starts_with(b"error: ")
+        errors.starts_with(b"error: ")
     } else {
-        fits(left.errors.as_slice(), errors)
+        fits(errors, after.errors.as_slice())
     };
-    if left.status != after.status || !is_told || !fits(left.out.as_slice(), wanted) {
-        return Ok(Some(left_text(trial.alloc, left)?));
+    if left.status != after.status || !is_told || !fits(left.writer.bytes.as_slice(), wanted) {
+        push_left(why, left)?;
+        return Ok(false);
     }
     for file in after.files.iter() {
         if !is_as_expected(trial, file)? {
-            let name = file.name.as_str();
-            return Ok(Some(format!(in trial.alloc; "the file {name} is another one\n")?));
+            write!(why, "the file {} is another one\n", file.name)?;
+            return Ok(false);
         }
     }
-    Ok(None)
+    Ok(true)
 }
 
 fn is_as_expected<R: Files>(trial: &Trial<'_, R>, file: &Content) -> Result<bool, Fault> {
@@ -228,12 +225,9 @@ fn read_file<R: Files>(rt: &R, alloc: Global, name: &str) -> io::Result<Vec<u8>>
     Ok(bytes)
 }
 
-fn left_text(alloc: Global, left: &Left) -> Result<String, AllocError> {
-    let mut text = String::new(alloc);
-    let status = left.status;
-    write!(text, "it left status {status}, standard error\n")?;
-    push_shown(&mut text, left.errors.as_slice())?;
+fn push_left(text: &mut String, left: &Left) -> Result<(), AllocError> {
+    write!(text, "it left status {}, standard error\n", left.status)?;
+    push_shown(text, left.errors.as_slice())?;
     text.push_str("and standard output\n")?;
-    push_shown(&mut text, left.out.as_slice())?;
-    Ok(text)
+    push_shown(text, left.writer.bytes.as_slice())
 }

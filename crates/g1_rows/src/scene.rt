@@ -13,7 +13,7 @@
 //! - `usage`: status 2, and a standard error that begins with `error: `.
 use crate::parts::{BAD, Picture, join, parts_of, push_line, unescape};
 use g1_words::Fault;
-use std::alloc::{AllocError, Global};
+use std::alloc::Global;
 
 /// What a stream or a file has, by its lines.
 #[derive(Drop)]
@@ -24,12 +24,12 @@ pub struct Content {
 }
 
 impl Content {
-    fn new(alloc: Global, name: &str, is_there: bool) -> Result<Content, AllocError> {
-        Ok(Content {
-            name: String::from_str(alloc, name)?,
+    fn new(alloc: Global, name: String, is_there: bool) -> Content {
+        Content {
+            name,
             is_there,
             lines: String::new(alloc),
-        })
+        }
     }
 
     fn push(&mut self, line: &str) -> Result<(), Fault> {
@@ -77,13 +77,12 @@ impl Scene {
     ///
     /// `Fault::Line` if a line is not understood; `Fault::Memory`.
     pub fn of_lines(alloc: Global, lines: &str) -> Result<Scene, Fault> {
-        let stream = Content::new(alloc, "", false)?;
         let mut scene = Scene {
             devices: Devices::Well,
             status: 0,
             errors: Vec::new(alloc),
             is_usage: false,
-            stream,
+            stream: Content::new(alloc, String::new(alloc), false),
             files: Vec::new(alloc),
             is_in_file: false,
         };
@@ -91,6 +90,11 @@ impl Scene {
             scene.push_with_status(alloc, line)?;
         }
         Ok(scene)
+    }
+
+    /// Whether standard input must not be read.
+    pub fn is_closed(&self) -> bool {
+        !self.stream.is_there && matches!(self.devices, Devices::Well | Devices::Gone)
     }
 
     /// Adds a line, which may begin with the status.
@@ -142,7 +146,8 @@ impl Scene {
 
     fn begin_file(&mut self, alloc: Global, name: &str, is_there: bool) -> Result<(), Fault> {
         self.is_in_file = true;
-        Ok(self.files.push(Content::new(alloc, name, is_there)?)?)
+        let name = String::from_str(alloc, name)?;
+        Ok(self.files.push(Content::new(alloc, name, is_there))?)
     }
 
     fn push_part(&mut self, line: &str) -> Result<(), Fault> {
