@@ -1,5 +1,5 @@
 //! Files on the command line.
-use crate::refusal::{of_file, unopenable};
+use crate::refusal::{UNOPENABLE, of_file, told};
 use crate::stale::{Stale, null_stale};
 use g1_command::{Refusal, read_all};
 use g1_image::{FromReader, Image, decode, read};
@@ -41,9 +41,11 @@ pub fn read_image<T: Files, R: Read>(
     with_name(alloc, name, read(alloc, &mut FromReader::new(file)))
 }
 
-/// An image after a pause.
+/// What a file that is compared has.
 #[derive(Drop)]
-pub enum After {
+pub enum Found {
+    /// Lines of objects by name.
+    Lines(Vec<u8>),
     Image(Image),
     /// What is no image only because words reference no object: with these words null it is one.
     Stale {
@@ -52,14 +54,6 @@ pub enum After {
         /// The fault of what was read.
         fault: Fault,
     },
-}
-
-/// What a file that is compared has.
-#[derive(Drop)]
-pub enum Found {
-    /// Lines of objects by name.
-    Lines(Vec<u8>),
-    Image(After),
 }
 
 /// What is in a file, or what the reader gives. A file whose fault is a reference or
@@ -73,7 +67,7 @@ pub fn read_side<T: Files, R: Read>(
     if name != STANDARD_STREAM && is_file(rt, name) && !has_lines(rt, alloc, name)? {
         let file = open_file(rt, alloc, name)?;
         match read(alloc, &mut FromReader::new(file)) {
-            Ok(image) => return Ok(Found::Image(After::Image(image))),
+            Ok(image) => return Ok(Found::Image(image)),
             // Lines may begin behind the bytes that were looked at.
             Err(Fault::Reference(_)) | Err(Fault::Magic) => (),
             Err(fault) => return Err(of_file(alloc, name, fault)),
@@ -83,7 +77,7 @@ pub fn read_side<T: Files, R: Read>(
     if is_graph(bytes.as_slice()) {
         return Ok(Found::Lines(bytes));
     }
-    Ok(Found::Image(after_of(alloc, name, &mut bytes)?))
+    found_in(alloc, name, &mut bytes)
 }
 
 // How many bytes of a file are looked at for the first word of lines.
@@ -103,13 +97,13 @@ fn is_file<T: Files>(rt: &T, name: &str) -> bool {
     }
 }
 
-fn after_of(alloc: Global, name: &str, bytes: &mut [u8]) -> Result<After, Refusal> {
+fn found_in(alloc: Global, name: &str, bytes: &mut [u8]) -> Result<Found, Refusal> {
     match decode(alloc, bytes) {
-        Ok(image) => Ok(After::Image(image)),
-        Err(fault) => match fault {
-            Fault::Reference(_) => without_stale(alloc, name, bytes, fault),
-            _ => Err(of_file(alloc, name, fault)),
-        },
+        Ok(image) => Ok(Found::Image(image)),
+        Err(fault) if matches!(fault, Fault::Reference(_)) => {
+            without_stale(alloc, name, bytes, fault)
+        }
+        Err(fault) => Err(of_file(alloc, name, fault)),
     }
 }
 
@@ -119,12 +113,12 @@ fn without_stale(
     name: &str,
     bytes: &mut [u8],
     fault: Fault,
-) -> Result<After, Refusal> {
+) -> Result<Found, Refusal> {
     let Some(stale) = null_stale(alloc, bytes)? else {
         return Err(of_file(alloc, name, fault));
     };
     match decode(alloc, bytes) {
-        Ok(image) => Ok(After::Stale {
+        Ok(image) => Ok(Found::Stale {
             image,
             stale,
             fault,
@@ -147,6 +141,6 @@ pub fn open_file<T: Files>(rt: &T, alloc: Global, name: &str) -> Result<T::File,
     match fs::open(rt, name) {
         Ok(file) => Ok(file),
         Err(error) if error.kind() == ErrorKind::OutOfMemory => Err(Fault::Memory.into()),
-        Err(_) => Err(unopenable(alloc, name)),
+        Err(_) => Err(told(alloc, 7, name, UNOPENABLE)),
     }
 }

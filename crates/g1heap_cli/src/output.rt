@@ -1,6 +1,6 @@
 //! Where an answer goes.
 use crate::files::STANDARD_STREAM;
-use crate::refusal::{of_file, unwritable};
+use crate::refusal::{UNWRITABLE, of_file, told};
 use g1_command::Refusal;
 use g1_words::{Device, Fault};
 use std::alloc::{AllocError, Global};
@@ -99,14 +99,14 @@ fn free_name<T: Files>(rt: &T, alloc: Global, name: &str) -> Result<String, Refu
             }
         }
     }
-    Err(unwritable(alloc, name))
+    Err(told(alloc, 7, name, UNWRITABLE))
 }
 
 fn failure(alloc: Global, name: &str, error: &io::Error) -> Refusal {
     if error.kind() == ErrorKind::OutOfMemory {
         return Fault::Memory.into();
     }
-    unwritable(alloc, name)
+    told(alloc, 7, name, UNWRITABLE)
 }
 
 // What was opened or renamed for the file of this name.

@@ -54,8 +54,12 @@ fn tie_word(
 
 fn is_list(word: &str) -> bool {
     let bytes = word.as_bytes();
+    for byte in bytes {
+        if !matches!(*byte, b'0'..=b'9' | b',' | b'-') {
+            return false;
+        }
+    }
     matches!(bytes.first(), Some(b'0'..=b'9'))
-        && bytes.iter().all(|byte| byte.is_ascii_digit() || matches!(*byte, b',' | b'-'))
 }
 
 /// The regions that these lists name, in their order. They need not be those of an image.
@@ -87,26 +91,27 @@ fn push_part(
 ) -> Result<(), Misuse> {
     // A region alone is a range of one.
     let (first, last) = part.split_once('-').unwrap_or((part, part));
-    let (first, last) = (region_in(alloc, set, first)?, region_in(alloc, set, last)?);
-    if last < first || last - first >= MOST {
-        return Err(no_range(alloc, set, part)?);
+    let first = region_in(alloc, set, first)?;
+    let last = region_in(alloc, set, last)?;
+    match last.checked_sub(first) {
+        Some(more) if more < MOST => push_range(first, last, regions),
+        _ => refuse_range(alloc, set, part),
     }
-    Ok(push_range(first, last, regions)?)
 }
 
 // No heap has this many regions.
 const MOST: u32 = 65_536;
 
-fn push_range(first: u32, last: u32, regions: &mut Vec<u32>) -> Result<(), AllocError> {
+fn push_range(first: u32, last: u32, regions: &mut Vec<u32>) -> Result<(), Misuse> {
     for region in first..=last {
         regions.push(region)?;
     }
     Ok(())
 }
 
-fn no_range(alloc: Global, set: &Argument, part: &str) -> Result<Misuse, AllocError> {
+fn refuse_range(alloc: Global, set: &Argument, part: &str) -> Result<(), Misuse> {
     let shown = set.shown(alloc)?;
-    Ok(Misuse::Value(format!(in alloc;
+    Err(Misuse::Value(format!(in alloc;
         "invalid value '{part}' for '{shown}': a range rises, over at most {MOST} regions"
     )?))
 }

@@ -6,7 +6,7 @@ use crate::names::Names;
 use crate::options::Same;
 use crate::reaching::{Path, first_stale};
 use crate::refusal::{no_region, not_for_lines, of_file, wrong_line};
-use crate::sides::{Side, Strays, check_whole, open_image, open_lines, refuse_lines};
+use crate::sides::{Side, Strays, check_whole, open_image, open_lines, open_stale, refuse_lines};
 use crate::stale::Stale;
 use crate::young::with_dirty;
 use g1_choose::given;
@@ -15,7 +15,7 @@ use g1_image::Image;
 use g1_kept::{Lost, kept};
 use g1_rem::verify;
 use g1_same::{Difference, Renaming, compare};
-use g1_words::{Fault, Heap, Kind};
+use g1_words::{Heap, Kind};
 use std::alloc::{AllocError, Global};
 use std::io::Read;
 use std::rt::Files;
@@ -67,7 +67,12 @@ fn read_and_open<'a, T: Files, R: Read>(
             *lines = bytes;
             open_lines(alloc, name, lines.as_slice())
         }
-        Found::Image(after) => Ok(open_image(alloc, after)),
+        Found::Image(image) => Ok(open_image(image)),
+        Found::Stale {
+            image,
+            stale,
+            fault,
+        } => Ok(open_stale(alloc, image, stale, fault)),
     }
 }
 
@@ -406,16 +411,9 @@ fn push_cover<T: Threads + Sync>(
     text: &mut String,
 ) -> Result<u8, Refusal> {
     let image = with_young(alloc, same, after)?;
-    match uncovered(rt, alloc, image) {
-        Some(fault) => Err(of_file(alloc, same.after.as_str(), fault)),
-        None => {
-            text.push_str("covered\n")?;
-            Ok(0)
-        }
+    if let Err((_, fault)) = verify(rt, alloc, image) {
+        return Err(of_file(alloc, same.after.as_str(), fault));
     }
-}
-
-fn uncovered<T: Threads + Sync>(rt: &T, alloc: Global, image: Image) -> Option<Fault> {
-    let (_, fault) = verify(rt, alloc, image).err()?;
-    Some(fault)
+    text.push_str("covered\n")?;
+    Ok(0)
 }

@@ -1,10 +1,10 @@
 //! The two files that are compared: images, or lines of objects by name.
-use crate::files::After;
 use crate::refusal::{IMAGE_HINT, is_image, of_file, wrong_line};
 use crate::stale::Stale;
 use g1_command::Refusal;
 use g1_image::{Image, decode};
 use g1_text::{Graph, Wrong, read_graph};
+use g1_words::Fault;
 use std::alloc::{AllocError, Global};
 
 /// A heap that is compared, and what its file calls its objects.
@@ -26,26 +26,24 @@ pub struct Strays<'a> {
 }
 
 /// The side of an image.
-pub fn open_image<'a>(alloc: Global, after: After) -> Side<'a> {
-    match after {
-        After::Image(image) => Side {
-            image,
-            labels: None,
-            stale: None,
-        },
-        After::Stale {
-            image,
-            stale,
-            fault,
-        } => Side {
-            image,
-            labels: None,
-            stale: Some(Strays {
-                words: stale,
-                names: Vec::new(alloc),
-                wrong: Wrong::Fault(fault),
-            }),
-        },
+pub fn open_image<'a>(image: Image) -> Side<'a> {
+    Side {
+        image,
+        labels: None,
+        stale: None,
+    }
+}
+
+/// The side of an image that has stale words, which are null in it, and this fault with them.
+pub fn open_stale<'a>(alloc: Global, image: Image, words: Stale, fault: Fault) -> Side<'a> {
+    Side {
+        image,
+        labels: None,
+        stale: Some(Strays {
+            words,
+            names: Vec::new(alloc),
+            wrong: Wrong::Fault(fault),
+        }),
     }
 }
 
