@@ -3,6 +3,7 @@ ghost use Rattle.std.specs.Prelude.{◌≡◌};
 use g1_words::Fault;
 use std::alloc::{AllocError, AllocFailed};
 use std::fmt;
+use thiserror::Error;
 
 /// What should be in a line instead of what is there.
 #[derive(Clone, Copy)]
@@ -113,6 +114,7 @@ impl fmt::Display for Expected {
     }
 }
 
+/// As `Display`: what is expected has one text.
 impl fmt::Debug for Expected {
     fn fmt<W: fmt::Write>(&self, f: &mut fmt::Formatter<W>) -> fmt::Result {
         fmt::Display::fmt(self, f)
@@ -122,10 +124,12 @@ impl fmt::Debug for Expected {
 impl std::error::Error for Expected {}
 
 /// Why lines are no image.
-#[derive(Debug, Clone, Copy)]
+#[derive(Debug, Clone, Copy, Error)]
 pub enum Wrong {
     /// The line of this number, counted from 1.
+    #[error("line {number}: expected {expected}")]
     Line { number: u64, expected: Expected },
+    #[error("{0}")]
     Fault(Fault),
 }
 

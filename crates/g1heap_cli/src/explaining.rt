@@ -2,7 +2,7 @@
 use crate::files::read_image;
 use crate::location::locate;
 use crate::options::Explain;
-use crate::refusal::{CONTRADICTION, no_object_but, of_file, told};
+use crate::refusal::{contradiction, no_object_but, of_file};
 use g1_command::Refusal;
 use g1_explain::{Explanation, Failure, Form, explain, why};
 use g1_image::Image;
@@ -62,7 +62,7 @@ fn answer(
 pub fn of_failure(alloc: Global, name: &str, failure: Failure) -> Refusal {
     match failure {
         Failure::Fault(fault) => of_file(alloc, name, fault),
-        Failure::Contradiction => told(alloc, 8, name, CONTRADICTION),
+        Failure::Contradiction => contradiction(alloc, name),
     }
 }
 

@@ -1,5 +1,5 @@
 //! Files on the command line.
-use crate::refusal::{UNOPENABLE, of_file, told};
+use crate::refusal::{of_file, unopenable};
 use crate::stale::{Stale, null_stale};
 use g1_command::{Refusal, read_all};
 use g1_image::{FromReader, Image, decode, read};
@@ -141,6 +141,6 @@ pub fn open_file<T: Files>(rt: &T, alloc: Global, name: &str) -> Result<T::File,
     match fs::open(rt, name) {
         Ok(file) => Ok(file),
         Err(error) if error.kind() == ErrorKind::OutOfMemory => Err(Fault::Memory.into()),
-        Err(_) => Err(told(alloc, 7, name, UNOPENABLE)),
+        Err(_) => Err(unopenable(alloc, name)),
     }
 }

@@ -1,6 +1,6 @@
 //! Where an answer goes.
 use crate::files::STANDARD_STREAM;
-use crate::refusal::{UNWRITABLE, of_file, told};
+use crate::refusal::{of_file, unwritable};
 use g1_command::Refusal;
 use g1_words::{Device, Fault};
 use std::alloc::{AllocError, Global};
@@ -99,14 +99,14 @@ fn free_name<T: Files>(rt: &T, alloc: Global, name: &str) -> Result<String, Refu
             }
         }
     }
-    Err(told(alloc, 7, name, UNWRITABLE))
+    Err(unwritable(alloc, name))
 }
 
 fn failure(alloc: Global, name: &str, error: &io::Error) -> Refusal {
     if error.kind() == ErrorKind::OutOfMemory {
         return Fault::Memory.into();
     }
-    told(alloc, 7, name, UNWRITABLE)
+    unwritable(alloc, name)
 }
 
 // What was opened or renamed for the file of this name.

@@ -22,20 +22,25 @@ pub fn of_file(alloc: Global, name: &str, fault: Fault) -> Refusal {
 const NO_IMAGE: &str =
     "g1heap: it is no image; 'g1heap make' makes an image of lines, and 'g1heap trace' replies to a trace\n";
 
-/// What is said of the file of this name.
-pub fn told(alloc: Global, status: u8, name: &str, what: &str) -> Refusal {
-    refusal(status, format!(in alloc; "g1heap: {name}: {what}\n"))
+/// A file that can't be opened.
+pub fn unopenable(alloc: Global, name: &str) -> Refusal {
+    told(alloc, 7, name, "can't be opened")
 }
 
-/// What is said of a file that can't be opened.
-pub const UNOPENABLE: &str = "can't be opened";
+/// A file that can't be made, or can't get its name.
+pub fn unwritable(alloc: Global, name: &str) -> Refusal {
+    told(alloc, 7, name, "can't be written")
+}
 
-/// What is said of a file that can't be made, or can't get its name.
-pub const UNWRITABLE: &str = "can't be written";
+/// An explanation that contradicts the pause.
+pub fn contradiction(alloc: Global, name: &str) -> Refusal {
+    let what = "internal contradiction: the pause answers another thing than its steps";
+    told(alloc, 8, name, what)
+}
 
-/// What is said of an explanation that contradicts the pause.
-pub const CONTRADICTION: &str =
-    "internal contradiction: the pause answers another thing than its steps";
+fn told(alloc: Global, status: u8, name: &str, what: &str) -> Refusal {
+    refusal(status, format!(in alloc; "g1heap: {name}: {what}\n"))
+}
 
 /// A line that is not what is expected there, and what to do about it.
 pub fn wrong_line<E: Display>(
