@@ -202,13 +202,19 @@ def read_row(rt, crate, functions, file):
 def may_have_twin(crate, function, row):
     """Whether a row can be tried in a function of its own, which nothing calls. The proof of one that calls itself, and of
     a method of a trait, is not its own."""
-    name = function.name.rpartition("::")[2]
     lines = pathlib.Path(crate.folder, function.path).read_text().split("\n")
     body = [*lines[function.opens + 1:function.last], *(new for of in row.lines.values() for new in of.values())]
-    calls_itself = any(re.search(rf"(?<!Vec::)\b{name}\(", it) for it in body)
     of_a_trait = " for " in function.impl[0] if function.impl else False
     is_exported = any("no_mangle" in it for it in head_of(lines, function))
-    return function.is_plain and not (row.is_alone or len(row.touched) > 1 or calls_itself or of_a_trait or is_exported)
+    return function.is_plain and not (row.is_alone or len(row.touched) > 1 or calls_itself(function, body) or of_a_trait or is_exported)
+
+
+def calls_itself(function, body):
+    """Whether a function calls itself, by its name: a method by its type or on `self`, for what another value's method of
+    that name does is another's; any other function by its modules, if by anything."""
+    *_, holder, name = ["", *function.name.split("::")]
+    by = rf"\b(?:self\.|Self::|{holder}::)" if function.impl else r"(?<![\w.:])(?:[a-z_]\w*::)*"
+    return any(re.search(rf"{by}{name}\(", it) for it in body)
 
 
 def head_of(lines, function):

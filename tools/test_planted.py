@@ -165,6 +165,23 @@ class Libraries(unittest.TestCase):
         self.assertEqual(planted.kept_libraries(object()), set())
 
 
+class Twins(unittest.TestCase):
+    def calls_itself(self, name, line, impl=()):
+        return planted.calls_itself(planted.Function(name, "src/lib.rt", 0, 2, 1, True, list(impl)), [line])
+
+    def test_a_method_that_calls_that_of_another_value_does_not_call_itself(self):
+        impl = ["impl Ahead {"]
+        self.assertFalse(self.calls_itself("ahead::Ahead::reach", "buffer.reach(source)", impl))
+        for line in ("self.reach(source)", "Self::reach(source)", "Ahead::reach(self)"):
+            self.assertTrue(self.calls_itself("ahead::Ahead::reach", line, impl), line)
+
+    def test_a_function_calls_itself_by_its_name_or_its_modules(self):
+        for line in ("walk(tree)", "crate::trees::walk(tree)"):
+            self.assertTrue(self.calls_itself("trees::walk", line), line)
+        for line in ("tree.walk()", "Tree::walk(tree)", "sleepwalk(tree)"):
+            self.assertFalse(self.calls_itself("trees::walk", line), line)
+
+
 class Planted(unittest.TestCase):
     def setUp(self):
         self.room = tempfile.TemporaryDirectory()
