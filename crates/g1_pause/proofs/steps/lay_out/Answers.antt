@@ -39,3 +39,6 @@ returns-in-Err-Room-clause-outcome g c =
     rw (c.in-Err-Room.need-is, c.in-Err-Room.free-is) (set_lacks_room c.args.settings.now.cost c.args.settings.now.choice c.args.before.now c.heap.result.now he c.args.set.now c.requires.set
     c.deref.result.now c.args.survivors.items c.place.result c.in-Err-Room.need c.in-Err-Room.free (c.in-Err-Room.is ∙ ap Err c.in-Err-Room.field-0-is) c.deref.ensures.value c.requires.survivors
     c.place.ensures.room c.place.ensures.memory)
+
+pub returns-in-Err : goal.returns-in-Err
+returns-in-Err g c = record { outcome = tt; memory = refl }
