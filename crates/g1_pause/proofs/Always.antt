@@ -56,7 +56,7 @@ module _ (cost : Cost) (i : Image) (tracked : IsTracked i) where
       with_set (Budget b) set.0 (lives.0, lives.1, set.1)
   evacuation_exists (Given list) = elim (accepted_or_bad i.heap list.items) [
     | inl good ↦ with_set (Given list) (filter (has list.items) (regions i.heap)) (good, refl)
-    | inr bad ↦ (Err (Set (slice_index list.items bad.0)), bad_set list bad.0 refl bad.1)
+    | inr bad ↦ (Err (Set (slice_index list.items bad.0)), bad_set (bad.0, bad.1, refl))
   ]
 
 module _ (cost : Cost) (choice : Choice) (bytes : List ℕ) where

@@ -1,17 +1,16 @@
 -- Choices that ask for the same have the same answers.
-use Rattle.std.proofs.Common.{ℕ, List, filter, Result, Err, refl, sym, ◌∙◌, ap, subst}
-use Rattle.std.specs.Prelude.{slice_index, Vec}
-use Rattle.std.specs.Global.{Global}
+use Rattle.std.proofs.Common.{◌≡◌, ℕ, List, filter, Result, ◌∙◌, ap, subst}
+use Rattle.std.specs.Prelude.{slice_index}
 use Rattle.g1_words.specs.declared.fault.Fault.{Fault}
 use Rattle.g1_words.specs.declared.fault.Fault.TheVariants.{Set}
-use Rattle.g1_words.specs.Heap.{regions}
+use Rattle.g1_words.specs.Heap.{Heap, regions}
 use Rattle.g1_words.specs.Lists.{has}
 use Rattle.g1_image.specs.Image.{Image}
 use Rattle.g1_choose.specs.declared.parameters.Cost.{Cost}
 use Rattle.g1_choose.specs.Named.{AreTakeable, IsFirstBad}
 use Rattle.g1_pause.specs.declared.settings.Choice.{Choice}
 use Rattle.g1_pause.specs.declared.settings.Choice.TheVariants.{Budget, Given}
-use Rattle.g1_pause.specs.Answer.{AskTheSame, IsSetFor, IsEvacuated, bad_set, no_room, done, IsAnswer, unread, not_covered, refused, written}
+use Rattle.g1_pause.specs.Answer.{AskTheSame, IsSetFor, FaultOfChoice, IsEvacuated, bad_set, no_room, done, IsAnswer, unread, not_covered, refused, written}
 
 module _ (cost : Cost) where
   same_set : (i : Image) (c d : Choice) (set : List ℕ) → AskTheSame c d → IsSetFor cost i c set → IsSetFor cost i d set
@@ -20,14 +19,13 @@ module _ (cost : Cost) where
   same_set i (Budget b) (Given ys) set e s = absurd e
   same_set i (Given xs) (Budget b) set e s = absurd e
 
-  same_bad : (i : Image) (xs : Vec ℕ Global) (k : ℕ) (d : Choice) → AskTheSame (Given xs) d → IsFirstBad i.heap xs.items k → IsEvacuated cost d i (Err (Set (slice_index xs.items k)))
-  same_bad i xs k (Budget b) e bad = absurd e
-  same_bad i xs k (Given ys) e bad =
-      subst (λ (list : List ℕ). IsEvacuated cost (Given ys) i (Err (Set (slice_index list k)))) (sym e)
-      (bad_set ys k refl (subst (λ (list : List ℕ). IsFirstBad i.heap list k) e bad))
+  same_fault : (h : Heap) (c d : Choice) (f : Fault) → AskTheSame c d → FaultOfChoice h c f → FaultOfChoice h d f
+  same_fault h (Budget b) d f e bad = absurd bad
+  same_fault h (Given xs) (Budget b) f e bad = absurd e
+  same_fault h (Given xs) (Given ys) f e bad = subst (λ (list : List ℕ). (k : ℕ) × IsFirstBad h list k × (f ≡ Set (slice_index list k))) e bad
 
   pub same_evacuation : (i : Image) (c d : Choice) (x : Result Image Fault) → AskTheSame c d → IsEvacuated cost c i x → IsEvacuated cost d i x
-  same_evacuation i c d x e (bad_set list k f bad) = same_bad i list k d (subst (λ (choice : Choice). AskTheSame choice d) f e) bad
+  same_evacuation i c d x e (bad_set {e = f} bad) = bad_set (same_fault i.heap c d f e bad)
   same_evacuation i c d x e (no_room set l s v lt) = no_room set l (same_set i c d set e s) v lt
   same_evacuation i c d x e (done set l s v room moved) = done set l (same_set i c d set e s) v room moved
 

@@ -1,12 +1,13 @@
 -- No pause of an image names a device, so a run that is refused gives what it may.
 use Rattle.std.proofs.Common.{◌≡◌, ◌≢◌, ℕ, ◌⊎◌, inl, inr, Bool, List, ◌∷◌, Option, Some, None, IfSome, Result, Ok, Err, refl, sym, ◌∙◌, subst}
 use Rattle.std.specs.Io.KnownBytes.{IsAtEnd}
-use Rattle.std.specs.Prelude.{OnOk}
+use Rattle.std.specs.Prelude.{slice_index, OnOk}
 use Rattle.std.proofs.KnownBytes.{Keeps-refl}
 use Rattle.g1_words.specs.declared.fault.Fault.{Fault}
 use Rattle.g1_words.specs.declared.fault.Fault.TheVariants as fault
 use Rattle.g1_words.specs.declared.fault.Device.{Device}
 use Rattle.g1_words.specs.declared.fault.Device.TheVariants as device
+use Rattle.g1_words.specs.Heap.{Heap}
 use Rattle.g1_image.specs.Image.{Image, IsTextIn, IsTextOf}
 use Rattle.g1_image.specs.declared.cursor.Version.TheVariants.{Two}
 use Rattle.g1_image.specs.Faults.{MayFail}
@@ -14,11 +15,16 @@ use Rattle.g1_image.specs.Cards.{uncovered}
 use Rattle.g1_image.specs.Sink.{Writes}
 use Rattle.g1_choose.specs.declared.parameters.Cost.{Cost}
 use Rattle.g1_pause.specs.declared.settings.Choice.{Choice}
-use Rattle.g1_pause.specs.Answer.{IsEvacuated, IsAnswer, unread}
+use Rattle.g1_pause.specs.declared.settings.Choice.TheVariants.{Budget, Given}
+use Rattle.g1_pause.specs.Answer.{FaultOfChoice, IsEvacuated, bad_set, IsAnswer, unread}
 use Rattle.g1_pause.specs.Streams.{RunGives, WritesNoFault, input_mark, output_mark}
 
+chosen : (h : Heap) (choice : Choice) (d : Device) → FaultOfChoice h choice (fault.Device d) → ⊥
+chosen h (Budget b) d bad = bad
+chosen h (Given list) d bad = let clash : fault.Device d ≡ fault.Set (slice_index list.items bad.0) = bad.2 in cc
+
 evacuated : (cost : Cost) (choice : Choice) (i : Image) (d : Device) → IsEvacuated cost choice i (Err (fault.Device d)) → ⊥
-evacuated cost choice i d e = elim e [ ]
+evacuated cost choice i d (bad_set bad) = chosen i.heap choice d bad
 
 -- a refusal of a pause names no device
 pub refusal_names_none : (cost : Cost) (choice : Choice) (i : Image) (e : Fault) → (e ≡ fault.Memory) ⊎ IsEvacuated cost choice i (Err e) → (d : Device) → e ≢ fault.Device d

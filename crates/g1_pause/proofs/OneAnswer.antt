@@ -1,7 +1,6 @@
 -- A choice has one set, an image one pause, bytes one answer.
 use Rattle.std.proofs.Common.{◌≡◌, ℕ, List, [], ◌∷◌, length, map, Result, Ok, Err, sym, ◌∙◌, ap, subst, arith}
-use Rattle.std.specs.Prelude.{slice_index, Vec}
-use Rattle.std.specs.Global.{Global}
+use Rattle.std.specs.Prelude.{slice_index}
 use Rattle.g1_words.specs.declared.fault.Fault.{Fault}
 use Rattle.g1_words.specs.declared.fault.Fault.TheVariants.{Set, Room, Uncovered}
 use Rattle.g1_words.specs.Heap.{regions}
@@ -13,10 +12,9 @@ use Rattle.g1_image.specs.Cards.{IsTracked, Covered, refined, uncovered}
 use Rattle.g1_after.specs.Paused.{Paused}
 use Rattle.g1_choose.specs.declared.parameters.Cost.{Cost}
 use Rattle.g1_choose.specs.Choice.{IsChosen}
-use Rattle.g1_choose.specs.Named.{IsFirstBad}
 use Rattle.g1_pause.specs.declared.settings.Choice.{Choice}
 use Rattle.g1_pause.specs.declared.settings.Choice.TheVariants.{Budget, Given}
-use Rattle.g1_pause.specs.Answer.{IsSetFor, IsEvacuated, bad_set, no_room, done, IsAnswer, unread, not_covered, refused, written}
+use Rattle.g1_pause.specs.Answer.{IsSetFor, FaultOfChoice, IsEvacuated, bad_set, no_room, done, IsAnswer, unread, not_covered, refused, written}
 use Rattle.g1_words.proofs.Unique.{breadth_first_unique}
 use Rattle.g1_words.proofs.LiveBytes.{live_bytes_unique}
 use Rattle.g1_after.proofs.PausedLaws.{one_image_after}
@@ -41,27 +39,26 @@ module _ (cost : Cost) (i : Image) where
       breadth_first_unique (seeds i.heap s) (children i.heap s) l m a (subst (λ u. Survivors i.heap u m) e b)
 
   module _ (tracked : IsTracked i) where
-    -- a list with a bad region has no set
-    no_bad : (choice : Choice) (list : Vec ℕ Global) (k : ℕ) (s : List ℕ) → choice ≡ Given list → IsFirstBad i.heap list.items k → IsSetFor cost i choice s → ⊥
-    no_bad (Budget b) list k s e f x = cc
-    no_bad (Given other) list k s e f x =
-        let same : list ≡ other = cc in
-        accepted_not_bad i.heap other.items k tracked.image.heap.region_count x.0 (subst (λ (v : Vec ℕ Global). IsFirstBad i.heap v.items k) same f)
+    -- a choice with a fault has no set
+    no_fault_of_choice : (choice : Choice) (e : Fault) (s : List ℕ) → FaultOfChoice i.heap choice e → IsSetFor cost i choice s → ⊥
+    no_fault_of_choice (Budget b) e s bad x = bad
+    no_fault_of_choice (Given list) e s bad x = accepted_not_bad i.heap list.items bad.0 tracked.image.heap.region_count x.0 bad.1
+
+    -- and no other fault
+    one_fault_of_choice : (choice : Choice) (e f : Fault) → FaultOfChoice i.heap choice e → FaultOfChoice i.heap choice f → e ≡ f
+    one_fault_of_choice (Budget b) e f p q = absurd p
+    one_fault_of_choice (Given list) e f p q = p.2 ∙ ap (λ k. Set (slice_index list.items k)) (one_first_bad i.heap list.items p.0 q.0 p.1 q.1) ∙ sym q.2
 
     pub evacuated_unique : (choice : Choice) (x y : Result Image Fault) → IsEvacuated cost choice i x → IsEvacuated cost choice i y → x ≡ y
-    evacuated_unique choice x y (bad_set list k e f) (bad_set other m g h) =
-        let same : Given other ≡ Given list = sym g ∙ e in
-        let lists : other ≡ list = cc in
-        let places : k ≡ m = one_first_bad i.heap list.items k m f (subst (λ (v : Vec ℕ Global). IsFirstBad i.heap v.items m) lists h) in
-        λ t. Err (Set (slice_index (sym lists t).items (places t)))
-    evacuated_unique choice x y (bad_set list k e f) (no_room t m g v lt) = absurd (no_bad choice list k t e f g)
-    evacuated_unique choice x y (bad_set list k e f) (done t m g v le mv) = absurd (no_bad choice list k t e f g)
-    evacuated_unique choice x y (no_room s l a b lt) (bad_set list k e f) = absurd (no_bad choice list k s e f a)
+    evacuated_unique choice x y (bad_set {e = e} p) (bad_set {e = f} q) = ap Err (one_fault_of_choice choice e f p q)
+    evacuated_unique choice x y (bad_set {e = e} p) (no_room t m g v lt) = absurd (no_fault_of_choice choice e t p g)
+    evacuated_unique choice x y (bad_set {e = e} p) (done t m g v le mv) = absurd (no_fault_of_choice choice e t p g)
+    evacuated_unique choice x y (no_room s l a b lt) (bad_set {e = f} q) = absurd (no_fault_of_choice choice f s q a)
     evacuated_unique choice x y (no_room s l a b lt) (no_room t m g v lt') =
         ap (λ u. Err (Room (need i.heap u) (length (free_regions i.heap)))) (same_survivors choice s t l m a g b v)
     evacuated_unique choice x y (no_room s l a b lt) (done t m g v le mv) =
         let e : need i.heap l ≡ need i.heap m = ap (need i.heap) (same_survivors choice s t l m a g b v) in absurd (omega arith)
-    evacuated_unique choice x y (done s l a b le mv) (bad_set list k e f) = absurd (no_bad choice list k s e f a)
+    evacuated_unique choice x y (done s l a b le mv) (bad_set {e = f} q) = absurd (no_fault_of_choice choice f s q a)
     evacuated_unique choice x y (done s l a b le mv) (no_room t m g v lt) =
         let e : need i.heap l ≡ need i.heap m = ap (need i.heap) (same_survivors choice s t l m a g b v) in absurd (omega arith)
     evacuated_unique choice x y (done s l {j = j} a b le mv) (done t m {j = j'} g v le' mv') =

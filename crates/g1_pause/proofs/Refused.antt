@@ -1,5 +1,5 @@
 -- Why a pause is refused.
-use Rattle.std.proofs.Common.{◌≡◌, ℕ, ◌⊎◌, inl, inr, List, Result, Ok, Err, refl, sym, subst}
+use Rattle.std.proofs.Common.{◌≡◌, ℕ, ◌⊎◌, inl, inr, List, Result, Ok, Err, sym, subst}
 use Rattle.std.specs.Prelude.{slice_index, IfErr, Vec}
 use Rattle.std.specs.Global.{Global}
 use Rattle.g1_words.specs.declared.fault.Fault.{Fault}
@@ -9,7 +9,7 @@ use Rattle.g1_image.specs.Image.{Image}
 use Rattle.g1_choose.specs.declared.parameters.Cost.{Cost}
 use Rattle.g1_choose.specs.Named.{IsFirstBad}
 use Rattle.g1_pause.specs.declared.settings.Choice.{Choice}
-use Rattle.g1_pause.specs.declared.settings.Choice.TheVariants.{Budget, Given}
+use Rattle.g1_pause.specs.declared.settings.Choice.TheVariants.{Given}
 use Rattle.g1_pause.specs.Answer.{FaultOfChoice, IsEvacuated, bad_set}
 
 -- a list is refused by its first bad region
@@ -26,7 +26,4 @@ named_refused choice h g list xs (Err e) named heap items (inr b) =
 pub choice_refused : (cost : Cost) (choice : Choice) (i j : Image) (e : Fault) → j ≡ i → (e ≡ Memory) ⊎ FaultOfChoice j.heap choice e
     → (e ≡ Memory) ⊎ IsEvacuated cost choice i (Err e)
 choice_refused cost choice i j e same (inl m) = inl m
-choice_refused cost (Budget b) i j e same (inr bad) = absurd bad
-choice_refused cost (Given list) i j e same (inr bad) =
-    let first : IsFirstBad i.heap list.items bad.0 = subst (λ (x : Image). IsFirstBad x.heap list.items bad.0) same bad.1 in
-    inr (subst (λ (f : Fault). IsEvacuated cost (Given list) i (Err f)) (sym bad.2) (bad_set list bad.0 refl first))
+choice_refused cost choice i j e same (inr bad) = inr (bad_set (subst (λ (x : Image). FaultOfChoice x.heap choice e) same bad))

@@ -1,6 +1,5 @@
 -- What a pause answers.
-use Rattle.std.specs.Prelude.{◌≡◌, ℕ, List, ◌∷◌, ◌≤◌, ◌<◌, map, filter, length, slice_index, Result, Ok, Err, Vec}
-use Rattle.std.specs.Global.{Global}
+use Rattle.std.specs.Prelude.{◌≡◌, ℕ, List, ◌∷◌, ◌≤◌, ◌<◌, map, filter, length, slice_index, Result, Ok, Err}
 use Rattle.g1_words.specs.declared.fault.Fault.{Fault}
 use Rattle.g1_words.specs.declared.fault.Fault.TheVariants.{Uncovered, Set, Room}
 use Rattle.g1_words.specs.Heap.{Heap, regions}
@@ -37,9 +36,9 @@ abbrev pub FaultOfChoice : Heap → Choice → Fault → Type 0
 FaultOfChoice h (Budget b) e = ⊥
 FaultOfChoice h (Given list) e = (k : ℕ) × IsFirstBad h list.items k × (e ≡ Set (slice_index list.items k))
 
--- what the pause of an image gives: the first region of the list that can't be taken, or that the free regions have no room for the survivors, or the image after
+-- what the pause of an image gives: the fault of the choice, or that the free regions have no room for the survivors, or the image after
 pub data IsEvacuated (cost : Cost) (choice : Choice) (i : Image) : Result Image Fault → Type 0 where
-  bad_set : (list : Vec ℕ Global) (k : ℕ) → choice ≡ Given list → IsFirstBad i.heap list.items k → IsEvacuated cost choice i (Err (Set (slice_index list.items k)))
+  bad_set : {e : Fault} → FaultOfChoice i.heap choice e → IsEvacuated cost choice i (Err e)
   no_room : (set l : List ℕ) → IsSetFor cost i choice set → Survivors i.heap set l → length (free_regions i.heap) < need i.heap l
       → IsEvacuated cost choice i (Err (Room (need i.heap l) (length (free_regions i.heap))))
   done : (set l : List ℕ) {j : Image} → IsSetFor cost i choice set → Survivors i.heap set l → need i.heap l ≤ length (free_regions i.heap)

@@ -32,12 +32,12 @@ same_survivors cost i b s t l m x y p q =
 
 -- a pause by a budget gives an image, always the same, or is refused
 bought_once : (cost : Cost) (i : Image) (b : ℕ) (x y : Result Image Fault) → IsEvacuated cost (Budget b) i x → IsEvacuated cost (Budget b) i y → Agree x y
-bought_once cost i b x y (bad_set list k e f) z = cc
-bought_once cost i b x y (no_room s l p q lt) (bad_set list k e f) = cc
+bought_once cost i b x y (bad_set bad) z = absurd bad
+bought_once cost i b x y (no_room s l p q lt) (bad_set bad) = absurd bad
 bought_once cost i b x y (no_room s l p q lt) (no_room t m g v lt') = tt
 bought_once cost i b x y (no_room s l p q lt) (done t m g v le mv) =
     let e : need i.heap l ≡ need i.heap m = ap (need i.heap) (same_survivors cost i b s t l m p g q v) in absurd (omega arith)
-bought_once cost i b x y (done s l p q le mv) (bad_set list k e f) = cc
+bought_once cost i b x y (done s l p q le mv) (bad_set bad) = absurd bad
 bought_once cost i b x y (done s l p q le mv) (no_room t m g v lt) =
     let e : need i.heap l ≡ need i.heap m = ap (need i.heap) (same_survivors cost i b s t l m p g q v) in absurd (omega arith)
 bought_once cost i b x y (done s l {j = j} p q le mv) (done t m {j = k} g v le' mv') =
