@@ -1,5 +1,6 @@
-use Rattle.std.proofs.Common.{◌/◌, ◌≤◌, arith}
+use Rattle.std.proofs.Common.{◌/◌, ◌≤◌, arith, rules, subst}
 use Rattle.std.proofs.Math.Nat.{mul-le-mul_left, mul-le-mul_right}
+use Rattle.g1_work.specs.Regions.{IsFilled}
 use Rattle.g1_work.proofs.Slices.{at_most, shares, front_cut, back_cut, filled_both}
 use Rattle.g1_work.proofs.regions.+halves.Goals as goal
 
@@ -60,3 +61,9 @@ pub fill_span-returns : goal.fill_span-returns
 fill_span-returns g t c =
     let s = shares c.args.span.count c.args.span.runs c.min.result c.requires.runs.0 c.requires.runs.1 c.if-span-eq1.false (at_most _ _ _ c.min.ensures) in
     filled_both _ _ _ _ _ _ _ _ _ _ s.fits c.split_at_mut-a.ensures.value c.split_at_mut-a.ensures.front_len c.fill_both.ensures.front c.fill_both.ensures.back
+
+pub fill_both-returns-clause-front : goal.fill_both-returns-clause-front
+fill_both-returns-clause-front g t c = subst (IsFilled _ _ _ _ _) (search rules) c.join_mut.ensures.0.met.1
+
+pub fill_both-returns-clause-back : goal.fill_both-returns-clause-back
+fill_both-returns-clause-back g t c = subst (IsFilled _ _ _ _ _) (search rules) c.join_mut.ensures.1.met.1
