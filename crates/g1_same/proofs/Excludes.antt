@@ -33,6 +33,10 @@ leads_to_one h (k ∷ ss) y z a b = leads_one h ss (slice_index h.roots k) y z a
 abbrev LivesAt : Heap → ℕ → Type 0
 LivesAt h x = (a : ℕ) → x ≡ suc a → Live h a
 
+-- heaps of one graph have as many roots
+pub same_count : (g h : Heap) → SameGraph g h → length g.roots ≡ length h.roots
+same_count g h s = sym (length-map g.roots (renamed s.rename)) ∙ ap length (sym s.roots)
+
 module _ (g h : Heap) (valid : IsValid g) (s : SameGraph g h) where
   -- each word of a copy is that of the object, renamed where it is a slot's
   word_of_copy : (a m : ℕ) → Live g a → m < (object_at g a).size
@@ -134,5 +138,5 @@ module _ (g h : Heap) (valid : IsValid g) (s : SameGraph g h) where
       c.6 (sym (ap (λ q. word h (q + 1 + (object_at g c.0).refs + k)) e ∙ same_data c.0 k live c.5))
 
   pub no_difference : (d : Difference) → IsDifference g h d → ⊥
-  no_difference (Roots m n) c = c.2 (sym c.0 ∙ sym (length-map g.roots (renamed s.rename)) ∙ ap length (sym s.roots) ∙ c.1)
+  no_difference (Roots m n) c = c.2 (sym c.0 ∙ same_count g h s ∙ c.1)
   no_difference (At k ss how) c = no_clash (k ∷ ss.items) how c.0 c.1 c.2 c.3

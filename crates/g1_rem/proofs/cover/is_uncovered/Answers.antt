@@ -3,6 +3,7 @@ use Rattle.std.specs.Prelude.{Some}
 use Rattle.std.proofs.lemmas.List.{get_or_default}
 use Rattle.std.specs.List.Sorted.{IsStrictlyIncreasing}
 use Rattle.g1_words.specs.Heap.{Heap, card_of}
+use Rattle.g1_words.specs.Valid.{IsReference}
 use Rattle.g1_words.specs.Lists.{has}
 use Rattle.g1_image.specs.Image.{remembered_of}
 use Rattle.g1_rem.specs.Leads.{IsLedInto}
@@ -11,6 +12,12 @@ use Rattle.g1_rem.proofs.Bare.{bare_some, set_read}
 use Rattle.g1_rem.proofs.Places.{has_here, has_not, behind_set}
 use Rattle.g1_rem.proofs.cover.is_uncovered.Goals as goal
 use Rattle.g1_rem.proofs.cover.is_uncovered.Goals.{After-place_of-place, else-place-len-via-then-place-len+else-index-card, else-place-len-via-else-place-len}
+
+pub led_into-requires-clause-slot : goal.led_into-requires-clause-slot
+led_into-requires-clause-slot c = subst (λ (h : Heap). c.args.p < length h.words) (sym c.heap-heap.ensures.same) c.requires.slot
+
+pub led_into-requires-clause-reference : goal.led_into-requires-clause-reference
+led_into-requires-clause-reference c = subst (λ (h : Heap). IsReference h (slice_index h.words c.args.p)) (sym c.heap-heap.ensures.same) c.requires.reference
 
 led : (c : After-place_of-place) → IsLedInto c.args.image.now.heap c.args.p (Some c.in-Some.region)
 led c = subst (λ h. IsLedInto h c.args.p (Some c.in-Some.region)) c.heap-heap.ensures.same c.in-Some.ensures

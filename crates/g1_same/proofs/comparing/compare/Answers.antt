@@ -4,8 +4,28 @@ use Rattle.g1_same.specs.declared.walk.Walk.{Walk}
 use Rattle.g1_same.specs.Walk.{LinksPairs}
 use Rattle.g1_same.proofs.Steps.{none_then}
 use Rattle.g1_same.proofs.Order.{renaming}
-use Rattle.g1_same.proofs.Excludes.{no_difference}
+use Rattle.g1_same.proofs.Excludes.{same_count, no_difference}
 use Rattle.g1_same.proofs.comparing.compare.Goals as goal
+
+pub returns-then-roots-clause-same : goal.returns-then-roots-clause-same
+returns-then-roots-clause-same c = tt
+
+pub returns-then-roots-clause-differ : goal.returns-then-roots-clause-differ
+returns-then-roots-clause-differ c =
+    record {
+      is = (
+        ap length (sym c.roots-roots.ensures),
+        ap length (sym c.roots-then-roots.ensures),
+        λ e. c.if-roots.true (e ∙ ap length (c.roots-then-roots.ensures ∙ sym c.roots.ensures)),
+      );
+      earliest = tt;
+    }
+
+pub returns-then-roots-clause-never : goal.returns-then-roots-clause-never
+returns-then-roots-clause-never c = λ s. c.if-roots.true (ap length c.roots-roots.ensures ∙ same_count c.args.before.now c.args.after.now s ∙ ap length (sym c.roots.ensures))
+
+pub returns-then-roots-clause-memory : goal.returns-then-roots-clause-memory
+returns-then-roots-clause-memory c = tt
 
 pub returns-in-Some-clause-never : goal.returns-in-Some-clause-never
 returns-in-Some-clause-never c = λ s. no_difference c.args.before.now c.args.after.now c.in_ok-walk.ensures.before s c.in_ok-report_difference.field-0 c.in_ok-report_difference.ensures.is
