@@ -97,7 +97,7 @@ module _ (g h : Heap) (valid : IsValid g) (s : SameGraph g h) where
   carried_path [] x l = absurd l
   carried_path (k ∷ ss) x l =
       let c = carried ss (slice_index g.roots k) x (λ b e. root_live g b k l.0 e) l.1 in
-      let len : length h.roots ≡ length g.roots = ap length s.roots ∙ length-map g.roots (renamed s.rename) in
+      let len : length h.roots ≡ length g.roots = sym (same_count g h s) in
       ((omega (arith, l.0, len), subst (λ w. Leads h ss w (renamed s.rename x)) (sym (same_root k l.0)) c.0), c.1)
 
   -- what a path leads to is renamed
