@@ -21,9 +21,9 @@ mod values;
 pub use arguments::words;
 pub use costs::{BUDGET, BYTE, CARD, DIRTY, FIXED, cost_of};
 pub use refusal::{Refusal, refuse};
-pub use streams::{BROKEN_PIPE, LineReader, deliver, deliver_text, read_all};
+pub use streams::{LineReader, deliver, deliver_text, read_all};
 pub use table::{Argument, FILE, FLAG, Form, Program, Usage, VALUE, match_words};
 pub use values::{
-    Misuse, explain, number, number_in, read_request, region, region_in, regions, required_number,
-    whole,
+    Misuse, help_or_refusal, number, number_in, read_request, region, region_in, regions,
+    required_number, whole,
 };

@@ -100,7 +100,7 @@ pub fn read_request<Q: Drop, F: Fn(Global, &str, &ArgMatches<'_>) -> Result<Q, M
 }
 
 /// What clap says instead of matches: a text that was asked for, or why the words are no request.
-pub fn explain(alloc: Global, error: &Error) -> Result<String, Refusal> {
+pub fn help_or_refusal(alloc: Global, error: &Error) -> Result<String, Refusal> {
     if error.kind() == ErrorKind::OutOfMemory {
         return Err(Refusal::Fault(Fault::Memory));
     }

@@ -1,4 +1,4 @@
-//! What the pause writes outside the copies, and the totals.
+//! What the pause writes outside the copies.
 use crate::cards::{joined_cards, push_numbers};
 use crate::objects::word_at;
 use g1_copy::Prepared;

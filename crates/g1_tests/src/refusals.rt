@@ -11,7 +11,7 @@ use std::process::Abort;
 use std::rt::Env;
 use std::test::Fail;
 
-// The refusal is reported as this line, in one write and a flush, and has this status.
+// The refusal is reported as this line, in one write, and has this status.
 fn expect_refusal<T: Abort>(rt: &T, alloc: Global, refusal: &Refusal, line: &str, wanted: u8) {
     let mut errors = Stream::of(Vec::new(alloc), usize::MAX);
     let ended = refuse("the_name", refusal, &mut errors);

@@ -10,7 +10,7 @@ use thiserror::Error;
 pub enum Expected {
     Text,
     Heading,
-    /// Sizes that a heap can have, and a current region below the number of regions.
+    /// Sizes that a heap can have.
     Sizes,
     Line,
     Word(&'static str),
@@ -59,7 +59,7 @@ impl Expected {
         match self {
             Expected::Text => "text",
             Expected::Heading => "'heap W K N' before all other lines",
-            Expected::Sizes => "the sizes of a heap, and a current region of it",
+            Expected::Sizes => "the sizes of a heap",
             Expected::Line => "'root', 'dirty', 'covered', 'region', 'remembered' or 'object'",
             Expected::End => "the end of the line",
             Expected::Reference => "'-' or an address",

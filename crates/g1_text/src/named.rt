@@ -49,7 +49,8 @@ pub fn is_graph(text: &[u8]) -> bool {
 ///
 /// # Errors
 ///
-/// The first line that is not what is expected there, by its number, and what is expected. `Fault::Memory` else.
+/// The number of a line that is not what is expected there, and what is expected. The names and the sizes of all lines
+/// are read first, then the words of the roots, and those of the objects by address. `Fault::Memory` else.
 pub fn read_graph<'a>(alloc: Global, text: &'a [u8]) -> Result<Graph<'a>, Wrong> {
     let mut lines = read_lines(alloc, text)?;
     match lay_out(alloc, &mut lines) {

@@ -1,4 +1,5 @@
 //! A pause as lines, and what keeps an object.
+use crate::alone::{CHUNK, WORKERS};
 use crate::files::read_image;
 use crate::location::locate;
 use crate::options::Explain;
@@ -12,11 +13,6 @@ use std::alloc::Global;
 use std::io::Read;
 use std::rt::Files;
 use std::thread::Threads;
-
-// One thread makes the pause.
-const WORKERS: u64 = 1;
-
-const CHUNK: u64 = 64;
 
 /// The lines of a pause, and the status: that of the fault for which the pause is refused, if it is.
 pub fn explain_pause<T: Threads + Sync + Files, R: Read>(

@@ -43,7 +43,7 @@ pub fn read_image<T: Files, R: Read>(
 
 /// What a file that is compared has.
 #[derive(Drop)]
-pub enum Found {
+pub enum SideContent {
     /// Lines of objects by name.
     Lines(Vec<u8>),
     Image(Image),
@@ -63,11 +63,11 @@ pub fn read_side<T: Files, R: Read>(
     alloc: Global,
     name: &str,
     reader: &mut R,
-) -> Result<Found, Refusal> {
+) -> Result<SideContent, Refusal> {
     if name != STANDARD_STREAM && is_file(rt, name) && !has_lines(rt, alloc, name)? {
         let file = open_file(rt, alloc, name)?;
         match read(alloc, &mut FromReader::new(file)) {
-            Ok(image) => return Ok(Found::Image(image)),
+            Ok(image) => return Ok(SideContent::Image(image)),
             // Lines may begin behind the bytes that were looked at.
             Err(Fault::Reference(_)) | Err(Fault::Magic) => (),
             Err(fault) => return Err(of_file(alloc, name, fault)),
@@ -75,7 +75,7 @@ pub fn read_side<T: Files, R: Read>(
     }
     let mut bytes = read_bytes(rt, alloc, name, reader)?;
     if is_graph(bytes.as_slice()) {
-        return Ok(Found::Lines(bytes));
+        return Ok(SideContent::Lines(bytes));
     }
     found_in(alloc, name, &mut bytes)
 }
@@ -97,9 +97,9 @@ fn is_file<T: Files>(rt: &T, name: &str) -> bool {
     }
 }
 
-fn found_in(alloc: Global, name: &str, bytes: &mut [u8]) -> Result<Found, Refusal> {
+fn found_in(alloc: Global, name: &str, bytes: &mut [u8]) -> Result<SideContent, Refusal> {
     match decode(alloc, bytes) {
-        Ok(image) => Ok(Found::Image(image)),
+        Ok(image) => Ok(SideContent::Image(image)),
         Err(fault) if matches!(fault, Fault::Reference(_)) => {
             without_stale(alloc, name, bytes, fault)
         }
@@ -113,12 +113,12 @@ fn without_stale(
     name: &str,
     bytes: &mut [u8],
     fault: Fault,
-) -> Result<Found, Refusal> {
+) -> Result<SideContent, Refusal> {
     let Some(stale) = null_stale(alloc, bytes)? else {
         return Err(of_file(alloc, name, fault));
     };
     match decode(alloc, bytes) {
-        Ok(image) => Ok(Found::Stale {
+        Ok(image) => Ok(SideContent::Stale {
             image,
             stale,
             fault,

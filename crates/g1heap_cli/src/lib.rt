@@ -6,6 +6,7 @@
 //! asked for by `-o` is whole or not there.
 #![tactic(auto)]
 
+mod alone;
 mod commands;
 mod comparing;
 mod explaining;
@@ -31,7 +32,5 @@ mod usage;
 mod young;
 
 pub use commands::{Call, program};
-pub use options::Same;
-pub use sameness::compare_images;
 pub use terminals::Terminals;
 pub use usage::NAME;

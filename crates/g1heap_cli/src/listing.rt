@@ -1,7 +1,7 @@
 //! The lines of `same --all`: the first differences, and how many there are of each kind.
 use crate::comparing::{Sides, push_how_line, push_stale_line};
 use crate::stale::Stale;
-use crate::tour::{Found, KINDS, Tour, What};
+use crate::tour::{FoundDifference, KINDS, Tour, What};
 use std::alloc::{AllocError, Global};
 
 /// The lines behind that of the first difference: those of the walk's next ones up to the number asked, and the line of
@@ -29,7 +29,7 @@ fn push_found(
     alloc: Global,
     text: &mut String,
     sides: Sides<'_>,
-    found: &Found,
+    found: &FoundDifference,
 ) -> Result<(), AllocError> {
     let path = &found.path;
     match &found.what {

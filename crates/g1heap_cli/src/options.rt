@@ -7,8 +7,8 @@ use crate::usage::{commands, program};
 use clap::ArgMatches;
 use g1_choose::Cost;
 use g1_command::{
-    Argument, Misuse, Refusal, cost_of, explain, match_words, number, number_in, read_request,
-    region, required_number,
+    Argument, Misuse, Refusal, cost_of, help_or_refusal, match_words, number, number_in,
+    read_request, region, required_number,
 };
 use std::alloc::{AllocError, Global};
 
@@ -263,10 +263,13 @@ fn explain_of(alloc: Global, values: &ArgMatches<'_>) -> Result<Request, Misuse>
 // The number of the command, and the file.
 fn image_of(alloc: Global, values: &ArgMatches<'_>) -> Result<Option<ImageAfter>, Misuse> {
     match values.get_strs(IMAGE_AFTER.id) {
-        Some([number, file]) => Ok(Some(ImageAfter {
-            command: number_in(alloc, &IMAGE_AFTER, number)?,
-            file: String::from_str(alloc, file)?,
-        })),
+        Some([number, file]) => match number_in(alloc, &IMAGE_AFTER, number)? {
+            0 => Err(IMAGE_AFTER.refuse(alloc, "0")?),
+            command => Ok(Some(ImageAfter {
+                command,
+                file: String::from_str(alloc, file)?,
+            })),
+        },
         _ => Ok(None),
     }
 }
@@ -323,6 +326,6 @@ pub fn parse(alloc: Global, words: &[String]) -> Result<Request, Refusal> {
     let program = program(&commands);
     match &match_words(alloc, &program, words.as_slice()) {
         Ok(matches) => read_request(alloc, &program, matches, request_of),
-        Err(error) => Ok(Request::Help(explain(alloc, error)?)),
+        Err(error) => Ok(Request::Help(help_or_refusal(alloc, error)?)),
     }
 }

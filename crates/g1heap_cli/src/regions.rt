@@ -1,4 +1,4 @@
-//! The regions of `--set`: numbers, and lists of numbers and of ranges, as 1,2,5-9.
+//! The regions of `--set` and `--young`: numbers, and lists of numbers and of ranges, as 1,2,5-9.
 use g1_command::{Argument, Misuse, region_in};
 use std::alloc::{AllocError, Global};
 
@@ -63,39 +63,39 @@ fn is_list(word: &str) -> bool {
 }
 
 /// The regions that these lists name, in their order. They need not be those of an image.
-pub fn regions_in(alloc: Global, set: &Argument, lists: &[&str]) -> Result<Vec<u32>, Misuse> {
+pub fn regions_in(alloc: Global, argument: &Argument, lists: &[&str]) -> Result<Vec<u32>, Misuse> {
     let mut regions = Vec::new(alloc);
     for list in lists {
-        push_list(alloc, set, list, &mut regions)?;
+        push_list(alloc, argument, list, &mut regions)?;
     }
     Ok(regions)
 }
 
 fn push_list(
     alloc: Global,
-    set: &Argument,
+    argument: &Argument,
     list: &str,
     regions: &mut Vec<u32>,
 ) -> Result<(), Misuse> {
     for part in list.split(',') {
-        push_part(alloc, set, part, regions)?;
+        push_part(alloc, argument, part, regions)?;
     }
     Ok(())
 }
 
 fn push_part(
     alloc: Global,
-    set: &Argument,
+    argument: &Argument,
     part: &str,
     regions: &mut Vec<u32>,
 ) -> Result<(), Misuse> {
     // A region alone is a range of one.
     let (first, last) = part.split_once('-').unwrap_or((part, part));
-    let first = region_in(alloc, set, first)?;
-    let last = region_in(alloc, set, last)?;
+    let first = region_in(alloc, argument, first)?;
+    let last = region_in(alloc, argument, last)?;
     match last.checked_sub(first) {
         Some(more) if more < MOST => push_range(first, last, regions),
-        _ => refuse_range(alloc, set, part),
+        _ => refuse_range(alloc, argument, part),
     }
 }
 
@@ -109,8 +109,8 @@ fn push_range(first: u32, last: u32, regions: &mut Vec<u32>) -> Result<(), Misus
     Ok(())
 }
 
-fn refuse_range(alloc: Global, set: &Argument, part: &str) -> Result<(), Misuse> {
-    let shown = set.shown(alloc)?;
+fn refuse_range(alloc: Global, argument: &Argument, part: &str) -> Result<(), Misuse> {
+    let shown = argument.shown(alloc)?;
     Err(Misuse::Value(format!(in alloc;
         "invalid value '{part}' for '{shown}': a range rises, over at most {MOST} regions"
     )?))

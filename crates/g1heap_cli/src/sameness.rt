@@ -1,6 +1,6 @@
 //! Whether two files have one heap, and what else is asked of them.
 use crate::comparing::{Sides, push_difference_line, push_same_line, push_stale_line};
-use crate::files::{Found, read_bytes, read_side};
+use crate::files::{SideContent, read_bytes, read_side};
 use crate::listing::push_others;
 use crate::names::Names;
 use crate::options::Same;
@@ -63,12 +63,12 @@ fn read_and_open<'a, T: Files, R: Read>(
     lines: &'a mut Vec<u8>,
 ) -> Result<Side<'a>, Refusal> {
     match read_side(rt, alloc, name, reader)? {
-        Found::Lines(bytes) => {
+        SideContent::Lines(bytes) => {
             *lines = bytes;
             open_lines(alloc, name, lines.as_slice())
         }
-        Found::Image(image) => Ok(open_image(image)),
-        Found::Stale {
+        SideContent::Image(image) => Ok(open_image(image)),
+        SideContent::Stale {
             image,
             stale,
             fault,
@@ -162,8 +162,21 @@ fn check_asked(
 fn names_in<'a>(alloc: Global, file: &str, text: &'a [u8]) -> Result<Names<'a>, Refusal> {
     match str::from_utf8(text) {
         Ok(text) => Names::read(alloc, file, text),
-        Err(_) => Err(wrong_line(alloc, file, 1, &"text in UTF-8", "")),
+        Err(_) => Err(wrong_line(alloc, file, first_no_text(text), &"text", "")),
     }
+}
+
+// The number of the line in which bytes begin that are not UTF-8.
+fn first_no_text(bytes: &[u8]) -> u64 {
+    let mut number = 1u64;
+    if let Some(chunk) = bytes.utf8_chunks().next() {
+        for byte in chunk.valid().as_bytes() {
+            if *byte == b'\n' {
+                number = number.saturating_add(1);
+            }
+        }
+    }
+    number
 }
 
 fn compare_sides(
@@ -207,25 +220,6 @@ fn labels_of<'a>(side: &'a Side<'_>) -> Option<&'a [(u64, &'a str)]> {
         Some(labels) => Some(labels.as_slice()),
         None => None,
     }
-}
-
-/// The status and the line for two images.
-pub fn compare_images<'x>(
-    alloc: Global,
-    same: &Same,
-    before: &'x Image,
-    after: &'x Image,
-) -> Result<(u8, String), Refusal> {
-    let sides = Sides {
-        before: before.heap(),
-        after: after.heap(),
-        names: None,
-        labels: [None, None],
-        stale_names: None,
-    };
-    let mut text = String::new(alloc);
-    let status = compare_heaps(alloc, same, sides, &mut text)?;
-    Ok((status, text))
 }
 
 fn compare_heaps(

@@ -115,13 +115,13 @@ fn words_from(alloc: Global, text: &[u8], at: usize) -> Result<Vec<u64>, AllocEr
 // The objects of a text.
 #[derive(Drop)]
 struct Objects {
-    list: Vec<Found>,
+    list: Vec<PlacedObject>,
     starts: Marks,
 }
 
 // An object, and the place of its header among the words of the text.
 #[derive(Clone, Copy)]
-struct Found {
+struct PlacedObject {
     object: Object,
     place: u64,
 }
@@ -169,13 +169,13 @@ impl Objects {
                 at: start.saturating_add(passed),
                 ..header(words, place)
             };
-            self.add(Found { object, place })?;
+            self.add(PlacedObject { object, place })?;
             passed = passed.saturating_add(object.size);
         }
         Ok(())
     }
 
-    fn add(&mut self, found: Found) -> Result<(), AllocError> {
+    fn add(&mut self, found: PlacedObject) -> Result<(), AllocError> {
         let at = found.object.at as usize;
         if at < self.starts.len() {
             self.starts.set(at);

@@ -1,4 +1,5 @@
 //! A heap in a few lines.
+use crate::alone::{CHUNK, WORKERS};
 use g1_image::Image;
 use g1_mark::live_bytes;
 use g1_rem::Starts;
@@ -6,11 +7,6 @@ use g1_words::{Fault, Heap, Kind};
 use g1_work::Open;
 use std::alloc::{AllocError, Global};
 use std::thread::Threads;
-
-// The search for live objects is done by one thread.
-const WORKERS: u64 = 1;
-
-const CHUNK: u64 = 64;
 
 /// The heap's sizes, its regions by kind, its used, live and garbage words, its cards and its roots: a line
 /// each.

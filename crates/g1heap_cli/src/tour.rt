@@ -9,7 +9,7 @@ use std::alloc::{AllocError, Global};
 
 /// A difference, and the path to it.
 #[derive(Drop)]
-pub struct Found {
+pub struct FoundDifference {
     pub path: Path,
     pub what: What,
 }
@@ -29,7 +29,7 @@ pub const KINDS: [&str; 7] = ["stale", "null", "split", "joined", "size", "slots
 #[derive(Drop)]
 pub struct Tour {
     /// The first differences.
-    pub first: Vec<Found>,
+    pub first: Vec<FoundDifference>,
     /// How many differences there are of each of `KINDS`.
     pub counts: [u64; 7],
     // How many differences are first.
@@ -214,7 +214,7 @@ impl Tour {
     fn report(&mut self, alloc: Global, step: Step, what: What) -> Result<(), AllocError> {
         if (self.first.len() as u64) < self.most {
             let path = Path::of_steps(alloc, self.steps.as_slice(), step)?;
-            self.first.push(Found { path, what })?;
+            self.first.push(FoundDifference { path, what })?;
         }
         if let Some(count) = self.counts.get_mut(kind_of(&what)) {
             *count = count.saturating_add(1);

@@ -1,4 +1,5 @@
 //! A trace that is answered line by line.
+use crate::alone::{CHUNK, WORKERS};
 use crate::explaining::of_failure;
 use crate::files::{STANDARD_STREAM, open_file};
 use crate::options::Trace;
@@ -15,11 +16,6 @@ use std::io::{Read, Write};
 use std::mem;
 use std::rt::Files;
 use std::thread::Threads;
-
-// One thread makes the pauses.
-const WORKERS: u64 = 1;
-
-const CHUNK: u64 = 64;
 
 // A trace to answer, and what its commands are answered with.
 #[derive(Drop)]

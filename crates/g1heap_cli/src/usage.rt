@@ -57,7 +57,7 @@ Statuses:
   0  done
   2  wrong words, or no object starts there
   3  the file is no image
-  4  a slot of the image is not covered, and no root leads to the object
+  4  no root leads to the object, and a slot into its region is not covered
   6  no memory, or a read or a write that failed
   7  a file that can't be opened
   8  what was found contradicts itself: an error of this program
@@ -68,10 +68,11 @@ Example: g1heap why IMAGE 16";
 const AFTER_TRACE: &str = "\
 Statuses:
   0  done
-  2  wrong words, or a command that the trace doesn't have
+  2  wrong words, a number out of its range, or a command that the trace doesn't have
   3  a line is not as it has to be, or a size is out of its range
   6  no memory, or a read or a write that failed
   7  a file that can't be opened or written
+  8  an explanation contradicts the pause: an error of this program
   141  the reader of the answer went away
 
 Example: g1heap trace --live < TRACE";
@@ -80,7 +81,7 @@ const AFTER_ALL: &str = "\
 Statuses:
   0  done
   1  two images differ
-  2  wrong words, or a region or an object that the image doesn't have
+  2  wrong words, a number out of its range, or a region, an object or a command that isn't there
   3  a file is no image, or a line is not as it has to be
   4  a slot is not covered
   5  a region of the set is not there, not ordinary, pinned, or given twice, or no room
@@ -341,6 +342,6 @@ pub const IMAGE_AFTER: Argument = Argument {
     id: "image",
     values: &["N", "FILE"],
     help: "Also writes the image after command N to this file",
-    range: "below 18446744073709551616",
+    range: "at least 1",
     ..VALUE
 };

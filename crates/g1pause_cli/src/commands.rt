@@ -210,7 +210,6 @@ fn run_pause<T: Threads + Sync, R: Read, W: Write>(
     sink.flush()
 }
 
-// The input is let go as soon as the commands are read from it.
 fn run<T: Threads + Sync, R: Read>(
     rt: &T,
     alloc: Global,

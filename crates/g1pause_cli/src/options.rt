@@ -5,8 +5,8 @@ use clap::error::ErrorKind;
 use clap::{ArgMatches, Error};
 use g1_choose::Cost;
 use g1_command::{
-    Argument, Misuse, Refusal, cost_of, explain, match_words, number, read_request, regions,
-    required_number,
+    Argument, Misuse, Refusal, cost_of, help_or_refusal, match_words, number, read_request,
+    regions, required_number,
 };
 use std::alloc::{AllocError, Global};
 
@@ -142,7 +142,7 @@ pub fn parse(alloc: Global, words: &[String]) -> Result<Request, Refusal> {
     let program = program(&commands);
     match match_words(alloc, &program, words) {
         Ok(matches) => read_request(alloc, &program, &matches, request_of),
-        Err(error) => match explain(alloc, &error) {
+        Err(error) => match help_or_refusal(alloc, &error) {
             Ok(text) => Ok(Request::Help(text)),
             Err(refusal) => Err(with_hint(&error, refusal)?),
         },

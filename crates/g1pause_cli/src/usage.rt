@@ -156,7 +156,7 @@ const CHUNK_OF_REGIONS: Argument = Argument {
 
 pub const REPACK: Argument = Argument {
     id: "repack",
-    help: "Writes the image's text instead of the table",
+    help: "Writes the image's bytes, in version 2, instead of the table",
     ..FLAG
 };
 
