@@ -18,6 +18,6 @@ pub record IsPaused (i : Image) (set l : List ℕ) (j : Image) : Type 0 where
 abbrev pub Paused : Image → List ℕ → Image → Type 0
 Paused i set j = (l : List ℕ) × Survivors i.heap set l × IsPaused i set l j
 
--- the kept objects, but for those that stand in these regions
+-- the kept objects, except those that stand in these regions
 abbrev pub remaining : Heap → List ℕ → List ℕ → List ℕ → List Object
 remaining h set l freed = filter (λ o. not (in_set h freed o.at)) (kept h set l)

@@ -56,7 +56,7 @@ abbrev pub OnlyCandidates : Type 0
 OnlyCandidates = (c : Cost) (h : Heap) (remembered : List (List ℕ)) (lives : List ℕ) (d budget : ℕ) (set : List ℕ) (r : ℕ)
     → IsChosen c h remembered lives d budget set → Contains set r → Contains (candidates c h remembered lives) r
 
--- a list that isn't one of distinct ordinary regions has a first bad place
+-- a list that isn't one of distinct ordinary regions without pins has a first bad place
 abbrev pub AcceptedOrBad : Type 0
 AcceptedOrBad = (h : Heap) (list : List ℕ) → AreTakeable h list ⊎ ((i : ℕ) × IsFirstBad h list i)
 

@@ -52,8 +52,9 @@ abbrev pub IsIdle : Hand → Type 0
 IsIdle v = (v.offers ≡ []) × (v.sights ≡ [])
 
 -- between any two steps, over the hands of all seats that ever were, dropped ones too: together they have all shares;
--- each word is the least rank offered at its place, or empty; at no place two offers of one rank answered true; no word
--- is above what a hand knows of it; what a hand saw is empty or an offer that answered true
+-- each word is the least rank offered at its place, or empty, and nobody offered at other places; at no place two offers of
+-- one rank answered true; no word is above what a hand knows of it; a hand without shares has offered and seen nothing;
+-- what a hand saw is empty or an offer that answered true
 pub record Claiming (words : List ℕ) (views : List Hand) : Type 0 where
   pub shares : hands_total (λ v. v.shares) views ≡ all_shares
   pub idle : (k : ℕ) (v : Hand) → get_elem? views k ≡ some v → v.shares ≡ 0 → IsIdle v

@@ -149,7 +149,7 @@ FileFault _ _ = ⊥
 abbrev pub FaultOf : List ℕ → Fault → Type 0
 -- each version's magic differs from the first bytes that are there
 FaultOf bytes fault.Magic = (v : Version) → (i : ℕ) × (i < 8) × (i < length bytes) × (slice_index bytes i ≢ slice_index (magic v) i)
--- the magic is good, and a heading that is there is within the limits, but no whole file begins the bytes
+-- the magic is good as far as it is there, and a heading that is there is within the limits, but no whole file begins the bytes
 FaultOf bytes fault.Short =
     ((v : Version) × (rest : List ℕ) × (magic v ≡ bytes ++ rest) × (0 < length rest))
     ⊎ ((v : Version) × (rest : List ℕ) × (bytes ≡ magic v ++ rest) × (length rest < 24))

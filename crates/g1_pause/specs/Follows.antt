@@ -17,7 +17,7 @@ use Rattle.g1_choose.specs.declared.parameters.Cost.{Cost}
 use Rattle.g1_pause.specs.declared.settings.Choice.{Choice}
 use Rattle.g1_pause.specs.Answer.{IsSetFor}
 
--- j follows from i: the kept objects, dead or not, but for the humongous ones that were freed, stand under a one-to-one
+-- j follows from i: the kept objects, dead or not, except the humongous ones that were freed, stand under a one-to-one
 -- renaming that carries roots, sizes, data and every reference, nothing else is an object, and no root and no slot leads
 -- into a region that was freed, of the set or of a humongous object
 pub record Follows (cost : Cost) (choice : Choice) (i j : Image) : Type 0 where

@@ -195,7 +195,7 @@ IsCount told n = IfSome told (λ m. m ≡ n)
 abbrev pub region_said : Content → ℕ → Region
 region_said c r = slice_index_or c.regions r free_region
 
--- the counts in a region's line are those of what was read
+-- the counts in a region's line are those of what was read, and a region that may hold cards, where objects start, has one
 pub record CountsAgree (c : Content) (t : Counts) : Type 0 where
   pub region : t.region < length c.regions
   pub holds : MayHoldCards (region_said c t.region).kind → 0 < t.found

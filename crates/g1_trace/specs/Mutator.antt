@@ -114,7 +114,7 @@ slot_address a p = a + 1 + p
 abbrev pub value_address : Heap → ℕ → ℕ → ℕ
 value_address h a p = a + 1 + (object_at h a).refs + p
 
--- what an effect makes of an image, and the reply: that of the table, but for a new object without a place and a pause without room
+-- what an effect makes of an image, and the reply: that of the table, except for a new object without a place and a pause without room
 abbrev pub IsEffect : Cost → Image → Effect → Reply → Reply → Image → Type 0
 IsEffect cost i Nothing told reply j = (reply ≡ told) × (j ≡ i)
 IsEffect cost i (SetRoot r x) told reply j = (reply ≡ told) × (j ≡ with_roots i (slice_set i.heap.roots r x))

@@ -57,20 +57,20 @@ abbrev pub ForPause : Effect → Type 0 → Type 0
 ForPause (MakePause b) P = P
 ForPause _ P = ⊤
 
--- t is v but for a root
+-- t is v except for a root
 pub record IsRootSet (v : View) (r x : ℕ) (t : View) : Type 0 where
   pub roots : t.roots ≡ slice_set v.roots r x
   pub slots : (b : ℕ) → Seen v b → t.slots b ≡ v.slots b
   pub values : (b : ℕ) → Seen v b → t.values b ≡ v.values b
 
--- t is v but for a slot of object a
+-- t is v except for a slot of object a
 pub record IsSlotSet (v : View) (a p x : ℕ) (t : View) : Type 0 where
   pub roots : t.roots ≡ v.roots
   pub written : t.slots a ≡ slice_set (v.slots a) p x
   pub slots : (b : ℕ) → Seen v b → b ≢ a → t.slots b ≡ v.slots b
   pub values : (b : ℕ) → Seen v b → t.values b ≡ v.values b
 
--- t is v but for a data word of object a
+-- t is v except for a data word of object a
 pub record IsValueSet (v : View) (a p x : ℕ) (t : View) : Type 0 where
   pub roots : t.roots ≡ v.roots
   pub written : t.values a ≡ slice_set (v.values a) p x

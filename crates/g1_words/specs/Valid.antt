@@ -22,7 +22,7 @@ Tiles words from (o ∷ os) to = (o.at ≡ from) × IsObject words o × Tiles wo
 abbrev pub IsHumongous : Heap → Object → Type 0
 IsHumongous h o = 3 * h.geometry.w < 4 * o.size
 
--- a humongous object stands at the start of the region
+-- the object at the start of the first region of a run
 pub record IsFirst (h : Heap) (r : ℕ) (o : Object) : Type 0 where
   pub kind : (region h r).kind ≡ HumongousFirst
   pub at : o.at ≡ start h r
