@@ -40,7 +40,7 @@ impl Marks {
     {
         Ok(Marks {
             count: 0,
-            bits: Vec::with_capacity(alloc, count.div_ceil(64))?,
+            bits: Vec::with_capacity(alloc, count / 64 + 1)?,
         })
     }
 
