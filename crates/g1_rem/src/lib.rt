@@ -9,7 +9,8 @@
 //! 3. `verify` asks every slot by rising address. One that leads into another region has its card in
 //!    that region's remembered set or in the dirty log; else the lowest such slot is the fault. What
 //!    passes is a `Tracked` image, whose type keeps this from then on. `verify_by` shares the regions
-//!    in the same ranges, and the first range with such a slot has the lowest.
+//!    in ranges, too, as many as all used words feed; `Starts::build_by` counts those of ordinary
+//!    regions alone. The first range with such a slot has the lowest.
 //! 4. `refine` looks at the dirty cards alone: it adds to each region's remembered set those that
 //!    hold a slot of another region that references an object in it. `refine_by` does so with this
 //!    many workers at most.
