@@ -41,7 +41,7 @@ fn is_marked(marks: &Marks, number: u32) -> bool
 }
 
 /// A mark for each card, set if the card is dirty; none at all if the log is empty.
-fn dirty_marks(alloc: Global, image: &Image) -> Result<Marks, AllocError>
+pub(crate) fn dirty_marks(alloc: Global, image: &Image) -> Result<Marks, AllocError>
     ensures { IfOk result (AreDirty image.now) }
 {
     let log = image.log().as_slice();

@@ -13,7 +13,8 @@
 //!    regions alone. The first range with such a slot has the lowest.
 //! 4. `refine` looks at the dirty cards alone: it adds to each region's remembered set those that
 //!    hold a slot of another region that references an object in it. `refine_by` does so with this
-//!    many workers at most.
+//!    many workers at most. The dirty cards are marked, and their marks are listed: that is linear,
+//!    and needs no thread.
 //! 5. `merged` makes one rising list of two, each card once: a set and the cards that join it.
 //! 6. `cards_into` lists the cards that lead into a set of regions: those of the remembered sets of
 //!    its regions that lie outside it.
