@@ -23,9 +23,9 @@ use g1_work::{MOST_WORKERS, Make, make_each, threads_for};
 use std::alloc::{AllocError, Global};
 use std::thread::Threads;
 
-/// A thread is worth starting for this many cards: a merge takes a few nanoseconds a card, and a
-/// thread takes tens of microseconds to start and an arena of its own for what it allocates.
-pub const CARDS_A_THREAD: usize = 32_768;
+/// A thread is worth starting for this many cards that are merged: a merge takes a few nanoseconds a
+/// card, and a thread takes tens of microseconds to start and an arena of its own for what it allocates.
+pub const MERGED_CARDS_A_THREAD: usize = 32_768;
 
 /// How many cards some lists have, or the greatest number if they have more.
 pub fn cards_in(lists: &[Vec<u32>]) -> usize
@@ -172,7 +172,7 @@ fn refined_remembered(
     ensures memory { IfErr result (λ e. e ≡ Fault.Memory) }
 {
     let cards = cards_in(image.remembered()).saturating_add(cards_in(entering));
-    let threads = threads_for(workers, cards, CARDS_A_THREAD);
+    let threads = threads_for(workers, cards, MERGED_CARDS_A_THREAD);
     let regions = image.heap().geometry().regions() as usize;
     make_each(rt, alloc, threads, regions, &Refining { image, entering })
 }
