@@ -180,7 +180,8 @@ fn refined_remembered(
 /// The refined remembered set of each region: its remembered set with those dirty cards that hold a
 /// slot of another region which references an object in it. The log stays as it is.
 ///
-/// Looks at the slots on the dirty cards alone, beside copying the sets.
+/// Looks at the slots on the dirty cards alone, beside copying the sets. If these have many cards, up
+/// to 64 threads copy them.
 ///
 /// # Errors
 /// `Fault::Memory` if a growth was refused.
