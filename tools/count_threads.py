@@ -1,11 +1,11 @@
 #!/usr/bin/env python3
 """count_threads.py DRIVER
 
-Counts the threads that calls of the library start which no gate is told of: those that merge remembered sets, sort
-the log, look at the cards that lead into a search and make a pause ready. DRIVER, the built crates/g1_rows, runs each on an image with more cards than one
-thread is given, as a row whose answer is written here, and tells where the call begins and ends. The call has to start
-at least one thread, and no more than there may be workers; on an image of few cards it has to start none. On a machine
-of one processor nothing is counted.
+Counts the threads that calls of the library start which no gate is told of: those that merge remembered sets, look at
+the cards that lead into a search and make a pause ready. DRIVER, the built crates/g1_rows, runs each on an image with
+more cards than one thread is given, as a row whose answer is written here, and tells where the call begins and ends. The
+call has to start at least one thread, and no more than there may be workers; on an image of few cards it has to start
+none, and none to list dirty cards, however many they are. On a machine of one processor nothing is counted.
 It needs a C compiler. The last line is 'N passed, M failed'.
 """
 import argparse
@@ -114,13 +114,14 @@ def main():
         library = compiled(folder, "count.so", LIBRARY, *words)
         counted = (library, folder / "threads", driver)
         large = [(f"{call} regions 0", all_remembered(), answer()) for call, answer in LARGE.items()]
-        large.append(("refine regions 0", all_dirty(), lists([64 * 16_384], *[[]] * 64)))
         for call, image, answer in large:
             started = count(*counted, call, image, answer)
             judge.judge(f"{call} of many cards: {started} threads", started is not None and 1 <= started < WORKERS)
         for call, answer in SMALL.items():
             started = count(*counted, f"{call} regions 1", SHARED, answer)
             judge.judge(f"{call} of few cards: {started} threads", started == 0)
+        started = count(*counted, "refine regions 0", all_dirty(), lists([64 * 16_384], *[[]] * 64))
+        judge.judge(f"refine of many dirty cards: {started} threads", started == 0)
     return judge.end()
 
 

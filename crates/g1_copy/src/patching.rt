@@ -8,16 +8,12 @@ ghost use Rattle.g1_copy.specs.Plans.{IsPlanOf};
 ghost use Rattle.g1_copy.specs.Patches.{patch_at, patches_at, patches_by_card, patches_on, AreBefore, AreFirsts};
 
 use g1_layout::Plan;
-use g1_rem::{Starts, slots_on};
+use g1_rem::{SCANNED_CARDS_A_THREAD, Starts, slots_on};
 use g1_words::{Fault, Heap};
 use g1_work::{MOST_WORKERS, threads_for};
 use std::alloc::{AllocError, Global};
 use std::thread;
 use std::thread::Threads;
-
-/// A thread is worth starting for the slots on this many cards: to look at them takes about a
-/// millisecond, and a thread takes tens of microseconds to start.
-const SCANNED_CARDS_A_THREAD: usize = 4096;
 
 /// Adds a slot with its new word, if it references a survivor.
 fn push_patch(

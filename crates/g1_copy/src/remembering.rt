@@ -16,7 +16,7 @@ use crate::cards_by_region::cards_by_region;
 use crate::copied_cards::copied_cards;
 use crate::fates::{Fate, fates, stays};
 use g1_layout::Plan;
-use g1_rem::{CARDS_A_THREAD, Tracked, cards_in, image, merged};
+use g1_rem::{MERGED_CARDS_A_THREAD, Tracked, cards_in, image, merged};
 use g1_words::{Fault, Heap};
 use g1_work::{MOST_WORKERS, Make, make_each, threads_for};
 use std::alloc::{AllocError, Global};
@@ -118,7 +118,7 @@ fn join_all(
 {
     let added = cards_in(joining.outer).saturating_add(cards_in(joining.inner));
     let cards = cards_in(joining.remembered).saturating_add(added);
-    let threads = threads_for(workers, cards, CARDS_A_THREAD);
+    let threads = threads_for(workers, cards, MERGED_CARDS_A_THREAD);
     let regions = joining.heap.geometry().regions() as usize;
     make_each(rt, alloc, threads, regions, joining)
 }

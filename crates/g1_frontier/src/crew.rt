@@ -1,5 +1,4 @@
-ghost use Rattle.std.specs.Prelude.{◌≡◌, ◌≤◌, min, max};
-ghost use Rattle.g1_work.specs.Team.{AreWorkers};
+ghost use Rattle.std.specs.Prelude.{◌≡◌, ◌≤◌};
 
 use g1_work::{Gate, Team};
 use std::alloc::Global;
@@ -49,15 +48,5 @@ impl<'a, R: Threads + Sync, G: Gate + Sync> Crew<'a, R, G> {
             team: Team::new(workers, self.team.chunk()),
             gate: self.gate,
         }
-    }
-
-    /// As many workers of the crew as there are chunks of items, but one in any case.
-    pub fn team_for(&self, chunks: usize) -> Team
-        ensures range { AreWorkers result.workers }
-        ensures workers { result.workers ≡ max 1 (min self.now.team.workers chunks) }
-        ensures chunk { result.chunk ≡ self.now.team.chunk }
-    {
-        let workers = self.team.workers().min(chunks as u64).max(1);
-        Team::new(workers, self.team.chunk())
     }
 }

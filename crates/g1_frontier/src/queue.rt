@@ -7,7 +7,7 @@ ghost use Rattle.g1_frontier.specs.Scope.{IsScope};
 
 use crate::leads::leads_on;
 use crate::scope::Scope;
-use g1_rem::slots_on;
+use g1_rem::{SCANNED_CARDS_A_THREAD, slots_on};
 use g1_words::{Heap, Marks, Object};
 use g1_work::threads_for;
 use std::alloc::{AllocError, Global};
@@ -25,10 +25,6 @@ pub struct Queue {
 // So many headers are read before the slots behind them, so that the processor waits for them
 // together. They are few enough to be in its nearest cache when their slots are read.
 const HEADERS_AHEAD: usize = 32;
-
-// To look at the slots on this many cards takes about a millisecond, and a thread takes tens of
-// microseconds to start.
-const CARDS_A_THREAD: usize = 4096;
 
 // Reads the headers of the objects at these addresses, one load beside the other.
 fn read_headers(heap: &Heap, addresses: &[u64], ahead: &mut Vec<Object>) -> Result<(), AllocError>
@@ -164,7 +160,7 @@ impl Queue {
         requires cards { All (λ c. c < card_count scope.now.heap.now) cards.now }
         ensures { OnOk result (HasNoted scope.now (flat_map (card_names scope.now) cards.now) self.old self.new) }
     {
-        match threads_for(workers, cards.len(), CARDS_A_THREAD) {
+        match threads_for(workers, cards.len(), SCANNED_CARDS_A_THREAD) {
             1 => self.note_cards(alloc, scope, cards),
             threads => self.note_cards_by_threads(rt, alloc, scope, cards, threads),
         }

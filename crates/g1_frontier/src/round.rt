@@ -142,7 +142,8 @@ fn offer_all<R: Threads + Sync, G: Gate + Sync>(
     let alloc = crew.alloc;
     let chunk = crew.team.chunk() as usize;
     let count = (items.len() + chunk - 1) / chunk;
-    let holders = give_out(alloc, claims, seat, crew.team_for(count))?;
+    let team = crew.team.for_chunks(count as u64);
+    let holders = give_out(alloc, claims, seat, team)?;
     let round = Round {
         offers: Offers { scope, claims },
         items,

@@ -1,10 +1,9 @@
 -- The objects of regions that follow one another.
-use Rattle.std.proofs.Common.{◌≡◌, ◌≤◌, ◌<◌, ℕ, suc, ◌+◌, ◌-◌, ◌*◌, ◌/◌, inl, inr, List, [], ◌∷◌, ◌++◌, flat_map, Contains, arith, refl, sym, ap, subst, ◌∙◌}
+use Rattle.std.proofs.Common.{◌≡◌, ◌≤◌, ◌<◌, ℕ, zero, suc, ◌+◌, ◌-◌, ◌*◌, ◌/◌, inl, inr, List, [], ◌∷◌, ◌++◌, flat_map, Contains, arith, refl, sym, ap, subst, ◌∙◌}
 use Rattle.std.specs.List.{range_with_len}
 use Rattle.std.proofs.lemmas.Bool.{cases_lt}
 use Rattle.std.proofs.lemmas.Grind.{flat_map-append}
 use Rattle.std.proofs.Math.Nat.{mul-le-mul_left, mul-le-mul_right, div-mul-le_self}
-use Rattle.rayon.specs.Shown.{run-append}
 use Rattle.g1_words.specs.declared.object.Object.{Object}
 use Rattle.g1_words.specs.declared.region.Kind.{Kind}
 use Rattle.g1_words.specs.declared.region.Kind.TheVariants.{Free, Ordinary, HumongousFirst, Continuation}
@@ -18,13 +17,24 @@ use Rattle.g1_words.proofs.Tiling.{Tiles-le, same_object}
 use Rattle.g1_rem.specs.Marks.{Chain, objects_between, objects_from}
 use Rattle.g1_rem.proofs.Order.{Chain-weaken, objects_chain, object_fits}
 
+-- a run of numbers, and the run behind it
+run_append : (a n m : ℕ) → range_with_len a n ++ range_with_len (a + n) m ≡ range_with_len a (n + m)
+run_append a zero m =
+    let at : a + 0 ≡ a = omega arith in
+    let count : m ≡ 0 + m = omega arith in
+    ap (λ k. range_with_len k m) at ∙ ap (range_with_len a) count
+run_append a (suc n) m =
+    let at : a + suc n ≡ (a + 1) + n = omega arith in
+    let count : suc (n + m) ≡ suc n + m = omega arith in
+    ap (λ k. a ∷ range_with_len (a + 1) n ++ range_with_len k m) at ∙ ap (λ l. a ∷ l) (run_append (a + 1) n m) ∙ ap (range_with_len a) count
+
 -- numbers that follow one another
 runs_append : (a b c : ℕ) → a ≤ b → b ≤ c → range_with_len a (c - a) ≡ range_with_len a (b - a) ++ range_with_len b (c - b)
 runs_append a b c le more =
     let at : a + (b - a) ≡ b = omega (arith, le) in
     let whole : (b - a) + (c - b) ≡ c - a = omega (arith, le, more) in
     sym (subst (λ x. range_with_len a (b - a) ++ range_with_len x (c - b) ≡ range_with_len a (c - a)) at
-    (subst (λ m. range_with_len a (b - a) ++ range_with_len (a + (b - a)) (c - b) ≡ range_with_len a m) whole (run-append a (b - a) (c - b))))
+    (subst (λ m. range_with_len a (b - a) ++ range_with_len (a + (b - a)) (c - b) ≡ range_with_len a m) whole (run_append a (b - a) (c - b))))
 
 module _ (h : Heap) where
   -- the objects of one range, and those of the next

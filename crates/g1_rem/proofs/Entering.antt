@@ -1,6 +1,6 @@
 -- The dirty cards that lead into each region, card by card and slot by slot.
 use Rattle.std.proofs.Common.{◌≡◌, ◌≢◌, ◌≤◌, ◌<◌, ℕ, zero, suc, ◌+◌, ◌-◌, inl, inr, Bool, true, false, not, cond, ◌&&◌, ◌||◌, List, [], ◌∷◌, ◌++◌, length, slice_index, slice_index_or}
-use Rattle.std.proofs.Common.{get_or, replicate, map, take, drop, filter, All, AllPairs, Contains, arith, refl, sym, ap, subst, ◌∙◌, eqb, eqb-true, eq-eqb, append-nil, get_or-set_same}
+use Rattle.std.proofs.Common.{get_or, replicate, map, take, drop, filter, All, Contains, arith, refl, sym, ap, subst, ◌∙◌, eqb, eqb-true, eq-eqb, append-nil, get_or-set_same}
 use Rattle.std.proofs.Common.{get_or-set_other}
 use Rattle.std.specs.Prelude.{Some, None, Result, Ok, Err, IfOk}
 use Rattle.std.specs.Global.{Vec}
@@ -10,13 +10,7 @@ use Rattle.std.specs.List.{list_any, range_with_len, AllZip}
 use Rattle.std.specs.List.Sorted.{IsStrictlyIncreasing}
 use Rattle.std.proofs.Math.ListN.{set, length-set}
 use Rattle.std.proofs.Math.ListN.{drop_of_length-le}
-use Rattle.std.specs.List.Sorted.{IsPermutation, IsSorted}
-use Rattle.std.specs.Ordering.{nat_cmp}
 use Rattle.std.proofs.lemmas.Bool.{cases_lt}
-use Rattle.std.proofs.lemmas.Bool.Decides.{Decides-eqb}
-use Rattle.std.proofs.lemmas.List.Sorted.{Contains-permutation, IsPermutation-sym, IsNonDecreasingBy-from_sort}
-use Rattle.std.proofs.lemmas.Map.Keys.{IsDistinct-IsPermutation, IsStrictlyIncreasing-from_distinct}
-use Rattle.std.proofs.lemmas.Map.Made.{IsDistinct-from_AllPairs}
 use Rattle.std.proofs.lemmas.List.{get_or_push, take_all, length-append, length-replicate, get_or-replicate}
 use Rattle.std.proofs.lemmas.List.Elements.{filter-append}
 use Rattle.std.proofs.lemmas.List.Folds.{list_any-append}
@@ -157,7 +151,7 @@ once_pushed before xs card true e never =
 -- ---- one card
 
 -- what holds of each member holds of all
-all_in : (P : ℕ → Type 0) (xs : List ℕ) → ((x : ℕ) → In xs x → P x) → All P xs
+pub all_in : (P : ℕ → Type 0) (xs : List ℕ) → ((x : ℕ) → In xs x → P x) → All P xs
 all_in P xs f = λ k d lt. f (get_or xs k d) (get_or-In xs k d lt)
 
 -- what holds of all holds of a member
@@ -248,7 +242,7 @@ refined_is i r zs valid lt rising members =
     let e = (filter_member (is_refined i r) (range_with_len 0 (card_count i.heap)) c m).1 in
     in_from_has zs c (members c ∙ e))
 
--- ---- the dirty cards, sorted
+-- ---- what was lent
 
 -- a vector whose elements were lent whole and written
 pub lent_back : {A : Type 0} (len : ℕ) (now new items : List A) → now ≡ items → length new ≡ length now → length now ≡ len → take len (new ++ drop (length new) items) ≡ new
@@ -256,31 +250,6 @@ lent_back len now new items e same f =
     let all : length items ≤ length new = omega (arith, same, ap length e) in
     let none : drop (length new) items ≡ [] = drop_of_length-le items all in
     ap (λ l. take len (new ++ l)) none ∙ ap (take len) (append-nil new) ∙ take_all len new (omega (arith, same, f))
-
-module _ (log sorted : List ℕ) (moved : IsPermutation log sorted) where
-  -- a sorted log rises, since its cards differ
-  pub sorted_rising : AllPairs (λ c d. c ≢ d) log → IsSorted nat_cmp sorted → IsStrictlyIncreasing sorted
-  sorted_rising distinct s =
-      IsStrictlyIncreasing-from_distinct sorted (IsNonDecreasingBy-from_sort (λ x. x) sorted s)
-      (IsDistinct-IsPermutation eqb eqb_flips log sorted moved (IsDistinct-from_AllPairs {eq = eqb} Decides-eqb log distinct))
-    where
-      eqb_flips : (x y : ℕ) → eqb x y ≡ eqb y x
-      eqb_flips x y = same_test (eqb x y) (eqb y x) (λ e. eq-eqb y x (sym (eqb-true x y e))) (λ e. eq-eqb x y (sym (eqb-true y x e)))
-
-  -- it has the cards of the log
-  pub sorted_same : (c : ℕ) → has sorted c ≡ has log c
-  sorted_same c = same_test (has sorted c) (has log c)
-      (λ e. has_from_in log c (In-from_contains log c (Contains-permutation sorted log c (IsPermutation-sym log sorted moved) (Contains-from_in sorted c (in_from_has sorted c e)))))
-      (λ e. has_from_in sorted c (In-from_contains sorted c (Contains-permutation log sorted c moved (Contains-from_in log c (in_from_has log c e)))))
-
-  -- all of them are the heap's
-  pub sorted_inside : (h : Heap) → IsValid h → All (IsUsedCard h) log → All (λ c. c < card_count h) sorted
-  sorted_inside h valid used = all_in (λ c. c < card_count h) sorted (λ c i. card_inside h c valid (in_all (IsUsedCard h) log c used
-      (In-from_contains log c (Contains-permutation sorted log c (IsPermutation-sym log sorted moved) (Contains-from_in sorted c i)))))
-
--- all dirty cards are the heap's
-pub log_inside : (i : Image) → IsImage i → All (λ c. c < card_count i.heap) i.log
-log_inside i valid = all_in (λ c. c < card_count i.heap) i.log (λ c k. card_inside i.heap c valid.heap (in_all (IsUsedCard i.heap) i.log c valid.log.used k))
 
 -- ---- all regions
 

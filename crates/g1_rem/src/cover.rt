@@ -41,7 +41,7 @@ fn is_marked(marks: &Marks, number: u32) -> bool
 }
 
 /// A mark for each card, set if the card is dirty; none at all if the log is empty.
-fn dirty_marks(alloc: Global, image: &Image) -> Result<Marks, AllocError>
+pub(crate) fn dirty_marks(alloc: Global, image: &Image) -> Result<Marks, AllocError>
     ensures { IfOk result (AreDirty image.now) }
 {
     let log = image.log().as_slice();
@@ -240,6 +240,23 @@ pub fn first_uncovered(alloc: Global, image: &Image) -> Result<Option<u64>, Faul
     first_among(alloc, image, &dirty, 0, regions)
 }
 
+/// The lowest slot that isn't covered, by this many threads.
+fn first_by(
+    rt: &(impl Threads + Sync),
+    alloc: Global,
+    image: &Image,
+    threads: usize,
+) -> Result<Option<u64>, Fault>
+    requires { 0 < threads }
+    ensures ok { IfOk result (IsFirstOf (uncovered image.now)) }
+    ensures memory { IfErr result (λ e. e ≡ Fault.Memory) }
+{
+    match threads {
+        1 => first_uncovered(alloc, image),
+        _ => first_by_threads(rt, alloc, image, threads),
+    }
+}
+
 /// The image with its cover kept by the type, or the very image again with the fault.
 ///
 /// One pass over the slots by rising address: remembered sets rise too, so a place in each of them
@@ -280,7 +297,7 @@ pub fn verify_by(
     ensures lowest { IfErr result (λ e. (p q : ℕ) → e.1 ≡ Fault.Uncovered p → Contains (uncovered image) q → p ≤ q) }
 {
     let threads = threads_for_slots(image.heap(), workers);
-    match first_by_threads(rt, alloc, &image, threads) {
+    match first_by(rt, alloc, &image, threads) {
         Err(fault) => Err((image, fault)),
         Ok(Some(p)) => Err((image, Fault::Uncovered(p))),
         Ok(None) => Ok(Tracked { image }),

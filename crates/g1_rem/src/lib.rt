@@ -9,10 +9,12 @@
 //! 3. `verify` asks every slot by rising address. One that leads into another region has its card in
 //!    that region's remembered set or in the dirty log; else the lowest such slot is the fault. What
 //!    passes is a `Tracked` image, whose type keeps this from then on. `verify_by` shares the regions
-//!    in the same ranges, and the first range with such a slot has the lowest.
+//!    in ranges, too, as many as all used words feed; `Starts::build_by` counts those of ordinary
+//!    regions alone. The first range with such a slot has the lowest.
 //! 4. `refine` looks at the dirty cards alone: it adds to each region's remembered set those that
 //!    hold a slot of another region that references an object in it. `refine_by` does so with this
-//!    many workers at most.
+//!    many workers at most. The dirty cards are marked, and their marks are listed: that is linear,
+//!    and needs no thread.
 //! 5. `merged` makes one rising list of two, each card once: a set and the cards that join it.
 //! 6. `cards_into` lists the cards that lead into a set of regions: those of the remembered sets of
 //!    its regions that lie outside it.
@@ -45,8 +47,8 @@ pub use entries::cards_into_region;
 pub use entry_cards::{cards_into, mark_each};
 pub use leads::leads_into;
 pub use merging::merged;
-pub use refining::{CARDS_A_THREAD, cards_in, refine, refine_by};
+pub use refining::{MERGED_CARDS_A_THREAD, cards_in, refine, refine_by};
 pub use rows::objects_end;
-pub use slots::slots_on;
+pub use slots::{SCANNED_CARDS_A_THREAD, slots_on};
 pub use starts::Starts;
 pub use tracked::{Tracked, image};

@@ -1,30 +1,31 @@
 ghost use Rattle.std.specs.Prelude.{◌≡◌, ◌<◌, ◌-◌, ◌^◌, min, sum_by, ℕ, List, [], length, map, replicate, filter, All, Bool, Contains, slice_index, slice_index_or, true, OnOk, IfOk, IfErr};
-ghost use Rattle.std.specs.List.Sorted.{IsStrictlyIncreasing, IsPermutation, IsSorted};
-ghost use Rattle.std.specs.Ordering.{nat_cmp};
+ghost use Rattle.std.specs.List.{range_with_len};
+ghost use Rattle.std.specs.List.Sorted.{IsStrictlyIncreasing};
 ghost use Rattle.g1_words.specs.Heap.{regions};
 ghost use Rattle.g1_words.specs.Lists.{has};
 ghost use Rattle.g1_words.specs.Valid.{IsReference, IsValid};
 ghost use Rattle.g1_image.specs.Cards.{is_exact, refined};
 ghost use Rattle.g1_image.specs.Image.{IsImage};
+ghost use Rattle.g1_rem.specs.Cover.{AreDirty};
 ghost use Rattle.g1_rem.specs.Starts.{IsStartsOf, card_count};
 ghost use Rattle.g1_rem.specs.Entering.{IsGrown, AreEntering, IsRefining, AreRefining};
 
 use crate::card_lists::{no_cards, push_once};
+use crate::cover::dirty_marks;
 use crate::leads::led_into;
 use crate::merging::merged;
 use crate::slots::slots_on;
 use crate::starts::Starts;
 use crate::tracked::{Tracked, image};
 use g1_image::Image;
-use g1_words::{Fault, Heap};
+use g1_words::{Fault, Heap, Marks};
 use g1_work::{MOST_WORKERS, Make, make_each, threads_for};
-use rayon::prelude::*;
 use std::alloc::{AllocError, Global};
 use std::thread::Threads;
 
-/// A thread is worth starting for this many cards: a merge takes a few nanoseconds a card, and a
-/// thread takes tens of microseconds to start and an arena of its own for what it allocates.
-pub const CARDS_A_THREAD: usize = 32_768;
+/// A thread is worth starting for this many cards that are merged: a merge takes a few nanoseconds a
+/// card, and a thread takes tens of microseconds to start and an arena of its own for what it allocates.
+pub const MERGED_CARDS_A_THREAD: usize = 32_768;
 
 /// How many cards some lists have, or the greatest number if they have more.
 pub fn cards_in(lists: &[Vec<u32>]) -> usize
@@ -37,34 +38,30 @@ pub fn cards_in(lists: &[Vec<u32>]) -> usize
     count
 }
 
-/// Sorts cards, in as many threads as they feed.
-fn sort(rt: &(impl Threads + Sync), cards: &mut [u32], workers: u64)
-    ensures permutation { IsPermutation cards.old cards.new }
-    ensures len { length cards.new ≡ length cards.old }
-    ensures sorted { IsSorted nat_cmp cards.new }
+/// The cards whose mark is set, where the marks tell which cards are dirty.
+fn marked_cards(alloc: Global, image: &Image, dirty: &Marks) -> Result<Vec<u32>, AllocError>
+    requires image { IsImage image.now }
+    requires dirty { AreDirty image.now dirty.now }
+    ensures { IfOk result (λ v. v.items ≡ filter (has image.now.log) (range_with_len 0 (length dirty.now))) }
 {
-    if threads_for(workers, cards.len(), CARDS_A_THREAD) > 1 {
-        par_sort_unstable(rt, cards);
-    } else {
-        cards.sort_unstable();
+    let mut cards = Vec::with_capacity(alloc, image.log().len())?;
+    let mut from = 0;
+    'cards: while let Some(card) = dirty.next_set(from) {
+        cards.push(card as u32)?;
+        from = card + 1;
     }
+    Ok(cards)
 }
 
 /// The dirty cards, rising.
-fn dirty_cards(
-    rt: &(impl Threads + Sync),
-    alloc: Global,
-    image: &Image,
-    workers: u64,
-) -> Result<Vec<u32>, AllocError>
+fn dirty_cards(alloc: Global, image: &Image) -> Result<Vec<u32>, AllocError>
     requires { IsImage image.now }
     ensures rising { IfOk result (λ v. IsStrictlyIncreasing v.items) }
     ensures same { IfOk result (λ v. (c : ℕ) → has v.items c ≡ has image.now.log c) }
     ensures inside { IfOk result (λ v. All (λ c. c < card_count image.now.heap) v.items) }
 {
-    let mut cards = Vec::from_slice(alloc, image.log().as_slice())?;
-    sort(rt, &mut cards, workers);
-    Ok(cards)
+    let dirty = dirty_marks(alloc, image)?;
+    marked_cards(alloc, image, &dirty)
 }
 
 /// Adds a card to the list of each region that a slot on it leads into.
@@ -111,17 +108,15 @@ fn add_cards(
 
 /// For each region the dirty cards, rising, that hold a slot which leads into it.
 fn entering_cards(
-    rt: &(impl Threads + Sync),
     alloc: Global,
     image: &Image,
     starts: &Starts,
-    workers: u64,
 ) -> Result<Vec<Vec<u32>>, AllocError>
     requires { IsStartsOf image.now.heap starts.now }
     ensures { IfOk result (λ v. AreRefining image.now (map (λ s. s.items) v.items)) }
 {
     let heap = image.heap();
-    let dirty = dirty_cards(rt, alloc, image, workers)?;
+    let dirty = dirty_cards(alloc, image)?;
     let mut entering = no_cards(alloc, heap.geometry().regions())?;
     add_cards(alloc, heap, starts, &dirty, &mut entering)?;
     Ok(entering)
@@ -177,7 +172,7 @@ fn refined_remembered(
     ensures memory { IfErr result (λ e. e ≡ Fault.Memory) }
 {
     let cards = cards_in(image.remembered()).saturating_add(cards_in(entering));
-    let threads = threads_for(workers, cards, CARDS_A_THREAD);
+    let threads = threads_for(workers, cards, MERGED_CARDS_A_THREAD);
     let regions = image.heap().geometry().regions() as usize;
     make_each(rt, alloc, threads, regions, &Refining { image, entering })
 }
@@ -185,7 +180,8 @@ fn refined_remembered(
 /// The refined remembered set of each region: its remembered set with those dirty cards that hold a
 /// slot of another region which references an object in it. The log stays as it is.
 ///
-/// Looks at the slots on the dirty cards alone, beside copying the sets.
+/// Looks at the slots on the dirty cards alone, beside copying the sets. If these have many cards, up
+/// to 64 threads copy them.
 ///
 /// # Errors
 /// `Fault::Memory` if a growth was refused.
@@ -218,6 +214,6 @@ pub fn refine_by(
     ensures memory { IfErr result (λ e. e ≡ Fault.Memory) }
 {
     let image = image(tracked);
-    let entering = entering_cards(rt, alloc, image, starts, workers)?;
+    let entering = entering_cards(alloc, image, starts)?;
     refined_remembered(rt, alloc, image, &entering, workers)
 }

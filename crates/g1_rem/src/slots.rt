@@ -14,6 +14,10 @@ use g1_words::{Heap, Kind, header, region_of, size_at};
 use smallvec::SmallVec;
 use std::alloc::Global;
 
+/// A thread is worth starting for the slots on this many cards: to look at them takes about a
+/// millisecond, and a thread takes tens of microseconds to start.
+pub const SCANNED_CARDS_A_THREAD: usize = 4096;
+
 /// Adds the numbers from one on and below another.
 fn push_range(out: &mut SmallVec<u64, 64>, from: u64, to: u64)
     requires { HasRoomFor out.old (to - from) }

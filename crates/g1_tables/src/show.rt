@@ -32,8 +32,9 @@ pub fn table<T: Threads + Sync>(
         chunk: settings.chunk(),
         alloc,
     };
-    let workers = vec![in alloc; (); settings.workers() as usize]?;
     let chunks = regions.div_ceil(rows.chunk);
+    let team = settings.team().for_chunks(chunks);
+    let workers = vec![in alloc; (); team.workers() as usize]?;
     let (_, outs) = each_chunk(rt, alloc, workers, chunks, &rows, &Open)?;
     Ok(join(alloc, image, &outs)?)
 }

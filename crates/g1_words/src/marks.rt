@@ -24,6 +24,9 @@ impl Model for Marks {
 
 impl Marks {
     /// So many marks, none of them set.
+    ///
+    /// # Errors
+    /// `AllocError` if the allocation was refused.
     pub fn none(alloc: Global, count: usize) -> Result<Marks, AllocError>
         ensures { IfOk result (λ m. m ≡ replicate count false) }
     {
@@ -35,12 +38,15 @@ impl Marks {
     }
 
     /// No marks, with room for so many.
+    ///
+    /// # Errors
+    /// `AllocError` if the allocation was refused.
     pub fn with_capacity(alloc: Global, count: usize) -> Result<Marks, AllocError>
         ensures { IfOk result (λ m. m ≡ []) }
     {
         Ok(Marks {
             count: 0,
-            bits: Vec::with_capacity(alloc, count.div_ceil(64))?,
+            bits: Vec::with_capacity(alloc, count / 64 + 1)?,
         })
     }
 

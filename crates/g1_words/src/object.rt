@@ -170,6 +170,9 @@ pub(crate) fn starts_between(
 }
 
 /// The addresses of the objects that start in a region, rising.
+///
+/// # Errors
+/// `Fault::Memory` if a growth was refused.
 pub fn objects_in(alloc: Global, heap: &Heap, region: u32) -> Result<Vec<u64>, Fault>
     requires { region < heap.now.geometry.n }
     ensures ok { IfOk result (λ v. v.items ≡ map (λ o. o.at) (objects_in heap.now region)) }

@@ -123,7 +123,8 @@ fn run_all<R: Threads + Sync, T: Task + Sync, G: Gate + Sync>(
 /// each run reports the chunk to the gate as `Deal`. The states come back in their order, each as the
 /// chunks that its worker drew, in rising order, made it; the outs are in the order of the chunks.
 /// A worker for which no thread can be had does its part on the thread that asked. With at most one
-/// chunk no thread is started.
+/// chunk no thread is started. With fewer chunks than workers some threads are started for nothing:
+/// `Team::for_chunks` leaves those out.
 ///
 /// # Errors
 /// `Memory`, or a fault that the task states for one of the chunks. The states are given up.

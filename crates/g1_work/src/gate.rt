@@ -10,6 +10,7 @@ pub enum Part {
 /// A watcher for tests. Each piece of work is reported to it before it is done, by the thread that
 /// does it, and changes no answer.
 pub trait Gate {
+    /// Hears that the piece of this number is done next.
     fn at(&self, part: Part, number: u64);
 }
 

@@ -8,7 +8,8 @@
 //! what each gave. Then each chunk's out is put at its place.
 //!
 //! A `Team` is how many workers share some work and how many items one of them draws at once: each
-//! call that is handed the two numbers makes one, and the functions below it ask for no range again.
+//! public call that is handed the two numbers makes one, and the private functions below it take that
+//! and ask for no range again.
 //! Work that is not drawn goes by its size: `threads_for` says how many threads its items feed. If
 //! each number, such as that of a region or of a range, has its own result, `make_each` makes them in
 //! order: by that many threads, and by the thread that asked if it is one.

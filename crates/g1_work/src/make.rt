@@ -47,8 +47,8 @@ fn make_in_turn<M: Make>(alloc: Global, count: usize, maker: &M) -> Result<Vec<M
 
 /// What is made of each number below `count`, in order.
 ///
-/// At most this many threads run, and no more than there are processors. With one thread none is
-/// started: the numbers are done by the thread that asked.
+/// At most this many threads run, and at most two for each processor. With one thread none is started:
+/// the numbers are done by the thread that asked.
 ///
 /// # Errors
 /// `Memory`.
@@ -67,10 +67,16 @@ pub fn make_each<R: Threads + Sync, M: Make + Sync>(
     if threads == 1 {
         return make_in_turn(alloc, count, maker);
     }
-    // Pieces of the same size, at most one a thread.
+    // rayon halves a piece while each half has this many numbers. So the pieces are the greatest power of
+    // two that is at most `threads`. A quotient that is rounded up would cost the last halving.
+    let least = if count > threads {
+        (count >> threads.ilog2()).max(2)
+    } else {
+        1
+    };
     (0..count)
         .into_par_iter()
-        .with_min_len(count.div_ceil(threads))
+        .with_min_len(least)
         .map(
             |number: usize| -> Result<M::Made, Fault>
                 requires { M.ready maker.now number }

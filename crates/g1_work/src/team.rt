@@ -70,4 +70,13 @@ impl Team {
     {
         self.chunk
     }
+
+    /// As many of its workers as there are chunks, but one in any case.
+    pub fn for_chunks(&self, chunks: u64) -> Team
+        ensures range { AreWorkers result.workers }
+        ensures workers { result.workers ≡ max 1 (min self.now.workers chunks) }
+        ensures chunk { result.chunk ≡ self.now.chunk }
+    {
+        Team::new(self.workers.min(chunks).max(1), self.chunk)
+    }
 }

@@ -10,7 +10,7 @@ take_in-requires-clause-some g c =
     let s = c.args.scope.now in
     let count = count_back c.args.claims.now (place_in s) (pairs_in s) c.chunk-chunk.result c.args.items.now _ (λ s k t o r. r) _ c.args.seat _ _ _ _
     c.in_ok-holders.ensures c.in_ok-holders-2.ensures.ok in
-    omega (arith, count, c.in_ok-holders-2.holders.ok, c.team_for.ensures.range.0)
+    omega (arith, count, c.in_ok-holders-2.holders.ok, c.for_chunks-team.ensures.range.0)
 
 pub take_in-requires-clause-seats : goal.take_in-requires-clause-seats
 take_in-requires-clause-seats g c =
@@ -33,8 +33,8 @@ each_chunk-requires-clause-chunks g c κs within =
 
 pub each_chunk-requires-clause-workers : goal.each_chunk-requires-clause-workers
 each_chunk-requires-clause-workers g c κs within =
-    let count : vec_len c.in_ok-holders.holders ≡ c.team_for.result.workers = c.in_ok-holders.holders.ok.0 ∙ c.in_ok-holders.ensures.count_is in
-    (omega (arith, count, c.team_for.ensures.range.0), omega (arith, count, c.team_for.ensures.range.1))
+    let count : vec_len c.in_ok-holders.holders ≡ c.for_chunks-team.result.workers = c.in_ok-holders.holders.ok.0 ∙ c.in_ok-holders.ensures.count_is in
+    (omega (arith, count, c.for_chunks-team.ensures.range.0), omega (arith, count, c.for_chunks-team.ensures.range.1))
 
 pub each_chunk-requires-clause-ready : goal.each_chunk-requires-clause-ready
 each_chunk-requires-clause-ready g c κs within = λ k d lt chunk below.
@@ -43,7 +43,7 @@ each_chunk-requires-clause-ready g c κs within = λ k d lt chunk below.
     let range = c.chunk-chunk.ensures.range in
     let few = no_more_than n size range.0 in (
       c.requires.places,
-      given_seats c.args.claims.now c.args.seat c.team_for.result.workers c.in_ok-holders.holders.items c.in_ok-holders.ensures k d lt,
+      given_seats c.args.claims.now c.args.seat c.for_chunks-team.result.workers c.in_ok-holders.holders.items c.in_ok-holders.ensures k d lt,
       c.requires.items,
       c.requires.ranks,
       range.0,

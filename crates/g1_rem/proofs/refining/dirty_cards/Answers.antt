@@ -1,33 +1,29 @@
-use Rattle.std.proofs.Common.{◌≡◌, ◌<◌, ◌∙◌, ◌++◌, length, take, drop, All, ap, sym, subst}
-use Rattle.std.specs.List.Sorted.{IsStrictlyIncreasing, IsPermutation}
+use Rattle.std.proofs.Common.{◌≡◌, ◌<◌, ◌∙◌, ℕ, ap, sym, subst, length, filter, All}
+use Rattle.std.proofs.lemmas.Result.{IfOk-weaker}
+use Rattle.std.specs.List.{range_with_len}
+use Rattle.std.specs.List.Sorted.{IsStrictlyIncreasing}
 use Rattle.g1_words.specs.Lists.{has}
 use Rattle.g1_rem.specs.Starts.{card_count}
-use Rattle.g1_rem.proofs.Entering.{lent_back, sorted_rising, sorted_same, sorted_inside}
-use Rattle.g1_rem.proofs.refining.dirty_cards.Given.{Over}
+use Rattle.g1_rem.proofs.Dirty.{listed_rising, listed_same, listed_inside}
 use Rattle.g1_rem.proofs.refining.dirty_cards.Goals as goal
-use Rattle.g1_rem.proofs.refining.dirty_cards.Goals.{After-sort}
-
--- the vector has what the sort made of the log
-sorted : (g : Over) (c : After-sort g) → take c.in_ok-cards.cards.len (c.sort.new.cards ++ drop (length c.sort.new.cards) c.in_ok-cards.cards.items) ≡ c.sort.new.cards
-sorted g c = lent_back c.in_ok-cards.cards.len c.deref_mut.result.now c.sort.new.cards c.in_ok-cards.cards.items c.deref_mut.ensures.value c.sort.ensures.len c.deref_mut.ensures.len
-
-moved : (g : Over) (c : After-sort g) → IsPermutation c.args.image.now.log c.sort.new.cards
-moved g c =
-    let same = c.deref_mut.ensures.value ∙ c.in_ok-cards.ensures.items ∙ c.as_slice.ensures.keys ∙ c.log.ensures in
-    subst (λ l. IsPermutation l c.sort.new.cards) same c.sort.ensures.permutation
 
 pub returns-clause-rising : goal.returns-clause-rising
-returns-clause-rising g c =
-    let b = (goal.at.returns-clause-rising g c).After-sort in
-    subst IsStrictlyIncreasing (sym (sorted g b)) (sorted_rising c.args.image.now.log c.sort.new.cards (moved g b) c.requires.log.distinct c.sort.ensures.sorted)
+returns-clause-rising c =
+    let log = c.args.image.now.log in
+    let n = length c.in_ok-dirty.dirty in
+    IfOk-weaker c.marked_cards.result (λ v. v.items ≡ filter (has log) (range_with_len 0 n)) (λ v. IsStrictlyIncreasing v.items)
+    (λ v e. subst IsStrictlyIncreasing (sym e) (listed_rising log n)) c.marked_cards.ensures
 
 pub returns-clause-same : goal.returns-clause-same
-returns-clause-same g c = λ x.
-    let b = (goal.at.returns-clause-same g c).After-sort in
-    ap (λ l. has l x) (sorted g b) ∙ sorted_same c.args.image.now.log c.sort.new.cards (moved g b) x
+returns-clause-same c =
+    let i = c.args.image.now in
+    let marks = c.in_ok-dirty.dirty in
+    IfOk-weaker c.marked_cards.result (λ v. v.items ≡ filter (has i.log) (range_with_len 0 (length marks))) (λ v. (x : ℕ) → has v.items x ≡ has i.log x)
+    (λ v e x. ap (λ l. has l x) e ∙ listed_same i marks x c.in_ok-dirty.ensures) c.marked_cards.ensures
 
 pub returns-clause-inside : goal.returns-clause-inside
-returns-clause-inside g c =
-    let b = (goal.at.returns-clause-inside g c).After-sort in
-    subst (All (λ c'. c' < card_count c.args.image.now.heap)) (sym (sorted g b))
-    (sorted_inside c.args.image.now.log c.sort.new.cards (moved g b) c.args.image.now.heap c.requires.heap c.requires.log.used)
+returns-clause-inside c =
+    let i = c.args.image.now in
+    let n = length c.in_ok-dirty.dirty in
+    IfOk-weaker c.marked_cards.result (λ v. v.items ≡ filter (has i.log) (range_with_len 0 n)) (λ v. All (λ x. x < card_count i.heap) v.items)
+    (λ v e. subst (All (λ x. x < card_count i.heap)) (sym e) (listed_inside i n c.requires)) c.marked_cards.ensures
