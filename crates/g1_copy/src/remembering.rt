@@ -31,7 +31,7 @@ fn kept_cards(
 ) -> Result<Vec<u32>, AllocError>
     ensures { IfOk result (λ v. v.items ≡ filter (stays heap.now fates.now) cards.now) }
 {
-    let mut kept = Vec::new(alloc);
+    let mut kept = Vec::with_capacity(alloc, cards.len())?;
     for card in cards {
         if stays(heap, fates, *card) {
             kept.push(*card)?;
@@ -70,6 +70,9 @@ fn join(
         Fate::Filled(_) => merged(alloc, cards.outer, cards.inner),
         Fate::Kept => {
             let kept = kept_cards(alloc, heap, fates, cards.refined)?;
+            if cards.inner.is_empty() {
+                return Ok(kept);
+            }
             merged(alloc, &kept, cards.inner)
         }
     }
