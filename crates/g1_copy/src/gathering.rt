@@ -14,9 +14,9 @@ use g1_work::{Fill, MOST_WORKERS, Open, each_region_mut, threads_for};
 use std::alloc::{AllocError, Global};
 use std::thread::Threads;
 
-/// A thread is worth starting for this many words: to copy them takes as long as some threads take to
-/// start.
-const WORDS_A_THREAD: usize = 65_536;
+/// A thread is worth starting for this many words. They are half of `WORDS_A_RUN` in filling.rt, since
+/// they are not only copied: each survivor's header is read, and each reference is looked up.
+const COPIED_WORDS_A_THREAD: usize = 65_536;
 
 /// A reference word after what it references moved: null stays null.
 pub(crate) fn rename_reference(plan: &Plan, reference: u64) -> u64
@@ -129,7 +129,7 @@ pub(crate) fn gather_by(
     let to_space = geometry.words_of(plan.runs().len() as u64) as usize;
     let mut words = vec![in alloc; 0u64; to_space]?;
     let copies = Copies { heap, plan };
-    let threads = threads_for(workers.min(MOST_WORKERS), to_space, WORDS_A_THREAD) as u64;
+    let threads = threads_for(workers.min(MOST_WORKERS), to_space, COPIED_WORDS_A_THREAD) as u64;
     each_region_mut(rt, threads, &mut words, region_words, &copies, &Open);
     Ok(words)
 }

@@ -143,8 +143,8 @@ fn new_regions(
 }
 
 /// The roots after the pause.
-fn new_roots(alloc: Global, heap: &Heap, set: &[u32], plan: &Plan) -> Result<Vec<u64>, AllocError>
-    requires { IsPauseOf heap.now set.now plan.now }
+fn new_roots(alloc: Global, heap: &Heap, plan: &Plan) -> Result<Vec<u64>, AllocError>
+    requires { IsPauseOf heap.now plan.now.set plan.now }
     ensures { IfOk result (λ v. v.items ≡ map (renamed (forward heap.now plan.now.survivors)) heap.now.roots) }
 {
     g1_words::laws::valid(heap);
@@ -254,7 +254,7 @@ pub fn prepare_on(
     Ok(Prepared {
         firsts: firsts(alloc, heap, &patches)?,
         regions: new_regions(alloc, heap, &fates, plan)?,
-        roots: new_roots(alloc, heap, set, plan)?,
+        roots: new_roots(alloc, heap, plan)?,
         remembered: sets,
         fates,
         gathered,
