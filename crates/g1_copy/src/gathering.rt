@@ -95,7 +95,7 @@ impl Fill for Copies<'_> {
 }
 
 /// The words of to-space after the pause, its regions one after another: each survivor at its place
-/// with its references renamed, and 0 elsewhere. Linear in these words.
+/// with its references renamed, and 0 elsewhere. Linear in these words. May start threads.
 ///
 /// # Errors
 ///

@@ -32,7 +32,7 @@ pub struct Prepared {
     pub(crate) fates: Vec<Fate>,
     /// The words of to-space, its regions one after another.
     pub(crate) gathered: Vec<u64>,
-    /// The slots outside the set that name a survivor, by address, each with its new word.
+    /// The slots outside the set that reference a survivor, by address, each with its new word.
     pub(crate) patches: Vec<(u64, u64)>,
     /// How many patches lie before each region, and at last all.
     pub(crate) firsts: Vec<usize>,
@@ -158,7 +158,7 @@ fn new_roots(alloc: Global, heap: &Heap, plan: &Plan) -> Result<Vec<u64>, AllocE
 /// All that the pause of a collection set writes. `remembered` are the refined sets; the plan was made from
 /// this heap, this set and its survivors. Where no humongous object is freed, looking for one is linear in
 /// the regions, the roots, the remembered cards of humongous regions and the slots on them; else the cards
-/// of all remembered sets are looked at once more.
+/// of all remembered sets are looked at once more. May start threads.
 ///
 /// # Errors
 ///
@@ -207,8 +207,8 @@ pub struct Basis<'a> {
     pub cards: &'a [u32],
 }
 
-/// As `prepare`, for a caller that has listed the cards that lead into the set, with one thread if
-/// there is one worker.
+/// As `prepare`, for a caller that has listed the cards that lead into the set, with this many workers
+/// at most. One if it is 0.
 ///
 /// # Errors
 ///
