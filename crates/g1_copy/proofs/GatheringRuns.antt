@@ -1,7 +1,7 @@
 -- How a region of to-space is filled: survivor by survivor of its run.
 use Rattle.std.proofs.Common.{◌≡◌, ℕ, ◌+◌, ◌-◌, ◌*◌, ◌/◌, ◌%◌, ◌<◌, ◌≤◌, ◌⊎◌, inl, inr, List, ◌++◌, length, get_or, map, take, drop, replicate, refl, sym, ◌∙◌, ap, subst, arith}
 use Rattle.std.proofs.Common.{length-append, length-drop}
-use Rattle.std.proofs.Math.Nat.{mul-div_left, mul-le-mul_right}
+use Rattle.std.proofs.Math.Nat.{mul-le-mul_right}
 use Rattle.std.proofs.lemmas.Bool.{cases_lt}
 use Rattle.std.proofs.lemmas.List.{ext_get_or, get_or-append_right, get_or-drop, get_or-replicate, get_or-take, get_or_append_left, length-replicate, length-take-le}
 use borrow.Rule.Slice.PartMut.{put_mid}
@@ -236,16 +236,9 @@ module _ (h : Heap) (p : Plan) (valid : IsValid h) (made : IsPlanOf h p) (u : Ru
       (subst (λ n. Filling h l (get_or (free_regions h) t 0) n i words) from (subst (λ r. Filling h l r u.from i words) region f))
       ∙ ap (placed_words h l) (sym region)
 
--- ---- by the index of a region's first word among the gathered
+-- ---- the runs of a plan
 
-module _ (h : Heap) (p : Plan) (valid : IsValid h) (made : IsPlanOf h p) where
-  some_width : 0 < h.geometry.w
-  some_width = let k = valid.limits.w_least in omega arith
-
-  -- which region it is
-  pub region_index : (s : ℕ) → ((t : ℕ) × (t < need h p.survivors) × (s ≡ t * h.geometry.w)) → s / h.geometry.w < need h p.survivors
-  region_index s (t, lt, e) = let k : s / h.geometry.w ≡ t = ap (λ x. x / h.geometry.w) e ∙ mul-div_left t some_width in omega arith
-
+module _ (h : Heap) (p : Plan) (made : IsPlanOf h p) where
   pub count_runs : length p.runs ≡ need h p.survivors
   count_runs = ap (λ (p : Plan). length p.runs) made.plan ∙ length-map-range_with_len (run_at h p.survivors) 0 (need h p.survivors)
 

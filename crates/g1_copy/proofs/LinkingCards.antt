@@ -1,21 +1,20 @@
 -- The cards of slots that lead into each region, slot by slot.
 use Rattle.std.proofs.Common.{◌≡◌, ◌≢◌, ◌≤◌, ◌<◌, ℕ, zero, suc, ◌+◌, ◌-◌, ◌*◌, ◌/◌, Bool, true, false, not, cond, ◌&&◌, ◌||◌, List, [], ◌∷◌, ◌++◌, map, filter, replicate, length, get_or}
-use Rattle.std.proofs.Common.{set, take, All, inl, inr, arith, refl, sym, ap, subst, ◌∙◌, eqb, eqb-true, eq-eqb, ne_eqb, append-nil}
+use Rattle.std.proofs.Common.{set, take, All, inl, inr, arith, refl, sym, ap, subst, ◌∙◌, eqb, eqb-true, eq-eqb, ne_eqb}
 use Rattle.std.specs.List.{range_with_len}
 use Rattle.std.specs.List.Sorted.{IsStrictlyIncreasing}
 use Rattle.std.proofs.lemmas.List.{get_or-map, get_or-take, get_or_default, length-map, length-take}
-use Rattle.std.proofs.lemmas.List.Elements.{filter-append}
 use Rattle.std.proofs.lemmas.List.Folds.{list_any-append}
 use Rattle.std.proofs.lemmas.List.Kept.{AllPairs-from_increasing}
 use Rattle.std.proofs.lemmas.List.FromFn.{get_or-map-range_with_len}
 use Rattle.std.proofs.Math.Nat.{le-div_iff_mul-le, div-mul-le_self, div-lt_iff_lt-mul}
-use Rattle.rayon.specs.Shown.{run-append}
 use Rattle.g1_words.specs.Valid.{IsValid}
 use Rattle.g1_words.proofs.Bounds.{card_below, cards_in_region}
 use Rattle.g1_words.specs.Heap.{Heap, card_of, region_of}
 use Rattle.g1_words.proofs.Indices.{get_or-In, range_bounds}
 use Rattle.g1_words.proofs.Members.{In, Contains-from_in, any_member, and_true, or_true, filter_member}
 use Rattle.g1_image.specs.Cards.{cards_where, leads_into}
+use Rattle.g1_layout.proofs.Lists.{filter_more_no, filter_more_yes}
 use Rattle.g1_rem.specs.Entering.{with_card}
 use Rattle.g1_copy.specs.Links.{cards_by_region, is_linked, link}
 
@@ -71,23 +70,24 @@ cards_up_to : (h : Heap) (test : ℕ → Bool) (c : ℕ) → c < h.geometry.n * 
 cards_up_to h test c lt most =
     let count : ℕ = h.geometry.n * h.geometry.w / h.geometry.k in
     let more : ℕ = count - (c + 1) in
-    let whole : count ≡ c + suc more = omega (arith, lt) in
-    ap (λ m. filter test (range_with_len 0 m)) whole ∙ ap (filter test) (parts (suc more)) ∙ filter-append test (range_with_len 0 c) (range_with_len c (suc more))
-    ∙ last (test c) more (none_pass test (range_with_len (c + 1) more) (λ d i. above d (range_bounds (c + 1) more d i).0))
+    let whole : count ≡ c + 1 + more = omega (arith, lt) in
+    ap (λ m. filter test (range_with_len 0 m)) whole ∙ behind more ∙ last (test c) refl
   where
-    parts : (m : ℕ) → range_with_len 0 (c + m) ≡ range_with_len 0 c ++ range_with_len c m
-    parts m = let e : 0 + c ≡ c = omega arith in sym (run-append 0 c m) ∙ ap (λ b. range_with_len 0 c ++ range_with_len b m) e
-
     above : (d : ℕ) → c + 1 ≤ d → test d ≡ false
     above d le = go (test d) refl where
       go : (b : Bool) → test d ≡ b → b ≡ false
       go true e = absurd (omega (arith, most d e, le))
       go false e = refl
 
-    last : (b : Bool) (m : ℕ) → filter test (range_with_len (c + 1) m) ≡ [] →
-        filter test (range_with_len 0 c) ++ cond b (c ∷ filter test (range_with_len (c + 1) m)) (filter test (range_with_len (c + 1) m)) ≡ with_card (filter test (range_with_len 0 c)) c b
-    last true m e = ap (λ ys. filter test (range_with_len 0 c) ++ c ∷ ys) e
-    last false m e = ap (λ ys. filter test (range_with_len 0 c) ++ ys) e ∙ append-nil (filter test (range_with_len 0 c))
+    behind : (m : ℕ) → filter test (range_with_len 0 (c + 1 + m)) ≡ filter test (range_with_len 0 (c + 1))
+    behind zero = let e : c + 1 + 0 ≡ c + 1 = omega arith in ap (λ n. filter test (range_with_len 0 n)) e
+    behind (suc m) =
+        let e : c + 1 + suc m ≡ c + 1 + m + 1 = omega arith in
+        ap (λ n. filter test (range_with_len 0 n)) e ∙ filter_more_no test (c + 1 + m) (above (c + 1 + m) (omega arith)) ∙ behind m
+
+    last : (b : Bool) → test c ≡ b → filter test (range_with_len 0 (c + 1)) ≡ with_card (filter test (range_with_len 0 c)) c b
+    last true e = filter_more_yes test c e
+    last false e = filter_more_no test c e
 
 -- those below c are below c
 pub cards_below : (test : ℕ → Bool) (c : ℕ) → All (λ d. d < c) (filter test (range_with_len 0 c))

@@ -5,6 +5,7 @@ use Rattle.std.specs.Prelude.{Result, Ok, Err, IfOk}
 use Rattle.std.specs.Global.{Vec}
 use Rattle.std.specs.List.{range_with_len, AllZip}
 use Rattle.std.specs.List.Sorted.{IsStrictlyIncreasing}
+use Rattle.std.proofs.Math.Bool.{or-false}
 use Rattle.std.proofs.Math.Nat.{div-lt_iff_lt-mul, div-mul-le_self, mul-le-mul_right}
 use Rattle.std.proofs.lemmas.List.{ext_get_or, get_or-map}
 use Rattle.std.proofs.lemmas.List.FromFn.{get_or-map-range_with_len, length-map-range_with_len}
@@ -52,6 +53,10 @@ filter_twice p q (x ∷ xs) =
       | true ↦ (λ t. cond (q x) (x ∷ rest t) (rest t))
       | false ↦ rest
     ]
+
+-- a rising list merged with an empty one is that list
+pub merged_none : (xs : List ℕ) → IsStrictlyIncreasing xs → IsMerged xs [] xs
+merged_none xs rising = record { rising = rising; members = λ x. sym (or-false (has xs x)) }
 
 -- the merge of two such lists has the cards that pass one of the tests
 pub merged_where : (h : Heap) (p q : ℕ → Bool) (zs : List ℕ) → IsMerged (cards_where h p) (cards_where h q) zs → zs ≡ cards_where h (λ c. p c || q c)

@@ -1,9 +1,9 @@
-ghost use Rattle.std.specs.Prelude.{◌≡◌, ◌≢◌, ◌<◌, length, replicate, slice_index, All, AllPairs, IfOk, IfErr};
+ghost use Rattle.std.specs.Prelude.{◌≡◌, ◌≢◌, ◌<◌, length, slice_index, All, AllPairs, IfOk, IfErr};
 ghost use Rattle.g1_words.specs.Layout.{to_space};
 ghost use Rattle.g1_copy.specs.Plans.{IsPauseOf};
 ghost use Rattle.g1_copy.specs.Remembered.{stays};
 ghost use Rattle.g1_copy.specs.Fates.{AreFates, AreReplaced};
-ghost use Rattle.g1_copy.specs.declared.fates.Fate.TheVariants.{Freed, Filled, Kept};
+ghost use Rattle.g1_copy.specs.declared.fates.Fate.TheVariants.{Freed, Filled};
 
 use g1_layout::Plan;
 use g1_words::Heap;
@@ -19,17 +19,6 @@ pub(crate) enum Fate {
     Filled(usize),
     /// Its objects stay, or it stays free.
     Kept,
-}
-
-/// So many regions that are kept.
-fn all_kept(alloc: Global, regions: u64) -> Result<Vec<Fate>, AllocError>
-    ensures { IfOk result (λ v. v.items ≡ replicate regions Kept) }
-{
-    let mut fates = Vec::with_capacity(alloc, regions as usize)?;
-    for _region in 0..regions {
-        fates.push(Fate::Kept)?;
-    }
-    Ok(fates)
 }
 
 /// Each of these regions is filled by the run of its index.
@@ -64,7 +53,8 @@ pub(crate) fn fates(
     requires { IsPauseOf heap.now set.now plan.now }
     ensures { IfOk result (λ v. AreFates heap.now set.now (to_space heap.now plan.now.survivors) v.items) }
 {
-    let mut fates = all_kept(alloc, heap.geometry().regions())?;
+    let regions = heap.geometry().regions() as usize;
+    let mut fates = vec![in alloc; Fate::Kept; regions]?;
     fill(&mut fates, plan.to_space());
     free(&mut fates, set);
     Ok(fates)

@@ -1,4 +1,4 @@
-ghost use Rattle.std.specs.Prelude.{◌≡◌, ◌≤◌, ◌<◌, ◌+◌, ◌-◌, ◌*◌, ◌/◌, ◌%◌, ◌^◌, ◌⊎◌, ℕ, length, replicate, slice_index, Contains, IfOk, IfErr};
+ghost use Rattle.std.specs.Prelude.{◌≡◌, ◌≤◌, ◌<◌, ◌^◌, ◌⊎◌, ℕ, length, replicate, slice_index, Contains, IfOk, IfErr};
 ghost use Rattle.g1_words.specs.Heap.{object_at};
 ghost use Rattle.g1_words.specs.Valid.{IsValid};
 ghost use Rattle.g1_words.specs.Layout.{need, free_regions, forward, moved_to};
@@ -10,14 +10,13 @@ ghost use Rattle.g1_copy.specs.Gathered.{placed_words, to_space_words};
 use crate::headers::Headers;
 use g1_layout::{Plan, Run};
 use g1_words::{Fault, Heap, Object};
-use g1_work::{MOST_WORKERS, threads_for};
-use rayon::prelude::*;
+use g1_work::{Fill, MOST_WORKERS, Open, each_region_mut, threads_for};
 use std::alloc::{AllocError, Global};
 use std::thread::Threads;
 
-/// A thread is worth starting for this many words: to copy them takes as long as some threads take to
-/// start.
-const WORDS_A_THREAD: usize = 65_536;
+/// A thread is worth starting for this many words. They are half of `WORDS_A_RUN` in filling.rt, since
+/// they are not only copied: each survivor's header is read, and each reference is looked up.
+const COPIED_WORDS_A_THREAD: usize = 65_536;
 
 /// A reference word after what it references moved: null stays null.
 pub(crate) fn rename_reference(plan: &Plan, reference: u64) -> u64
@@ -78,64 +77,25 @@ fn fill(heap: &Heap, plan: &Plan, run: Run, words: &mut [u64])
     }
 }
 
-/// Fills a region of to-space, which begins at this index of the gathered words.
-fn fill_at(heap: &Heap, plan: &Plan, start: usize, words: &mut [u64])
-    requires plan { IsPlanOf heap.now plan.now }
-    requires start { (t : ℕ) × (t < need heap.now plan.now.survivors) × (start ≡ t * heap.now.geometry.w) }
-    requires empty { words.old ≡ replicate heap.now.geometry.w 0 }
-    ensures { words.new ≡ placed_words heap.now plan.now.survivors (slice_index (free_regions heap.now) (start / heap.now.geometry.w)) }
-{
-    let region = start / heap.geometry().region_words() as usize;
-    fill(heap, plan, plan.runs()[region], words);
+/// The copies of the survivors, written into the regions of to-space.
+#[derive(Drop)]
+struct Copies<'a> {
+    heap: &'a Heap,
+    plan: &'a Plan,
 }
 
-/// Fills the regions of to-space, whose words are 0, by this thread alone.
-fn fill_alone(heap: &Heap, plan: &Plan, words: &mut [u64])
-    requires plan { IsPlanOf heap.now plan.now }
-    requires empty { words.old ≡ replicate (length plan.now.runs * heap.now.geometry.w) 0 }
-    ensures { words.new ≡ to_space_words heap.now plan.now.survivors }
-{
-    let geometry = heap.geometry();
-    let region_words = geometry.region_words() as usize;
-    for number in 0..plan.runs().len() {
-        let start = geometry.words_of(number as u64) as usize;
-        fill_at(heap, plan, start, &mut words[start..start + region_words]);
-    }
-}
+impl Fill for Copies<'_> {
+    ghost ready = { λ s r xs. IsPlanOf s.heap.now s.plan.now × (r < need s.heap.now s.plan.now.survivors) × (xs ≡ replicate s.heap.now.geometry.w 0) };
 
-/// Fills the regions of to-space, whose words are 0, by as many threads as there are processors.
-fn fill_by_threads(rt: &(impl Threads + Sync), heap: &Heap, plan: &Plan, words: &mut [u64])
-    requires plan { IsPlanOf heap.now plan.now }
-    requires empty { words.old ≡ replicate (length plan.now.runs * heap.now.geometry.w) 0 }
-    ensures { words.new ≡ to_space_words heap.now plan.now.survivors }
-{
-    let region_words = heap.geometry().region_words() as usize;
-    par_chunks_mut_for_each(
-        rt,
-        words,
-        region_words,
-        |start: usize, region: &mut [u64]|
-            requires { IsPlanOf heap.now plan.now × ((t : ℕ) × (t < need heap.now plan.now.survivors) × (start ≡ t * heap.now.geometry.w)) × (region.old ≡ replicate heap.now.geometry.w 0) }
-            ensures { region.new ≡ placed_words heap.entry.now plan.entry.now.survivors (slice_index (free_regions heap.entry.now) (start / heap.entry.now.geometry.w)) }
-        { fill_at(heap, plan, start, region) },
-    );
-}
+    ghost fills = { λ s r xs ys. ys ≡ placed_words s.heap.now s.plan.now.survivors (slice_index (free_regions s.heap.now) r) };
 
-/// Fills the regions of to-space, whose words are 0.
-fn fill_all(rt: &(impl Threads + Sync), heap: &Heap, plan: &Plan, words: &mut [u64], workers: u64)
-    requires plan { IsPlanOf heap.now plan.now }
-    requires empty { words.old ≡ replicate (length plan.now.runs * heap.now.geometry.w) 0 }
-    ensures { words.new ≡ to_space_words heap.now plan.now.survivors }
-{
-    if threads_for(workers, words.len(), WORDS_A_THREAD) == 1 {
-        fill_alone(heap, plan, words);
-    } else {
-        fill_by_threads(rt, heap, plan, words);
+    fn fill(&self, region: usize, words: &mut [u64]) {
+        fill(self.heap, self.plan, self.plan.runs()[region], words);
     }
 }
 
 /// The words of to-space after the pause, its regions one after another: each survivor at its place
-/// with its references renamed, and 0 elsewhere. Linear in these words.
+/// with its references renamed, and 0 elsewhere. Linear in these words. May start threads.
 ///
 /// # Errors
 ///
@@ -153,7 +113,7 @@ pub fn gather(
     Ok(gather_by(rt, alloc, heap, plan, MOST_WORKERS)?)
 }
 
-/// As `gather`, with one thread if there is one worker.
+/// As `gather`, with this many workers at most. One if it is 0.
 pub(crate) fn gather_by(
     rt: &(impl Threads + Sync),
     alloc: Global,
@@ -164,8 +124,12 @@ pub(crate) fn gather_by(
     requires { IsPlanOf heap.now plan.now }
     ensures { IfOk result (λ v. v.items ≡ to_space_words heap.now plan.now.survivors) }
 {
-    let to_space = heap.geometry().words_of(plan.runs().len() as u64) as usize;
+    let geometry = heap.geometry();
+    let region_words = geometry.region_words() as usize;
+    let to_space = geometry.words_of(plan.runs().len() as u64) as usize;
     let mut words = vec![in alloc; 0u64; to_space]?;
-    fill_all(rt, heap, plan, &mut words, workers);
+    let copies = Copies { heap, plan };
+    let threads = threads_for(workers.min(MOST_WORKERS), to_space, COPIED_WORDS_A_THREAD) as u64;
+    each_region_mut(rt, threads, &mut words, region_words, &copies, &Open);
     Ok(words)
 }

@@ -124,7 +124,8 @@ fn patches_by_threads(
 }
 
 /// The slots on some cards that reference a survivor, each with its new word, by slot address. The cards
-/// rise, and none of them lies in a region of the set. Linear in the slots on the cards.
+/// rise, and none of them lies in a region of the set. Linear in the slots on the cards. May start
+/// threads.
 ///
 /// # Errors
 ///

@@ -32,7 +32,7 @@ pub struct Prepared {
     pub(crate) fates: Vec<Fate>,
     /// The words of to-space, its regions one after another.
     pub(crate) gathered: Vec<u64>,
-    /// The slots outside the set that name a survivor, by address, each with its new word.
+    /// The slots outside the set that reference a survivor, by address, each with its new word.
     pub(crate) patches: Vec<(u64, u64)>,
     /// How many patches lie before each region, and at last all.
     pub(crate) firsts: Vec<usize>,
@@ -143,8 +143,8 @@ fn new_regions(
 }
 
 /// The roots after the pause.
-fn new_roots(alloc: Global, heap: &Heap, set: &[u32], plan: &Plan) -> Result<Vec<u64>, AllocError>
-    requires { IsPauseOf heap.now set.now plan.now }
+fn new_roots(alloc: Global, heap: &Heap, plan: &Plan) -> Result<Vec<u64>, AllocError>
+    requires { IsPauseOf heap.now plan.now.set plan.now }
     ensures { IfOk result (λ v. v.items ≡ map (renamed (forward heap.now plan.now.survivors)) heap.now.roots) }
 {
     g1_words::laws::valid(heap);
@@ -158,7 +158,7 @@ fn new_roots(alloc: Global, heap: &Heap, set: &[u32], plan: &Plan) -> Result<Vec
 /// All that the pause of a collection set writes. `remembered` are the refined sets; the plan was made from
 /// this heap, this set and its survivors. Where no humongous object is freed, looking for one is linear in
 /// the regions, the roots, the remembered cards of humongous regions and the slots on them; else the cards
-/// of all remembered sets are looked at once more.
+/// of all remembered sets are looked at once more. May start threads.
 ///
 /// # Errors
 ///
@@ -207,8 +207,8 @@ pub struct Basis<'a> {
     pub cards: &'a [u32],
 }
 
-/// As `prepare`, for a caller that has listed the cards that lead into the set, with one thread if
-/// there is one worker.
+/// As `prepare`, for a caller that has listed the cards that lead into the set, with this many workers
+/// at most. One if it is 0.
 ///
 /// # Errors
 ///
@@ -254,7 +254,7 @@ pub fn prepare_on(
     Ok(Prepared {
         firsts: firsts(alloc, heap, &patches)?,
         regions: new_regions(alloc, heap, &fates, plan)?,
-        roots: new_roots(alloc, heap, set, plan)?,
+        roots: new_roots(alloc, heap, plan)?,
         remembered: sets,
         fates,
         gathered,

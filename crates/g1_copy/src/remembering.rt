@@ -31,7 +31,7 @@ fn kept_cards(
 ) -> Result<Vec<u32>, AllocError>
     ensures { IfOk result (λ v. v.items ≡ filter (stays heap.now fates.now) cards.now) }
 {
-    let mut kept = Vec::new(alloc);
+    let mut kept = Vec::with_capacity(alloc, cards.len())?;
     for card in cards {
         if stays(heap, fates, *card) {
             kept.push(*card)?;
@@ -70,6 +70,9 @@ fn join(
         Fate::Filled(_) => merged(alloc, cards.outer, cards.inner),
         Fate::Kept => {
             let kept = kept_cards(alloc, heap, fates, cards.refined)?;
+            if cards.inner.is_empty() {
+                return Ok(kept);
+            }
             merged(alloc, &kept, cards.inner)
         }
     }
@@ -129,7 +132,7 @@ pub(crate) struct Changes<'a> {
     pub(crate) plan: &'a Plan,
     /// What is done with each region.
     pub(crate) fates: &'a [Fate],
-    /// The slots outside the set that name a survivor, by address, each with its new word.
+    /// The slots outside the set that reference a survivor, by address, each with its new word.
     pub(crate) patches: &'a [(u64, u64)],
     /// The words of to-space.
     pub(crate) gathered: &'a [u64],
@@ -166,11 +169,13 @@ pub(crate) fn remembered_by_fate(
 }
 
 /// The remembered sets after the pause, one a region: of a region of the set none; of one of
-/// to-space the cards of slots elsewhere that now name an object in it; of any other its refined set
-/// without the set's cards, and the to-space cards that hold a slot which references an object in it.
+/// to-space the cards of slots elsewhere that now reference an object in it; of any other its refined
+/// set without the set's cards, and the to-space cards that hold a slot which references an object in
+/// it.
 ///
 /// `remembered` are the refined sets, `patches` those of all slots outside the set, and `gathered` the
-/// words of to-space. Linear in the sets, the patches and the slots of the survivors.
+/// words of to-space. Linear in the sets, the patches and the slots of the survivors. May start
+/// threads.
 ///
 /// # Errors
 ///

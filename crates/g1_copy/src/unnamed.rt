@@ -65,7 +65,7 @@ fn names(alloc: Global, naming: &Naming<'_>, region: u32, object: &Object, card:
     let heap = naming.heap;
     let home = heap.geometry().region_of_card(card);
     match naming.fates[home as usize] {
-        // A card of to-space was put into the set for a slot on it that names the object.
+        // A card of to-space was put into the set for a slot on it that references the object.
         Fate::Filled(_) => true,
         Fate::Freed | Fate::Kept => {
             !lies_in(heap, home, object) && leads_into(alloc, heap, naming.starts, region, card)

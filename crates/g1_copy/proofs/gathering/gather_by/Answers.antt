@@ -1,24 +1,59 @@
-use Rattle.std.proofs.Common.{◌≡◌, ◌*◌, length, drop, replicate, arith, sym, ap, ◌∙◌}
-use Rattle.std.proofs.lemmas.List.{take_at}
-use Rattle.g1_copy.proofs.GatheringWhole.{few_words}
+use Rattle.std.proofs.Common.{◌≡◌, ◌<◌, ◌*◌, ◌/◌, ◌%◌, length, drop, replicate, arith, sym, ap, subst, ◌∙◌}
+use Rattle.std.proofs.Math.Nat.{mul-div_left, mul-mod_left}
+use Rattle.std.proofs.lemmas.List.{length-replicate, take_at}
+use Rattle.g1_words.specs.Layout.{need}
+use Rattle.g1_work.specs.Regions.{slice_of}
+use Rattle.g1_copy.proofs.GatheringRuns.{count_runs}
+use Rattle.g1_copy.proofs.GatheringWhole.{few_words, slice_empty, whole_words}
+use Rattle.g1_copy.proofs.gathering.gather_by.Given.{Over}
 use Rattle.g1_copy.proofs.gathering.gather_by.Goals as goal
+use Rattle.g1_copy.proofs.gathering.gather_by.Goals.{After-deref_mut}
 
 pub words_of-to_space-requires : goal.words_of-to_space-requires
 words_of-to_space-requires g c =
     let h = c.args.heap.now in
     let p = c.args.plan.now in
-    let same : h.geometry ≡ c.geometry.result = cc in
-    let few = few_words h p c.geometry.ensures.valid c.requires in
-    let count : length c.runs.result.now * c.geometry.result.w ≡ length p.runs * h.geometry.w = λ k. length (c.runs.ensures k) * (sym same k).w in
+    let same : h.geometry ≡ c.geometry-geometry.result = cc in
+    let few = few_words h p c.requires c.geometry-geometry.ensures.valid in
+    let count : length c.runs.result.now * c.geometry-geometry.result.w ≡ length p.runs * h.geometry.w = λ k. length (c.runs.ensures k) * (sym same k).w in
     omega (arith, few, count)
 
--- so many words were made, all 0
-pub fill_all-requires-clause-empty : goal.fill_all-requires-clause-empty
-fill_all-requires-clause-empty g c κs within =
-    let w : c.words_of-to_space.result ≡ length c.args.plan.now.runs * c.args.heap.now.geometry.w = cc in
-    c.deref_mut.ensures.value ∙ c.in_ok-words.ensures.items_if_clones_equal (λ y same. same) ∙ ap (λ n. replicate n 0) w
+-- ---- the words that were made
+
+the_width : (g : Over) (c : After-deref_mut g) → c.region_words-region_words.result ≡ c.args.heap.now.geometry.w
+the_width g c = cc
+
+the_zeros : (g : Over) (c : After-deref_mut g) → c.deref_mut.result.now ≡ replicate (length c.args.plan.now.runs * c.args.heap.now.geometry.w) 0
+the_zeros g c =
+    let size : c.words_of-to_space.result ≡ length c.args.plan.now.runs * c.args.heap.now.geometry.w = cc in
+    c.deref_mut.ensures.value ∙ c.in_ok-words.ensures.items_if_clones_equal (λ y same. same) ∙ ap (λ n. replicate n 0) size
+
+the_length : (g : Over) (c : After-deref_mut g) → length c.deref_mut.result.now ≡ length c.args.plan.now.runs * c.args.heap.now.geometry.w
+the_length g c = ap length (the_zeros g c) ∙ length-replicate (length c.args.plan.now.runs * c.args.heap.now.geometry.w) 0
+
+-- they are as many regions as are needed
+the_count : (g : Over) (c : After-deref_mut g) → length c.deref_mut.result.now / c.region_words-region_words.result ≡ need c.args.heap.now c.args.plan.now.survivors
+the_count g c =
+    let least = c.geometry-geometry.ensures.valid.limits.w_least in
+    let some : 0 < c.args.heap.now.geometry.w = omega (arith, least, ap (λ x. x.w) c.geometry-geometry.ensures.same) in
+    (λ q. the_length g c q / the_width g c q) ∙ mul-div_left (length c.args.plan.now.runs) some ∙ count_runs c.args.heap.now c.args.plan.now c.requires
+
+pub each_region_mut-requires-clause-whole : goal.each_region_mut-requires-clause-whole
+each_region_mut-requires-clause-whole g c κs within =
+    let b = (goal.at.each_region_mut-requires-clause-whole g c).After-deref_mut in
+    (λ q. the_length g b q % the_width g b q) ∙ mul-mod_left (length c.args.plan.now.runs) c.args.heap.now.geometry.w
+
+pub each_region_mut-requires-clause-ready : goal.each_region_mut-requires-clause-ready
+each_region_mut-requires-clause-ready g c κs within r lt =
+    let b = (goal.at.each_region_mut-requires-clause-ready g c).After-deref_mut in
+    let words = c.deref_mut.result.now in
+    let there = subst (λ n. r < n) (the_count g b) lt in
+    (c.requires, there, ap (λ w. slice_of w r words) (the_width g b) ∙ slice_empty c.args.heap.now c.args.plan.now c.requires words r (the_zeros g b) there)
 
 pub returns : goal.returns
 returns g c =
-    let all = c.fill_all.new.words in
-    take_at all (drop (length all) c.in_ok-words.words.items) c.in_ok-words.words.len (c.fill_all.auto.words ∙ c.deref_mut.ensures.len) ∙ c.fill_all.ensures
+    let b = (goal.at.returns g c).After-deref_mut in
+    let all = c.each_region_mut.new.words in
+    take_at all (drop (length all) c.in_ok-words.words.items) c.in_ok-words.words.len (c.each_region_mut.ensures.size ∙ c.deref_mut.ensures.len)
+    ∙ whole_words c.args.heap.now c.args.plan.now c.requires all (c.each_region_mut.ensures.size ∙ the_length g b)
+    (λ r lt. ap (λ w. slice_of w r all) (sym (the_width g b)) ∙ c.each_region_mut.ensures.fills r (subst (λ n. r < n) (sym (the_count g b)) lt))

@@ -10,7 +10,7 @@ loop-root-init c = c.in_ok-roots.ensures.items
 
 pub rename_reference-requires : goal.rename_reference-requires
 rename_reference-requires c =
-    root_fits c.args.heap.now c.args.set.now c.args.plan.now c.valid.ensures c.requires c.roots-root-items.result.now c.loop-root.root-index 0 c.roots-root-items.ensures c.loop-root-test.true
+    root_fits c.args.heap.now c.args.plan.now.set c.args.plan.now c.valid.ensures c.requires c.roots-root-items.result.now c.loop-root.root-index 0 c.roots-root-items.ensures c.loop-root-test.true
 
 pub loop-root-preserved : goal.loop-root-preserved
 loop-root-preserved c =
@@ -26,7 +26,7 @@ pub returns : goal.returns
 returns c =
     let xs = c.roots-root-items.result.now in
     let f = renamed (moved_to c.args.plan.now.survivors c.args.plan.now.places) in
-    roots_made c.args.heap.now c.args.set.now c.args.plan.now c.valid.ensures c.requires xs c.loop-root.roots.items c.roots-root-items.ensures
+    roots_made c.args.heap.now c.args.plan.now.set c.args.plan.now c.valid.ensures c.requires xs c.loop-root.roots.items c.roots-root-items.ensures
     (c.loop-root.invariant ∙ ap (map f) (take_all c.loop-root.root-index xs (omega (arith, c.loop-root-test.false))))
 
 pub loop-root-smaller : goal.loop-root-smaller

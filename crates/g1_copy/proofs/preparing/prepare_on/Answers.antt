@@ -139,13 +139,17 @@ leave_all-requires g c =
 
 -- ---- what is made
 
-pub new_regions-requires-clause-plan : goal.new_regions-requires-clause-plan
-new_regions-requires-clause-plan g c =
-    subst (λ h. IsPauseOf h c.args.basis.now.plan.now.set c.args.basis.now.plan.now) (sym (the_heap g (goal.at.new_regions-requires-clause-plan g c).After-heap-heap))
+-- the plan is that of the heap
+the_pause : (g : Over) (c : After-heap-heap g) → IsPauseOf c.heap-heap.result.now c.args.basis.now.plan.now.set c.args.basis.now.plan.now
+the_pause g c =
+    subst (λ h. IsPauseOf h c.args.basis.now.plan.now.set c.args.basis.now.plan.now) (sym (the_heap g c))
     (subst (λ s. IsPauseOf c.args.basis.now.tracked.now.heap s c.args.basis.now.plan.now) (sym c.requires.plan.same) c.requires.plan)
 
+pub new_regions-requires-clause-plan : goal.new_regions-requires-clause-plan
+new_regions-requires-clause-plan g c = the_pause g (goal.at.new_regions-requires-clause-plan g c).After-heap-heap
+
 pub new_roots-requires : goal.new_roots-requires
-new_roots-requires g c = subst (λ h. IsPauseOf h c.args.basis.now.set.now c.args.basis.now.plan.now) (sym (the_heap g (goal.at.new_roots-requires g c).After-heap-heap)) c.requires.plan
+new_roots-requires g c = the_pause g (goal.at.new_roots-requires g c).After-heap-heap
 
 pub firsts-requires : goal.firsts-requires
 firsts-requires g c =

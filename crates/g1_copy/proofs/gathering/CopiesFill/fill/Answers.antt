@@ -1,0 +1,32 @@
+use Rattle.std.proofs.Common.{get_or, length, arith, ap, ◌∙◌}
+use Rattle.g1_layout.specs.declared.plan.Run.{Run}
+use Rattle.g1_copy.specs.Gathered.{placed_words}
+use Rattle.g1_copy.proofs.GatheringRuns.{count_runs, run_read}
+use Rattle.g1_copy.proofs.gathering.CopiesFill.fill.Goals as goal
+
+-- what a read past the runs would give
+abbrev none_read : Run
+none_read = record { region = 0; from = 0; to = 0; end = 0 }
+
+pub offset_bounds-runs-region : goal.offset_bounds-runs-region
+offset_bounds-runs-region c =
+    let n = count_runs c.args.self.now.heap.now c.args.self.now.plan.now c.requires.0 in
+    omega (arith, c.requires.1, n, ap length c.runs.ensures, c.runs.type_inv)
+
+pub bounds-runs-region : goal.bounds-runs-region
+bounds-runs-region c =
+    let n = count_runs c.args.self.now.heap.now c.args.self.now.plan.now c.requires.0 in
+    omega (arith, c.requires.1, n, ap length c.runs.ensures)
+
+pub fill-requires-clause-run : goal.fill-requires-clause-run
+fill-requires-clause-run c =
+    let s = c.args.self.now in
+    let r = c.args.region in
+    (r, c.requires.1, ap (λ runs. get_or runs r none_read) c.runs.ensures ∙ run_read s.heap.now s.plan.now c.requires.0 r none_read c.requires.1)
+
+pub returns : goal.returns
+returns c =
+    let s = c.args.self.now in
+    let r = c.args.region in
+    c.fill.ensures ∙ ap (λ runs. placed_words s.heap.now s.plan.now.survivors (get_or runs r none_read).region) c.runs.ensures
+    ∙ ap (λ u. placed_words s.heap.now s.plan.now.survivors u.region) (run_read s.heap.now s.plan.now c.requires.0 r none_read c.requires.1)
