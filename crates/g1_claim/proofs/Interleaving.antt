@@ -1,9 +1,10 @@
 -- Any interleaving of steps keeps the rule of the table.
 use Rattle.std.proofs.Common.{◌≡◌, ℕ, ◌<◌, List, length, replicate, get_or, min, refl, sym, ◌∙◌, subst, length-set}
 use Rattle.std.proofs.lemmas.List.{length-replicate}
+use Rattle.atomic_table.proofs.Lists.{set_else}
 use Rattle.g1_claim.specs.declared.rule.Hand.{Hand}
 use Rattle.g1_claim.specs.Claims.{empty}
-use Rattle.g1_claim.specs.Rule.{Claiming}
+use Rattle.g1_claim.specs.Rule.{Claiming, both_hands}
 use Rattle.g1_claim.specs.Interleaving.{Leads, begin, offer, see, split, join, LeastSoFar, WonSoFar}
 use Rattle.g1_claim.proofs.Steps.{begins, offer_keeps, sight_keeps, after_split, after_join}
 
@@ -21,9 +22,9 @@ leads_keeps n _ _ (see words hands k p v before at some_share inside) =
 leads_keeps n _ _ (split words hands k v before at two) =
     let kept = leads_keeps n words hands before in
     (kept.0, after_split words hands k v kept.1 at two)
-leads_keeps n _ _ (join words hands k other v u before at some_share apart there) =
+leads_keeps n _ _ (join words hands k other v u before at some_share apart there _) =
     let kept = leads_keeps n words hands before in
-    (kept.0, after_join words hands k v other u kept.1 at apart there some_share)
+    (kept.0, after_join words hands k v other u kept.1 at apart (set_else hands k other (both_hands v u) apart ∙ there) some_share)
 
 pub won_so_far : WonSoFar
 won_so_far n words hands leads p inside =

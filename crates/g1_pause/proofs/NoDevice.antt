@@ -1,7 +1,7 @@
 -- No pause of an image names a device, so a run that is refused gives what it may.
 use Rattle.std.proofs.Common.{◌≡◌, ◌≢◌, ℕ, ◌⊎◌, inl, inr, Bool, List, ◌∷◌, Option, Some, None, IfSome, Result, Ok, Err, refl, sym, ◌∙◌, subst}
 use Rattle.std.specs.Io.KnownBytes.{IsAtEnd}
-use Rattle.std.specs.Prelude.{slice_index, OnOk}
+use Rattle.std.specs.Prelude.{slice_index}
 use Rattle.std.proofs.KnownBytes.{Keeps-refl}
 use Rattle.g1_words.specs.declared.fault.Fault.{Fault}
 use Rattle.g1_words.specs.declared.fault.Fault.TheVariants as fault
@@ -13,6 +13,7 @@ use Rattle.g1_image.specs.declared.cursor.Version.TheVariants.{Two}
 use Rattle.g1_image.specs.Faults.{MayFail}
 use Rattle.g1_image.specs.Cards.{uncovered}
 use Rattle.g1_image.specs.Sink.{Writes}
+use Rattle.g1_image.specs.Source.{IsReadOut}
 use Rattle.g1_choose.specs.declared.parameters.Cost.{Cost}
 use Rattle.g1_pause.specs.declared.settings.Choice.{Choice}
 use Rattle.g1_pause.specs.declared.settings.Choice.TheVariants.{Budget, Given}
@@ -94,9 +95,17 @@ pub same_input : (mark : Bool) (e : Fault) → input_mark {X = Image} mark (Err 
 same_input mark (fault.Device device.Input) = refl
 same_input mark _ = refl
 
-pub read_out : (left : Option (List ℕ)) (r : Result (Unit {0}) Fault) → IsAtEnd left → OnOk r (IsAtEnd left)
-read_out left (Ok u) end = end
-read_out left (Err e) end = tt
+-- what a refused read tells of the end the run tells
+pub same_end : (left : Option (List ℕ)) (e : Fault) → IsReadOut {X = Image} left (Err e) → IsReadOut {X = Unit {0}} left (Err e)
+same_end left fault.Memory end = tt
+same_end left (fault.Device device.Input) end = tt
+same_end left _ end = end
+
+-- a source that was read out stays so, whatever comes after
+pub read_out : (left : Option (List ℕ)) (r : Result (Unit {0}) Fault) → IsAtEnd left → IsReadOut left r
+read_out left (Err fault.Memory) end = tt
+read_out left (Err (fault.Device device.Input)) end = tt
+read_out left _ end = end
 
 -- what was sent to the sink is no fault of the input's, and is nothing where memory was wanted
 pub sent_keeps : (text : List ℕ) (old new : Option (List ℕ)) (r : Result (Unit {0}) Fault) → Writes text old new r → WritesNoFault old new r

@@ -1,6 +1,6 @@
 //! A pause from a source to a sink.
-ghost use Rattle.std.specs.Prelude.{◌≡◌, IfSome, OnOk};
-ghost use Rattle.std.specs.Io.KnownBytes.{IsAtEnd};
+ghost use Rattle.std.specs.Prelude.{◌≡◌, IfSome};
+ghost use Rattle.g1_image.specs.Source.{IsReadOut};
 ghost use Rattle.g1_pause.specs.Streams.{RunGives, WritesNoFault, input_mark, output_mark};
 
 use crate::bytes::run_pause;
@@ -30,7 +30,7 @@ pub fn pause_run<R: Threads + Sync, I: Source, O: Sink, G: Gate + Sync>(
     gate: &G,
 ) -> Result<(), Fault>
     ensures answer { IfSome (I.left reader.old) (λ xs. RunGives settings.now.cost settings.now.choice xs (O.written writer.old) (O.written writer.new) result) }
-    ensures end { OnOk result (IsAtEnd (I.left reader.new)) }
+    ensures end { IsReadOut (I.left reader.new) result }
     ensures unwritten { WritesNoFault (O.written writer.old) (O.written writer.new) result }
     ensures input { I.failed reader.new ≡ input_mark (I.failed reader.old) result }
     ensures output { O.failed writer.new ≡ output_mark (O.failed writer.old) result }

@@ -1,7 +1,7 @@
-use Rattle.std.proofs.Common.{◌∙◌}
+use Rattle.std.proofs.Common.{◌∙◌, Err}
 use Rattle.std.proofs.lemmas.Result.{err_from_is_err_and}
 use Rattle.g1_words.specs.declared.fault.Device.TheVariants as device
-use Rattle.g1_pause.proofs.NoDevice.{leaves_input, leaves_output, run_unread, run_refused, run_written, unwritten, same_input, read_out, sent_keeps, sent_input}
+use Rattle.g1_pause.proofs.NoDevice.{leaves_input, leaves_output, run_unread, run_refused, run_written, unwritten, same_input, same_end, read_out, sent_keeps, sent_input}
 use Rattle.g1_pause.proofs.run_streams.pause_run.Goals as goal
 
 pub returns-in_err-before-clause-answer : goal.returns-in_err-before-clause-answer
@@ -28,7 +28,7 @@ returns-in_err-before-clause-input g c =
 pub returns-in_err-before-clause-end : goal.returns-in_err-before-clause-end
 returns-in_err-before-clause-end g c =
     let same = err_from_is_err_and c.from_residual.result c.from_residual.ensures.1 in
-    rw same.1 tt
+    rw (same.1, same.2) (same_end (g.I.Source.left c.read_by.new.source) c.in_err-before.field-0.0 c.in_err-before.ensures.end)
 
 pub returns-in-Ok-clause-end : goal.returns-in-Ok-clause-end
 returns-in-Ok-clause-end g c = read_out (g.I.Source.left c.read_by.new.source) c.write.result c.in_ok-before.ensures.end
@@ -65,7 +65,7 @@ pub returns-in-Err-clause-output : goal.returns-in-Err-clause-output
 returns-in-Err-clause-output g c = leaves_output (g.O.Sink.failed c.args.writer.now) c.in-Err.fault (c.in-Err.ensures.no_device device.Output)
 
 pub returns-in-Err-clause-end : goal.returns-in-Err-clause-end
-returns-in-Err-clause-end g c = tt
+returns-in-Err-clause-end g c = read_out (g.I.Source.left c.read_by.new.source) (Err c.in-Err.fault) c.in_ok-before.ensures.end
 
 pub returns-in-Err-clause-unwritten : goal.returns-in-Err-clause-unwritten
 returns-in-Err-clause-unwritten g c = unwritten (g.O.Sink.written c.args.writer.now) c.in-Err.fault
