@@ -23,6 +23,7 @@ const SHARES: u32 = 64;
 pub struct Claims {
     // One word more than places, so that a table of no places can be split too.
     table: Table<(), Hand, u64, LeastWins, Global>,
+    // As long as the table, so that `close` returns the words without a request for memory.
     words: Vec<u64>,
 }
 

@@ -1,4 +1,4 @@
--- What words that lead into the window name there.
+-- What words that lead into the window reference there.
 use Rattle.std.proofs.Common.{◌≡◌, ◌<◌, ℕ, ◌+◌, ◌*◌, List, [], ◌∷◌, ◌++◌, flat_map, length, take, drop, get_or, sym, ap, subst, ◌∙◌, All, append_assoc, append-nil}
 use Rattle.std.specs.Prelude.{Result, Ok, Err, IfOk}
 use Rattle.std.specs.Global.{Vec}

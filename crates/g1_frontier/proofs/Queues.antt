@@ -187,7 +187,7 @@ module _ (s : Scope) (ok : IsScope s) where
         flat_map-map (object_names s) (object_at s.heap.now) batch
         ∙ flat_same (λ c. object_names s (object_at s.heap.now c)) next_of batch (λ c i. object_children c)
 
-    -- what they name is noted
+    -- what they reference is noted
     pub moved_on : (to : ℕ) → from + n ≡ to → (b : Queue) → to ≤ length a.found.items
         → HasNoted s (flat_map (object_names s) (map (object_at s.heap.now) (take n (drop from a.found.items)))) a b → IsUnderWay s to b
     moved_on to sum b le x =

@@ -121,7 +121,7 @@ module _ (s : Scope) (ok : IsScope s) where
   pub apart : (a : ℕ) → BeginsIn s.heap.now s.window.now a → (b : ℕ) → BeginsIn s.heap.now s.window.now b → place_in s b ≡ place_in s a → b ≡ a
   apart a c b d e = ok.numbers.apart a b c d e
 
-  -- a reference that leads into the window names an object there
+  -- a reference that leads into the window is to an object there
   pub begins : (x a : ℕ) → IsReference s.heap.now x → x ≡ a + 1 → inside s a ≡ true → BeginsIn s.heap.now s.window.now a
   begins x a r e i =
       let f : suc a ≡ x = omega (arith, e) in

@@ -1,4 +1,4 @@
--- What the first items name in the window are the seeds.
+-- What the first items reference in the window are the seeds.
 use Rattle.std.proofs.Common.{◌≡◌, ◌≤◌, ◌<◌, ℕ, zero, suc, ◌+◌, ◌*◌, ◌/◌, inl, inr, Bool, true, false, not, cond, ◌&&◌, List, [], ◌∷◌, ◌++◌, map, filter, flat_map, Contains, arith, refl}
 use Rattle.std.proofs.Common.{sym, ap, subst, ◌∙◌, eqb, eqb-true, eq-eqb}
 use Rattle.std.proofs.lemmas.Nat.{le-div}
@@ -67,7 +67,7 @@ Rises-ordered lo [] r = tt
 Rises-ordered lo (x ∷ xs) r = ((λ y i. let k = Rises-above (x + 1) xs y r.1 i in omega (arith, k)), Rises-ordered (x + 1) xs r.1)
 
 module _ (h : Heap) (window cards : List ℕ) (valid : IsValid h) (rising : AreCards h cards) (outside : AreOutside h window cards) (lead_in : LeadIn h window cards) where
-  -- what a slot names in the window
+  -- what a slot references in the window
   abbrev inner : ℕ → List ℕ
   inner p = filter (in_set h window) (named (word h p))
 
@@ -122,7 +122,7 @@ module _ (h : Heap) (window cards : List ℕ) (valid : IsValid h) (rising : AreC
       let j : In (flat_map (refs_at h) (all_slots h)) r = In-flat_map (refs_at h) (all_slots h) p r i (In-map (λ a. record { slot = p; target = a }) (named (word h p)) a k) in
       Contains-from_in (refs h) r (subst (λ l. In l r) (sym (flat_twice h (objects h))) j)
 
-  -- a slot that names an object in the window lies on a card where it lies outside
+  -- a slot that references an object in the window lies on a card where it lies outside
   tells : (p a : ℕ) (b o : Bool) → has cards (card_of h p) ≡ b → in_set h window p ≡ o → In (all_slots h) p → word h p ≡ suc a → in_set h window a ≡ true → b ≡ not o
   tells p a true true e f i w t = absurd (false≢true (sym (on_window p e) ∙ f))
   tells p a true false e f i w t = refl
@@ -160,6 +160,6 @@ module _ (h : Heap) (window cards : List ℕ) (valid : IsValid h) (rising : AreC
       ∙ sym (map_flat (λ (e : Ref). e.target) (λ p. filter crosses (refs_at h p)) (all_slots h))
       ∙ ap (map (λ (e : Ref). e.target)) (sym (filter_flat crosses (refs_at h) (all_slots h)) ∙ ap (filter crosses) (sym (flat_twice h (objects h))))
 
-  -- what the roots and the slots on the cards name in the window are the seeds
+  -- what the roots and the slots on the cards reference in the window are the seeds
   pub seeds_named : filter (in_set h window) (flat_map named h.roots) ++ flat_map (λ c. filter (in_set h window) (flat_map (λ p. named (word h p)) (slots_on h c))) cards ≡ seeds h window
   seeds_named = ap (λ l. filter (in_set h window) (flat_map named h.roots) ++ l) by_cards

@@ -21,7 +21,7 @@ IsOutside h window (Root i) = Unit {0}
 IsOutside h window (Card c b) = in_set h window (c * h.geometry.k) ≡ false
 IsOutside h window (Object a b) = Unit {0}
 
--- what a reference word names in the window, with this rank: rank and address
+-- what a reference word references in the window, with this rank: rank and address
 abbrev pub aims : Heap → List ℕ → ℕ → ℕ → List (ℕ × ℕ)
 aims h window rank x = map (λ a. (rank, a)) (filter (in_set h window) (named x))
 

@@ -13,11 +13,11 @@ use Rattle.g1_frontier.specs.declared.scope.Scope.{Scope}
 use Rattle.g1_frontier.specs.Numbers.{BeginsIn}
 use Rattle.g1_frontier.specs.Scope.{inside, names_in, place_in, place_count}
 
--- what the slots on a card name in the window, by slot
+-- what the slots on a card reference in the window, by slot
 abbrev pub card_names : Scope → ℕ → List ℕ
 card_names s c = flat_map (λ p. names_in s (word s.heap.now p)) (slots_on s.heap.now c)
 
--- what the slots of an object name in the window, by slot
+-- what the slots of an object reference in the window, by slot
 abbrev pub object_names : Scope → Object → List ℕ
 object_names s o = flat_map (λ p. names_in s (word s.heap.now p)) (slots o)
 
@@ -33,7 +33,7 @@ pub record HasNoted (s : Scope) (more : List ℕ) (before after : Queue) : Type 
   pub queue : HasFound s after
   pub found : after.found.items ≡ firsts (before.found.items ++ more)
 
--- more reference words are listed behind those before: in the window they name these addresses, in order
+-- more reference words are listed behind those before: in the window they reference these addresses, in order
 pub record HasListed (s : Scope) (more before after : List ℕ) : Type 0 where
   pub named : flat_map (names_in s) after ≡ flat_map (names_in s) before ++ more
   pub references : All (IsReference s.heap.now) after

@@ -50,11 +50,11 @@ pub record IsScope (s : Scope) : Type 0 where
 abbrev pub inside : Scope → ℕ → Bool
 inside s a = in_set s.heap.now s.window.now a
 
--- what a word names in the window
+-- what a word references in the window
 abbrev pub names_in : Scope → ℕ → List ℕ
 names_in s x = filter (inside s) (named x)
 
--- what a reference word names in the window, with a rank
+-- what a reference word references in the window, with a rank
 abbrev pub aims_in : Scope → ℕ → ℕ → List (ℕ × ℕ)
 aims_in s rank x = aims s.heap.now s.window.now rank x
 

@@ -25,7 +25,7 @@ AreCards h cards = AreRising (card_count h) cards
 abbrev pub AreOutside : Heap → List ℕ → List ℕ → Type 0
 AreOutside h window cards = (c : ℕ) → Contains cards c → in_set h window (c * h.geometry.k) ≡ false
 
--- every slot outside the window that names an object in it lies on one of the cards
+-- every slot outside the window that references an object in it lies on one of the cards
 abbrev pub LeadIn : Heap → List ℕ → List ℕ → Type 0
 LeadIn h window cards = (e : Ref) → Contains (refs h) e → in_set h window e.target ≡ true → in_set h window e.slot ≡ false → Contains cards (card_of h e.slot)
 

@@ -9,7 +9,7 @@ use crate::scope::Scope;
 use g1_rem::slots_on;
 use std::alloc::{AllocError, Global};
 
-// Adds a reference word, if it names an object in the window.
+// Adds a reference word, if it references an object in the window.
 fn push_lead(scope: &Scope, word: u64, words: &mut Vec<u64>) -> Result<(), AllocError>
     requires scope { IsScope scope.now }
     requires reference { IsReference scope.now.heap.now word }
@@ -25,7 +25,7 @@ fn push_lead(scope: &Scope, word: u64, words: &mut Vec<u64>) -> Result<(), Alloc
     }
 }
 
-// Adds the words of the slots on a card that name an object in the window.
+// Adds the words of the slots on a card that reference an object in the window.
 fn push_leads(
     alloc: Global,
     scope: &Scope,
@@ -45,7 +45,7 @@ fn push_leads(
     Ok(())
 }
 
-/// The words of the slots on some cards that name an object in the window, card by card.
+/// The words of the slots on some cards that reference an object in the window, card by card.
 pub(crate) fn leads_on(alloc: Global, scope: &Scope, cards: &[u32]) -> Result<Vec<u64>, AllocError>
     requires scope { IsScope scope.now }
     requires cards { All (λ c. c < card_count scope.now.heap.now) cards.now }

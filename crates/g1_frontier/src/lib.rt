@@ -3,13 +3,13 @@
 //!
 //! The search is breadth first and goes in rounds (Detlefs, Flood, Heller, Printezis, "Garbage-First
 //! Garbage Collection", 2004, where each worker takes its part of the roots and of the remembered
-//! cards, and copies what they name). An object that several slots name is found once, by the slot
+//! cards, and copies what they reference). An object that several slots reference is found once, by the slot
 //! of the least rank (Blelloch, Fineman, Gibbons, Shun, "Internally Deterministic Parallel Algorithms
 //! Can Be Fast", 2012):
 //!
 //! 1. One claim table serves all rounds. `discover` numbers the objects of the window by one walk over
-//!    their headers, which the workers share, and its table has a word for each of them. A table of
-//!    `claim_round` has a word for each word of the window.
+//!    their headers, which the workers share, and its table has 16 bytes for each of them. A table of
+//!    `claim_round` has 16 for each word of the window.
 //! 2. The items of the first round are the roots, then the cards that lead into the window. Every
 //!    slot of an item has a rank: root i has i; a slot on a card the number of roots plus its
 //!    address; slots of objects follow, numbered on in the order in which the objects were found.
@@ -21,11 +21,11 @@
 //! 5. What a round found is the next round's items, until a round finds nothing. Since ranks rise
 //!    over all rounds, a place that has a word keeps it.
 //!
-//! With chunks of the usual size there are no rounds, and no claim table. Several workers list the words
-//! on the cards that lead in, each for its part of the cards. Then one worker finds what is named in
-//! order, and marks it in one bit for each word of the window. What it has found is its queue: it reads
-//! the headers of the next objects in the queue at once, then their slots, and ends when nothing is left
-//! in the queue.
+//! With one worker, or with chunks of the usual size, there are no rounds, and no claim table. Several
+//! workers list the words on the cards that lead in, each for its part of the cards. Then one worker
+//! finds what is referenced in order, and marks it in one bit for each word of the window. What it has
+//! found is its queue: it reads the headers of the next objects in the queue at once, then their slots,
+//! and ends when nothing is left in the queue.
 //!
 //! So the answer is the same for all workers and chunk sizes. A round takes memory in proportion to
 //! what it looks at and finds. A region's place in the window is in a table of four bytes

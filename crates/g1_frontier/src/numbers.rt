@@ -1,8 +1,10 @@
-ghost use Rattle.std.specs.Prelude.{◌≡◌, ◌<◌, ◌≤◌, ◌+◌, ◌*◌, length, set, replicate, true, false, IfOk, IfErr, sum_by, count_ones};
+ghost use Rattle.std.specs.Prelude.{◌≡◌, ◌<◌, ◌≤◌, ◌+◌, ◌-◌, ◌*◌, ◌^◌, length, map, min, set, replicate, true, false, IfOk, IfErr, sum_by, count_ones};
 ghost use Rattle.g1_words.specs.declared.fault.Fault.TheVariants.{Memory};
 ghost use Rattle.g1_words.specs.Geometry.{most_words};
+ghost use Rattle.g1_words.specs.Heap.{region};
 ghost use Rattle.g1_words.specs.Marks.{marks_of};
 ghost use Rattle.g1_words.specs.Valid.{IsValid};
+ghost use Rattle.g1_work.specs.Ranges.{ordinary_used};
 ghost use Rattle.g1_frontier.specs.Window.{AreRegions};
 ghost use Rattle.g1_frontier.specs.Numbers.{AreBits, and_marked, part_of, places_from};
 
@@ -134,36 +136,18 @@ fn mark_by_threads(
 
 /// How many words of a window's ordinary regions are used. A humongous object is one step of a walk,
 /// whatever its size, so its words feed no thread.
-fn ordinary_words(heap: &Heap, window: &[u32]) -> usize {
+fn window_words(heap: &Heap, window: &[u32]) -> usize
+    requires { AreRegions heap.now window.now }
+    ensures { result ≡ min (ordinary_used (map (region heap.now) window.now)) (2 ^ 64 - 1) }
+{
     let mut words: usize = 0;
     for number in window {
-        if let Some(region) = heap.regions().get(*number as usize) {
-            if region.kind.is_ordinary() {
-                words = words.saturating_add(region.top as usize);
-            }
+        let region = heap.region(*number);
+        if region.kind.is_ordinary() {
+            words = words.saturating_add(region.top as usize);
         }
     }
     words
-}
-
-/// As `mark_window`, by this many workers at most. One if it is 0.
-fn mark_by(
-    rt: &(impl Threads + Sync),
-    alloc: Global,
-    heap: &Heap,
-    window: &[u32],
-    workers: u64,
-) -> Result<Vec<u64>, Fault>
-    requires { AreRegions heap.now window.now }
-    ensures ok { IfOk result (λ v. AreBits heap.now window.now v.items) }
-    ensures few { IfOk result (λ v. 64 * length v.items ≤ most_words) }
-    ensures memory { IfErr result (λ e. e ≡ Memory) }
-{
-    let words = window.len() * heap.geometry().region_words() as usize;
-    match threads_for(workers, words, WORDS_A_THREAD) {
-        1 => Ok(mark_window(alloc, heap, window)?),
-        threads => mark_by_threads(rt, alloc, heap, window, threads),
-    }
 }
 
 /// Counts the bits that are set.
@@ -209,8 +193,11 @@ impl Numbers {
         ensures starts { IfOk result (AreStarts heap.now window.now) }
         ensures memory { IfErr result (λ e. e ≡ Memory) }
     {
-        let threads = threads_for(workers, ordinary_words(heap, window), WORDS_A_THREAD);
-        let starts = mark_by(rt, alloc, heap, window, threads as u64)?;
+        g1_words::laws::valid(heap);
+        let starts = match threads_for(workers, window_words(heap, window), WORDS_A_THREAD) {
+            1 => mark_window(alloc, heap, window)?,
+            threads => mark_by_threads(rt, alloc, heap, window, threads)?,
+        };
         Ok(count_starts(alloc, starts.as_slice())?)
     }
 

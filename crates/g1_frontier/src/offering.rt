@@ -59,7 +59,7 @@ impl<'a> Offers<'a> {
     ghost use Rattle.g1_frontier.specs.Scope.{IsScope, place_in, aims_in, pairs_in, all_pairs_in};
     ghost use Rattle.g1_frontier.specs.Offering.{HasTried, HasPlaces};
 
-    // Offers what a reference word names in the window, by the rank `base` plus `offset`. The sum
+    // Offers what a reference word references in the window, by the rank `base` plus `offset`. The sum
     // is made only for an offer: other slots have no rank.
     fn offer_named(
         &self,
@@ -85,7 +85,7 @@ impl<'a> Offers<'a> {
         }
     }
 
-    // Offers what the slots of a card name in the window.
+    // Offers what the slots of a card reference in the window.
     fn offer_card(
         &self,
         alloc: Global,
@@ -107,7 +107,7 @@ impl<'a> Offers<'a> {
         Ok(())
     }
 
-    // Offers what the slots of an object name in the window.
+    // Offers what the slots of an object reference in the window.
     fn offer_object(&self, holder: &mut Holder, at: u64, base: u64) -> Result<(), AllocError>
         requires places { HasPlaces self.now.scope.now self.now.claims.now }
         requires seat { IsSeatOf self.now.claims.now holder.old.seat }
@@ -124,7 +124,7 @@ impl<'a> Offers<'a> {
         Ok(())
     }
 
-    // Offers what an item names in the window, in order.
+    // Offers what an item references in the window, in order.
     fn offer_item(&self, alloc: Global, holder: &mut Holder, item: Item) -> Result<(), AllocError>
         requires places { HasPlaces self.now.scope.now self.now.claims.now }
         requires seat { IsSeatOf self.now.claims.now holder.old.seat }
@@ -142,7 +142,7 @@ impl<'a> Offers<'a> {
         }
     }
 
-    // Offers what the items name in the window, in order.
+    // Offers what the items reference in the window, in order.
     pub(crate) fn offer_items(
         &self,
         alloc: Global,

@@ -48,7 +48,7 @@ impl Queue {
     ghost use Rattle.g1_frontier.specs.Scope.{IsScope, names_in};
     ghost use Rattle.g1_frontier.specs.Queue.{card_names, object_names, HasFound, HasNoted, HasListed, IsUnderWay};
 
-    // Notes what a reference word names in the window: it is found, except if it was before.
+    // Notes what a reference word references in the window: it is found, except if it was before.
     fn note(&mut self, scope: &Scope, word: u64) -> Result<(), AllocError>
         requires scope { IsScope scope.now }
         requires reference { IsReference scope.now.heap.now word }
@@ -69,7 +69,7 @@ impl Queue {
         }
     }
 
-    // Notes what reference words name in the window.
+    // Notes what reference words reference in the window.
     fn note_words(&mut self, scope: &Scope, words: &[u64]) -> Result<(), AllocError>
         requires scope { IsScope scope.now }
         requires queue { HasFound scope.now self.old }
@@ -82,7 +82,7 @@ impl Queue {
         Ok(())
     }
 
-    // Notes what the slots on a card name in the window.
+    // Notes what the slots on a card reference in the window.
     fn note_card(&mut self, alloc: Global, scope: &Scope, card: u32) -> Result<(), AllocError>
         requires scope { IsScope scope.now }
         requires queue { HasFound scope.now self.old }
@@ -97,7 +97,7 @@ impl Queue {
         Ok(())
     }
 
-    // Notes what the slots on cards name in the window.
+    // Notes what the slots on cards reference in the window.
     fn note_cards(&mut self, alloc: Global, scope: &Scope, cards: &[u32]) -> Result<(), AllocError>
         requires scope { IsScope scope.now }
         requires queue { HasFound scope.now self.old }
@@ -111,7 +111,7 @@ impl Queue {
     }
 
     // As `note_cards`, by this many threads: each lists the words on its chunk of the cards that lead
-    // in, and this one notes what they name.
+    // in, and this one notes what they reference.
     fn note_cards_by_threads(
         &mut self,
         rt: &(impl Threads + Sync),
@@ -166,7 +166,7 @@ impl Queue {
         }
     }
 
-    // Notes what the slots of an object name in the window.
+    // Notes what the slots of an object reference in the window.
     fn note_object(&mut self, scope: &Scope, object: &Object) -> Result<(), AllocError>
         requires scope { IsScope scope.now }
         requires queue { HasFound scope.now self.old }
@@ -181,7 +181,7 @@ impl Queue {
         Ok(())
     }
 
-    // Notes what the slots of objects name in the window.
+    // Notes what the slots of objects reference in the window.
     fn note_objects(&mut self, scope: &Scope, batch: &[Object]) -> Result<(), AllocError>
         requires scope { IsScope scope.now }
         requires queue { HasFound scope.now self.old }
@@ -194,7 +194,7 @@ impl Queue {
         Ok(())
     }
 
-    // Finds what the roots and the slots on cards name in the window, with this many workers at most.
+    // Finds what the roots and the slots on cards reference in the window, with this many workers at most.
     fn begin(
         rt: &(impl Threads + Sync),
         alloc: Global,

@@ -94,8 +94,8 @@ fn take_in(
     Ok((seat, lists))
 }
 
-// Offers what all items name in the window, by one worker: it draws no chunk, so a round of few items
-// costs little more than its offers: the whole seat after, and what won.
+// Offers what all items reference in the window, by one worker: the whole seat after, and what won.
+// This draws no chunk, so a round of few items costs little more than its offers.
 fn offer_alone(
     alloc: Global,
     scope: &Scope,
@@ -122,7 +122,7 @@ fn offer_alone(
     Ok((seat, kept))
 }
 
-// Offers what all items name in the window: the whole seat after, and what each worker kept.
+// Offers what all items reference in the window: the whole seat after, and what each worker kept.
 fn offer_all<R: Threads + Sync, G: Gate + Sync>(
     crew: &Crew<'_, R, G>,
     scope: &Scope,
@@ -190,7 +190,7 @@ fn still_there(
     Ok(kept)
 }
 
-// Offers what all items name in the window, by the whole crew: the whole seat after, and what won.
+// Offers what all items reference in the window, by the whole crew: the whole seat after, and what won.
 fn offer_by_crew<R: Threads + Sync, G: Gate + Sync>(
     crew: &Crew<'_, R, G>,
     scope: &Scope,
@@ -241,7 +241,7 @@ pub(crate) fn round_in<R: Threads + Sync, G: Gate + Sync>(
     offer_by_crew(crew, scope, claims, seat, items)
 }
 
-/// One round of claims: offers what the items name in the window, and answers what won.
+/// One round of claims: offers what the items reference in the window, and answers what won.
 ///
 /// Each slot of an item that references an object in the window offers the item's rank for it at that
 /// object's place. The answer has the table and the whole seat back, and, by rising rank, the rank

@@ -101,7 +101,7 @@ impl<'a> Scope<'a> {
         }
     }
 
-    /// The object of the window that a reference word names.
+    /// The object of the window that a reference word references.
     pub fn target(&self, word: u64) -> Option<Target>
         requires scope { IsScope self.now }
         ensures found { IfSome result (λ t. (word ≡ t.address + 1) × (inside self.now t.address ≡ true) × (t.place ≡ place_in self.now t.address)) }

@@ -179,7 +179,7 @@ fn survivors_in<R: Threads + Sync, G: Gate + Sync>(
 
 /// The survivors of a window of regions: the addresses of the objects in it that are reached from
 /// the roots, or from slots outside the window, over references within it. They are in the order
-/// in which a breadth-first search finds them: what the roots name, by root number, what the slots
+/// in which a breadth-first search finds them: what the roots reference, by root number, what the slots
 /// outside reference, by address, then what the first survivor references, the second, and so on.
 ///
 /// The window's regions and the cards rise. No card lies in the window, and every slot outside that

@@ -16,24 +16,9 @@ use crate::pairs::{Pairs, start};
 use crate::pause::Pause;
 use crate::region_set::RegionSet;
 use crate::tables::compare_tables;
+use g1_same::first_other;
 use g1_words::{Fault, Heap, data, objects_in};
 use std::alloc::{AllocError, Global};
-
-// The first place at which two lists of one length differ.
-fn first_other(old: &[u64], new: &[u64]) -> Option<usize>
-    requires { length new.now ≡ length old.now }
-    ensures some { IfSome result (λ k. k < length old.now) }
-    ensures other { IfSome result (λ k. slice_index new.now k ≢ slice_index old.now k) }
-    ensures before { IfSome result (λ k. (i : ℕ) → i < k → slice_index old.now i ≡ slice_index new.now i) }
-    ensures none { IfNone result ((i : ℕ) → i < length old.now → slice_index old.now i ≡ slice_index new.now i) }
-{
-    for place in 0..old.len() {
-        if old[place] != new[place] {
-            return Some(place);
-        }
-    }
-    None
-}
 
 // What is lost of an object in the one after that matches it, apart from its slots.
 fn compare_contents(pause: &Pause<'_>, a: u64, b: u64) -> Option<Lost>

@@ -1,4 +1,4 @@
-ghost use Rattle.std.specs.Prelude.{◌≡◌, ◌<◌, ◌≤◌, ◌++◌, ◌∷◌, [], suc, length, replicate, slice_set, IfOk, OnOk};
+ghost use Rattle.std.specs.Prelude.{◌≡◌, ◌<◌, ◌≤◌, ◌++◌, ◌∷◌, [], suc, length, slice_set, IfOk, OnOk};
 ghost use Rattle.g1_words.specs.Geometry.{most_words};
 ghost use Rattle.g1_words.specs.Valid.{IsValid};
 ghost use Rattle.g1_kept.specs.Pause.{IsWalkIn};
@@ -21,12 +21,6 @@ pub struct Pairs {
     pub old_of: Vec<u32>,
 }
 
-fn zeros(alloc: Global, count: usize) -> Result<Vec<u32>, AllocError>
-    ensures { IfOk result (λ v. v.items ≡ replicate count 0) }
-{
-    vec![in alloc; 0u32; count]
-}
-
 /// No pairs.
 pub(crate) fn start(alloc: Global, pause: &Pause<'_>) -> Result<Pairs, AllocError>
     ensures walk { IfOk result (λ w. IsWalkIn pause.now w) }
@@ -36,11 +30,13 @@ pub(crate) fn start(alloc: Global, pause: &Pause<'_>) -> Result<Pairs, AllocErro
 {
     g1_words::laws::valid(pause.before);
     g1_words::laws::valid(pause.after);
+    let new_of = vec![in alloc; 0u32; pause.before.words().len()]?;
+    let old_of = vec![in alloc; 0u32; pause.after.words().len()]?;
     Ok(Pairs {
         before: Vec::new(alloc),
         after: Vec::new(alloc),
-        new_of: zeros(alloc, pause.before.words().len())?,
-        old_of: zeros(alloc, pause.after.words().len())?,
+        new_of,
+        old_of,
     })
 }
 

@@ -1,4 +1,4 @@
-ghost use Rattle.std.specs.Prelude.{◌≡◌, ◌≤◌, map, replicate, Contains, IfOk};
+ghost use Rattle.std.specs.Prelude.{◌≡◌, ◌≤◌, map, Contains, IfOk};
 ghost use Rattle.std.specs.List.{All};
 ghost use Rattle.g1_words.specs.Heap.{object_at, objects, regions};
 ghost use Rattle.g1_words.specs.Lists.{has};
@@ -24,12 +24,6 @@ pub fn used_regions(alloc: Global, heap: &Heap) -> Result<Vec<u32>, AllocError>
     Ok(used)
 }
 
-fn zeros(alloc: Global, count: u64) -> Result<Vec<u64>, AllocError>
-    ensures { IfOk result (λ v. v.items ≡ replicate count 0) }
-{
-    vec![in alloc; 0u64; count as usize]
-}
-
 /// For each region, the bytes of its objects among those at some addresses.
 pub fn bytes_at(alloc: Global, heap: &Heap, addresses: &[u64]) -> Result<Vec<u64>, AllocError>
     requires objects { All (λ a. Contains (objects heap.now) (object_at heap.now a)) addresses.now }
@@ -37,7 +31,7 @@ pub fn bytes_at(alloc: Global, heap: &Heap, addresses: &[u64]) -> Result<Vec<u64
     ensures { IfOk result (λ v. v.items ≡ map (bytes_where heap.now (has addresses.now)) (regions heap.now)) }
 {
     let geometry = heap.geometry();
-    let mut bytes = zeros(alloc, geometry.regions())?;
+    let mut bytes = vec![in alloc; 0u64; geometry.regions() as usize]?;
     for address in addresses {
         let region = region_of(&geometry, *address) as usize;
         bytes[region] += 8 * size_at(heap, *address);

@@ -17,7 +17,7 @@
 //! 4. At the first two words that disagree the search ends. The path to them is found by going back
 //!    from a pair to the one whose slot referenced it. Since pairs are found in breadth-first
 //!    order, no path that comes before leads to a difference.
-//! 5. Where no slot is left, the pairs are the renaming.
+//! 5. If no slot is left, the pairs are the renaming.
 //!
 //! Each reached object, slot and data word is looked at once. The tables have 4 bytes for each word of
 //! their heap, and the list of pairs 24 bytes for each.
@@ -32,4 +32,5 @@ mod walk;
 
 pub use comparing::compare;
 pub use difference::{Difference, How};
+pub use meeting::first_other;
 pub use renaming::Renaming;

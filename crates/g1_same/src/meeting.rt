@@ -6,7 +6,7 @@ ghost use Rattle.g1_same.specs.Walk.{IsWalk, IsWay, IsBelow, IsLinked, HasGrown,
 
 use crate::difference::How;
 use crate::walk::{Walk, Way};
-use g1_words::Heap;
+use g1_words::{Heap, data};
 use std::alloc::AllocError;
 
 /// What two words are to the walk.
@@ -19,18 +19,17 @@ pub enum Met {
     Clash(How),
 }
 
-// The first of so many words that differ, from one address on in each heap.
-fn first_other(here: &[u64], there: &[u64], a: u64, b: u64, count: u64) -> Option<u64>
-    requires here { a + count ≤ length here.now }
-    requires there { b + count ≤ length there.now }
-    ensures some { IfSome result (λ k. k < count) }
-    ensures other { IfSome result (λ k. slice_index here.now (a + k) ≢ slice_index there.now (b + k)) }
-    ensures before { IfSome result (λ k. (i : ℕ) → i < k → slice_index here.now (a + i) ≡ slice_index there.now (b + i)) }
-    ensures none { IfNone result ((i : ℕ) → i < count → slice_index here.now (a + i) ≡ slice_index there.now (b + i)) }
+/// The first place at which two lists of one length differ.
+pub fn first_other(old: &[u64], new: &[u64]) -> Option<usize>
+    requires { length new.now ≡ length old.now }
+    ensures some { IfSome result (λ k. k < length old.now) }
+    ensures other { IfSome result (λ k. slice_index new.now k ≢ slice_index old.now k) }
+    ensures before { IfSome result (λ k. (i : ℕ) → i < k → slice_index old.now i ≡ slice_index new.now i) }
+    ensures none { IfNone result ((i : ℕ) → i < length old.now → slice_index old.now i ≡ slice_index new.now i) }
 {
-    for k in 0..count {
-        if here[(a + k) as usize] != there[(b + k) as usize] {
-            return Some(k);
+    for place in 0..old.len() {
+        if old[place] != new[place] {
+            return Some(place);
         }
     }
     None
@@ -58,11 +57,10 @@ fn objects_differ(before: &Heap, after: &Heap, a: u64, b: u64) -> Option<How>
             after: new.refs,
         });
     }
-    let here = before.words();
-    let there = after.words();
-    let (first, second, count) = (a + 1 + old.refs, b + 1 + old.refs, old.size - 1 - old.refs);
-    match first_other(here, there, first, second, count) {
-        Some(word) => Some(How::Data { word }),
+    let here = data(before.words(), &old);
+    let there = data(after.words(), &new);
+    match first_other(here, there) {
+        Some(word) => Some(How::Data { word: word as u64 }),
         None => None,
     }
 }

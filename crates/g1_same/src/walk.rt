@@ -1,4 +1,4 @@
-ghost use Rattle.std.specs.Prelude.{◌≡◌, ◌<◌, ◌≤◌, ◌++◌, ◌+◌, ◌∷◌, [], suc, length, replicate, slice_set, slice_index, Contains, IfOk, OnOk};
+ghost use Rattle.std.specs.Prelude.{◌≡◌, ◌<◌, ◌≤◌, ◌++◌, ◌+◌, ◌∷◌, [], suc, length, slice_set, slice_index, Contains, IfOk, OnOk};
 ghost use Rattle.g1_words.specs.Geometry.{most_words};
 ghost use Rattle.g1_words.specs.Heap.{object_at, objects};
 ghost use Rattle.g1_words.specs.Valid.{IsValid};
@@ -40,12 +40,6 @@ pub struct Stop {
     pub how: How,
 }
 
-fn zeros(alloc: Global, count: usize) -> Result<Vec<u32>, AllocError>
-    ensures { IfOk result (λ v. v.items ≡ replicate count 0) }
-{
-    vec![in alloc; 0u32; count]
-}
-
 /// A walk that has found nothing.
 pub fn start(alloc: Global, before: &Heap, after: &Heap) -> Result<Walk, AllocError>
     ensures walk { IfOk result (λ w. IsWalk before.now after.now w) }
@@ -55,13 +49,15 @@ pub fn start(alloc: Global, before: &Heap, after: &Heap) -> Result<Walk, AllocEr
 {
     g1_words::laws::valid(before);
     g1_words::laws::valid(after);
+    let new_of = vec![in alloc; 0u32; before.words().len()]?;
+    let old_of = vec![in alloc; 0u32; after.words().len()]?;
     Ok(Walk {
         before: Vec::new(alloc),
         after: Vec::new(alloc),
         from: Vec::new(alloc),
         number: Vec::new(alloc),
-        new_of: zeros(alloc, before.words().len())?,
-        old_of: zeros(alloc, after.words().len())?,
+        new_of,
+        old_of,
     })
 }
 

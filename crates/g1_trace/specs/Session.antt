@@ -10,8 +10,8 @@ use Rattle.g1_trace.specs.Run.{empty_image}
 use Rattle.g1_trace.specs.Mutator.{IsStep}
 use Rattle.g1_trace.specs.declared.session.Session.{Session}
 use Rattle.g1_trace.specs.declared.session.Session.TheVariants.{Begun, Open}
-use Rattle.g1_trace.specs.declared.session.Answer.{Answer}
-use Rattle.g1_trace.specs.declared.session.Answer.TheVariants.{Nothing, Reply}
+use Rattle.g1_trace.specs.declared.session.Taken.{Taken}
+use Rattle.g1_trace.specs.declared.session.Taken.TheVariants.{Nothing, Reply}
 
 -- the line is empty, or its first byte is a number sign
 abbrev pub IsComment : List ℕ → Type 0
@@ -19,8 +19,8 @@ IsComment [] = ⊤
 IsComment (first ∷ rest) = first ≡ 35
 
 -- The line was done, at this cost: a comment changes nothing; the line with the sizes makes the heap of a trace; and a command is
--- a step of a trace, whose reply is the answer.
-pub data IsDone (cost : Cost) : Session → List ℕ → Answer → Session → Type 0 where
+-- a step of a trace, whose reply is what the line gets.
+pub data IsDone (cost : Cost) : Session → List ℕ → Taken → Session → Type 0 where
   comment : {s : Session} {line : List ℕ} → IsComment line → IsDone cost s line Nothing s
   sizes : {line : List ℕ} (g : Geometry) (roots : ℕ) → line ≡ heap_line g.w g.k g.n roots
       → IsDone cost Begun line Nothing (Open (empty_image g roots) 0)

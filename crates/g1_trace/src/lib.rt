@@ -20,9 +20,9 @@
 //! the heap beside it has no place.
 //!
 //! A `Session` answers a trace line by line, so that a program with a pipe can use the heap while it
-//! runs. Its first line gives the sizes and makes the heap. Each later one is a command, an empty
-//! line, or a comment, which begins with `#`. Any other line is refused with what was expected there,
-//! and nothing changes.
+//! runs. Empty lines and those that begin with `#` are comments anywhere. The first other line gives
+//! the sizes and makes the heap, and each later one is a command. A wrong line is refused with what
+//! was expected there, and nothing changes.
 #![tactic(auto)]
 
 mod allocating;
@@ -45,6 +45,6 @@ pub use expected::Expected;
 pub use mutator::Mutator;
 pub use parsing::{first_line, later_line, parse_trace};
 pub use running::run_trace;
-pub use session::{Answer, Session, Wrong};
+pub use session::{Session, Taken, Wrong};
 pub use telling::{push_reply, run_text};
 pub use trace::Trace;

@@ -75,52 +75,7 @@ fn take_number(bytes: &[u8]) -> Option<(u64, &[u8])>
         return None;
     }
     let (_, after) = bytes.split_at(1);
-    match number(after) {
-        Some((x, rest)) => Some((x, rest)),
-        None => None,
-    }
-}
-
-/// The one number of a line's end.
-fn one(bytes: &[u8]) -> Option<u64>
-    ensures some { IfSome result (λ a. bytes.now ≡ spaced (a ∷ [])) }
-    ensures fits { IfSome result (λ a. AllFit (a ∷ [])) }
-    ensures none { IfNone result ((a : ℕ) → AllFit (a ∷ []) → bytes.now ≡ spaced (a ∷ []) → ⊥) }
-{
-    match take_number(bytes) {
-        Some((a, rest)) => { if rest.len() == 0 { Some(a) } else { None } }
-        None => None,
-    }
-}
-
-/// The two numbers of a line's end.
-fn two(bytes: &[u8]) -> Option<(u64, u64)>
-    ensures some { IfSome result (λ r. bytes.now ≡ spaced (r.0 ∷ r.1 ∷ [])) }
-    ensures fits { IfSome result (λ r. AllFit (r.0 ∷ r.1 ∷ [])) }
-    ensures none { IfNone result ((a b : ℕ) → AllFit (a ∷ b ∷ []) → bytes.now ≡ spaced (a ∷ b ∷ []) → ⊥) }
-{
-    match take_number(bytes) {
-        Some((a, rest)) => match one(rest) {
-            Some(b) => Some((a, b)),
-            None => None,
-        },
-        None => None,
-    }
-}
-
-/// The three numbers of a line's end.
-fn three(bytes: &[u8]) -> Option<(u64, u64, u64)>
-    ensures some { IfSome result (λ r. bytes.now ≡ spaced (r.0 ∷ r.1 ∷ r.2 ∷ [])) }
-    ensures fits { IfSome result (λ r. AllFit (r.0 ∷ r.1 ∷ r.2 ∷ [])) }
-    ensures none { IfNone result ((a b d : ℕ) → AllFit (a ∷ b ∷ d ∷ []) → bytes.now ≡ spaced (a ∷ b ∷ d ∷ []) → ⊥) }
-{
-    match take_number(bytes) {
-        Some((a, rest)) => match two(rest) {
-            Some((b, d)) => Some((a, b, d)),
-            None => None,
-        },
-        None => None,
-    }
+    number(after)
 }
 
 /// The four numbers of a line's end.
@@ -129,12 +84,14 @@ fn four(bytes: &[u8]) -> Option<(u64, u64, u64, u64)>
     ensures fits { IfSome result (λ r. AllFit (r.0 ∷ r.1 ∷ r.2 ∷ r.3 ∷ [])) }
     ensures none { IfNone result ((a b d e : ℕ) → AllFit (a ∷ b ∷ d ∷ e ∷ []) → bytes.now ≡ spaced (a ∷ b ∷ d ∷ e ∷ []) → ⊥) }
 {
-    match take_number(bytes) {
-        Some((a, rest)) => match three(rest) {
-            Some((b, d, e)) => Some((a, b, d, e)),
-            None => None,
-        },
-        None => None,
+    let (a, second) = take_number(bytes)?;
+    let (b, third) = take_number(second)?;
+    let (d, fourth) = take_number(third)?;
+    let (e, end) = take_number(fourth)?;
+    if end.len() == 0 {
+        Some((a, b, d, e))
+    } else {
+        None
     }
 }
 

@@ -15,6 +15,7 @@ use g1_words::Fault;
 use g1_work::Open;
 use std::alloc::Global;
 use std::thread::Threads;
+use thiserror::Error;
 
 /// A heap that lines work on, from the line with its sizes on.
 #[derive(Drop)]
@@ -25,9 +26,9 @@ pub enum Session {
     Open { mutator: Mutator, commands: u64 },
 }
 
-/// What a line is.
+/// What a line that was done gets.
 #[derive(Debug, Clone, Copy, PartialEq, Eq)]
-pub enum Answer {
+pub enum Taken {
     /// An empty line, a comment, or the line with the sizes: nothing is replied.
     Nothing,
     /// A command, and its reply.
@@ -35,11 +36,13 @@ pub enum Answer {
 }
 
 /// Why a line was not done.
-#[derive(Debug, Clone, Copy)]
+#[derive(Debug, Clone, Copy, Error)]
 pub enum Wrong {
     /// It is not of its form.
+    #[error("expected {0}")]
     Line(Expected),
     /// A size is out of its range, or memory is out.
+    #[error("{0}")]
     Fault(Fault),
 }
 
@@ -90,12 +93,12 @@ impl Session {
         alloc: Global,
         line: &[u8],
         settings: &Settings,
-    ) -> (Session, Result<Answer, Wrong>)
+    ) -> (Session, Result<Taken, Wrong>)
         ensures done { IfOk result.1 (λ a. IsDone settings.now.cost self line.now a result.0) }
         ensures same { IfErr result.1 (λ _. result.0 ≡ self) }
     {
         if is_comment(line) {
-            return (self, Ok(Answer::Nothing));
+            return (self, Ok(Taken::Nothing));
         }
         match self {
             Session::Begun => begin(alloc, line, settings),
@@ -111,7 +114,7 @@ impl Session {
 }
 
 // Makes the heap of the line with the sizes.
-fn begin(alloc: Global, line: &[u8], settings: &Settings) -> (Session, Result<Answer, Wrong>)
+fn begin(alloc: Global, line: &[u8], settings: &Settings) -> (Session, Result<Taken, Wrong>)
     ensures done { IfOk result.1 (λ a. IsDone settings.now.cost Begun line.now a result.0) }
     ensures same { IfErr result.1 (λ _. result.0 ≡ Begun) }
 {
@@ -124,7 +127,7 @@ fn begin(alloc: Global, line: &[u8], settings: &Settings) -> (Session, Result<An
                 mutator,
                 commands: 0,
             };
-            (session, Ok(Answer::Nothing))
+            (session, Ok(Taken::Nothing))
         }
         Err(fault) => (Session::Begun, Err(Wrong::Fault(fault))),
     }
@@ -138,7 +141,7 @@ fn step<R: Threads + Sync>(
     commands: u64,
     command: &Command,
     settings: &Settings,
-) -> (Session, Result<Answer, Wrong>)
+) -> (Session, Result<Taken, Wrong>)
     ensures done { IfOk result.1 (λ a. IsDone settings.now.cost (OpenOf mutator commands) (command_line command.now) a result.0) }
     ensures same { IfErr result.1 (λ _. result.0 ≡ OpenOf mutator commands) }
 {
@@ -148,10 +151,7 @@ fn step<R: Threads + Sync>(
     match outcome {
         Ok(reply) => {
             let commands = commands.saturating_add(1);
-            (
-                Session::Open { mutator, commands },
-                Ok(Answer::Reply(reply)),
-            )
+            (Session::Open { mutator, commands }, Ok(Taken::Reply(reply)))
         }
         Err(fault) => (
             Session::Open { mutator, commands },

@@ -9,7 +9,7 @@ use g1_command::{LineReader, Refusal, deliver_text};
 use g1_explain::{Explanation, Form, explain};
 use g1_image::{Image, decode, encode};
 use g1_pause::{Choice, Settings};
-use g1_trace::{Answer, Expected, Reply, Session, Wrong, push_reply};
+use g1_trace::{Expected, Reply, Session, Taken, Wrong, push_reply};
 use g1_words::Fault;
 use std::alloc::Global;
 use std::io::{Read, Write};
@@ -153,8 +153,8 @@ fn take_line<T: Threads + Sync + Files>(
         push_explanation(job, &state.session, content, &mut state.replies)?;
     }
     match take(job, content, &mut state.session) {
-        Ok(Answer::Nothing) => Ok(()),
-        Ok(Answer::Reply(reply)) => add_reply(job.alloc, job.trace, reply, state),
+        Ok(Taken::Nothing) => Ok(()),
+        Ok(Taken::Reply(reply)) => add_reply(job.alloc, job.trace, reply, state),
         Err(Wrong::Line(expected)) => Err(wrong(job.alloc, job.trace, number, expected)),
         Err(Wrong::Fault(fault)) => Err(of_file(job.alloc, job.trace.name.as_str(), fault)),
     }
@@ -181,7 +181,7 @@ fn take<T: Threads + Sync>(
     job: &Job<'_, T>,
     content: &[u8],
     session: &mut Session,
-) -> Result<Answer, Wrong> {
+) -> Result<Taken, Wrong> {
     let before = mem::replace(session, Session::new());
     let (after, outcome) = before.take(job.rt, job.alloc, content, &job.settings);
     *session = after;

@@ -9,7 +9,7 @@ use Rattle.g1_mark.proofs.Counting.{zeros, bytes_few, bytes_here, region_there, 
 use Rattle.g1_mark.proofs.bytes.bytes_at.Goals as goal
 
 pub loop-address-init : goal.loop-address-init
-loop-address-init c = counted_none c.args.heap.now c.geometry-geometry.ensures.valid c.in_ok-bytes.bytes.items (c.in_ok-bytes.ensures
+loop-address-init c = counted_none c.args.heap.now c.geometry-geometry.ensures.valid c.in_ok-bytes.bytes.items (c.in_ok-bytes.ensures.items_if_clones_equal (λ y same. same)
     ∙ ap zeros (c.regions.ensures.value ∙ ap (λ g. g.n) c.geometry-geometry.ensures.same))
 
 pub size_at-requires : goal.size_at-requires

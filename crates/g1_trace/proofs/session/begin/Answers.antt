@@ -1,6 +1,6 @@
 use Rattle.std.proofs.Common.{sym, subst}
 use Rattle.g1_trace.specs.declared.session.Session.TheVariants.{Begun, Open as OpenOf}
-use Rattle.g1_trace.specs.declared.session.Answer.TheVariants.{Nothing}
+use Rattle.g1_trace.specs.declared.session.Taken.TheVariants.{Nothing}
 use Rattle.g1_trace.specs.Session.{IsDone, sizes}
 use Rattle.g1_trace.proofs.session.begin.Goals as goal
 
