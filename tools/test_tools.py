@@ -5,6 +5,7 @@ Heap dumps are made here by hand, with identifiers of 4 and of 8 bytes, and the 
 hand. Pages with a wrong output, a command that fails, a file left behind or a picture that changed have to fail.
 A picture is made of what a stand-in for g1pause says. The examples have to be those that examples/make.py makes.
 Tables of definitions and of the map that leave something out, or name what is not there, have to fail; those of the repository have to pass.
+A release of lines of shell and a checkout are installed, each over the other, and uninstalled: nothing of them may stay.
 Each script has to answer --help, and to say what it wants where it is called without arguments.
 """
 import contextlib
@@ -26,6 +27,8 @@ sys.path.insert(0, str(TOP / "tools"))
 import check_pages  # noqa: E402
 import check_tables  # noqa: E402
 import hprof2image  # noqa: E402
+import release  # noqa: E402
+import stamp  # noqa: E402 (it is in lib/)
 
 OBJECT, A, ARRAY = 0x10, 0x20, 0x30  # classes
 INT, BYTE, LONG, REFERENCE = 10, 8, 11, 2
@@ -484,6 +487,65 @@ class Ocaml(unittest.TestCase):
         programs = {"ocamlopt": "echo 4.14.1", "g1heap": "true"}
         for depth in ("2", "19", "60", "-3", "many", "3 4", "03"):
             self.assertEqual(self.judged(programs, depth), (2, f"judge.sh: DEPTH is '{depth}', and has to be from 3 to 18"))
+
+
+class Installing(unittest.TestCase):
+    """install.sh and uninstall.sh, of a release and of a checkout whose programs are a line of shell."""
+
+    PROGRAM = b"#!/bin/sh\necho g1pause 1.0\n"
+    YEAR_2001 = 1_000_000_000
+
+    def setUp(self):
+        room = tempfile.TemporaryDirectory()
+        self.addCleanup(room.cleanup)
+        self.room = pathlib.Path(room.name)
+        self.prefix = self.room / "prefix"
+        self.make_checkout()
+        self.make_release()
+
+    def make_checkout(self):
+        out = self.room / "checkout/out"
+        out.mkdir(parents=True)
+        for name in stamp.PROGRAMS:
+            (out / name).write_bytes(self.PROGRAM)
+            (out / name).chmod(0o755)
+        stamp.write(out, "PROVED", "a kit", "a sum", stamp.PROGRAMS)
+        for name in ("install.sh", "uninstall.sh"):
+            shutil.copy2(TOP / name, out.parent / name)
+
+    def make_release(self):
+        texts = ("include/g1judge.h", "lib/libg1judge.a", "lib/debug/g1pause.debug", "share/doc/g1pause/docs/USE.md",
+                 "share/man/man1/g1pause.1")
+        files = {**{f"bin/{name}": self.PROGRAM for name in stamp.PROGRAMS}, **{name: b"a text\n" for name in texts}}
+        files.update({name: (TOP / name).read_bytes() for name in ("install.sh", "uninstall.sh")})
+        packed = release.packed(release.with_lists(files), "release", self.YEAR_2001)
+        subprocess.run(["tar", "xzf", "-", "-C", self.room], input=packed, check=True)
+
+    def run_shell(self, *words):
+        done = subprocess.run(["sh", *map(str, words)], env=dict(os.environ, PREFIX=str(self.prefix)), capture_output=True,
+                              text=True, check=False)
+        self.assertEqual((done.returncode, done.stderr), (0, ""))
+
+    def installed(self):
+        return {str(path.relative_to(self.prefix)) for path in self.prefix.rglob("*") if path.is_file()}
+
+    def test_a_second_install_has_all_files_in_its_list(self):
+        for first, second in (("release", "checkout"), ("checkout", "release"), ("release", "release")):
+            with self.subTest(f"{first}, {second}"):
+                self.run_shell(self.room / first / "install.sh")
+                self.run_shell(self.room / second / "install.sh")
+                listed = (self.prefix / "share/g1pause/files").read_text().split()
+                self.assertEqual(self.installed(), {*listed, "share/g1pause/folders"})
+                self.run_shell(self.prefix / "share/g1pause/uninstall.sh")
+                self.assertEqual(list(self.prefix.rglob("*")), [])
+
+    def test_what_others_installed_stays(self):
+        (self.prefix / "bin").mkdir(parents=True)
+        (self.prefix / "bin/other").write_bytes(self.PROGRAM)
+        for name in ("release", "checkout"):
+            self.run_shell(self.room / name / "install.sh")
+        self.run_shell(self.prefix / "share/g1pause/uninstall.sh")
+        self.assertEqual(self.installed(), {"bin/other"})
 
 
 class Scripts(unittest.TestCase):
