@@ -18,6 +18,7 @@ refuse() {
 }
 
 set -eu
+umask 022 # what root installs is for all users
 start=$PWD
 cd "$(dirname "$0")"
 case "${1:-}" in
@@ -67,7 +68,8 @@ done
 while read -r name; do
     make_folder "${name%/*}"
     rm -f "$prefix/$name"
-    cp -p "$name" "$prefix/$name"
+    cp "$name" "$prefix/$name"
+    touch -r "$name" "$prefix/$name"
 done <share/g1pause/files
 cp "$room/folders" "$list/folders"
 echo "installed below $prefix: $(ls bin | tr '\n' ' ')"

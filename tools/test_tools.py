@@ -13,7 +13,9 @@ import io
 import os
 import pathlib
 import re
+import shlex
 import shutil
+import stat
 import struct
 import subprocess
 import sys
@@ -538,6 +540,15 @@ class Installing(unittest.TestCase):
                 self.assertEqual(self.installed(), {*listed, "share/g1pause/folders"})
                 self.run_shell(self.prefix / "share/g1pause/uninstall.sh")
                 self.assertEqual(list(self.prefix.rglob("*")), [])
+
+    def test_files_keep_their_modes_and_times_and_belong_to_who_installs(self):
+        unpacked = self.room / "release"
+        if os.geteuid() == 0:
+            subprocess.run(["chown", "-R", "12345:12345", unpacked], check=True)
+        self.run_shell("-c", f"umask 077; exec sh {shlex.quote(str(unpacked / 'install.sh'))}")
+        for name, mode in (("bin/g1pause", 0o755), ("include/g1judge.h", 0o644)):
+            was = (self.prefix / name).stat()
+            self.assertEqual((stat.S_IMODE(was.st_mode), was.st_mtime, was.st_uid), (mode, self.YEAR_2001, os.geteuid()))
 
     def test_what_others_installed_stays(self):
         (self.prefix / "bin").mkdir(parents=True)
