@@ -8,6 +8,7 @@ Tables of definitions and of the map that leave something out, or name what is n
 A release of lines of shell and a checkout are installed, each over the other, and uninstalled: nothing of them may stay.
 Each script has to answer --help, and to say what it wants where it is called without arguments.
 """
+import argparse
 import contextlib
 import io
 import os
@@ -29,6 +30,7 @@ sys.path.insert(0, str(TOP / "tools"))
 import check_pages  # noqa: E402
 import check_tables  # noqa: E402
 import hprof2image  # noqa: E402
+import judge_opponent  # noqa: E402
 import release  # noqa: E402
 import stamp  # noqa: E402 (it is in lib/)
 
@@ -489,6 +491,23 @@ class Ocaml(unittest.TestCase):
         programs = {"ocamlopt": "echo 4.14.1", "g1heap": "true"}
         for depth in ("2", "19", "60", "-3", "many", "3 4", "03"):
             self.assertEqual(self.judged(programs, depth), (2, f"judge.sh: DEPTH is '{depth}', and has to be from 3 to 18"))
+
+
+class Opponents(unittest.TestCase):
+    """The end of tools/judge_opponent.py, of which only the counts are known."""
+
+    def ended(self, cases, never):
+        judge = judge_opponent.Judge(argparse.Namespace(seed=1, cases=cases), None)
+        judge.passed = 1
+        judge.counts.update({error: 1 for error in judge.counts if error not in never})
+        with contextlib.redirect_stdout(io.StringIO()) as out:
+            status = judge.end()
+        return status, out.getvalue().splitlines()[-1 - len(never):]
+
+    def test_an_error_that_was_never_planted_fails(self):
+        self.assertEqual(self.ended(20, []), (0, ["1 passed, 0 failed"]))
+        self.assertEqual(self.ended(20, ["pin_new"]), (1, ["never planted: pin_new", "1 passed, 1 failed"]))
+        self.assertEqual(self.ended(19, ["pin_new"])[0], 0)
 
 
 class Installing(unittest.TestCase):
