@@ -20,8 +20,9 @@ tools/build_judge.py makes it; a second time with the sanitizers for addresses a
   rust     examples/judge-rust, if cargo is there
   page     the commands of docs/LINK.md, in a fresh copy of the checkout
 
---heap is crates/g1heap/out/g1heap and --archive is judge/out/libg1judge.a if they are not given. The last line is
-'N passed, M failed', and the status is 0 only if none failed and one passed.
+--heap is out/g1heap, which tools/build.py --unproved builds, and --archive is judge/out/libg1judge.a, which
+tools/build_judge.py makes, if they are not given. The last line is 'N passed, M failed', and the status is 0 only if none
+failed and one passed.
 """
 import argparse
 import os
@@ -43,6 +44,7 @@ import losses  # noqa: E402
 from heap_image import FIRST, CONTINUATION, FREE, NULL, ORDINARY, Image, drawn, from_bytes  # noqa: E402
 from opponent import NoRoom, Opponent, refused  # noqa: E402
 from plant_errors import ERRORS as COLLECTOR_ERRORS, MORE_ERRORS, Planter  # noqa: E402
+from programs import OUT, program  # noqa: E402
 
 TOP = pathlib.Path(__file__).resolve().parent.parent
 KINDS = {"split": 4, "joined": 5, "size": 6, "slots": 7, "data": 8}
@@ -728,17 +730,16 @@ CHECKS = {"headers": check_headers, "calls": check_calls, "kept": check_kept, "n
 
 def main():
     parser = argparse.ArgumentParser(description=__doc__, formatter_class=argparse.RawDescriptionHelpFormatter)
-    parser.add_argument("--heap", default=TOP / "crates/g1heap/out/g1heap", type=pathlib.Path)
-    parser.add_argument("--archive", default=TOP / "judge/out/libg1judge.a", type=pathlib.Path)
+    parser.add_argument("--heap", metavar="FILE", default=str(OUT / "g1heap"), type=program)
+    parser.add_argument("--archive", metavar="FILE", default=TOP / "judge/out/libg1judge.a", type=pathlib.Path)
     parser.add_argument("--graphs", default=2000, type=int)
     parser.add_argument("--runs", default=20, type=int)
     parser.add_argument("--seed", default=1, type=int)
     parser.add_argument("--only", choices=CHECKS)
     options = parser.parse_args()
-    for file in (options.heap, options.archive):
-        if not file.is_file():
-            sys.exit(f"test_judge.py: {file}: no such file")
-    options.heap, options.archive = options.heap.resolve(), options.archive.resolve()
+    if not options.archive.is_file():
+        parser.error(f"{options.archive} is not there: tools/build_judge.py makes judge/out/libg1judge.a")
+    options.archive = options.archive.resolve()
     tally = Tally()
     with tempfile.TemporaryDirectory() as room:
         try:
