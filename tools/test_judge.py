@@ -176,6 +176,7 @@ class Programs:
 
     def __init__(self, room, archive):
         self.room, self.archive = pathlib.Path(room), archive
+        (self.room / "examples").symlink_to(TOP / "examples")
         cc = shlex.split(os.environ.get("CC", "cc"))
         common = ["-std=c11", "-Wall", "-Wextra", "-Wpedantic", "-Werror", "-pthread", "-I", TOP / "include"]
         machine = [TOP / "examples/vm" / name for name in ("vm.c", "collector.c", "judge.c")]
@@ -184,8 +185,12 @@ class Programs:
                 subprocess.run([*cc, *common, *flags, *sources, archive, "-o", self.room / (what + name)], check=True)
 
     def run(self, name, *words, text=None, env=None):
-        return subprocess.run([self.room / name, *map(str, words)], input=text, capture_output=True, text=True,
+        return subprocess.run([self.room / name, *map(str, words)], cwd=self.room, input=text, capture_output=True, text=True,
                               env={**os.environ, **(env or {})})
+
+    def name(self, file):
+        """An example, or a file of the room, as the callers find it: their lines end a name at a space."""
+        return str(file.relative_to(self.room if self.room in file.parents else TOP))
 
     def lines(self, tally, name, *words, text=None):
         """What a command prints, line by line; an end by anything but 0 is a failure."""
@@ -252,7 +257,7 @@ def check_pairs(tally, programs, options):
         files = room / f"{i}a", room / f"{i}b"
         for file, data in zip(files, pair(rng, rng.choice((3, 10, 40, 150)), error)):
             file.write_bytes(data)
-        listed.append("{} {}\n".format(*files))
+        listed.append("{} {}\n".format(*map(programs.name, files)))
         expected.append(by_heap(options.heap, *files))
         planted.append(error)
     for name in ("test", "test_checked"):
@@ -353,7 +358,7 @@ def check_kept(tally, programs, options):
             by_heap_too = by_rule(*map(from_bytes, texts), [r for r in chosen if r >= len(kinds) or kinds[r] != FREE])
         if chosen and not agrees(options.heap, a, b, chosen, by_heap_too):
             disagreeing.append((a.name, b.name, chosen, wanted))
-        listed.append(" ".join(map(str, (a, b, *chosen))) + "\n")
+        listed.append(" ".join(map(str, (programs.name(a), programs.name(b), *chosen))) + "\n")
         expected.append(wanted)
     tally.count("g1heap same --set", sum(bool(chosen) for _, _, chosen in cases), len(disagreeing), "".join(f"\n  {case}" for case in disagreeing[:5]))
     for name in ("test", "test_checked"):
@@ -557,7 +562,7 @@ def check_graphs(tally, programs, options):
     for i in range(options.graphs):
         graph = Graph(rng, rng.choice((0, 1, 2, 5, rng.randint(0, 60))), rng.choice((3, 12, 70)))
         width = rng.choice((16, 32, 64, 256))
-        texts.append(graph.lines(rng, width, programs.room / f"w{i}"))
+        texts.append(graph.lines(rng, width, f"w{i}"))
         made.append((graph, width))
     lines = programs.lines(tally, "test_checked", "write", text="".join(texts))
     for i, ((graph, width), line) in enumerate(zip(made, lines)):
@@ -604,17 +609,17 @@ REFUSALS = (  # the lines of an image, and what its end says: fault, pointer, ho
 
 def check_refusals(tally, programs, options):
     for text, wanted in REFUSALS:
-        lines = programs.lines(tally, "test_checked", "write", text=f"{text}end {programs.room}/refused\n")
+        lines = programs.lines(tally, "test_checked", "write", text=f"{text}end refused\n")
         tally.expect(f"writer: {text[:40]!r}", lines, ["fault {} pointer {} holder {} slot {}".format(*wanted)])
     # 4,096 regions of 16 words, and one more; and one word more than 2^24
     object_of = lambda p, words: f"object {p} 0 {8 * (words - 1)} " + "0 " * (words - 1) + "\n"
     full = "image 16\n" + "".join(object_of(p, 9) for p in range(1, 4097))
     for words in (0, 1, 7, 8, 13):
         more = object_of(5000, words) if words else ""
-        lines = programs.lines(tally, "test", "write", text=f"{full}{more}end {programs.room}/refused\n")
+        lines = programs.lines(tally, "test", "write", text=f"{full}{more}end refused\n")
         found = [line.split(" pointer")[0] for line in lines if line.startswith("fault")]
         tally.expect(f"writer: 4096 regions and {words} words", found, ["fault 4"] if words > 7 else [])
-    text = "".join(f"image 16\nstale\nroot {root}\nobject 4 2 0 4 11\nend {programs.room}/{name}\n"
+    text = "".join(f"image 16\nstale\nroot {root}\nobject 4 2 0 4 11\nend {name}\n"
                    for root, name in ((99, "stale"), (4, "stale_slot")))
     lines = [re.sub("length [0-9]+ ", "", line) for line in programs.lines(tally, "test_checked", "write", text=text)]
     tally.expect("writer: stale", lines, ["stale 2 at 0 4", "stale 1 at 0 4"])

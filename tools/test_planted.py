@@ -11,6 +11,7 @@ import json
 import os
 import pathlib
 import re
+import shlex
 import shutil
 import subprocess
 import sys
@@ -365,7 +366,7 @@ class Minutes(unittest.TestCase):
             rows = []
             for folder, at in (("rt-edit-1", 2), ("planted-1", 3)):
                 os.mkdir(f"{room}/{folder}")
-                told = self.report(f"""cd {room}/{folder} && "$0" -c "$1" --crate-name one""").stdout
+                told = self.report(f"""cd {shlex.quote(room)}/{folder} && "$0" -c "$1" --crate-name one""").stdout
                 rows.append([int(it) for it in re.search(r"^one +(.*)$", told, re.M)[1].split()])
                 self.assertIn(rows[-1][at], (1, 2), told)
                 self.assertEqual(sum(rows[-1]), rows[-1][at], told)

@@ -22,17 +22,19 @@ import subprocess
 import sys
 import tempfile
 import unittest
+import unittest.mock
 
 TOP = pathlib.Path(__file__).resolve().parent.parent
 sys.dont_write_bytecode = True
-sys.path.insert(0, str(TOP / "tools"))
+sys.path[:0] = [str(TOP / "tools"), str(TOP / "tools" / "lib")]
 
 import check_pages  # noqa: E402
 import check_tables  # noqa: E402
 import hprof2image  # noqa: E402
 import judge_opponent  # noqa: E402
+import manual  # noqa: E402
 import release  # noqa: E402
-import stamp  # noqa: E402 (it is in lib/)
+import stamp  # noqa: E402
 
 OBJECT, A, ARRAY = 0x10, 0x20, 0x30  # classes
 INT, BYTE, LONG, REFERENCE = 10, 8, 11, 2
@@ -232,6 +234,10 @@ class Pages(unittest.TestCase):
     def test_what_is_left_behind_changed_or_gone_fails(self):
         for command in ("echo > new.txt", "echo other > kept.txt", "rm kept.txt"):
             self.assertEqual(len(self.wrong(f"    {command}\n".replace("    echo", "    echo"))), 1, command)
+
+    def test_a_folder_may_have_a_space(self):
+        with tempfile.TemporaryDirectory(prefix="a b") as room, unittest.mock.patch.object(tempfile, "tempdir", room):
+            self.assertEqual(self.wrong("    echo one\n\n    one\n"), [])
 
     def test_the_shell_goes_on_from_line_to_line(self):
         self.assertEqual(self.wrong("    cd /\n    printf '%s\\n' $PWD\n\n    /\n"), [])
@@ -510,6 +516,22 @@ class Opponents(unittest.TestCase):
         self.assertEqual(self.ended(19, ["pin_new"])[0], 0)
 
 
+class Manual(unittest.TestCase):
+    """Manual pages of a program of a few lines, by a help2man that runs what it is given as the real one does."""
+
+    def test_each_command_has_a_page_if_the_folder_has_a_space(self):
+        scripts = {"g1pause": "echo about $*; printf '\\nCommands:\\n  check  asks\\n'",
+                   "help2man": 'for called; do :; done; sh -c "$called --help"'}
+        with tempfile.TemporaryDirectory(prefix="a b") as room:
+            for name, text in scripts.items():
+                (pathlib.Path(room) / name).write_text(f"#!/bin/sh\n{text}\n")
+                (pathlib.Path(room) / name).chmod(0o755)
+            with unittest.mock.patch.dict(os.environ, PATH=f"{room}:{os.environ['PATH']}"):
+                pages = manual.pages(pathlib.Path(room) / "g1pause", "1.0", 0)
+        lines = {name: text.splitlines()[0] for name, text in pages.items()}
+        self.assertEqual(lines, {"g1pause.1": "about --help", "g1pause-check.1": "about check --help"})
+
+
 class Installing(unittest.TestCase):
     """install.sh and uninstall.sh, of a release and of a checkout whose programs are a line of shell."""
 
@@ -520,7 +542,7 @@ class Installing(unittest.TestCase):
         room = tempfile.TemporaryDirectory()
         self.addCleanup(room.cleanup)
         self.room = pathlib.Path(room.name)
-        self.prefix = self.room / "prefix"
+        self.prefix = self.room / "a prefix"
         self.make_checkout()
         self.make_release()
 
