@@ -126,7 +126,7 @@ def main():
         folder = pathlib.Path(room)
         few = {"malicious_images.py": ["300"]}
         whole = broken(folder, "whole", binary, ";")
-        for script in ("second_pause.py", "malicious_images.py"):
+        for script in ("refuse_memory.py", "second_pause.py", "malicious_images.py"):
             judge.judge(f"{script} passes the program behind a pipe", passes(script, whole, *few.get(script, [])))
         for name, (body, scripts) in BROKEN.items():
             program = broken(folder, name, binary, body)
