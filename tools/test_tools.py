@@ -468,18 +468,30 @@ class JavaHeaps(unittest.TestCase):
 class Ocaml(unittest.TestCase):
     """examples/ocaml/judge.sh, with a compiler of a few lines of shell."""
 
-    def judged(self, programs, *words):
-        """The status and the line of standard error. Programs are what stands in for ocamlopt and g1heap."""
+    COMPILER = """\
+[ "$1" != -version ] || { echo 4.14.1; exit; }
+cat >judge <<'END'
+#!/bin/sh
+for name in before minor major compact changed; do echo object 1 >$name.txt; done
+END
+chmod +x judge
+"""
+
+    def run_judge(self, programs, path, *words):
+        """Runs it with these programs before the path. They stand in for ocamlopt and g1heap."""
         with tempfile.TemporaryDirectory() as room:
             for name, text in programs.items():
                 (pathlib.Path(room) / name).write_text(f"#!/bin/sh\n{text}\n")
                 (pathlib.Path(room) / name).chmod(0o755)
-            tools = pathlib.Path(room) / "tools"
-            tools.mkdir()
+            return subprocess.run([TOP / "examples/ocaml/judge.sh", *words], capture_output=True, text=True, check=False,
+                                  env={"PATH": f"{room}:{path}"}, timeout=60)
+
+    def judged(self, programs, *words):
+        """The status and the line of standard error, without an ocamlopt or a g1heap of the machine."""
+        with tempfile.TemporaryDirectory() as tools:
             for name in ("dirname", "sh"):
-                (tools / name).symlink_to(shutil.which(name))
-            done = subprocess.run([TOP / "examples/ocaml/judge.sh", *words], capture_output=True, text=True, check=False,
-                                  env={"PATH": f"{room}:{tools}"}, timeout=60)
+                (pathlib.Path(tools) / name).symlink_to(shutil.which(name))
+            done = self.run_judge(programs, tools, *words)
         self.assertEqual((done.stdout, done.stderr.count("\n")), ("", 1), done.stderr)
         return done.returncode, done.stderr.strip()
 
@@ -497,6 +509,12 @@ class Ocaml(unittest.TestCase):
         programs = {"ocamlopt": "echo 4.14.1", "g1heap": "true"}
         for depth in ("2", "19", "60", "-3", "many", "3 4", "03"):
             self.assertEqual(self.judged(programs, depth), (2, f"judge.sh: DEPTH is '{depth}', and has to be from 3 to 18"))
+
+    def test_a_change_is_found_only_by_status_1(self):
+        for found, status in ((0, 1), (1, 0), (3, 1), (6, 1)):
+            programs = {"ocamlopt": self.COMPILER, "g1heap": f"[ $3 != changed.txt ] || exit {found}"}
+            done = self.run_judge(programs, os.environ["PATH"])
+            self.assertEqual((done.returncode, done.stderr), (status, ""), found)
 
 
 class Opponents(unittest.TestCase):
