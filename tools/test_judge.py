@@ -31,7 +31,6 @@ import random
 import re
 import shlex
 import shutil
-import struct
 import subprocess
 import sys
 import tempfile
@@ -607,7 +606,7 @@ REFUSALS = (  # the lines of an image, and what its end says: fault, pointer, ho
 )
 
 
-def check_refusals(tally, programs, options):
+def check_refusals(tally, programs):
     for text, wanted in REFUSALS:
         lines = programs.lines(tally, "test_checked", "write", text=f"{text}end refused\n")
         tally.expect(f"writer: {text[:40]!r}", lines, ["fault {} pointer {} holder {} slot {}".format(*wanted)])
@@ -630,7 +629,7 @@ def check_refusals(tally, programs, options):
 
 def check_writer(tally, programs, options):
     check_graphs(tally, programs, options)
-    check_refusals(tally, programs, options)
+    check_refusals(tally, programs)
     for name, objects in (("test_checked", 3000), ("test", 100000)):
         line = programs.lines(tally, name, "scarce", objects)[-1]
         tried, wrong = numbers(line.split("tried ")[1].replace("wrong", ""))
