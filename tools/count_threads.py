@@ -1,11 +1,11 @@
 #!/usr/bin/env python3
 """count_threads.py DRIVER
 
-Counts the threads that calls of the library start which no gate is told of: those that merge remembered sets, sort
-the log, look at the cards that lead into a search and make a pause ready. DRIVER, the built crates/g1_rows, runs each on an image with more cards than one
-thread is given, as a row whose answer is written here, and tells where the call begins and ends. The call has to start
-at least one thread, and no more than there may be workers; on an image of few cards it has to start none. On a machine
-of one processor nothing is counted.
+Counts the threads that calls of the library start and no gate sees: those that merge remembered sets, sort the log,
+look at the cards that lead into a search and make a pause ready. DRIVER, the built crates/g1_rows, runs each on an image
+with more cards than one thread is given, as a row whose answer is written here, and says where the call begins and ends.
+The call has to start at least one thread, and no more than there may be workers; on an image of few cards it has to start
+none. On a machine of one processor nothing is counted.
 It needs a C compiler. The last line is 'N passed, M failed'.
 """
 import argparse

@@ -36,7 +36,7 @@ ENOUGH = 20  # so many cases plant each kind of error, whatever the seed
 DIFFERENCES = ("roots", "stale", "null", "split", "joined", "size", "slots", "data")
 
 
-def tells(before, after, x, y, forth, back, called=(str, str)):
+def difference(before, after, x, y, forth, back, called=(str, str)):
     """How two reference words differ: the kind and the detail of the line. None where they don't. `called` are what the
     files before and after call an object."""
     old, new = called
@@ -92,8 +92,8 @@ def walked(before, after, more=(), called=None):
         if y != NULL and y - 1 not in starts:
             how, detail = stale_detail(before, after, x, y, called is not None)
             lines.append(f"differ {how} at {path}: {old}{detail}\n")
-        elif tells(before, after, x, y, forth, back, names):
-            how, detail = tells(before, after, x, y, forth, back, names)
+        elif difference(before, after, x, y, forth, back, names):
+            how, detail = difference(before, after, x, y, forth, back, names)
             lines.append(f"differ {how} at {path}: {old} before, {new} after{detail}\n")
         if x != NULL and x - 1 not in forth and how in (None, "data"):
             forth[x - 1], back[y - 1] = y - 1, x - 1
@@ -178,7 +178,7 @@ def make_stale(rng, before, after):
 
 
 def uncovered(image):
-    """The lowest slot that references an object of another region and that neither its set nor the log tells."""
+    """The lowest slot that references an object of another region and whose card is in neither its set nor the log."""
     for address in image.objects():
         for slot in image.slots(address):
             region = image.region_of(image.words[slot] - 1)

@@ -65,7 +65,7 @@ def chain(before):
     return heading + table + struct.pack("<Q", shift * 1024 + 1) + sets + pairs + struct.pack("<2IQ", 1, 2, 0)
 
 
-# Each second read and write, from the first on, is told to be interrupted by a signal.
+# Each second read and write, from the first on, is reported as interrupted by a signal.
 INTERRUPTS = r"""
 #define _GNU_SOURCE
 #include <dlfcn.h>

@@ -2,7 +2,7 @@
 """Tests of bench/ that need no program of ours: test_bench.py [-v]
 
 Programs of a few lines of shell stand in for the two that are compared: one that gives back its input is the reference,
-and each that differs from it in one way has to be told. The hostile images are judged by image_text.py, an independent
+and each that differs from it in one way has to be reported. The hostile images are judged by image_text.py, an independent
 reading of docs/IMAGE.md.
 """
 import io
@@ -67,7 +67,7 @@ class Folder(unittest.TestCase):
         return shlex.quote(self.program("theirs", body))
 
     def compared(self, ours, *words, theirs=ECHO):
-        """The status, and what is told."""
+        """The status, and what is reported."""
         words = words or ("--images", str(self.inputs))
         command = [sys.executable, str(TOP / "bench/compare.py"), "--program", self.program("ours", ours), "--reference",
                    self.reference(theirs), "--rounds", "1", *words]
@@ -438,7 +438,7 @@ class Drawn(Folder):
     """bench/images.py at the ends of its sizes."""
 
     def drawn(self, *words):
-        """The status, what is told of a refusal, and the image."""
+        """The status, what is said of a refusal, and the image."""
         path = self.room / "drawn.img"
         path.unlink(missing_ok=True)
         done = subprocess.run([sys.executable, str(TOP / "bench/images.py"), words[0], str(path), *words[1:]],

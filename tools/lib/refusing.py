@@ -38,7 +38,7 @@ __attribute__((constructor)) static void begin(void) {
     atomic_store(&seen, 0);
 }
 
-/* Goes on to the next request after a run that met a refusal, else to the next round. Tells whether it met one. */
+/* Goes on to the next request after a run that met a refusal, else to the next round. Returns whether it met one. */
 static int run_ended(void) {
     static int round;
     static long n;
@@ -51,7 +51,7 @@ static int run_ended(void) {
     return again;
 }
 
-/* A file tells that a request was refused: standard error stays the program's own. */
+/* A file says that a request was refused: standard error stays the program's own. */
 static int refused(size_t size) {
     if (in_runs && (size == BEGIN || size == END || size == END_OF_RUN)) {
         atomic_store(&counts, size == BEGIN);
@@ -125,7 +125,7 @@ class Refusing:
 
 
 class Judge:
-    """Counts what is as it has to be, and tells what is not. With the word --first the first such ends the script."""
+    """Counts what is as it has to be, and prints what is not. With the word --first the first such ends the script."""
 
     def __init__(self):
         self.passed = self.failed = 0
