@@ -18,6 +18,7 @@ sys.path.insert(0, str(pathlib.Path(__file__).resolve().parent / "lib"))
 
 from images import SHARED, SHARED_AFTER, all_dirty, numbers  # noqa: E402
 from image_text import in_version_two  # noqa: E402
+from programs import add_driver  # noqa: E402
 from refusing import BEGIN, END, Judge, compiled, run  # noqa: E402
 from rows import lists, row  # noqa: E402
 
@@ -101,18 +102,18 @@ def count(library, report, driver, call, image, answer):
 
 def main():
     parser = argparse.ArgumentParser(description=__doc__, formatter_class=argparse.RawDescriptionHelpFormatter)
-    parser.add_argument("driver", metavar="DRIVER", help="the built driver, crates/g1_rows/out/g1_rows")
+    add_driver(parser)
     parser.add_argument("--first", action="store_true", help="end at the first failure")
     options = parser.parse_args()
     if len(os.sched_getaffinity(0)) < 2:
         print("one processor: nothing is counted")
         return 0
-    driver, judge = str(pathlib.Path(options.driver).resolve()), Judge()
+    judge = Judge()
     with tempfile.TemporaryDirectory() as room:
         folder = pathlib.Path(room)
         words = ["-shared", "-fPIC", f"-DBEGIN={BEGIN}", f"-DEND={END}"]
         library = compiled(folder, "count.so", LIBRARY, *words)
-        counted = (library, folder / "threads", driver)
+        counted = (library, folder / "threads", options.driver)
         large = [(f"{call} regions 0", all_remembered(), answer()) for call, answer in LARGE.items()]
         large.append(("refine regions 0", all_dirty(), lists([64 * 16_384], *[[]] * 64)))
         for call, image, answer in large:

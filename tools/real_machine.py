@@ -3,8 +3,8 @@
 
 Runs the built program against what a real machine does: streams that are closed, full or broken, limits on files, on
 memory and on threads, a process that is stopped and goes on, calls that a signal interrupts, and reads that give few
-bytes. What the program has to do in each case stands in docs/HOSTILE.md. It needs Linux. HEAP is the built g1heap: its
-commands that read images get the short images, too. The last line is 'N passed, M failed'.
+bytes. What the program has to do in each case stands in docs/HOSTILE.md. It needs Linux and a C compiler. HEAP is the
+built g1heap: its commands that read images get the short images, too. The last line is 'N passed, M failed'.
 """
 import argparse
 import ctypes

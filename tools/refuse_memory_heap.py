@@ -9,7 +9,7 @@ whose file the machine has no memory to open. A file that is asked for is what i
 and nothing else is in its folder; it is not there if Memory was reported, except by `trace --live`. What that has on
 standard output then are whole replies, the first of those with ample memory.
 
-The last line is 'N passed, M failed'.
+It needs a C compiler. The last line is 'N passed, M failed'.
 """
 import argparse
 import os

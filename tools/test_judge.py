@@ -20,9 +20,9 @@ tools/build_judge.py makes it; a second time with the sanitizers for addresses a
   rust     examples/judge-rust, if cargo is there
   page     the commands of docs/LINK.md, in a fresh copy of the checkout
 
---heap is out/g1heap, which tools/build.py --unproved builds, and --archive is judge/out/libg1judge.a, which
-tools/build_judge.py makes, if they are not given. The last line is 'N passed, M failed', and the status is 0 only if none
-failed and one passed.
+It needs a C compiler. --heap is out/g1heap, which tools/build.py --unproved builds, and --archive is
+judge/out/libg1judge.a, which tools/build_judge.py makes, if they are not given. The last line is 'N passed, M failed', and
+the status is 0 only if none failed and one passed.
 """
 import argparse
 import os

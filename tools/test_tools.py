@@ -671,6 +671,12 @@ class Scripts(unittest.TestCase):
                         self.assertEqual((status, out), (2, ""))
                         self.assertIn("tools/build.py --unproved builds", errors)
 
+    def test_a_driver_that_is_not_built_comes_with_what_builds_it(self):
+        for name in ("count_threads.py", "refuse_calls.py"):
+            status, out, errors = self.run_script(self.folder / "tools" / name, "nowhere")
+            self.assertEqual((status, out), (2, ""))
+            self.assertIn("rt run in crates/g1_rows builds", errors)
+
     def test_a_picture_without_programs_says_what_builds_them(self):
         for words in [], ["--objects"], ["--steps"]:
             with self.subTest(words):
