@@ -19,7 +19,7 @@ sys.path.insert(0, str(pathlib.Path(__file__).resolve().parent / "lib"))
 from images import SHARED, SHARED_AFTER, all_dirty, numbers  # noqa: E402
 from image_text import in_version_two  # noqa: E402
 from programs import add_driver  # noqa: E402
-from refusing import BEGIN, END, Judge, compiled, run  # noqa: E402
+from refusing import BEGIN, END, Judge, compiled, preloading, run  # noqa: E402
 from rows import lists, row  # noqa: E402
 
 LIBRARY = r"""
@@ -93,7 +93,7 @@ SMALL = {
 
 def count(library, report, driver, call, image, answer):
     """The threads that the call started, or nothing if it answered otherwise."""
-    environment = dict(os.environ, LD_PRELOAD=str(library), THREADS_REPORT=str(report))
+    environment = preloading(library, THREADS_REPORT=str(report))
     report.unlink(missing_ok=True)
     out, errors, status = run([driver, "rows"], row(f"{call} workers {WORKERS} chunk 64", image, answer), environment)
     good = status == 0 and not errors and out.endswith(b"\n1 ok, 0 failed\n")
