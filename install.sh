@@ -6,7 +6,8 @@ PREFIX=FOLDER ./install.sh
 Installs below FOLDER (/usr/local) what is beside this file. In a release: the programs in bin, the headers and the
 library, if there are any, in include and lib, and manual pages, completion for bash, pages and examples in share.
 Before, it compares each file with its sum in SHA256SUMS. In a checkout: the programs of out/ alone, if tools/build.py
-proved them. FOLDER/share/g1pause/uninstall.sh takes away what was installed.
+proved them. Files of an earlier install that are not in this one are taken away. FOLDER/share/g1pause/uninstall.sh
+takes away what was installed.
 Statuses: 0 done; 1 a file is not there, is not as it was made, or can't be written; 2 usage.
 END
 }
@@ -17,6 +18,7 @@ refuse() {
 }
 
 set -eu
+umask 022 # what root installs is for all users
 start=$PWD
 cd "$(dirname "$0")"
 case "${1:-}" in
@@ -57,13 +59,19 @@ make_folder() {
     printf '%s\n' "$1" >>"$room/folders"
 }
 touch "$room/folders"
-[ ! -f "$prefix/share/g1pause/folders" ] || cat "$prefix/share/g1pause/folders" >>"$room/folders"
+list=$prefix/share/g1pause
+[ ! -f "$list/folders" ] || cat "$list/folders" >>"$room/folders"
+# The list of an earlier install is written over: its files that are not in this one would be in no list.
+[ ! -f "$list/files" ] || grep -vxFf share/g1pause/files "$list/files" | while read -r name; do
+    rm -f "$prefix/$name"
+done
 while read -r name; do
     make_folder "${name%/*}"
     rm -f "$prefix/$name"
-    cp -p "$name" "$prefix/$name"
+    cp "$name" "$prefix/$name"
+    touch -r "$name" "$prefix/$name"
 done <share/g1pause/files
-cp "$room/folders" "$prefix/share/g1pause/folders"
+cp "$room/folders" "$list/folders"
 echo "installed below $prefix: $(ls bin | tr '\n' ' ')"
 case ":$PATH:" in
     *":$prefix/bin:"*) ;;

@@ -6,7 +6,7 @@
      for each root:   g1w_root(&w, pointer);
      for each object: g1w_object(&w, pointer, slots, count, data, bytes);
      if (g1w_end(&w, &image, &length) != G1W_GOOD) puts(g1w_text(w.fault));
-     .. g1_same(before, before_length, image, length, ..), g1w_pointer(&w, address) ..
+     .. g1_same(before, before_length, image, length, path, room, &answer), g1w_named(&w, answer.after) ..
      g1w_free(&w);
 
    The writer lays the objects out by itself, in regions of its own and runs of them for large objects. So your regions

@@ -27,6 +27,7 @@ import argparse
 import os
 import pathlib
 import re
+import shlex
 import shutil
 import subprocess
 import sys
@@ -46,9 +47,9 @@ MODULES = "tools/lib/"
 
 def shell_text(steps, folder):
     """A script that runs all steps in one shell, and keeps what each prints, and its status."""
-    lines = []
+    lines, room = [], shlex.quote(str(folder))
     for at, step in enumerate(steps):
-        lines += ["{ " + step.command, f"}} </dev/null >{folder}/{at}.out 2>&1", f"echo $? >{folder}/{at}.status"]
+        lines += ["{ " + step.command, f"}} </dev/null >{room}/{at}.out 2>&1", f"echo $? >{room}/{at}.status"]
     return "\n".join(lines) + "\n"
 
 

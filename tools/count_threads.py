@@ -1,11 +1,11 @@
 #!/usr/bin/env python3
 """count_threads.py DRIVER
 
-Counts the threads that calls of the library start which no gate is told of: those that merge remembered sets, look at
-the cards that lead into a search and make a pause ready. DRIVER, the built crates/g1_rows, runs each on an image with
-more cards than one thread is given, as a row whose answer is written here, and tells where the call begins and ends. The
-call has to start at least one thread, and no more than there may be workers; on an image of few cards it has to start
-none, and none to list dirty cards, however many they are. On a machine of one processor nothing is counted.
+Counts the threads that calls of the library start and no gate sees: those that merge remembered sets, look at the cards
+that lead into a search and make a pause ready. DRIVER, the built crates/g1_rows, runs each on an image with more cards
+than one thread is given, as a row whose answer is written here, and says where the call begins and ends. The call has to
+start at least one thread, and no more than there may be workers; on an image of few cards it has to start none, and none
+to list dirty cards, however many they are. On a machine of one processor nothing is counted.
 It needs a C compiler. The last line is 'N passed, M failed'.
 """
 import argparse
@@ -18,7 +18,8 @@ sys.path.insert(0, str(pathlib.Path(__file__).resolve().parent / "lib"))
 
 from images import SHARED, SHARED_AFTER, all_dirty, numbers  # noqa: E402
 from image_text import in_version_two  # noqa: E402
-from refusing import BEGIN, END, Judge, compiled, run  # noqa: E402
+from programs import add_driver  # noqa: E402
+from refusing import BEGIN, END, Judge, compiled, preloading, run  # noqa: E402
 from rows import lists, row  # noqa: E402
 
 LIBRARY = r"""
@@ -92,7 +93,7 @@ SMALL = {
 
 def count(library, report, driver, call, image, answer):
     """The threads that the call started, or nothing if it answered otherwise."""
-    environment = dict(os.environ, LD_PRELOAD=str(library), THREADS_REPORT=str(report))
+    environment = preloading(library, THREADS_REPORT=str(report))
     report.unlink(missing_ok=True)
     out, errors, status = run([driver, "rows"], row(f"{call} workers {WORKERS} chunk 64", image, answer), environment)
     good = status == 0 and not errors and out.endswith(b"\n1 ok, 0 failed\n")
@@ -101,18 +102,18 @@ def count(library, report, driver, call, image, answer):
 
 def main():
     parser = argparse.ArgumentParser(description=__doc__, formatter_class=argparse.RawDescriptionHelpFormatter)
-    parser.add_argument("driver", metavar="DRIVER", help="the built driver, crates/g1_rows/out/g1_rows")
+    add_driver(parser)
     parser.add_argument("--first", action="store_true", help="end at the first failure")
     options = parser.parse_args()
     if len(os.sched_getaffinity(0)) < 2:
         print("one processor: nothing is counted")
         return 0
-    driver, judge = str(pathlib.Path(options.driver).resolve()), Judge()
+    judge = Judge()
     with tempfile.TemporaryDirectory() as room:
         folder = pathlib.Path(room)
         words = ["-shared", "-fPIC", f"-DBEGIN={BEGIN}", f"-DEND={END}"]
         library = compiled(folder, "count.so", LIBRARY, *words)
-        counted = (library, folder / "threads", driver)
+        counted = (library, folder / "threads", options.driver)
         large = [(f"{call} regions 0", all_remembered(), answer()) for call, answer in LARGE.items()]
         for call, image, answer in large:
             started = count(*counted, call, image, answer)

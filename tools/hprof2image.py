@@ -336,7 +336,7 @@ def counted(image, arrays):
 
 
 def told(conversion, index, errors):
-    """Tells what was counted, and whether both sides agree."""
+    """Prints what was counted, and returns whether both sides agree."""
     image, inside = conversion.image, conversion.counts
     outside = counted(image, conversion.arrays)
     print(f"dump:  {inside}", file=errors)

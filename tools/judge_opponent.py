@@ -13,7 +13,8 @@ heaps are compared as lines of objects by name, too. `same --set` has to find it
 lead to it, or a region is not as a pause of the set leaves it, with `--fill` and without, and `same --covered` wherever
 a slot is not covered. Some heaps have more than 256 roots, and some have an object outside the set that is equal to one
 of the set.
-The last line is 'N passed, M failed', after a count for each kind of error.
+The last line is 'N passed, M failed', after a count for each kind of error. With 20 cases or more each kind has to be
+planted: one that never was counts as failed.
 """
 import argparse
 import collections
@@ -31,10 +32,11 @@ from plant_errors import ERRORS, MORE_ERRORS, Planter  # noqa: E402
 from programs import add_program, program  # noqa: E402
 
 KINDS = ("free", "ordinary", "humongous", "continuation")
+ENOUGH = 20  # so many cases plant each kind of error, whatever the seed
 DIFFERENCES = ("roots", "stale", "null", "split", "joined", "size", "slots", "data")
 
 
-def tells(before, after, x, y, forth, back, called=(str, str)):
+def difference(before, after, x, y, forth, back, called=(str, str)):
     """How two reference words differ: the kind and the detail of the line. None where they don't. `called` are what the
     files before and after call an object."""
     old, new = called
@@ -90,8 +92,8 @@ def walked(before, after, more=(), called=None):
         if y != NULL and y - 1 not in starts:
             how, detail = stale_detail(before, after, x, y, called is not None)
             lines.append(f"differ {how} at {path}: {old}{detail}\n")
-        elif tells(before, after, x, y, forth, back, names):
-            how, detail = tells(before, after, x, y, forth, back, names)
+        elif difference(before, after, x, y, forth, back, names):
+            how, detail = difference(before, after, x, y, forth, back, names)
             lines.append(f"differ {how} at {path}: {old} before, {new} after{detail}\n")
         if x != NULL and x - 1 not in forth and how in (None, "data"):
             forth[x - 1], back[y - 1] = y - 1, x - 1
@@ -176,7 +178,7 @@ def make_stale(rng, before, after):
 
 
 def uncovered(image):
-    """The lowest slot that references an object of another region and that neither its set nor the log tells."""
+    """The lowest slot that references an object of another region and whose card is in neither its set nor the log."""
     for address in image.objects():
         for slot in image.slots(address):
             region = image.region_of(image.words[slot] - 1)
@@ -346,6 +348,15 @@ class Judge:
         self.judge(f"{name}, with cover: {told}", self.same(after, "--covered") == told)
         self.counts[f"{error}, and --covered finds it"] += slot is not None
 
+    def end(self):
+        """Prints the counts and what was never planted, and returns the status."""
+        missed = [error for error in ERRORS + MORE_ERRORS if not self.counts[error] and self.options.cases >= ENOUGH]
+        lines = [f"{kind}: {count}" for kind, count in sorted(self.counts.items())]
+        print("\n".join([*lines, *(f"never planted: {error}" for error in missed)]))
+        failed = self.failed + len(missed)
+        print(f"{self.passed} passed, {failed} failed")
+        return 1 if failed or not self.passed else 0
+
 
 def main():
     parser = argparse.ArgumentParser(description=__doc__, formatter_class=argparse.RawDescriptionHelpFormatter)
@@ -360,10 +371,7 @@ def main():
         judge = Judge(options, pathlib.Path(folder))
         while cases < options.cases:
             cases += judge.case(f"case {cases}", rng)
-    for kind, count in sorted(judge.counts.items()):
-        print(f"{kind}: {count}")
-    print(f"{judge.passed} passed, {judge.failed} failed")
-    return 1 if judge.failed or not judge.passed else 0
+    return judge.end()
 
 
 if __name__ == "__main__":

@@ -2,7 +2,7 @@
 """malicious_images.py BINARY [COUNT [SEED]]
 
 Makes COUNT images (default 50,000) from a seed (default 1), most of them broken on purpose, and asks the built program
-for each: `show --repack`, or `check` for one in three. What has to come is told by image_text.py, an independent
+for each: `show --repack`, or `check` for one in three. What has to come follows from image_text.py, an independent
 reading of docs/IMAGE.md: for an image its text of version 2, else the fault of the first stage that finds one.
 
 A good image is made first, of ordinary regions, runs of humongous objects, references, roots, remembered cards and
@@ -10,7 +10,8 @@ dirty cards. Then none, one, two or three of the wrongs below are done to it, ea
 heading at each of its limits, kinds, tops and flags that lie, headers that end in the wrong place, runs that overlap or are
 cut, references into headers, data, slots, continuations and free regions, cards of every wrong kind, counts whose
 bytes aren't there, bytes cut off, added or changed. Two wrongs at once show the order of the stages. At the end it
-tells how often each fault was met, and fails if one was never met. The last line is 'N passed, M failed'.
+reports how often an image and each fault was met, and what was never met counts as failed. The last line is
+'N passed, M failed'.
 """
 import argparse
 import collections
@@ -303,6 +304,10 @@ def made(seed):
 
 # The program's answers.
 
+KINDS = ("an image", "1: magic", "2: geometry", "3: short", "4: trailing", "5: kind of region", "6: shape of region",
+         "7: reference in root", "7: reference in slot", "8: card in log place", "8: card of region", "9: uncovered slot",
+         "16: flags of region")
+
 
 def answer(binary, data, cover):
     words = [binary, "check"] if cover else [binary, "show", "--repack"]
@@ -320,6 +325,13 @@ def wanted(data, cover):
 
 def kind_of(wanted):
     return " ".join(w for w in wanted[1].decode().removeprefix("g1pause: fault ").split() if not w.isdigit()) or "an image"
+
+
+def report(met):
+    """Prints how often each kind was met, and returns how many of KINDS never were."""
+    missed = [kind for kind in KINDS if kind not in met]
+    print("\n".join([*(f"{times:8} {kind}" for kind, times in met.most_common()), *(f"never met: {kind}" for kind in missed)]))
+    return len(missed)
 
 
 def main():
@@ -343,10 +355,9 @@ def main():
             if not good:
                 print(f"image {number} of seed {seed}: wanted {want[1] or 'the image'}, with check" if cover else
                       f"image {number} of seed {seed}: wanted {want[1] or 'the image'}")
-    for kind, times in met.most_common():
-        print(f"{times:8} {kind}")
+    failed += report(met)
     print(f"{passed} passed, {failed} failed")
-    return 1 if failed or len(met) < 12 else 0
+    return 1 if failed else 0
 
 
 if __name__ == "__main__":

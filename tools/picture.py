@@ -102,7 +102,7 @@ class Region:
 
 
 class Heap:
-    """A heap as the program tells it."""
+    """A heap as the program reports it."""
 
     def __init__(self, program, image):
         heading, *lines = answer(program, ["show"], image)
@@ -113,7 +113,7 @@ class Heap:
         self.take_live([int(line.split()[3]) for line in answer(program, ["live"], image)])
 
     def take_live(self, live):
-        """Live bytes of a humongous object are told for its first region: its run shares them."""
+        """Live bytes of a humongous object are reported for its first region: its run shares them."""
         whole = False
         for region, count in zip(self.regions, live):
             if region.kind == "continuation":

@@ -2,7 +2,7 @@
 """plant_errors.py G1HEAP [--image FILE --set R ..] [--seed S] [--all]
 
 Evacuates an image (examples/shared_targets.img, region 1) as tools/opponent.py does, then plants one error of each
-kind that a collector's builder meets into the image after, and prints the line that `g1heap same` tells of it.
+kind that a collector's builder meets into the image after, and prints what `g1heap same` reports of it.
 With --all it asks `same --covered --set R ..`, and also plants the errors that only these find. An image may have no
 place for an error, which is printed in its place.
 """

@@ -29,7 +29,8 @@ A row is bad if its text is not found, if it changes no line of its function, if
 cannot read it, or if it is refused only because a proof names what the row took away.
 
 The batches read what one kit prints. With another kit the rows are tried one by one by `rt must-fail`, which takes about
-an hour.
+an hour. The rows that prove are not tried then, so a check which refuses everything is not seen, and --unchanged is
+refused.
 
 The last line is 'N refused, M failed'. Statuses: 0 if none failed, 1 if one did, 2 if nothing could be tried.
 """
@@ -484,15 +485,20 @@ def try_crate(rt, crate, is_unchanged):
     return rows
 
 
+def require_rows(names, crates):
+    """Stops if a crate that is named has no rows, or if no crate has any."""
+    unknown = set(names) - set(crates)
+    if unknown or not crates:
+        raise Stop(f"no rows: {', '.join(sorted(unknown)) or 'crates/*/planted'}")
+
+
 def try_all(names, is_unchanged):
     """Tries the rows of these crates, or of all, side by side as rt ci tries edits."""
     os.chdir(ROOT)
     rt = load_rt()
     rt.rtlib.guarded()
     crates = [it for it in rt.rtlib.crates_below(str(ROOT)) if os.path.isdir(f"{it.folder}/planted")]
-    unknown = set(names) - {it.name for it in crates}
-    if unknown or not crates:
-        raise Stop(f"no rows: {', '.join(sorted(unknown)) or 'crates/*/planted'}")
+    require_rows(names, [it.name for it in crates])
     crates = [it for it in crates if not names or it.name in names]
     kept = set() if all(is_fresh(dep) for crate in crates for dep in crate.below()) else kept_libraries(rt)
     for crate in crates:
@@ -533,6 +539,7 @@ def row_by_rt(name, file, said):
 def try_all_by_rt(names):
     """Tries the rows of these crates, or of all, one by one, a crate a processor."""
     crates = sorted(it.parent.name for it in ROOT.glob("crates/*/planted"))
+    require_rows(names, crates)
     with ThreadPoolExecutor(os.cpu_count() or 1) as pool:
         tried = list(pool.map(tried_by_rt, [it for it in crates if not names or it in names]))
     rows = [row for rows in tried for row in rows]
@@ -547,6 +554,14 @@ def is_known_kit():
     return version.startswith(tuple(f"{it} " for it in KITS))
 
 
+def try_with_this_kit(names, is_unchanged):
+    if is_known_kit():
+        return try_all(names, is_unchanged)
+    if is_unchanged:
+        raise Stop(f"--unchanged is for {' and '.join(KITS)}, and rt is of another kit")
+    return try_all_by_rt(names)
+
+
 def main():
     parser = argparse.ArgumentParser(description=__doc__, formatter_class=argparse.RawDescriptionHelpFormatter)
     parser.add_argument("crates", metavar="CRATE", nargs="*", help="a crate with rows")
@@ -556,7 +571,7 @@ def main():
     if options.all == bool(options.crates):
         parser.error("either --all or crates")
     try:
-        rows = try_all(options.crates, options.unchanged) if is_known_kit() else try_all_by_rt(options.crates)
+        rows = try_with_this_kit(options.crates, options.unchanged)
     except (Stop, OSError, AttributeError) as error:
         print(f"planted.py: {error}", file=sys.stderr)
         return 2

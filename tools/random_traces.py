@@ -2,9 +2,9 @@
 """random_traces.py PROGRAM [--seed N] [--count 2000]
 
 Makes random traces with pauses at random places, and compares what `PROGRAM run` replies with a plain store that never
-moves or frees an object. Each trace is run with 1 and with 8 workers, and once more without its pauses: where that meets
+moves or frees an object. Each trace is run with 1 and with 8 workers, and once more without its pauses: if that meets
 no `full`, all other replies have to be the same. `full` and `room` are the program's to say; the store takes them as
-told. The last line is 'N passed, M failed'; the line before tells what the traces met, and what they never met counts
+they are. The last line is 'N passed, M failed'; the line before says what the traces met, and what they never met counts
 as failed.
 """
 import argparse
@@ -189,7 +189,7 @@ class Tries:
         self.met["trace with a cycle"] += cycles or store.has_cycle()
 
     def follows(self, head, lines, told):
-        """Whether the replies are those of a plain store that takes each `full` and `room` as told."""
+        """Whether the replies are those of a plain store that takes each `full` and `room` as it is."""
         if len(told) != len(lines):
             return False
         store, cycles = Store(int(head.split()[4])), False
@@ -209,7 +209,7 @@ class Tries:
         later = [line for line in lines if line[0] != "pause"]
         without = self.run(head, later, costs)
         if good and "full" not in without and "full" not in told:
-            self.met["trace told again without its pauses"] += 1
+            self.met["trace run again without its pauses"] += 1
             good = without == [reply for line, reply in zip(lines, told) if line[0] != "pause"]
         self.passed += good
         self.failed += not good
@@ -219,7 +219,7 @@ class Tries:
 
 
 WANTED = ["new", "get", "put", "set", "say", "same", "copy", "drop", "pause", "ok", "range", "null", "full", "room", "number",
-          "humongous", "trace that reuses a region", "trace with a cycle", "trace told again without its pauses"]
+          "humongous", "trace that reuses a region", "trace with a cycle", "trace run again without its pauses"]
 
 
 def main():

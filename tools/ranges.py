@@ -18,7 +18,7 @@ import sys
 sys.path.insert(0, str(pathlib.Path(__file__).resolve().parent / "lib"))
 
 import heap_image  # noqa: E402
-from heap_image import CONTINUATION, FIRST, FREE, NULL, ORDINARY, Image  # noqa: E402
+from heap_image import CONTINUATION, FIRST, FREE, ORDINARY, Image  # noqa: E402
 from image_text import fault_of  # noqa: E402
 from programs import add_program  # noqa: E402
 from refusing import Judge, run  # noqa: E402

@@ -3,9 +3,8 @@
 
 Runs the built program against what a real machine does: streams that are closed, full or broken, limits on files, on
 memory and on threads, a process that is stopped and goes on, calls that a signal interrupts, and reads that give few
-bytes. What the program has to do in each case stands in docs/HOSTILE.md. It needs Linux; a case that this machine cannot make is named as left
-out. HEAP is the built g1heap: its commands that read images get the short images, too. The last line is 'N passed, M
-failed'.
+bytes. What the program has to do in each case stands in docs/HOSTILE.md. It needs Linux and a C compiler. HEAP is the
+built g1heap: its commands that read images get the short images, too. The last line is 'N passed, M failed'.
 """
 import argparse
 import ctypes
@@ -23,7 +22,7 @@ sys.path.insert(0, str(pathlib.Path(__file__).resolve().parent / "lib"))
 
 from images import ONE_OBJECT, ONE_OBJECT_AFTER, SHARED, SHARED_AFTER  # noqa: E402
 from programs import add_program, program  # noqa: E402
-from refusing import Judge, compiled  # noqa: E402
+from refusing import Judge, compiled, preloading  # noqa: E402
 
 INPUT = (b"", b"g1pause: fault 14: input\n", 6)
 OUTPUT = (b"", b"g1pause: fault 14: output\n", 6)
@@ -66,7 +65,7 @@ def chain(before):
     return heading + table + struct.pack("<Q", shift * 1024 + 1) + sets + pairs + struct.pack("<2IQ", 1, 2, 0)
 
 
-# Each second read and write, from the first on, is told to be interrupted by a signal.
+# Each second read and write, from the first on, is reported as interrupted by a signal.
 INTERRUPTS = r"""
 #define _GNU_SOURCE
 #include <dlfcn.h>
@@ -254,30 +253,25 @@ class Machine(Judge):
         self.judge("stopped and continued", (out, errors, child.wait(60)) == (SHARED_AFTER, b"", 0))
 
     def interrupted(self, folder):
-        library = compiled(folder, "interrupts.so", INTERRUPTS, "-shared", "-fPIC", "-ldl")
-        os.environ["LD_PRELOAD"] = str(library)
+        environment = preloading(compiled(folder, "interrupts.so", INTERRUPTS, "-shared", "-fPIC", "-ldl"))
         for words, answer in ((["pause", "1"], SHARED_AFTER), (["show", "--repack"], SHARED), (["check"], b"covered\n")):
-            self.judge(f"interrupted calls, {' '.join(words)}", self.run(words, SHARED) == (answer, b"", 0))
+            self.judge(f"interrupted calls, {' '.join(words)}", self.run(words, SHARED, env=environment) == (answer, b"", 0))
         # A read that was interrupted is none that failed: what is wanting then is memory.
         trace = b"heap 16 4 4 1\n" + b"same 0 0\n" * (1 << 22)
-        low = self.run(["run"], trace, before=lambda: resource.setrlimit(resource.RLIMIT_AS, (32 << 20, 32 << 20)))
+        low = self.run(["run"], trace, before=lambda: resource.setrlimit(resource.RLIMIT_AS, (32 << 20, 32 << 20)), env=environment)
         self.judge(f"interrupted calls and too little memory: {low}", low == MEMORY)
-        del os.environ["LD_PRELOAD"]
 
     def few_bytes(self, folder):
         """However few bytes a read gives, the front of an image is tried as often, and so the requests for memory are as many."""
         library, report = compiled(folder, "requests.so", REQUESTS, "-shared", "-fPIC", "-ldl"), folder / "requests"
         image, counts = folder / "image", {}
         image.write_bytes(many_roots())
-        os.environ.update(LD_PRELOAD=str(library), REQUESTS_REPORT=str(report))
         for most in (1 << 30, 100, 1):
-            os.environ["READ_MOST"] = str(most)
+            environment = preloading(library, REQUESTS_REPORT=str(report), READ_MOST=str(most))
             with open(image, "rb") as stream:
-                out, errors, status = self.run(["show"], stdin=stream)
+                out, errors, status = self.run(["show"], stdin=stream, env=environment)
             told = out.startswith(b"heap 16 4 2 roots 20000 dirty 0 current none\n") and errors == b"" and status == 0
             counts[most] = int.from_bytes(report.read_bytes(), "little") if told else None
-        for name in ("LD_PRELOAD", "REQUESTS_REPORT", "READ_MOST"):
-            del os.environ[name]
         self.judge(f"requests for memory, by the bytes that a read gives: {counts}",
                    counts[1] is not None and len(set(counts.values())) == 1)
 

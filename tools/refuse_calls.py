@@ -18,7 +18,8 @@ import tempfile
 
 sys.path.insert(0, str(pathlib.Path(__file__).resolve().parent / "lib"))
 
-from images import all_dirty, long_chain, many_slots
+from images import all_dirty, long_chain, many_slots  # noqa: E402
+from programs import add_driver  # noqa: E402
 from refusing import Judge, Refusing, run  # noqa: E402
 from rows import lists, row  # noqa: E402
 
@@ -94,11 +95,11 @@ class Sweep(Judge):
 
 def main():
     parser = argparse.ArgumentParser(description=__doc__, formatter_class=argparse.RawDescriptionHelpFormatter)
-    parser.add_argument("driver", metavar="DRIVER", help="the built driver, crates/g1_rows/out/g1_rows")
+    add_driver(parser)
     parser.add_argument("--first", action="store_true", help="end at the first failure")
     options = parser.parse_args()
     with tempfile.TemporaryDirectory() as room:
-        sweep = Sweep(str(pathlib.Path(options.driver).resolve()), pathlib.Path(room))
+        sweep = Sweep(options.driver, pathlib.Path(room))
         sweep.rows()
         sweep.sizes()
         return sweep.end()

@@ -7,7 +7,7 @@ alone, for N from 1 until a run meets no refusal. Each run has to answer what th
 status 2 and no text, where there was no memory for it.
 
 What it answers with ample memory is judged first: it is written here, from the definitions and by hand. And each
-command that succeeds has to meet refusals, and to tell Memory for one. Images of all kinds are tried: remembered cards,
+command that succeeds has to meet refusals, and to report Memory for one. Images of all kinds are tried: remembered cards,
 a dirty log, humongous objects that stay and that are freed, with one worker and with several, and what is refused for
 want of room, of cover, or for its set. It needs a C compiler for the small library that stands before the allocator.
 The last line is 'N passed, M failed'.
@@ -85,7 +85,7 @@ class Sweep(Judge):
         self.binary, self.refusing = binary, Refusing(folder)
 
     def sweep(self, name, words, data, good, others=(MEMORY,)):
-        """`good` judges the answer with ample memory. Tells whether a refusal was met and Memory told."""
+        """`good` judges the answer with ample memory. A refusal has to be met, and Memory to be reported."""
         command = [self.binary, *words.split()]
         ample = run(command, data)
         self.judge(f"{name}, ample: {ample}", good(ample))
@@ -94,7 +94,7 @@ class Sweep(Judge):
             # With no refusal only the ample answer will do.
             self.judge(f"{name}, {what}: {answer}", good(answer) or (met and answer in others))
             some, memory = some or met, memory or answer in others
-        self.judge(f"{name}: requests were refused, and it was told", some and memory)
+        self.judge(f"{name}: requests were refused, and it was reported", some and memory)
 
     def all(self):
         for words, shared, data, answer in ANSWERS:

@@ -9,10 +9,9 @@ whose file the machine has no memory to open. A file that is asked for is what i
 and nothing else is in its folder; it is not there if Memory was reported, except by `trace --live`. What that has on
 standard output then are whole replies, the first of those with ample memory.
 
-The last line is 'N passed, M failed'.
+It needs a C compiler. The last line is 'N passed, M failed'.
 """
 import argparse
-import os
 import pathlib
 import re
 import sys
@@ -21,7 +20,7 @@ import tempfile
 sys.path.insert(0, str(pathlib.Path(__file__).resolve().parent / "lib"))
 
 from programs import add_program  # noqa: E402
-from refusing import Judge, Refusing, compiled, run  # noqa: E402
+from refusing import Judge, Refusing, compiled, preloading, run  # noqa: E402
 
 # The system has no memory to open a file.
 UNOPENED = r"""
@@ -110,7 +109,7 @@ def sweep_traces(sweep, folder, binary):
 
 
 def unopened(judge, folder, binary, path):
-    environment = dict(os.environ, LD_PRELOAD=str(compiled(folder, "unopened.so", UNOPENED, "-shared", "-fPIC")))
+    environment = preloading(compiled(folder, "unopened.so", UNOPENED, "-shared", "-fPIC"))
     for words in (["print", path], ["make", path], ["same", path, path], ["explain", path], ["why", path, "16"], ["trace", path]):
         answer = run([binary, *words], b"", environment)
         judge.judge(f"no memory to open a file, {words[0]}: {answer}", is_memory(answer))

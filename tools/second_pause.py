@@ -2,9 +2,9 @@
 """second_pause.py BINARY [IMAGE ..]
 
 Runs `pause` on each image (default: examples/*.img) and then `pause` again on each answer, with several choices
-the first and the second time: no region, budgets from nothing to everything, and each ordinary region alone. A
-pause has to end with status 0, or with Room. Of an answer it is asked, by an independent reading of the text
-(image_text.py):
+the first and the second time: no region, budgets from nothing to everything, and up to four ordinary regions that are
+not pinned, each alone. A pause has to end with status 0, or with Room. Of an answer it is asked, by an independent
+reading of the text (image_text.py):
 
 - that it is an image, covered, with no dirty card and no current region, and that packing it again gives it back;
 - that a region that was named is free, and what was free and no longer is, is ordinary;
@@ -27,7 +27,7 @@ from programs import add_program  # noqa: E402
 from refusing import Judge, run  # noqa: E402
 
 BUDGETS = ["0", "1000", "1000000", "18446744073709551615"]
-REGIONS = 4  # so many ordinary regions are tried alone
+REGIONS = 4  # at most so many ordinary regions are tried alone
 
 
 class Tries(Judge):

@@ -2,13 +2,14 @@
 """Tests of bench/ that need no program of ours: test_bench.py [-v]
 
 Programs of a few lines of shell stand in for the two that are compared: one that gives back its input is the reference,
-and each that differs from it in one way has to be told. The hostile images are judged by image_text.py, an independent
+and each that differs from it in one way has to be reported. The hostile images are judged by image_text.py, an independent
 reading of docs/IMAGE.md.
 """
 import io
 import os
 import pathlib
 import re
+import shlex
 import socket
 import subprocess
 import sys
@@ -61,11 +62,15 @@ class Folder(unittest.TestCase):
         path.chmod(0o755)
         return str(path)
 
+    def reference(self, body):
+        """The words of a reference, which are split as a shell splits them."""
+        return shlex.quote(self.program("theirs", body))
+
     def compared(self, ours, *words, theirs=ECHO):
-        """The status, and what is told."""
+        """The status, and what is reported."""
         words = words or ("--images", str(self.inputs))
         command = [sys.executable, str(TOP / "bench/compare.py"), "--program", self.program("ours", ours), "--reference",
-                   self.program("theirs", theirs), "--rounds", "1", *words]
+                   self.reference(theirs), "--rounds", "1", *words]
         done = subprocess.run(command, capture_output=True, text=True)
         self.assertEqual(done.stderr, "")
         return done.returncode, done.stdout
@@ -95,7 +100,8 @@ class Answers(Folder):
             self.assertIn("Answers: 2 the same, 1 not, 0 cut off.", text)
 
     def test_a_difference_in_one_round_is_told(self):
-        body = f"cat; test -e {self.room}/seen && echo; touch {self.room}/seen; true"
+        seen = shlex.quote(str(self.room / "seen"))
+        body = f"cat; test -e {seen} && echo; touch {seen}; true"
         status, text = self.compared(body, "--images", str(self.inputs), "--only", "small check", "--rounds", "2")
         self.assertEqual(status, 1)
         self.assertIn("DIFFERS", text)
@@ -120,7 +126,7 @@ class Answers(Folder):
 
     def test_the_words_of_a_reference_stand_before_its_command(self):
         theirs = 'test "$1 $2" = "--stage two" && shift 2; case $1 in --*) exit 9;; esac; cat'
-        words = ["--program", self.program("ours", ECHO), "--reference", self.program("theirs", theirs) + " --stage two"]
+        words = ["--program", self.program("ours", ECHO), "--reference", self.reference(theirs) + " --stage two"]
         done = subprocess.run([sys.executable, str(TOP / "bench/compare.py"), *words, "--images", str(self.inputs), "--rounds", "1"],
                               capture_output=True, text=True)
         self.assertEqual((done.returncode, done.stderr), (0, ""))
@@ -432,7 +438,7 @@ class Drawn(Folder):
     """bench/images.py at the ends of its sizes."""
 
     def drawn(self, *words):
-        """The status, what is told of a refusal, and the image."""
+        """The status, what is said of a refusal, and the image."""
         path = self.room / "drawn.img"
         path.unlink(missing_ok=True)
         done = subprocess.run([sys.executable, str(TOP / "bench/images.py"), words[0], str(path), *words[1:]],

@@ -11,6 +11,7 @@ import hashlib
 import io
 import os
 import pathlib
+import shlex
 import shutil
 import struct
 import subprocess
@@ -421,11 +422,12 @@ class Commands(unittest.TestCase):
         failed = "echo 'Exception in thread \"main\" java.lang.Bad: why' >&2; echo '\tat Judge.main(Judge.java)' >&2; exit 1"
         # the words are: -cp CLASSES Judge N STEPS OUT HOW
         dumps = 'while [ "$1" != Judge ]; do shift; done; for when in before after; do {} > "$4_$when.hprof"; done'
+        dump = shlex.quote(str(self.folder / "dump"))
         for body, reason in ((failed, "java ended with status 1: Exception in thread \"main\" java.lang.Bad: why"),
                              ("true", "hprof2image: .*dump_before.hprof: No such file or directory"),
                              (dumps.format("echo no dump"), "hprof2image: not a heap dump: .*"),
-                             (dumps.format(f"head -c 1000 {self.folder / 'dump'}"), "hprof2image: cut short: .*"),
-                             (dumps.format(f"cat {self.folder / 'dump'}"), "hprof2image: Judge.root: the dump has no class 'Judge'.*")):
+                             (dumps.format(f"head -c 1000 {dump}"), "hprof2image: cut short: .*"),
+                             (dumps.format(f"cat {dump}"), "hprof2image: Judge.root: the dump has no class 'Judge'.*")):
             (self.folder / "dump").write_bytes(Maker().heap())
             status, out, errors = self.with_java(body, "judge.py", "--only", "Serial", "--collection", "full")
             self.assertEqual((status, errors), (1, ""))

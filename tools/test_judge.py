@@ -20,8 +20,9 @@ tools/build_judge.py makes it; a second time with the sanitizers for addresses a
   rust     examples/judge-rust, if cargo is there
   page     the commands of docs/LINK.md, in a fresh copy of the checkout
 
---heap is crates/g1heap/out/g1heap and --archive is judge/out/libg1judge.a if they are not given. The last line is
-'N passed, M failed', and the status is 0 only if none failed and one passed.
+It needs a C compiler. --heap is out/g1heap, which tools/build.py --unproved builds, and --archive is
+judge/out/libg1judge.a, which tools/build_judge.py makes, if they are not given. The last line is 'N passed, M failed', and
+the status is 0 only if none failed and one passed.
 """
 import argparse
 import os
@@ -30,7 +31,6 @@ import random
 import re
 import shlex
 import shutil
-import struct
 import subprocess
 import sys
 import tempfile
@@ -43,6 +43,7 @@ import losses  # noqa: E402
 from heap_image import FIRST, CONTINUATION, FREE, NULL, ORDINARY, Image, drawn, from_bytes  # noqa: E402
 from opponent import NoRoom, Opponent, refused  # noqa: E402
 from plant_errors import ERRORS as COLLECTOR_ERRORS, MORE_ERRORS, Planter  # noqa: E402
+from programs import OUT, program  # noqa: E402
 
 TOP = pathlib.Path(__file__).resolve().parent.parent
 KINDS = {"split": 4, "joined": 5, "size": 6, "slots": 7, "data": 8}
@@ -174,6 +175,7 @@ class Programs:
 
     def __init__(self, room, archive):
         self.room, self.archive = pathlib.Path(room), archive
+        (self.room / "examples").symlink_to(TOP / "examples")
         cc = shlex.split(os.environ.get("CC", "cc"))
         common = ["-std=c11", "-Wall", "-Wextra", "-Wpedantic", "-Werror", "-pthread", "-I", TOP / "include"]
         machine = [TOP / "examples/vm" / name for name in ("vm.c", "collector.c", "judge.c")]
@@ -182,8 +184,12 @@ class Programs:
                 subprocess.run([*cc, *common, *flags, *sources, archive, "-o", self.room / (what + name)], check=True)
 
     def run(self, name, *words, text=None, env=None):
-        return subprocess.run([self.room / name, *map(str, words)], input=text, capture_output=True, text=True,
+        return subprocess.run([self.room / name, *map(str, words)], cwd=self.room, input=text, capture_output=True, text=True,
                               env={**os.environ, **(env or {})})
+
+    def name(self, file):
+        """An example, or a file of the room, as the callers find it: their lines end a name at a space."""
+        return str(file.relative_to(self.room if self.room in file.parents else TOP))
 
     def lines(self, tally, name, *words, text=None):
         """What a command prints, line by line; an end by anything but 0 is a failure."""
@@ -250,7 +256,7 @@ def check_pairs(tally, programs, options):
         files = room / f"{i}a", room / f"{i}b"
         for file, data in zip(files, pair(rng, rng.choice((3, 10, 40, 150)), error)):
             file.write_bytes(data)
-        listed.append("{} {}\n".format(*files))
+        listed.append("{} {}\n".format(*map(programs.name, files)))
         expected.append(by_heap(options.heap, *files))
         planted.append(error)
     for name in ("test", "test_checked"):
@@ -351,7 +357,7 @@ def check_kept(tally, programs, options):
             by_heap_too = by_rule(*map(from_bytes, texts), [r for r in chosen if r >= len(kinds) or kinds[r] != FREE])
         if chosen and not agrees(options.heap, a, b, chosen, by_heap_too):
             disagreeing.append((a.name, b.name, chosen, wanted))
-        listed.append(" ".join(map(str, (a, b, *chosen))) + "\n")
+        listed.append(" ".join(map(str, (programs.name(a), programs.name(b), *chosen))) + "\n")
         expected.append(wanted)
     tally.count("g1heap same --set", sum(bool(chosen) for _, _, chosen in cases), len(disagreeing), "".join(f"\n  {case}" for case in disagreeing[:5]))
     for name in ("test", "test_checked"):
@@ -555,7 +561,7 @@ def check_graphs(tally, programs, options):
     for i in range(options.graphs):
         graph = Graph(rng, rng.choice((0, 1, 2, 5, rng.randint(0, 60))), rng.choice((3, 12, 70)))
         width = rng.choice((16, 32, 64, 256))
-        texts.append(graph.lines(rng, width, programs.room / f"w{i}"))
+        texts.append(graph.lines(rng, width, f"w{i}"))
         made.append((graph, width))
     lines = programs.lines(tally, "test_checked", "write", text="".join(texts))
     for i, ((graph, width), line) in enumerate(zip(made, lines)):
@@ -600,19 +606,19 @@ REFUSALS = (  # the lines of an image, and what its end says: fault, pointer, ho
 )
 
 
-def check_refusals(tally, programs, options):
+def check_refusals(tally, programs):
     for text, wanted in REFUSALS:
-        lines = programs.lines(tally, "test_checked", "write", text=f"{text}end {programs.room}/refused\n")
+        lines = programs.lines(tally, "test_checked", "write", text=f"{text}end refused\n")
         tally.expect(f"writer: {text[:40]!r}", lines, ["fault {} pointer {} holder {} slot {}".format(*wanted)])
     # 4,096 regions of 16 words, and one more; and one word more than 2^24
     object_of = lambda p, words: f"object {p} 0 {8 * (words - 1)} " + "0 " * (words - 1) + "\n"
     full = "image 16\n" + "".join(object_of(p, 9) for p in range(1, 4097))
     for words in (0, 1, 7, 8, 13):
         more = object_of(5000, words) if words else ""
-        lines = programs.lines(tally, "test", "write", text=f"{full}{more}end {programs.room}/refused\n")
+        lines = programs.lines(tally, "test", "write", text=f"{full}{more}end refused\n")
         found = [line.split(" pointer")[0] for line in lines if line.startswith("fault")]
         tally.expect(f"writer: 4096 regions and {words} words", found, ["fault 4"] if words > 7 else [])
-    text = "".join(f"image 16\nstale\nroot {root}\nobject 4 2 0 4 11\nend {programs.room}/{name}\n"
+    text = "".join(f"image 16\nstale\nroot {root}\nobject 4 2 0 4 11\nend {name}\n"
                    for root, name in ((99, "stale"), (4, "stale_slot")))
     lines = [re.sub("length [0-9]+ ", "", line) for line in programs.lines(tally, "test_checked", "write", text=text)]
     tally.expect("writer: stale", lines, ["stale 2 at 0 4", "stale 1 at 0 4"])
@@ -623,7 +629,7 @@ def check_refusals(tally, programs, options):
 
 def check_writer(tally, programs, options):
     check_graphs(tally, programs, options)
-    check_refusals(tally, programs, options)
+    check_refusals(tally, programs)
     for name, objects in (("test_checked", 3000), ("test", 100000)):
         line = programs.lines(tally, name, "scarce", objects)[-1]
         tried, wrong = numbers(line.split("tried ")[1].replace("wrong", ""))
@@ -728,17 +734,16 @@ CHECKS = {"headers": check_headers, "calls": check_calls, "kept": check_kept, "n
 
 def main():
     parser = argparse.ArgumentParser(description=__doc__, formatter_class=argparse.RawDescriptionHelpFormatter)
-    parser.add_argument("--heap", default=TOP / "crates/g1heap/out/g1heap", type=pathlib.Path)
-    parser.add_argument("--archive", default=TOP / "judge/out/libg1judge.a", type=pathlib.Path)
+    parser.add_argument("--heap", metavar="FILE", default=str(OUT / "g1heap"), type=program)
+    parser.add_argument("--archive", metavar="FILE", default=TOP / "judge/out/libg1judge.a", type=pathlib.Path)
     parser.add_argument("--graphs", default=2000, type=int)
     parser.add_argument("--runs", default=20, type=int)
     parser.add_argument("--seed", default=1, type=int)
     parser.add_argument("--only", choices=CHECKS)
     options = parser.parse_args()
-    for file in (options.heap, options.archive):
-        if not file.is_file():
-            sys.exit(f"test_judge.py: {file}: no such file")
-    options.heap, options.archive = options.heap.resolve(), options.archive.resolve()
+    if not options.archive.is_file():
+        parser.error(f"{options.archive} is not there: tools/build_judge.py makes judge/out/libg1judge.a")
+    options.archive = options.archive.resolve()
     tally = Tally()
     with tempfile.TemporaryDirectory() as room:
         try:

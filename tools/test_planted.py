@@ -11,10 +11,13 @@ import json
 import os
 import pathlib
 import re
+import shlex
+import shutil
 import subprocess
 import sys
 import tempfile
 import unittest
+import unittest.mock
 
 TOP = pathlib.Path(__file__).resolve().parent.parent
 sys.dont_write_bytecode = True
@@ -66,6 +69,12 @@ for name in asked:
     else:
         print(f"fn toy::{name}: not proved{calls}" if calls else f"fn toy::{name}: no holes")
 print(f"only={len(asked)} holes=0")
+"""
+
+OTHER_RT = """\
+echo "must-fail toy/$1: refused, as it must be"
+shift
+for edit; do echo "must-fail toy/$edit: NOT REFUSED"; done
 """
 
 
@@ -198,20 +207,25 @@ class Planted(unittest.TestCase):
         text = f"turns: {function}: what it does\n{expect}file: src/lib.rt\nold: {old}\nnew: {new}\n"
         self.folder.joinpath(f"crates/toy/planted/{name}.edit").write_text(text)
 
-    def tried(self, *flags):
-        """What each row came to, by its name, and the last line and status."""
+    def run_planted(self, *words, is_known=True):
+        """The status, and what is printed, with a kit that is known or another."""
         was, rt = (planted.ROOT, planted.load_rt, planted.is_known_kit), StandIn(self.folder)
         self.rt = rt
-        planted.ROOT, planted.load_rt, planted.is_known_kit = self.folder, lambda: rt, lambda: True
-        here, words = os.getcwd(), sys.argv
-        sys.argv = ["planted.py", *flags, "toy"]
+        planted.ROOT, planted.load_rt, planted.is_known_kit = self.folder, lambda: rt, lambda: is_known
+        here, own = os.getcwd(), sys.argv
+        sys.argv = ["planted.py", *words]
         try:
-            with contextlib.redirect_stdout(io.StringIO()) as out:
+            with contextlib.redirect_stdout(io.StringIO()) as out, contextlib.redirect_stderr(io.StringIO()) as errors:
                 status = planted.main()
         finally:
-            (planted.ROOT, planted.load_rt, planted.is_known_kit), sys.argv = was, words
+            (planted.ROOT, planted.load_rt, planted.is_known_kit), sys.argv = was, own
             os.chdir(here)
-        lines = out.getvalue().splitlines()
+        return status, out.getvalue(), errors.getvalue()
+
+    def tried(self, *flags, is_known=True):
+        """What each row came to, by its name, and the last line and status."""
+        status, out, _errors = self.run_planted(*flags, "toy", is_known=is_known)
+        lines = out.splitlines()
         return dict(line[len("planted toy/"):].split(": ", 1) for line in lines if line.startswith("planted toy/")), lines[-1], status
 
     def test_a_row_that_is_refused_passes(self):
@@ -301,6 +315,37 @@ class Planted(unittest.TestCase):
         self.assertIn("BAD: it changes no line of second", rows["another"])
 
 
+    def test_what_has_no_rows_is_refused(self):
+        for is_known in (True, False):
+            status, out, errors = self.run_planted("nowhere", "toy", is_known=is_known)
+            self.assertEqual((status, out, errors), (2, "", "planted.py: no rows: nowhere\n"))
+        shutil.rmtree(self.folder / "crates/toy/planted")
+        for is_known in (True, False):
+            status, out, errors = self.run_planted("--all", is_known=is_known)
+            self.assertEqual((status, out, errors), (2, "", "planted.py: no rows: crates/*/planted\n"))
+
+    def test_another_kit_tries_no_row_without_its_change(self):
+        status, out, errors = self.run_planted("--unchanged", "toy", is_known=False)
+        self.assertEqual((status, out), (2, ""))
+        self.assertIn("--unchanged is for", errors)
+
+    def test_another_kit_tries_the_rows_as_must_fail_edits(self):
+        """Its rt refuses the first edit and no other. The crate's own edits are back afterwards."""
+        self.row("turned", "second", "    2", "    2 + wrong")
+        self.row("unturned", "third", "    second() + 1", "    second() + 1 + 0")
+        own = self.folder / "crates/toy/must-fail/own.edit"
+        own.parent.mkdir()
+        own.write_text("its own")
+        rt = self.folder / "rt"
+        rt.write_text(f"#!/bin/sh\ncd crates/$2/must-fail\nset -- *\n{OTHER_RT}")
+        rt.chmod(0o755)
+        with unittest.mock.patch.dict(os.environ, PATH=f"{self.folder}:{os.environ['PATH']}"):
+            rows, last, status = self.tried(is_known=False)
+        self.assertEqual((rows.keys(), last, status), ({"turned", "unturned"}, "1 refused, 1 failed", 1))
+        self.assertEqual(rows["turned"], "refused: refused, as it must be")
+        self.assertEqual(own.read_text(), "its own")
+
+
 class Minutes(unittest.TestCase):
     BUSY = "import time\nwhile time.process_time() < 2: pass"
 
@@ -321,7 +366,7 @@ class Minutes(unittest.TestCase):
             rows = []
             for folder, at in (("rt-edit-1", 2), ("planted-1", 3)):
                 os.mkdir(f"{room}/{folder}")
-                told = self.report(f"""cd {room}/{folder} && "$0" -c "$1" --crate-name one""").stdout
+                told = self.report(f"""cd {shlex.quote(room)}/{folder} && "$0" -c "$1" --crate-name one""").stdout
                 rows.append([int(it) for it in re.search(r"^one +(.*)$", told, re.M)[1].split()])
                 self.assertIn(rows[-1][at], (1, 2), told)
                 self.assertEqual(sum(rows[-1]), rows[-1][at], told)

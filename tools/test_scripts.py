@@ -2,8 +2,9 @@
 """test_scripts.py BINARY [DRIVER]
 
 Tests the scripts beside it: each has to fail a program that is broken in one way. BINARY is the built g1pause, DRIVER
-the built g1_rows, for the script that takes it. The broken programs run the real one, and change what it says; they
-are written in C, since they run while memory is refused, and take none. The last line is 'N passed, M failed'.
+the built g1_rows, for the scripts that take it. The broken programs run the real one, and change what it says; they
+are written in C, since they run while memory is refused, and take none. It needs a C compiler. The last line is
+'N passed, M failed'.
 """
 import argparse
 import pathlib
@@ -13,6 +14,7 @@ import tempfile
 
 sys.path.insert(0, str(pathlib.Path(__file__).resolve().parent / "lib"))
 
+from programs import add_driver, add_program  # noqa: E402
 from refusing import BEGIN, END, Judge, compiled  # noqa: E402
 
 TOOLS = pathlib.Path(__file__).resolve().parent
@@ -115,32 +117,38 @@ def broken(folder, name, real, body):
     return str(compiled(folder, name, HEAD + TAIL, *words))
 
 
+def try_programs(judge, folder, binary):
+    few = {"malicious_images.py": ["300"]}
+    whole = broken(folder, "whole", binary, ";")
+    for script in ("refuse_memory.py", "second_pause.py", "malicious_images.py"):
+        judge.judge(f"{script} passes the program behind a pipe", passes(script, whole, *few.get(script, [])))
+    for name, (body, scripts) in BROKEN.items():
+        program = broken(folder, name, binary, body)
+        for script in scripts:
+            judge.judge(f"{script} fails {name}", not passes(script, program, *few.get(script, [])))
+
+
+def try_drivers(judge, folder, driver):
+    whole = broken(folder, "whole_driver", driver, ";")
+    judge.judge("refuse_calls.py passes the driver behind a pipe", passes("refuse_calls.py", whole))
+    for name, body in DRIVERS.items():
+        program = broken(folder, f"driver_{name}", driver, body)
+        judge.judge(f"refuse_calls.py fails {name}", not passes("refuse_calls.py", program))
+    judge.judge("count_threads.py passes the driver", passes("count_threads.py", driver))
+    idle = broken(folder, "driver_idle", driver, IDLE)
+    judge.judge("count_threads.py fails a driver that starts no thread", not passes("count_threads.py", idle))
+
+
 def main():
     parser = argparse.ArgumentParser(description=__doc__, formatter_class=argparse.RawDescriptionHelpFormatter)
-    parser.add_argument("binary", metavar="BINARY", help="the built program, out/g1pause")
-    parser.add_argument("driver", nargs="?", metavar="DRIVER", help="the built driver, crates/g1_rows/out/g1_rows")
+    add_program(parser, "binary", "g1pause")
+    add_driver(parser, nargs="?")
     options = parser.parse_args()
-    binary, *drivers = (str(pathlib.Path(x).resolve()) for x in (options.binary, options.driver) if x)
     judge = Judge()
     with tempfile.TemporaryDirectory() as room:
-        folder = pathlib.Path(room)
-        few = {"malicious_images.py": ["300"]}
-        whole = broken(folder, "whole", binary, ";")
-        for script in ("second_pause.py", "malicious_images.py"):
-            judge.judge(f"{script} passes the program behind a pipe", passes(script, whole, *few.get(script, [])))
-        for name, (body, scripts) in BROKEN.items():
-            program = broken(folder, name, binary, body)
-            for script in scripts:
-                judge.judge(f"{script} fails {name}", not passes(script, program, *few.get(script, [])))
-        for driver in drivers:
-            whole = broken(folder, "whole_driver", driver, ";")
-            judge.judge("refuse_calls.py passes the driver behind a pipe", passes("refuse_calls.py", whole))
-            for name, body in DRIVERS.items():
-                program = broken(folder, f"driver_{name}", driver, body)
-                judge.judge(f"refuse_calls.py fails {name}", not passes("refuse_calls.py", program))
-            judge.judge("count_threads.py passes the driver", passes("count_threads.py", driver))
-            idle = broken(folder, "driver_idle", driver, IDLE)
-            judge.judge("count_threads.py fails a driver that starts no thread", not passes("count_threads.py", idle))
+        try_programs(judge, pathlib.Path(room), options.binary)
+        if options.driver:
+            try_drivers(judge, pathlib.Path(room), options.driver)
     return judge.end()
 
 

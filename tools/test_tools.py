@@ -5,27 +5,36 @@ Heap dumps are made here by hand, with identifiers of 4 and of 8 bytes, and the 
 hand. Pages with a wrong output, a command that fails, a file left behind or a picture that changed have to fail.
 A picture is made of what a stand-in for g1pause says. The examples have to be those that examples/make.py makes.
 Tables of definitions and of the map that leave something out, or name what is not there, have to fail; those of the repository have to pass.
+A release of lines of shell and a checkout are installed, each over the other, and uninstalled: nothing of them may stay.
 Each script has to answer --help, and to say what it wants where it is called without arguments.
 """
+import argparse
 import contextlib
 import io
 import os
 import pathlib
 import re
+import shlex
 import shutil
+import stat
 import struct
 import subprocess
 import sys
 import tempfile
 import unittest
+import unittest.mock
 
 TOP = pathlib.Path(__file__).resolve().parent.parent
 sys.dont_write_bytecode = True
-sys.path.insert(0, str(TOP / "tools"))
+sys.path[:0] = [str(TOP / "tools"), str(TOP / "tools" / "lib")]
 
 import check_pages  # noqa: E402
 import check_tables  # noqa: E402
 import hprof2image  # noqa: E402
+import judge_opponent  # noqa: E402
+import manual  # noqa: E402
+import release  # noqa: E402
+import stamp  # noqa: E402
 
 OBJECT, A, ARRAY = 0x10, 0x20, 0x30  # classes
 INT, BYTE, LONG, REFERENCE = 10, 8, 11, 2
@@ -224,7 +233,11 @@ class Pages(unittest.TestCase):
 
     def test_what_is_left_behind_changed_or_gone_fails(self):
         for command in ("echo > new.txt", "echo other > kept.txt", "rm kept.txt"):
-            self.assertEqual(len(self.wrong(f"    {command}\n".replace("    echo", "    echo"))), 1, command)
+            self.assertEqual(len(self.wrong(f"    {command}\n")), 1, command)
+
+    def test_a_folder_may_have_a_space(self):
+        with tempfile.TemporaryDirectory(prefix="a b") as room, unittest.mock.patch.object(tempfile, "tempdir", room):
+            self.assertEqual(self.wrong("    echo one\n\n    one\n"), [])
 
     def test_the_shell_goes_on_from_line_to_line(self):
         self.assertEqual(self.wrong("    cd /\n    printf '%s\\n' $PWD\n\n    /\n"), [])
@@ -436,8 +449,6 @@ class Examples(unittest.TestCase):
                 self.assertEqual(path.read_bytes(), kept.read_bytes(), kept)
 
 
-# A crate of three functions, and a prover whose answer on a function follows from words in its body. It prints what
-# rattle prints for such a body.
 class JavaHeaps(unittest.TestCase):
     """examples/java/run.sh, before it runs a JVM."""
 
@@ -455,18 +466,30 @@ class JavaHeaps(unittest.TestCase):
 class Ocaml(unittest.TestCase):
     """examples/ocaml/judge.sh, with a compiler of a few lines of shell."""
 
-    def judged(self, programs, *words):
-        """The status and the line of standard error. Programs are what stands in for ocamlopt and g1heap."""
+    COMPILER = """\
+[ "$1" != -version ] || { echo 4.14.1; exit; }
+cat >judge <<'END'
+#!/bin/sh
+for name in before minor major compact changed; do echo object 1 >$name.txt; done
+END
+chmod +x judge
+"""
+
+    def run_judge(self, programs, path, *words):
+        """Runs it with these programs before the path. They stand in for ocamlopt and g1heap."""
         with tempfile.TemporaryDirectory() as room:
             for name, text in programs.items():
                 (pathlib.Path(room) / name).write_text(f"#!/bin/sh\n{text}\n")
                 (pathlib.Path(room) / name).chmod(0o755)
-            tools = pathlib.Path(room) / "tools"
-            tools.mkdir()
+            return subprocess.run([TOP / "examples/ocaml/judge.sh", *words], capture_output=True, text=True, check=False,
+                                  env={"PATH": f"{room}:{path}"}, timeout=60)
+
+    def judged(self, programs, *words):
+        """The status and the line of standard error, without an ocamlopt or a g1heap of the machine."""
+        with tempfile.TemporaryDirectory() as tools:
             for name in ("dirname", "sh"):
-                (tools / name).symlink_to(shutil.which(name))
-            done = subprocess.run([TOP / "examples/ocaml/judge.sh", *words], capture_output=True, text=True, check=False,
-                                  env={"PATH": f"{room}:{tools}"}, timeout=60)
+                (pathlib.Path(tools) / name).symlink_to(shutil.which(name))
+            done = self.run_judge(programs, tools, *words)
         self.assertEqual((done.stdout, done.stderr.count("\n")), ("", 1), done.stderr)
         return done.returncode, done.stderr.strip()
 
@@ -484,6 +507,113 @@ class Ocaml(unittest.TestCase):
         programs = {"ocamlopt": "echo 4.14.1", "g1heap": "true"}
         for depth in ("2", "19", "60", "-3", "many", "3 4", "03"):
             self.assertEqual(self.judged(programs, depth), (2, f"judge.sh: DEPTH is '{depth}', and has to be from 3 to 18"))
+
+    def test_a_change_is_found_only_by_status_1(self):
+        for found, status in ((0, 1), (1, 0), (3, 1), (6, 1)):
+            programs = {"ocamlopt": self.COMPILER, "g1heap": f"[ $3 != changed.txt ] || exit {found}"}
+            done = self.run_judge(programs, os.environ["PATH"])
+            self.assertEqual((done.returncode, done.stderr), (status, ""), found)
+
+
+class Opponents(unittest.TestCase):
+    """The end of tools/judge_opponent.py, of which only the counts are known."""
+
+    def ended(self, cases, never):
+        judge = judge_opponent.Judge(argparse.Namespace(seed=1, cases=cases), None)
+        judge.passed = 1
+        judge.counts.update({error: 1 for error in judge.counts if error not in never})
+        with contextlib.redirect_stdout(io.StringIO()) as out:
+            status = judge.end()
+        return status, out.getvalue().splitlines()[-1 - len(never):]
+
+    def test_an_error_that_was_never_planted_fails(self):
+        self.assertEqual(self.ended(20, []), (0, ["1 passed, 0 failed"]))
+        self.assertEqual(self.ended(20, ["pin_new"]), (1, ["never planted: pin_new", "1 passed, 1 failed"]))
+        self.assertEqual(self.ended(19, ["pin_new"])[0], 0)
+
+
+class Manual(unittest.TestCase):
+    """Manual pages of a program of a few lines, by a help2man that runs what it is given as the real one does."""
+
+    def test_each_command_has_a_page_if_the_folder_has_a_space(self):
+        scripts = {"g1pause": "echo about $*; printf '\\nCommands:\\n  check  asks\\n'",
+                   "help2man": 'for called; do :; done; sh -c "$called --help"'}
+        with tempfile.TemporaryDirectory(prefix="a b") as room:
+            for name, text in scripts.items():
+                (pathlib.Path(room) / name).write_text(f"#!/bin/sh\n{text}\n")
+                (pathlib.Path(room) / name).chmod(0o755)
+            with unittest.mock.patch.dict(os.environ, PATH=f"{room}:{os.environ['PATH']}"):
+                pages = manual.pages(pathlib.Path(room) / "g1pause", "1.0", 0)
+        lines = {name: text.splitlines()[0] for name, text in pages.items()}
+        self.assertEqual(lines, {"g1pause.1": "about --help", "g1pause-check.1": "about check --help"})
+
+
+class Installing(unittest.TestCase):
+    """install.sh and uninstall.sh, of a release and of a checkout whose programs are a line of shell."""
+
+    PROGRAM = b"#!/bin/sh\necho g1pause 1.0\n"
+    YEAR_2001 = 1_000_000_000
+
+    def setUp(self):
+        room = tempfile.TemporaryDirectory()
+        self.addCleanup(room.cleanup)
+        self.room = pathlib.Path(room.name)
+        self.prefix = self.room / "a prefix"
+        self.make_checkout()
+        self.make_release()
+
+    def make_checkout(self):
+        out = self.room / "checkout/out"
+        out.mkdir(parents=True)
+        for name in stamp.PROGRAMS:
+            (out / name).write_bytes(self.PROGRAM)
+            (out / name).chmod(0o755)
+        stamp.write(out, "PROVED", "a kit", "a sum", stamp.PROGRAMS)
+        for name in ("install.sh", "uninstall.sh"):
+            shutil.copy2(TOP / name, out.parent / name)
+
+    def make_release(self):
+        texts = ("include/g1judge.h", "lib/libg1judge.a", "lib/debug/g1pause.debug", "share/doc/g1pause/docs/USE.md",
+                 "share/man/man1/g1pause.1")
+        files = {**{f"bin/{name}": self.PROGRAM for name in stamp.PROGRAMS}, **{name: b"a text\n" for name in texts}}
+        files.update({name: (TOP / name).read_bytes() for name in ("install.sh", "uninstall.sh")})
+        packed = release.packed(release.with_lists(files), "release", self.YEAR_2001)
+        subprocess.run(["tar", "xzf", "-", "-C", self.room], input=packed, check=True)
+
+    def run_shell(self, *words):
+        done = subprocess.run(["sh", *map(str, words)], env=dict(os.environ, PREFIX=str(self.prefix)), capture_output=True,
+                              text=True, check=False)
+        self.assertEqual((done.returncode, done.stderr), (0, ""))
+
+    def installed(self):
+        return {str(path.relative_to(self.prefix)) for path in self.prefix.rglob("*") if path.is_file()}
+
+    def test_a_second_install_has_all_files_in_its_list(self):
+        for first, second in (("release", "checkout"), ("checkout", "release"), ("release", "release")):
+            with self.subTest(f"{first}, {second}"):
+                self.run_shell(self.room / first / "install.sh")
+                self.run_shell(self.room / second / "install.sh")
+                listed = (self.prefix / "share/g1pause/files").read_text().split()
+                self.assertEqual(self.installed(), {*listed, "share/g1pause/folders"})
+                self.run_shell(self.prefix / "share/g1pause/uninstall.sh")
+                self.assertEqual(list(self.prefix.rglob("*")), [])
+
+    def test_files_keep_their_modes_and_times_and_belong_to_who_installs(self):
+        unpacked = self.room / "release"
+        if os.geteuid() == 0:
+            subprocess.run(["chown", "-R", "12345:12345", unpacked], check=True)
+        self.run_shell("-c", f"umask 077; exec sh {shlex.quote(str(unpacked / 'install.sh'))}")
+        for name, mode in (("bin/g1pause", 0o755), ("include/g1judge.h", 0o644)):
+            was = (self.prefix / name).stat()
+            self.assertEqual((stat.S_IMODE(was.st_mode), was.st_mtime, was.st_uid), (mode, self.YEAR_2001, os.geteuid()))
+
+    def test_what_others_installed_stays(self):
+        (self.prefix / "bin").mkdir(parents=True)
+        (self.prefix / "bin/other").write_bytes(self.PROGRAM)
+        for name in ("release", "checkout"):
+            self.run_shell(self.room / name / "install.sh")
+        self.run_shell(self.prefix / "share/g1pause/uninstall.sh")
+        self.assertEqual(self.installed(), {"bin/other"})
 
 
 class Scripts(unittest.TestCase):
@@ -522,7 +652,7 @@ class Scripts(unittest.TestCase):
 
     def test_each_says_what_it_wants(self):
         for path in self.scripts:
-            if path.name in ("build_judge.py", "test_bench.py", "test_hprof.py", "test_judge.py", "test_planted.py", "test_tools.py"):  # they want nothing
+            if path.name in ("build_judge.py", "test_bench.py", "test_hprof.py", "test_planted.py", "test_tools.py"):  # they want nothing
                 continue
             with self.subTest(path.name):
                 status, out, errors = self.run_script(path)
@@ -540,6 +670,12 @@ class Scripts(unittest.TestCase):
                         status, out, errors = self.run_script(path, *words)
                         self.assertEqual((status, out), (2, ""))
                         self.assertIn("tools/build.py --unproved builds", errors)
+
+    def test_a_driver_that_is_not_built_comes_with_what_builds_it(self):
+        for name in ("count_threads.py", "refuse_calls.py"):
+            status, out, errors = self.run_script(self.folder / "tools" / name, "nowhere")
+            self.assertEqual((status, out), (2, ""))
+            self.assertIn("rt run in crates/g1_rows builds", errors)
 
     def test_a_picture_without_programs_says_what_builds_them(self):
         for words in [], ["--objects"], ["--steps"]:

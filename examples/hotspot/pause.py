@@ -27,7 +27,7 @@ import jvm
 
 sys.path[:0] = [str(jvm.TOP / "tools"), str(jvm.TOP / "tools" / "lib")]
 
-from hprof import CLASS, INSTANCE, OBJECTS, Dump, Refusal, instance_shape  # noqa: E402
+from hprof import CLASS, INSTANCE, Dump, Refusal, instance_shape  # noqa: E402
 from hprof2image import CONTINUATION, FIRST, FREE, ORDINARY, Image, Index  # noqa: E402
 import unproved  # noqa: E402
 

@@ -75,7 +75,7 @@ dump() {
         kill -0 "$java_process"
         sleep 0.1
     done
-    jcmd "$java_process" GC.heap_dump -all "$room/heap.hprof" >"$room/jcmd"
+    jcmd "$java_process" GC.heap_dump -all "\"$room/heap.hprof\"" >"$room/jcmd"
     exec 3>&-
     wait "$java_process"
     java_process=

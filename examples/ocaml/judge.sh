@@ -51,8 +51,8 @@ for name in minor major compact; do
     verdict=$(g1heap same before.txt "$name.txt") || status=1
     echo "$name: $(moved "$name") objects moved: $verdict"
 done
-if verdict=$(g1heap same before.txt changed.txt); then
-    status=1
-fi
+found=0
+verdict=$(g1heap same before.txt changed.txt) || found=$?
 echo "changed: $verdict"
+[ $found -eq 1 ] || status=1
 exit $status

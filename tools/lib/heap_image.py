@@ -92,7 +92,7 @@ class Image:
 
 
 def from_bytes(data):
-    """The image that well-formed bytes tell."""
+    """The image of well-formed bytes."""
     at = len(MAGIC)
 
     def take(count, letter):

@@ -1,6 +1,6 @@
 """An independent reading of docs/IMAGE.md, for the scripts beside it.
 
-`fault_of` tells what has to be said of a text, `read` gives its parts, `graph` what can be read from its roots.
+`fault_of` returns what has to be said of a text, `read` its parts, `graph` what can be read from its roots.
 Nothing here looks at how the program reads.
 """
 import struct
@@ -11,7 +11,7 @@ MOST_WORDS = 1 << 24
 
 
 class Refused(Exception):
-    """A fault: its number and its text, as the program tells it."""
+    """A fault: its number and its text, as the program reports it."""
 
 
 def refuse(number, text):

@@ -1,6 +1,7 @@
 """Small image texts, written as tokens: N is a number of 4 bytes, =N a word, S/R the header of an object of S words
 with R references, C*T stands C times for T. The magic stands before them. Their values are written by hand, without
-flags, as in version 1; the texts are of version 2."""
+flags, as in version 1; the texts are of version 2, except those of long_chain, many_slots and all_dirty, which are of
+version 1."""
 import struct
 
 from image_text import in_version_two

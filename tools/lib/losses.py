@@ -35,14 +35,6 @@ def of_line(line):
     return None
 
 
-def line_of(loss):
-    """The line of a loss."""
-    kind, *numbers = loss
-    form, order = next((form, order) for k, form, order in LINES if k == kind)
-    told = iter(number for _, number in sorted(zip(order, numbers)))
-    return "differ " + re.sub(r"\(\\d\+\)", lambda _: str(next(told)), form)
-
-
 def of_region(before, after, chosen, region):
     """What is lost of a region."""
     if region in chosen:

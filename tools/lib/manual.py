@@ -57,12 +57,13 @@ def completion(program):
 
 def page(program, command, version, seconds):
     """The manual page of a program or of one of its commands, by help2man."""
-    called = f"{program} {command}" if command else str(program)
+    # (help2man gives this to a shell, for which a path may have spaces)
+    called = f"./{program.name} {command}" if command else f"./{program.name}"
     about = said([program, *([command] if command else []), "--help"]).splitlines()[0]
     words = ["help2man", "--no-info", "--section=1", f"--name={about}", f"--version-string={version}",
              f"--manual={program.name} {version}", called]
     environment = dict(os.environ, SOURCE_DATE_EPOCH=str(seconds), LC_ALL="C", TZ="UTC")
-    done = subprocess.run(words, capture_output=True, text=True, check=True, env=environment)
+    done = subprocess.run(words, cwd=program.parent, capture_output=True, text=True, check=True, env=environment)
     if not command:
         return done.stdout
     title, joined = program.name.upper(), f"{program.name}\\-{command}"

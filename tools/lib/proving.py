@@ -18,7 +18,6 @@ import stamp
 
 MOST_JOBS = 4  # of one crate
 MEMORY = 3 << 30  # what a crate's check takes, and seldom more
-KEPT = ("rlib", "incremental")
 LOG = "build.log"
 
 

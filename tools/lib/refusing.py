@@ -38,7 +38,7 @@ __attribute__((constructor)) static void begin(void) {
     atomic_store(&seen, 0);
 }
 
-/* Goes on to the next request after a run that met a refusal, else to the next round. Tells whether it met one. */
+/* Goes on to the next request after a run that met a refusal, else to the next round. Returns whether it met one. */
 static int run_ended(void) {
     static int round;
     static long n;
@@ -51,7 +51,7 @@ static int run_ended(void) {
     return again;
 }
 
-/* A file tells that a request was refused: standard error stays the program's own. */
+/* A file says that a request was refused: standard error stays the program's own. */
 static int refused(size_t size) {
     if (in_runs && (size == BEGIN || size == END || size == END_OF_RUN)) {
         atomic_store(&counts, size == BEGIN);
@@ -90,6 +90,12 @@ def compiled(folder, name, source, *words):
     return made
 
 
+def preloading(library, **more):
+    """The environment in which programs load a library first. LD_PRELOAD ends a name at a space, which a folder may have."""
+    folders = [str(library.parent), *filter(None, [os.environ.get("LD_LIBRARY_PATH")])]
+    return dict(os.environ, LD_PRELOAD=library.name, LD_LIBRARY_PATH=":".join(folders), **more)
+
+
 def run(command, data, environment=None, timeout=120):
     done = subprocess.run(command, input=data, capture_output=True, timeout=timeout, env=environment)
     return done.stdout, done.stderr, done.returncode
@@ -104,14 +110,12 @@ class Refusing:
 
     def run(self, command, data, first, last):
         self.report.unlink(missing_ok=True)
-        environment = dict(os.environ, LD_PRELOAD=str(self.library), REFUSE_REPORT=str(self.report),
-                           REFUSE_FROM=str(first), REFUSE_TO=str(last))
+        environment = preloading(self.library, REFUSE_REPORT=str(self.report), REFUSE_FROM=str(first), REFUSE_TO=str(last))
         return run(command, data, environment), self.report.exists()
 
     def run_in_runs(self, command, data):
         """What the driver answers that makes its calls in runs. No thread finds the stack of another one ready."""
-        environment = dict(os.environ, LD_PRELOAD=str(self.library), REFUSE_IN_RUNS="1",
-                           GLIBC_TUNABLES="glibc.pthread.stack_cache_size=0")
+        environment = preloading(self.library, REFUSE_IN_RUNS="1", GLIBC_TUNABLES="glibc.pthread.stack_cache_size=0")
         return run(command, data, environment, timeout=1800)
 
     def sweep(self, command, data):
@@ -125,7 +129,7 @@ class Refusing:
 
 
 class Judge:
-    """Counts what is as it has to be, and tells what is not. With the word --first the first such ends the script."""
+    """Counts what is as it has to be, and prints what is not. With the word --first the first such ends the script."""
 
     def __init__(self):
         self.passed = self.failed = 0
