@@ -38,7 +38,7 @@ pub fn cards_in(lists: &[Vec<u32>]) -> usize
     count
 }
 
-/// The cards whose mark is set, where the marks tell which cards are dirty.
+/// The cards whose mark is set, by marks that say which cards are dirty.
 fn marked_cards(alloc: Global, image: &Image, dirty: &Marks) -> Result<Vec<u32>, AllocError>
     requires image { IsImage image.now }
     requires dirty { AreDirty image.now dirty.now }
