@@ -15,13 +15,13 @@ use Rattle.g1_words.specs.Lists.{has}
 use Rattle.g1_words.specs.References.{Ref, named, refs, refs_at}
 use Rattle.g1_words.specs.Valid.{IsValid, Tiles}
 use Rattle.g1_words.proofs.Members.{In, In-from_contains, Contains-from_in, In-append_left, In-append_right, In-append_cases, In-flat_map, flat_map_cases}
-use Rattle.g1_words.proofs.Members.{In-map, map_cases, In-filter, filter_member, has_from_in, in_from_has, or_true, and_true, any_member}
+use Rattle.g1_words.proofs.Members.{In-map, map_cases, In-filter, filter_member, or_true, and_true, any_member}
 use Rattle.g1_words.proofs.Ordered.{Ordered, Ordered-from_pairs, pairs_from_ordered}
 use Rattle.g1_words.proofs.Computed.{In-range, range_below, has_contains}
 use Rattle.g1_words.proofs.Rising.{Ordered-append, Ordered-filter, Ordered-map, refs_ordered, ref_tells}
 use Rattle.g1_image.specs.Image.{Image, IsImage, remembered_of}
-use Rattle.g1_image.specs.Cards.{leads_into, is_exact, exact, refined, is_covered}
-use Rattle.g1_image.proofs.Covers.{exact_tells, refined_tells}
+use Rattle.g1_image.specs.Cards.{leads_into, is_exact, exact, is_covered}
+use Rattle.g1_image.proofs.Covers.{exact_tells}
 use Rattle.g1_rem.specs.EntryCards.{AreMarked}
 use Rattle.g1_rem.specs.Marks.{objects_from}
 use Rattle.g1_rem.specs.Slots.{all_slots}
@@ -33,8 +33,9 @@ use Rattle.g1_rem.proofs.Filled.{Tiles-none, row_front, row_rest, row_step}
 use Rattle.g1_rem.proofs.Lists.{eqb_false}
 use Rattle.g1_rem.proofs.Marks.{left_start}
 use Rattle.g1_rem.proofs.Next.{NextOf}
-use Rattle.g1_rem.proofs.Rising.{Rises, Rises-above, Rises-increasing, increasing-Rises}
-use Rattle.g1_rem.specs.Entries.{is_entry, uncovered_into, AreKnown, LeadAhead, AreEntryCards, IsEntryFault}
+use Rattle.g1_rem.proofs.Rising.{Rises, Rises-above, Rises-filter, Rises-range, Rises-one, Rises-increasing, increasing-Rises}
+use Rattle.g1_rem.specs.Ahead.{is_entry, is_known, AreKnown, LeadAhead}
+use Rattle.g1_rem.specs.Entries.{uncovered_into, IsEntryFault}
 
 -- ---- lists
 
@@ -128,8 +129,8 @@ exact_below h r c k =
 pub known_told : (i : Image) (r count : ℕ) (old mid new : List Bool) → count ≡ card_count i.heap → old ≡ replicate count false
     → AreMarked (has (remembered_of i r)) old mid → AreMarked (has i.log) mid new → AreKnown i r new
 known_told i r count old mid new n none set log = λ c lt.
-    marked_from_none (λ c. has (remembered_of i r) c || has i.log c) count old new none
-    (marked_then (has (remembered_of i r)) (has i.log) (λ c. has (remembered_of i r) c || has i.log c) old mid new set log (λ c. refl)) c (omega (arith, lt, n))
+    marked_from_none (is_known i r) count old new none
+    (marked_then (has (remembered_of i r)) (has i.log) (is_known i r) old mid new set log (λ c. refl)) c (omega (arith, lt, n))
 
 -- what the word at a slot tells
 pub entry_null : (h : Heap) (r p : ℕ) → word h p ≡ 0 → is_entry h r p ≡ false
@@ -143,7 +144,7 @@ entry_named h r p a w =
     or_false true = refl
     or_false false = refl
 
-module _ (i : Image) (good : IsImage i) (r : ℕ) (inside : r < i.heap.geometry.n) where
+module _ (i : Image) (good : IsImage i) (r : ℕ) where
   by_hand : (e : Ref) (a b c : Bool) → eqb (region_of i.heap e.slot) (region_of i.heap e.target) ≡ a → has (remembered_of i (region_of i.heap e.target)) (card_of i.heap e.slot) ≡ b
       → has i.log (card_of i.heap e.slot) ≡ c → is_covered i e ≡ ((a || b) || c)
   by_hand e a b c f g k = rw (f, g, k) refl
@@ -181,18 +182,16 @@ module _ (i : Image) (good : IsImage i) (r : ℕ) (inside : r < i.heap.geometry.
   or_middle true c = refl
   or_middle false c = refl
 
-  -- one from a card of the refined set is
-  shown : (e : Ref) → leads_into i.heap r e ≡ true → Contains (refined i r) (card_of i.heap e.slot) → is_covered i e ≡ true
+  -- one from a card that the set or the log has is
+  shown : (e : Ref) → leads_into i.heap r e ≡ true → is_known i r (card_of i.heap e.slot) ≡ true → is_covered i e ≡ true
   shown e t k =
       let q = parts e t in
       let c : ℕ = card_of i.heap e.slot in
       let same : Bool = eqb (region_of i.heap e.slot) (region_of i.heap e.target) in
-      elim ((refined_tells i good r c inside).0 k) [
-        | inl m ↦
-            by_hand e same true (has i.log c) refl
-            (ap (λ x. has (remembered_of i x) c) q.into ∙ has_from_in (remembered_of i r) c (In-from_contains (remembered_of i r) c m)) refl ∙ or_middle same (has i.log c)
+      elim (or_true (has (remembered_of i r) c) (has i.log c) k) [
+        | inl m ↦ by_hand e same true (has i.log c) refl (ap (λ x. has (remembered_of i x) c) q.into ∙ m) refl ∙ or_middle same (has i.log c)
         | inr m ↦
-            by_hand e same (has (remembered_of i (region_of i.heap e.target)) c) true refl refl (has_from_in i.log c (In-from_contains i.log c m.0))
+            by_hand e same (has (remembered_of i (region_of i.heap e.target)) c) true refl refl m
             ∙ or_last same (has (remembered_of i (region_of i.heap e.target)) c)
       ]
 
@@ -221,12 +220,25 @@ module _ (i : Image) (good : IsImage i) (r : ℕ) (inside : r < i.heap.geometry.
   -- such a slot is still ahead
   not_yet : (ahead cards : List ℕ) → LeadAhead i r ahead cards → (q : ℕ) → Bare q → In ahead q
   not_yet ahead cards l q b = elim (l.whole b.ref b.one_of b.leads) [
-    | inl m ↦ absurd (false≢true (sym b.isnt ∙ shown b.ref b.leads (l.within (card_of i.heap b.ref.slot) m)))
+    | inl m ↦ absurd (false≢true (sym b.isnt ∙ shown b.ref b.leads (l.known (card_of i.heap b.ref.slot) m)))
     | inr m ↦ subst (In ahead) b.at (In-from_contains ahead b.ref.slot m)
   ]
 
-  pub all_covered : (cards : List ℕ) → AreEntryCards i r cards → uncovered_into i r ≡ []
+  -- none ahead, and each is covered
+  pub all_covered : (cards : List ℕ) → LeadAhead i r [] cards → uncovered_into i r ≡ []
   all_covered cards l = no_members (uncovered_into i r) (λ q k. not_yet [] cards l q (bare_of q k))
+
+  -- and the cards are the exact set
+  pub all_exact : (cards : List ℕ) → LeadAhead i r [] cards → cards ≡ exact i.heap r
+  all_exact cards l =
+      Rises-one 0 0 cards (exact i.heap r) (increasing-Rises cards 0 l.rising (λ lt. omega arith))
+      (Rises-filter (is_exact i.heap r) 0 (range_with_len 0 (card_count i.heap)) (Rises-range 0 (card_count i.heap)))
+      (λ c k. In-from_contains (exact i.heap r) c (l.within c (Contains-from_in cards c k)))
+      (λ c k.
+      let p = (exact_tells i.heap good.heap r c).0 (Contains-from_in (exact i.heap r) c k) in
+      let leads : leads_into i.heap r p.0 ≡ true = rw (eq-eqb (region_of i.heap p.0.target) r p.2, eqb_false (region_of i.heap p.0.slot) r p.3) refl in
+      let there : Contains cards (card_of i.heap p.0.slot) = elim (l.whole p.0 p.1 leads) [ inl m ↦ m | inr m ↦ absurd (In-from_contains [] p.0.slot m) ] in
+      In-from_contains cards c (subst (Contains cards) p.4 there))
 
   uncovered_rise : Ordered (λ (x : ℕ) y. x < y) (uncovered_into i r)
   uncovered_rise =
@@ -250,6 +262,7 @@ module _ (i : Image) (good : IsImage i) (r : ℕ) (inside : r < i.heap.geometry.
     pass there = record {
       rising = l.rising;
       within = l.within;
+      known = l.known;
       whole = λ e k t. elim (l.whole e k t) [
         | inl m ↦ inl m
         | inr m ↦ elim (In-from_contains (p ∷ rest) e.slot m) [
@@ -278,22 +291,16 @@ module _ (i : Image) (good : IsImage i) (r : ℕ) (inside : r < i.heap.geometry.
     leading : is_entry i.heap r p ≡ true → (c : ℕ) → c ≡ card_of i.heap p → Contains (exact i.heap r) c
     leading t c at = let e = here t in subst (Contains (exact i.heap r)) (ap (card_of i.heap) e.at ∙ sym at) (puts e.ref e.one_of e.leads)
 
-    -- a marked card is in the refined set
-    known : is_entry i.heap r p ≡ true → (c : ℕ) (marks : List Bool) → c ≡ card_of i.heap p → AreKnown i r marks → slice_index_or marks c false ≡ true → Contains (refined i r) c
-    known t c marks at m is =
-        let k = leading t c at in
-        let either = or_true (has (remembered_of i r) c) (has i.log c) (sym (m c (exact_below i.heap r c k)) ∙ is) in
-        (refined_tells i good r c inside).1 (elim either [
-          | inl there ↦ inl (Contains-from_in (remembered_of i r) c (in_from_has (remembered_of i r) c there))
-          | inr there ↦ inr (Contains-from_in i.log c (in_from_has i.log c there), k)
-        ])
-
     -- a card more
     pub push : is_entry i.heap r p ≡ true → (c : ℕ) (marks : List Bool) (items : List ℕ) → c ≡ card_of i.heap p → (0 < length cards → slice_index cards (length cards - 1) ≡ c → ⊥)
         → AreKnown i r marks → slice_index_or marks c false ≡ true → items ≡ cards ++ c ∷ [] → LeadAhead i r rest items
     push t c marks items at other m marked is = subst (LeadAhead i r rest) (sym is) (record {
       rising = rising_push cards c l.rising (λ x k. less x (Contains-from_in cards x k));
-      within = λ x k. elim (last x k) [ inl e ↦ subst (Contains (refined i r)) e (known t c marks at m marked) | inr m ↦ l.within x m ];
+      within = λ x k. elim (last x k) [ inl e ↦ subst (Contains (exact i.heap r)) e (leading t c at) | inr old ↦ l.within x old ];
+      known = λ x k. elim (last x k) [
+        | inl e ↦ subst (λ y. is_known i r y ≡ true) e (sym (m c (exact_below i.heap r c (leading t c at))) ∙ marked)
+        | inr old ↦ l.known x old
+      ];
       whole = λ e k u. elim (l.whole e k u) [
         | inl m ↦ inl (front (card_of i.heap e.slot) m)
         | inr m ↦ elim (In-from_contains (p ∷ rest) e.slot m) [
@@ -349,6 +356,7 @@ module _ (i : Image) (good : IsImage i) (r : ℕ) (inside : r < i.heap.geometry.
   lead_start cards none = subst (λ os. LeadAhead i r (flat_map slots os) cards) (sym (between_all i.heap)) (subst (LeadAhead i r (all_slots i.heap)) (sym none) (record {
     rising = λ k lt. absurd (omega (arith, lt));
     within = λ x k. absurd (In-from_contains [] x k);
+    known = λ x k. absurd (In-from_contains [] x k);
     whole = λ e k t. inr (Contains-from_in (all_slots i.heap) e.slot (slot_there i.heap good.heap r e k));
     order = Rises-increasing 0 (all_slots i.heap) (all_rise i.heap good.heap);
     slots = λ p k. k;
@@ -356,7 +364,7 @@ module _ (i : Image) (good : IsImage i) (r : ℕ) (inside : r < i.heap.geometry.
   }))
 
   -- past the last region none is ahead
-  pub lead_end : (q : ℕ) (cards : List ℕ) → i.heap.geometry.n ≤ q → LeadAhead i r (flat_map slots (objects_from i.heap q)) cards → AreEntryCards i r cards
+  pub lead_end : (q : ℕ) (cards : List ℕ) → i.heap.geometry.n ≤ q → LeadAhead i r (flat_map slots (objects_from i.heap q)) cards → LeadAhead i r [] cards
   lead_end q cards le l = subst (λ os. LeadAhead i r (flat_map slots os) cards) (between_none i.heap q i.heap.geometry.n le) l
 
 -- the slots of the objects in region q are looked at up to an address

@@ -4,9 +4,11 @@ ghost use Rattle.g1_words.specs.Heap.{start, objects_in, slots};
 ghost use Rattle.g1_words.specs.Lists.{has};
 ghost use Rattle.g1_words.specs.Valid.{Tiles};
 ghost use Rattle.g1_image.specs.Image.{IsImage};
+ghost use Rattle.g1_image.specs.Cards.{exact};
 ghost use Rattle.g1_rem.specs.EntryCards.{AreMarked};
 ghost use Rattle.g1_rem.specs.Marks.{objects_from};
-ghost use Rattle.g1_rem.specs.Entries.{is_entry, uncovered_into, AreKnown, LeadAhead, AreEntryCards, IsEntryFault};
+ghost use Rattle.g1_rem.specs.Ahead.{is_entry, AreKnown, LeadAhead};
+ghost use Rattle.g1_rem.specs.Entries.{uncovered_into, IsEntryFault};
 
 use crate::entry_cards::mark_each;
 use crate::rows::objects_end;
@@ -64,7 +66,6 @@ impl<'a> Entering<'a> {
 
     // Adds the card of a slot that leads into the region, unless it was the last one.
     fn take_entry(&self, slot: u64, cards: &mut Vec<u32>) -> Result<(), Fault>
-        requires region { self.now.region < self.now.image.now.heap.geometry.n }
         requires known { AreKnown self.now.image.now self.now.region self.now.known.now }
         requires slot { slot < length self.now.image.now.heap.words }
         requires entry { IsTrue (is_entry self.now.image.now.heap self.now.region slot) }
@@ -86,7 +87,6 @@ impl<'a> Entering<'a> {
 
     // Adds the cards of the slots from one address on and before another that lead into the region.
     fn take_slots(&self, from: u64, to: u64, cards: &mut Vec<u32>) -> Result<(), Fault>
-        requires region { self.now.region < self.now.image.now.heap.geometry.n }
         requires known { AreKnown self.now.image.now self.now.region self.now.known.now }
         requires order { from ≤ to }
         requires slots { to ≤ length self.now.image.now.heap.words }
@@ -103,7 +103,6 @@ impl<'a> Entering<'a> {
 
     // Adds the cards of the slots of the objects in another region that lead into this one.
     fn take_region(&self, region: u32, cards: &mut Vec<u32>) -> Result<(), Fault>
-        requires region { self.now.region < self.now.image.now.heap.geometry.n }
         requires known { AreKnown self.now.image.now self.now.region self.now.known.now }
         requires other { region < self.now.image.now.heap.geometry.n }
         requires ahead { LeadAhead self.now.image.now self.now.region (flat_map slots (objects_from self.now.image.now.heap region)) cards.old.items }
@@ -122,8 +121,8 @@ impl<'a> Entering<'a> {
     }
 }
 
-/// The cards that lead into a region: all from which a slot of another region references an object in it. Each is in the
-/// region's refined set.
+/// The exact set of a region, rising: the cards from which a slot of another region references an object in it. All of
+/// these slots are covered.
 ///
 /// One pass over the slots of all objects, by rising address. No other region's set is looked up.
 ///
@@ -132,7 +131,7 @@ impl<'a> Entering<'a> {
 /// `Fault::Uncovered` with the lowest slot that leads into the region and isn't covered; `Fault::Memory`.
 pub fn cards_into_region(alloc: Global, image: &Image, region: u32) -> Result<Vec<u32>, Fault>
     requires { region < image.now.heap.geometry.n }
-    ensures cards { IfOk result (λ v. AreEntryCards image.now region v.items) }
+    ensures cards { IfOk result (λ v. v.items ≡ exact image.now.heap region) }
     ensures covered { IfOk result (λ v. uncovered_into image.now region ≡ []) }
     ensures fault { IfErr result (IsEntryFault image.now region) }
 {

@@ -1,6 +1,6 @@
 use Rattle.std.proofs.Common.{◌≡◌, ◌/◌, ◌∙◌, ◌&&◌, suc, not, arith, sym, ap, slice_index, eqb, eq-eqb}
 use Rattle.g1_words.specs.Heap.{Heap}
-use Rattle.g1_rem.specs.Entries.{is_entry}
+use Rattle.g1_rem.specs.Ahead.{is_entry}
 use Rattle.g1_rem.proofs.Lists.{eqb_false}
 use Rattle.g1_rem.proofs.Leading.{entry_null, entry_named}
 use Rattle.g1_rem.proofs.entries.Entering.is_entry.Goals as goal

@@ -17,19 +17,19 @@ returns-then-index-card-clause-ahead c = λ rest l.
     let read = get_or_default c.args.cards.now.items (c.len-count.result - 1) c.index.result.now 0 (omega (arith, some, c.len-count.ensures)) in
     let last : slice_index c.args.cards.now.items (length c.args.cards.now.items - 1) ≡ c.card_of-card.result =
     ap (slice_index c.args.cards.now.items) place ∙ sym read ∙ sym c.index.ensures ∙ c.if-index-card.true in
-    pass_same c.args.self.now.image.now c.heap.ensures.valid c.args.self.now.region c.requires.region c.args.slot rest c.args.cards.now.items l c.card_of-card.result (the_card b) some last
+    pass_same c.args.self.now.image.now c.heap.ensures.valid c.args.self.now.region c.args.slot rest c.args.cards.now.items l c.card_of-card.result (the_card b) some last
 
 pub returns-then-not-is_known-clause-fault : goal.returns-then-not-is_known-clause-fault
 returns-then-not-is_known-clause-fault c = λ rest l.
     let b = (goal.at.returns-then-not-is_known-clause-fault c).After-card_of-card in
-    entry_fault c.args.self.now.image.now c.heap.ensures.valid c.args.self.now.region c.requires.region c.args.slot rest c.args.cards.now.items l c.requires.entry
+    entry_fault c.args.self.now.image.now c.heap.ensures.valid c.args.self.now.region c.args.slot rest c.args.cards.now.items l c.requires.entry
     c.card_of-card.result c.args.self.now.known.now (the_card b) c.requires.known cc
 
 pub returns-clause-ahead : goal.returns-clause-ahead
 returns-clause-ahead c = λ rest l.
     let b = (goal.at.returns-clause-ahead c).After-card_of-card in
     let marked : slice_index_or c.args.self.now.known.now c.card_of-card.result false ≡ true = cc in
-    push c.args.self.now.image.now c.heap.ensures.valid c.args.self.now.region c.requires.region c.args.slot rest c.args.cards.now.items l c.requires.entry
+    push c.args.self.now.image.now c.heap.ensures.valid c.args.self.now.region c.args.slot rest c.args.cards.now.items l c.requires.entry
     c.card_of-card.result c.args.self.now.known.now c.push.new.self.items (the_card b)
     (elim c.else-count-gt0.branch [
       | else-count-gt0-via-then-count-gt0+else-index-card w ↦ (λ some same.

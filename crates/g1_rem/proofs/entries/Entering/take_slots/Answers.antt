@@ -2,7 +2,7 @@ use Rattle.std.proofs.Common.{◌≡◌, ◌+◌, ◌-◌, ◌∷◌, ◌++◌, 
 use Rattle.std.specs.List.{range_with_len}
 use Rattle.std.proofs.lemmas.Result.{err_from_is_err_and}
 use Rattle.g1_rem.proofs.Bare.{range_front}
-use Rattle.g1_rem.specs.Entries.{LeadAhead}
+use Rattle.g1_rem.specs.Ahead.{LeadAhead}
 use Rattle.g1_rem.proofs.Leading.{pass_other}
 use Rattle.g1_rem.proofs.entries.Entering.take_slots.Goals as goal
 use Rattle.g1_rem.proofs.entries.Entering.take_slots.Goals.{In-loop-slot, then-is_entry+in_ok-take_entry, else-is_entry}
@@ -31,7 +31,7 @@ loop-slot-preserved c =
           elim c.if-is_entry.branch [
             | then-is_entry+in_ok-take_entry w ↦ subst (LeadAhead i r more) (sym (ap (λ v. v.items) w.cards-is)) (w.in_ok-take_entry.ensures.ahead more (front b rest l))
             | else-is_entry w ↦ subst (LeadAhead i r more) (sym (ap (λ v. v.items) w.cards-is))
-                (pass_other i c.is_entry.ensures.valid r c.requires.region c.loop-slot.slot more c.loop-slot.cards.items (front b rest l) cc)
+                (pass_other i c.is_entry.ensures.valid r c.loop-slot.slot more c.loop-slot.cards.items (front b rest l) cc)
           ];
       within = omega (arith, c.loop-slot-test.true);
     }
@@ -46,9 +46,6 @@ loop-slot-smaller c = omega (arith, c.loop-slot-test.true)
 
 pub is_entry-requires : goal.is_entry-requires
 is_entry-requires c = omega (arith, c.loop-slot-test.true, c.requires.slots)
-
-pub take_entry-requires-clause-region : goal.take_entry-requires-clause-region
-take_entry-requires-clause-region c = c.requires.region
 
 pub take_entry-requires-clause-known : goal.take_entry-requires-clause-known
 take_entry-requires-clause-known c = c.requires.known

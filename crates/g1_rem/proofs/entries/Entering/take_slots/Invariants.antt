@@ -1,6 +1,6 @@
 use Rattle.std.proofs.Common.{◌≤◌, ◌-◌, ◌++◌, ℕ, List}
 use Rattle.std.specs.List.{range_with_len}
-use Rattle.g1_rem.specs.Entries.{LeadAhead}
+use Rattle.g1_rem.specs.Ahead.{LeadAhead}
 use Rattle.g1_rem.proofs.entries.Entering.take_slots.Given as goal
 
 abbrev pub invariant-loop-slot : goal.invariant-loop-slot
