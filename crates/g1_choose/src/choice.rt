@@ -114,6 +114,9 @@ pub struct Chosen {
 /// The collection set that the budget pays, rising: the longest beginning of the order whose total is
 /// at most the budget. It is empty if not even the pause alone is within the budget.
 ///
+/// `d` is the number of dirty cards. `remembered` has the remembered cards of each region, and `live`
+/// its live bytes.
+///
 /// # Errors
 ///
 /// `Fault::Memory` alone.
@@ -136,7 +139,7 @@ pub fn choose(
     Ok(chosen.regions)
 }
 
-/// What `choose` returns, and the order by which it goes.
+/// What `choose` returns, and the order by which it goes. The arguments are those of `choose`.
 ///
 /// # Errors
 ///

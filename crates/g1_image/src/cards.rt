@@ -63,7 +63,7 @@ fn is_remembered_set(draft: &Draft, r: u32, cards: &[u32]) -> bool
     true
 }
 
-/// Returns the first region whose remembered set isn't good.
+/// Refuses the first region whose remembered set isn't good.
 fn check_remembered(draft: &Draft, remembered: &[Vec<u32>]) -> Result<(), Fault>
     requires one_each { length remembered.now ≡ draft.now.geometry.n }
     requires counts { All (λ s. length s < 2 ^ 32) (map (λ s. s.items) remembered.now) }

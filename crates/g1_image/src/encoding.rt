@@ -72,6 +72,10 @@ fn push_parts(out: &mut Vec<u8>, parts: &FileParts<'_>) -> Result<(), AllocError
 
 /// The bytes of parts and of the used words behind them, of version 2. They are good only if the parts are an
 /// image's; `decode` finds the fault of others.
+///
+/// # Errors
+///
+/// `AllocError` if a growth was refused.
 pub fn encode_parts(
     alloc: Global,
     parts: &FileParts<'_>,
@@ -85,9 +89,9 @@ pub fn encode_parts(
     Ok(out)
 }
 
-/// Writes what precedes the words of an image, instead of the bytes that a list has.
-pub(crate) fn write_front(out: &mut Vec<u8>, image: &Image) -> Result<(), AllocError>
-    ensures { OnOk result (IsTextIn Version.Two (out.new.items ++ words_text (file_of Version.Two image.now).words) image.now) }
+/// What precedes the words in the text of an image.
+pub(crate) fn encode_front(alloc: Global, image: &Image) -> Result<Vec<u8>, AllocError>
+    ensures { IfOk result (λ v. IsTextIn Version.Two (v.items ++ words_text (file_of Version.Two image.now).words) image.now) }
 {
     let heap = image.heap();
     let parts = FileParts {
@@ -98,6 +102,7 @@ pub(crate) fn write_front(out: &mut Vec<u8>, image: &Image) -> Result<(), AllocE
         log: image.log().as_slice(),
         remembered: image.remembered(),
     };
-    out.clear();
-    push_parts(out, &parts)
+    let mut out = Vec::new(alloc);
+    push_parts(&mut out, &parts)?;
+    Ok(out)
 }

@@ -20,7 +20,7 @@ fn is_reference(draft: &Draft, marks: &Marks, x: u64) -> bool
     marks.is_set((x - 1) as usize)
 }
 
-/// Returns the first root that references no object.
+/// Refuses the first root that references no object.
 pub(crate) fn check_roots(draft: &Draft, marks: &Marks) -> Result<(), Fault>
     requires { StartsAre draft.now marks.now }
     ensures ok { OnOk result (RootsAreGood draft.now) }

@@ -7,7 +7,7 @@ ghost use Rattle.g1_image.specs.Sink.{unsent, Sent, SendFails, Writes, output_ma
 
 use crate::behind::Behind;
 use crate::cursor::Version;
-use crate::encoding::write_front;
+use crate::encoding::encode_front;
 use crate::image::Image;
 use crate::sink::Sink;
 use crate::std_streams::ToWriter;
@@ -50,8 +50,7 @@ pub fn write<S: Sink>(alloc: Global, image: &Image, sink: &mut S) -> Result<(), 
     ensures mark { S.failed sink.new ≡ output_mark (S.failed sink.old) result }
 {
     let heap = image.heap();
-    let mut front = Vec::new(alloc);
-    write_front(&mut front, image)?;
+    let front = encode_front(alloc, image)?;
     let mut behind = Behind::new(front)?;
     send_used(
         &mut behind,
@@ -64,6 +63,10 @@ pub fn write<S: Sink>(alloc: Global, image: &Image, sink: &mut S) -> Result<(), 
 }
 
 /// The text of an image, of version 2.
+///
+/// # Errors
+///
+/// `Fault::Memory` alone.
 pub fn encode(alloc: Global, image: &Image) -> Result<Vec<u8>, Fault>
     ensures ok { IfOk result (λ v. IsTextIn Version.Two v.items image.now) }
     ensures err { IfErr result (λ e. e ≡ Fault.Memory) }

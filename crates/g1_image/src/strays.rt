@@ -143,7 +143,7 @@ fn fault_of(draft: &Draft, found: Option<u64>) -> Result<(), Fault>
     }
 }
 
-/// Returns the first slot that references no object.
+/// Refuses the first slot that references no object.
 pub(crate) fn check_slots(draft: &Draft, marks: &Marks) -> Result<(), Fault>
     requires { AreShapedStarts draft.now marks.now }
     ensures ok { OnOk result (SlotsAreGood draft.now) }

@@ -120,6 +120,10 @@ fn read_parts<S: Source>(alloc: Global, source: &mut S) -> Result<(Front, Vec<u6
 }
 
 /// The image whose text the bytes are, or the fault of the first stage that finds one.
+///
+/// # Errors
+///
+/// `Fault::Memory`, and the fault of the bytes.
 pub fn decode(alloc: Global, bytes: &[u8]) -> Result<Image, Fault>
     ensures ok { IfOk result (λ i. IsTextOf bytes.now i) }
     ensures err { IfErr result (MayFail bytes.now) }

@@ -16,6 +16,9 @@ use std::alloc::Global;
 use std::thread::Threads;
 
 /// The addresses of all objects that the roots reach, in the order in which the search finds them.
+///
+/// # Errors
+/// `Memory`.
 pub fn live_objects<R: Threads + Sync, G: Gate + Sync>(
     rt: &R,
     alloc: Global,

@@ -69,6 +69,7 @@ impl<'a> Before<'a> {
         ensures tracked { IsTracked self.now }
     {
         let image = image(self.tracked);
+        // It states to the prover that the image keeps its rules.
         let _ = image.heap();
         image
     }

@@ -16,6 +16,10 @@ use std::alloc::{AllocError, Global};
 use std::thread::Threads;
 
 /// Adds a reply's line to a text.
+///
+/// # Errors
+///
+/// `AllocError` if a growth was refused.
 pub fn push_reply(text: &mut Vec<u8>, reply: Reply) -> Result<(), AllocError>
     ensures { OnOk result (text.new.items ≡ text.old.items ++ reply_line reply) }
 {

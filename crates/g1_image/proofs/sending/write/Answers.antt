@@ -22,13 +22,13 @@ words_are g c =
     let words = c.words.ensures ∙ ap (λ h. h.words) same in
     λ t. words_text (used_words (width t) (regions t) (words t))
 
-pub returns-in_err-write_front-clause-text : goal.returns-in_err-write_front-clause-text
-returns-in_err-write_front-clause-text g c =
+pub returns-in_err-front-clause-text : goal.returns-in_err-front-clause-text
+returns-in_err-front-clause-text g c =
     let same = err_from_is_err_and c.from_residual.result c.from_residual.ensures.1 in
     (file_text (file_of Two c.args.image.now), (c.heap-heap.ensures.valid, tt, refl), rw (same.1, same.2) (Keeps-refl _))
 
-pub returns-in_err-write_front-clause-mark : goal.returns-in_err-write_front-clause-mark
-returns-in_err-write_front-clause-mark g c =
+pub returns-in_err-front-clause-mark : goal.returns-in_err-front-clause-mark
+returns-in_err-front-clause-mark g c =
     let same = err_from_is_err_and c.from_residual.result c.from_residual.ensures.1 in
     rw (same.1, same.2) refl
 
@@ -54,12 +54,12 @@ returns-in_err-send_used-clause-text g c =
     let old = g.S.Sink.written c.args.sink.now in
     let new = g.S.Sink.written c.send_used.new.sink in
     let e = c.in_err-send_used.field-0.0 in
-    let front = c.write_front.new.out.items in
+    let front = c.in_ok-front.front.items in
     let words = words_text (used_words c.region_words.result c.regions.result.now c.words.result.now) in
     let is : words ≡ words_text (used_words i.heap.geometry.w i.heap.regions i.heap.words) = words_are g (goal.at.returns-in_err-send_used-clause-text g c).After-words in
     let fails : SendFails old new front words e = subst (λ l. SendFails old new l words e) c.in_ok-behind.ensures c.in_err-send_used.ensures.err in
     let same = err_from_is_err_and c.from_residual-in_err-send_used.result c.from_residual-in_err-send_used.ensures.1 in
-    (front ++ words_text (file_of Two i).words, c.in_ok-write_front.ensures, rw (same.1, same.2) (subst (λ l. Writes (front ++ l) old new (Err e)) is (part_written old new front words e fails)))
+    (front ++ words_text (file_of Two i).words, c.in_ok-front.ensures, rw (same.1, same.2) (subst (λ l. Writes (front ++ l) old new (Err e)) is (part_written old new front words e fails)))
 
 pub returns-clause-text : goal.returns-clause-text
 returns-clause-text g c =
@@ -67,13 +67,13 @@ returns-clause-text g c =
     let old = g.S.Sink.written c.args.sink.now in
     let between = g.S.Sink.written c.send_used.new.sink in
     let new = g.S.Sink.written c.flush.new.sink in
-    let front = c.write_front.new.out.items in
+    let front = c.in_ok-front.front.items in
     let words = words_text (used_words c.region_words.result c.regions.result.now c.words.result.now) in
     let is : words ≡ words_text (used_words i.heap.geometry.w i.heap.regions i.heap.words) = words_are g (goal.at.returns-clause-text g c).After-words in
     let sent : Sent old between front words (unsent c.send_used.new.behind) =
     subst (λ l. Sent old between l words (unsent c.send_used.new.behind)) c.in_ok-behind.ensures c.in_ok-send_used.ensures.ok in (
       front ++ words_text (file_of Two i).words,
-      c.in_ok-write_front.ensures,
+      c.in_ok-front.ensures,
       subst (λ l. Writes (front ++ l) old new c.flush.result) is (rest_written old between new front words (unsent c.send_used.new.behind)
           (unsent c.flush.new.self) c.flush.result sent c.flush.ensures.ok c.flush.ensures.none c.flush.ensures.err),
     )

@@ -1,14 +1,13 @@
-use Rattle.std.proofs.Common.{rules, ◌≡◌, [], ◌++◌, ◌∙◌, map, ap, sym, subst}
+use Rattle.std.proofs.Common.{◌≡◌, ◌++◌, ◌∙◌, map, ap, sym, subst}
 use Rattle.std.specs.Prelude.{unwrap_or}
 use Rattle.g1_words.specs.Heap.{Heap}
 use Rattle.g1_image.specs.declared.cursor.Version.TheVariants.{Two}
 use Rattle.g1_image.specs.declared.encoding.FileParts.{FileParts}
-use Rattle.g1_image.specs.Text.{file_text, words_text}
-use Rattle.g1_image.specs.Image.{entry_of, file_of, IsTextIn}
+use Rattle.g1_image.specs.Text.{file_text}
+use Rattle.g1_image.specs.Image.{entry_of, file_of}
 use Rattle.g1_image.specs.Parts.{file_of_parts, CountsFit}
 use Rattle.g1_image.proofs.Images.{file_fits}
-use Rattle.g1_image.proofs.Written.{on_ok}
-use Rattle.g1_image.proofs.encoding.write_front.Goals as goal
+use Rattle.g1_image.proofs.encoding.encode_front.Goals as goal
 
 pub returns : goal.returns
 returns c =
@@ -41,8 +40,5 @@ returns c =
       remembered = remembered t;
       words = words;
     } in
-    let empty : c.clear.new.self.items ≡ [] = search rules in
     let fits : CountsFit (file_of_parts parts words) = subst CountsFit (sym same) (file_fits i c.heap-heap.ensures.valid) in
-    let new = c.push_parts.new.out.items in
-    on_ok c.push_parts.result (new ++ words_text words ≡ c.clear.new.self.items ++ file_text (file_of_parts parts words)) (IsTextIn Two (new ++ words_text words) i)
-    (λ is. (c.heap-heap.ensures.valid, tt, is ∙ (λ t. empty t ++ file_text (same t)))) (c.push_parts.ensures words fits)
+    (c.heap-heap.ensures.valid, tt, c.in_ok-push_parts.ensures words fits ∙ (λ t. c.new-out.ensures.items t ++ file_text (same t)))
