@@ -33,3 +33,4 @@ pub mod OneText
 pub mod Deciding
 pub mod Tellings
 pub mod Existing
+pub mod Sessions

@@ -1,7 +1,7 @@
-ghost use Rattle.std.specs.Prelude.{◌≡◌, ◌↔◌, IsTrue, IfOk, IfErr};
-ghost use Rattle.g1_trace.specs.TraceText.{command_line};
+ghost use Rattle.std.specs.Prelude.{◌≡◌, ◌↔◌, ℕ, Some, None, IsTrue, IfSome, IfNone, IfOk, IfErr};
+ghost use Rattle.g1_trace.specs.TraceText.{command_line, numbers_of, AllFit};
 ghost use Rattle.g1_trace.specs.declared.session.Session.TheVariants.{Begun, Open as OpenOf};
-ghost use Rattle.g1_trace.specs.Session.{IsComment, IsDone};
+ghost use Rattle.g1_trace.specs.Session.{AsksPause, IsComment, IsDone, IsReason, IsWrong, commands_of, image_of};
 
 use crate::collector::Collector;
 use crate::command::{Command, Reply};
@@ -58,12 +58,16 @@ fn is_comment(line: &[u8]) -> bool
 
 impl Session {
     /// A session without a line.
-    pub fn new() -> Session {
+    pub fn new() -> Session
+        ensures { result ≡ Begun }
+    {
         Session::Begun
     }
 
     /// How many commands are done.
-    pub fn commands(&self) -> u64 {
+    pub fn commands(&self) -> u64
+        ensures { result ≡ commands_of self.now }
+    {
         match self {
             Session::Begun => 0,
             Session::Open { commands, .. } => *commands,
@@ -71,7 +75,10 @@ impl Session {
     }
 
     /// The image of the heap, once it has sizes.
-    pub fn image(&self) -> Option<&Image> {
+    pub fn image(&self) -> Option<&Image>
+        ensures some { IfSome result (λ i. image_of self.now ≡ Some i.now) }
+        ensures none { IfNone result (image_of self.now ≡ None) }
+    {
         match self {
             Session::Begun => None,
             Session::Open { mutator, .. } => Some(mutator.image()),
@@ -79,7 +86,10 @@ impl Session {
     }
 
     /// The budget of the pause that a line asks for, if it does.
-    pub fn budget(&self, line: &[u8]) -> Option<u64> {
+    pub fn budget(&self, line: &[u8]) -> Option<u64>
+        ensures some { IfSome result (AsksPause self.now line.now) }
+        ensures none { IfNone result ((b : ℕ) → AsksPause self.now line.now b → ⊥) }
+    {
         match (self, later_line(line)) {
             (Session::Open { .. }, Some(Command::Pause { budget })) => Some(budget),
             _ => None,
@@ -95,6 +105,7 @@ impl Session {
         settings: &Settings,
     ) -> (Session, Result<Taken, Wrong>)
         ensures done { IfOk result.1 (λ a. IsDone settings.now.cost self line.now a result.0) }
+        ensures wrong { IfErr result.1 (IsWrong self line.now) }
         ensures same { IfErr result.1 (λ _. result.0 ≡ self) }
     {
         if is_comment(line) {
@@ -116,6 +127,7 @@ impl Session {
 // Makes the heap of the line with the sizes.
 fn begin(alloc: Global, line: &[u8], settings: &Settings) -> (Session, Result<Taken, Wrong>)
     ensures done { IfOk result.1 (λ a. IsDone settings.now.cost Begun line.now a result.0) }
+    ensures wrong { IfErr result.1 (IsReason Begun line.now) }
     ensures same { IfErr result.1 (λ _. result.0 ≡ Begun) }
 {
     let Some((w, k, n, roots)) = first_line(line) else {
@@ -142,7 +154,8 @@ fn step<R: Threads + Sync>(
     command: &Command,
     settings: &Settings,
 ) -> (Session, Result<Taken, Wrong>)
-    ensures done { IfOk result.1 (λ a. IsDone settings.now.cost (OpenOf mutator commands) (command_line command.now) a result.0) }
+    ensures done { AllFit (numbers_of command.now) → IfOk result.1 (λ a. IsDone settings.now.cost (OpenOf mutator commands) (command_line command.now) a result.0) }
+    ensures wrong { IfErr result.1 (IsReason (OpenOf mutator commands) (command_line command.now)) }
     ensures same { IfErr result.1 (λ _. result.0 ≡ OpenOf mutator commands) }
 {
     let cost = settings.cost();
