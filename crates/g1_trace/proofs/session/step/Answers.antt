@@ -4,7 +4,7 @@ use Rattle.g1_trace.specs.Mutator.{IsStep}
 use Rattle.g1_trace.specs.TraceText.{command_line}
 use Rattle.g1_trace.specs.Session.{IsDone, command}
 use Rattle.g1_trace.specs.declared.session.Session.TheVariants.{Open as OpenOf}
-use Rattle.g1_trace.specs.declared.session.Answer.TheVariants.{Reply}
+use Rattle.g1_trace.specs.declared.session.Taken.TheVariants.{Reply}
 use Rattle.g1_trace.proofs.Sessions.{refused_command}
 use Rattle.g1_trace.proofs.session.step.Goals as goal
 
