@@ -55,14 +55,15 @@ class Image:
             yield from self.objects_in(region)
 
     def make_exact(self):
-        """Gives each region the cards of other regions that hold a slot which leads into it."""
+        """Gives each region the cards of other regions that hold a slot which leads into it. A planted word may lead
+        into none."""
         self.sets = [[] for _ in range(self.regions)]
         for address in self.objects():
             for slot in self.slots(address):
-                if self.words[slot] != NULL:
-                    region = self.region_of(self.words[slot] - 1)
+                region = self.region_of(self.words[slot] - 1)
+                if self.words[slot] != NULL and region < self.regions and region != self.region_of(slot):
                     cards, card = self.sets[region], slot // self.card_words
-                    if region != self.region_of(slot) and cards[-1:] != [card]:
+                    if cards[-1:] != [card]:
                         cards.append(card)
 
     def reached(self):
