@@ -9,11 +9,12 @@ use Rattle.g1_words.specs.declared.fault.Fault.{Fault}
 use Rattle.g1_words.specs.declared.fault.Fault.TheVariants as fault
 use Rattle.g1_words.specs.declared.fault.Device.TheVariants as device
 use Rattle.g1_image.specs.declared.cursor.Heading.{Heading}
+use Rattle.g1_image.specs.declared.cursor.Version.TheVariants.{One}
 use Rattle.g1_image.specs.Text.{Entry, Version, magic, heading_text, table_words}
 use Rattle.g1_image.specs.Reading.{IsBytes}
 use Rattle.g1_image.specs.Faults.{FaultOf, MayFail}
 use Rattle.g1_image.specs.Plain.{PlainIs, FrontFits, front_text}
-use Rattle.g1_image.specs.Source.{ReadFails, IsReadOut, input_mark}
+use Rattle.g1_image.specs.Source.{HoldsOfLeft, ReadFails, IsReadOut, input_mark}
 use Rattle.g1_image.specs.Ahead.{TakeFails, TextFails}
 use Rattle.g1_image.proofs.Files.{front_read, front_text-flat, front_short, plain_trailing}
 
@@ -50,23 +51,16 @@ text_unmarked m n a (fault.Device device.Input) h ne = absurd (ne refl)
 text_unmarked m n a (fault.Device device.Output) h ne = absurd h
 text_unmarked m n a e h ne = h.0
 
-memory_may : (a : Option (List ℕ)) → IfSome a (λ xs. MayFail xs fault.Memory)
-memory_may None = tt
-memory_may (Some x) = inl refl
-
-bytes_may : (a : Option (List ℕ)) (e : Fault) → IfSome a (λ xs. FaultOf xs e) → IfSome a (λ xs. MayFail xs e)
-bytes_may None e h = tt
-bytes_may (Some x) e h = inr h
+memory_may : (a : Option (List ℕ)) → HoldsOfLeft a (λ xs. MayFail xs fault.Memory)
+memory_may None = ([], inl refl, tt)
+memory_may (Some x) = (x, inl refl, refl)
 
 -- a text isn't read because a read failed, or for its own fault, or for want of memory
-pub text_may : (m n : Bool) (a : Option (List ℕ)) (e : Fault) → TextFails m n a e → (e ≡ fault.Device device.Input) ⊎ IfSome a (λ xs. MayFail xs e)
+pub text_may : (m n : Bool) (a : Option (List ℕ)) (e : Fault) → TextFails m n a e → (e ≡ fault.Device device.Input) ⊎ HoldsOfLeft a (λ xs. MayFail xs e)
 text_may m n a fault.Memory h = inr (memory_may a)
 text_may m n a (fault.Device device.Input) h = inl refl
 text_may m n a (fault.Device device.Output) h = absurd h
-text_may m n a e h = inr (bytes_may a e h.1)
-
-pub text_no_output : (m n : Bool) (a : Option (List ℕ)) (e : Fault) → TextFails m n a e → e ≢ fault.Device device.Output
-text_no_output m n a e h p = subst (TextFails m n a) p h
+text_may m n a e h = inr (h.1.0, inr h.1.1, h.1.2)
 
 -- a wrong magic is wrong whatever follows
 pub magic_stays : (bytes more : List ℕ) → FaultOf bytes fault.Magic → FaultOf (bytes ++ more) fault.Magic
@@ -79,11 +73,11 @@ pub geometry_stays : (bytes more : List ℕ) → FaultOf bytes fault.Geometry �
 geometry_stays bytes more x =
     (x.0, x.1, x.2 ++ more, x.3, ap (λ l. l ++ more) x.4 ∙ append_assoc (magic x.0) (heading_text x.1 ++ x.2) more ∙ ap (λ l. magic x.0 ++ l) (append_assoc (heading_text x.1) x.2 more), x.5)
 
--- what is known of all bytes, by those that wait and those that are left
-pub of_waiting : (a l : Option (List ℕ)) (w : List ℕ) (P : List ℕ → Type 0) → Keeps a (prepend_known w l) → IfSome l (λ ys. P (w ++ ys)) → IfSome a P
-of_waiting None l w P kept h = tt
-of_waiting (Some x) None w P kept h = absurd kept
-of_waiting (Some x) (Some y) w P kept h = subst P kept h
+-- what holds of the bytes that wait, whatever is left behind them, holds of all
+of_waiting : (a l : Option (List ℕ)) (w : List ℕ) (P : List ℕ → Type 0) → Keeps a (prepend_known w l) → P w → IfSome l (λ ys. P (w ++ ys)) → HoldsOfLeft a P
+of_waiting None l w P kept now h = (w, now, tt)
+of_waiting (Some x) None w P kept now h = absurd kept
+of_waiting (Some x) (Some y) w P kept now h = (w ++ y, h, sym kept)
 
 -- at the end the bytes that wait are all
 pub at_end : (l : Option (List ℕ)) (w : List ℕ) (P : List ℕ → Type 0) → IsAtEnd l → P w → IfSome l (λ ys. P (w ++ ys))
@@ -99,7 +93,7 @@ pub text_fault : (m n : Bool) (a l : Option (List ℕ)) (w : List ℕ) (e : Faul
 text_fault m n a l w fault.Memory same kept f h = same
 text_fault m n a l w (fault.Device device.Input) same kept f h = absurd f.3
 text_fault m n a l w (fault.Device device.Output) same kept f h = absurd f.3
-text_fault m n a l w e same kept f h = (same, of_waiting a l w (λ xs. FaultOf xs e) kept h)
+text_fault m n a l w e same kept f h = (same, of_waiting a l w (λ xs. FaultOf xs e) kept f h)
 
 pub front_fails : (m n : Bool) (a l : Option (List ℕ)) (w : List ℕ) (e : Fault) → n ≡ m → Keeps a (prepend_known w l) → MayFail w e →
     (FaultOf w e → IfSome l (λ ys. FaultOf (w ++ ys) e)) → TextFails m n a e
@@ -115,6 +109,10 @@ front_taken v h table roots log remembered a l w bytes new count kept same text 
     (prepend_known-read a l w new (front_text v h table roots log remembered []) ⊥ kept
     (sym same ∙ text ∙ ap (λ k. front_text v h table roots log remembered k) rest ∙ front_text-flat v h table roots log remembered new) (λ x. absurd x)).0
 
+-- no bytes at all are too few
+none_are_short : FaultOf [] fault.Short
+none_are_short = inl (One, magic One, refl, omega arith)
+
 module _ (v : Version) (h : Heading) (table : List Entry) (roots log : List ℕ) (remembered : List (List ℕ)) (fits : FrontFits v h table roots log remembered) where
   -- the front was taken, and then the words aren't all there
   pub words_fail : (m n o : Bool) (a b : Option (List ℕ)) (e : Fault) → n ≡ m → Consumes a b (front_text v h table roots log remembered []) →
@@ -122,10 +120,10 @@ module _ (v : Version) (h : Heading) (table : List Entry) (roots log : List ℕ)
   words_fail m n o a b fault.Memory same p f = f ∙ same
   words_fail m n o a b (fault.Device device.Input) same p f = f
   words_fail m n o a b fault.Short same p f = (f.0 ∙ same, of a b p f.1) where
-    of : (a b : Option (List ℕ)) → Consumes a b (front_text v h table roots log remembered []) → IfSome b (λ xs. length xs < 8 * table_words table) → IfSome a (λ xs. FaultOf xs fault.Short)
-    of None b p f = tt
+    of : (a b : Option (List ℕ)) → Consumes a b (front_text v h table roots log remembered []) → IfSome b (λ xs. length xs < 8 * table_words table) → HoldsOfLeft a (λ xs. FaultOf xs fault.Short)
+    of None b p f = ([], none_are_short, tt)
     of (Some x) None p f = absurd p
-    of (Some x) (Some y) p f = subst (λ l. FaultOf l fault.Short) (front_text-flat v h table roots log remembered y ∙ sym p) (front_short v h table roots log remembered y fits f)
+    of (Some x) (Some y) p f = (x, subst (λ l. FaultOf l fault.Short) (front_text-flat v h table roots log remembered y ∙ sym p) (front_short v h table roots log remembered y fits f), refl)
   words_fail m n o a b _ same p f = absurd f
 
   -- the front and the words were taken
@@ -135,8 +133,9 @@ module _ (v : Version) (h : Heading) (table : List Entry) (roots log : List ℕ)
 
     -- and bytes wait behind them
     pub bytes_behind : (a b c l : Option (List ℕ)) (w : List ℕ) → Consumes a b (front_text v h table roots log remembered []) → Consumes b c bs → Keeps c (prepend_known w l) → 0 < length w →
-        IfSome a (λ xs. FaultOf xs fault.Trailing)
-    bytes_behind None b c l w p q kept lt = tt
+        HoldsOfLeft a (λ xs. FaultOf xs fault.Trailing)
+    bytes_behind None b c l w p q kept lt =
+        (front_text v h table roots log remembered bs ++ w, plain_trailing (front_text v h table roots log remembered bs) v h table roots log remembered bs w whole_text lt, tt)
     bytes_behind (Some x) None c l w p q kept lt = absurd p
     bytes_behind (Some x) (Some y) None l w p q kept lt = absurd q
     bytes_behind (Some x) (Some y) (Some z) None w p q kept lt = absurd kept
@@ -144,8 +143,8 @@ module _ (v : Version) (h : Heading) (table : List Entry) (roots log : List ℕ)
         let all : x ≡ front_text v h table roots log remembered bs ++ (w ++ u) =
         p ∙ ap (λ k. front_text v h table roots log remembered [] ++ k) (q ∙ ap (λ k. bs ++ k) (sym kept))
         ∙ sym (append_assoc (front_text v h table roots log remembered []) bs (w ++ u)) ∙ ap (λ k. k ++ (w ++ u)) (sym (front_text-flat v h table roots log remembered bs)) in
-        subst (λ k. FaultOf k fault.Trailing) (sym all)
-        (plain_trailing (front_text v h table roots log remembered bs) v h table roots log remembered bs (w ++ u) whole_text (omega (arith, lt, length-append w u)))
+        let trails = plain_trailing (front_text v h table roots log remembered bs) v h table roots log remembered bs (w ++ u) whole_text (omega (arith, lt, length-append w u)) in
+        (x, subst (λ k. FaultOf k fault.Trailing) (sym all) trails, refl)
 
     -- and none do
     pub all_taken : (a b c l : Option (List ℕ)) (w : List ℕ) → Consumes a b (front_text v h table roots log remembered []) → Consumes b c bs → Keeps c (prepend_known w l) → IsAtEnd l → length w < 1 →
@@ -158,11 +157,6 @@ module _ (v : Version) (h : Heading) (table : List Entry) (roots log : List ℕ)
     all_taken (Some x) (Some y) (Some z) (Some u) [] p q kept end lt =
         p ∙ ap (λ k. front_text v h table roots log remembered [] ++ k) (q ∙ ap (λ k. bs ++ k) (sym kept ∙ end) ∙ append-nil bs) ∙ sym (front_text-flat v h table roots log remembered bs)
 
--- what holds of the bytes that were told holds of all
-pub of_all : (a : Option (List ℕ)) (bytes : List ℕ) (P : List ℕ → Type 0) → IfSome a (λ xs. xs ≡ bytes) → P bytes → IfSome a P
-of_all None bytes P e h = tt
-of_all (Some x) bytes P e h = subst P (sym e) h
-
 -- where none waits, what is left is still to be taken
 pub none_waits : (w : List ℕ) (a : Option (List ℕ)) → w ≡ [] → prepend_known w a ≡ a
 none_waits w a e = ap (λ x. prepend_known x a) e ∙ prepend_known-nil a
@@ -173,9 +167,14 @@ no_input bytes (inl p) = absurd (let clash : fault.Device device.Input ≡ fault
 no_input bytes (inr f) = f.3
 
 -- nor of the output
-pub no_output : (bytes : List ℕ) (e : Fault) → MayFail bytes e → e ≢ fault.Device device.Output
+no_output : (bytes : List ℕ) (e : Fault) → MayFail bytes e → e ≢ fault.Device device.Output
 no_output bytes e (inl p) q = absurd (let clash : fault.Device device.Output ≡ fault.Memory = sym q ∙ p in cc)
 no_output bytes e (inr f) q = (subst (FaultOf bytes) q f).3
+
+-- so a read has none of the output, whatever its source
+pub unread_no_output : (left : Option (List ℕ)) (e : Fault) → (e ≡ fault.Device device.Input) ⊎ HoldsOfLeft left (λ xs. MayFail xs e) → e ≢ fault.Device device.Output
+unread_no_output left e (inl p) q = absurd (let clash : fault.Device device.Output ≡ fault.Device device.Input = sym q ∙ p in cc)
+unread_no_output left e (inr h) q = no_output h.0 e h.1 q
 
 -- an answer that the bytes decide leaves the mark
 pub mark_stays : {X : Type 0} (m n : Bool) (bytes : List ℕ) (r : Result X Fault) → IfErr r (λ e. MayFail bytes e) → n ≡ m → n ≡ input_mark m r
@@ -192,7 +191,7 @@ pub memory_fault : (bytes : List ℕ) (e : Fault) → TextFails false false (Som
 memory_fault bytes fault.Memory h = inl refl
 memory_fault bytes (fault.Device device.Input) h = absurd (let clash : false ≡ true = h in cc)
 memory_fault bytes (fault.Device device.Output) h = absurd h
-memory_fault bytes e h = inr (subst (λ l. FaultOf l e) (append-nil bytes) h.1)
+memory_fault bytes e h = inr (subst (λ l. FaultOf l e) (sym h.1.2 ∙ append-nil bytes) h.1.1)
 
 -- a source at its end was read out, whatever the answer
 pub read_out_at_end : {X : Type 0} (left : Option (List ℕ)) (r : Result X Fault) → IsAtEnd left → IsReadOut left r

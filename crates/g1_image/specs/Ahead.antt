@@ -10,6 +10,7 @@ use Rattle.g1_image.specs.Buffer.{buffered, SeesEnd}
 use Rattle.g1_image.specs.Text.{words_of}
 use Rattle.g1_image.specs.Reading.{IsBytes}
 use Rattle.g1_image.specs.Faults.{FaultOf}
+use Rattle.g1_image.specs.Source.{HoldsOfLeft}
 
 -- the bytes that wait: all that is left of a text in memory, or those that were read from a source
 abbrev pub waiting : Ahead → List ℕ
@@ -43,7 +44,7 @@ abbrev pub TextFails : Bool → Bool → Option (List ℕ) → Fault → Type 0
 TextFails old_mark new_mark old fault.Memory = new_mark ≡ old_mark
 TextFails old_mark new_mark old (fault.Device device.Input) = new_mark ≡ true
 TextFails old_mark new_mark old (fault.Device device.Output) = ⊥
-TextFails old_mark new_mark old e = (new_mark ≡ old_mark) × IfSome old (λ xs. FaultOf xs e)
+TextFails old_mark new_mark old e = (new_mark ≡ old_mark) × HoldsOfLeft old (λ xs. FaultOf xs e)
 
 -- the words of a region whose used words these bytes are
 abbrev pub region_words : ℕ → ℕ → List ℕ → List ℕ

@@ -1,5 +1,5 @@
--- What a source of bytes says of its mark, and what a read to its end says of the mark and the end.
-use Rattle.std.specs.Prelude.{◌≡◌, ℕ, Bool, true, List, Option, Result, Ok, Err, ⊤}
+-- What a source of bytes says of its mark, and what a read to its end says of the bytes, the mark and the end.
+use Rattle.std.specs.Prelude.{◌≡◌, ℕ, Bool, true, List, Option, Result, Ok, Err, IfSome, ⊤}
 use Rattle.std.specs.Io.KnownBytes.{IsAtEnd}
 use Rattle.g1_words.specs.declared.fault.Fault.{Fault}
 use Rattle.g1_words.specs.declared.fault.Fault.TheVariants.{Memory, Device}
@@ -9,6 +9,10 @@ use Rattle.g1_words.specs.declared.fault.Device.TheVariants.{Input}
 abbrev pub marked : {X : Type 0} → Bool → Result X Fault → Bool
 marked mark (Ok x) = mark
 marked mark (Err e) = true
+
+-- P holds of the bytes that are left, or of some bytes if the source doesn't report its own
+abbrev pub HoldsOfLeft : Option (List ℕ) → (List ℕ → Type 0) → Type 0
+HoldsOfLeft left P = (bytes : List ℕ) × P bytes × IfSome left (λ xs. xs ≡ bytes)
 
 -- a read to the end fails for want of memory, the mark as before, or by a call that failed; the marks are those before and after
 abbrev pub ReadFails : Bool → Bool → Fault → Type 0

@@ -1,7 +1,7 @@
 //! The image in bytes: in memory, or in a source.
 ghost use Rattle.std.specs.Prelude.{◌≡◌, ◌≢◌, ◌≤◌, ◌<◌, ◌⊎◌, ◌++◌, ℕ, List, [], length, drop, map, IfSome, OnOk, IfOk, IfErr, IsTrue, IsFalse};
 ghost use Rattle.std.specs.Io.KnownBytes.{IsAtEnd, Consumes};
-ghost use Rattle.g1_image.specs.Source.{IsReadOut, input_mark};
+ghost use Rattle.g1_image.specs.Source.{HoldsOfLeft, IsReadOut, input_mark};
 ghost use Rattle.g1_image.specs.Image.{IsTextOf};
 ghost use Rattle.g1_image.specs.Faults.{FaultOf, MayFail};
 ghost use Rattle.g1_image.specs.Front.{IsGoodFront, text_of, IsLaidOut};
@@ -85,7 +85,7 @@ fn take_parts<S: Source>(
 ) -> Result<(Front, Vec<u64>), Fault>
     requires known { KnowsEnd ahead.old (S.left source.old) }
     ensures known { KnowsEnd ahead.new (S.left source.new) }
-    ensures ok { IfOk result (λ x. (bytes : List ℕ) × IsLaidOut bytes x.0 x.1.items × IfSome (to_take ahead.old (S.left source.old)) (λ xs. xs ≡ bytes)) }
+    ensures ok { IfOk result (λ x. HoldsOfLeft (to_take ahead.old (S.left source.old)) (λ xs. IsLaidOut xs x.0 x.1.items)) }
     ensures end { OnOk result (IsAtEnd (S.left source.new)) }
     ensures mark { OnOk result (S.failed source.new ≡ S.failed source.old) }
     ensures err { IfErr result (TextFails (S.failed source.old) (S.failed source.new) (to_take ahead.old (S.left source.old))) }
@@ -100,9 +100,8 @@ fn take_parts<S: Source>(
 
 /// The front and the words of the text that is left in a source, read to its end.
 fn read_parts<S: Source>(alloc: Global, source: &mut S) -> Result<(Front, Vec<u64>), Fault>
-    ensures ok { IfOk result (λ x. (bytes : List ℕ) × IsLaidOut bytes x.0 x.1.items × IfSome (S.left source.old) (λ xs. xs ≡ bytes)) }
-    ensures err { IfErr result (λ e. (e ≡ Fault.Device Device.Input) ⊎ IfSome (S.left source.old) (λ xs. MayFail xs e)) }
-    ensures no_output { IfErr result (λ e. e ≢ Fault.Device Device.Output) }
+    ensures ok { IfOk result (λ x. HoldsOfLeft (S.left source.old) (λ xs. IsLaidOut xs x.0 x.1.items)) }
+    ensures err { IfErr result (λ e. (e ≡ Fault.Device Device.Input) ⊎ HoldsOfLeft (S.left source.old) (λ xs. MayFail xs e)) }
     ensures end { IsReadOut (S.left source.new) result }
     ensures marks { S.failed source.new ≡ input_mark (S.failed source.old) result }
 {
@@ -135,15 +134,15 @@ pub fn decode(alloc: Global, bytes: &[u8]) -> Result<Image, Fault>
 
 /// The image whose text is left in a source, read to its end: as `decode` of those bytes, but the words
 /// go straight to their places, and the text is never in memory as a whole. Their list grows with the
-/// words that are there: a short text that announces a large heap takes no room for it.
+/// words that are there: a short text that announces a large heap takes no room for it. If the source
+/// does not report its bytes, this is the image, or the fault, of some bytes.
 ///
 /// # Errors
 ///
 /// `Fault::Device(Device::Input)` if a read failed, `Fault::Memory`, and the fault of the bytes.
 pub fn read<S: Source>(alloc: Global, source: &mut S) -> Result<Image, Fault>
-    ensures ok { IfOk result (λ i. IfSome (S.left source.old) (λ xs. IsTextOf xs i)) }
-    ensures err { IfErr result (λ e. (e ≡ Fault.Device Device.Input) ⊎ IfSome (S.left source.old) (λ xs. MayFail xs e)) }
-    ensures no_output { IfErr result (λ e. e ≢ Fault.Device Device.Output) }
+    ensures ok { IfOk result (λ i. HoldsOfLeft (S.left source.old) (λ xs. IsTextOf xs i)) }
+    ensures err { IfErr result (λ e. (e ≡ Fault.Device Device.Input) ⊎ HoldsOfLeft (S.left source.old) (λ xs. MayFail xs e)) }
     ensures end { IsReadOut (S.left source.new) result }
     ensures marks { S.failed source.new ≡ input_mark (S.failed source.old) result }
 {
@@ -166,9 +165,8 @@ pub fn read_by<S: Source>(
     source: &mut S,
     workers: u64,
 ) -> Result<Image, Fault>
-    ensures ok { IfOk result (λ i. IfSome (S.left source.old) (λ xs. IsTextOf xs i)) }
-    ensures err { IfErr result (λ e. (e ≡ Fault.Device Device.Input) ⊎ IfSome (S.left source.old) (λ xs. MayFail xs e)) }
-    ensures no_output { IfErr result (λ e. e ≢ Fault.Device Device.Output) }
+    ensures ok { IfOk result (λ i. HoldsOfLeft (S.left source.old) (λ xs. IsTextOf xs i)) }
+    ensures err { IfErr result (λ e. (e ≡ Fault.Device Device.Input) ⊎ HoldsOfLeft (S.left source.old) (λ xs. MayFail xs e)) }
     ensures end { IsReadOut (S.left source.new) result }
     ensures marks { S.failed source.new ≡ input_mark (S.failed source.old) result }
 {

@@ -1,5 +1,5 @@
 -- No pause of an image names a device, so a run that is refused gives what it may.
-use Rattle.std.proofs.Common.{◌≡◌, ◌≢◌, ℕ, ◌⊎◌, inl, inr, Bool, List, ◌∷◌, Option, Some, None, IfSome, Result, Ok, Err, refl, sym, ◌∙◌, subst}
+use Rattle.std.proofs.Common.{◌≡◌, ◌≢◌, ℕ, ◌⊎◌, inl, inr, Bool, List, [], ◌∷◌, Option, Some, None, Result, Ok, Err, refl, sym, ◌∙◌, subst}
 use Rattle.std.specs.Io.KnownBytes.{IsAtEnd}
 use Rattle.std.specs.Prelude.{slice_index}
 use Rattle.std.proofs.KnownBytes.{Keeps-refl}
@@ -18,7 +18,7 @@ use Rattle.g1_choose.specs.declared.parameters.Cost.{Cost}
 use Rattle.g1_pause.specs.declared.settings.Choice.{Choice}
 use Rattle.g1_pause.specs.declared.settings.Choice.TheVariants.{Budget, Given}
 use Rattle.g1_pause.specs.Answer.{FaultOfChoice, IsEvacuated, bad_set, IsAnswer, unread}
-use Rattle.g1_pause.specs.Streams.{RunGives, WritesNoFault, input_mark, output_mark}
+use Rattle.g1_pause.specs.Streams.{HoldsOfLeft, RunGives, input_mark, output_mark}
 
 chosen : (h : Heap) (choice : Choice) (d : Device) → FaultOfChoice h choice (fault.Device d) → ⊥
 chosen h (Budget b) d bad = bad
@@ -55,19 +55,18 @@ answered cost choice xs old (fault.Device device.Output) none a = absurd (none r
 answered cost choice xs old _ none a = (Keeps-refl old, a)
 
 -- the source failed, memory was wanted, or the bytes that were left are no text of an image
-pub run_unread : (cost : Cost) (choice : Choice) (left old : Option (List ℕ)) (e : Fault) → e ≢ fault.Device device.Output → (e ≡ fault.Device device.Input) ⊎ IfSome left (λ xs. MayFail xs e)
-    → IfSome left (λ xs. RunGives cost choice xs old old (Err e))
-run_unread cost choice None old e none h = tt
-run_unread cost choice (Some xs) old e none (inl p) = subst (λ f. RunGives cost choice xs old old (Err f)) (sym p) (Keeps-refl old)
-run_unread cost choice (Some xs) old e none (inr (inl p)) = subst (λ f. RunGives cost choice xs old old (Err f)) (sym p) (Keeps-refl old)
-run_unread cost choice (Some xs) old e none (inr (inr f)) = answered cost choice xs old e none (unread f)
+pub run_unread : (cost : Cost) (choice : Choice) (left old : Option (List ℕ)) (e : Fault) → e ≢ fault.Device device.Output → (e ≡ fault.Device device.Input) ⊎ HoldsOfLeft left (λ xs. MayFail xs e)
+    → HoldsOfLeft left (λ xs. RunGives cost choice xs old old (Err e))
+run_unread cost choice None old e none (inl p) = ([], subst (λ f. RunGives cost choice [] old old (Err f)) (sym p) (Keeps-refl old), tt)
+run_unread cost choice (Some xs) old e none (inl p) = (xs, subst (λ f. RunGives cost choice xs old old (Err f)) (sym p) (Keeps-refl old), refl)
+run_unread cost choice left old e none (inr (xs, inl p, is)) = (xs, subst (λ f. RunGives cost choice xs old old (Err f)) (sym p) (Keeps-refl old), is)
+run_unread cost choice left old e none (inr (xs, inr f, is)) = (xs, answered cost choice xs old e none (unread f), is)
 
 -- the image that was read is refused
-pub run_refused : (cost : Cost) (choice : Choice) (left old : Option (List ℕ)) (i : Image) (e : Fault) → ((d : Device) → e ≢ fault.Device d) → IfSome left (λ xs. IsTextOf xs i)
-    → (e ≡ fault.Memory) ⊎ ((bytes : List ℕ) → IsTextOf bytes i → IsAnswer cost choice bytes (Err e)) → IfSome left (λ xs. RunGives cost choice xs old old (Err e))
-run_refused cost choice None old i e none t h = tt
-run_refused cost choice (Some xs) old i e none t (inl p) = subst (λ f. RunGives cost choice xs old old (Err f)) (sym p) (Keeps-refl old)
-run_refused cost choice (Some xs) old i e none t (inr a) = answered cost choice xs old e (none device.Output) (a xs t)
+pub run_refused : (cost : Cost) (choice : Choice) (left old : Option (List ℕ)) (i : Image) (e : Fault) → ((d : Device) → e ≢ fault.Device d) → HoldsOfLeft left (λ xs. IsTextOf xs i)
+    → (e ≡ fault.Memory) ⊎ ((bytes : List ℕ) → IsTextOf bytes i → IsAnswer cost choice bytes (Err e)) → HoldsOfLeft left (λ xs. RunGives cost choice xs old old (Err e))
+run_refused cost choice left old i e none t (inl p) = (t.0, subst (λ f. RunGives cost choice t.0 old old (Err f)) (sym p) (Keeps-refl old), t.2)
+run_refused cost choice left old i e none t (inr a) = (t.0, answered cost choice t.0 old e (none device.Output) (a t.0 t.1), t.2)
 
 -- the text of the image after being what is sent to the sink, the answer stands, or where the output failed a beginning of it
 gives : (cost : Cost) (choice : Choice) (xs text : List ℕ) (old new : Option (List ℕ)) (r : Result (Unit {0}) Fault) →
@@ -77,18 +76,10 @@ gives cost choice xs text old new (Err fault.Memory) a w = w
 gives cost choice xs text old new (Err (fault.Device device.Output)) a w = (text, w.0, a, w.1, w.2)
 gives cost choice xs text old new (Err _) a w = absurd w
 
-pub run_written : (cost : Cost) (choice : Choice) (left old new : Option (List ℕ)) (i j l : Image) (r : Result (Unit {0}) Fault) → IfSome left (λ xs. IsTextOf xs i)
+pub run_written : (cost : Cost) (choice : Choice) (left old new : Option (List ℕ)) (i j l : Image) (r : Result (Unit {0}) Fault) → HoldsOfLeft left (λ xs. IsTextOf xs i)
     → ((bytes out : List ℕ) → IsTextOf bytes i → IsTextIn Two out j → IsAnswer cost choice bytes (Ok out)) → l ≡ j → (text : List ℕ) → IsTextIn Two text l → Writes text old new r
-    → IfSome left (λ xs. RunGives cost choice xs old new r)
-run_written cost choice None old new i j l r t told after text is w = tt
-run_written cost choice (Some xs) old new i j l r t told after text is w = gives cost choice xs text old new r (told xs text t (subst (IsTextIn Two text) after is)) w
-
--- a run that is refused before it writes keeps what was written
-pub unwritten : (old : Option (List ℕ)) (e : Fault) → WritesNoFault {X = Unit {0}} old old (Err e)
-unwritten old fault.Memory = Keeps-refl old
-unwritten old (fault.Device device.Input) = Keeps-refl old
-unwritten old (fault.Device device.Output) = tt
-unwritten old _ = Keeps-refl old
+    → HoldsOfLeft left (λ xs. RunGives cost choice xs old new r)
+run_written cost choice left old new i j l r t told after text is w = (t.0, gives cost choice t.0 text old new r (told t.0 text t.1 (subst (IsTextIn Two text) after is)) w, t.2)
 
 -- the mark that a refused read leaves is the run's
 pub same_input : (mark : Bool) (e : Fault) → input_mark {X = Image} mark (Err e) ≡ input_mark {X = Unit {0}} mark (Err e)
@@ -107,13 +98,7 @@ read_out left (Err fault.Memory) end = tt
 read_out left (Err (fault.Device device.Input)) end = tt
 read_out left _ end = end
 
--- what was sent to the sink is no fault of the input's, and is nothing where memory was wanted
-pub sent_keeps : (text : List ℕ) (old new : Option (List ℕ)) (r : Result (Unit {0}) Fault) → Writes text old new r → WritesNoFault old new r
-sent_keeps text old new (Ok u) w = tt
-sent_keeps text old new (Err fault.Memory) w = w
-sent_keeps text old new (Err (fault.Device device.Output)) w = tt
-sent_keeps text old new (Err _) w = absurd w
-
+-- what was sent to the sink is no fault of the input's
 pub sent_input : (text : List ℕ) (old new : Option (List ℕ)) (r : Result (Unit {0}) Fault) (mark : Bool) → Writes text old new r → mark ≡ input_mark mark r
 sent_input text old new (Err (fault.Device device.Input)) mark w = absurd w
 sent_input text old new (Err fault.Memory) mark w = refl

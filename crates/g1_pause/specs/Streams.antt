@@ -1,5 +1,5 @@
 -- What a whole run over a source and a sink gives.
-use Rattle.std.specs.Prelude.{ℕ, ◌<◌, List, length, take, Option, Result, Ok, Err, ⊤}
+use Rattle.std.specs.Prelude.{ℕ, ◌<◌, List, length, take, Option, Result, Ok, Err}
 use Rattle.std.specs.Io.KnownBytes.{Appends, Keeps}
 use Rattle.g1_words.specs.declared.fault.Fault.{Fault}
 use Rattle.g1_words.specs.declared.fault.Fault.TheVariants.{Memory, Device}
@@ -7,14 +7,8 @@ use Rattle.g1_words.specs.declared.fault.Device.TheVariants.{Input, Output}
 use Rattle.g1_choose.specs.declared.parameters.Cost.{Cost}
 use Rattle.g1_pause.specs.declared.settings.Choice.{Choice}
 use Rattle.g1_pause.specs.Answer.{IsAnswer}
-pub use Rattle.g1_image.specs.Source.{input_mark}
+pub use Rattle.g1_image.specs.Source.{HoldsOfLeft, input_mark}
 pub use Rattle.g1_image.specs.Sink.{output_mark}
-
--- a run that is refused wrote nothing, but where the output failed; the bytes written are those before and after
-abbrev pub WritesNoFault : {X : Type 0} → Option (List ℕ) → Option (List ℕ) → Result X Fault → Type 0
-WritesNoFault old new (Ok x) = ⊤
-WritesNoFault old new (Err (Device Output)) = ⊤
-WritesNoFault old new (Err e) = Keeps old new
 
 -- WHAT A RUN GIVES, by the bytes xs that were left to read, and those written before and after: the answer to xs stands
 -- appended; or the output failed, and a beginning of that answer stands; or the input failed or memory was wanted, and nothing

@@ -1,7 +1,7 @@
 //! A pause from a source to a sink.
-ghost use Rattle.std.specs.Prelude.{◌≡◌, IfSome};
+ghost use Rattle.std.specs.Prelude.{◌≡◌};
 ghost use Rattle.g1_image.specs.Source.{IsReadOut};
-ghost use Rattle.g1_pause.specs.Streams.{RunGives, WritesNoFault, input_mark, output_mark};
+ghost use Rattle.g1_pause.specs.Streams.{HoldsOfLeft, RunGives, input_mark, output_mark};
 
 use crate::bytes::run_pause;
 use crate::settings::Settings;
@@ -14,7 +14,7 @@ use std::thread::Threads;
 
 /// The whole pause from a source to a sink: reads the text of an image to its end, then writes the
 /// text of the image after, both in pieces (`g1_image::read_by`, `g1_image::write`). A sink that keeps
-/// bytes back is not flushed.
+/// bytes back is not flushed. If the source does not report its bytes, this is the run for some bytes.
 ///
 /// # Errors
 ///
@@ -29,9 +29,8 @@ pub fn pause_run<R: Threads + Sync, I: Source, O: Sink, G: Gate + Sync>(
     settings: &Settings,
     gate: &G,
 ) -> Result<(), Fault>
-    ensures answer { IfSome (I.left reader.old) (λ xs. RunGives settings.now.cost settings.now.choice xs (O.written writer.old) (O.written writer.new) result) }
+    ensures answer { HoldsOfLeft (I.left reader.old) (λ xs. RunGives settings.now.cost settings.now.choice xs (O.written writer.old) (O.written writer.new) result) }
     ensures end { IsReadOut (I.left reader.new) result }
-    ensures unwritten { WritesNoFault (O.written writer.old) (O.written writer.new) result }
     ensures input { I.failed reader.new ≡ input_mark (I.failed reader.old) result }
     ensures output { O.failed writer.new ≡ output_mark (O.failed writer.old) result }
 {

@@ -4,10 +4,10 @@ use Rattle.std.proofs.lemmas.Result.{err_from_is_err_and}
 use Rattle.g1_words.specs.declared.fault.Fault.TheVariants as fault
 use Rattle.g1_words.specs.declared.fault.Device.TheVariants as device
 use Rattle.g1_image.specs.declared.plain.Front.{Front}
-use Rattle.g1_image.specs.Ahead.{waiting, to_take, TextFails}
+use Rattle.g1_image.specs.Ahead.{waiting, TextFails}
 use Rattle.g1_image.specs.Faults.{MayFail}
-use Rattle.g1_image.specs.Source.{IsReadOut}
-use Rattle.g1_image.proofs.Told.{none_waits, read_fails, read_out_at_end, read_out_failed, not_read_out, text_mark, text_unmarked, text_may, text_no_output}
+use Rattle.g1_image.specs.Source.{HoldsOfLeft, IsReadOut}
+use Rattle.g1_image.proofs.Told.{none_waits, read_fails, read_out_at_end, read_out_failed, not_read_out, text_mark, text_unmarked, text_may}
 use Rattle.g1_image.proofs.streaming.read_parts.Goals as goal
 use Rattle.g1_image.proofs.streaming.read_parts.Goals.{then-is_of_bytes+in_ok-drain-in-Err, else-is_of_bytes}
 use Rattle.g1_image.proofs.streaming.read_parts.Goals.{Joined-ahead-2}
@@ -46,11 +46,6 @@ returns-in_err-drain-in-Err-clause-err g c =
     let same = err_from_is_err_and c.from_residual.result c.from_residual.ensures.1 in
     rw (same.1, same.2) (text_may _ _ _ c.in_err-drain-in-Err.field-0.0 (drain_fails g c))
 
-pub returns-in_err-drain-in-Err-clause-no_output : goal.returns-in_err-drain-in-Err-clause-no_output
-returns-in_err-drain-in-Err-clause-no_output g c =
-    let same = err_from_is_err_and c.from_residual.result c.from_residual.ensures.1 in
-    rw (same.1, same.2) (text_no_output _ _ _ c.in_err-drain-in-Err.field-0.0 (drain_fails g c))
-
 pub returns-in_err-drain-in-Err-clause-end : goal.returns-in_err-drain-in-Err-clause-end
 returns-in_err-drain-in-Err-clause-end g c =
     let same = err_from_is_err_and c.from_residual.result c.from_residual.ensures.1 in
@@ -65,11 +60,8 @@ pub returns-clause-err : goal.returns-clause-err
 returns-clause-err g c =
     let left = g.S.Source.left c.args.source.now in
     let e = c.in-Err.fault in
-    subst (λ a. (e ≡ fault.Device device.Input) ⊎ IfSome a (λ xs. MayFail xs e)) (none_waits (waiting c.nothing-ahead.result) left c.nothing-ahead.ensures.none)
+    subst (λ a. (e ≡ fault.Device device.Input) ⊎ HoldsOfLeft a (λ xs. MayFail xs e)) (none_waits (waiting c.nothing-ahead.result) left c.nothing-ahead.ensures.none)
     (text_may _ _ _ e c.in-Err.ensures.err)
-
-pub returns-clause-no_output : goal.returns-clause-no_output
-returns-clause-no_output g c = text_no_output _ _ _ c.in-Err.fault c.in-Err.ensures.err
 
 pub returns-clause-end : goal.returns-clause-end
 returns-clause-end g c = elim c.if-is_of_bytes.branch [

@@ -1,24 +1,20 @@
 use Rattle.std.proofs.Common.{◌∙◌, Err}
 use Rattle.std.proofs.lemmas.Result.{err_from_is_err_and}
 use Rattle.g1_words.specs.declared.fault.Device.TheVariants as device
-use Rattle.g1_pause.proofs.NoDevice.{leaves_input, leaves_output, run_unread, run_refused, run_written, unwritten, same_input, same_end, read_out, sent_keeps, sent_input}
+use Rattle.g1_image.proofs.Told.{unread_no_output}
+use Rattle.g1_pause.proofs.NoDevice.{leaves_input, leaves_output, run_unread, run_refused, run_written, same_input, same_end, read_out, sent_input}
 use Rattle.g1_pause.proofs.run_streams.pause_run.Goals as goal
 
 pub returns-in_err-before-clause-answer : goal.returns-in_err-before-clause-answer
 returns-in_err-before-clause-answer g c =
     let same = err_from_is_err_and c.from_residual.result c.from_residual.ensures.1 in
     rw (same.1, same.2) (run_unread c.args.settings.now.cost c.args.settings.now.choice (g.I.Source.left c.args.reader.now)
-    (g.O.Sink.written c.args.writer.now) c.in_err-before.field-0.0 c.in_err-before.ensures.no_output c.in_err-before.ensures.err)
+    (g.O.Sink.written c.args.writer.now) c.in_err-before.field-0.0 (unread_no_output _ _ c.in_err-before.ensures.err) c.in_err-before.ensures.err)
 
 pub returns-in_err-before-clause-output : goal.returns-in_err-before-clause-output
 returns-in_err-before-clause-output g c =
     let same = err_from_is_err_and c.from_residual.result c.from_residual.ensures.1 in
-    rw (same.1, same.2) (leaves_output (g.O.Sink.failed c.args.writer.now) c.in_err-before.field-0.0 c.in_err-before.ensures.no_output)
-
-pub returns-in_err-before-clause-unwritten : goal.returns-in_err-before-clause-unwritten
-returns-in_err-before-clause-unwritten g c =
-    let same = err_from_is_err_and c.from_residual.result c.from_residual.ensures.1 in
-    rw (same.1, same.2) (unwritten (g.O.Sink.written c.args.writer.now) c.in_err-before.field-0.0)
+    rw (same.1, same.2) (leaves_output (g.O.Sink.failed c.args.writer.now) c.in_err-before.field-0.0 (unread_no_output _ _ c.in_err-before.ensures.err))
 
 pub returns-in_err-before-clause-input : goal.returns-in_err-before-clause-input
 returns-in_err-before-clause-input g c =
@@ -32,11 +28,6 @@ returns-in_err-before-clause-end g c =
 
 pub returns-in-Ok-clause-end : goal.returns-in-Ok-clause-end
 returns-in-Ok-clause-end g c = read_out (g.I.Source.left c.read_by.new.source) c.write.result c.in_ok-before.ensures.end
-
-pub returns-in-Ok-clause-unwritten : goal.returns-in-Ok-clause-unwritten
-returns-in-Ok-clause-unwritten g c =
-    let text = c.write.ensures.text in
-    sent_keeps text.0 (g.O.Sink.written c.args.writer.now) (g.O.Sink.written c.write.new.sink) c.write.result text.2
 
 pub returns-in-Ok-clause-input : goal.returns-in-Ok-clause-input
 returns-in-Ok-clause-input g c =
@@ -66,6 +57,3 @@ returns-in-Err-clause-output g c = leaves_output (g.O.Sink.failed c.args.writer.
 
 pub returns-in-Err-clause-end : goal.returns-in-Err-clause-end
 returns-in-Err-clause-end g c = read_out (g.I.Source.left c.read_by.new.source) (Err c.in-Err.fault) c.in_ok-before.ensures.end
-
-pub returns-in-Err-clause-unwritten : goal.returns-in-Err-clause-unwritten
-returns-in-Err-clause-unwritten g c = unwritten (g.O.Sink.written c.args.writer.now) c.in-Err.fault
