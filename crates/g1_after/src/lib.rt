@@ -11,7 +11,8 @@
 //!    objects that nothing references in it, freed all at once.
 //! 4. `Made` writes both images out. There is one moved image, and one image after.
 //! 5. The moved image has the kept objects. The image after has those of them that weren't freed.
-//!    Both are valid, and covered with an empty log, so a further pause may follow.
+//!    Both heaps are valid. If the image before was covered, both are covered with an empty log, so a
+//!    further pause may follow.
 //! 6. In both, the roots lead to the same graph, and nothing leads into the set. In the image after,
 //!    nothing leads into a freed run.
 //!

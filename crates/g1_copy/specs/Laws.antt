@@ -41,12 +41,12 @@ WrittenInPlace = (i : Image) (set l : List ℕ) → IsValid i.heap → HasRoom i
     → words_after i.heap.geometry.w (set ++ unnamed_regions (heap_moved i.heap set l)) (to_space i.heap l) (to_space_words i.heap l) (all_patches i.heap set l) i.heap.words
     ≡ (image_paused i set l).heap.words
 
--- the cards that are exact for a region of to-space after the pause are those of the patches and the copied slots that lead into it
+-- the cards that are exact for a region of to-space once the survivors have moved are those of the patches and the copied slots that lead into it
 abbrev pub CardsOfToSpace : Type 0
 CardsOfToSpace = (h : Heap) (set l : List ℕ) → IsValid h → HasRoom h set l → (r c : ℕ) → IsTrue (has (to_space h l) r)
     → is_exact (heap_moved h set l) r c ≡ (is_linked h (all_patches h set l) r c || is_linked h (copied_slots h l) r c)
 
--- the to-space cards that are exact for a region after the pause are those of the copied slots that lead into it
+-- the to-space cards that are exact for a region once the survivors have moved are those of the copied slots that lead into it
 abbrev pub CardsInToSpace : Type 0
 CardsInToSpace = (h : Heap) (set l : List ℕ) → IsValid h → HasRoom h set l → (r c : ℕ)
     → (card_in h (to_space h l) c && is_exact (heap_moved h set l) r c) ≡ is_linked h (copied_slots h l) r c

@@ -23,7 +23,8 @@ pub fn gathered()
     ensures elsewhere { GatheredElsewhere }
 {}
 
-/// Which slots the exact cards of the heap come from after the survivors moved.
+/// Which slots the exact cards of to-space, and those for its regions, come from once the survivors
+/// have moved.
 pub fn cards_moved()
     ensures of_to_space { CardsOfToSpace }
     ensures in_to_space { CardsInToSpace }

@@ -4,7 +4,7 @@
 //! 1. `gather` makes the words of to-space: each survivor at its place, its references renamed.
 //! 2. `patches` lists the slots outside the set that reference a survivor, with their new words: those
 //!    on the cards that lead into the set (`cards_into` of `g1_rem`).
-//! 3. `new_rem` makes the remembered sets of the image after the pause.
+//! 3. `new_rem` makes the remembered sets of the image once the survivors have moved.
 //! 4. `prepare` joins these, and `prepare_on` does so for a caller that has listed the cards. It
 //!    finds the humongous objects that nothing references once the survivors have moved: no root
 //!    does, and no slot on a card of their remembered sets outside their own regions. Their regions are

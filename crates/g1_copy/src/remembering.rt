@@ -108,7 +108,7 @@ impl Make for Joining<'_> {
     }
 }
 
-/// The remembered sets after the pause, one a region.
+/// The remembered sets once the survivors have moved, one a region.
 fn join_all(
     rt: &(impl Threads + Sync),
     alloc: Global,
@@ -138,7 +138,7 @@ pub(crate) struct Changes<'a> {
     pub(crate) gathered: &'a [u64],
 }
 
-/// The remembered sets after the pause, by the fates of the regions.
+/// The remembered sets once the survivors have moved, by the fates of the regions.
 pub(crate) fn remembered_by_fate(
     rt: &(impl Threads + Sync),
     alloc: Global,
@@ -168,7 +168,7 @@ pub(crate) fn remembered_by_fate(
     join_all(rt, alloc, &joining, workers)
 }
 
-/// The remembered sets after the pause, one a region: of a region of the set none; of one of
+/// The remembered sets once the survivors have moved, one a region: of a region of the set none; of one of
 /// to-space the cards of slots elsewhere that now reference an object in it; of any other its refined
 /// set without the set's cards, and the to-space cards that hold a slot which references an object in
 /// it.

@@ -70,8 +70,9 @@ fn push_parts(out: &mut Vec<u8>, parts: &FileParts<'_>) -> Result<(), AllocError
     push_remembered(out, parts.remembered)
 }
 
-/// The bytes of parts and of the used words behind them, of version 2. They are good only if the parts are an
-/// image's; `decode` finds the fault of others.
+/// The bytes of parts and of the used words behind them, of version 2. If the parts are an image's, these are
+/// its text. Others are not judged: their bytes may have a fault, which `decode` reports, or be the text of
+/// another image, if `current` is no region or the lists do not have an entry for each region.
 ///
 /// # Errors
 ///

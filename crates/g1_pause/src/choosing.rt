@@ -34,8 +34,8 @@ pub struct Bought {
     pub taken: usize,
 }
 
-/// The collection set: what the budget buys, or the regions that are given. Only a budget asks for the
-/// live bytes.
+/// The collection set: what the budget buys, or the regions that are given. Live bytes are counted for
+/// a budget alone.
 ///
 /// # Errors
 ///

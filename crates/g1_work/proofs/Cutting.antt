@@ -56,6 +56,7 @@ module _ (n ranges : ℕ) (begins : List ℕ) (next : ℕ) (c : IsCutTo n ranges
   -- the end, after the last one
   pub cut_end : (x all : ℕ) → x ≡ n → ranges ≡ all → 0 < ranges → IsCut n all (begins ++ x ∷ [])
   cut_end x all e same some = subst (λ m. IsCut n m (begins ++ x ∷ [])) same (record {
+    count = length-append begins (x ∷ []) ∙ ap (λ n. n + 1) c.one_each;
     first = old x 0 some ∙ c.first some;
     last = new x ranges refl ∙ e;
     each = λ j lt.

@@ -19,6 +19,7 @@ pub record IsRange (n : ℕ) (begins : List ℕ) (j : ℕ) : Type 0 where
 
 -- the list has where each range of the regions below n begins, and at last where the last one ends
 pub record IsCut (n ranges : ℕ) (begins : List ℕ) : Type 0 where
+  pub count : length begins ≡ ranges + 1
   pub first : slice_index begins 0 ≡ 0
   pub last : slice_index begins ranges ≡ n
   pub each : (j : ℕ) → j < ranges → IsRange n begins j
