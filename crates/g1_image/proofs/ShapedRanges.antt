@@ -116,6 +116,7 @@ module _ (h : Heap) (ranges j begin : ℕ) (begins : List ℕ) (lt : j < ranges)
       let same : length (set begins j begin) ≡ length begins = simp length-set in
       record {
         cut = record {
+          count = same ∙ c.cut.count;
           first = elim (cases_eq 0 j) [
             | inl e ↦ omega (arith, here 0 e, is.order, ap (slice_index begins) e, c.cut.first)
             | inr ne ↦ there 0 ne ∙ c.cut.first
