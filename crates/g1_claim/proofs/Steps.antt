@@ -9,7 +9,8 @@ use lib.ListN.{get_elem?}
 use Rattle.atomic_table.specs.Table.{step, keeps, Allows, Splits, Joins}
 use Rattle.atomic_table.proofs.Lists.{at_set, at_snoc, set_again, set_here, set_else}
 use Rattle.g1_claim.specs.declared.rule.Hand.{Hand}
-use Rattle.g1_claim.specs.Claims.{empty, offer, sight, least_rank, least_value, one_if, times_offered, times_won, IsWordOf, IsWonOnce, IsSettled}
+use Rattle.g1_claim.specs.declared.rule.Sight.{Sight}
+use Rattle.g1_claim.specs.Claims.{empty, offer, sight, least_rank, least_value, one_if, times_offered, times_won, IsWordOf, IsWonOnce, IsSettled, AreWon}
 use Rattle.g1_claim.specs.Rule.{hand, first_hand, hands_total, offers_at, wins_of, least_offered, AreBacked, IsWord, IsIdle, Claiming, Claimed, Sat, after_offer, after_sight, left_hand}
 use Rattle.g1_claim.specs.Rule.{right_hand, both_hands, spent_hand, Found, lowered, saw, looked, Won, Beaten, IsKnown}
 use Rattle.g1_claim.proofs.Totals.{least_rank_top, least_rank-append, least_value_top, least_value-append, times_offered-append, times_won-append, hands_total-set, hands_total-snoc}
@@ -324,8 +325,17 @@ module _ (v : Hand) (words : List ℕ) (vs : List Hand) (kept : Claiming words v
         (λ (e : times_won p (get_or words p 0) v.offers ≡ 1). inr (subst (λ (k : ℕ). times_won p k v.offers ≡ 1) w.0 e)) w.1)
         (λ far. let m = total_alone (λ u. times_offered p u.offers) 0 vs id v at refl (λ k u e s. ap (times_offered p) (kept.idle k u e s).0) alone in inl (sym m ∙ kept.outside p (omega arith)))
 
+    backed_alone : (ss : List Sight) → AreBacked ss vs → AreWon ss v.offers
+    backed_alone [] b = tt
+    backed_alone (s ∷ ss) b =
+        let w = total_alone (λ u. times_won s.place s.value u.offers) 0 vs id v at refl (λ k u e z. ap (times_won s.place s.value) (kept.idle k u e z).0) alone in
+        (⊎_elim (λ (e : s.value ≡ empty). inl e) (λ (e : wins_of s.place s.value vs ≡ 1). inr (sym w ∙ e)) b.0, backed_alone ss b.1)
+
+    pub seen : AreWon v.sights v.offers
+    seen = backed_alone v.sights (kept.backed id v at)
+
   pub known : IsKnown v
-  known = (at_most_all, once_each, settled)
+  known = (at_most_all, once_each, settled, seen)
 
 -- the calls of the table
 
@@ -380,13 +390,13 @@ stands n slots id me some_word s ruled _ at _ = let inside : 0 < length s.words 
 
 -- what is known of a new seat, and of the two that a split makes
 pub first_known : IsKnown first_hand
-first_known = (omega arith, (λ p r. omega arith), (λ all p. inl refl))
+first_known = (omega arith, (λ p r. omega arith), (λ all p. inl refl), (λ all. tt))
 
 pub left_known : (v : Hand) → 1 < v.shares → IsKnown v → IsKnown (left_hand v)
-left_known v two k = let most = k.0 in (omega arith, k.1, (λ all. absurd (omega arith)))
+left_known v two k = let most = k.0 in (omega arith, k.1, (λ all. absurd (omega arith)), (λ all. absurd (omega arith)))
 
 pub right_known : (v : Hand) → IsKnown (right_hand v)
-right_known v = (omega arith, (λ p r. omega arith), (λ all. absurd (omega arith)))
+right_known v = (omega arith, (λ p r. omega arith), (λ all. absurd (omega arith)), (λ all. tt))
 
 -- what callers learn of a step
 

@@ -70,3 +70,8 @@ IsWonOnce os = (p r : ℕ) → times_won p r os ≤ 1
 -- where all offers are in the list: at each place nobody has offered, or an offer of the least rank answered true
 abbrev pub IsSettled : List Offer → Type 0
 IsSettled os = (p : ℕ) → (times_offered p os ≡ 0) ⊎ (times_won p (least_rank p os) os ≡ 1)
+
+-- where all offers are in the list: each sight is empty, or a rank with which an offer there answered true
+abbrev pub AreWon : List Sight → List Offer → Type 0
+AreWon [] os = Unit {0}
+AreWon (s ∷ ss) os = ((s.value ≡ empty) ⊎ (times_won s.place s.value os ≡ 1)) × AreWon ss os

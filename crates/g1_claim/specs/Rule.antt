@@ -6,7 +6,7 @@ use Rattle.atomic_table.specs.Table.{State, Me, Step}
 use Rattle.g1_claim.specs.declared.rule.Offer.{Offer}
 use Rattle.g1_claim.specs.declared.rule.Sight.{Sight}
 use Rattle.g1_claim.specs.declared.rule.Hand.{Hand}
-use Rattle.g1_claim.specs.Claims.{all_shares, empty, offer, sight, least_rank, least_value, times_offered, times_won, IsWonOnce, IsSettled}
+use Rattle.g1_claim.specs.Claims.{all_shares, empty, offer, sight, least_rank, least_value, times_offered, times_won, IsWonOnce, IsSettled, AreWon}
 
 -- a hand with these parts
 abbrev pub hand : ℕ → List Offer → List Sight → List Sight → Hand
@@ -115,9 +115,10 @@ Won v p r = (words : List ℕ) × (views : List Hand) × Moment v words views ×
 abbrev pub Beaten : Hand → ℕ → ℕ → Type 0
 Beaten v p r = (n : ℕ) × (n ≤ r) × Won v p n
 
--- what each step tells of its hand: at no place two of its offers of one rank answered true, and with all shares it has an offer of the least rank of each place that answered true
+-- what each step tells of its hand: at no place two of its offers of one rank answered true, and with all shares it has an offer
+-- of the least rank of each place that answered true, and one for each value that it saw
 abbrev pub IsKnown : Hand → Type 0
-IsKnown v = (v.shares ≤ all_shares) × IsWonOnce v.offers × (v.shares ≡ all_shares → IsSettled v.offers)
+IsKnown v = (v.shares ≤ all_shares) × IsWonOnce v.offers × (v.shares ≡ all_shares → IsSettled v.offers) × (v.shares ≡ all_shares → AreWon v.sights v.offers)
 
 -- an offer that found the word `found`
 abbrev pub lowered : Step (Unit {0}) → Sat → ℕ → Sat → Type 0

@@ -1,7 +1,7 @@
 ghost use Rattle.std.specs.Prelude.{◌≡◌, ℕ, ◌+◌, ◌-◌, ◌<◌, ◌≤◌, ◌^◌, IfOk, IfErr, IsTrue, IsFalse, ltb, [], vec_len, slice_index, ◌↔◌, ◌⊎◌};
 ghost use Rattle.g1_words.specs.declared.fault.Fault.TheVariants.{Memory};
 ghost use Rattle.g1_words.specs.Geometry.{most_words};
-ghost use Rattle.g1_claim.specs.Claims.{all_shares, IsSeatOf, least_rank, least_value, IsWordOf, IsSettled, IsWonOnce};
+ghost use Rattle.g1_claim.specs.Claims.{all_shares, IsSeatOf, least_rank, least_value, IsWordOf, IsSettled, IsWonOnce, AreWon};
 ghost use Rattle.g1_claim.specs.Rule.{first_hand, after_offer, after_sight, left_hand, right_hand, both_hands, Found, Won, Beaten};
 
 use crate::rule::{BothHands, Hand, LeastWins, Look, Lower, OneShare, See};
@@ -100,6 +100,7 @@ impl Claims {
         ensures least { seat.old.hand.shares ≡ all_shares → (IsTrue result ↔ (rank < least_rank place seat.old.hand.offers)) }
         ensures once { IsWonOnce seat.new.hand.offers }
         ensures settled { seat.new.hand.shares ≡ all_shares → IsSettled seat.new.hand.offers }
+        ensures sights { seat.new.hand.shares ≡ all_shares → AreWon seat.new.hand.sights seat.new.hand.offers }
     {
         let found = self
             .table
@@ -122,6 +123,7 @@ impl Claims {
         ensures least { seat.old.hand.shares ≡ all_shares → IsWordOf place result seat.old.hand.offers }
         ensures once { IsWonOnce seat.new.hand.offers }
         ensures settled { seat.new.hand.shares ≡ all_shares → IsSettled seat.new.hand.offers }
+        ensures sights { seat.new.hand.shares ≡ all_shares → AreWon seat.new.hand.sights seat.new.hand.offers }
     {
         self.table
             .shared
@@ -156,6 +158,7 @@ impl Claims {
         ensures most { seat.new.hand.shares ≤ all_shares }
         ensures once { IsWonOnce seat.new.hand.offers }
         ensures settled { seat.new.hand.shares ≡ all_shares → IsSettled seat.new.hand.offers }
+        ensures sights { seat.new.hand.shares ≡ all_shares → AreWon seat.new.hand.sights seat.new.hand.offers }
     {
         let ClaimSeat { seat: hand, shares } = other;
         self.table
@@ -173,6 +176,7 @@ impl Claims {
         ensures places { vec_len result ≡ self.places }
         ensures words { (p : ℕ) → p < self.places → IsWordOf p (slice_index result.items p) seat.hand.offers }
         ensures once { IsWonOnce seat.hand.offers }
+        ensures sights { AreWon seat.hand.sights seat.hand.offers }
     {
         let Claims { table, mut words } = self;
         let ClaimSeat { seat, shares: _ } = seat;
@@ -192,6 +196,7 @@ pub fn shares(seat: &ClaimSeat) -> u32
     ensures most { result ≤ all_shares }
     ensures once { IsWonOnce seat.now.hand.offers }
     ensures settled { result ≡ all_shares → IsSettled seat.now.hand.offers }
+    ensures sights { result ≡ all_shares → AreWon seat.now.hand.sights seat.now.hand.offers }
 {
     seat.shares
 }

@@ -1,14 +1,15 @@
 //! What a seat keeps, and what any interleaving of the steps of all seats comes to.
 ghost use Rattle.std.specs.Prelude.{◌≡◌};
-ghost use Rattle.g1_claim.specs.Claims.{all_shares, IsSettled, IsWonOnce};
+ghost use Rattle.g1_claim.specs.Claims.{all_shares, IsSettled, IsWonOnce, AreWon};
 ghost use Rattle.g1_claim.specs.Interleaving.{LeastSoFar, WonSoFar};
 
 use crate::claims::{ClaimSeat, shares};
 
-/// A seat keeps what it knows of its offers: its type says so.
+/// A seat keeps what it knows of its offers, and of what it saw: its type says so.
 pub fn settled(seat: &ClaimSeat)
     ensures once { IsWonOnce seat.now.hand.offers }
     ensures whole { seat.now.hand.shares ≡ all_shares → IsSettled seat.now.hand.offers }
+    ensures sights { seat.now.hand.shares ≡ all_shares → AreWon seat.now.hand.sights seat.now.hand.offers }
 {
     shares(seat);
 }

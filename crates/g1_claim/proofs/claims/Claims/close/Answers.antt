@@ -1,7 +1,7 @@
 use Rattle.std.proofs.Common.{◌≡◌, ℕ, ◌<◌, List, length, get_or, sym, ap, ◌∙◌, arith, subst, below_more, get_or-set_other, get_or-set_same}
 use Rattle.std.specs.Slots.{slots_items}
 use Rattle.g1_claim.specs.declared.rule.Hand.{Hand}
-use Rattle.g1_claim.specs.Claims.{SeatView, TableView, IsWordOf, IsWonOnce}
+use Rattle.g1_claim.specs.Claims.{SeatView, TableView, IsWordOf, IsWonOnce, AreWon}
 use Rattle.g1_claim.proofs.Steps.{read_word, word_of}
 use Rattle.g1_claim.proofs.claims.Claims.close.Goals as goal
 
@@ -38,3 +38,9 @@ returns-clause-words c p in_table =
 
 pub returns-clause-once : goal.returns-clause-once
 returns-clause-once c = subst (λ (s : SeatView). IsWonOnce s.hand.offers) c.seat.view_is c.seat.invariant.3.1
+
+pub returns-clause-sights : goal.returns-clause-sights
+returns-clause-sights c =
+    let is = ap (λ (s : SeatView). s.hand) c.seat.view_is in
+    let all = ap (λ (h : Hand). h.shares) is ∙ c.requires.whole in
+    subst (λ (h : Hand). AreWon h.sights h.offers) is (c.seat.invariant.3.3 all)
