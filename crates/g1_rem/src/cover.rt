@@ -195,28 +195,6 @@ impl Make for Covering<'_> {
     }
 }
 
-/// The lowest slot that isn't covered, by this many threads, each with a range of the regions.
-fn first_by_threads(
-    rt: &(impl Threads + Sync),
-    alloc: Global,
-    image: &Image,
-    threads: usize,
-) -> Result<Option<u64>, Fault>
-    requires { 0 < threads }
-    ensures ok { IfOk result (IsFirstOf (uncovered image.now)) }
-    ensures memory { IfErr result (λ e. e ≡ Fault.Memory) }
-{
-    let dirty = dirty_marks(alloc, image)?;
-    let cut = cut(alloc, image.heap(), threads)?;
-    let covering = Covering {
-        image,
-        dirty: &dirty,
-        cut: &cut,
-    };
-    let found = make_each(rt, alloc, threads, threads, &covering)?;
-    Ok(first_found(&found))
-}
-
 /// The lowest slot that isn't covered, as `verify` finds it, without the image in its hands.
 ///
 /// # Errors
@@ -231,7 +209,7 @@ pub fn first_uncovered(alloc: Global, image: &Image) -> Result<Option<u64>, Faul
     first_among(alloc, image, &dirty, 0, regions)
 }
 
-/// The lowest slot that isn't covered, by this many threads.
+/// The lowest slot that isn't covered, by this many threads, each with a range of the regions.
 fn first_by(
     rt: &(impl Threads + Sync),
     alloc: Global,
@@ -242,10 +220,18 @@ fn first_by(
     ensures ok { IfOk result (IsFirstOf (uncovered image.now)) }
     ensures memory { IfErr result (λ e. e ≡ Fault.Memory) }
 {
-    match threads {
-        1 => first_uncovered(alloc, image),
-        _ => first_by_threads(rt, alloc, image, threads),
+    if threads == 1 {
+        return first_uncovered(alloc, image);
     }
+    let dirty = dirty_marks(alloc, image)?;
+    let cut = cut(alloc, image.heap(), threads)?;
+    let covering = Covering {
+        image,
+        dirty: &dirty,
+        cut: &cut,
+    };
+    let found = make_each(rt, alloc, threads, threads, &covering)?;
+    Ok(first_found(&found))
 }
 
 /// The image with its cover kept by the type, or the very image again with the fault.
