@@ -2,11 +2,11 @@ ghost use Rattle.std.specs.Prelude.{◌≡◌, ◌<◌, ◌≤◌, ◌+◌, ◌+
 ghost use Rattle.std.specs.List.{list_any, range_with_len};
 ghost use Rattle.g1_words.specs.Heap.{kind, object_at, region_of, regions, start};
 ghost use Rattle.g1_words.specs.Layout.{to_space};
+ghost use Rattle.g1_words.specs.Marks.{AreMarked};
 ghost use Rattle.g1_words.specs.declared.region.Kind.TheVariants.{HumongousFirst};
 ghost use Rattle.g1_after.specs.Made.{heap_moved};
 ghost use Rattle.g1_after.specs.Moved.{remembered_moved};
 ghost use Rattle.g1_after.specs.Unnamed.{lies_in, unnamed};
-ghost use Rattle.g1_rem.specs.EntryCards.{AreMarked};
 ghost use Rattle.g1_rem.specs.Starts.{IsStartsOf, card_count};
 ghost use Rattle.g1_copy.specs.Fates.{AreFates};
 ghost use Rattle.g1_copy.specs.Plans.{IsPauseOf};

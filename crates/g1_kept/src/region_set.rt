@@ -24,20 +24,6 @@ impl<'a> Model for RegionSet<'a> {
     ghost invariant = { λ s. IsMarked s.list.now s.marks };
 }
 
-// Marks the regions of a list. One past the last mark has none.
-fn mark(alloc: Global, regions: usize, list: &[u32]) -> Result<Marks, AllocError>
-    ensures { IfOk result (λ m. IsMarked list.now m) }
-{
-    let mut marks = Marks::none(alloc, regions)?;
-    for region in list {
-        let place = *region as usize;
-        if place < marks.len() {
-            marks.set(place);
-        }
-    }
-    Ok(marks)
-}
-
 // Whether a list has this region.
 fn lists(list: &[u32], region: u64) -> bool
     ensures { result ≡ has list.now region }
@@ -54,7 +40,8 @@ impl<'a> RegionSet<'a> {
     ) -> Result<RegionSet<'a>, AllocError>
         ensures { IfOk result (λ s. s ≡ list.now) }
     {
-        let marks = mark(alloc, regions, list)?;
+        let mut marks = Marks::none(alloc, regions)?;
+        marks.set_each(list);
         Ok(RegionSet { list, marks })
     }
 

@@ -6,13 +6,12 @@ use Rattle.std.proofs.Math.Nat.{mul-le-mul_left}
 use Rattle.std.proofs.lemmas.Bool.{cases_lt}
 use Rattle.std.proofs.lemmas.List.{length-replicate, get_or-replicate, get_or_past}
 use Rattle.g1_words.specs.Lists.{has}
-use Rattle.g1_words.specs.Marks.{AreUnset}
+use Rattle.g1_words.specs.Marks.{AreMarked, AreUnset}
 use Rattle.g1_words.proofs.Computed.{In-range}
 use Rattle.g1_words.proofs.Members.{In, In-filter, filter_member, has_from_in, in_from_has}
 use Rattle.g1_words.proofs.Indices.{not_has}
 use Rattle.g1_image.specs.Image.{Image, IsImage, IsUsedCard}
 use Rattle.g1_rem.specs.Cover.{AreDirty}
-use Rattle.g1_rem.specs.EntryCards.{AreMarked}
 use Rattle.g1_rem.specs.Starts.{card_count}
 use Rattle.g1_rem.proofs.EntryCards.{filtered_push, filtered_to}
 use Rattle.g1_rem.proofs.Entering.{card_inside, in_all, all_in}

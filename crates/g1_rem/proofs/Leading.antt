@@ -22,13 +22,13 @@ use Rattle.g1_words.proofs.Rising.{Ordered-append, Ordered-filter, Ordered-map, 
 use Rattle.g1_image.specs.Image.{Image, IsImage, remembered_of}
 use Rattle.g1_image.specs.Cards.{leads_into, is_exact, exact, is_covered}
 use Rattle.g1_image.proofs.Covers.{exact_tells}
-use Rattle.g1_rem.specs.EntryCards.{AreMarked}
+use Rattle.g1_words.specs.Marks.{AreMarked}
 use Rattle.g1_rem.specs.Marks.{objects_from}
 use Rattle.g1_rem.specs.Slots.{all_slots}
 use Rattle.g1_rem.specs.Starts.{card_count}
 use Rattle.g1_rem.proofs.Between.{between_all, between_none}
 use Rattle.g1_rem.proofs.Card.{all_rise}
-use Rattle.g1_rem.proofs.EntryCards.{marked_then, marked_from_none}
+use Rattle.g1_words.proofs.Marked.{marked_then, marked_from_none}
 use Rattle.g1_rem.proofs.Filled.{Tiles-none, row_front, row_rest, row_step}
 use Rattle.g1_rem.proofs.Lists.{eqb_false}
 use Rattle.g1_rem.proofs.Marks.{left_start}

@@ -1,5 +1,5 @@
 -- The cards that lead into a collection set.
-use Rattle.std.specs.Prelude.{◌≡◌, ◌<◌, ℕ, Bool, false, not, ◌&&◌, ◌||◌, ◌*◌, ◌/◌, List, [], length, slice_index_or}
+use Rattle.std.specs.Prelude.{ℕ, Bool, false, not, ◌&&◌, ◌*◌, ◌/◌, List, [], slice_index_or}
 use Rattle.std.specs.List.{list_any}
 use Rattle.g1_words.specs.Heap.{Heap}
 use Rattle.g1_words.specs.Lists.{has}
@@ -13,11 +13,6 @@ is_listed remembered set c = list_any (λ r. has (slice_index_or remembered r []
 -- the cards outside the set that stand in the remembered set of one of its regions, rising
 abbrev pub cards_into : Heap → List (List ℕ) → List ℕ → List ℕ
 cards_into h remembered set = cards_where h (λ c. is_listed remembered set c && not (in_set h set (c * h.geometry.k)))
-
--- the marks of those that pass a test were set, beside those that were
-pub record AreMarked (test : ℕ → Bool) (old new : List Bool) : Type 0 where
-  pub one_each : length new ≡ length old
-  pub each : (x : ℕ) → x < length old → slice_index_or new x false ≡ (slice_index_or old x false || test x)
 
 -- the card is marked, and its region isn't
 abbrev pub is_left : Heap → List Bool → List Bool → ℕ → Bool

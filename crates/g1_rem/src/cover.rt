@@ -1,4 +1,4 @@
-ghost use Rattle.std.specs.Prelude.{◌≡◌, ◌≤◌, ◌<◌, ◌⊎◌, ◌+◌, ◌-◌, ℕ, List, ◌∷◌, None, Some, length, filter, slice_index, slice_index_or, false, Contains, IfOk, IfErr};
+ghost use Rattle.std.specs.Prelude.{◌≡◌, ◌≤◌, ◌<◌, ◌⊎◌, ◌+◌, ◌-◌, ℕ, List, ◌∷◌, None, Some, length, filter, slice_index, Contains, IfOk, IfErr};
 ghost use Rattle.std.specs.List.{range_with_len};
 ghost use Rattle.std.specs.List.Sorted.{IsStrictlyIncreasing};
 ghost use Rattle.g1_words.specs.Valid.{IsReference};
@@ -8,7 +8,6 @@ ghost use Rattle.g1_rem.specs.Cover.{is_bare, bare_in, bare_between, bare_in_ran
 ghost use Rattle.g1_rem.specs.Places.{IsBehind, AreBehind, AreReadyFor};
 ghost use Rattle.g1_rem.specs.Ranges.{IsRange};
 
-use crate::entry_cards::mark_each;
 use crate::leads::led_into;
 use crate::ranges::{cut, threads_for_slots};
 use crate::rows::objects_end;
@@ -32,14 +31,6 @@ fn place_of(set: &[u32], from: usize, card: u32) -> usize
     place
 }
 
-/// Returns whether a mark is set. One past the last isn't.
-fn is_marked(marks: &Marks, number: u32) -> bool
-    ensures { result ≡ slice_index_or marks.now number false }
-{
-    let place = number as usize;
-    place < marks.len() && marks.is_set(place)
-}
-
 /// A mark for each card, set if the card is dirty; none at all if the log is empty.
 pub(crate) fn dirty_marks(alloc: Global, image: &Image) -> Result<Marks, AllocError>
     ensures { IfOk result (AreDirty image.now) }
@@ -51,7 +42,7 @@ pub(crate) fn dirty_marks(alloc: Global, image: &Image) -> Result<Marks, AllocEr
         image.heap().geometry().cards()
     };
     let mut dirty = Marks::none(alloc, cards as usize)?;
-    mark_each(&mut dirty, log);
+    dirty.set_each(log);
     Ok(dirty)
 }
 
@@ -75,7 +66,7 @@ fn is_uncovered(image: &Image, dirty: &Marks, places: &mut [usize], p: u64) -> b
             if place < set.len() && set[place] == card {
                 return false;
             }
-            !is_marked(dirty, card)
+            !dirty.has(card as usize)
         }
     }
 }
@@ -204,28 +195,6 @@ impl Make for Covering<'_> {
     }
 }
 
-/// The lowest slot that isn't covered, by this many threads, each with a range of the regions.
-fn first_by_threads(
-    rt: &(impl Threads + Sync),
-    alloc: Global,
-    image: &Image,
-    threads: usize,
-) -> Result<Option<u64>, Fault>
-    requires { 0 < threads }
-    ensures ok { IfOk result (IsFirstOf (uncovered image.now)) }
-    ensures memory { IfErr result (λ e. e ≡ Fault.Memory) }
-{
-    let dirty = dirty_marks(alloc, image)?;
-    let cut = cut(alloc, image.heap(), threads)?;
-    let covering = Covering {
-        image,
-        dirty: &dirty,
-        cut: &cut,
-    };
-    let found = make_each(rt, alloc, threads, threads, &covering)?;
-    Ok(first_found(&found))
-}
-
 /// The lowest slot that isn't covered, as `verify` finds it, without the image in its hands.
 ///
 /// # Errors
@@ -240,7 +209,7 @@ pub fn first_uncovered(alloc: Global, image: &Image) -> Result<Option<u64>, Faul
     first_among(alloc, image, &dirty, 0, regions)
 }
 
-/// The lowest slot that isn't covered, by this many threads.
+/// The lowest slot that isn't covered, by this many threads, each with a range of the regions.
 fn first_by(
     rt: &(impl Threads + Sync),
     alloc: Global,
@@ -251,10 +220,18 @@ fn first_by(
     ensures ok { IfOk result (IsFirstOf (uncovered image.now)) }
     ensures memory { IfErr result (λ e. e ≡ Fault.Memory) }
 {
-    match threads {
-        1 => first_uncovered(alloc, image),
-        _ => first_by_threads(rt, alloc, image, threads),
+    if threads == 1 {
+        return first_uncovered(alloc, image);
     }
+    let dirty = dirty_marks(alloc, image)?;
+    let cut = cut(alloc, image.heap(), threads)?;
+    let covering = Covering {
+        image,
+        dirty: &dirty,
+        cut: &cut,
+    };
+    let found = make_each(rt, alloc, threads, threads, &covering)?;
+    Ok(first_found(&found))
 }
 
 /// The image with its cover kept by the type, or the very image again with the fault.

@@ -1,16 +1,14 @@
-ghost use Rattle.std.specs.Prelude.{◌≡◌, ◌≤◌, ◌<◌, ◌+◌, ◌-◌, ℕ, List, [], ◌∷◌, ◌++◌, flat_map, length, slice_index_or, false, IsTrue, OnOk, IfOk, IfErr};
+ghost use Rattle.std.specs.Prelude.{◌≡◌, ◌≤◌, ◌<◌, ◌+◌, ◌-◌, ℕ, List, [], ◌∷◌, ◌++◌, flat_map, length, IsTrue, OnOk, IfOk, IfErr};
 ghost use Rattle.std.specs.List.{range_with_len};
 ghost use Rattle.g1_words.specs.Heap.{start, objects_in, slots};
 ghost use Rattle.g1_words.specs.Lists.{has};
 ghost use Rattle.g1_words.specs.Valid.{Tiles};
 ghost use Rattle.g1_image.specs.Image.{IsImage};
 ghost use Rattle.g1_image.specs.Cards.{exact};
-ghost use Rattle.g1_rem.specs.EntryCards.{AreMarked};
 ghost use Rattle.g1_rem.specs.Marks.{objects_from};
 ghost use Rattle.g1_rem.specs.Ahead.{is_entry, AreKnown, LeadAhead};
 ghost use Rattle.g1_rem.specs.Entries.{uncovered_into, IsEntryFault};
 
-use crate::entry_cards::mark_each;
 use crate::rows::objects_end;
 use g1_image::Image;
 use g1_words::{Fault, Marks, card_of, header, region_of};
@@ -24,9 +22,9 @@ fn known_cards(alloc: Global, image: &Image, region: u32) -> Result<Marks, Alloc
     let cards = image.heap().geometry().cards();
     let mut known = Marks::none(alloc, cards as usize)?;
     let set = image.remembered()[region as usize].as_slice();
-    mark_each(&mut known, set);
+    known.set_each(set);
     let log = image.log().as_slice();
-    mark_each(&mut known, log);
+    known.set_each(log);
     Ok(known)
 }
 
@@ -56,14 +54,6 @@ impl<'a> Entering<'a> {
         }
     }
 
-    // Whether the region remembers a card, or it is dirty.
-    fn is_known(&self, card: u32) -> bool
-        ensures { result ≡ slice_index_or self.now.known.now card false }
-    {
-        let place = card as usize;
-        place < self.known.len() && self.known.is_set(place)
-    }
-
     // Adds the card of a slot that leads into the region, unless it was the last one.
     fn take_entry(&self, slot: u64, cards: &mut Vec<u32>) -> Result<(), Fault>
         requires known { AreKnown self.now.image.now self.now.region self.now.known.now }
@@ -78,7 +68,7 @@ impl<'a> Entering<'a> {
         if count > 0 && cards[count - 1] == card {
             return Ok(());
         }
-        if !self.is_known(card) {
+        if !self.known.has(card as usize) {
             return Err(Fault::Uncovered(slot));
         }
         cards.push(card)?;

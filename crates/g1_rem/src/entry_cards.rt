@@ -1,23 +1,11 @@
 ghost use Rattle.std.specs.Prelude.{◌≡◌, ◌<◌, map, length, All, IfOk, IfErr};
-ghost use Rattle.g1_words.specs.Lists.{has};
+ghost use Rattle.g1_words.specs.Marks.{AreMarked};
 ghost use Rattle.g1_image.specs.Cards.{cards_where};
 ghost use Rattle.g1_rem.specs.Starts.{card_count};
-ghost use Rattle.g1_rem.specs.EntryCards.{AreMarked, cards_into, is_left, is_listed};
+ghost use Rattle.g1_rem.specs.EntryCards.{cards_into, is_left, is_listed};
 
 use g1_words::{Fault, Heap, Marks};
 use std::alloc::{AllocError, Global};
-
-/// Sets the marks of these numbers. One past the last mark has none.
-pub fn mark_each(marks: &mut Marks, numbers: &[u32])
-    ensures { AreMarked (has numbers.now) marks.old marks.new }
-{
-    for number in numbers {
-        let place = *number as usize;
-        if place < marks.len() {
-            marks.set(place);
-        }
-    }
-}
 
 /// Sets the marks of the cards in the remembered sets of these regions.
 fn mark_remembered(marks: &mut Marks, remembered: &[Vec<u32>], set: &[u32])
@@ -25,7 +13,7 @@ fn mark_remembered(marks: &mut Marks, remembered: &[Vec<u32>], set: &[u32])
     ensures { AreMarked (is_listed (map (λ s. s.items) remembered.now) set.now) marks.old marks.new }
 {
     for region in set {
-        mark_each(marks, remembered[*region as usize].as_slice());
+        marks.set_each(remembered[*region as usize].as_slice());
     }
 }
 
@@ -76,6 +64,6 @@ pub fn cards_into(
     let mut cards = Marks::none(alloc, geometry.cards() as usize)?;
     mark_remembered(&mut cards, remembered, set);
     let mut regions = Marks::none(alloc, geometry.regions() as usize)?;
-    mark_each(&mut regions, set);
+    regions.set_each(set);
     Ok(left_over(alloc, heap, &cards, &regions)?)
 }

@@ -44,7 +44,7 @@ mod tracked;
 pub use card_lists::{no_cards, push_once};
 pub use cover::{first_uncovered, verify, verify_by};
 pub use entries::cards_into_region;
-pub use entry_cards::{cards_into, mark_each};
+pub use entry_cards::cards_into;
 pub use leads::leads_into;
 pub use merging::merged;
 pub use refining::{MERGED_CARDS_A_THREAD, cards_in, refine, refine_by};

@@ -1,5 +1,5 @@
 -- Marks that are kept as the bits of words.
-use Rattle.std.specs.Prelude.{◌≡◌, ◌≤◌, ◌<◌, ℕ, List, Bool, true, false, Option, None, Some, ◌/◌, ◌%◌, ◌==◌, map, length, slice_index, slice_index_or}
+use Rattle.std.specs.Prelude.{◌≡◌, ◌≤◌, ◌<◌, ℕ, List, Bool, true, false, Option, None, Some, ◌/◌, ◌%◌, ◌==◌, ◌||◌, map, length, slice_index, slice_index_or}
 use Rattle.std.specs.List.{range_with_len}
 use Rattle.std.specs.Int.{bit_at}
 
@@ -26,3 +26,8 @@ pub record IsFirstSet (marks : List Bool) (from at : ℕ) : Type 0 where
 abbrev pub IsNextSet : List Bool → ℕ → Option ℕ → Type 0
 IsNextSet marks from None = AreUnset marks from (length marks)
 IsNextSet marks from (Some at) = IsFirstSet marks from at
+
+-- the marks of those that pass a test were set, beside those that were
+pub record AreMarked (test : ℕ → Bool) (old new : List Bool) : Type 0 where
+  pub one_each : length new ≡ length old
+  pub each : (x : ℕ) → x < length old → slice_index_or new x false ≡ (slice_index_or old x false || test x)

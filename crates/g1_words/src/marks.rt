@@ -1,5 +1,6 @@
 ghost use Rattle.std.specs.Prelude.{◌≡◌, ◌≤◌, ◌<◌, ◌+◌, ◌*◌, ◌^◌, ◌%◌, [], ◌++◌, length, set, replicate, slice_index_or, true, false, IfOk, OnOk, OnErr};
-ghost use Rattle.g1_words.specs.Marks.{IsNextSet};
+ghost use Rattle.g1_words.specs.Lists.{has};
+ghost use Rattle.g1_words.specs.Marks.{AreMarked, IsNextSet};
 
 use std::alloc::{AllocError, Global};
 use std::marker::Model;
@@ -65,12 +66,31 @@ impl Marks {
         self.bits[at / 64] >> (at % 64) & 1 == 1
     }
 
+    /// Returns whether a mark is set. One past the last isn't.
+    pub fn has(&self, at: usize) -> bool
+        ensures { result ≡ slice_index_or self.now at false }
+    {
+        at < self.len() && self.is_set(at)
+    }
+
     /// Sets a mark.
     pub fn set(&mut self, at: usize)
         requires { at < length self.old }
         ensures { self.new ≡ set self.old at true }
     {
         self.bits[at / 64] |= 1 << (at % 64);
+    }
+
+    /// Sets the marks of these numbers. One past the last mark has none.
+    pub fn set_each(&mut self, numbers: &[u32])
+        ensures { AreMarked (has numbers.now) self.old self.new }
+    {
+        for number in numbers {
+            let place = *number as usize;
+            if place < self.len() {
+                self.set(place);
+            }
+        }
     }
 
     /// The first mark that is set, from a number on. Passes over up to 64 unset ones at once.

@@ -68,7 +68,9 @@ pub fn make_each<R: Threads + Sync, M: Make + Sync>(
         return make_in_turn(alloc, count, maker);
     }
     // rayon halves a piece while each half has this many numbers. So the pieces are the greatest power of
-    // two that is at most `threads`. A quotient that is rounded up would cost the last halving.
+    // two that is at most `threads`. A quotient that is rounded up would cost the last halving. A quotient of
+    // 1 would make a piece of each number, more than the threads: then 2 makes fewer pieces, as one of 3
+    // numbers for 2 threads.
     let least = if count > threads {
         (count >> threads.ilog2()).max(2)
     } else {

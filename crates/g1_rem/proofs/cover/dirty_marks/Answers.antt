@@ -2,7 +2,7 @@ use Rattle.std.proofs.Common.{◌≡◌, ◌<◌, ◌∙◌, ◌*◌, ◌/◌, �
 use Rattle.g1_words.specs.Heap.{Heap}
 use Rattle.g1_words.specs.Lists.{has}
 use Rattle.g1_words.proofs.Members.{In}
-use Rattle.g1_rem.specs.EntryCards.{AreMarked}
+use Rattle.g1_words.specs.Marks.{AreMarked}
 use Rattle.g1_rem.specs.Starts.{card_count}
 use Rattle.g1_rem.proofs.Dirty.{dirty_told, dirty_inside, none_dirty}
 use Rattle.g1_rem.proofs.cover.dirty_marks.Goals as goal
@@ -22,9 +22,9 @@ returns c =
           let inside = dirty_inside i x w.heap.ensures.valid k in
           omega (arith, inside, count, w.cards-is))
     ] in
-    let marked : AreMarked (has c.args.image.now.log) c.in_ok-dirty.dirty c.mark_each.new.marks =
-    subst (λ l. AreMarked (has l) c.in_ok-dirty.dirty c.mark_each.new.marks) log c.mark_each.ensures in
-    dirty_told i c.if-is_empty.cards c.in_ok-dirty.dirty c.mark_each.new.marks c.in_ok-dirty.ensures marked below
+    let marked : AreMarked (has c.args.image.now.log) c.in_ok-dirty.dirty c.set_each.new.self =
+    subst (λ l. AreMarked (has l) c.in_ok-dirty.dirty c.set_each.new.self) log c.set_each.ensures in
+    dirty_told i c.if-is_empty.cards c.in_ok-dirty.dirty c.set_each.new.self c.in_ok-dirty.ensures marked below
   where
     no_items : (xs : List ℕ) → length xs ≡ 0 → xs ≡ []
     no_items [] e = refl

@@ -76,6 +76,6 @@ returns-else-place-len-clause-uncovered c =
       | else-place-len-via-else-place-len w ↦ (λ lt e. omega (arith, lt, len, w.if-place-len.false, c.len.ensures, c.deref.ensures.len))
     ] in
     let none : has c.index-remembered-region.result.items c.card_of-card.result ≡ false = has_not items place card rising (behind b) next other in
-    let logged : has c.args.image.now.log (card_of c.args.image.now.heap c.args.p) ≡ c.is_marked.result =
-    ap (λ x. has c.args.image.now.log x) (sym (the_card b)) ∙ sym (c.requires.dirty c.card_of-card.result) ∙ sym c.is_marked.ensures in
-    sym (bare_some c.args.image.now c.args.p c.in-Some.region false c.is_marked.result (led b) (read_has b false none) logged)
+    let logged : has c.args.image.now.log (card_of c.args.image.now.heap c.args.p) ≡ c.has.result =
+    ap (λ x. has c.args.image.now.log x) (sym (the_card b)) ∙ sym (c.requires.dirty c.card_of-card.result) ∙ sym c.has.ensures in
+    sym (bare_some c.args.image.now c.args.p c.in-Some.region false c.has.result (led b) (read_has b false none) logged)

@@ -2,7 +2,7 @@ use Rattle.std.proofs.Common.{◌≡◌, ◌*◌, ◌/◌, ◌∙◌, ap, subst}
 use Rattle.g1_words.specs.Heap.{Heap}
 use Rattle.g1_words.specs.Lists.{has}
 use Rattle.g1_image.specs.Image.{remembered_of}
-use Rattle.g1_rem.specs.EntryCards.{AreMarked}
+use Rattle.g1_words.specs.Marks.{AreMarked}
 use Rattle.g1_rem.specs.Starts.{card_count}
 use Rattle.g1_rem.proofs.Bare.{set_read}
 use Rattle.g1_rem.proofs.Leading.{known_told}
@@ -17,6 +17,6 @@ returns c =
     let log : c.as_slice-log.result.now ≡ c.args.image.now.log = c.as_slice-log.ensures.keys ∙ c.log.ensures in
     let count : c.cards-cards.result ≡ card_count c.args.image.now.heap =
     c.cards-cards.ensures.value ∙ ap (λ g. g.n * g.w / g.k) c.geometry.ensures.same ∙ ap (λ (h : Heap). h.geometry.n * h.geometry.w / h.geometry.k) c.heap.ensures.same in
-    known_told i c.args.region c.cards-cards.result c.in_ok-known.known c.mark_each.new.marks c.mark_each-2.new.marks count c.in_ok-known.ensures
-    (subst (λ l. AreMarked (has l) c.in_ok-known.known c.mark_each.new.marks) set c.mark_each.ensures)
-    (subst (λ l. AreMarked (has l) c.mark_each.new.marks c.mark_each-2.new.marks) log c.mark_each-2.ensures)
+    known_told i c.args.region c.cards-cards.result c.in_ok-known.known c.set_each.new.self c.set_each-2.new.self count c.in_ok-known.ensures
+    (subst (λ l. AreMarked (has l) c.in_ok-known.known c.set_each.new.self) set c.set_each.ensures)
+    (subst (λ l. AreMarked (has l) c.set_each.new.self c.set_each-2.new.self) log c.set_each-2.ensures)

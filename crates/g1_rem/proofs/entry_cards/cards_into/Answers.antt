@@ -11,7 +11,7 @@ left_over-requires-clause-cards c =
 
 pub left_over-requires-clause-regions : goal.left_over-requires-clause-regions
 left_over-requires-clause-regions c =
-    c.mark_each.ensures.one_each ∙ ap length c.in_ok-regions.ensures ∙ length-replicate c.regions.result false
+    c.set_each.ensures.one_each ∙ ap length c.in_ok-regions.ensures ∙ length-replicate c.regions.result false
     ∙ c.regions.ensures.value ∙ ap (λ g. g.n) c.geometry-geometry.ensures.same
 
 pub returns-clause-ok : goal.returns-clause-ok
@@ -22,6 +22,6 @@ returns-clause-ok c =
     let count : c.cards.result ≡ card_count c.args.heap.now = c.cards.ensures.value ∙ ap (λ g. g.n * g.w / g.k) c.geometry-geometry.ensures.same in
     subst (λ l. c.in_ok-left_over.field-0.items ≡ l)
     (left_is h c.geometry-geometry.ensures.valid remembered c.args.set.now c.cards.result c.regions.result
-    c.in_ok-cards.cards c.mark_remembered.new.marks c.in_ok-regions.regions c.mark_each.new.marks count n
-    c.in_ok-cards.ensures c.mark_remembered.ensures c.in_ok-regions.ensures c.mark_each.ensures)
+    c.in_ok-cards.cards c.mark_remembered.new.marks c.in_ok-regions.regions c.set_each.new.self count n
+    c.in_ok-cards.ensures c.mark_remembered.ensures c.in_ok-regions.ensures c.set_each.ensures)
     c.in_ok-left_over.ensures

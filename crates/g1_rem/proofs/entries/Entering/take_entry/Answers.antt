@@ -19,9 +19,9 @@ returns-then-index-card-clause-ahead c = λ rest l.
     ap (slice_index c.args.cards.now.items) place ∙ sym read ∙ sym c.index.ensures ∙ c.if-index-card.true in
     pass_same c.args.self.now.image.now c.heap.ensures.valid c.args.self.now.region c.args.slot rest c.args.cards.now.items l c.card_of-card.result (the_card b) some last
 
-pub returns-then-not-is_known-clause-fault : goal.returns-then-not-is_known-clause-fault
-returns-then-not-is_known-clause-fault c = λ rest l.
-    let b = (goal.at.returns-then-not-is_known-clause-fault c).After-card_of-card in
+pub returns-then-not-has-clause-fault : goal.returns-then-not-has-clause-fault
+returns-then-not-has-clause-fault c = λ rest l.
+    let b = (goal.at.returns-then-not-has-clause-fault c).After-card_of-card in
     entry_fault c.args.self.now.image.now c.heap.ensures.valid c.args.self.now.region c.args.slot rest c.args.cards.now.items l c.requires.entry
     c.card_of-card.result c.args.self.now.known.now (the_card b) c.requires.known cc
 

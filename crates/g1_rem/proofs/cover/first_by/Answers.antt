@@ -6,7 +6,7 @@ use Rattle.g1_image.specs.Cards.{uncovered}
 use Rattle.g1_rem.specs.Cover.{IsFirstOf, bare_in_range}
 use Rattle.g1_rem.specs.Ranges.{IsCut}
 use Rattle.g1_rem.proofs.Bare.{bare_all, first_ranges, ranges_all}
-use Rattle.g1_rem.proofs.cover.first_by_threads.Goals as goal
+use Rattle.g1_rem.proofs.cover.first_by.Goals as goal
 
 pub make_each-requires-clause-ready : goal.make_each-requires-clause-ready
 make_each-requires-clause-ready g c κs within = λ i lt.
