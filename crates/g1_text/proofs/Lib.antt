@@ -20,3 +20,4 @@ pub mod Cutting
 pub mod Turns
 pub mod Statements
 pub mod FullText
+pub mod OneSaid
