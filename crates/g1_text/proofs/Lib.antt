@@ -21,3 +21,4 @@ pub mod Turns
 pub mod Statements
 pub mod FullText
 pub mod OneSaid
+pub mod Counted
