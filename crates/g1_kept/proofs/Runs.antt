@@ -8,9 +8,7 @@ use Rattle.g1_words.specs.declared.region.Kind.{Kind}
 use Rattle.g1_words.specs.declared.region.Kind.TheVariants.{Free, Ordinary, HumongousFirst, Continuation}
 use Rattle.g1_words.specs.Lists.{has}
 use Rattle.g1_words.specs.Heap.{Heap, kind, start, region_of, word, object_at, objects}
-use Rattle.g1_words.specs.Survivors.{AllOrdinary}
 use Rattle.g1_words.specs.Valid.{IsValid, IsFirst, IsShapedBy, IsWholeRun}
-use Rattle.g1_words.proofs.Members.{Contains-from_in, in_from_has}
 use Rattle.g1_words.proofs.Computed.{object_is, has_contains}
 use Rattle.g1_words.proofs.Objects.{first_has, div_between}
 use Rattle.g1_kept.specs.Keeps.{IsAsItWas, Keeps, Remains, outside}
@@ -37,14 +35,14 @@ run_of h r valid lt e =
     let is : s.0 ≡ object_at h (start h r) = object_is h s.0 s.1.object ∙ ap (object_at h) s.1.at in
     record { first = subst (IsFirst h r) is s.1; whole = subst (λ (o : Object). IsWholeRun h r o.size) is s.4 }
 
-module _ (fill : Bool) (set : List ℕ) (g h : Heap) (r : ℕ) (left : IsValid g) (right : IsValid h) (k : Keeps fill set g h) (ordinary : AllOrdinary g set)
+module _ (fill : Bool) (set : List ℕ) (g h : Heap) (r : ℕ) (left : IsValid g) (right : IsValid h) (k : Keeps fill set g h)
     (lt : r < g.geometry.n) (first : kind g r ≡ HumongousFirst) where
   run : IsRun g r
   run = run_of g r left lt first
 
-  -- a region that is not ordinary is outside the set
-  not_chosen : (q : ℕ) → kind g q ≢ Ordinary → IsFalse (has set q)
-  not_chosen q other = elim (cases_Bool (has set q)) [ inl t ↦ absurd (other (ordinary q (Contains-from_in set q (in_from_has set q t)))) | inr f ↦ f ]
+  -- a region in use is outside the set
+  not_chosen : (q : ℕ) → q < g.geometry.n → kind h q ≢ Free → IsFalse (has set q)
+  not_chosen q inside used = elim (cases_Bool (has set q)) [ inl t ↦ absurd (used ((k.table.regions q inside).of_set t)) | inr f ↦ f ]
 
   part : (i : ℕ) → 0 < i → i * g.geometry.w < (object_at g (start g r)).size → (r + i < g.geometry.n) × (kind g (r + i) ≡ Continuation)
   part i some within = run.whole i some within
@@ -57,7 +55,7 @@ module _ (fill : Bool) (set : List ℕ) (g h : Heap) (r : ℕ) (left : IsValid g
 
   -- a continuation that is in use is one still
   still : (q : ℕ) → q < g.geometry.n → kind g q ≡ Continuation → kind h q ≢ Free → kind h q ≡ Continuation
-  still q inside e used = elim ((k.table.regions q inside).other (not_chosen q (λ o. let clash : Continuation ≡ Ordinary = sym e ∙ o in cc))) [
+  still q inside e used = elim ((k.table.regions q inside).other (not_chosen q inside used)) [
     | inl f ↦ absurd (free≢continuation (sym f ∙ e))
     | inr s ↦ elim s [ inl f ↦ absurd (used f.1) | inr was ↦ was.same_kind ∙ e ]
   ]
@@ -96,7 +94,7 @@ module _ (fill : Bool) (set : List ℕ) (g h : Heap) (r : ℕ) (left : IsValid g
   rest_used : (i : ℕ) → 0 < i → i * g.geometry.w < (object_at g (start g r)).size → kind h r ≢ Free → kind h (r + i) ≡ Continuation
   rest_used i some within used =
       let a : ℕ = start g r in
-      let out : IsFalse (has set r) = not_chosen r (λ o. let clash : HumongousFirst ≡ Ordinary = sym first ∙ o in cc) in
+      let out : IsFalse (has set r) = not_chosen r lt used in
       let was : IsAsItWas fill g h r = elim ((k.table.regions r lt).other out) [
         | inl f ↦ absurd (free≢first (sym f ∙ first))
         | inr s ↦ elim s [ inl f ↦ absurd (used f.1) | inr was ↦ was ]
@@ -115,16 +113,16 @@ module _ (fill : Bool) (set : List ℕ) (g h : Heap) (r : ℕ) (left : IsValid g
       (there.whole i some within').1
 
 pub frees_runs : FreesRuns
-frees_runs fill set g h r i left right k ordinary lt first within = elim (ℕ_discrete i 0) [
+frees_runs fill set g h r i left right k lt first within = elim (ℕ_discrete i 0) [
   | yes e ↦ let same : r + i ≡ r = omega (arith, e) in (λ f. ap (kind h) (sym same) ∙ f, λ f. ap (kind h) same ∙ f)
   | no d ↦ (
     λ f. elim (is_free (kind h r)) [
       | inl free ↦ free
-      | inr used ↦ absurd (free≢continuation (sym f ∙ rest_used fill set g h r left right k ordinary lt first i (omega (arith, d)) within used))
+      | inr used ↦ absurd (free≢continuation (sym f ∙ rest_used fill set g h r left right k lt first i (omega (arith, d)) within used))
     ],
     λ free. elim (is_free (kind h (r + i))) [
       | inl f ↦ f
-      | inr used ↦ absurd (rest_free fill set g h r left right k ordinary lt first i (omega (arith, d)) within free used)
+      | inr used ↦ absurd (rest_free fill set g h r left right k lt first i (omega (arith, d)) within free used)
     ],
   )
 ]

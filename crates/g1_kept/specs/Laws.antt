@@ -2,7 +2,6 @@
 use Rattle.std.specs.Prelude.{◌≡◌, ◌<◌, ◌+◌, ◌*◌, ◌↔◌, Bool, List, ℕ}
 use Rattle.g1_words.specs.declared.region.Kind.TheVariants.{Free, HumongousFirst}
 use Rattle.g1_words.specs.Heap.{Heap, kind, start, object_at}
-use Rattle.g1_words.specs.Survivors.{AllOrdinary}
 use Rattle.g1_words.specs.Valid.{IsValid}
 use Rattle.g1_words.specs.Layout.{HasRoom}
 use Rattle.g1_words.specs.Graph.{SameGraph}
@@ -27,7 +26,7 @@ NothingLost = (fill : Bool) (set : List ℕ) (g h : Heap) (l : Lost) → IsValid
 
 -- of a humongous object's run all regions are free or none
 abbrev pub FreesRuns : Type 0
-FreesRuns = (fill : Bool) (set : List ℕ) (g h : Heap) (r i : ℕ) → IsValid g → IsValid h → Keeps fill set g h → AllOrdinary g set
+FreesRuns = (fill : Bool) (set : List ℕ) (g h : Heap) (r i : ℕ) → IsValid g → IsValid h → Keeps fill set g h
     → r < g.geometry.n → kind g r ≡ HumongousFirst → i * g.geometry.w < (object_at g (start g r)).size
     → (kind h (r + i) ≡ Free) ↔ (kind h r ≡ Free)
 

@@ -20,3 +20,5 @@ pub mod Cutting
 pub mod Turns
 pub mod Statements
 pub mod FullText
+pub mod OneSaid
+pub mod Counted

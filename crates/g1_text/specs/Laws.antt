@@ -25,3 +25,7 @@ TextsSayImage = (i : Image) (text : List ℕ) → IsImage i → HasLines text (i
 -- the words of a line say at most one thing
 abbrev pub LinesSayOne : Type 0
 LinesSayOne = (before : Option Content) (words : List (List ℕ)) (c d : Content) → Says before words c → Says before words d → c ≡ d
+
+-- a text says at most one image
+abbrev pub TextsSayOne : Type 0
+TextsSayOne = (text : List ℕ) (i j : Image) → SaysImage text i → SaysImage text j → i ≡ j

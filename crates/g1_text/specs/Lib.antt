@@ -4,3 +4,4 @@ pub mod Reading
 pub mod Content
 pub mod Drafts
 pub mod Laws
+pub mod Counted

@@ -1,4 +1,4 @@
-ghost use Rattle.g1_text.specs.Laws.{OneImage, LinesAddUp, LinesSayImage, TextsSayImage, LinesSayOne};
+ghost use Rattle.g1_text.specs.Laws.{OneImage, LinesAddUp, LinesSayImage, TextsSayImage, LinesSayOne, TextsSayOne};
 
 /// An image has one full text, and a full text is that of one image.
 pub fn one_full_text()
@@ -13,7 +13,8 @@ pub fn full_lines_add_up()
     ensures text { TextsSayImage }
 {}
 
-/// The words of a line say at most one thing.
+/// The words of a line say at most one thing, and a text says at most one image.
 pub fn one_meaning()
-    ensures { LinesSayOne }
+    ensures line { LinesSayOne }
+    ensures text { TextsSayOne }
 {}

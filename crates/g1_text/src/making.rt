@@ -1,8 +1,11 @@
-ghost use Rattle.std.specs.Prelude.{◌≡◌, IfOk, MatchResult};
+ghost use Rattle.std.specs.Prelude.{◌≡◌, ℕ, List, None, Some, false, IfOk, MatchResult};
 ghost use Rattle.g1_image.specs.Image.{Image as ImageOf, IsImage, IsTextIn};
 ghost use Rattle.g1_image.specs.declared.cursor.Version.TheVariants.{Two};
 ghost use Rattle.g1_text.specs.Lines.{image_text};
-ghost use Rattle.g1_text.specs.Content.{IsContentOf, SaysImage};
+ghost use Rattle.g1_image.specs.Parts.{CountsFit};
+ghost use Rattle.g1_text.specs.Reading.{HasLines};
+ghost use Rattle.g1_text.specs.Content.{Content, IsClosed, IsContentOf, SaysAll, SaysImage, file_with};
+ghost use Rattle.g1_text.specs.Counted.{IsMadeOf};
 ghost use Rattle.g1_text.specs.Drafts.{content};
 ghost use Rattle.g1_text.specs.Made.{IsImageText};
 
@@ -26,6 +29,7 @@ pub fn make(alloc: Global, text: &[u8]) -> Result<Vec<u8>, Wrong>
     ensures image { IfOk result (λ v. IsImageText v.items) }
     ensures whole { (i : ImageOf) → IsImage i → text.now ≡ image_text i → MatchResult result (λ v. IsTextIn Two v.items i) (λ e. e ≡ Wrong.Fault Fault.Memory) }
     ensures says { (i : ImageOf) → SaysImage text.now i → MatchResult result (λ v. IsTextIn Two v.items i) (λ e. e ≡ Wrong.Fault Fault.Memory) }
+    ensures only { (lines : List (List (List ℕ))) (c : Content) → HasLines text.now lines → SaysAll None lines (Some c) → IsClosed c → CountsFit (file_with c) → IfOk result (λ v. IsMadeOf c v.items) }
 {
     let mut draft = read(alloc, text)?;
     finish(alloc, &mut draft)
@@ -35,6 +39,7 @@ pub fn make(alloc: Global, text: &[u8]) -> Result<Vec<u8>, Wrong>
 fn finish(alloc: Global, draft: &mut Draft) -> Result<Vec<u8>, Wrong>
     ensures image { IfOk result (λ v. IsImageText v.items) }
     ensures text { (i : ImageOf) → IsContentOf (content draft.old) i → MatchResult result (λ v. IsTextIn Two v.items i) (λ e. e ≡ Wrong.Fault Fault.Memory) }
+    ensures only { draft.old.covered ≡ false → CountsFit (file_with (content draft.old)) → IfOk result (λ v. IsMadeOf (content draft.old) v.items) }
 {
     if draft.covered {
         cover(draft)?;
@@ -45,6 +50,7 @@ fn finish(alloc: Global, draft: &mut Draft) -> Result<Vec<u8>, Wrong>
 fn check_and_pack(alloc: Global, draft: &Draft) -> Result<Vec<u8>, Wrong>
     ensures image { IfOk result (λ v. IsImageText v.items) }
     ensures text { (i : ImageOf) → IsContentOf (content draft.now) i → MatchResult result (λ v. IsTextIn Two v.items i) (λ e. e ≡ Wrong.Fault Fault.Memory) }
+    ensures only { CountsFit (file_with (content draft.now)) → IfOk result (λ v. IsMadeOf (content draft.now) v.items) }
 {
     settle(draft)?;
     let bytes = pack(alloc, draft)?;

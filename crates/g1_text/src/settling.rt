@@ -1,6 +1,6 @@
-ghost use Rattle.std.specs.Prelude.{◌≡◌, ◌<◌, Ok, length, IfSome};
-ghost use Rattle.g1_words.specs.declared.region.Kind.TheVariants.{Ordinary};
-ghost use Rattle.g1_text.specs.Content.{Agrees, CountsAgree, region_said};
+ghost use Rattle.std.specs.Prelude.{◌≡◌, Ok, OnOk};
+ghost use Rattle.g1_text.specs.Content.{Agrees, CountsAgree};
+ghost use Rattle.g1_text.specs.Counted.{HeadingAgrees, IsCurrentOrdinary};
 ghost use Rattle.g1_text.specs.Drafts.{content, counts_of};
 
 use crate::draft::{Draft, Told};
@@ -10,7 +10,8 @@ use g1_words::Region;
 
 /// Finds that the lines agree with what was read: counts, tops, objects, and the current region.
 pub(crate) fn settle(draft: &Draft) -> Result<(), Wrong>
-    ensures { Agrees (content draft.now) → result ≡ Ok tt }
+    ensures ok { Agrees (content draft.now) → result ≡ Ok tt }
+    ensures only { OnOk result (Agrees (content draft.now)) }
 {
     if let Err(expected) = settle_heading(draft) {
         let number = draft.lines.heading.line;
@@ -26,7 +27,8 @@ pub(crate) fn settle(draft: &Draft) -> Result<(), Wrong>
 }
 
 fn settle_heading(draft: &Draft) -> Result<(), Expected>
-    ensures { Agrees (content draft.now) → result ≡ Ok tt }
+    ensures ok { Agrees (content draft.now) → result ≡ Ok tt }
+    ensures only { OnOk result (HeadingAgrees (content draft.now)) }
 {
     let heading = draft.lines.heading;
     follows(heading.roots, "roots", draft.roots.len() as u64)?;
@@ -36,7 +38,8 @@ fn settle_heading(draft: &Draft) -> Result<(), Expected>
 
 // The current region is an ordinary one.
 fn settle_current(draft: &Draft) -> Result<(), Expected>
-    ensures { IfSome draft.now.current (λ r. (r < length draft.now.regions.items) × ((region_said (content draft.now) r).kind ≡ Ordinary)) → result ≡ Ok tt }
+    ensures ok { IsCurrentOrdinary (content draft.now) → result ≡ Ok tt }
+    ensures only { OnOk result (IsCurrentOrdinary (content draft.now)) }
 {
     let Some(current) = draft.current else {
         return Ok(());
@@ -48,7 +51,8 @@ fn settle_current(draft: &Draft) -> Result<(), Expected>
 }
 
 fn settle_region(draft: &Draft, told: &Told) -> Result<(), Expected>
-    ensures { CountsAgree (content draft.now) (counts_of told.now) → result ≡ Ok tt }
+    ensures ok { CountsAgree (content draft.now) (counts_of told.now) → result ≡ Ok tt }
+    ensures only { OnOk result (CountsAgree (content draft.now) (counts_of told.now)) }
 {
     let Some(Region { kind, top, .. }) = draft.regions.get(told.region) else {
         return Err(Expected::NoRegion);

@@ -3,13 +3,14 @@ use Rattle.g1_words.specs.declared.fault.Fault.{Fault}
 use Rattle.g1_words.specs.declared.fault.Fault.TheVariants.{Memory}
 use Rattle.g1_image.specs.declared.cursor.Version.TheVariants.{Two}
 use Rattle.g1_image.specs.Text.{file_text}
-use Rattle.g1_image.specs.Image.{Image, IsTextIn}
+use Rattle.g1_image.specs.Image.{Image, IsTextIn, IsTextOf}
 use Rattle.g1_image.specs.Parts.{CountsFit}
 use Rattle.g1_image.specs.Faults.{MayFail}
 use Rattle.g1_image.proofs.Images.{file_fits}
 use Rattle.g1_image.proofs.NoFault.{no_fault}
 use Rattle.g1_text.specs.Content.{Content, IsContentOf, file_with}
 use Rattle.g1_text.specs.Drafts.{content}
+use Rattle.g1_text.proofs.Counted.{made}
 use Rattle.g1_text.proofs.making.check_and_pack.Goals as goal
 
 module _ (s : Content) (i : Image) (is : IsContentOf s i) where
@@ -30,3 +31,8 @@ pub returns-in-Err-clause-text : goal.returns-in-Err-clause-text
 returns-in-Err-clause-text c = λ i is.
     c.trace.ensures (memory (content c.args.draft.now) i is c.in_ok-bytes.bytes.items c.as_slice.result.now c.in-Err.fault c.as_slice.ensures.value
     (λ fit. c.in_ok-bytes.ensures fit) c.in-Err.ensures.err)
+
+pub returns-in-Ok-clause-only : goal.returns-in-Ok-clause-only
+returns-in-Ok-clause-only c = λ fit.
+    made (content c.args.draft.now) c.in_ok-bytes.bytes.items c.in_ok-settle.ensures.only (c.in_ok-bytes.ensures fit)
+    (subst (λ b. (i : Image) × IsTextOf b i) c.as_slice.ensures.value c.in-Ok.ensures.ok)

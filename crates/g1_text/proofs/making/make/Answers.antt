@@ -1,5 +1,9 @@
-use Rattle.std.proofs.Common.{rules, sym, subst}
-use Rattle.g1_text.specs.Content.{IsContentOf}
+use Rattle.std.proofs.Common.{rules, sym, ◌∙◌, ap, subst}
+use Rattle.std.specs.Prelude.{IfOk}
+use Rattle.g1_image.specs.Parts.{CountsFit}
+use Rattle.g1_text.specs.Content.{Content, IsContentOf, file_with}
+use Rattle.g1_text.specs.Counted.{IsMadeOf}
+use Rattle.g1_text.proofs.Counted.{uncovered}
 use Rattle.g1_text.proofs.FullText.{full_text_says}
 use Rattle.g1_text.proofs.making.make.Goals as goal
 
@@ -22,3 +26,9 @@ returns-clause-whole c = λ i good e.
 pub returns-clause-says : goal.returns-clause-says
 returns-clause-says c = λ i s.
     c.finish.ensures.text i (subst (λ x. IsContentOf x i) (sym (c.in_ok-draft.ensures s.lines s.content s.has s.says s.closed)) s.is)
+
+pub returns-clause-only : goal.returns-clause-only
+returns-clause-only c = λ lines d has says closed fit.
+    let same = c.in_ok-draft.ensures lines d has says closed in
+    let plain = ap (λ (s : Content). s.covered) same ∙ uncovered d lines says in
+    subst (λ s. IfOk c.finish.result (λ v. IsMadeOf s v.items)) same (c.finish.ensures.only plain (subst (λ s. CountsFit (file_with s)) (sym same) fit))
