@@ -19,11 +19,19 @@ use Rattle.g1_words.specs.Valid.{IsValid}
 use Rattle.g1_copy.specs.Fates.{fate_at, fate_of}
 use Rattle.g1_copy.specs.Gathered.{placed_words, to_space_words}
 use Rattle.g1_copy.specs.Patches.{AreBefore, all_patches}
-use Rattle.g1_copy.specs.Prepared.{IsMadeFor, Prepared, committed, written}
+use Rattle.g1_copy.specs.Prepared.{IsMadeFor, Prepared, written}
 use Rattle.g1_copy.specs.Slices.{IsWritable, by_fate}
 use Rattle.g1_copy.proofs.FatesMade.{run_there}
 use Rattle.g1_copy.proofs.InPlaceFreed.{words_paused}
 use Rattle.g1_copy.proofs.InPlaceSlices.{Distinct-take, flat_length}
+
+-- the image that a commit makes of i
+abbrev pub committed : Prepared → Image → Image
+committed p i = record {
+  heap = record { geometry = i.heap.geometry; words = written p i.heap.geometry.w i.heap.words; regions = p.regions; roots = p.roots; current = None };
+  remembered = p.remembered;
+  log = [];
+}
 
 -- lists that are put together alike
 flat_map_same : (f g : ℕ → List ℕ) (a n : ℕ) → ((r : ℕ) → a ≤ r → r < a + n → f r ≡ g r) → flat_map f (range_with_len a n) ≡ flat_map g (range_with_len a n)

@@ -7,9 +7,9 @@ use Rattle.g1_image.specs.Cards.{IsTracked}
 use Rattle.g1_image.specs.Image.{Image}
 use Rattle.g1_after.specs.Paused.{IsPaused}
 use Rattle.g1_work.specs.Regions.{EverySlice}
-use Rattle.g1_copy.specs.Prepared.{IsMadeFor, Prepared, committed, written}
+use Rattle.g1_copy.specs.Prepared.{IsMadeFor, Prepared, written}
 use Rattle.g1_copy.specs.Slices.{IsWritable}
-use Rattle.g1_copy.proofs.Committed.{all_writable, is_paused}
+use Rattle.g1_copy.proofs.Committed.{committed, all_writable, is_paused}
 
 module _ (p : Prepared) (i : Image) (tracked : IsTracked i) where
   -- what the writing in place asks of the words and their width

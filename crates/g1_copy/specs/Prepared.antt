@@ -1,5 +1,5 @@
 -- What was made ready for a commit.
-use Rattle.std.specs.Prelude.{◌≡◌, ℕ, List, [], ◌++◌, ◌/◌, length, map, flat_map, None}
+use Rattle.std.specs.Prelude.{◌≡◌, ℕ, List, ◌++◌, ◌/◌, length, map, flat_map}
 use Rattle.std.specs.List.{range_with_len}
 use Rattle.g1_words.specs.declared.region.Region.{Region}
 use Rattle.g1_words.specs.Heap.{region_of}
@@ -29,14 +29,6 @@ pub record Prepared : Type 0 where
 -- the words that a commit makes of these, in regions of w words
 abbrev pub written : Prepared → ℕ → List ℕ → List ℕ
 written p w xs = flat_map (λ r. by_fate w p.gathered p.patches r (fate_at p.fates r) (slice_of w r xs)) (range_with_len 0 (length xs / w))
-
--- the image that a commit makes of i
-abbrev pub committed : Prepared → Image → Image
-committed p i = record {
-  heap = record { geometry = i.heap.geometry; words = written p i.heap.geometry.w i.heap.words; regions = p.regions; roots = p.roots; current = None };
-  remembered = p.remembered;
-  log = [];
-}
 
 -- it was made for the pause of i that evacuates the survivors l of the set
 pub record IsMadeFor (p : Prepared) (i : Image) (set l : List ℕ) : Type 0 where

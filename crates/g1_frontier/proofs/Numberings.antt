@@ -3,6 +3,7 @@ use Rattle.std.proofs.Common.{◌≡◌, ◌<◌, ◌≤◌, ℕ, suc, ◌+◌, 
 use Rattle.std.proofs.Common.{refl, sym, ap, ◌∙◌, subst, arith, true≢false}
 use Rattle.std.proofs.lemmas.List.{length-replicate, flat_map_more}
 use Rattle.std.specs.List.{range_with_len}
+use Rattle.std.specs.Prelude.{slice_index_or}
 use Rattle.g1_words.specs.declared.object.Object.{Object}
 use Rattle.g1_words.specs.Heap.{Heap, objects, objects_in, object_at, start, regions}
 use Rattle.g1_words.specs.Lists.{has}
@@ -10,7 +11,7 @@ use Rattle.g1_words.specs.Valid.{IsValid}
 use Rattle.g1_words.proofs.Computed.{has_contains, in_region_has, In-range, range_below}
 use Rattle.g1_words.proofs.Members.{In, In-from_contains, Contains-from_in, In-map, map_cases, In-flat_map, flat_map_cases, in_from_has}
 use Rattle.g1_words.proofs.Sound.{sound, has_is}
-use Rattle.g1_frontier.specs.Numbers.{BeginsIn, IsNumbering, AreStarts, number_at, and_marked, places_from, places_to}
+use Rattle.g1_frontier.specs.Numbers.{BeginsIn, IsNumbering, AreStarts, number_at, and_marked, places_from}
 use Rattle.g1_words.specs.Geometry.{most_words}
 use Rattle.g1_rem.specs.Starts.{IsStartsOf}
 use Rattle.g1_frontier.specs.declared.scope.Numbering.{Numbering}
@@ -24,6 +25,10 @@ use Rattle.g1_frontier.proofs.Names.{range_push}
 use Rattle.g1_frontier.proofs.Places.{stands, read_at, place_below, place_apart}
 use Rattle.g1_frontier.proofs.Positions.{offset_is, same_there}
 use Rattle.g1_frontier.proofs.Scopes.{all_in, In-get}
+
+-- where the objects of the window begin among its words, for the first so many of its regions
+abbrev pub places_to : Heap → List ℕ → ℕ → List ℕ
+places_to h window n = flat_map (λ i. places_from h (i * h.geometry.w) (slice_index_or window i 0)) (range_with_len 0 n)
 
 -- a region more of the window
 pub marked_region : (h : Heap) (window : List ℕ) (n r : ℕ) (old mid new : List Bool) → mid ≡ and_marked old (places_to h window n) →

@@ -1,6 +1,6 @@
 -- The number of each object of a window, and what any numbering has to be.
-use Rattle.std.specs.Prelude.{◌≡◌, ◌<◌, ◌≤◌, ℕ, Bool, true, false, List, [], ◌∷◌, ◌+◌, ◌-◌, ◌*◌, ◌^◌, map, take, drop, set, length, slice_index_or, Contains, flat_map, count_ones}
-use Rattle.std.specs.List.{count_by, range_with_len}
+use Rattle.std.specs.Prelude.{◌≡◌, ◌<◌, ◌≤◌, ℕ, Bool, true, false, List, [], ◌∷◌, ◌+◌, ◌-◌, ◌*◌, ◌^◌, map, take, drop, set, length, slice_index_or, Contains, count_ones}
+use Rattle.std.specs.List.{count_by}
 use Rattle.g1_words.specs.Heap.{Heap, object_at, objects, objects_in, start}
 use Rattle.g1_words.specs.Marks.{marks_of}
 use Rattle.g1_words.specs.Survivors.{in_set}
@@ -57,7 +57,3 @@ and_marked starts (p ∷ ps) = and_marked (set starts p true) ps
 -- where the objects of a region begin among words that the region starts at one of
 abbrev pub places_from : Heap → ℕ → ℕ → List ℕ
 places_from h first r = map (λ o. first + (o.at - start h r)) (objects_in h r)
-
--- where the objects of the window begin among its words, for the first so many of its regions
-abbrev pub places_to : Heap → List ℕ → ℕ → List ℕ
-places_to h window n = flat_map (λ i. places_from h (i * h.geometry.w) (slice_index_or window i 0)) (range_with_len 0 n)

@@ -14,8 +14,12 @@ use Rattle.g1_work.specs.Ranges.{IsCut, first_some}
 use Rattle.g1_image.specs.Draft.{ShapedBelow}
 use Rattle.g1_image.specs.Marks.{StartsIn}
 use Rattle.g1_image.specs.Faults.{IsFirstBreach, IsGoodSlot}
-use Rattle.g1_image.specs.Strays.{SlotsBetween, IsFirstStray, IsFirstStrayIn, AreFirstStrays}
+use Rattle.g1_image.specs.Strays.{SlotsBetween, IsFirstStray, IsFirstStrayIn}
 use Rattle.g1_image.proofs.Rows.{in_place, stands_starts}
+
+-- the answers are the first of each range
+abbrev pub AreFirstStrays : Heap → List ℕ → ℕ → List (Option ℕ) → Type 0
+AreFirstStrays h begins ranges found = AllZip (IsFirstStrayIn h begins) (range_with_len 0 ranges) found
 
 -- a region that an address lies in
 one_region : (w a p r : ℕ) → p * w ≤ a → a < p * w + w → r * w ≤ a → a < (r + 1) * w → p ≡ r

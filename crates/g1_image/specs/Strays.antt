@@ -1,6 +1,5 @@
 -- Slots that reference no object, found range by range.
 use Rattle.std.specs.Prelude.{◌≤◌, ◌<◌, ℕ, ◌+◌, ◌*◌, List, Option, None, Some, slice_index}
-use Rattle.std.specs.List.{range_with_len, AllZip}
 use Rattle.g1_words.specs.Heap.{Heap, start}
 use Rattle.g1_words.specs.Valid.{HasObject, IsSlotOf, IsReference}
 use Rattle.g1_words.specs.declared.object.Object.{Object}
@@ -26,10 +25,6 @@ IsFirstStrayOf h found = IsFirstStray h 0 (h.geometry.n * h.geometry.w) found
 -- the answer is the first of those in a range of regions, by where each range begins
 abbrev pub IsFirstStrayIn : Heap → List ℕ → ℕ → Option ℕ → Type 0
 IsFirstStrayIn h begins j found = IsFirstStray h (start h (slice_index begins j)) (start h (slice_index begins (j + 1))) found
-
--- the answers are the first of each range
-abbrev pub AreFirstStrays : Heap → List ℕ → ℕ → List (Option ℕ) → Type 0
-AreFirstStrays h begins ranges found = AllZip (IsFirstStrayIn h begins) (range_with_len 0 ranges) found
 
 -- no object starts from an address on and before the end of a region, if it starts in the region
 abbrev pub StartBefore : Heap → ℕ → ℕ → Type 0

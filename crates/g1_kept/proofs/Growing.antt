@@ -3,7 +3,11 @@ use Rattle.std.proofs.Common.{◌≡◌, ℕ, suc, ◌+◌, ◌<◌, ◌≤◌, 
 use Rattle.std.proofs.lemmas.Bool.{cases_lt}
 use Rattle.g1_words.specs.Heap.{Heap, word, object_at}
 use Rattle.g1_kept.specs.declared.pairs.Pairs.{Pairs}
-use Rattle.g1_kept.specs.Walk.{IsPaired, HasGrown, PairsRoots, PairsSlots, IsCompared, ComparesFirst, ComparesRegion, ComparesOutside, ComparesPairs}
+use Rattle.g1_kept.specs.Walk.{IsPaired, HasGrown, PairsRoots, PairsSlots, IsCompared, ComparesRegion, ComparesOutside, ComparesPairs}
+
+-- the first objects of a list were compared with themselves
+abbrev pub ComparesFirst : List ℕ → Heap → Heap → Pairs → List ℕ → ℕ → Type 0
+ComparesFirst set g h w starts k = (i : ℕ) → i < k → IsCompared set g h w (slice_index starts i) (slice_index starts i)
 
 pub none_then : {X : Type 0} (P : Type 0) (o : Option X) → ((x : X) → o ≡ Some x → ⊥) → IfNone o P → P
 none_then P None none h = h

@@ -20,7 +20,8 @@ use Rattle.g1_same.proofs.Tables.{place_of}
 use Rattle.g1_kept.specs.declared.pairs.Pairs.{Pairs}
 use Rattle.g1_kept.specs.Keeps.{MayHoldCopy, IsAsItWas, IsOutside, KeepsTable}
 use Rattle.g1_kept.specs.Lost.{HasOtherTop}
-use Rattle.g1_kept.specs.Walk.{IsCompared, ComparesFirst, ComparesRegion}
+use Rattle.g1_kept.specs.Walk.{IsCompared, ComparesRegion}
+use Rattle.g1_kept.proofs.Growing.{ComparesFirst}
 
 -- the addresses of some objects
 abbrev pub starts_of : List Object → List ℕ

@@ -62,10 +62,6 @@ pub record IsCompared (set : List ℕ) (g h : Heap) (w : Pairs) (a b : ℕ) : Ty
   pub alike : AreAlike g h a b
   pub slots : PairsSlots set g h w a b (object_at g a).refs
 
--- the first objects of a list were compared with themselves
-abbrev pub ComparesFirst : List ℕ → Heap → Heap → Pairs → List ℕ → ℕ → Type 0
-ComparesFirst set g h w starts k = (i : ℕ) → i < k → IsCompared set g h w (slice_index starts i) (slice_index starts i)
-
 -- the objects of a region were compared with themselves
 abbrev pub ComparesRegion : List ℕ → Heap → Heap → Pairs → ℕ → Type 0
 ComparesRegion set g h w r = (a : ℕ) → Contains (objects_in g r) (object_at g a) → IsCompared set g h w a a

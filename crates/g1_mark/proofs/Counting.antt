@@ -19,9 +19,14 @@ use Rattle.g1_frontier.proofs.Marks.{firsts_again}
 use Rattle.g1_words.proofs.Ordered.{Ordered, Ordered-from_pairs}
 use Rattle.g1_words.proofs.Rising.{IsBefore, objects_apart}
 use Rattle.g1_words.proofs.Sound.{sound}
-use Rattle.g1_mark.specs.Marked.{AreBytesOf, used}
+use Rattle.g1_mark.specs.Marked.{used}
 use Rattle.g1_mark.proofs.Reaching.{live_from_reached, reached_from_live}
 use Rattle.g1_mark.proofs.Sums.{sizes, ordered_part, sizes_fit, sizes_more, sizes_none, sizes_one}
+
+-- for each region, 8 bytes for each word of its objects at these addresses
+pub record AreBytesOf (h : Heap) (addresses bytes : List ℕ) : Type 0 where
+  pub one_each : length bytes ≡ h.geometry.n
+  pub each : (r : ℕ) → r < h.geometry.n → slice_index bytes r ≡ bytes_where h (has addresses) r
 
 -- ---- a list by its places
 

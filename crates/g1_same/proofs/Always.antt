@@ -16,12 +16,12 @@ use Rattle.g1_same.specs.declared.difference.How.{How}
 use Rattle.g1_same.specs.declared.difference.Difference.{Difference}
 use Rattle.g1_same.specs.declared.difference.Difference.TheVariants.{Roots, At}
 use Rattle.g1_same.specs.Same.{IsFirstDifference}
-use Rattle.g1_same.specs.Walk.{IsWalk, IsWay, IsBelow, IsEarlier, IsLinked, HasGrown, IsMet, IsSeen, IsLeast, IsStop, IsRoute, root, slot, LinksRoots, LinksSlots, LinksPairs, LinksTo, Names}
+use Rattle.g1_same.specs.Walk.{IsWalk, IsWay, IsBelow, IsEarlier, IsLinked, HasGrown, IsMet, IsSeen, IsLeast, IsStop, LinksRoots, LinksSlots, LinksPairs, LinksTo, Names}
 use Rattle.g1_same.specs.Laws.{SameOrDiffers}
 use Rattle.g1_same.proofs.Heaps.{root_names, slot_names}
 use Rattle.g1_same.proofs.Adding.{IsAdded, added_grown, added_walk, added_linked, added_below, linked_by, earlier_next, grown_same, few_pairs, pairs_fit}
 use Rattle.g1_same.proofs.Steps.{roots_more, roots_kept, slots_more, pairs_more, pairs_kept}
-use Rattle.g1_same.proofs.Routes.{route_of}
+use Rattle.g1_same.proofs.Routes.{IsRoute, root, slot, route_of}
 use Rattle.g1_same.proofs.Renamed.{same}
 use Rattle.g1_same.proofs.First.{first}
 use Rattle.g1_same.proofs.Made.{listed, empty_walk, empty_is_walk, more_walk, more_added}

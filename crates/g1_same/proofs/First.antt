@@ -11,11 +11,11 @@ use Rattle.g1_same.specs.declared.difference.How.TheVariants.{NullBefore, NullAf
 use Rattle.g1_same.specs.declared.difference.Difference.TheVariants.{At}
 use Rattle.g1_same.specs.Path.{Leads, LeadsTo, Together, Lower, Before}
 use Rattle.g1_same.specs.Same.{IsClash, ClashAt, rank, IsFirstDifference}
-use Rattle.g1_same.specs.Walk.{AreAlike, IsWay, IsWalk, IsEarlier, IsRoute, root, slot, IsLinked, IsNew, IsLeast, IsStop, LinksTo}
+use Rattle.g1_same.specs.Walk.{AreAlike, IsWay, IsWalk, IsEarlier, IsLinked, IsNew, IsLeast, IsStop, LinksTo}
 use Rattle.g1_same.proofs.Excludes.{leads_to_one}
 use Rattle.g1_same.proofs.Tables.{index_apart}
 use Rattle.g1_same.proofs.Adding.{before_within, after_within}
-use Rattle.g1_same.proofs.Routes.{route_of, route_one, route_before, before_push, stopped, route_leads, seen_clash}
+use Rattle.g1_same.proofs.Routes.{IsRoute, root, slot, route_of, route_one, route_before, before_push, stopped, route_leads, seen_clash}
 
 -- ---- the order of paths
 

@@ -8,7 +8,12 @@ use Rattle.g1_same.specs.declared.difference.How.{How}
 use Rattle.g1_same.specs.declared.difference.How.TheVariants.{NullBefore, NullAfter, Split, Joined, Size, Slots, Data}
 use Rattle.g1_same.specs.Path.{Leads, LeadsTo, Together, Lower, Before}
 use Rattle.g1_same.specs.Same.{IsClash, ClashAt}
-use Rattle.g1_same.specs.Walk.{IsWay, IsWalk, IsEarlier, IsBelow, IsRoute, root, slot, IsSeen, IsStop}
+use Rattle.g1_same.specs.Walk.{IsWay, IsWalk, IsEarlier, IsBelow, IsSeen, IsStop}
+
+-- the path of a way: that of the pair whose slot it is, and then the slot's number
+pub data IsRoute (w : Walk) : ℕ → ℕ → List ℕ → Type 0 where
+  root : (n : ℕ) → IsRoute w zero n (n ∷ [])
+  slot : (j n : ℕ) (p : List ℕ) → j < length w.before.items → IsRoute w (slice_index w.from.items j) (slice_index w.number.items j) p → IsRoute w (suc j) n (p ++ n ∷ [])
 
 -- ---- order
 

@@ -1,5 +1,5 @@
 -- What the walk over both heaps has found.
-use Rattle.std.specs.Prelude.{◌≡◌, ◌≢◌, ◌<◌, ◌≤◌, ◌↔◌, ◌⊎◌, ℕ, zero, suc, List, [], ◌∷◌, ◌++◌, ◌+◌, length, slice_index, Contains}
+use Rattle.std.specs.Prelude.{◌≡◌, ◌≢◌, ◌<◌, ◌≤◌, ◌↔◌, ◌⊎◌, ℕ, zero, suc, List, ◌+◌, length, slice_index, Contains}
 use Rattle.g1_words.specs.Heap.{Heap, word, object_at, objects}
 use Rattle.g1_same.specs.declared.walk.Walk.{Walk}
 use Rattle.g1_same.specs.declared.walk.Stop.{Stop}
@@ -122,11 +122,6 @@ IsSeen g h w (Split a m n) x y =
 IsSeen g h w (Joined m n b) x y =
     (x ≡ suc n) × (y ≡ suc b) × (m ≢ n) × (i : ℕ) × (i < length w.before.items) × (slice_index w.before.items i ≡ m) × (slice_index w.after.items i ≡ b)
 IsSeen g h w how x y = (p : List ℕ) → IsClash g h p how x y
-
--- the path of a way: that of the pair whose slot it is, and then the slot's number
-pub data IsRoute (w : Walk) : ℕ → ℕ → List ℕ → Type 0 where
-  root : (n : ℕ) → IsRoute w zero n (n ∷ [])
-  slot : (j n : ℕ) (p : List ℕ) → j < length w.before.items → IsRoute w (slice_index w.from.items j) (slice_index w.number.items j) p → IsRoute w (suc j) n (p ++ n ∷ [])
 
 -- what two words are to the walk
 abbrev pub IsMet : Heap → Heap → Walk → ℕ → ℕ → Met → Type 0

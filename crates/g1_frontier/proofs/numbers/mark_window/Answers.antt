@@ -3,8 +3,8 @@ use Rattle.std.proofs.Math.Nat.{mul-le-mul_right}
 use Rattle.std.proofs.lemmas.List.{length-replicate}
 use Rattle.g1_words.specs.Marks.{marks_of}
 use Rattle.g1_words.proofs.Bits.{marks_of-none}
-use Rattle.g1_frontier.specs.Numbers.{and_marked, places_to, places_from}
-use Rattle.g1_frontier.proofs.Numberings.{marked_region, starts_marked}
+use Rattle.g1_frontier.specs.Numbers.{and_marked, places_from}
+use Rattle.g1_frontier.proofs.Numberings.{places_to, marked_region, starts_marked}
 use Rattle.g1_frontier.proofs.Searching.{window_few}
 use Rattle.g1_frontier.proofs.numbers.mark_window.Goals as goal
 use Rattle.g1_frontier.proofs.numbers.mark_window.Goals.{After-region_words-width, In_ok-starts}

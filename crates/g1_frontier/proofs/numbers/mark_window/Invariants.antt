@@ -1,6 +1,7 @@
 use Rattle.std.proofs.Common.{◌≡◌, ◌*◌, length, replicate, false}
 use Rattle.g1_words.specs.Marks.{marks_of}
-use Rattle.g1_frontier.specs.Numbers.{and_marked, places_to}
+use Rattle.g1_frontier.specs.Numbers.{and_marked}
+use Rattle.g1_frontier.proofs.Numberings.{places_to}
 use Rattle.g1_frontier.proofs.numbers.mark_window.Given as goal
 
 abbrev pub invariant-loop-index : goal.invariant-loop-index

@@ -1,7 +1,7 @@
 use Rattle.std.proofs.Common.{◌≡◌, ◌*◌, ap, arith, length, subst, sym, ◌∙◌}
 use Rattle.g1_work.specs.Ranges.{IsCut, first_some}
-use Rattle.g1_image.specs.Strays.{AreFirstStrays, IsFirstStray}
-use Rattle.g1_image.proofs.StraySlots.{strays_all}
+use Rattle.g1_image.specs.Strays.{IsFirstStray}
+use Rattle.g1_image.proofs.StraySlots.{AreFirstStrays, strays_all}
 use Rattle.g1_image.proofs.strays.first_by_threads.Goals as goal
 
 pub cut_regions-requires-clause-count : goal.cut_regions-requires-clause-count

@@ -1,4 +1,5 @@
-use Rattle.g1_kept.specs.Walk.{HasGrown, ComparesFirst}
+use Rattle.g1_kept.specs.Walk.{HasGrown}
+use Rattle.g1_kept.proofs.Growing.{ComparesFirst}
 use Rattle.g1_kept.specs.Pause.{IsWalkIn}
 use Rattle.g1_kept.proofs.Outside.{IsAlong}
 use Rattle.g1_kept.proofs.keeping.compare_region.Given as goal

@@ -4,8 +4,7 @@ use Rattle.g1_words.specs.Heap.{word, region_of, object_at, objects}
 use Rattle.g1_words.specs.Lists.{has}
 use Rattle.g1_frontier.proofs.Scopes.{read}
 use Rattle.g1_frontier.proofs.Turns.{take_all}
-use Rattle.g1_mark.specs.Marked.{AreBytesOf}
-use Rattle.g1_mark.proofs.Counting.{zeros, bytes_few, bytes_here, region_there, word_there, counted_more, counted_none, counted_all, not_before}
+use Rattle.g1_mark.proofs.Counting.{AreBytesOf, zeros, bytes_few, bytes_here, region_there, word_there, counted_more, counted_none, counted_all, not_before}
 use Rattle.g1_mark.proofs.bytes.bytes_at.Goals as goal
 
 pub loop-address-init : goal.loop-address-init

@@ -1,7 +1,7 @@
 use Rattle.std.proofs.Common.{arith, ap, subst, sym, suc, ℕ, [], ◌∷◌, ◌++◌, ◌≡◌, ◌<◌, ◌-◌, ◌∙◌, length, reverse, slice_index, append_assoc}
 use Rattle.std.proofs.lemmas.List.{get_or_read, reverse-append}
 use Rattle.g1_same.specs.declared.walk.Walk.{Walk}
-use Rattle.g1_same.specs.Walk.{IsRoute, root, slot}
+use Rattle.g1_same.proofs.Routes.{IsRoute, root, slot}
 use Rattle.g1_same.proofs.First.{first}
 use Rattle.g1_same.proofs.comparing.report_difference.Goals as goal
 

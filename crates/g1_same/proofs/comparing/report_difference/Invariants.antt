@@ -1,5 +1,5 @@
 use Rattle.std.proofs.Common.{◌≤◌, ◌++◌, List, ℕ, length, reverse}
-use Rattle.g1_same.specs.Walk.{IsRoute}
+use Rattle.g1_same.proofs.Routes.{IsRoute}
 use Rattle.g1_same.proofs.comparing.report_difference.Given as goal
 
 abbrev pub invariant-loop-from : goal.invariant-loop-from
