@@ -11,6 +11,13 @@ pub record MayBeLive (h : Heap) (lives : List ℕ) : Type 0 where
   pub one_each : length lives ≡ h.geometry.n
   pub at_most_used : (r : ℕ) → kind h r ≡ Ordinary → slice_index lives r ≤ 8 * top h r
 
+-- A pause of the first j regions of an order of n costs `costs j`. Then m is the length of the longest beginning that the budget
+-- pays, and 0 if it doesn't pay even the empty one.
+pub record IsLongestPaid (costs : ℕ → ℕ) (n budget m : ℕ) : Type 0 where
+  pub within : m ≤ n
+  pub paid : 0 < m → costs m ≤ budget
+  pub longest : (j : ℕ) → j ≤ n → costs j ≤ budget → j ≤ m
+
 -- by the regions' remembered sets and live bytes
 module _ (c : Cost) (h : Heap) (remembered : List (List ℕ)) (lives : List ℕ) where
   -- the cost of region r
@@ -44,11 +51,9 @@ module _ (c : Cost) (h : Heap) (remembered : List (List ℕ)) (lives : List ℕ)
   abbrev pub pause_cost : ℕ → List ℕ → ℕ
   pause_cost d set = total c d (map cost_of set)
 
-  -- m is the length of the longest beginning that the budget pays, and 0 where it doesn't pay even the empty one
-  pub record IsLongest (d budget : ℕ) (order : List ℕ) (m : ℕ) : Type 0 where
-    pub within : m ≤ length order
-    pub paid : 0 < m → pause_cost d (take m order) ≤ budget
-    pub longest : (j : ℕ) → j ≤ length order → pause_cost d (take j order) ≤ budget → j ≤ m
+  -- m is the length of the longest beginning of the order that the budget pays
+  abbrev pub IsLongest : ℕ → ℕ → List ℕ → ℕ → Type 0
+  IsLongest d budget order m = IsLongestPaid (λ j. pause_cost d (take j order)) (length order) budget m
 
   -- the set is what the budget buys, by number
   pub record IsChosen (d budget : ℕ) (set : List ℕ) : Type 0 where

@@ -9,7 +9,7 @@ use Rattle.std.proofs.Math.Seq.{drop-append-add, take-append_seam}
 use Rattle.std.proofs.lemmas.List.{get_or-take, get_or-drop, drop-drop, take-append-drop, nil_from_length, drop-append-le, take-append-le, take-take, drop-take, length-take-le}
 use Rattle.std.proofs.lemmas.Slice.{drop-put_mid}
 use borrow.Rule.Slice.PartMut.{put_mid, post_of}
-use Rattle.g1_work.specs.Regions.{slice_of, IsCut, IsFilled}
+use Rattle.g1_work.specs.Regions.{slice_of, HoldsOfSlices, IsFilled}
 
 -- a slice ends where the next begins
 pub next_slice : (w j n : ℕ) → j < n → j * w + w ≤ n * w
@@ -106,7 +106,7 @@ shares n m more pos le many few =
     record { some = omega arith; fits = omega arith; others = omega arith; left = omega arith }
 
 -- the first here of n slices, and the others
-pub front_cut : (P : ℕ → List ℕ → Type 0) (w first n here : ℕ) (xs ys zs : List ℕ) → here ≤ n → xs ≡ ys ++ zs → length ys ≡ here * w → IsCut P w first n xs → IsCut P w first here ys
+pub front_cut : (P : ℕ → List ℕ → Type 0) (w first n here : ℕ) (xs ys zs : List ℕ) → here ≤ n → xs ≡ ys ++ zs → length ys ≡ here * w → HoldsOfSlices P w first n xs → HoldsOfSlices P w first here ys
 front_cut P w first n here xs ys zs le e l c = record {
   size = l;
   room = omega arith;
@@ -114,7 +114,7 @@ front_cut P w first n here xs ys zs le e l c = record {
       (subst (λ (s : List ℕ). P (first + k) (slice_of w k s)) e (c.each k (omega arith)));
 }
 
-pub back_cut : (P : ℕ → List ℕ → Type 0) (w first n here : ℕ) (xs ys zs : List ℕ) → here ≤ n → xs ≡ ys ++ zs → length ys ≡ here * w → IsCut P w first n xs → IsCut P w (first + here) (n - here) zs
+pub back_cut : (P : ℕ → List ℕ → Type 0) (w first n here : ℕ) (xs ys zs : List ℕ) → here ≤ n → xs ≡ ys ++ zs → length ys ≡ here * w → HoldsOfSlices P w first n xs → HoldsOfSlices P w (first + here) (n - here) zs
 back_cut P w first n here xs ys zs le e l c =
     let parts : (here + (n - here)) * w ≡ here * w + (n - here) * w = add-mul here (n - here) w in
     let whole : here + (n - here) ≡ n = omega arith in

@@ -1,8 +1,8 @@
--- A list of words that is cut into slices of one width.
+-- A list that is cut into slices of one width.
 use Rattle.std.specs.Prelude.{◌≡◌, ℕ, ◌+◌, ◌*◌, ◌/◌, ◌^◌, ◌<◌, List, length, take, drop}
 
--- slice r of xs, from 0, each of w words
-abbrev pub slice_of : ℕ → ℕ → List ℕ → List ℕ
+-- slice r of xs, from 0, each w long
+abbrev pub slice_of : {A : Type 0} → ℕ → ℕ → List A → List A
 slice_of w r xs = take w (drop (r * w) xs)
 
 -- P holds of each slice and its number
@@ -14,7 +14,7 @@ abbrev pub EveryChange : (ℕ → List ℕ → List ℕ → Type 0) → ℕ → 
 EveryChange R w xs ys = (r : ℕ) → r < length xs / w → R r (slice_of w r xs) (slice_of w r ys)
 
 -- xs is so many slices, the first of which is slice first of the whole, and P holds of each
-pub record IsCut (P : ℕ → List ℕ → Type 0) (w first count : ℕ) (xs : List ℕ) : Type 0 where
+pub record HoldsOfSlices (P : ℕ → List ℕ → Type 0) (w first count : ℕ) (xs : List ℕ) : Type 0 where
   pub size : length xs ≡ count * w
   pub room : first + count < 2 ^ 64
   pub each : (k : ℕ) → k < count → P (first + k) (slice_of w k xs)

@@ -1,6 +1,6 @@
 ghost use Rattle.std.specs.Prelude.{◌≡◌, ℕ, ◌+◌, ◌*◌, ◌/◌, ◌%◌, ◌^◌, ◌<◌, ◌≤◌, List, length};
 ghost use Rattle.std.specs.Thread.{IsSync};
-ghost use Rattle.g1_work.specs.Regions.{EverySlice, EveryChange, IsCut, IsFilled};
+ghost use Rattle.g1_work.specs.Regions.{EverySlice, EveryChange, HoldsOfSlices, IsFilled};
 ghost use Rattle.g1_work.specs.Team.{AreWorkers};
 
 use crate::fill::Fill;
@@ -70,7 +70,7 @@ fn fill_span<R: Threads + Sync, F: Fill + Sync, G: Gate + Sync>(
 )
     requires runs { (0 < span.runs) × (span.runs ≤ span.count) }
     requires named { span.run + span.runs < 2 ^ 64 }
-    requires cut { IsCut (F.ready writer.now.fill.now) writer.now.width span.first span.count words.old }
+    requires cut { HoldsOfSlices (F.ready writer.now.fill.now) writer.now.width span.first span.count words.old }
     ensures { IsFilled (F.fills writer.now.fill.now) writer.now.width span.first span.count words.old words.new }
 {
     if span.runs == 1 {
@@ -108,19 +108,19 @@ fn fill_both<R: Threads + Sync, F: Fill + Sync, G: Gate + Sync>(
 )
     requires front_runs { (0 < front.runs) × (front.runs ≤ front.count) }
     requires front_named { front.run + front.runs < 2 ^ 64 }
-    requires front { IsCut (F.ready writer.now.fill.now) writer.now.width front.first front.count a.old }
+    requires front { HoldsOfSlices (F.ready writer.now.fill.now) writer.now.width front.first front.count a.old }
     requires back_runs { (0 < back.runs) × (back.runs ≤ back.count) }
     requires back_named { back.run + back.runs < 2 ^ 64 }
-    requires back { IsCut (F.ready writer.now.fill.now) writer.now.width back.first back.count b.old }
+    requires back { HoldsOfSlices (F.ready writer.now.fill.now) writer.now.width back.first back.count b.old }
     ensures front { IsFilled (F.fills writer.now.fill.now) writer.now.width front.first front.count a.old a.new }
     ensures back { IsFilled (F.fills writer.now.fill.now) writer.now.width back.first back.count b.old b.new }
 {
     let mut fill_front = ||
-        requires { IsSync R.row × IsSync F.row × IsSync G.row × (0 < front.runs) × (front.runs ≤ front.count) × (front.run + front.runs < 2 ^ 64) × IsCut (F.ready writer.now.fill.now) writer.now.width front.first front.count a.now }
+        requires { IsSync R.row × IsSync F.row × IsSync G.row × (0 < front.runs) × (front.runs ≤ front.count) × (front.run + front.runs < 2 ^ 64) × HoldsOfSlices (F.ready writer.now.fill.now) writer.now.width front.first front.count a.now }
         ensures { IsFilled (F.fills writer.entry.now.fill.now) writer.entry.now.width front.first front.count a.entry.now a.exit.now }
     { fill_span(rt, writer, front, a) };
     let mut fill_back = ||
-        requires { IsSync R.row × IsSync F.row × IsSync G.row × (0 < back.runs) × (back.runs ≤ back.count) × (back.run + back.runs < 2 ^ 64) × IsCut (F.ready writer.now.fill.now) writer.now.width back.first back.count b.now }
+        requires { IsSync R.row × IsSync F.row × IsSync G.row × (0 < back.runs) × (back.runs ≤ back.count) × (back.run + back.runs < 2 ^ 64) × HoldsOfSlices (F.ready writer.now.fill.now) writer.now.width back.first back.count b.now }
         ensures { IsFilled (F.fills writer.entry.now.fill.now) writer.entry.now.width back.first back.count b.entry.now b.exit.now }
     { fill_span(rt, writer, back, b) };
     join_mut(rt, &mut fill_front, &mut fill_back);
@@ -128,7 +128,7 @@ fn fill_both<R: Threads + Sync, F: Fill + Sync, G: Gate + Sync>(
 
 // Fills `count` regions from `first` on, one after another.
 fn fill_run<F: Fill>(fill: &F, first: usize, count: usize, width: usize, words: &mut [u64])
-    requires { IsCut (F.ready fill.now) width first count words.old }
+    requires { HoldsOfSlices (F.ready fill.now) width first count words.old }
     ensures { IsFilled (F.fills fill.now) width first count words.old words.new }
 {
     for k in 0..count {
