@@ -38,7 +38,7 @@ impl Marks {
         })
     }
 
-    /// No marks, with room for so many.
+    /// No marks. Room for so many is asked for at once.
     ///
     /// # Errors
     /// `AllocError` if the allocation was refused.
