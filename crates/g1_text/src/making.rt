@@ -1,8 +1,8 @@
 ghost use Rattle.std.specs.Prelude.{◌≡◌, ℕ, List, None, Some, false, IfOk, MatchResult};
 ghost use Rattle.g1_image.specs.Image.{Image as ImageOf, IsImage, IsTextIn};
 ghost use Rattle.g1_image.specs.declared.cursor.Version.TheVariants.{Two};
-ghost use Rattle.g1_text.specs.Lines.{image_text};
 ghost use Rattle.g1_image.specs.Parts.{CountsFit};
+ghost use Rattle.g1_text.specs.Lines.{image_text};
 ghost use Rattle.g1_text.specs.Reading.{HasLines};
 ghost use Rattle.g1_text.specs.Content.{Content, IsClosed, IsContentOf, SaysAll, SaysImage, file_with};
 ghost use Rattle.g1_text.specs.Counted.{IsMadeOf};

@@ -29,7 +29,7 @@ pub struct Graph<'a> {
     pub first_stale: Option<(u64, Expected)>,
 }
 
-/// Whether a text has lines of objects by name: the first word that is no comment is `graph`.
+/// Whether a text has lines of objects by name: the first word outside comments is `graph`, and all lines up to it are UTF-8.
 pub fn is_graph(text: &[u8]) -> bool {
     let mut rest = Some(text);
     'lines: while let Some(left) = rest {
