@@ -1,10 +1,15 @@
+ghost use Rattle.std.specs.Prelude.{IfErr};
+ghost use Rattle.g1_text.specs.Refused.{IsLineOrMemory};
+
 use crate::draft::{Draft, Placed};
 use crate::expected::{Expected, Wrong};
 use g1_words::{Geometry, card_of, region_of};
 use std::alloc::AllocError;
 
 /// Gives each region the cards of other regions that hold a slot which leads into it.
-pub(crate) fn cover(draft: &mut Draft) -> Result<(), Wrong> {
+pub(crate) fn cover(draft: &mut Draft) -> Result<(), Wrong>
+    ensures fault { IfErr result IsLineOrMemory }
+{
     check_empty(&draft.remembered, &draft.lines.remembered)?;
     let geometry = draft.geometry;
     for object in &draft.objects {
@@ -15,7 +20,9 @@ pub(crate) fn cover(draft: &mut Draft) -> Result<(), Wrong> {
 }
 
 // No line tells cards beside 'covered'.
-fn check_empty(remembered: &[Vec<u32>], lines: &[u64]) -> Result<(), Wrong> {
+fn check_empty(remembered: &[Vec<u32>], lines: &[u64]) -> Result<(), Wrong>
+    ensures fault { IfErr result IsLineOrMemory }
+{
     for (set, line) in remembered.iter().zip(lines.iter()) {
         if !set.is_empty() {
             return Err(Wrong::Line {

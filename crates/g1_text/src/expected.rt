@@ -153,9 +153,13 @@ pub(crate) enum Refusal {
 }
 
 impl Refusal {
+    ghost use Rattle.std.specs.Prelude.{◌≡◌};
+    ghost use Rattle.g1_text.specs.Refused.{IsLineOrMemory};
+
     /// The same, of the line of this number.
     pub(crate) fn at(self, number: u64) -> Wrong
-        ensures { self ≡ Refusal.Memory → result ≡ Wrong.Fault Fault.Memory }
+        ensures memory { self ≡ Refusal.Memory → result ≡ Wrong.Fault Fault.Memory }
+        ensures line { IsLineOrMemory result }
     {
         match self {
             Refusal::Expected(expected) => Wrong::Line { number, expected },

@@ -1,13 +1,14 @@
-ghost use Rattle.std.specs.Prelude.{◌≡◌, ℕ, List, None, Some, false, IfOk, MatchResult};
+ghost use Rattle.std.specs.Prelude.{◌≡◌, ℕ, List, None, Some, false, IfOk, IfErr, MatchResult};
 ghost use Rattle.g1_image.specs.Image.{Image as ImageOf, IsImage, IsTextIn};
 ghost use Rattle.g1_image.specs.declared.cursor.Version.TheVariants.{Two};
-ghost use Rattle.g1_text.specs.Lines.{image_text};
 ghost use Rattle.g1_image.specs.Parts.{CountsFit};
+ghost use Rattle.g1_text.specs.Lines.{image_text};
 ghost use Rattle.g1_text.specs.Reading.{HasLines};
 ghost use Rattle.g1_text.specs.Content.{Content, IsClosed, IsContentOf, SaysAll, SaysImage, file_with};
 ghost use Rattle.g1_text.specs.Counted.{IsMadeOf};
 ghost use Rattle.g1_text.specs.Drafts.{content};
 ghost use Rattle.g1_text.specs.Made.{IsImageText};
+ghost use Rattle.g1_text.specs.Refused.{IsLineOrMemory};
 
 use crate::covering::cover;
 use crate::draft::Draft;
@@ -27,6 +28,7 @@ use std::alloc::Global;
 /// when all have been read. `Fault::Memory` else.
 pub fn make(alloc: Global, text: &[u8]) -> Result<Vec<u8>, Wrong>
     ensures image { IfOk result (λ v. IsImageText v.items) }
+    ensures fault { IfErr result IsLineOrMemory }
     ensures whole { (i : ImageOf) → IsImage i → text.now ≡ image_text i → MatchResult result (λ v. IsTextIn Two v.items i) (λ e. e ≡ Wrong.Fault Fault.Memory) }
     ensures says { (i : ImageOf) → SaysImage text.now i → MatchResult result (λ v. IsTextIn Two v.items i) (λ e. e ≡ Wrong.Fault Fault.Memory) }
     ensures only { (lines : List (List (List ℕ))) (c : Content) → HasLines text.now lines → SaysAll None lines (Some c) → IsClosed c → CountsFit (file_with c) → IfOk result (λ v. IsMadeOf c v.items) }
@@ -38,6 +40,7 @@ pub fn make(alloc: Global, text: &[u8]) -> Result<Vec<u8>, Wrong>
 // Settles what was read, and packs it into bytes that are an image's.
 fn finish(alloc: Global, draft: &mut Draft) -> Result<Vec<u8>, Wrong>
     ensures image { IfOk result (λ v. IsImageText v.items) }
+    ensures fault { IfErr result IsLineOrMemory }
     ensures text { (i : ImageOf) → IsContentOf (content draft.old) i → MatchResult result (λ v. IsTextIn Two v.items i) (λ e. e ≡ Wrong.Fault Fault.Memory) }
     ensures only { draft.old.covered ≡ false → CountsFit (file_with (content draft.old)) → IfOk result (λ v. IsMadeOf (content draft.old) v.items) }
 {
@@ -49,6 +52,7 @@ fn finish(alloc: Global, draft: &mut Draft) -> Result<Vec<u8>, Wrong>
 
 fn check_and_pack(alloc: Global, draft: &Draft) -> Result<Vec<u8>, Wrong>
     ensures image { IfOk result (λ v. IsImageText v.items) }
+    ensures fault { IfErr result IsLineOrMemory }
     ensures text { (i : ImageOf) → IsContentOf (content draft.now) i → MatchResult result (λ v. IsTextIn Two v.items i) (λ e. e ≡ Wrong.Fault Fault.Memory) }
     ensures only { CountsFit (file_with (content draft.now)) → IfOk result (λ v. IsMadeOf (content draft.now) v.items) }
 {
@@ -60,32 +64,42 @@ fn check_and_pack(alloc: Global, draft: &Draft) -> Result<Vec<u8>, Wrong>
     }
 }
 
-// Traces a fault of the bytes to the line that it comes from.
+// Traces a fault of the bytes to the line that it comes from: the heading, if it is no other's.
 fn trace(draft: &Draft, fault: Fault) -> Wrong
-    ensures { fault ≡ Fault.Memory → result ≡ Wrong.Fault Fault.Memory }
+    ensures memory { fault ≡ Fault.Memory → result ≡ Wrong.Fault Fault.Memory }
+    ensures line { IsLineOrMemory result }
 {
     let lines = &draft.lines;
+    let heading = lines.heading.line;
     match fault {
-        Fault::Reference(Place::Root(root)) => at(&lines.roots, root, Expected::Root, fault),
-        Fault::Reference(Place::Slot(slot)) => slot_line(draft, slot, fault),
-        Fault::Card(Stand::Dirty(place)) => at(&lines.log, place, Expected::Dirty, fault),
-        Fault::Card(Stand::Region(region)) => at(&lines.remembered, region, Expected::Cards, fault),
-        other => Wrong::Fault(other),
+        Fault::Memory => Wrong::Fault(fault),
+        Fault::Reference(Place::Root(root)) => at(&lines.roots, root, heading, Expected::Root),
+        Fault::Reference(Place::Slot(slot)) => slot_line(draft, slot),
+        Fault::Card(Stand::Dirty(place)) => at(&lines.log, place, heading, Expected::Dirty),
+        Fault::Card(Stand::Region(region)) => {
+            at(&lines.remembered, region, heading, Expected::Cards)
+        }
+        _ => Wrong::Line {
+            number: heading,
+            expected: Expected::Sizes,
+        },
     }
 }
 
-fn at(lines: &[u64], place: u32, expected: Expected, fault: Fault) -> Wrong {
-    match lines.get(place as usize) {
-        Some(number) => Wrong::Line {
-            number: *number,
-            expected,
-        },
-        None => Wrong::Fault(fault),
-    }
+fn at(lines: &[u64], place: u32, heading: u64, expected: Expected) -> Wrong
+    ensures { IsLineOrMemory result }
+{
+    let number = match lines.get(place as usize) {
+        Some(number) => *number,
+        None => heading,
+    };
+    Wrong::Line { number, expected }
 }
 
 // The line of the object that a slot belongs to: the last one below the slot.
-fn slot_line(draft: &Draft, slot: u64, fault: Fault) -> Wrong {
+fn slot_line(draft: &Draft, slot: u64) -> Wrong
+    ensures { IsLineOrMemory result }
+{
     for object in draft.objects.iter().rev() {
         if object.at < slot {
             return Wrong::Line {
@@ -94,5 +108,8 @@ fn slot_line(draft: &Draft, slot: u64, fault: Fault) -> Wrong {
             };
         }
     }
-    Wrong::Fault(fault)
+    Wrong::Line {
+        number: draft.lines.heading.line,
+        expected: Expected::Sizes,
+    }
 }

@@ -1,6 +1,7 @@
 //! Lines of objects by name, without regions and addresses.
-ghost use Rattle.std.specs.Prelude.{IfOk};
+ghost use Rattle.std.specs.Prelude.{IfErr, IfOk};
 ghost use Rattle.g1_text.specs.Made.{IsImageText};
+ghost use Rattle.g1_text.specs.Refused.{IsLineOrMemory};
 
 use crate::covering::cover;
 use crate::draft::{Draft, Heading, Placed};
@@ -9,7 +10,7 @@ use crate::packing::{check_bytes, pack};
 use crate::placing::{Entry, choose_sizes, place, regions_needed};
 use crate::reading::{HeapSizes, add_data, add_zeros, first_line, given_words, sizes};
 use crate::words::{Words, cut_words, size_and_slots};
-use g1_words::{Geometry, MOST_ROOTS, header_word};
+use g1_words::{Fault, Geometry, MOST_ROOTS, header_word};
 use std::alloc::{AllocError, Global};
 use std::collections::HashMap;
 use std::str;
@@ -29,7 +30,7 @@ pub struct Graph<'a> {
     pub first_stale: Option<(u64, Expected)>,
 }
 
-/// Whether a text has lines of objects by name: the first word that is no comment is `graph`.
+/// Whether a text has lines of objects by name: the first word outside comments is `graph`, and all lines up to it are UTF-8.
 pub fn is_graph(text: &[u8]) -> bool {
     let mut rest = Some(text);
     'lines: while let Some(left) = rest {
@@ -51,7 +52,9 @@ pub fn is_graph(text: &[u8]) -> bool {
 ///
 /// The number of a line that is not what is expected there, and what is expected. The names and the sizes of all lines
 /// are read first, then the words of the roots, and those of the objects by address. `Fault::Memory` else.
-pub fn read_graph<'a>(alloc: Global, text: &'a [u8]) -> Result<Graph<'a>, Wrong> {
+pub fn read_graph<'a>(alloc: Global, text: &'a [u8]) -> Result<Graph<'a>, Wrong>
+    ensures fault { IfErr result IsLineOrMemory }
+{
     let mut lines = read_lines(alloc, text)?;
     match lay_out(alloc, &mut lines) {
         Ok(mut draft) => fill(alloc, &mut draft, &lines),
@@ -60,7 +63,9 @@ pub fn read_graph<'a>(alloc: Global, text: &'a [u8]) -> Result<Graph<'a>, Wrong>
 }
 
 // Fills the places that were found.
-fn fill<'a>(alloc: Global, draft: &mut Draft, lines: &Lines<'a>) -> Result<Graph<'a>, Wrong> {
+fn fill<'a>(alloc: Global, draft: &mut Draft, lines: &Lines<'a>) -> Result<Graph<'a>, Wrong>
+    ensures fault { IfErr result IsLineOrMemory }
+{
     let mut graph = Graph {
         text: Vec::new(alloc),
         names: Vec::new(alloc),
@@ -82,6 +87,7 @@ fn fill<'a>(alloc: Global, draft: &mut Draft, lines: &Lines<'a>) -> Result<Graph
 /// As of `read_graph`. A name that no object has is not expected.
 pub fn make_graph(alloc: Global, text: &[u8]) -> Result<Vec<u8>, Wrong>
     ensures image { IfOk result (λ v. IsImageText v.items) }
+    ensures fault { IfErr result IsLineOrMemory }
 {
     let Graph {
         text: bytes,
@@ -91,10 +97,11 @@ pub fn make_graph(alloc: Global, text: &[u8]) -> Result<Vec<u8>, Wrong>
     if let Some((number, expected)) = first_stale {
         return Err(Wrong::Line { number, expected });
     }
-    if let Err(fault) = check_bytes(alloc, bytes.as_slice()) {
-        return Err(Wrong::Fault(fault));
+    match check_bytes(alloc, bytes.as_slice()) {
+        Ok(()) => Ok(bytes),
+        Err(Fault::Memory) => Err(Wrong::Fault(Fault::Memory)),
+        Err(_) => Err(Refusal::Expected(Expected::Sizes).at(1)),
     }
-    Ok(bytes)
 }
 
 // What lines say, and the addresses of the objects once they have them.
@@ -110,7 +117,9 @@ struct Lines<'a> {
     order: Vec<u64>,
 }
 
-fn read_lines<'a>(alloc: Global, text: &'a [u8]) -> Result<Lines<'a>, Wrong> {
+fn read_lines<'a>(alloc: Global, text: &'a [u8]) -> Result<Lines<'a>, Wrong>
+    ensures fault { IfErr result IsLineOrMemory }
+{
     let mut lines = Lines {
         heading: 0,
         sizes: None,
@@ -313,7 +322,9 @@ fn fill_objects<'a>(
     graph: &mut Graph<'a>,
     draft: &mut Draft,
     lines: &Lines<'a>,
-) -> Result<(), Wrong> {
+) -> Result<(), Wrong>
+    ensures fault { IfErr result IsLineOrMemory }
+{
     let mut words = Vec::new(alloc);
     for place in &lines.order {
         let Some(entry) = lines.entries.get(*place as usize) else {

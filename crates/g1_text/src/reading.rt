@@ -1,4 +1,4 @@
-ghost use Rattle.std.specs.Prelude.{◌≡◌, ◌<◌, ◌+◌, ◌^◌, ℕ, Bool, List, [], ◌∷◌, ◌++◌, Option, None, Some, Ok, true, false, IsUtf8, length, map, replicate, decimal, codes, All, IsTrue, IfSome, IfOk, OnOk, MatchOption, MatchResult};
+ghost use Rattle.std.specs.Prelude.{◌≡◌, ◌<◌, ◌+◌, ◌^◌, ℕ, Bool, List, [], ◌∷◌, ◌++◌, Option, None, Some, Ok, true, false, IsUtf8, length, map, replicate, decimal, codes, All, IsTrue, IfSome, IfOk, IfErr, OnOk, MatchOption, MatchResult};
 ghost use Rattle.g1_words.specs.declared.region.Kind.{Kind as KindOf};
 ghost use Rattle.g1_words.specs.declared.region.Region.{Region as RegionOf};
 ghost use Rattle.g1_words.specs.Kind.{kind_word};
@@ -6,6 +6,7 @@ ghost use Rattle.g1_text.specs.Lines.{reference_word, current_word, cards_words,
 ghost use Rattle.g1_text.specs.Reading.{words_in, says_something, parts_of, HasLines};
 ghost use Rattle.g1_text.specs.Content.{Content, Counts, Line, Root, Dirty, Numbers, Remembered, Holds, words_of, Takes, MayFollow, with_region, one_found, Begins, Says, SaysAll, IsClosed};
 ghost use Rattle.g1_text.specs.Drafts.{content, counts_of, Becomes, said};
+ghost use Rattle.g1_text.specs.Refused.{IsLineOrMemory};
 
 use crate::draft::{Draft, Heading, Placed, Told};
 use crate::expected::{Expected, Refusal, Wrong};
@@ -17,7 +18,8 @@ use std::str;
 
 /// Reads lines one after the other.
 pub(crate) fn read(alloc: Global, text: &[u8]) -> Result<Draft, Wrong>
-    ensures { (lines : List (List (List ℕ))) (c : Content) → HasLines text.now lines → SaysAll None lines (Some c) → IsClosed c → MatchResult result (λ d. content d ≡ c) (λ e. e ≡ Wrong.Fault Fault.Memory) }
+    ensures fault { IfErr result IsLineOrMemory }
+    ensures says { (lines : List (List (List ℕ))) (c : Content) → HasLines text.now lines → SaysAll None lines (Some c) → IsClosed c → MatchResult result (λ d. content d ≡ c) (λ e. e ≡ Wrong.Fault Fault.Memory) }
 {
     let mut draft = None;
     let parts = read_lines(alloc, &mut draft, text)?;
@@ -30,7 +32,8 @@ pub(crate) fn read(alloc: Global, text: &[u8]) -> Result<Draft, Wrong>
 
 // Reads each line, and returns how many parts the text has: there is one behind the last LF.
 fn read_lines(alloc: Global, draft: &mut Option<Draft>, text: &[u8]) -> Result<u64, Wrong>
-    ensures { (lines : List (List (List ℕ))) (c : Content) → HasLines text.now lines → SaysAll (said draft.old) lines (Some c) → MatchResult result (λ _. said draft.new ≡ Some c) (λ e. e ≡ Wrong.Fault Fault.Memory) }
+    ensures fault { IfErr result IsLineOrMemory }
+    ensures says { (lines : List (List (List ℕ))) (c : Content) → HasLines text.now lines → SaysAll (said draft.old) lines (Some c) → MatchResult result (λ _. said draft.new ≡ Some c) (λ e. e ≡ Wrong.Fault Fault.Memory) }
 {
     let mut number = 0u64;
     let mut words = Vec::new(alloc);

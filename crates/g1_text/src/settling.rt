@@ -1,7 +1,8 @@
-ghost use Rattle.std.specs.Prelude.{◌≡◌, Ok, OnOk};
+ghost use Rattle.std.specs.Prelude.{◌≡◌, Ok, IfErr, OnOk};
 ghost use Rattle.g1_text.specs.Content.{Agrees, CountsAgree};
 ghost use Rattle.g1_text.specs.Counted.{HeadingAgrees, IsCurrentOrdinary};
 ghost use Rattle.g1_text.specs.Drafts.{content, counts_of};
+ghost use Rattle.g1_text.specs.Refused.{IsLineOrMemory};
 
 use crate::draft::{Draft, Told};
 use crate::expected::{Expected, Wrong};
@@ -12,6 +13,7 @@ use g1_words::Region;
 pub(crate) fn settle(draft: &Draft) -> Result<(), Wrong>
     ensures ok { Agrees (content draft.now) → result ≡ Ok tt }
     ensures only { OnOk result (Agrees (content draft.now)) }
+    ensures fault { IfErr result IsLineOrMemory }
 {
     if let Err(expected) = settle_heading(draft) {
         let number = draft.lines.heading.line;

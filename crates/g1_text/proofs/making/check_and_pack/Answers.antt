@@ -29,7 +29,7 @@ returns-in-Ok-clause-text c = λ i is. packed (content c.args.draft.now) i is c.
 
 pub returns-in-Err-clause-text : goal.returns-in-Err-clause-text
 returns-in-Err-clause-text c = λ i is.
-    c.trace.ensures (memory (content c.args.draft.now) i is c.in_ok-bytes.bytes.items c.as_slice.result.now c.in-Err.fault c.as_slice.ensures.value
+    c.trace.ensures.memory (memory (content c.args.draft.now) i is c.in_ok-bytes.bytes.items c.as_slice.result.now c.in-Err.fault c.as_slice.ensures.value
     (λ fit. c.in_ok-bytes.ensures fit) c.in-Err.ensures.err)
 
 pub returns-in-Ok-clause-only : goal.returns-in-Ok-clause-only

@@ -10,25 +10,25 @@ use Rattle.g1_text.proofs.making.make.Goals as goal
 pub returns-in_err-draft-clause-whole : goal.returns-in_err-draft-clause-whole
 returns-in_err-draft-clause-whole c = λ i good e.
     let s = full_text_says i good c.args.text.now e in
-    let out = c.in_err-draft.ensures s.lines s.content s.has s.says s.closed in
+    let out = c.in_err-draft.ensures.says s.lines s.content s.has s.says s.closed in
     search rules
 
 pub returns-in_err-draft-clause-says : goal.returns-in_err-draft-clause-says
 returns-in_err-draft-clause-says c = λ i s.
-    let out = c.in_err-draft.ensures s.lines s.content s.has s.says s.closed in
+    let out = c.in_err-draft.ensures.says s.lines s.content s.has s.says s.closed in
     search rules
 
 pub returns-clause-whole : goal.returns-clause-whole
 returns-clause-whole c = λ i good e.
     let s = full_text_says i good c.args.text.now e in
-    c.finish.ensures.text i (subst (λ x. IsContentOf x i) (sym (c.in_ok-draft.ensures s.lines s.content s.has s.says s.closed)) s.is)
+    c.finish.ensures.text i (subst (λ x. IsContentOf x i) (sym (c.in_ok-draft.ensures.says s.lines s.content s.has s.says s.closed)) s.is)
 
 pub returns-clause-says : goal.returns-clause-says
 returns-clause-says c = λ i s.
-    c.finish.ensures.text i (subst (λ x. IsContentOf x i) (sym (c.in_ok-draft.ensures s.lines s.content s.has s.says s.closed)) s.is)
+    c.finish.ensures.text i (subst (λ x. IsContentOf x i) (sym (c.in_ok-draft.ensures.says s.lines s.content s.has s.says s.closed)) s.is)
 
 pub returns-clause-only : goal.returns-clause-only
 returns-clause-only c = λ lines d has says closed fit.
-    let same = c.in_ok-draft.ensures lines d has says closed in
+    let same = c.in_ok-draft.ensures.says lines d has says closed in
     let plain = ap (λ (s : Content). s.covered) same ∙ uncovered d lines says in
     subst (λ s. IfOk c.finish.result (λ v. IsMadeOf s v.items)) same (c.finish.ensures.only plain (subst (λ s. CountsFit (file_with s)) (sym same) fit))

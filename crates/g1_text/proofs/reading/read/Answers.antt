@@ -6,10 +6,10 @@ use Rattle.g1_text.specs.Drafts.{said}
 use Rattle.g1_text.proofs.Turns.{some_one}
 use Rattle.g1_text.proofs.reading.read.Goals as goal
 
-pub returns-in_default : goal.returns-in_default
-returns-in_default c = λ lines after has all closed. absurd (false≢true (ap is_some (sym (ap said c.in_default.is) ∙ c.in_ok-parts.ensures lines after has all)))
+pub returns-in_default-clause-says : goal.returns-in_default-clause-says
+returns-in_default-clause-says c = λ lines after has all closed. absurd (false≢true (ap is_some (sym (ap said c.in_default.is) ∙ c.in_ok-parts.ensures.says lines after has all)))
 
-pub returns : goal.returns
-returns c = λ lines after has all closed.
-    let e = some_one (sym (ap said c.in-Some.is) ∙ c.in_ok-parts.ensures lines after has all) in
+pub returns-clause-says : goal.returns-clause-says
+returns-clause-says c = λ lines after has all closed.
+    let e = some_one (sym (ap said c.in-Some.is) ∙ c.in_ok-parts.ensures.says lines after has all) in
     c.in_ok-close.ensures (ap (λ s. s.beyond) e ∙ closed.0) (subst (λ (s : Content). s.geometry.n ≤ length s.regions) (sym e) closed.1) ∙ e
