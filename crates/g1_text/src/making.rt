@@ -1,10 +1,9 @@
 ghost use Rattle.std.specs.Prelude.{◌≡◌, IfOk, MatchResult};
-ghost use Rattle.g1_image.specs.Image.{Image as ImageOf, IsImage, IsTextIn};
+ghost use Rattle.g1_image.specs.Image.{Image as ImageOf, IsImage, IsImageText, IsTextIn};
 ghost use Rattle.g1_image.specs.declared.cursor.Version.TheVariants.{Two};
 ghost use Rattle.g1_text.specs.Lines.{image_text};
 ghost use Rattle.g1_text.specs.Content.{IsContentOf, SaysImage};
 ghost use Rattle.g1_text.specs.Drafts.{content};
-ghost use Rattle.g1_text.specs.Made.{IsImageText};
 
 use crate::covering::cover;
 use crate::draft::Draft;
