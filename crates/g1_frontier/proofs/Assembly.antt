@@ -14,7 +14,7 @@ use Rattle.g1_words.proofs.Members.{In}
 use Rattle.g1_words.proofs.Ordered.{Ordered, pairs_from_ordered}
 use Rattle.g1_frontier.specs.declared.offering.Holder.{Holder}
 use Rattle.g1_frontier.specs.Offering.{Try, pair_of, answered_true, offer_of, HasTried}
-use Rattle.g1_frontier.specs.Items.{piece}
+use Rattle.g1_work.specs.Regions.{slice_of}
 use Rattle.g1_frontier.specs.Round.{IsFreshHolder, IsGivenOut, HasTaken, HasOffered, Rises}
 use Rattle.g1_frontier.proofs.Offerings.{tried_none, tried_append}
 use Rattle.g1_frontier.proofs.Pieces.{all_pieces, some_pieces}
@@ -152,9 +152,9 @@ given_seats t seat count before g =
 
 -- the seats of all workers together, and what they kept
 module _ {A : Type 0} (t : TableView) (place : ℕ → ℕ) (f : A → List (ℕ × ℕ)) (size : ℕ) (items : List A) {O : Type 0} (runs : Holder → ℕ → Holder → O → Type 0)
-    (says : (s : Holder) (k : ℕ) (u : Holder) (o : O) → runs s k u o → HasTried place (flat_map f (piece size k items)) s u) where
+    (says : (s : Holder) (k : ℕ) (u : Holder) (o : O) → runs s k u o → HasTried place (flat_map f (slice_of size k items)) s u) where
   abbrev P : ℕ → List (ℕ × ℕ)
-  P k = flat_map f (piece size k items)
+  P k = flat_map f (slice_of size k items)
 
   pub all_back : (n : ℕ) (seat : SeatView) (count : ℕ) (before after : List Holder) (outs : List O) → IsGivenOut t seat count before →
       IsEachRun runs n before after outs → All (λ h. IsSeatOf t h.seat) after

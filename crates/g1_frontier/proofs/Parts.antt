@@ -19,7 +19,8 @@ use Rattle.g1_words.specs.Valid.{IsValid}
 use Rattle.g1_words.proofs.Bits.{length-marks_of, mark_of}
 use Rattle.g1_words.proofs.Members.{In, has_from_in, in_from_has}
 use Rattle.g1_words.proofs.Ordered.{Ordered, Ordered-from_pairs}
-use Rattle.g1_frontier.specs.Numbers.{BeginsIn, AreStarts, AreBits, part_of}
+use Rattle.g1_work.specs.Regions.{slice_of}
+use Rattle.g1_frontier.specs.Numbers.{BeginsIn, AreStarts, AreBits}
 use Rattle.g1_frontier.specs.Window.{AreRegions, place, position}
 use Rattle.g1_frontier.proofs.Places.{place_below}
 use Rattle.g1_frontier.proofs.Searching.{window_few}
@@ -220,33 +221,33 @@ module _ (h : Heap) (valid : IsValid h) (window : List ℕ) (rising : AreRegions
   rest j = drop (j * (c * 4)) window
 
   -- a part and what follows it
-  parted : (j : ℕ) → part_of (c * 4) window j ++ rest (j + 1) ≡ rest j
+  parted : (j : ℕ) → slice_of (c * 4) j window ++ rest (j + 1) ≡ rest j
   parted j =
       let next : j * (c * 4) + c * 4 ≡ (j + 1) * (c * 4) = omega arith in
-      ap (λ l. part_of (c * 4) window j ++ l) (ap (λ n. drop n window) (sym next) ∙ sym (drop-drop (c * 4) (j * (c * 4)) window)) ∙ take-append-drop (c * 4) (rest j)
+      ap (λ l. slice_of (c * 4) j window ++ l) (ap (λ n. drop n window) (sym next) ∙ sym (drop-drop (c * 4) (j * (c * 4)) window)) ∙ take-append-drop (c * 4) (rest j)
 
   rising_rest : (j : ℕ) → AreRegions h (rest j)
   rising_rest j = subst (AreRegions h) (take_all (length (rest j)) (rest j) (omega arith)) (rising_part h (j * (c * 4)) (length (rest j)) window rising)
 
   -- the bits of a part, and those of what follows it
-  bits_parted : (j : ℕ) (a b : List ℕ) → AreBits h (part_of (c * 4) window j) a → AreBits h (rest (j + 1)) b → AreBits h (rest j) (a ++ b)
+  bits_parted : (j : ℕ) (a b : List ℕ) → AreBits h (slice_of (c * 4) j window) a → AreBits h (rest (j + 1)) b → AreBits h (rest j) (a ++ b)
   bits_parted j a b first second = elim (cases_lt ((j + 1) * (c * 4)) (length window)) [
     | inl more ↦
         let some : c * 4 ≤ length (rest j) = (let d = length-drop (j * (c * 4)) window in omega (arith, more, d)) in
-        let full : length (part_of (c * 4) window j) ≡ c * 4 = length-take-le (c * 4) (rest j) some in
+        let full : length (slice_of (c * 4) j window) ≡ c * 4 = length-take-le (c * 4) (rest j) some in
         let words = whole_words h.geometry.w h.geometry.k h.geometry.n c valid.limits in
         subst (λ l. AreBits h l (a ++ b)) (parted j)
-        (bits_append h (part_of (c * 4) window j) (rest (j + 1)) some_words (subst (AreRegions h) (sym (parted j)) (rising_rest j)) words.0 a b
+        (bits_append h (slice_of (c * 4) j window) (rest (j + 1)) some_words (subst (AreRegions h) (sym (parted j)) (rising_rest j)) words.0 a b
         (ap (λ n. n * h.geometry.w) full ∙ words.1) first second)
     | inr last ↦
         let none : rest (j + 1) ≡ [] = drop_all ((j + 1) * (c * 4)) window (omega (arith, last)) in
-        let all : part_of (c * 4) window j ≡ rest j = sym (append-nil (part_of (c * 4) window j)) ∙ ap (λ l. part_of (c * 4) window j ++ l) (sym none) ∙ parted j in
+        let all : slice_of (c * 4) j window ≡ rest j = sym (append-nil (slice_of (c * 4) j window)) ∙ ap (λ l. slice_of (c * 4) j window ++ l) (sym none) ∙ parted j in
         let same : a ≡ a ++ b = sym (append-nil a) ∙ ap (λ l. a ++ l) (sym (no_bits h (rest (j + 1)) b none second)) in
         subst (AreBits h (rest j)) same (subst (λ l. AreBits h l a) all first)
   ]
 
   -- those of the parts from one on
-  joined_from : (j m : ℕ) (lists : List (Vec ℕ)) → length window ≤ (j + m) * (c * 4) → AllZip (λ j v. AreBits h (part_of (c * 4) window j) v.items) (range_with_len j m) lists
+  joined_from : (j m : ℕ) (lists : List (Vec ℕ)) → length window ≤ (j + m) * (c * 4) → AllZip (λ j v. AreBits h (slice_of (c * 4) j window) v.items) (range_with_len j m) lists
       → AreBits h (rest j) (flat_map (λ v. v.items) lists)
   joined_from j zero [] le z = (let none : rest j ≡ [] = drop_all (j * (c * 4)) window (omega (arith, le)) in subst (λ l. AreBits h l []) (sym none) (nothing h))
   joined_from j zero (v ∷ lists) le z = absurd z
@@ -255,7 +256,7 @@ module _ (h : Heap) (valid : IsValid h) (window : List ℕ) (rising : AreRegions
       bits_parted j v.items (flat_map (λ v. v.items) lists) z.0 (joined_from (j + 1) m lists (let e : j + 1 + m ≡ j + suc m = omega arith in subst (λ n. length window ≤ n * (c * 4)) (sym e) le) z.1)
 
   -- those of all parts
-  pub joined_all : (parts : ℕ) (lists : List (Vec ℕ)) → length window ≤ parts * (c * 4) → AllZip (λ j v. AreBits h (part_of (c * 4) window j) v.items) (range_with_len 0 parts) lists
+  pub joined_all : (parts : ℕ) (lists : List (Vec ℕ)) → length window ≤ parts * (c * 4) → AllZip (λ j v. AreBits h (slice_of (c * 4) j window) v.items) (range_with_len 0 parts) lists
       → AreBits h window (flat_map (λ v. v.items) lists)
   joined_all parts lists le z =
       let first : 0 * (c * 4) ≡ 0 = omega arith in

@@ -10,7 +10,7 @@ use Rattle.g1_work.specs.Each.{RisesBelow, chunks_of}
 use Rattle.g1_words.proofs.Members.{In, In-append_cases, In-flat_map, flat_map_cases}
 use Rattle.g1_words.proofs.Ordered.{Ordered}
 use Rattle.g1_words.proofs.Rising.{Ordered-flat_map}
-use Rattle.g1_frontier.specs.Items.{piece}
+use Rattle.g1_work.specs.Regions.{slice_of}
 use Rattle.g1_frontier.proofs.Scopes.{In-take}
 
 drop_all : {A : Type 0} (ys : List A) (n : ℕ) → length ys ≤ n → drop n ys ≡ []
@@ -43,7 +43,7 @@ no_more_than n c pos =
 
 -- a chunk's items are cut from the rest of all
 pub piece_cut : {A : Type 0} (size k n : ℕ) (xs : List A) → n ≡ min (length (take (length xs - k * size) (drop (k * size) xs))) size →
-    take n (take (length xs - k * size) (drop (k * size) xs)) ≡ piece size k xs
+    take n (take (length xs - k * size) (drop (k * size) xs)) ≡ slice_of size k xs
 piece_cut size k n xs e =
     let rest = take_rest xs (k * size) in
     let least : n ≡ min size (length (drop (k * size) xs)) = omega (arith, e, ap length rest) in
@@ -51,16 +51,16 @@ piece_cut size k n xs e =
 
 module _ {A B : Type 0} (f : A → List B) (size : ℕ) (xs : List A) where
   -- the pieces of all chunks are the items
-  pub pieces_from : {O : Type 0} (os : List O) (k : ℕ) → length xs ≤ (k + length os) * size → flat_map (λ x. flat_map f (piece size x.0 xs)) (enumerate_from k os) ≡ flat_map f (drop (k * size) xs)
+  pub pieces_from : {O : Type 0} (os : List O) (k : ℕ) → length xs ≤ (k + length os) * size → flat_map (λ x. flat_map f (slice_of size x.0 xs)) (enumerate_from k os) ≡ flat_map f (drop (k * size) xs)
   pieces_from [] k le = ap (flat_map f) (sym (drop_all xs (k * size) (omega (arith, le))))
   pieces_from (o ∷ os) k le =
       let rest = pieces_from os (k + 1) (omega (arith, le)) in
       let next : drop size (drop (k * size) xs) ≡ drop ((k + 1) * size) xs = drop-drop size (k * size) xs ∙ ap (λ n. drop n xs) (let e : k * size + size ≡ (k + 1) * size = omega arith in e) in
-      ap (λ l. flat_map f (piece size k xs) ++ l) (rest ∙ ap (flat_map f) (sym next))
-      ∙ sym (flat_map-append f (piece size k xs) (drop size (drop (k * size) xs)))
+      ap (λ l. flat_map f (slice_of size k xs) ++ l) (rest ∙ ap (flat_map f) (sym next))
+      ∙ sym (flat_map-append f (slice_of size k xs) (drop size (drop (k * size) xs)))
       ∙ ap (flat_map f) (take_drop size (drop (k * size) xs))
 
-  pub all_pieces : {O : Type 0} (os : List O) → length xs ≤ length os * size → flat_map (λ x. flat_map f (piece size x.0 xs)) (enumerate_from 0 os) ≡ flat_map f xs
+  pub all_pieces : {O : Type 0} (os : List O) → length xs ≤ length os * size → flat_map (λ x. flat_map f (slice_of size x.0 xs)) (enumerate_from 0 os) ≡ flat_map f xs
   all_pieces os le = pieces_from os 0 (subst (λ n. length xs ≤ n * size) (let e : length os ≡ 0 + length os = omega arith in e) le)
       ∙ ap (λ n. flat_map f (drop n xs)) (let e : 0 * size ≡ 0 = omega arith in e)
 
@@ -96,22 +96,22 @@ module _ {A B : Type 0} (R : B → B → Type 0) (f : A → List B) (size : ℕ)
   cut : (n : ℕ) → Ordered R (flat_map f (take n xs)) × Ordered R (flat_map f (drop n xs)) × ((x y : B) → In (flat_map f (take n xs)) x → In (flat_map f (drop n xs)) y → R x y)
   cut n = Ordered-apart R (flat_map f (take n xs)) (flat_map f (drop n xs)) (subst (Ordered R) (sym (sym (flat_map-append f (take n xs) (drop n xs)) ∙ ap (flat_map f) (take_drop n xs))) o)
 
-  piece_ordered : (k : ℕ) → Ordered R (flat_map f (piece size k xs))
+  piece_ordered : (k : ℕ) → Ordered R (flat_map f (slice_of size k xs))
   piece_ordered k =
       let rest : List A = drop (k * size) xs in
       (Ordered-apart R (flat_map f (take size rest)) (flat_map f (drop size rest))
       (subst (Ordered R) (sym (sym (flat_map-append f (take size rest) (drop size rest)) ∙ ap (flat_map f) (take_drop size rest))) (cut (k * size)).1)).0
 
-  pieces_apart : (j k : ℕ) (x y : B) → j < k → In (flat_map f (piece size j xs)) x → In (flat_map f (piece size k xs)) y → R x y
+  pieces_apart : (j k : ℕ) (x y : B) → j < k → In (flat_map f (slice_of size j xs)) x → In (flat_map f (slice_of size k xs)) y → R x y
   pieces_apart j k x y lt a b =
       let m : (j + 1) * size ≤ k * size = mul-le-mul_right size (omega (arith, lt)) in
-      let p = flat_map_cases f (piece size j xs) x a in
-      let q = flat_map_cases f (piece size k xs) y b in
+      let p = flat_map_cases f (slice_of size j xs) x a in
+      let q = flat_map_cases f (slice_of size k xs) y b in
       (cut (k * size)).2 x y (In-flat_map f (take (k * size) xs) p.0 x (early size (j * size) (k * size) xs p.0 (omega (arith, m)) p.1) p.2)
       (In-flat_map f (drop (k * size) xs) q.0 y (In-take size (drop (k * size) xs) q.0 q.1) q.2)
 
   -- chunks that rise have pieces in order
-  pub some_pieces : {O : Type 0} (n : ℕ) (cs : List (ℕ × O)) → RisesBelow n (chunks_of cs) → Ordered R (flat_map (λ c. flat_map f (piece size c.0 xs)) cs)
+  pub some_pieces : {O : Type 0} (n : ℕ) (cs : List (ℕ × O)) → RisesBelow n (chunks_of cs) → Ordered R (flat_map (λ c. flat_map f (slice_of size c.0 xs)) cs)
   some_pieces {O} n cs r =
-      Ordered-flat_map (λ (c d : ℕ × O). c.0 < d.0) R (λ c. flat_map f (piece size c.0 xs)) cs (chunks_ordered n cs r) (λ c i. piece_ordered c.0)
+      Ordered-flat_map (λ (c d : ℕ × O). c.0 < d.0) R (λ c. flat_map f (slice_of size c.0 xs)) cs (chunks_ordered n cs r) (λ c i. piece_ordered c.0)
       (λ c d a b i j lt k l. pieces_apart c.0 d.0 a b lt k l)

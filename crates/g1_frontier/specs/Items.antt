@@ -1,5 +1,5 @@
 -- What a round looks at, and what that offers in the window.
-use Rattle.std.specs.Prelude.{◌≡◌, ℕ, List, [], ◌∷◌, ◌<◌, ◌+◌, ◌-◌, ◌*◌, ◌^◌, ◌++◌, false, Contains, length, map, filter, flat_map, take, drop, slice_index}
+use Rattle.std.specs.Prelude.{◌≡◌, ℕ, List, [], ◌∷◌, ◌<◌, ◌+◌, ◌-◌, ◌*◌, ◌^◌, ◌++◌, false, Contains, length, map, filter, flat_map, slice_index}
 use Rattle.std.specs.List.{All, range_with_len}
 use Rattle.g1_words.specs.Heap.{Heap, word, object_at, objects, slots}
 use Rattle.g1_words.specs.References.{named}
@@ -46,10 +46,6 @@ root_items roots = map Root (range_with_len 0 roots)
 -- what a search begins with: the roots, by number, then the cards, whose ranks stand behind those of the roots
 abbrev pub first_items : ℕ → List ℕ → List Item
 first_items roots cards = root_items roots ++ map (λ c. Card c roots) cards
-
--- the items of a chunk, where each chunk has so many
-abbrev pub piece : {A : Type 0} → ℕ → ℕ → List A → List A
-piece size k xs = take size (drop (k * size) xs)
 
 -- how many slots the object at an address has
 abbrev pub slot_count : Heap → ℕ → ℕ

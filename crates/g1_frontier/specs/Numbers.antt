@@ -1,5 +1,5 @@
 -- The number of each object of a window, and what any numbering has to be.
-use Rattle.std.specs.Prelude.{◌≡◌, ◌<◌, ◌≤◌, ℕ, Bool, true, false, List, [], ◌∷◌, ◌+◌, ◌-◌, ◌*◌, ◌^◌, map, take, drop, set, length, slice_index_or, Contains, count_ones}
+use Rattle.std.specs.Prelude.{◌≡◌, ◌<◌, ◌≤◌, ℕ, Bool, true, false, List, [], ◌∷◌, ◌+◌, ◌-◌, ◌*◌, ◌^◌, map, take, set, length, slice_index_or, Contains, count_ones}
 use Rattle.std.specs.List.{count_by}
 use Rattle.g1_words.specs.Heap.{Heap, object_at, objects, objects_in, start}
 use Rattle.g1_words.specs.Marks.{marks_of}
@@ -26,10 +26,6 @@ pub record AreStarts (h : Heap) (window : List ℕ) (starts : List Bool) : Type 
 pub record AreBits (h : Heap) (window : List ℕ) (bits : List ℕ) : Type 0 where
   pub starts : AreStarts h window (marks_of (64 * length bits) bits)
   pub few : 64 * length bits < length window * h.geometry.w + 64
-
--- part j of a window that is cut into parts of so many regions
-abbrev pub part_of : ℕ → List ℕ → ℕ → List ℕ
-part_of regions window j = take regions (drop (j * regions) window)
 
 -- how many of the words before one are marked
 abbrev pub number_at : List Bool → ℕ → ℕ

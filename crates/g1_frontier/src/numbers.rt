@@ -5,8 +5,9 @@ ghost use Rattle.g1_words.specs.Heap.{region};
 ghost use Rattle.g1_words.specs.Marks.{marks_of};
 ghost use Rattle.g1_words.specs.Valid.{IsValid};
 ghost use Rattle.g1_work.specs.Ranges.{ordinary_used};
+ghost use Rattle.g1_work.specs.Regions.{slice_of};
 ghost use Rattle.g1_frontier.specs.Window.{AreRegions};
-ghost use Rattle.g1_frontier.specs.Numbers.{AreBits, and_marked, part_of, places_from};
+ghost use Rattle.g1_frontier.specs.Numbers.{AreBits, and_marked, places_from};
 
 use g1_rem::objects_end;
 use g1_words::{Fault, Heap, size_at};
@@ -99,7 +100,7 @@ impl Make for Parts<'_> {
 
     ghost ready = { λ s j. AreRegions s.heap.now s.window.now × (j * s.regions ≤ length s.window.now) };
 
-    ghost makes = { λ s j v. AreBits s.heap.now (part_of s.regions s.window.now j) v.items };
+    ghost makes = { λ s j v. AreBits s.heap.now (slice_of s.regions j s.window.now) v.items };
 
     fn make(&self, alloc: Global, part: usize) -> Result<Vec<u64>, Fault> {
         let rest = &self.window[part * self.regions..];

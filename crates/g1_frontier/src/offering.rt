@@ -5,8 +5,9 @@ ghost use Rattle.g1_words.specs.Heap.{object_at, objects, word, slots};
 ghost use Rattle.g1_words.specs.Valid.{IsReference};
 ghost use Rattle.g1_rem.specs.Starts.{card_count};
 ghost use Rattle.g1_rem.specs.Slots.{slots_on};
+ghost use Rattle.g1_work.specs.Regions.{slice_of};
 ghost use Rattle.g1_claim.specs.Claims.{IsSeatOf};
-ghost use Rattle.g1_frontier.specs.Items.{IsItem, AreRanks, piece};
+ghost use Rattle.g1_frontier.specs.Items.{IsItem, AreRanks};
 ghost use Rattle.g1_frontier.specs.Scope.{IsScope, place_in, aims_in, pairs_in, all_pairs_in};
 ghost use Rattle.g1_frontier.specs.Offering.{HasTried};
 
@@ -179,15 +180,16 @@ impl<'a> Task for Round<'a> {
     ghost use Rattle.std.specs.Prelude.{◌≡◌, ◌<◌, ◌≤◌, ◌*◌, ◌^◌, length};
     ghost use Rattle.std.specs.List.{All};
     ghost use Rattle.g1_words.specs.declared.fault.Fault.TheVariants.{Memory};
+    ghost use Rattle.g1_work.specs.Regions.{slice_of};
     ghost use Rattle.g1_work.specs.Team.{most_chunk};
     ghost use Rattle.g1_claim.specs.Claims.{IsSeatOf};
-    ghost use Rattle.g1_frontier.specs.Items.{IsItem, AreRanks, piece};
+    ghost use Rattle.g1_frontier.specs.Items.{IsItem, AreRanks};
     ghost use Rattle.g1_frontier.specs.Scope.{place_in, all_pairs_in};
     ghost use Rattle.g1_frontier.specs.Offering.{HasTried, HasPlaces};
 
     ghost ready = { λ s h k. HasPlaces s.offers.scope.now s.offers.claims.now × IsSeatOf s.offers.claims.now h.seat × All (IsItem s.offers.scope.now.heap.now) s.items.now × AreRanks (all_pairs_in s.offers.scope.now s.items.now) × (0 < s.chunk) × (k * s.chunk < length s.items.now) × (k < 2 ^ 32) × (s.chunk ≤ most_chunk) };
 
-    ghost runs = { λ s h k t _. HasTried (place_in s.offers.scope.now) (all_pairs_in s.offers.scope.now (piece s.chunk k s.items.now)) h t };
+    ghost runs = { λ s h k t _. HasTried (place_in s.offers.scope.now) (all_pairs_in s.offers.scope.now (slice_of s.chunk k s.items.now)) h t };
 
     ghost may_fail = { λ _ _ e. e ≡ Memory };
 

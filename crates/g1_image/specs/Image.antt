@@ -92,6 +92,10 @@ IsTextIn v bytes i = IsImage i × CanTell v i.heap × (bytes ≡ file_text (file
 abbrev pub IsTextOf : List ℕ → Image → Type 0
 IsTextOf bytes i = (v : Version) × IsTextIn v bytes i
 
+-- the bytes are the text of an image
+abbrev pub IsImageText : List ℕ → Type 0
+IsImageText bytes = (i : Image) × IsTextOf bytes i
+
 -- the regions' words, each region's used words first and zeros after them
 abbrev pub all_words : ℕ → List Entry → List ℕ → List ℕ
 all_words w [] words = []

@@ -9,7 +9,7 @@ use Rattle.g1_words.specs.Valid.{IsValid}
 use Rattle.g1_words.specs.Live.{Live, seed, child}
 use Rattle.g1_words.specs.Copy.{renamed}
 use Rattle.g1_words.proofs.Sound.{sound}
-use Rattle.g1_same.proofs.Heaps.{root_of, slot_of, root_names, slot_names, live_object}
+use Rattle.g1_same.proofs.Heaps.{root_of, slot_of, object_named, root_names, slot_names, live_object}
 use Rattle.g1_kept.specs.Keeps.{Keeps, Remains, outside, root, slot}
 use Rattle.g1_kept.specs.Laws.{KeepsGraph}
 use Rattle.g1_kept.proofs.Remaining.{remains_object, copied_header, copied_slot}
@@ -30,7 +30,7 @@ module _ (fill : Bool) (set : List ℕ) (g h : Heap) (left : IsValid g) (right :
         let r = root_of g a c in
         let lt : r.0 < length h.roots = omega (arith, r.1, ap length k.roots, length-map g.roots (renamed k.rename)) in
         let e : slice_index h.roots r.0 ≡ suc (k.rename a) = ap (λ l. slice_index l r.0) k.roots ∙ get_or-map (renamed k.rename) g.roots r.0 0 0 r.1 ∙ ap (renamed k.rename) r.2 in
-        stays_there a (live_object g a left (seed c)) out (root_names h r.0 right lt (k.rename a) e)
+        stays_there a (live_object g a left (seed c)) out (object_named h (slice_index h.roots r.0) (k.rename a) right (root_names h r.0 right lt) e)
   ]
   live_remains b (child {a = a} r c) =
       let p = live_remains a r in
@@ -41,7 +41,7 @@ module _ (fill : Bool) (set : List ℕ) (g h : Heap) (left : IsValid g) (right :
             let object = remains_object set g h left a p in
             let refs : (object_at h (k.rename a)).refs ≡ (object_at g a).refs = ap (λ x. x % 2 ^ 32) (copied_header k.rename g h a left object (k.copies a p)) in
             let e : word h (k.rename a + 1 + s.0) ≡ suc (k.rename b) = copied_slot k.rename g h a left object (k.copies a p) s.0 s.1 ∙ ap (renamed k.rename) s.2 in
-            stays_there b (live_object g b left (child r c)) out (slot_names h (k.rename a) s.0 right (k.stands a p) (omega (arith, s.1, refs)) (k.rename b) e)
+            stays_there b (live_object g b left (child r c)) out (object_named h (word h (k.rename a + 1 + s.0)) (k.rename b) right (slot_names h (k.rename a) s.0 right (k.stands a p) (omega (arith, s.1, refs))) e)
       ]
 
 pub keeps_graph : KeepsGraph

@@ -11,7 +11,7 @@ use Rattle.g1_words.proofs.Indices.{get_or-In}
 use Rattle.g1_words.proofs.Sound.{sound, object_in}
 use Rattle.g1_after.proofs.Determined.{word_from_copy}
 use Rattle.g1_after.proofs.CopyWords.{StaysAt, RenamedAt, renamed_word}
-use Rattle.g1_same.proofs.Heaps.{slot_of, slot_names}
+use Rattle.g1_same.proofs.Heaps.{slot_of, object_named, slot_names}
 use Rattle.g1_kept.specs.Keeps.{Remains, outside, root, slot}
 
 -- what a root or a slot references is one of the targets
@@ -29,7 +29,7 @@ remains_object set g h valid a (outside o) = o.object
 remains_object set g h valid a (root c of_set) = (sound g valid).root_named a c
 remains_object set g h valid b (slot {a = a} r c of_set) =
     let s = slot_of g a b c in
-    slot_names g a s.0 valid (remains_object set g h valid a r) s.1 b s.2
+    object_named g (word g (a + 1 + s.0)) b valid (slot_names g a s.0 valid (remains_object set g h valid a r) s.1) s.2
 
 module _ (f : ℕ → ℕ) (g h : Heap) (a : ℕ) (valid : IsValid g) (object : Contains (objects g) (object_at g a)) (copy : IsCopy f g h (object_at g a)) where
   fits : (object_at g a).refs < (object_at g a).size

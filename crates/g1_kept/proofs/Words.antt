@@ -3,9 +3,10 @@ use Rattle.std.proofs.Common.{◌≡◌, ◌≢◌, ℕ, suc, ◌-◌, ◌<◌, 
 use native.Mathlib.Decide.{ℕ_discrete}
 use Rattle.g1_words.specs.Heap.{Heap}
 use Rattle.g1_words.specs.Survivors.{in_set}
-use Rattle.g1_words.specs.Valid.{IsValid}
+use Rattle.g1_words.specs.Valid.{IsValid, IsReference}
 use Rattle.g1_words.proofs.Sound.{object_in}
-use Rattle.g1_same.specs.Walk.{Names, IsNew}
+use Rattle.g1_same.specs.Walk.{IsNew}
+use Rattle.g1_same.proofs.Heaps.{object_named}
 use Rattle.g1_same.proofs.Tables.{index_some}
 use Rattle.g1_kept.specs.declared.pairs.Pairs.{Pairs}
 use Rattle.g1_kept.specs.Lost.{Match, Disagree, split, joined}
@@ -16,8 +17,8 @@ use Rattle.g1_kept.specs.Walk.{IsWalk, IsPaired}
 pub some : (n : ℕ) → n ≢ 0 → n ≡ suc (n - 1)
 some n h = omega arith
 
-pub named_below : (h : Heap) (x : ℕ) → IsValid h → x ≢ 0 → Names h x → x - 1 < length h.words
-named_below h x valid some names = let o = object_in h (x - 1) valid (names (x - 1) (omega arith)) in omega (arith, o.0, o.1)
+pub named_below : (h : Heap) (x : ℕ) → IsValid h → x ≢ 0 → IsReference h x → x - 1 < length h.words
+named_below h x valid some names = let o = object_in h (x - 1) valid (object_named h x (x - 1) valid names (omega arith)) in omega (arith, o.0, o.1)
 
 module _ (fill : Bool) (set : List ℕ) (g h : Heap) (w : Pairs) (walk : IsWalk fill set g h w) (a b i j : ℕ)
     (a_lt : a < length w.new_of.items) (b_lt : b < length w.old_of.items) (is_i : i ≡ slice_index w.new_of.items a) (is_j : j ≡ slice_index w.old_of.items b) where

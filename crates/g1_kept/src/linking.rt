@@ -1,7 +1,8 @@
 ghost use Rattle.std.specs.Prelude.{◌≡◌, ◌≢◌, ◌<◌, ◌≤◌, ◌+◌, ◌-◌, ◌↔◌, ℕ, suc, [], length, slice_index, Contains, IfSome, IfNone, IfOk, OnOk, IsTrue, IsFalse};
 ghost use Rattle.g1_words.specs.Heap.{word, start, top, object_at, objects};
 ghost use Rattle.g1_words.specs.Survivors.{in_set};
-ghost use Rattle.g1_same.specs.Walk.{AreAlike, Names};
+ghost use Rattle.g1_words.specs.Valid.{IsReference};
+ghost use Rattle.g1_same.specs.Walk.{AreAlike};
 ghost use Rattle.g1_kept.specs.Keeps.{MayHoldCopy};
 ghost use Rattle.g1_kept.specs.Lost.{LeadsOut, Disagree};
 ghost use Rattle.g1_kept.specs.Walk.{HasGrown, IsPaired, IsMet, PairsRoots, PairsSlots, PassesWords, StopsAtWords};
@@ -56,8 +57,8 @@ fn may_hold_copy(before: &Heap, fill: bool, b: u64) -> bool
 fn meet(pause: &Pause<'_>, pairs: &Pairs, x: u64, y: u64) -> Met
     requires walk { IsWalkIn pause.now pairs.now }
     requires sizes { length pause.now.after.now.words ≡ length pause.now.before.now.words }
-    requires x { Names pause.now.before.now x }
-    requires y { Names pause.now.after.now y }
+    requires x { IsReference pause.now.before.now x }
+    requires y { IsReference pause.now.after.now y }
     ensures { let p = pause.now in IsMet p.fill p.set.now p.before.now p.after.now pairs.now x y result }
 {
     g1_words::laws::valid(pause.before);
@@ -98,8 +99,8 @@ fn link(
 ) -> Result<Option<Lost>, AllocError>
     requires walk { IsWalkIn pause.now pairs.old }
     requires sizes { length pause.now.after.now.words ≡ length pause.now.before.now.words }
-    requires x { Names pause.now.before.now x }
-    requires y { Names pause.now.after.now y }
+    requires x { IsReference pause.now.before.now x }
+    requires y { IsReference pause.now.after.now y }
     requires found { (a b : ℕ) → x ≡ suc a → y ≡ suc b → IsTrue (in_set pause.now.before.now pause.now.set.now a) → MatchIn pause.now a b }
     requires other { let p = pause.now in Disagree p.set.now p.before.now p.after.now x y → IsLossIn p other }
     ensures walk { OnOk result (IsWalkIn pause.now pairs.new) }

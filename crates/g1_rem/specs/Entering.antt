@@ -4,13 +4,13 @@ use Rattle.std.specs.List.{list_any}
 use Rattle.std.specs.List.Sorted.{IsStrictlyIncreasing}
 use Rattle.g1_words.specs.Lists.{has}
 use Rattle.g1_words.specs.Heap.{Heap}
-use Rattle.g1_words.specs.References.{refs_at}
 use Rattle.g1_image.specs.Image.{Image}
-use Rattle.g1_image.specs.Cards.{leads_into, is_exact}
+use Rattle.g1_image.specs.Cards.{is_exact}
+use Rattle.g1_rem.specs.Ahead.{is_entry}
 
 -- one of the slots leads into the region from another one
 abbrev pub enters : Heap → ℕ → List ℕ → Bool
-enters h r ps = list_any (λ p. list_any (leads_into h r) (refs_at h p)) ps
+enters h r ps = list_any (is_entry h r) ps
 
 -- the list, with the card at its end where it is to be there
 abbrev pub with_card : List ℕ → ℕ → Bool → List ℕ

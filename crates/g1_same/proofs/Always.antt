@@ -4,7 +4,7 @@ use Rattle.std.proofs.lemmas.Bool.{cases_lt}
 use Rattle.std.proofs.lemmas.List.{length_push}
 use Rattle.g1_words.specs.Geometry.{most_words}
 use Rattle.g1_words.specs.Heap.{Heap, word, object_at, objects}
-use Rattle.g1_words.specs.Valid.{IsValid}
+use Rattle.g1_words.specs.Valid.{IsValid, IsReference}
 use Rattle.g1_words.specs.Graph.{SameGraph}
 use Rattle.g1_words.proofs.Sound.{object_in}
 use Rattle.g1_image.proofs.Decided.{decided_eq}
@@ -16,9 +16,9 @@ use Rattle.g1_same.specs.declared.difference.How.{How}
 use Rattle.g1_same.specs.declared.difference.Difference.{Difference}
 use Rattle.g1_same.specs.declared.difference.Difference.TheVariants.{Roots, At}
 use Rattle.g1_same.specs.Same.{IsFirstDifference}
-use Rattle.g1_same.specs.Walk.{IsWalk, IsWay, IsBelow, IsEarlier, IsLinked, HasGrown, IsMet, IsSeen, IsLeast, IsStop, LinksRoots, LinksSlots, LinksPairs, LinksTo, Names}
+use Rattle.g1_same.specs.Walk.{IsWalk, IsWay, IsBelow, IsEarlier, IsLinked, HasGrown, IsMet, IsSeen, IsLeast, IsStop, LinksRoots, LinksSlots, LinksPairs, LinksTo}
 use Rattle.g1_same.specs.Laws.{SameOrDiffers}
-use Rattle.g1_same.proofs.Heaps.{root_names, slot_names}
+use Rattle.g1_same.proofs.Heaps.{object_named, root_names, slot_names}
 use Rattle.g1_same.proofs.Adding.{IsAdded, added_grown, added_walk, added_linked, added_below, linked_by, earlier_next, grown_same, few_pairs, pairs_fit}
 use Rattle.g1_same.proofs.Steps.{roots_more, roots_kept, slots_more, pairs_more, pairs_kept}
 use Rattle.g1_same.proofs.Routes.{IsRoute, root, slot, route_of}
@@ -46,7 +46,7 @@ module _ (g h : Heap) (left : IsValid g) (right : IsValid h) where
 
   -- any two words are linked or disagree
   stepped : (w : Walk) (f n x y : ℕ) → IsWalk g h w → IsBelow w f n → IsWay g h w.before.items w.after.items f n x y → f ≤ length w.before.items
-      → Names g x → Names h y → Stepped w f n x y
+      → IsReference g x → IsReference h y → Stepped w f n x y
   stepped w f n x y walk below way back x_in y_in = let m = met g h left right w walk x y x_in y_in in go m.0 m.1
     where
       go : (m : Met) → IsMet g h w x y m → Stepped w f n x y
@@ -55,8 +55,8 @@ module _ (g h : Heap) (left : IsValid g) (right : IsValid h) where
       go (New a b) p =
           let v : Walk = more_walk g h left right w walk f n a b in
           let e : IsAdded w v f n a b = more_added g h left right w walk f n a b in
-          let a_in : Contains (objects g) (object_at g a) = x_in a p.0 in
-          let b_in : Contains (objects h) (object_at h b) = y_in b p.1 in
+          let a_in : Contains (objects g) (object_at g a) = object_named g x a left x_in p.0 in
+          let b_in : Contains (objects h) (object_at h b) = object_named h y b right y_in p.1 in
           let a_lt : a < length w.new_of.items = let o = object_in g a left a_in in omega (arith, o.0, o.1, walk.table_before) in
           let b_lt : b < length w.old_of.items = let o = object_in h b right b_in in omega (arith, o.0, o.1, walk.table_after) in
           let way' : IsWay g h w.before.items w.after.items f n (suc a) (suc b) =
@@ -149,8 +149,8 @@ module _ (g h : Heap) (left : IsValid g) (right : IsValid h) where
         let y_lt : k < (object_at h b).refs = omega (arith, lt, refs) in
         let way : IsWay g h w.before.items w.after.items (suc m) k x y = (r.place, lt, y_lt, refl, refl) in
         let one : k + 1 ≡ suc k = omega arith in
-        let x_in : Names g x = slot_names g c k left (r.walk.names_before m r.place) lt in
-        let y_in : Names h y = slot_names h b k right (r.walk.names_after m r.place) y_lt in
+        let x_in : IsReference g x = slot_names g c k left (r.walk.names_before m r.place) lt in
+        let y_in : IsReference h y = slot_names h b k right (r.walk.names_after m r.place) y_lt in
         elim (stepped w (suc m) k x y r.walk r.below way (omega (arith, r.place)) x_in y_in) [
           | inl s ↦ inl (record {
             at = s.0;

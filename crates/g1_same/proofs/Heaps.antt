@@ -9,16 +9,16 @@ use Rattle.g1_words.proofs.Members.{In, In-from_contains, Contains-from_in, In-f
 use Rattle.g1_words.proofs.Computed.{contains_has, In-range, range_below, range_above}
 use Rattle.g1_words.proofs.Sound.{sound, reference_named, named_is}
 use Rattle.g1_words.proofs.Indices.{get_or-In}
-use Rattle.g1_same.specs.Walk.{Names}
 
-named_at : (h : Heap) (x : ℕ) → IsValid h → IsReference h x → Names h x
-named_at h x valid r a e = reference_named h x a valid r (subst (λ z. In (named z) a) (sym e) (inl refl))
+-- a reference word that isn't null names an object
+pub object_named : (h : Heap) (x a : ℕ) → IsValid h → IsReference h x → x ≡ suc a → Contains (objects h) (object_at h a)
+object_named h x a valid r e = reference_named h x a valid r (subst (λ z. In (named z) a) (sym e) (inl refl))
 
-pub root_names : (h : Heap) (n : ℕ) → IsValid h → n < length h.roots → Names h (slice_index h.roots n)
-root_names h n valid lt = named_at h (slice_index h.roots n) valid (valid.roots n 0 lt)
+pub root_names : (h : Heap) (n : ℕ) → IsValid h → n < length h.roots → IsReference h (slice_index h.roots n)
+root_names h n valid lt = valid.roots n 0 lt
 
-pub slot_names : (h : Heap) (a n : ℕ) → IsValid h → Contains (objects h) (object_at h a) → n < (object_at h a).refs → Names h (word h (a + 1 + n))
-slot_names h a n valid c lt = named_at h (word h (a + 1 + n)) valid (valid.slots (object_at h a) (a + 1 + n) (contains_has h (object_at h a) valid.shaped c) (omega arith, omega arith))
+pub slot_names : (h : Heap) (a n : ℕ) → IsValid h → Contains (objects h) (object_at h a) → n < (object_at h a).refs → IsReference h (word h (a + 1 + n))
+slot_names h a n valid c lt = valid.slots (object_at h a) (a + 1 + n) (contains_has h (object_at h a) valid.shaped c) (omega arith, omega arith)
 
 -- what the slot of a reached object names is reached
 pub slot_live : (h : Heap) (a b n : ℕ) → Live h a → n < (object_at h a).refs → word h (a + 1 + n) ≡ suc b → Live h b
@@ -51,4 +51,4 @@ pub live_object : (h : Heap) (a : ℕ) → IsValid h → Live h a → Contains (
 live_object h a valid (seed c) = (sound h valid).root_named a c
 live_object h b valid (child {a = a} r c) =
     let s = slot_of h a b c in
-    slot_names h a s.0 valid (live_object h a valid r) s.1 b s.2
+    object_named h (word h (a + 1 + s.0)) b valid (slot_names h a s.0 valid (live_object h a valid r) s.1) s.2

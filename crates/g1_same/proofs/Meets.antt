@@ -1,7 +1,8 @@
 -- Any two words agree by what a walk has found, or reference two new objects that are alike, or disagree in a way.
 use Rattle.std.proofs.Common.{◌≡◌, ℕ, zero, suc, ◌+◌, ◌-◌, ◌<◌, ◌/◌, ◌%◌, ◌^◌, ◌⊎◌, inl, inr, List, length, Contains, refl, sym, ◌∙◌, arith, slice_index}
 use Rattle.g1_words.specs.Heap.{Heap, word, object_at, objects}
-use Rattle.g1_words.specs.Valid.{IsValid}
+use Rattle.g1_words.specs.Valid.{IsValid, IsReference}
+use Rattle.g1_same.proofs.Heaps.{object_named}
 use Rattle.g1_words.proofs.Sound.{object_in}
 use Rattle.g1_image.proofs.Decided.{decided_eq, first_breach}
 use Rattle.g1_same.specs.declared.walk.Walk.{Walk}
@@ -10,7 +11,7 @@ use Rattle.g1_same.specs.declared.meeting.Met.TheVariants.{Known, New, Clash}
 use Rattle.g1_same.specs.declared.difference.How.{How}
 use Rattle.g1_same.specs.declared.difference.How.TheVariants.{NullBefore, NullAfter, Split, Joined, Size, Slots, Data}
 use Rattle.g1_same.specs.Same.{IsClash}
-use Rattle.g1_same.specs.Walk.{AreAlike, IsWalk, IsMet, IsLower, Names}
+use Rattle.g1_same.specs.Walk.{AreAlike, IsWalk, IsMet, IsLower}
 use Rattle.g1_same.proofs.Words.{known_here, split_here, joined_here, new_before, new_after, seen_of, least_of}
 
 -- two objects are alike, or differ in a way that is the first of those of the objects alone
@@ -77,8 +78,8 @@ module _ (g h : Heap) (left : IsValid g) (right : IsValid h) (w : Walk) (walk : 
             (Clash d.0, (seen_of g h w (suc a) (suc b) d.0 d.1, least_of g h w a b d.0 d.1 old new d.2))
       ]
 
-  pub met : (x y : ℕ) → Names g x → Names h y → Meeting x y
+  pub met : (x y : ℕ) → IsReference g x → IsReference h y → Meeting x y
   met zero zero p q = (Known, inl (refl, refl))
   met zero (suc b) p q = (Clash NullBefore, ((λ s. (refl, λ e. absurd (omega (arith, e)))), tt))
   met (suc a) zero p q = (Clash NullAfter, ((λ s. ((λ e. absurd (omega (arith, e))), refl)), tt))
-  met (suc a) (suc b) p q = met_objects a b (within_before a (p a refl)) (within_after b (q b refl))
+  met (suc a) (suc b) p q = met_objects a b (within_before a (object_named g (suc a) a left p refl)) (within_after b (object_named h (suc b) b right q refl))

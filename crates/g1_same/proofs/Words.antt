@@ -1,21 +1,22 @@
 -- What two words are to a walk, by its tables.
 use Rattle.std.proofs.Common.{◌≡◌, ◌≢◌, ℕ, suc, ◌-◌, ◌<◌, inl, inr, List, [], ◌∷◌, length, Contains, sym, ap, subst, ◌∙◌, arith, slice_index}
 use Rattle.g1_words.specs.Heap.{Heap, object_at, objects}
-use Rattle.g1_words.specs.Valid.{IsValid}
+use Rattle.g1_words.specs.Valid.{IsValid, IsReference}
 use Rattle.g1_same.specs.declared.walk.Walk.{Walk}
 use Rattle.g1_same.specs.declared.difference.How.{How}
 use Rattle.g1_same.specs.declared.difference.How.TheVariants.{NullBefore, NullAfter, Split, Joined, Size, Slots, Data}
 use Rattle.g1_same.specs.Path.{Before}
 use Rattle.g1_same.specs.Same.{IsClash}
-use Rattle.g1_same.specs.Walk.{IsSeen, IsPaired, IsLeast, IsLower, IsNew, IsWalk, Names}
+use Rattle.g1_same.specs.Walk.{IsSeen, IsPaired, IsLeast, IsLower, IsNew, IsWalk}
 use Rattle.g1_words.proofs.Sound.{object_in}
+use Rattle.g1_same.proofs.Heaps.{object_named}
 use Rattle.g1_same.proofs.Tables.{index_none, index_some}
 
-pub named : (h : Heap) (x : ℕ) → x ≢ 0 → Names h x → Contains (objects h) (object_at h (x - 1))
-named h x some names = names (x - 1) (omega arith)
+pub named : (h : Heap) (x : ℕ) → IsValid h → x ≢ 0 → IsReference h x → Contains (objects h) (object_at h (x - 1))
+named h x valid some names = object_named h x (x - 1) valid names (omega arith)
 
-pub named_below : (h : Heap) (x : ℕ) → IsValid h → x ≢ 0 → Names h x → x - 1 < length h.words
-named_below h x valid some names = let o = object_in h (x - 1) valid (named h x some names) in omega (arith, o.0, o.1)
+pub named_below : (h : Heap) (x : ℕ) → IsValid h → x ≢ 0 → IsReference h x → x - 1 < length h.words
+named_below h x valid some names = let o = object_in h (x - 1) valid (named h x valid some names) in omega (arith, o.0, o.1)
 
 module _ (g h : Heap) (w : Walk) (left : IsValid g) (right : IsValid h) (walk : IsWalk g h w) (a b i j : ℕ)
     (a_lt : a < length w.new_of.items) (b_lt : b < length w.old_of.items) (is_i : i ≡ slice_index w.new_of.items a) (is_j : j ≡ slice_index w.old_of.items b) where

@@ -44,10 +44,6 @@ IsWay g h olds news (suc j) n x y =
     (j < length olds) × (n < (object_at g (slice_index olds j)).refs) × (n < (object_at h (slice_index news j)).refs)
     × (word g (slice_index olds j + 1 + n) ≡ x) × (word h (slice_index news j + 1 + n) ≡ y)
 
--- the word is null or names an object
-abbrev pub Names : Heap → ℕ → Type 0
-Names h x = (a : ℕ) → x ≡ suc a → Contains (objects h) (object_at h a)
-
 -- The pairs are objects of both heaps, alike and told by the tables, and each was found by a way, in the order of the ways.
 pub record IsWalk (g h : Heap) (w : Walk) : Type 0 where
   pub table_before : length w.new_of.items ≡ length g.words

@@ -1,8 +1,8 @@
 ghost use Rattle.std.specs.Prelude.{◌≡◌, ◌≢◌, ◌<◌, ◌≤◌, ◌+◌, suc, ℕ, List, length, slice_index, Contains, IfSome, IfNone, IfOk, OnOk};
 ghost use Rattle.g1_words.specs.Heap.{object_at, objects};
-ghost use Rattle.g1_words.specs.Valid.{IsValid};
+ghost use Rattle.g1_words.specs.Valid.{IsValid, IsReference};
 ghost use Rattle.g1_same.specs.Same.{IsClash};
-ghost use Rattle.g1_same.specs.Walk.{IsWalk, IsWay, IsBelow, IsLinked, HasGrown, AreAlike, IsMet, IsSeen, IsLeast, IsLower, Names};
+ghost use Rattle.g1_same.specs.Walk.{IsWalk, IsWay, IsBelow, IsLinked, HasGrown, AreAlike, IsMet, IsSeen, IsLeast, IsLower};
 
 use crate::difference::How;
 use crate::walk::{Walk, Way};
@@ -68,8 +68,8 @@ fn objects_differ(before: &Heap, after: &Heap, a: u64, b: u64) -> Option<How>
 // What two words are to the walk.
 fn meet(before: &Heap, after: &Heap, walk: &Walk, x: u64, y: u64) -> Met
     requires walk { IsWalk before.now after.now walk.now }
-    requires x { Names before.now x }
-    requires y { Names after.now y }
+    requires x { IsReference before.now x }
+    requires y { IsReference after.now y }
     ensures { IsMet before.now after.now walk.now x y result }
 {
     g1_words::laws::valid(before);
@@ -123,8 +123,8 @@ pub fn link(
     requires below { IsBelow walk.old way.from way.number }
     requires way { IsWay before.now after.now walk.old.before.items walk.old.after.items way.from way.number x y }
     requires backward { way.from ≤ length walk.old.before.items }
-    requires x { Names before.now x }
-    requires y { Names after.now y }
+    requires x { IsReference before.now x }
+    requires y { IsReference after.now y }
     ensures walk { OnOk result (IsWalk before.now after.now walk.new) }
     ensures grown { OnOk result (HasGrown walk.old walk.new) }
     ensures linked { IfOk result (λ o. IfNone o (IsLinked walk.new way.from way.number x y)) }

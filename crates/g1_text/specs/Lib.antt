@@ -1,4 +1,3 @@
-pub mod Made
 pub mod Lines
 pub mod Reading
 pub mod Content

@@ -1,5 +1,5 @@
 ghost use Rattle.std.specs.Prelude.{◌≡◌, ℕ, List, None, Some, false, IfOk, IfErr, MatchResult};
-ghost use Rattle.g1_image.specs.Image.{Image as ImageOf, IsImage, IsTextIn};
+ghost use Rattle.g1_image.specs.Image.{Image as ImageOf, IsImage, IsImageText, IsTextIn};
 ghost use Rattle.g1_image.specs.declared.cursor.Version.TheVariants.{Two};
 ghost use Rattle.g1_image.specs.Parts.{CountsFit};
 ghost use Rattle.g1_text.specs.Lines.{image_text};
@@ -7,7 +7,6 @@ ghost use Rattle.g1_text.specs.Reading.{HasLines};
 ghost use Rattle.g1_text.specs.Content.{Content, IsClosed, IsContentOf, SaysAll, SaysImage, file_with};
 ghost use Rattle.g1_text.specs.Counted.{IsMadeOf};
 ghost use Rattle.g1_text.specs.Drafts.{content};
-ghost use Rattle.g1_text.specs.Made.{IsImageText};
 ghost use Rattle.g1_text.specs.Refused.{IsLineOrMemory};
 
 use crate::covering::cover;

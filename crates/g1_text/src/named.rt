@@ -1,6 +1,6 @@
 //! Lines of objects by name, without regions and addresses.
 ghost use Rattle.std.specs.Prelude.{IfErr, IfOk};
-ghost use Rattle.g1_text.specs.Made.{IsImageText};
+ghost use Rattle.g1_image.specs.Image.{IsImageText};
 ghost use Rattle.g1_text.specs.Refused.{IsLineOrMemory};
 
 use crate::covering::cover;

@@ -1,10 +1,10 @@
 ghost use Rattle.std.specs.Prelude.{◌≡◌, IfOk, IfErr, OnOk};
 ghost use Rattle.g1_image.specs.Text.{file_text};
+ghost use Rattle.g1_image.specs.Image.{IsImageText};
 ghost use Rattle.g1_image.specs.Parts.{CountsFit};
 ghost use Rattle.g1_image.specs.Faults.{MayFail};
 ghost use Rattle.g1_text.specs.Content.{file_with};
 ghost use Rattle.g1_text.specs.Drafts.{content};
-ghost use Rattle.g1_text.specs.Made.{IsImageText};
 
 use crate::draft::Draft;
 use g1_image::{FileParts, decode, encode_parts};

@@ -2,15 +2,14 @@
 use Rattle.std.proofs.Common.{◌≡◌, ℕ, zero, suc, ◌+◌, ◌<◌, ◌≤◌, ◌/◌, ◌%◌, ◌^◌, List, [], ◌∷◌, length, drop, get_or, refl, sym, ap, subst, ◌∙◌, arith, drop-cons, slice_index}
 use Rattle.std.proofs.Math.ListN.{drop_of_length-le}
 use Rattle.g1_words.specs.Heap.{Heap, word}
-use Rattle.g1_words.specs.Valid.{IsValid}
+use Rattle.g1_words.specs.Valid.{IsValid, IsReference}
 use Rattle.g1_same.specs.Path.{Leads, LeadsTo}
-use Rattle.g1_same.specs.Walk.{Names}
 use Rattle.g1_same.specs.declared.difference.How.{How}
 use Rattle.g1_same.specs.declared.difference.How.TheVariants.{Data}
 use Rattle.g1_same.specs.Same.{IsClash, ClashAt}
 use Rattle.g1judge.specs.Judged.{HasDataWord}
 use Rattle.g1_words.proofs.Sound.{object_in}
-use Rattle.g1_same.proofs.Heaps.{root_names, slot_names}
+use Rattle.g1_same.proofs.Heaps.{object_named, root_names, slot_names}
 
 next_is : (i : ℕ) → suc i ≡ i + 1
 next_is i = omega arith
@@ -27,28 +26,28 @@ leads_to_one h (k ∷ ss) x y l m = leads_one h ss (slice_index h.roots k) x y l
 
 -- the walk along the slots stands at this word before the slot of this place
 pub record IsOn (h : Heap) (root : ℕ) (slots : List ℕ) (i x : ℕ) : Type 0 where
-  pub names : Names h x
+  pub names : IsReference h x
   pub leads : (y : ℕ) → LeadsTo h (root ∷ slots) y → Leads h (drop i slots) x y
 
 module _ (h : Heap) (valid : IsValid h) where
-  step_at : (s : ℕ) (ss : List ℕ) (x y : ℕ) → Names h x → Leads h (s ∷ ss) x y
-      → (x + s < length h.words) × Names h (word h (x + s)) × Leads h ss (word h (x + s)) y
+  step_at : (s : ℕ) (ss : List ℕ) (x y : ℕ) → IsReference h x → Leads h (s ∷ ss) x y
+      → (x + s < length h.words) × IsReference h (word h (x + s)) × Leads h ss (word h (x + s)) y
   step_at s ss zero y n l = absurd l
   step_at s ss (suc a) y n l =
-      let o = n a refl in
+      let o = object_named h (suc a) a valid n refl in
       let fit = object_in h a valid o in
       let e : a + 1 + s ≡ suc a + s = omega arith in (
         omega (arith, fit.0, fit.1, l.0),
-        subst (λ z. Names h (word h z)) e (slot_names h a s valid o l.0),
+        subst (λ z. IsReference h (word h z)) e (slot_names h a s valid o l.0),
         subst (λ z. Leads h ss (word h z) y) e l.1,
       )
 
-  leads_names : (ss : List ℕ) (x y : ℕ) → Names h x → Leads h ss x y → Names h y
-  leads_names [] x y n l = subst (Names h) l n
+  leads_names : (ss : List ℕ) (x y : ℕ) → IsReference h x → Leads h ss x y → IsReference h y
+  leads_names [] x y n l = subst (IsReference h) l n
   leads_names (s ∷ ss) x y n l = let t = step_at s ss x y n l in leads_names ss (word h (x + s)) y t.1 t.2
 
-  -- what a path leads to is null or names an object
-  pub end_names : (p : List ℕ) (y : ℕ) → LeadsTo h p y → Names h y
+  -- what a path leads to is a reference
+  pub end_names : (p : List ℕ) (y : ℕ) → LeadsTo h p y → IsReference h y
   end_names [] y l = absurd l
   end_names (k ∷ ss) y l = leads_names ss (slice_index h.roots k) y (root_names h k valid l.0) l.1
 
@@ -57,7 +56,7 @@ module _ (h : Heap) (valid : IsValid h) where
 
   module _ (root : ℕ) (slots : List ℕ) (y : ℕ) (there : LeadsTo h (root ∷ slots) y) (i x : ℕ) (on : IsOn h root slots i x) where
     next : (z : ℕ) → i < length slots → LeadsTo h (root ∷ slots) z
-        → (x + get_or slots i 0 < length h.words) × Names h (word h (x + get_or slots i 0)) × Leads h (drop (i + 1) slots) (word h (x + get_or slots i 0)) z
+        → (x + get_or slots i 0 < length h.words) × IsReference h (word h (x + get_or slots i 0)) × Leads h (drop (i + 1) slots) (word h (x + get_or slots i 0)) z
     next z lt l = step_at (get_or slots i 0) (drop (i + 1) slots) x z on.names
         (subst (λ ss. Leads h ss x z) (drop-cons slots i 0 lt ∙ ap (λ n. get_or slots i 0 ∷ drop n slots) (next_is i)) (on.leads z l))
 
@@ -79,8 +78,8 @@ module _ (g h : Heap) (p : List ℕ) (x y : ℕ) (left : LeadsTo g p x) (right :
 -- data words that differ are words of their objects
 pub value_before : (g h : Heap) (p : List ℕ) (x y k : ℕ) → IsValid g → LeadsTo g p x → IsClash g h p (Data k) x y → HasDataWord g x k
 value_before g h p x y k valid leads (a, b, is, other, header, within, values) =
-    record { address = a; is = is; object = end_names g valid p x leads a is; within = within }
+    record { address = a; is = is; object = object_named g x a valid (end_names g valid p x leads) is; within = within }
 
 pub value_after : (g h : Heap) (p : List ℕ) (x y k : ℕ) → IsValid h → LeadsTo h p y → IsClash g h p (Data k) x y → HasDataWord h y k
 value_after g h p x y k valid leads (a, b, is, other, header, within, values) =
-    record { address = b; is = other; object = end_names h valid p y leads b other; within = subst (λ w. w % 2 ^ 32 + 1 + k < w / 2 ^ 32) header within }
+    record { address = b; is = other; object = object_named h y b valid (end_names h valid p y leads) other; within = subst (λ w. w % 2 ^ 32 + 1 + k < w / 2 ^ 32) header within }

@@ -3,13 +3,13 @@ use Rattle.std.proofs.Common.{◌≡◌, ◌⊎◌, ◌↔◌, ℕ, inl, inr, Li
 use Rattle.g1_words.specs.Graph.{SameGraph}
 use Rattle.g1_words.specs.Valid.{IsValid}
 use Rattle.g1_image.specs.Cards.{Covered, uncovered}
-use Rattle.g1_image.specs.Image.{Image, IsTextOf}
+use Rattle.g1_image.specs.Image.{Image, IsTextOf, IsImageText}
 use Rattle.g1_image.specs.Laws.{OneImage, NoFaultOfText}
 use Rattle.g1_choose.specs.Laws.{AcceptedNotBad}
 use Rattle.g1_choose.specs.Named.{AreTakeable}
 use Rattle.g1_kept.specs.Keeps.{Keeps}
 use Rattle.g1judge.specs.declared.verdict.Verdict.TheVariants.{Good, Same, Differ, NoImage, Uncovered, Loss, NoSet, Memory}
-use Rattle.g1judge.specs.Judged.{IsText, JudgesCover}
+use Rattle.g1judge.specs.Judged.{JudgesCover}
 use Rattle.g1judge.specs.Laws.{ShowOneGraph, ShowTwoGraphs, HasFault, IsCoveredText, IsBareText, ShowKept, ShowLost, ShowNoSet}
 use Rattle.g1judge.specs.Laws.{PairStatus, ImageStatus, CoverStatus, KeptStatus, MemoryStatus}
 
@@ -17,10 +17,10 @@ other : {A : Type 0} (m n : ℕ) → (m ≡ n → ⊥) → (A → ⊥) → (m �
 other m n f g = ((λ e. absurd (f e)), λ a. absurd (g a))
 
 module _ (one : OneImage) (none : NoFaultOfText) where
-  no_fault : (bytes : List ℕ) → IsText bytes → HasFault bytes → ⊥
+  no_fault : (bytes : List ℕ) → IsImageText bytes → HasFault bytes → ⊥
   no_fault bytes t f = none bytes t.0 f.0 t.1 f.1
 
-  neither : (before after : List ℕ) → IsText before → IsText after → HasFault before ⊎ HasFault after → ⊥
+  neither : (before after : List ℕ) → IsImageText before → IsImageText after → HasFault before ⊎ HasFault after → ⊥
   neither before after s t (inl f) = no_fault before s f
   neither before after s t (inr f) = no_fault after t f
 

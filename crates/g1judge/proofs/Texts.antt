@@ -1,7 +1,7 @@
 -- Two texts are judged as their images are.
 use Rattle.std.proofs.Common.{◌≡◌, ◌⊎◌, ℕ, List, inl, inr, sym, subst, ap, arith, slice_index}
 use Rattle.g1_words.specs.declared.fault.Fault.{Fault}
-use Rattle.g1_image.specs.Image.{Image, IsTextOf}
+use Rattle.g1_image.specs.Image.{Image, IsTextOf, IsImageText}
 use Rattle.g1_image.specs.Faults.{MayFail, FaultOf}
 use Rattle.g1judge.specs.declared.verdict.Verdict.{Verdict}
 use Rattle.g1judge.specs.declared.verdict.Verdict.TheVariants.{Good, Same, Differ, NoImage, Uncovered, Loss, NoSet, Memory}
@@ -9,7 +9,7 @@ use Rattle.g1_choose.specs.Named.{AreTakeable, IsFirstBad}
 use Rattle.g1_words.specs.Heap.{Heap}
 use Rattle.g1_words.specs.declared.fault.Fault.TheVariants as fault
 use Rattle.g1judge.specs.Answered.{at_of, place_of}
-use Rattle.g1judge.specs.Judged.{IsText, IsUnread, AreUnread, IsRefused, JudgesImages, JudgesLoss, JudgesPair, JudgesSet, JudgesKept}
+use Rattle.g1judge.specs.Judged.{IsUnread, AreUnread, IsRefused, JudgesImages, JudgesLoss, JudgesPair, JudgesSet, JudgesKept}
 
 pub texts_judged : (before after : List ℕ) (g h : Image) (v : Verdict) → IsTextOf before g → IsTextOf after h → JudgesImages g h v → JudgesPair before after v
 texts_judged before after g h Good s t j = absurd j
@@ -64,7 +64,7 @@ first_unread before after e (Uncovered slot) may u = absurd u
 first_unread before after e (Loss l) may u = absurd u
 first_unread before after e (NoSet region) may u = absurd u
 
-pub second_unread : (before after : List ℕ) (e : Fault) (v : Verdict) → IsText before → MayFail after e → IsUnread 2 e v → AreUnread before after v
+pub second_unread : (before after : List ℕ) (e : Fault) (v : Verdict) → IsImageText before → MayFail after e → IsUnread 2 e v → AreUnread before after v
 second_unread before after e (NoImage image f) text (inl m) u = absurd (u.2 m)
 second_unread before after e (NoImage image f) text (inr k) u = inr (u.0, text, subst (FaultOf after) (sym u.1) k)
 second_unread before after e Memory text may u = tt

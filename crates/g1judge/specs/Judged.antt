@@ -4,7 +4,7 @@ use Rattle.g1_words.specs.declared.fault.Fault.{Fault}
 use Rattle.g1_words.specs.declared.fault.Fault.TheVariants as fault
 use Rattle.g1_words.specs.Heap.{Heap, word, object_at, objects}
 use Rattle.g1_words.specs.Graph.{SameGraph}
-use Rattle.g1_image.specs.Image.{Image, IsTextOf}
+use Rattle.g1_image.specs.Image.{Image, IsTextOf, IsImageText}
 use Rattle.g1_image.specs.Faults.{FaultOf}
 use Rattle.g1_image.specs.Cards.{Covered, uncovered}
 use Rattle.g1_choose.specs.Named.{AreTakeable, IsFirstBad}
@@ -103,13 +103,9 @@ IsUnread which e (NoImage image f) = (image ≡ which) × (f ≡ e) × (e ≢ fa
 IsUnread which e Memory = e ≡ fault.Memory
 IsUnread which e _ = ⊥
 
--- the bytes are some image's text
-abbrev pub IsText : List ℕ → Type 0
-IsText bytes = (i : Image) × IsTextOf bytes i
-
 -- the fault is that of the first of two byte strings, or the first is an image's text and the fault is that of the second
 abbrev pub IsPairFault : List ℕ → List ℕ → ℕ → Fault → Type 0
-IsPairFault before after image e = ((image ≡ 1) × FaultOf before e) ⊎ ((image ≡ 2) × IsText before × FaultOf after e)
+IsPairFault before after image e = ((image ≡ 1) × FaultOf before e) ⊎ ((image ≡ 2) × IsImageText before × FaultOf after e)
 
 -- two byte strings that were not read to two images
 abbrev pub AreUnread : List ℕ → List ℕ → Verdict → Type 0
@@ -129,7 +125,7 @@ JudgesPair before after _ = ⊥
 
 -- THE VERDICT of bytes: an image's text, or their fault
 abbrev pub JudgesImage : List ℕ → Verdict → Type 0
-JudgesImage bytes Good = IsText bytes
+JudgesImage bytes Good = IsImageText bytes
 JudgesImage bytes (NoImage image e) = (image ≡ 1) × FaultOf bytes e
 JudgesImage bytes Memory = Unit {0}
 JudgesImage bytes _ = ⊥

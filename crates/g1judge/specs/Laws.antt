@@ -2,14 +2,14 @@
 use Rattle.std.specs.Prelude.{◌≡◌, ◌↔◌, ◌⊎◌, ℕ, List, false}
 use Rattle.g1_words.specs.declared.fault.Fault.{Fault}
 use Rattle.g1_words.specs.Graph.{SameGraph}
-use Rattle.g1_image.specs.Image.{Image, IsTextOf}
+use Rattle.g1_image.specs.Image.{Image, IsTextOf, IsImageText}
 use Rattle.g1_image.specs.Faults.{FaultOf}
 use Rattle.g1_image.specs.Cards.{Covered}
 use Rattle.g1_choose.specs.Named.{AreTakeable}
 use Rattle.g1_kept.specs.Keeps.{Keeps}
 use Rattle.g1judge.specs.declared.verdict.Verdict.{Verdict}
 use Rattle.g1judge.specs.declared.verdict.Verdict.TheVariants.{Memory}
-use Rattle.g1judge.specs.Judged.{IsText, JudgesPair, JudgesImage, JudgesCover, JudgesKept}
+use Rattle.g1judge.specs.Judged.{JudgesPair, JudgesImage, JudgesCover, JudgesKept}
 use Rattle.g1judge.specs.Answered.{status_of}
 
 -- the bytes are the texts of two images that show one graph from their roots
@@ -55,7 +55,7 @@ pub record SaysOfPair (before after : List ℕ) (status : ℕ) : Type 0 where
 
 -- what the status of g1_image says
 pub record SaysOfImage (bytes : List ℕ) (status : ℕ) : Type 0 where
-  pub zero : (status ≡ 0) ↔ IsText bytes
+  pub zero : (status ≡ 0) ↔ IsImageText bytes
   pub three : (status ≡ 3) ↔ HasFault bytes
   pub no_other : (status ≡ 0) ⊎ (status ≡ 3)
 

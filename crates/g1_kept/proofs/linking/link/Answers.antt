@@ -4,6 +4,7 @@ use Rattle.g1_same.specs.Walk.{IsNew}
 use Rattle.g1_kept.specs.declared.lost.Lost.TheVariants as lost
 use Rattle.g1_kept.specs.Walk.{IsPaired, PassesWords, StopsAtWords}
 use Rattle.g1_words.proofs.Sound.{object_in}
+use Rattle.g1_same.proofs.Heaps.{object_named}
 use Rattle.g1_kept.proofs.Adding.{IsAdded, added_walk, added_paired, pairs_fit, added_grown}
 use Rattle.g1_kept.proofs.Walking.{passes_same, passes_new, stops_differ, stops_occupied}
 use Rattle.g1_kept.proofs.Words.{new_before, new_after}
@@ -11,12 +12,12 @@ use Rattle.g1_kept.proofs.linking.link.Goals as goal
 
 pub add-requires-clause-a : goal.add-requires-clause-a
 add-requires-clause-a c =
-    let o = object_in c.args.pause.now.before.now c.in-New.a c.valid.ensures (c.requires.x c.in-New.a c.in-New.ensures.0) in
+    let o = object_in c.args.pause.now.before.now c.in-New.a c.valid.ensures (object_named c.args.pause.now.before.now c.args.x c.in-New.a c.valid.ensures c.requires.x c.in-New.ensures.0) in
     omega (arith, o.0, o.1, c.requires.walk.table_before)
 
 pub add-requires-clause-b : goal.add-requires-clause-b
 add-requires-clause-b c =
-    let o = object_in c.args.pause.now.after.now c.in-New.b c.valid-2.ensures (c.requires.y c.in-New.b c.in-New.ensures.1) in
+    let o = object_in c.args.pause.now.after.now c.in-New.b c.valid-2.ensures (object_named c.args.pause.now.after.now c.args.y c.in-New.b c.valid-2.ensures c.requires.y c.in-New.ensures.1) in
     omega (arith, o.0, o.1, c.requires.walk.table_after)
 
 pub add-requires-clause-few : goal.add-requires-clause-few
@@ -34,8 +35,8 @@ returns-in_ok-add-in-New-clause-walk c =
     let met = c.in-New.ensures in
     let a : ℕ = c.in-New.a in
     let b : ℕ = c.in-New.b in
-    let x_in = c.requires.x a met.0 in
-    let y_in = c.requires.y b met.1 in
+    let x_in = object_named g c.args.x a c.valid.ensures c.requires.x met.0 in
+    let y_in = object_named h c.args.y b c.valid-2.ensures c.requires.y met.1 in
     let x_lt : a < length w.new_of.items = let o = object_in g a c.valid.ensures x_in in omega (arith, o.0, o.1, c.requires.walk.table_before) in
     let y_lt : b < length w.old_of.items = let o = object_in h b c.valid-2.ensures y_in in omega (arith, o.0, o.1, c.requires.walk.table_after) in
     let e : IsAdded w v a b = record {
@@ -81,8 +82,8 @@ returns-in_ok-add-in-New-clause-passed c =
     let met = c.in-New.ensures in
     let a : ℕ = c.in-New.a in
     let b : ℕ = c.in-New.b in
-    let x_lt : a < length w.new_of.items = let o = object_in g a c.valid.ensures (c.requires.x a met.0) in omega (arith, o.0, o.1, c.requires.walk.table_before) in
-    let y_lt : b < length w.old_of.items = let o = object_in h b c.valid-2.ensures (c.requires.y b met.1) in omega (arith, o.0, o.1, c.requires.walk.table_after) in
+    let x_lt : a < length w.new_of.items = let o = object_in g a c.valid.ensures (object_named g c.args.x a c.valid.ensures c.requires.x met.0) in omega (arith, o.0, o.1, c.requires.walk.table_before) in
+    let y_lt : b < length w.old_of.items = let o = object_in h b c.valid-2.ensures (object_named h c.args.y b c.valid-2.ensures c.requires.y met.1) in omega (arith, o.0, o.1, c.requires.walk.table_after) in
     let e : IsAdded w v a b = record {
       before = c.in_ok-add-in-New.ensures.before;
       after = c.in_ok-add-in-New.ensures.after;

@@ -1,6 +1,6 @@
 use Rattle.std.proofs.Common.{arith, ap, refl, subst, sym, ℕ, ◌≤◌, ◌<◌, ◌∙◌, length, slice_index}
 use Rattle.g1_words.specs.Heap.{Heap}
-use Rattle.g1_same.specs.Walk.{Names}
+use Rattle.g1_words.specs.Valid.{IsReference}
 use Rattle.g1_same.proofs.Heaps.{root_names}
 use Rattle.g1_kept.specs.declared.pairs.Pairs.{Pairs}
 use Rattle.g1_kept.specs.Lost.{Disagree, root}
@@ -16,13 +16,13 @@ pub link-requires-clause-x : goal.link-requires-clause-x
 link-requires-clause-x c =
     let pause = c.args.pause.now in
     let lt : c.loop-number.number < length pause.before.now.roots = let k = ap length c.roots-old.ensures in omega (arith, k, c.loop-number-test.true) in
-    subst (λ l. Names pause.before.now (slice_index l c.loop-number.number)) (sym c.roots-old.ensures) (root_names pause.before.now c.loop-number.number c.valid.ensures lt)
+    subst (λ l. IsReference pause.before.now (slice_index l c.loop-number.number)) (sym c.roots-old.ensures) (root_names pause.before.now c.loop-number.number c.valid.ensures lt)
 
 pub link-requires-clause-y : goal.link-requires-clause-y
 link-requires-clause-y c =
     let pause = c.args.pause.now in
     let lt : c.loop-number.number < length pause.after.now.roots = let k = ap length c.roots-old.ensures in omega (arith, k, c.requires.roots, c.loop-number-test.true) in
-    subst (λ l. Names pause.after.now (slice_index l c.loop-number.number)) (sym c.roots-new.ensures) (root_names pause.after.now c.loop-number.number c.valid-2.ensures lt)
+    subst (λ l. IsReference pause.after.now (slice_index l c.loop-number.number)) (sym c.roots-new.ensures) (root_names pause.after.now c.loop-number.number c.valid-2.ensures lt)
 
 pub link-requires-clause-found : goal.link-requires-clause-found
 link-requires-clause-found c = λ a b ex ey of_set.

@@ -1,6 +1,6 @@
 use Rattle.std.proofs.Common.{arith, ap, refl, subst, sym, suc, ℕ, ◌≡◌, ◌≤◌, ◌<◌, ◌+◌, ◌∙◌, ◌%◌, ◌^◌, slice_index, length}
 use Rattle.g1_words.specs.Heap.{Heap, word, object_at}
-use Rattle.g1_same.specs.Walk.{Names}
+use Rattle.g1_words.specs.Valid.{IsReference}
 use Rattle.g1_same.proofs.Heaps.{slot_names}
 use Rattle.g1_same.proofs.Steps.{has_slots}
 use Rattle.g1_kept.specs.declared.pairs.Pairs.{Pairs}
@@ -20,7 +20,7 @@ link-requires-clause-x c =
     let here = has_slots g c.args.a c.object-old.result c.words.result.now c.slots-here.result.now c.object-old.ensures.value c.words.ensures c.slots-here.ensures.count c.slots-here.ensures.each in
     let n : ℕ = c.loop-number.number in
     let lt : n < (object_at g c.args.a).refs = omega (arith, c.loop-number-test.true, here.count) in
-    subst (Names g) (sym (here.each n c.loop-number-test.true)) (slot_names g c.args.a n c.valid.ensures c.requires.pair.before lt)
+    subst (IsReference g) (sym (here.each n c.loop-number-test.true)) (slot_names g c.args.a n c.valid.ensures c.requires.pair.before lt)
 
 pub link-requires-clause-y : goal.link-requires-clause-y
 link-requires-clause-y c =
@@ -33,7 +33,7 @@ link-requires-clause-y c =
     let refs : (object_at g c.args.a).refs ≡ (object_at h c.args.b).refs = ap (λ q. q % 2 ^ 32) c.requires.alike.header in
     let n : ℕ = c.loop-number.number in
     let lt : n < (object_at h c.args.b).refs = omega (arith, c.loop-number-test.true, here.count, refs) in
-    subst (Names h) (sym (there.each n (omega (arith, lt, there.count)))) (slot_names h c.args.b n c.valid-2.ensures c.requires.pair.after lt)
+    subst (IsReference h) (sym (there.each n (omega (arith, lt, there.count)))) (slot_names h c.args.b n c.valid-2.ensures c.requires.pair.after lt)
 
 pub link-requires-clause-found : goal.link-requires-clause-found
 link-requires-clause-found c = λ x y ex ey of_set.

@@ -2,7 +2,8 @@ use Rattle.std.proofs.Common.{arith, ap, subst, sym, inl, inr, ℕ, ◌<◌, ◌
 use Rattle.g1_words.specs.Heap.{Heap}
 use Rattle.g1_same.specs.declared.walk.Walk.{Walk}
 use Rattle.g1_same.specs.declared.difference.How.{How}
-use Rattle.g1_same.specs.Walk.{Names, IsEarlier, IsLinked, IsSeen, IsBelow, IsLeast}
+use Rattle.g1_words.specs.Valid.{IsReference}
+use Rattle.g1_same.specs.Walk.{IsEarlier, IsLinked, IsSeen, IsBelow, IsLeast}
 use Rattle.g1_same.proofs.Heaps.{root_names}
 use Rattle.g1_same.proofs.Steps.{none_then, some_then, roots_more, roots_kept}
 use Rattle.g1_same.proofs.comparing.link_roots.Goals as goal
@@ -14,12 +15,12 @@ earlier_root p q n (inr e) = inl (omega (arith, e.0))
 pub link-requires-clause-x : goal.link-requires-clause-x
 link-requires-clause-x c =
     let lt : c.loop-number.number < length c.args.before.now.roots = let k = ap length c.roots-roots.ensures in omega (arith, k) in
-    subst (λ l. Names c.args.before.now (slice_index l c.loop-number.number)) (sym c.roots-roots.ensures) (root_names c.args.before.now c.loop-number.number c.valid.ensures lt)
+    subst (λ l. IsReference c.args.before.now (slice_index l c.loop-number.number)) (sym c.roots-roots.ensures) (root_names c.args.before.now c.loop-number.number c.valid.ensures lt)
 
 pub link-requires-clause-y : goal.link-requires-clause-y
 link-requires-clause-y c =
     let lt : c.loop-number.number < length c.args.after.now.roots = let k = ap length c.roots-roots.ensures in omega (arith, k, c.requires.roots) in
-    subst (λ l. Names c.args.after.now (slice_index l c.loop-number.number)) (sym c.roots-others.ensures) (root_names c.args.after.now c.loop-number.number c.valid-2.ensures lt)
+    subst (λ l. IsReference c.args.after.now (slice_index l c.loop-number.number)) (sym c.roots-others.ensures) (root_names c.args.after.now c.loop-number.number c.valid-2.ensures lt)
 
 pub link-requires-clause-walk : goal.link-requires-clause-walk
 link-requires-clause-walk c = c.loop-number.invariant.walk

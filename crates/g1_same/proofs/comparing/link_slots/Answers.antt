@@ -3,7 +3,8 @@ use Rattle.std.proofs.lemmas.List.{get_or_read}
 use Rattle.g1_words.specs.Heap.{Heap, word, object_at, objects}
 use Rattle.g1_same.specs.declared.walk.Walk.{Walk}
 use Rattle.g1_same.specs.declared.difference.How.{How}
-use Rattle.g1_same.specs.Walk.{IsLeast, Names, IsEarlier, IsLinked, IsSeen, IsBelow, HasGrown}
+use Rattle.g1_words.specs.Valid.{IsReference}
+use Rattle.g1_same.specs.Walk.{IsLeast, IsEarlier, IsLinked, IsSeen, IsBelow, HasGrown}
 use Rattle.g1_same.proofs.Heaps.{slot_names}
 use Rattle.g1_same.proofs.Adding.{grown_more, grown_same, pairs_fit}
 use Rattle.g1_same.proofs.Steps.{none_then, some_then, slots_more, slots_kept, slot_way, has_slots, pair_read}
@@ -54,7 +55,7 @@ link-requires-clause-x c =
     c.slots-here.result.now c.object-old.ensures.value c.words.ensures c.slots-here.ensures.count c.slots-here.ensures.each in
     let n : ℕ = c.loop-number.number in
     let lt : n < (object_at g c.index.result.now).refs = omega (arith, c.loop-number-test.true, here.count) in
-    subst (Names g) (sym (here.each n c.loop-number-test.true)) (slot_names g c.index.result.now n c.valid.ensures pair.before_in lt)
+    subst (IsReference g) (sym (here.each n c.loop-number-test.true)) (slot_names g c.index.result.now n c.valid.ensures pair.before_in lt)
 
 pub link-requires-clause-y : goal.link-requires-clause-y
 link-requires-clause-y c =
@@ -68,7 +69,7 @@ link-requires-clause-y c =
     c.slots-there.result.now c.object-new.ensures.value c.words-2.ensures c.slots-there.ensures.count c.slots-there.ensures.each in
     let n : ℕ = c.loop-number.number in
     let lt : n < (object_at h c.index-2.result.now).refs = omega (arith, c.loop-number-test.true, here.count, pair.refs) in
-    subst (Names h) (sym (there.each n (omega (arith, lt, there.count)))) (slot_names h c.index-2.result.now n c.valid-2.ensures pair.after_in lt)
+    subst (IsReference h) (sym (there.each n (omega (arith, lt, there.count)))) (slot_names h c.index-2.result.now n c.valid-2.ensures pair.after_in lt)
 
 pub link-requires-clause-way : goal.link-requires-clause-way
 link-requires-clause-way c =

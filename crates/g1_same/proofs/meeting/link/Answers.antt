@@ -1,6 +1,7 @@
 use Rattle.std.proofs.Common.{arith, subst, sym, suc, ℕ, ◌<◌, length}
 use Rattle.g1_same.specs.Walk.{IsLinked, IsWay}
 use Rattle.g1_words.proofs.Sound.{object_in}
+use Rattle.g1_same.proofs.Heaps.{object_named}
 use Rattle.g1_same.proofs.Adding.{IsAdded, earlier_next, grown_same, added_grown, added_walk, added_linked, added_below, linked_by, pairs_fit}
 use Rattle.g1_same.proofs.meeting.link.Goals as goal
 
@@ -16,12 +17,12 @@ added c = record {
 
 pub add-requires-clause-a : goal.add-requires-clause-a
 add-requires-clause-a c =
-    let o = object_in c.args.before.now c.in-New.a c.valid.ensures (c.requires.x c.in-New.a c.in-New.ensures.0) in
+    let o = object_in c.args.before.now c.in-New.a c.valid.ensures (object_named c.args.before.now c.args.x c.in-New.a c.valid.ensures c.requires.x c.in-New.ensures.0) in
     omega (arith, o.0, o.1, c.requires.walk.table_before)
 
 pub add-requires-clause-b : goal.add-requires-clause-b
 add-requires-clause-b c =
-    let o = object_in c.args.after.now c.in-New.b c.valid-2.ensures (c.requires.y c.in-New.b c.in-New.ensures.1) in
+    let o = object_in c.args.after.now c.in-New.b c.valid-2.ensures (object_named c.args.after.now c.args.y c.in-New.b c.valid-2.ensures c.requires.y c.in-New.ensures.1) in
     omega (arith, o.0, o.1, c.requires.walk.table_after)
 
 pub add-requires-clause-few : goal.add-requires-clause-few
@@ -36,8 +37,8 @@ returns-in_ok-add-in-New-clause-walk c =
     let met = c.in-New.ensures in
     let a : ℕ = c.in-New.a in
     let b : ℕ = c.in-New.b in
-    let x_in = c.requires.x a met.0 in
-    let y_in = c.requires.y b met.1 in
+    let x_in = object_named g c.args.x a c.valid.ensures c.requires.x met.0 in
+    let y_in = object_named h c.args.y b c.valid-2.ensures c.requires.y met.1 in
     let x_lt : a < length w.new_of.items = let o = object_in g a c.valid.ensures x_in in omega (arith, o.0, o.1, c.requires.walk.table_before) in
     let y_lt : b < length w.old_of.items = let o = object_in h b c.valid-2.ensures y_in in omega (arith, o.0, o.1, c.requires.walk.table_after) in
     let way : IsWay g h w.before.items w.after.items c.args.way.from c.args.way.number (suc a) (suc b) =

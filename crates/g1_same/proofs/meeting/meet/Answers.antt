@@ -149,7 +149,7 @@ pub overflow_sub-j : goal.overflow_sub-j
 overflow_sub-j c = omega (arith, c.if-i-j.true, c.if-i-ne0.false)
 
 pub objects_differ-requires-clause-a : goal.objects_differ-requires-clause-a
-objects_differ-requires-clause-a c = named c.args.before.now c.args.x c.if-x-eq0.false c.requires.x
+objects_differ-requires-clause-a c = named c.args.before.now c.args.x c.valid.ensures c.if-x-eq0.false c.requires.x
 
 pub objects_differ-requires-clause-b : goal.objects_differ-requires-clause-b
-objects_differ-requires-clause-b c = named c.args.after.now c.args.y c.if-y-eq0-2.false c.requires.y
+objects_differ-requires-clause-b c = named c.args.after.now c.args.y c.valid-2.ensures c.if-y-eq0-2.false c.requires.y

@@ -1,5 +1,5 @@
 use Rattle.std.proofs.Common.{subst}
-use Rattle.g1_text.specs.Made.{IsImageText}
+use Rattle.g1_image.specs.Image.{IsImageText}
 use Rattle.g1_text.proofs.named.make_graph.Goals as goal
 
 pub returns-in-Ok-clause-image : goal.returns-in-Ok-clause-image
