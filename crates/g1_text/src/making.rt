@@ -78,6 +78,7 @@ fn trace(draft: &Draft, fault: Fault) -> Wrong
         Fault::Card(Stand::Region(region)) => {
             at(&lines.remembered, region, heading, Expected::Cards)
         }
+        // Reading and settling leave no other fault.
         _ => Wrong::Line {
             number: heading,
             expected: Expected::Sizes,

@@ -100,6 +100,7 @@ pub fn make_graph(alloc: Global, text: &[u8]) -> Result<Vec<u8>, Wrong>
     match check_bytes(alloc, bytes.as_slice()) {
         Ok(()) => Ok(bytes),
         Err(Fault::Memory) => Err(Wrong::Fault(Fault::Memory)),
+        // The objects were laid as an image has them, so no other fault is left.
         Err(_) => Err(Refusal::Expected(Expected::Sizes).at(1)),
     }
 }
