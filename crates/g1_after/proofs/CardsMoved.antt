@@ -13,8 +13,8 @@ use Rattle.g1_after.proofs.ObjectsOf.{used_not_to_space}
 use Rattle.g1_after.proofs.RulesMoved.{valid_moved}
 use Rattle.g1_after.proofs.ValidMoved.{other_shape, sound_before}
 use Rattle.g1_image.specs.Cards.{IsTracked, cards_where, exact, is_exact, is_refined, leads_into}
-use Rattle.g1_image.specs.Image.{Image, IsImage, IsLog, IsRememberedSet, IsUsedCard, MayHoldCards, region_of_card, remembered_of}
-use Rattle.g1_after.specs.Moved.{IsMoved, card_in, remembered_moved}
+use Rattle.g1_image.specs.Image.{Image, IsImage, IsLog, IsRememberedSet, IsUsedCard, MayHoldCards, region_of_card, remembered_of, card_in}
+use Rattle.g1_after.specs.Moved.{IsMoved, remembered_moved}
 use Rattle.g1_words.proofs.Bounds.{card_in_region, cards_in_region}
 use Rattle.g1_words.proofs.Indices.{range_bounds}
 use Rattle.g1_words.proofs.Members.{Contains-from_in, In, In-from_contains, and_true, any_member, filter_member, flat_map_cases, in_from_has, map_cases, or_true}

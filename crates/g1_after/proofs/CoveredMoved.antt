@@ -8,8 +8,8 @@ use Rattle.g1_after.proofs.RulesMoved.{RefMoved, before_kept, ref_moved}
 use Rattle.g1_after.proofs.ToSpace.{goal_in_to_space, goal_is_free, goal_not_in_set}
 use Rattle.g1_after.proofs.ValidMoved.{kept_refs, moved_below, outside_word, sound_before, survivor_word}
 use Rattle.g1_image.specs.Cards.{Covered, cards_where, exact, is_covered, is_exact, is_refined, leads_into}
-use Rattle.g1_image.specs.Image.{Image, remembered_of}
-use Rattle.g1_after.specs.Moved.{IsMoved, card_in, remembered_moved}
+use Rattle.g1_image.specs.Image.{Image, remembered_of, card_in}
+use Rattle.g1_after.specs.Moved.{IsMoved, remembered_moved}
 use Rattle.g1_words.proofs.Bounds.{card_below, card_in_region, cards_in_region}
 use Rattle.g1_words.proofs.Computed.{In-range}
 use Rattle.g1_words.proofs.Members.{In, In-filter, In-flat_map, In-map, has_from_in, or_true}

@@ -8,9 +8,9 @@ use Rattle.g1_after.proofs.RefsOf.{exact_parts, ref_of, region_of_slot, same_tes
 use Rattle.g1_after.proofs.RulesMoved.{before_kept, ref_moved}
 use Rattle.g1_after.proofs.ValidMoved.{kept_refs, sound_before}
 use Rattle.g1_after.specs.Survived.{ExactStays}
-use Rattle.g1_after.specs.Moved.{IsMoved, card_in}
+use Rattle.g1_after.specs.Moved.{IsMoved}
 use Rattle.g1_image.specs.Cards.{is_exact, leads_into}
-use Rattle.g1_image.specs.Image.{Image, region_of_card}
+use Rattle.g1_image.specs.Image.{Image, region_of_card, card_in}
 use Rattle.g1_words.proofs.Indices.{not_has}
 use Rattle.g1_words.proofs.Members.{Contains-from_in, In, In-append_left, In-append_right, In-from_contains, any_member, has_from_in, in_from_has}
 use Rattle.g1_words.proofs.OneToOne.{outside_stays}

@@ -10,11 +10,10 @@ use Rattle.g1_after.proofs.LeftRules.{built_left, same_shape}
 use Rattle.g1_after.proofs.ObjectsLeft.{IsLeft, heap_is_left, with_parts}
 use Rattle.g1_after.proofs.UnnamedRegions.{not_is}
 use Rattle.g1_after.specs.Freed.{TrackedLeft, heap_left}
-use Rattle.g1_after.specs.Moved.{card_in}
 use Rattle.g1_after.specs.Unnamed.{image_without, unnamed_regions}
 use Rattle.g1_image.proofs.Covers.{Covers, card_region, covered_tells}
 use Rattle.g1_image.specs.Cards.{Covered}
-use Rattle.g1_image.specs.Image.{Image, IsImage, IsLog, IsRememberedSet, IsUsedCard, MayHoldCards, region_of_card, remembered_of}
+use Rattle.g1_image.specs.Image.{Image, IsImage, IsLog, IsRememberedSet, IsUsedCard, MayHoldCards, region_of_card, remembered_of, card_in}
 use Rattle.g1_words.proofs.Members.{Contains-from_in, In, In-filter, In-from_contains, filter_member}
 use Rattle.g1_words.proofs.Ordered.{pairs_from_ordered}
 use Rattle.g1_words.proofs.Shapes.{IsBuilt, built, valid_of}

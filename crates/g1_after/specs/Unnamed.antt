@@ -6,8 +6,7 @@ use Rattle.g1_words.specs.Lists.{has}
 use Rattle.g1_words.specs.Heap.{Heap, free_region, is_first, kind, objects, region, region_of, regions, start, word}
 use Rattle.g1_words.specs.References.{refs, root_targets}
 use Rattle.g1_words.specs.Survivors.{in_set}
-use Rattle.g1_image.specs.Image.{Image, remembered_of}
-use Rattle.g1_after.specs.Moved.{card_in}
+use Rattle.g1_image.specs.Image.{Image, remembered_of, card_in}
 
 -- the humongous objects, by address
 abbrev pub humongous : Heap → List Object

@@ -18,9 +18,9 @@ use Rattle.g1_words.proofs.Members.{In, In-filter, filter_member, in_from_has, h
 use Rattle.g1_words.proofs.Indices.{get_or-In, range_bounds}
 use Rattle.g1_words.proofs.Shapes.{IsBuilt}
 use Rattle.g1_words.proofs.Standing.{card_positive, width_positive}
-use Rattle.g1_image.specs.Image.{Image, region_of_card}
+use Rattle.g1_image.specs.Image.{Image, region_of_card, card_in}
 use Rattle.g1_image.specs.Cards.{cards_where, is_exact, is_refined, refined}
-use Rattle.g1_after.specs.Moved.{card_in, remembered_moved}
+use Rattle.g1_after.specs.Moved.{remembered_moved}
 use Rattle.g1_after.specs.Made.{heap_moved}
 use Rattle.g1_image.proofs.Covers.{cards_rise}
 use Rattle.g1_rem.specs.Merging.{IsMerged}

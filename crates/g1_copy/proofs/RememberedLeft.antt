@@ -14,9 +14,9 @@ use Rattle.g1_words.proofs.NextFit.{free_distinct}
 use Rattle.g1_words.proofs.Shapes.{IsBuilt, built}
 use Rattle.g1_words.proofs.Standing.{w_pos}
 use Rattle.g1_image.specs.Cards.{IsTracked, cards_where, exact, is_exact, is_refined}
-use Rattle.g1_image.specs.Image.{Image, IsUsedCard, region_of_card, remembered_of}
+use Rattle.g1_image.specs.Image.{Image, IsUsedCard, region_of_card, remembered_of, card_in}
 use Rattle.g1_after.specs.Made.{heap_moved, image_moved, image_paused}
-use Rattle.g1_after.specs.Moved.{card_in, remembered_moved}
+use Rattle.g1_after.specs.Moved.{remembered_moved}
 use Rattle.g1_after.specs.Unnamed.{unnamed_regions}
 use Rattle.g1_after.proofs.Existence.{made_is_moved}
 use Rattle.g1_after.proofs.ValidMoved.{set_shape}

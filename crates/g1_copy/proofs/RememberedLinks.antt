@@ -19,10 +19,10 @@ use Rattle.g1_words.proofs.Shapes.{IsBuilt}
 use Rattle.g1_words.proofs.Standing.{home, home_region, ordinary_word, built_is_sound, card_positive}
 use Rattle.g1_words.proofs.Bounds.{card_in_region, cards_in_region}
 use Rattle.g1_words.proofs.OneToOne.{kept_cases, outside_stays}
-use Rattle.g1_image.specs.Image.{Image, region_of_card}
+use Rattle.g1_image.specs.Image.{Image, region_of_card, card_in}
 use Rattle.g1_image.specs.Cards.{leads_into, is_exact}
 use Rattle.g1_words.specs.Copy.{renamed}
-use Rattle.g1_after.specs.Moved.{IsMoved, card_in}
+use Rattle.g1_after.specs.Moved.{IsMoved}
 use Rattle.g1_after.specs.Made.{image_moved}
 use Rattle.g1_after.specs.Survived.{IsMovedRef}
 use Rattle.g1_after.proofs.ObjectsOf.{kept_outside, used_not_to_space}

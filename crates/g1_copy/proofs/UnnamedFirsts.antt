@@ -27,11 +27,11 @@ use Rattle.g1_words.proofs.Shapes.{BeginsRun, IsBuilt, IsBuiltBy, built}
 use Rattle.g1_words.proofs.Sound.{IsSound}
 use Rattle.g1_words.proofs.Standing.{built_is_sound, home, home_region, run_object, w_pos, word_used}
 use Rattle.g1_image.specs.Cards.{IsTracked, cards_where, is_exact, is_refined}
-use Rattle.g1_image.specs.Image.{Image, IsUsedCard, region_of_card, remembered_of}
+use Rattle.g1_image.specs.Image.{Image, IsUsedCard, region_of_card, remembered_of, card_in}
 use Rattle.g1_after.specs.Survived.{ExactStays}
 use Rattle.g1_after.specs.Freed.{NamedByCards}
 use Rattle.g1_after.specs.Made.{heap_moved, image_moved}
-use Rattle.g1_after.specs.Moved.{IsMoved, card_in, remembered_moved}
+use Rattle.g1_after.specs.Moved.{IsMoved, remembered_moved}
 use Rattle.g1_after.specs.Unnamed.{is_named, lies_in, unnamed}
 use Rattle.g1_after.proofs.CardsMoved.{tracked_moved}
 use Rattle.g1_after.proofs.CoveredMoved.{any_from_in}

@@ -2,14 +2,13 @@
 use Rattle.std.specs.Prelude.{◌≡◌, ◌≤◌, ◌<◌, ◌⊎◌, ◌↔◌, ◌+◌, ◌++◌, ◌*◌, ◌&&◌, ◌||◌, ℕ, false, List, length, map, slice_index, All, Contains, IsTrue}
 use Rattle.std.specs.List.Sorted.{IsStrictlyIncreasing}
 use Rattle.g1_words.specs.Heap.{Heap, regions}
-use Rattle.g1_words.specs.Survivors.{in_set, AllOrdinary, Survivors}
+use Rattle.g1_words.specs.Survivors.{AllOrdinary, Survivors}
 use Rattle.g1_words.specs.Layout.{HasRoom, need, to_space}
 use Rattle.g1_layout.specs.Plan.{Plan}
-use Rattle.g1_image.specs.Image.{Image, IsImage}
+use Rattle.g1_image.specs.Image.{Image, IsImage, card_in}
 use Rattle.g1_image.specs.Cards.{Covered, is_exact, refined}
 use Rattle.g1_after.specs.Made.{heap_moved, image_paused}
 use Rattle.g1_after.specs.Unnamed.{unnamed_regions}
-use Rattle.g1_after.specs.Moved.{card_in}
 use Rattle.g1_words.specs.Lists.{has}
 use Rattle.g1_copy.specs.Links.{is_linked, copied_slots}
 use Rattle.g1_words.specs.Valid.{IsValid}
@@ -23,12 +22,12 @@ use Rattle.g1_copy.specs.Slices.{words_after}
 -- the cards that lead into a set are those of its regions' refined sets, without those that lie in the set
 abbrev pub CardsLeadIn : Type 0
 CardsLeadIn = (i : Image) (set : List ℕ) → IsImage i → AllOrdinary i.heap set → (c : ℕ) → Contains (cards_into i.heap (map (refined i) (regions i.heap)) set) c
-    ↔ (((r : ℕ) × Contains set r × Contains (refined i r) c) × (in_set i.heap set (c * i.heap.geometry.k) ≡ false))
+    ↔ (((r : ℕ) × Contains set r × Contains (refined i r) c) × (card_in i.heap set c ≡ false))
 
 -- they rise, each is a card of the heap, and none lies in a region of the set
 abbrev pub CardsStandOutside : Type 0
 CardsStandOutside = (h : Heap) (remembered : List (List ℕ)) (set : List ℕ)
-    → IsStrictlyIncreasing (cards_into h remembered set) × All (λ c. c < card_count h) (cards_into h remembered set) × All (λ c. in_set h set (c * h.geometry.k) ≡ false) (cards_into h remembered set)
+    → IsStrictlyIncreasing (cards_into h remembered set) × All (λ c. c < card_count h) (cards_into h remembered set) × All (λ c. card_in h set c ≡ false) (cards_into h remembered set)
 
 -- the slots on the cards of the refined sets that name a survivor are all slots outside the set that do
 abbrev pub RefinedFindPatches : Type 0

@@ -1,7 +1,7 @@
-ghost use Rattle.std.specs.Prelude.{◌≡◌, ◌<◌, ◌*◌, ◌++◌, length, map, Contains, false, All, OnOk, IfOk, IfErr};
+ghost use Rattle.std.specs.Prelude.{◌≡◌, ◌<◌, ◌++◌, length, map, Contains, false, All, OnOk, IfOk, IfErr};
 ghost use Rattle.std.specs.List.Sorted.{IsStrictlyIncreasing};
-ghost use Rattle.g1_words.specs.Survivors.{in_set};
 ghost use Rattle.g1_words.specs.Valid.{IsValid};
+ghost use Rattle.g1_image.specs.Image.{card_in};
 ghost use Rattle.g1_rem.specs.Slots.{slots_on};
 ghost use Rattle.g1_rem.specs.Starts.{IsStartsOf, card_count};
 ghost use Rattle.g1_copy.specs.Plans.{IsPlanOf};
@@ -142,7 +142,7 @@ pub fn patches(
     requires plan { IsPlanOf heap.now plan.now }
     requires rising { IsStrictlyIncreasing cards.now }
     requires there { All (λ c. c < card_count heap.now) cards.now }
-    requires outside { All (λ c. in_set heap.now plan.now.set (c * heap.now.geometry.k) ≡ false) cards.now }
+    requires outside { All (λ c. card_in heap.now plan.now.set c ≡ false) cards.now }
     ensures ok { IfOk result (λ v. v.items ≡ patches_on heap.now plan.now.survivors cards.now) }
     ensures memory { IfErr result (λ e. e ≡ Fault.Memory) }
 {

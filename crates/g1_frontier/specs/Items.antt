@@ -1,9 +1,10 @@
 -- What a round looks at, and what that offers in the window.
-use Rattle.std.specs.Prelude.{◌≡◌, ℕ, List, [], ◌∷◌, ◌<◌, ◌+◌, ◌-◌, ◌*◌, ◌^◌, ◌++◌, false, Contains, length, map, filter, flat_map, slice_index}
+use Rattle.std.specs.Prelude.{◌≡◌, ℕ, List, [], ◌∷◌, ◌<◌, ◌+◌, ◌-◌, ◌^◌, ◌++◌, false, Contains, length, map, filter, flat_map, slice_index}
 use Rattle.std.specs.List.{All, range_with_len}
 use Rattle.g1_words.specs.Heap.{Heap, word, object_at, objects, slots}
 use Rattle.g1_words.specs.References.{named}
 use Rattle.g1_words.specs.Survivors.{in_set}
+use Rattle.g1_image.specs.Image.{card_in}
 use Rattle.g1_rem.specs.Starts.{card_count}
 use Rattle.g1_rem.specs.Slots.{slots_on}
 use Rattle.g1_frontier.specs.declared.item.Item.{Item}
@@ -18,7 +19,7 @@ IsItem h (Object a b) = Contains (objects h) (object_at h a)
 -- the item is no card of a region of the window
 abbrev pub IsOutside : Heap → List ℕ → Item → Type 0
 IsOutside h window (Root i) = Unit {0}
-IsOutside h window (Card c b) = in_set h window (c * h.geometry.k) ≡ false
+IsOutside h window (Card c b) = card_in h window c ≡ false
 IsOutside h window (Object a b) = Unit {0}
 
 -- what a reference word references in the window, with this rank: rank and address

@@ -1,15 +1,14 @@
 -- The laws that public functions of this crate prove.
-use Rattle.std.specs.Prelude.{◌≡◌, ◌↔◌, ◌<◌, ◌*◌, ℕ, false, List, [], ◌∷◌, Contains}
+use Rattle.std.specs.Prelude.{◌≡◌, ◌↔◌, ◌<◌, ℕ, false, List, [], ◌∷◌, Contains}
 use Rattle.std.specs.List.{All}
-use Rattle.g1_words.specs.Survivors.{in_set}
-use Rattle.g1_image.specs.Image.{Image, IsImage}
+use Rattle.g1_image.specs.Image.{Image, IsImage, card_in}
 use Rattle.g1_image.specs.Cards.{refined, Covered}
 use Rattle.g1_frontier.specs.Window.{AreCards, AreOutside, LeadIn}
 
 -- the cards are those of the refined sets of the window's regions, without those that lie in the window
 abbrev pub AreRefinedOf : Image → List ℕ → List ℕ → Type 0
 AreRefinedOf i window cards = (c : ℕ) → Contains cards c
-    ↔ (((r : ℕ) × Contains window r × Contains (refined i r) c) × (in_set i.heap window (c * i.heap.geometry.k) ≡ false))
+    ↔ (((r : ℕ) × Contains window r × Contains (refined i r) c) × (card_in i.heap window c ≡ false))
 
 -- the refined sets of a covered image lead into a window
 abbrev pub RefinedLeadIn : Type 0

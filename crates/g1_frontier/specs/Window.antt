@@ -6,6 +6,7 @@ use Rattle.g1_words.specs.Heap.{Heap, card_of}
 use Rattle.g1_words.specs.Lists.{has}
 use Rattle.g1_words.specs.References.{Ref, refs}
 use Rattle.g1_words.specs.Survivors.{in_set}
+use Rattle.g1_image.specs.Image.{card_in}
 use Rattle.g1_rem.specs.Starts.{card_count}
 
 -- the numbers rise, each below a bound
@@ -23,7 +24,7 @@ AreCards h cards = AreRising (card_count h) cards
 
 -- no card lies in a region of the window
 abbrev pub AreOutside : Heap → List ℕ → List ℕ → Type 0
-AreOutside h window cards = (c : ℕ) → Contains cards c → in_set h window (c * h.geometry.k) ≡ false
+AreOutside h window cards = (c : ℕ) → Contains cards c → card_in h window c ≡ false
 
 -- every slot outside the window that references an object in it lies on one of the cards
 abbrev pub LeadIn : Heap → List ℕ → List ℕ → Type 0

@@ -4,6 +4,7 @@ use Rattle.std.specs.Prelude.{Some, None, unwrap_or, if◌then◌else◌, nat_lt
 use Rattle.std.specs.List.Sorted.{IsStrictlyIncreasing}
 use Rattle.g1_words.specs.Heap.{Heap, region}
 use Rattle.g1_words.specs.Valid.{IsValid}
+use Rattle.g1_words.specs.Lists.{has}
 use Rattle.g1_words.specs.Kind.{kind_number, kind_of}
 pub use Rattle.g1_words.specs.Kind.{MayHoldCards}
 use Rattle.g1_image.specs.Text.{File, Entry, Version, file_text}
@@ -20,6 +21,10 @@ pub record Image : Type 0 where
 -- the region that a card lies in
 abbrev pub region_of_card : Heap → ℕ → ℕ
 region_of_card h c = c * h.geometry.k / h.geometry.w
+
+-- the card lies in one of these regions
+abbrev pub card_in : Heap → List ℕ → ℕ → Bool
+card_in h rs c = has rs (region_of_card h c)
 
 -- the card is one of the heap's, in a region that isn't free
 pub record IsUsedCard (h : Heap) (c : ℕ) : Type 0 where

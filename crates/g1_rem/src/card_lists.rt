@@ -1,4 +1,4 @@
-ghost use Rattle.std.specs.Prelude.{◌≡◌, ◌<◌, ℕ, List, [], Bool, true, All, map, replicate, OnOk, IfOk};
+ghost use Rattle.std.specs.Prelude.{◌≡◌, ◌<◌, ℕ, List, [], Bool, true, All, map, replicate, OnOk, OnErr, IfOk};
 ghost use Rattle.g1_rem.specs.Entering.{with_card};
 
 use std::alloc::{AllocError, Global};
@@ -20,9 +20,10 @@ pub fn no_cards(alloc: Global, regions: u64) -> Result<Vec<Vec<u32>>, AllocError
 /// Adds a card to a list that ends below it, unless the card is there already.
 ///
 /// # Errors
-/// `AllocError` if a growth was refused.
+/// `AllocError` if a growth was refused: then the list is as it was.
 pub fn push_once(cards: &mut Vec<u32>, card: u32) -> Result<(), AllocError>
-    ensures { OnOk result ((before : List ℕ) (b : Bool) → All (λ c. c < card) before → cards.old.items ≡ with_card before card b → cards.new.items ≡ with_card before card true) }
+    ensures ok { OnOk result ((before : List ℕ) (b : Bool) → All (λ c. c < card) before → cards.old.items ≡ with_card before card b → cards.new.items ≡ with_card before card true) }
+    ensures err { OnErr result (cards.new.items ≡ cards.old.items) }
 {
     let count = cards.len();
     if count > 0 && cards[count - 1] == card {

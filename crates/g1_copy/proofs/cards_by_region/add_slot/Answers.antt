@@ -39,4 +39,4 @@ returns c =
     (slice_index_or c.args.lists.now r c.index-lists-region.result).items c.push_once.new.cards.items
     c.geometry-geometry.ensures.valid c.requires.inside c.requires.some c.requires.within into card (λ f. c.if-region-region_of.false (into ∙ f ∙ sym own)) below e
     (sym (get_or-map (λ s. s.items) c.args.lists.now r c.index-lists-region.result [] (omega (arith, into, lt, c.requires.one_each)))) push)
-    c.push_once.ensures
+    c.push_once.ensures.ok

@@ -35,7 +35,7 @@ loop-p-preserved c =
           let in_now : w.in-Some.region < length c.loop-p.entering = omega (arith, lt, c.requires.one_each, c.loop-p.auto.entering) in
           let before = slice_index_or (map (λ s. s.items) c.args.entering.now) r [] in
           let read = sym (get_or-map (λ s. s.items) c.loop-p.entering r w.index-entering-region.result [] in_now) ∙ c.loop-p.invariant.each r in_old in
-          let pushed = w.in_ok-push_once.ensures before (enters h r ps) (c.requires.below r lt) read in
+          let pushed = w.in_ok-push_once.ensures.ok before (enters h r ps) (c.requires.below r lt) read in
           let same = ap (map (λ s. s.items)) w.entering-is ∙ map-set (λ s. s.items) c.loop-p.entering r w.push_once.new.cards in
           subst (IsGrown c.args.heap.now c.args.card (take c.loop-p.p-index c.args.slots.now ++ slice_index c.args.slots.now c.loop-p.p-index ∷ []) (map (λ s. s.items) c.args.entering.now)) (sym same)
           (grown_push h c.args.card p r ps w.push_once.new.cards.items (map (λ s. s.items) c.args.entering.now) (map (λ s. s.items) c.loop-p.entering)
