@@ -6,7 +6,8 @@ Of DEFINITIONS:
     as far as it is in a specs/ folder of ours; the page's count of these files and of their lines is right;
   - each file of specs/ is in one row, and each file of a row exists (Lib.antt, which only lists a crate's files, is
     in none);
-  - each function of the laws exists, and each function of a laws.rt is in one row.
+  - each function of the laws exists, and each function of a laws.rt is in one row;
+  - a clause cites each definition of specs/, itself or through definitions that it cites.
 Of MAP:
   - the tables of crates have each crate of crates/ once;
   - each file that a row of changes names exists, in the folder that the row names or in a crate of that row.
@@ -18,10 +19,13 @@ import pathlib
 import re
 import sys
 
+sys.path.insert(0, str(pathlib.Path(__file__).resolve().parent / "lib"))
+
+import definitions  # noqa: E402
+
 TOP = pathlib.Path(__file__).resolve().parent.parent
 CODE = re.compile(r"`([^`\n]+)`")
 ROW = re.compile(r"^\| (?!-)(.*) \|$", re.M)
-USE = re.compile(r"^use Rattle\.(\w+)\.specs\.([\w.]+?)(?:\.\{.*|\s*)$", re.M)
 COUNTS = re.compile(r"(\d+) files, ([\d,]+) lines")
 LAW = re.compile(r"^pub fn (\w+)", re.M)
 FILE = re.compile(r"(?:[\w.-]+/)*[\w-]+\.(?:rt|antt|md|py|h)")
@@ -65,15 +69,10 @@ def twice(names):
 
 
 def specs_of(tree):
-    """All files of definitions, by their paths below crates/."""
+    """The text of each file of definitions, by its path below crates/."""
     crates = tree / "crates"
-    return {str(path.relative_to(crates)): path for path in crates.glob("*/specs/**/*.antt") if path.name != "Lib.antt"}
-
-
-def imported(path, specs):
-    """The files of ours that a file imports."""
-    names = [f"{crate}/specs/{module.replace('.', '/')}.antt" for crate, module in USE.findall(path.read_text())]
-    return [name for name in names if name in specs]
+    return {str(path.relative_to(crates)): path.read_text() for path in sorted(crates.glob("*/specs/**/*.antt"))
+            if path.name != "Lib.antt"}
 
 
 def reached(names, specs):
@@ -83,7 +82,7 @@ def reached(names, specs):
         name = left.pop()
         if name not in found:
             found.add(name)
-            left += imported(specs[name], specs)
+            left += [file for file, _, _ in definitions.used(specs[name]) if file in specs]
     return found
 
 
@@ -96,7 +95,7 @@ def check_headline(text, headline, specs):
     wrong += [f"{name} has no number, and the headline depends on it" for name in sorted(needed - set(listed))]
     if [int(row[0]) for row in cells] != list(range(1, len(cells) + 1)):
         wrong.append("the numbers of the first table do not go up by one")
-    lines = sum(len(specs[name].read_text().splitlines()) for name in needed)
+    lines = sum(len(specs[name].splitlines()) for name in needed)
     said, is_so = COUNTS.search(text), (str(len(needed)), f"{lines:,}")
     if not said or said.groups() != is_so:
         wrong.append(f"the headline's files are {is_so[0]} files, {is_so[1]} lines")
@@ -120,6 +119,13 @@ def check_laws(text, tree):
     wrong = [f"there is no {name}" for name in listed if name not in laws]
     wrong += [f"{name} is in no row" for name in sorted(laws - set(listed))]
     return len(laws), wrong + twice(listed)
+
+
+def check_cited(specs, tree):
+    """Which definitions no clause cites."""
+    sources = [path.read_text() for path in tree.glob("crates/*/src/**/*.rt")]
+    count, left = definitions.uncited(specs, sources)
+    return count, [f"no clause cites {name} of {file}" for file, name in left]
 
 
 def check_crates(text, tree):
@@ -155,13 +161,14 @@ def check_changes(text, tree):
 
 def check(tree):
     """How many things were looked at, and what is wrong, with the page before it."""
-    definitions = (tree / "docs/DEFINITIONS.md").read_text()
+    page = (tree / "docs/DEFINITIONS.md").read_text()
     headline, table = (tree / "docs/HEADLINE.md").read_text(), (tree / "docs/MAP.md").read_text()
     specs = specs_of(tree)
-    found = [("DEFINITIONS", *check_headline(definitions, headline, specs)),
-             ("DEFINITIONS", *check_files(definitions, specs)), ("DEFINITIONS", *check_laws(definitions, tree)),
+    found = [("DEFINITIONS", *check_headline(page, headline, specs)),
+             ("DEFINITIONS", *check_files(page, specs)), ("DEFINITIONS", *check_laws(page, tree)),
+             ("DEFINITIONS", *check_cited(specs, tree)),
              ("MAP", *check_crates(table, tree)), ("MAP", *check_changes(table, tree))]
-    return sum(count for _, count, _ in found), [f"{page}: {text}" for page, _, wrong in found for text in wrong]
+    return sum(count for _, count, _ in found), [f"{name}: {text}" for name, _, wrong in found for text in wrong]
 
 
 def main():

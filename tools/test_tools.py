@@ -4,7 +4,8 @@
 Heap dumps are made here by hand, with identifiers of 4 and of 8 bytes, and the images expected of them were laid out by
 hand. Pages with a wrong output, a command that fails, a file left behind or a picture that changed have to fail.
 A picture is made of what a stand-in for g1pause says. The examples have to be those that examples/make.py makes.
-Tables of definitions and of the map that leave something out, or name what is not there, have to fail; those of the repository have to pass.
+Tables of definitions and of the map that leave something out, or name what is not there, have to fail, and so does a definition
+that no clause cites; those of the repository have to pass.
 A release of lines of shell and a checkout are installed, each over the other, and uninstalled: nothing of them may stay.
 Each script has to answer --help, and to say what it wants where it is called without arguments.
 """
@@ -260,6 +261,7 @@ TREE = {
     "docs/HEADLINE.md": "It is `g1_a/specs/Top.antt`.\n",
     "docs/DEFINITIONS.md": "Read 2 files, 3 lines.\n\n| Read | File | It defines |\n|---|---|---|\n| 1 | `g1_a/specs/Low.antt` | a |\n"
                            "| 2 | `g1_a/specs/Top.antt` | b |\n\n| File | It defines |\n|---|---|\n| `g1_b/specs/One.antt`, `Two.antt` | c |\n"
+                           "| `g1_b/specs/Cited.antt`, `Used.antt` | g |\n"
                            "\n## The laws\n\n| Function | It says |\n|---|---|\n| `g1_a::laws::first`, `second` | d |\n",
     "docs/MAP.md": "## The crates, lowest first\n\n| Crate | Room for |\n|---|---|\n| `g1_a`, `g1_b` | e |\n\n## Where to change what\n\n"
                    "| Change | Begin with | Then |\n|---|---|---|\n| f | `g1_a/src/{laws,lib}.rt` | `main.rt` of g1_b |\n",
@@ -270,7 +272,11 @@ TREE = {
     "crates/g1_a/src/lib.rt": "",
     "crates/g1_b/specs/One.antt": "",
     "crates/g1_b/specs/Two.antt": "use Rattle.g1_a.specs.Top\n",
-    "crates/g1_b/src/main.rt": "",
+    "crates/g1_b/specs/Used.antt": "-- the next one\nabbrev pub next : ℕ → ℕ\nnext n = suc n\n\nmodule _ (k : Kind next) where\n"
+                                   "  -- no number\n  pub record IsLow (n : ℕ) : Type 0 where\n    pub none : n ≡ 0\n",
+    "crates/g1_b/specs/Cited.antt": "pub use Rattle.g1_a.specs.Low.{low}\nuse Rattle.g1_b.specs.Used.{IsLow as IsSmall}\n\n"
+                                    "-- they are small\nabbrev pub AreSmall : List ℕ → Type 0\nAreSmall xs = All IsSmall xs\n",
+    "crates/g1_b/src/main.rt": "ghost use Rattle.g1_b.specs.Cited.{AreSmall, low};\n\nfn small()\n    ensures AreSmall result\n{}\n",
 }
 
 
@@ -325,6 +331,28 @@ class Tables(unittest.TestCase):
         page = "docs/DEFINITIONS.md"
         self.assertEqual(self.wrong(page, ", `second`", ""), ["DEFINITIONS: g1_a::laws::second is in no row"])
         self.assertEqual(self.wrong(page, ", `second`", ", `second`, `third`"), ["DEFINITIONS: there is no g1_a::laws::third"])
+
+    def uncited(self, name, old="", new=""):
+        """The definitions that no clause cites then."""
+        found = [re.fullmatch(r"DEFINITIONS: no clause cites (\S+) of g1_\S+/specs/(\w+).antt", line) for line in self.wrong(name, old, new)]
+        return [".".join(match.group(2, 1)) for match in found]
+
+    def test_a_clause_cites_each_definition(self):
+        used, cited, source = "crates/g1_b/specs/Used.antt", "crates/g1_b/specs/Cited.antt", "crates/g1_b/src/main.rt"
+        self.assertEqual(self.uncited(source), [])
+        self.assertEqual(self.uncited(used, new="\nabbrev pub lone : ℕ → ℕ\nlone n = lone (next n)\n"), ["Used.lone"])
+        self.assertEqual(self.uncited(used, "module _ (k : Kind next) where", "module _ (k : Kind) where"), ["Used.next"])
+        self.assertEqual(self.uncited(cited, "All IsSmall xs", "xs.IsSmall"), ["Used.next", "Used.IsLow"])
+        for old, new in (("ensures AreSmall", "// AreSmall"), ("ensures AreSmall", "ensures All"), ("Cited.{AreSmall", "Other.{AreSmall")):
+            self.assertEqual(self.uncited(source, old, new), ["Cited.AreSmall", "Used.next", "Used.IsLow"], new)
+
+    def test_a_name_that_a_file_hands_on_is_cited(self):
+        lone = "crates/g1_b/specs/Used.antt", "    pub none : n ≡ 0\n", "    pub none : n ≡ 0\n\npub data Lone : Type 0 where\n"
+        self.assertEqual(self.uncited(*lone), ["Used.Lone"])
+        with unittest.mock.patch.dict(TREE, {
+                "crates/g1_b/specs/Cited.antt": TREE["crates/g1_b/specs/Cited.antt"].replace("g1_a.specs.Low.{low}", "g1_b.specs.Used.{Lone as low}"),
+                "crates/g1_b/src/main.rt": TREE["crates/g1_b/src/main.rt"].replace("AreSmall result", "AreSmall low")}):
+            self.assertEqual(self.uncited(*lone), [])
 
     def test_each_crate_is_in_one_row(self):
         page = "docs/MAP.md"

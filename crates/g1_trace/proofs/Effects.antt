@@ -4,7 +4,8 @@ use Rattle.std.proofs.lemmas.List.{map-set}
 use Rattle.g1_words.proofs.Members.{In}
 use Rattle.g1_words.specs.Copy.{renamed}
 use Rattle.g1_trace.specs.Commands.{View}
-use Rattle.g1_trace.specs.Views.{Seen, SameView, SeenWord, IsRootSet, IsSlotSet, IsValueSet, IsMade}
+use Rattle.g1_trace.specs.Views.{Seen, SameView, SeenWord}
+use Rattle.g1_trace.proofs.ChangedViews.{IsRootSet, IsSlotSet, IsValueSet, IsMade}
 use Rattle.g1_trace.proofs.Views.{In-set, no_zeros, root_seen, slot_seen, seen_within, both_seen, equal_or_not}
 
 word_named : (v : View) (x a : ℕ) → SeenWord v x → x ≡ suc a → Seen v a

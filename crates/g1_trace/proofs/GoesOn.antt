@@ -4,7 +4,10 @@ use Rattle.std.specs.Prelude.{IfOk, IfErr, Result, Ok, Err}
 use Rattle.g1_trace.specs.declared.command.Command.{Command}
 use Rattle.g1_trace.specs.declared.command.Reply.{Reply}
 use Rattle.g1_trace.specs.Run.{Replies}
-use Rattle.g1_trace.specs.Running.{GoesOn}
+
+-- whatever replies the rest of the commands has from here on, with those so far before them they are replies to all
+abbrev pub GoesOn : {S : Type 0} → (S → Command → Reply → S → Type 0) → S → List Command → List Reply → S → List Command → Type 0
+GoesOn step start all replies here rest = (rs : List Reply) → Replies step here rest rs → Replies step start all (replies ++ rs)
 
 pub append-nil : {A : Type 0} (xs : List A) → xs ++ [] ≡ xs
 append-nil [] = refl

@@ -5,8 +5,9 @@ use Rattle.std.proofs.lemmas.List.{get_or-set_same, get_or-set_other}
 use Rattle.std.proofs.lemmas.List.FromFn.{length-map-range_with_len}
 use Rattle.g1_words.specs.Heap.{Heap, object_at, word}
 use Rattle.g1_trace.specs.Mutator.{heap_view}
-use Rattle.g1_trace.specs.Views.{Seen, IsRootSet, IsSlotSet, IsValueSet, IsMade}
-use Rattle.g1_trace.specs.Laid.{IsLaid, IsUnused}
+use Rattle.g1_trace.specs.Views.{Seen}
+use Rattle.g1_trace.proofs.ChangedViews.{IsRootSet, IsSlotSet, IsValueSet, IsMade}
+use Rattle.g1_trace.proofs.Laid.{IsLaid, IsUnused}
 use Rattle.g1_trace.proofs.Views.{equal_or_not}
 
 module _ (ws : List ℕ) (p y : ℕ) where

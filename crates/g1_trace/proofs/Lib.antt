@@ -1,7 +1,9 @@
 mod Accepted
 pub mod Views
+pub mod ChangedViews
 pub mod Effects
 pub mod Stores
+pub mod Laid
 pub mod Images
 pub mod GraphViews
 pub mod Ready

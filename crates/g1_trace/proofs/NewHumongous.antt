@@ -14,7 +14,7 @@ use Rattle.g1_words.proofs.Members.{and_true}
 use Rattle.g1_words.proofs.Shapes.{TakesRun, BeginsRun, IsBuiltBy, IsBuilt}
 use Rattle.g1_words.proofs.Standing.{w_pos}
 use Rattle.g1_trace.specs.Mutator.{is_humongous, run_length, is_in_run, run_region, grown, region_after, heap_with}
-use Rattle.g1_trace.specs.Laid.{IsUnused}
+use Rattle.g1_trace.proofs.Laid.{IsUnused}
 use Rattle.g1_trace.proofs.NewObject.{new_object, same_region, new_built, other_shaped, zeros_kept}
 use Rattle.g1_trace.proofs.NewOrdinary.{not_equal}
 

@@ -17,7 +17,7 @@ use Rattle.g1_image.specs.Image.{Image}
 use Rattle.g1_image.specs.Cards.{IsTracked}
 use Rattle.g1_image.proofs.Covers.{covered_tells}
 use Rattle.g1_trace.specs.Mutator.{is_humongous, run_length, is_free_region, is_free_run, fits_current, region_for, place_for, heap_with, with_heap}
-use Rattle.g1_trace.specs.Laid.{IsUnused}
+use Rattle.g1_trace.proofs.Laid.{IsUnused}
 use Rattle.g1_trace.proofs.Ready.{built_ready, found, free_run, free_top, free_found}
 use Rattle.g1_trace.proofs.Logging.{image_kept}
 use Rattle.g1_trace.proofs.NewObject.{refs_stay}

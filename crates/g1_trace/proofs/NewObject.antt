@@ -20,7 +20,7 @@ use Rattle.g1_words.proofs.Members.{In, In-from_contains, Contains-from_in, In-f
 use Rattle.g1_words.proofs.Shapes.{IsPlain, IsTiled, TakesRun, IsBuiltBy, IsBuilt}
 use Rattle.g1_words.proofs.Standing.{tiled_from, built_is_sound, w_pos}
 use Rattle.g1_trace.specs.Mutator.{is_humongous, is_in_run, run_region, grown, region_after, heap_with}
-use Rattle.g1_trace.specs.Laid.{IsUnused}
+use Rattle.g1_trace.proofs.Laid.{IsUnused}
 use Rattle.g1_trace.proofs.Views.{equal_or_not, In-set, named-in, in-named}
 use Rattle.g1_trace.proofs.SameObjects.{region_same}
 

@@ -8,7 +8,7 @@ use Rattle.g1_words.specs.declared.region.Kind.TheVariants.{Free, Ordinary, Humo
 use Rattle.g1_words.specs.Heap.{Heap, free_region, region, kind, top, objects_by, objects_in, tiles}
 use Rattle.g1_words.proofs.Shapes.{IsTiled, IsBuiltBy, IsBuilt}
 use Rattle.g1_trace.specs.Mutator.{is_humongous, is_in_run, run_region, grown, region_after, heap_with}
-use Rattle.g1_trace.specs.Laid.{IsUnused}
+use Rattle.g1_trace.proofs.Laid.{IsUnused}
 use Rattle.g1_trace.proofs.Views.{equal_or_not}
 use Rattle.g1_trace.proofs.NewObject.{tiled_tiles, tiled_append, new_object, in_all, same_region, tiled_kept, new_built, other_shaped, zeros_kept}
 

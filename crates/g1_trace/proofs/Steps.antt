@@ -20,10 +20,10 @@ use Rattle.g1_trace.specs.declared.command.Reply.TheVariants.{Full, Room}
 use Rattle.g1_trace.specs.Commands.{Effect, Nothing, SetRoot, SetSlot, SetValue, MakeNew, MakePause, Answer, answer_of}
 use Rattle.g1_trace.specs.Store.{Store, Stored, object, store_view, store_after, refusals, IsPlainStep}
 use Rattle.g1_trace.specs.Mutator.{heap_view, region_for, heap_with, IsEffect, IsStep}
-use Rattle.g1_trace.specs.Views.{Seen, SeenWord, Shows, renamed_effect, EffectFits}
-use Rattle.g1_trace.specs.Laid.{IsReady}
+use Rattle.g1_trace.specs.Views.{Seen, SeenWord, Shows, EffectFits}
+use Rattle.g1_trace.proofs.Laid.{IsReady}
 use Rattle.g1_trace.specs.Laws.{StepShows}
-use Rattle.g1_trace.proofs.Views.{both_seen, answers_agree, answer_fits}
+use Rattle.g1_trace.proofs.Views.{renamed_effect, both_seen, answers_agree, answer_fits}
 use Rattle.g1_trace.proofs.Effects.{root_set_seen, root_set_same, slot_set_seen, slot_set_same, value_set_seen, value_set_same, made_seen, made_same}
 use Rattle.g1_trace.proofs.Stores.{store_root, store_slot, store_value, store_made}
 use Rattle.g1_trace.proofs.Images.{image_root, image_slot, image_value, image_made}

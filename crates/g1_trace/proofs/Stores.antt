@@ -3,7 +3,8 @@ use Rattle.std.proofs.Common.{◌≡◌, ◌≢◌, ℕ, ◌<◌, inl, inr, List
 use Rattle.std.proofs.lemmas.List.{get_or-set_same, get_or-set_other, get_or_append_left}
 use Rattle.g1_trace.specs.Commands.{SetRoot, SetSlot, SetValue, MakeNew}
 use Rattle.g1_trace.specs.Store.{Store, Stored, no_object, object, store_view, store_after}
-use Rattle.g1_trace.specs.Views.{Seen, IsRootSet, IsSlotSet, IsValueSet, IsMade}
+use Rattle.g1_trace.specs.Views.{Seen}
+use Rattle.g1_trace.proofs.ChangedViews.{IsRootSet, IsSlotSet, IsValueSet, IsMade}
 use Rattle.g1_trace.proofs.Views.{equal_or_not}
 
 get_or-end : {A : Type 0} (xs : List A) (y d : A) → get_or (xs ++ y ∷ []) (length xs) d ≡ y

@@ -9,8 +9,21 @@ use Rattle.g1_words.specs.Copy.{renamed}
 use Rattle.g1_trace.specs.declared.command.Command.{Command}
 use Rattle.g1_trace.specs.declared.command.Command.TheVariants.{New, Get, Put, Set, Say, Same, Copy, Drop, Pause}
 use Rattle.g1_trace.specs.declared.command.Reply.TheVariants.{Ok, Range, Number}
-use Rattle.g1_trace.specs.Commands.{View, Nothing, SetRoot, SetSlot, SetValue, MakeNew, Answer, answer, answer_of, in_range, not_null, within}
-use Rattle.g1_trace.specs.Views.{Seen, SameView, SeenWord, renamed_answer, EffectFits, ForPause}
+use Rattle.g1_trace.specs.Commands.{View, Effect, Nothing, SetRoot, SetSlot, SetValue, MakeNew, MakePause, Answer, answer, answer_of, in_range, not_null, within}
+use Rattle.g1_trace.specs.Views.{Seen, SameView, SeenWord, EffectFits, ForPause}
+
+-- the same effect under other names
+abbrev pub renamed_effect : (ℕ → ℕ) → Effect → Effect
+renamed_effect f Nothing = Nothing
+renamed_effect f (SetRoot r x) = SetRoot r (renamed f x)
+renamed_effect f (SetSlot a p x) = SetSlot (f a) p (renamed f x)
+renamed_effect f (SetValue a p x) = SetValue (f a) p x
+renamed_effect f (MakeNew r refs words) = MakeNew r refs words
+renamed_effect f (MakePause b) = MakePause b
+
+-- the same answer under other names
+abbrev pub renamed_answer : (ℕ → ℕ) → Answer → Answer
+renamed_answer f a = record { reply = a.reply; effect = renamed_effect f a.effect }
 
 -- ---- reaching
 

@@ -5,7 +5,6 @@ pub mod Placing
 pub mod Run
 pub mod Running
 pub mod Views
-pub mod Laid
 pub mod Laws
 pub mod TraceText
 pub mod Lines

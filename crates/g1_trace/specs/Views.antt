@@ -1,10 +1,10 @@
 -- When two stores show the same objects to whoever reads from the roots.
-use Rattle.std.specs.Prelude.{◌≡◌, ◌≢◌, ℕ, zero, suc, map, flat_map, length, replicate, slice_set, ◌<◌, ⊤}
+use Rattle.std.specs.Prelude.{◌≡◌, ℕ, zero, suc, map, flat_map, length, ◌<◌, ⊤}
 use Rattle.g1_words.specs.Heap.{Heap}
 use Rattle.g1_words.specs.References.{named}
 use Rattle.g1_words.specs.Live.{Reached}
 use Rattle.g1_words.specs.Copy.{renamed}
-use Rattle.g1_trace.specs.Commands.{View, Effect, Nothing, SetRoot, SetSlot, SetValue, MakeNew, MakePause, Answer}
+use Rattle.g1_trace.specs.Commands.{View, Effect, Nothing, SetRoot, SetSlot, SetValue, MakeNew, MakePause}
 use Rattle.g1_trace.specs.Store.{Store, store_view}
 use Rattle.g1_trace.specs.Mutator.{heap_view}
 
@@ -30,19 +30,6 @@ abbrev pub SeenWord : View → ℕ → Type 0
 SeenWord v zero = ⊤
 SeenWord v (suc a) = Seen v a
 
--- the same effect under other names
-abbrev pub renamed_effect : (ℕ → ℕ) → Effect → Effect
-renamed_effect f Nothing = Nothing
-renamed_effect f (SetRoot r x) = SetRoot r (renamed f x)
-renamed_effect f (SetSlot a p x) = SetSlot (f a) p (renamed f x)
-renamed_effect f (SetValue a p x) = SetValue (f a) p x
-renamed_effect f (MakeNew r refs words) = MakeNew r refs words
-renamed_effect f (MakePause b) = MakePause b
-
--- the same answer under other names
-abbrev pub renamed_answer : (ℕ → ℕ) → Answer → Answer
-renamed_answer f a = record { reply = a.reply; effect = renamed_effect f a.effect }
-
 -- what the checks before an effect make sure of
 abbrev pub EffectFits : View → Effect → Type 0
 EffectFits v Nothing = ⊤
@@ -56,32 +43,3 @@ EffectFits v (MakePause b) = ⊤
 abbrev pub ForPause : Effect → Type 0 → Type 0
 ForPause (MakePause b) P = P
 ForPause _ P = ⊤
-
--- t is v except for a root
-pub record IsRootSet (v : View) (r x : ℕ) (t : View) : Type 0 where
-  pub roots : t.roots ≡ slice_set v.roots r x
-  pub slots : (b : ℕ) → Seen v b → t.slots b ≡ v.slots b
-  pub values : (b : ℕ) → Seen v b → t.values b ≡ v.values b
-
--- t is v except for a slot of object a
-pub record IsSlotSet (v : View) (a p x : ℕ) (t : View) : Type 0 where
-  pub roots : t.roots ≡ v.roots
-  pub written : t.slots a ≡ slice_set (v.slots a) p x
-  pub slots : (b : ℕ) → Seen v b → b ≢ a → t.slots b ≡ v.slots b
-  pub values : (b : ℕ) → Seen v b → t.values b ≡ v.values b
-
--- t is v except for a data word of object a
-pub record IsValueSet (v : View) (a p x : ℕ) (t : View) : Type 0 where
-  pub roots : t.roots ≡ v.roots
-  pub written : t.values a ≡ slice_set (v.values a) p x
-  pub slots : (b : ℕ) → Seen v b → t.slots b ≡ v.slots b
-  pub values : (b : ℕ) → Seen v b → b ≢ a → t.values b ≡ v.values b
-
--- t is v with a new object a, which a root names now and nothing named before
-pub record IsMade (v : View) (a r refs words : ℕ) (t : View) : Type 0 where
-  pub fresh : Seen v a → ⊥
-  pub roots : t.roots ≡ slice_set v.roots r (suc a)
-  pub new_slots : t.slots a ≡ replicate refs 0
-  pub new_values : t.values a ≡ replicate words 0
-  pub slots : (b : ℕ) → Seen v b → t.slots b ≡ v.slots b
-  pub values : (b : ℕ) → Seen v b → t.values b ≡ v.values b

@@ -3,7 +3,7 @@ use Rattle.g1_trace.specs.Store.{Store, IsPlainStep}
 use Rattle.g1_trace.specs.Mutator.{IsStep}
 use Rattle.g1_trace.specs.Views.{Shows}
 use Rattle.g1_trace.specs.Run.{empty_image, empty_store}
-use Rattle.g1_trace.specs.Running.{GoesOn}
+use Rattle.g1_trace.proofs.GoesOn.{GoesOn}
 use Rattle.g1_trace.specs.TraceText.{sizes}
 use Rattle.g1_trace.proofs.running.run_trace.Given as goal
 
