@@ -105,18 +105,8 @@ pub(crate) fn push_numbers(text: &mut String, numbers: &[u32]) -> Result<(), All
 /// The marks of some regions.
 pub(crate) fn mark_regions(alloc: Global, heap: &Heap, set: &[u32]) -> Result<Marks, AllocError> {
     let mut marks = Marks::none(alloc, heap.regions().len())?;
-    for region in set {
-        let region = *region as usize;
-        if region < marks.len() {
-            marks.set(region);
-        }
-    }
+    marks.set_each(set);
     Ok(marks)
-}
-
-/// Whether a region is marked.
-pub(crate) fn is_marked(marks: &Marks, region: u64) -> bool {
-    region < marks.len() as u64 && marks.is_set(region as usize)
 }
 
 /// Ends the line of a card with those of these slots that lead into a set, or with a dash if none does.
@@ -130,7 +120,7 @@ pub(crate) fn push_leading(
     let mut some = false;
     for slot in slots {
         if let Some(target) = word_at(heap, *slot).checked_sub(1) {
-            if is_marked(set, region_of(&geometry, target)) {
+            if set.has(region_of(&geometry, target) as usize) {
                 write!(text, " {slot}")?;
                 some = true;
             }

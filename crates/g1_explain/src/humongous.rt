@@ -1,5 +1,4 @@
 //! Humongous objects: what keeps each, and which are freed.
-use crate::cards::is_marked;
 use crate::failure::Failure;
 use crate::finder::{Finder, push_found};
 use crate::objects::{size_in, slots_at, word_at};
@@ -73,7 +72,7 @@ pub(crate) fn card_keeper(
     for card in cards {
         let home = geometry.region_of_card(*card);
         let is_own = region <= home && home < end;
-        if !is_own && !is_marked(set, home) {
+        if !is_own && !set.has(home as usize) {
             let slots = walkable.slots_on(alloc, *card);
             if let Some(slot) = slot_to(heap, slots.as_slice(), at) {
                 return Some(Finder::Card { card: *card, slot });
