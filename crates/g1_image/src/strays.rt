@@ -100,29 +100,6 @@ impl Make for Straying<'_> {
     }
 }
 
-/// The first slot that references no object, by this many threads.
-fn first_by_threads(
-    rt: &(impl Threads + Sync),
-    alloc: Global,
-    draft: &Draft,
-    marks: &Marks,
-    threads: usize,
-) -> Result<Option<u64>, Fault>
-    requires some { 0 < threads }
-    requires marked { AreShapedStarts draft.now marks.now }
-    ensures ok { IfOk result (IsFirstStrayOf draft.now) }
-    ensures memory { IfErr result (λ e. e ≡ Fault.Memory) }
-{
-    let cut = cut_regions(alloc, draft.regions(), threads)?;
-    let straying = Straying {
-        draft,
-        marks,
-        cut: &cut,
-    };
-    let found = make_each(rt, alloc, threads, threads, &straying)?;
-    Ok(first_found(&found))
-}
-
 /// The first slot that references no object.
 fn first_alone(draft: &Draft, marks: &Marks) -> Option<u64>
     requires { AreShapedStarts draft.now marks.now }
@@ -152,22 +129,30 @@ pub(crate) fn check_slots(draft: &Draft, marks: &Marks) -> Result<(), Fault>
     fault_of(draft, first_alone(draft, marks))
 }
 
-/// The first slot that references no object, by as many threads as the words feed.
+/// The first slot that references no object, by this many threads, each with a range of the regions.
 fn first_by(
     rt: &(impl Threads + Sync),
     alloc: Global,
     draft: &Draft,
     marks: &Marks,
-    workers: u64,
+    threads: usize,
 ) -> Result<Option<u64>, Fault>
-    requires { AreShapedStarts draft.now marks.now }
+    requires some { 0 < threads }
+    requires marked { AreShapedStarts draft.now marks.now }
     ensures ok { IfOk result (IsFirstStrayOf draft.now) }
     ensures memory { IfErr result (λ e. e ≡ Fault.Memory) }
 {
-    match threads_for(workers, draft.words().len(), WORDS_A_THREAD) {
-        1 => Ok(first_alone(draft, marks)),
-        threads => first_by_threads(rt, alloc, draft, marks, threads),
+    if threads == 1 {
+        return Ok(first_alone(draft, marks));
     }
+    let cut = cut_regions(alloc, draft.regions(), threads)?;
+    let straying = Straying {
+        draft,
+        marks,
+        cut: &cut,
+    };
+    let found = make_each(rt, alloc, threads, threads, &straying)?;
+    Ok(first_found(&found))
 }
 
 /// As `check_slots`, with this many workers at most. One if it is 0.
@@ -182,6 +167,7 @@ pub(crate) fn check_slots_by(
     ensures ok { OnOk result (SlotsAreGood draft.now) }
     ensures err { IfErr result (λ e. (e ≡ Fault.Memory) ⊎ IsStrayFault draft.now e) }
 {
-    let found = first_by(rt, alloc, draft, marks, workers)?;
+    let threads = threads_for(workers, draft.words().len(), WORDS_A_THREAD);
+    let found = first_by(rt, alloc, draft, marks, threads)?;
     fault_of(draft, found)
 }

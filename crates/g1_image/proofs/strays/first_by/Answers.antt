@@ -2,7 +2,7 @@ use Rattle.std.proofs.Common.{◌≡◌, ◌*◌, ap, arith, length, subst, sym,
 use Rattle.g1_work.specs.Ranges.{IsCut, first_some}
 use Rattle.g1_image.specs.Strays.{IsFirstStray}
 use Rattle.g1_image.proofs.StraySlots.{AreFirstStrays, strays_all}
-use Rattle.g1_image.proofs.strays.first_by_threads.Goals as goal
+use Rattle.g1_image.proofs.strays.first_by.Goals as goal
 
 pub cut_regions-requires-clause-count : goal.cut_regions-requires-clause-count
 cut_regions-requires-clause-count g c = omega (arith, ap length c.regions.ensures.same, c.regions.ensures.draft.region_count, c.regions.ensures.draft.limits.n_most)
