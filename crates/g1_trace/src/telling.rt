@@ -1,4 +1,4 @@
-ghost use Rattle.std.specs.Prelude.{◌≡◌, ◌++◌, ◌+◌, ◌<◌, List, ℕ, OnOk, IfOk, IfErr};
+ghost use Rattle.std.specs.Prelude.{◌≡◌, ◌++◌, ◌+◌, ◌<◌, List, ℕ, length, take, OnErr, OnOk, IfOk, IfErr};
 ghost use Rattle.g1_choose.specs.Cost.{IsCost};
 ghost use Rattle.g1_trace.specs.Telling.{reply_line, IsTold, IsRefusal, IsBegun, BeginsOutside};
 
@@ -19,9 +19,10 @@ use std::thread::Threads;
 ///
 /// # Errors
 ///
-/// `AllocError` if a growth was refused.
+/// `AllocError` if a growth was refused. The text then begins as it did, and may end in a part of the line.
 pub fn push_reply(text: &mut Vec<u8>, reply: Reply) -> Result<(), AllocError>
-    ensures { OnOk result (text.new.items ≡ text.old.items ++ reply_line reply) }
+    ensures ok { OnOk result (text.new.items ≡ text.old.items ++ reply_line reply) }
+    ensures err { OnErr result (take (length text.old.items) text.new.items ≡ text.old.items) }
 {
     match reply {
         Reply::Ok => text.extend_from_slice(b"ok\n"),
@@ -35,7 +36,8 @@ pub fn push_reply(text: &mut Vec<u8>, reply: Reply) -> Result<(), AllocError>
 
 /// Adds a number in decimal digits, and the end of the line.
 fn push_number(text: &mut Vec<u8>, value: u64) -> Result<(), AllocError>
-    ensures { OnOk result (text.new.items ≡ text.old.items ++ reply_line (Reply.Number value)) }
+    ensures ok { OnOk result (text.new.items ≡ text.old.items ++ reply_line (Reply.Number value)) }
+    ensures err { OnErr result (take (length text.old.items) text.new.items ≡ text.old.items) }
 {
     let mut buffer = Buffer::new();
     text.extend_from_slice(buffer.format(value).as_bytes())?;

@@ -19,7 +19,7 @@ loop-rest-preserved g c =
     let told = subst (λ o. IfOk o (λ r. IsStep c.new-collector.result.cost l.mutator line.command r next)) c.in_ok-reply.was c.execute-next.ensures.replied in
     let step = subst (λ k. IsStep k l.mutator line.command reply next) c.new-collector.ensures told in
     so_far_answered c.args.cost.now c.args.bytes.now l.mutator next l.rest.now l.text.items line.more.now c.push_reply.new.text.items l.lines
-    c.traces.ensures.step c.execute-next.ensures.tracked l.invariant (line.command, reply, line.ensures.text, line.ensures.fits, step, c.in_ok-push_reply.ensures)
+    c.traces.ensures.step c.execute-next.ensures.tracked l.invariant (line.command, reply, line.ensures.text, line.ensures.fits, step, c.in_ok-push_reply.ensures.ok)
 
 pub loop-rest-smaller : goal.loop-rest-smaller
 loop-rest-smaller g c =
