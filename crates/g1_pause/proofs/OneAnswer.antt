@@ -40,9 +40,9 @@ module _ (cost : Cost) (i : Image) where
 
   module _ (tracked : IsTracked i) where
     -- a choice with a fault has no set
-    no_fault_of_choice : (choice : Choice) (e : Fault) (s : List ℕ) → FaultOfChoice i.heap choice e → IsSetFor cost i choice s → ⊥
-    no_fault_of_choice (Budget b) e s bad x = bad
-    no_fault_of_choice (Given list) e s bad x = accepted_not_bad i.heap list.items bad.0 tracked.image.heap.region_count x.0 bad.1
+    fault_has_no_set : (choice : Choice) (e : Fault) (s : List ℕ) → FaultOfChoice i.heap choice e → IsSetFor cost i choice s → ⊥
+    fault_has_no_set (Budget b) e s bad x = bad
+    fault_has_no_set (Given list) e s bad x = accepted_not_bad i.heap list.items bad.0 tracked.image.heap.region_count x.0 bad.1
 
     -- and no other fault
     one_fault_of_choice : (choice : Choice) (e f : Fault) → FaultOfChoice i.heap choice e → FaultOfChoice i.heap choice f → e ≡ f
@@ -51,14 +51,14 @@ module _ (cost : Cost) (i : Image) where
 
     pub evacuated_unique : (choice : Choice) (x y : Result Image Fault) → IsEvacuated cost choice i x → IsEvacuated cost choice i y → x ≡ y
     evacuated_unique choice x y (bad_set {e = e} p) (bad_set {e = f} q) = ap Err (one_fault_of_choice choice e f p q)
-    evacuated_unique choice x y (bad_set {e = e} p) (no_room t m g v lt) = absurd (no_fault_of_choice choice e t p g)
-    evacuated_unique choice x y (bad_set {e = e} p) (done t m g v le mv) = absurd (no_fault_of_choice choice e t p g)
-    evacuated_unique choice x y (no_room s l a b lt) (bad_set {e = f} q) = absurd (no_fault_of_choice choice f s q a)
+    evacuated_unique choice x y (bad_set {e = e} p) (no_room t m g v lt) = absurd (fault_has_no_set choice e t p g)
+    evacuated_unique choice x y (bad_set {e = e} p) (done t m g v le mv) = absurd (fault_has_no_set choice e t p g)
+    evacuated_unique choice x y (no_room s l a b lt) (bad_set {e = f} q) = absurd (fault_has_no_set choice f s q a)
     evacuated_unique choice x y (no_room s l a b lt) (no_room t m g v lt') =
         ap (λ u. Err (Room (need i.heap u) (length (free_regions i.heap)))) (same_survivors choice s t l m a g b v)
     evacuated_unique choice x y (no_room s l a b lt) (done t m g v le mv) =
         let e : need i.heap l ≡ need i.heap m = ap (need i.heap) (same_survivors choice s t l m a g b v) in absurd (omega arith)
-    evacuated_unique choice x y (done s l a b le mv) (bad_set {e = f} q) = absurd (no_fault_of_choice choice f s q a)
+    evacuated_unique choice x y (done s l a b le mv) (bad_set {e = f} q) = absurd (fault_has_no_set choice f s q a)
     evacuated_unique choice x y (done s l a b le mv) (no_room t m g v lt) =
         let e : need i.heap l ≡ need i.heap m = ap (need i.heap) (same_survivors choice s t l m a g b v) in absurd (omega arith)
     evacuated_unique choice x y (done s l {j = j} a b le mv) (done t m {j = j'} g v le' mv') =
