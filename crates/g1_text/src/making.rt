@@ -78,7 +78,7 @@ fn trace(draft: &Draft, fault: Fault) -> Wrong
         Fault::Card(Stand::Region(region)) => {
             at(&lines.remembered, region, heading, Expected::Cards)
         }
-        // Reading and settling leave no other fault.
+        // No lines are known to reach another fault, once they are read and settled.
         _ => Wrong::Line {
             number: heading,
             expected: Expected::Sizes,

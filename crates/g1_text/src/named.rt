@@ -56,8 +56,14 @@ pub fn read_graph<'a>(alloc: Global, text: &'a [u8]) -> Result<Graph<'a>, Wrong>
     ensures fault { IfErr result IsLineOrMemory }
 {
     let mut lines = read_lines(alloc, text)?;
-    match lay_out(alloc, &mut lines) {
-        Ok(mut draft) => fill(alloc, &mut draft, &lines),
+    place_and_fill(alloc, &mut lines)
+}
+
+fn place_and_fill<'a>(alloc: Global, lines: &mut Lines<'a>) -> Result<Graph<'a>, Wrong>
+    ensures fault { IfErr result IsLineOrMemory }
+{
+    match lay_out(alloc, lines) {
+        Ok(mut draft) => fill(alloc, &mut draft, lines),
         Err(refusal) => Err(refusal.at(lines.heading)),
     }
 }
@@ -89,19 +95,20 @@ pub fn make_graph(alloc: Global, text: &[u8]) -> Result<Vec<u8>, Wrong>
     ensures image { IfOk result (λ v. IsImageText v.items) }
     ensures fault { IfErr result IsLineOrMemory }
 {
+    let mut lines = read_lines(alloc, text)?;
     let Graph {
         text: bytes,
         first_stale,
         ..
-    } = read_graph(alloc, text)?;
+    } = place_and_fill(alloc, &mut lines)?;
     if let Some((number, expected)) = first_stale {
         return Err(Wrong::Line { number, expected });
     }
     match check_bytes(alloc, bytes.as_slice()) {
         Ok(()) => Ok(bytes),
         Err(Fault::Memory) => Err(Wrong::Fault(Fault::Memory)),
-        // The objects were laid as an image has them, so no other fault is left.
-        Err(_) => Err(Refusal::Expected(Expected::Sizes).at(1)),
+        // No lines are known to reach another fault: the objects lie as an image has them.
+        Err(_) => Err(Refusal::Expected(Expected::Sizes).at(lines.heading)),
     }
 }
 
