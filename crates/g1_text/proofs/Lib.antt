@@ -22,3 +22,4 @@ pub mod Statements
 pub mod FullText
 pub mod OneSaid
 pub mod Counted
+pub mod Known

@@ -1,6 +1,6 @@
 -- What two facts of one result say together.
 use Rattle.std.proofs.Common.{◌≡◌, ◌≢◌, ℕ, List, ◌∷◌, sym, ◌∙◌, ap}
-use Rattle.std.specs.Prelude.{Result, Ok, Err, is_ok, MatchResult}
+use Rattle.std.specs.Prelude.{Result, Ok, Err, is_ok, MatchResult, OnOk}
 use Rattle.std.proofs.lemmas.Bool.{false≢true}
 use Rattle.std.proofs.lemmas.Result.{MatchResult-at_ok}
 
@@ -21,3 +21,8 @@ module _ {T E : Type 0} {r : Result T E} where
 pub word_read : {T E : Type 0} {x : T} {word : List ℕ} (r : Result T E) (old new : List (List ℕ)) → r ≡ Ok x
     → MatchResult r (λ _. old ≡ word ∷ new) (λ _. (rest : List (List ℕ)) → old ≢ word ∷ rest) → old ≡ word ∷ new
 word_read {word} r old new is m = MatchResult-at_ok (λ _. old ≡ word ∷ new) (λ _. (rest : List (List ℕ)) → old ≢ word ∷ rest) _ is m
+
+-- what holds in any case
+pub on_ok : {T E P : Type 0} (r : Result T E) → P → OnOk r P
+on_ok (Ok x) p = p
+on_ok (Err e) p = tt

@@ -1,9 +1,11 @@
 -- What a draft of an image holds.
-use Rattle.std.specs.Prelude.{◌≡◌, map, Option, Some, None, Result, MatchResult}
+use Rattle.std.specs.Prelude.{◌≡◌, ℕ, Bool, true, false, List, [], ◌∷◌, map, Option, Some, None, not, ◌==◌, Result, MatchResult}
 use Rattle.g1_text.specs.declared.expected.Refusal.{Refusal}
 use Rattle.g1_text.specs.declared.expected.Refusal.TheVariants.{Memory}
 use Rattle.g1_text.specs.declared.draft.Draft.{Draft}
+use Rattle.g1_text.specs.declared.named.Lines.{Lines}
 use Rattle.g1_text.specs.declared.draft.Told.{Told}
+use Rattle.g1_text.specs.Reading.{IsOfKind}
 use Rattle.g1_text.specs.Content.{Content, Counts}
 
 -- what a region's line said
@@ -35,3 +37,21 @@ Becomes r after c = MatchResult r (λ _. after ≡ c) (λ e. e ≡ Memory)
 abbrev pub said : Option Draft → Option Content
 said None = None
 said (Some d) = Some (content d)
+
+-- whether lines of objects by name have begun: the number of the heading's line is known
+abbrev pub is_begun : Lines → Bool
+is_begun l = not (l.heading == 0)
+
+-- what a line may be, by whether the heading was read
+abbrev pub kinds_after : List (List ℕ) → List (List ℕ) → Bool → List (List ℕ)
+kinds_after heading below false = heading
+kinds_after heading below true = below
+
+-- the line is of a kind that may come next, and the heading is read now
+abbrev pub IsTaken : List (List ℕ) → List (List ℕ) → Bool → List (List ℕ) → Bool → Type 0
+IsTaken heading below before line after = IsOfKind (kinds_after heading below before) line × (after ≡ true)
+
+-- so are lines, one after the other
+abbrev pub AreTaken : List (List ℕ) → List (List ℕ) → Bool → List (List (List ℕ)) → Bool → Type 0
+AreTaken heading below before [] after = before ≡ after
+AreTaken heading below before (line ∷ lines) after = IsOfKind (kinds_after heading below before) line × AreTaken heading below true lines after

@@ -1,5 +1,5 @@
 -- The lines of a text as they are read: any white space stands between words, and blank lines and comments say nothing.
-use Rattle.std.specs.Prelude.{◌≡◌, ℕ, Bool, true, false, List, [], ◌∷◌, map, filter, slice_index, not, ◌==◌, All, IsUtf8}
+use Rattle.std.specs.Prelude.{◌≡◌, ℕ, Bool, true, false, List, [], ◌∷◌, map, filter, slice_index, codes, not, ◌==◌, All, Contains, IsUtf8}
 use Rattle.std.specs.List.{slice_split}
 use Rattle.std.specs.Char.{is_ascii_whitespace}
 
@@ -29,3 +29,32 @@ lines_in text = filter says_something (map words_in (parts_of text))
 pub record HasLines (text : List ℕ) (lines : List (List (List ℕ))) : Type 0 where
   pub utf8 : All IsUtf8 (parts_of text)
   pub same : lines_in text ≡ lines
+
+-- a line is of the kind that its first word says, and this is one of these
+abbrev pub IsOfKind : List (List ℕ) → List (List ℕ) → Type 0
+IsOfKind kinds [] = ⊥
+IsOfKind kinds (word ∷ words) = Contains kinds word
+
+-- ALL LINES ARE KNOWN: the heading is of one of these kinds, and each line below it of one of those
+abbrev pub AreKnown : List (List ℕ) → List (List ℕ) → List (List (List ℕ)) → Type 0
+AreKnown heading below [] = ⊥
+AreKnown heading below (line ∷ lines) = IsOfKind heading line × All (IsOfKind below) lines
+
+-- the kinds of the lines of an image
+abbrev pub image_heading : List (List ℕ)
+image_heading = codes "heap" ∷ []
+
+abbrev pub image_kinds : List (List ℕ)
+image_kinds = codes "root" ∷ codes "dirty" ∷ codes "covered" ∷ codes "region" ∷ codes "remembered" ∷ codes "object" ∷ []
+
+-- the kinds of lines of objects by name
+abbrev pub graph_heading : List (List ℕ)
+graph_heading = codes "graph" ∷ []
+
+abbrev pub graph_kinds : List (List ℕ)
+graph_kinds = codes "root" ∷ codes "object" ∷ []
+
+-- a text has lines, all known
+pub record HasKnownLines (heading below : List (List ℕ)) (text : List ℕ) : Type 0 where
+  pub utf8 : All IsUtf8 (parts_of text)
+  pub known : AreKnown heading below (lines_in text)

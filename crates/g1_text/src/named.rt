@@ -1,6 +1,8 @@
 //! Lines of objects by name, without regions and addresses.
-ghost use Rattle.std.specs.Prelude.{IfErr, IfOk};
+ghost use Rattle.std.specs.Prelude.{◌≡◌, ◌<◌, true, false, IsUtf8, map, codes, All, IfErr, IfOk, OnOk};
 ghost use Rattle.g1_image.specs.Image.{IsImageText};
+ghost use Rattle.g1_text.specs.Reading.{words_in, says_something, parts_of, lines_in, graph_heading, graph_kinds, HasKnownLines};
+ghost use Rattle.g1_text.specs.Drafts.{is_begun, IsTaken, AreTaken};
 ghost use Rattle.g1_text.specs.Refused.{IsLineOrMemory};
 
 use crate::covering::cover;
@@ -54,6 +56,7 @@ pub fn is_graph(text: &[u8]) -> bool {
 /// are read first, then the words of the roots, and those of the objects by address. `Fault::Memory` else.
 pub fn read_graph<'a>(alloc: Global, text: &'a [u8]) -> Result<Graph<'a>, Wrong>
     ensures fault { IfErr result IsLineOrMemory }
+    ensures known { IfOk result (λ _. HasKnownLines graph_heading graph_kinds text.now) }
 {
     let mut lines = read_lines(alloc, text)?;
     place_and_fill(alloc, &mut lines)
@@ -61,6 +64,7 @@ pub fn read_graph<'a>(alloc: Global, text: &'a [u8]) -> Result<Graph<'a>, Wrong>
 
 fn place_and_fill<'a>(alloc: Global, lines: &mut Lines<'a>) -> Result<Graph<'a>, Wrong>
     ensures fault { IfErr result IsLineOrMemory }
+    ensures begun { OnOk result (is_begun lines.old ≡ true) }
 {
     match lay_out(alloc, lines) {
         Ok(mut draft) => fill(alloc, &mut draft, lines),
@@ -94,6 +98,7 @@ fn fill<'a>(alloc: Global, draft: &mut Draft, lines: &Lines<'a>) -> Result<Graph
 pub fn make_graph(alloc: Global, text: &[u8]) -> Result<Vec<u8>, Wrong>
     ensures image { IfOk result (λ v. IsImageText v.items) }
     ensures fault { IfErr result IsLineOrMemory }
+    ensures known { IfOk result (λ _. HasKnownLines graph_heading graph_kinds text.now) }
 {
     let mut lines = read_lines(alloc, text)?;
     let Graph {
@@ -127,6 +132,7 @@ struct Lines<'a> {
 
 fn read_lines<'a>(alloc: Global, text: &'a [u8]) -> Result<Lines<'a>, Wrong>
     ensures fault { IfErr result IsLineOrMemory }
+    ensures known { IfOk result (λ l. All IsUtf8 (parts_of text.now) × AreTaken graph_heading graph_kinds false (lines_in text.now) (is_begun l)) }
 {
     let mut lines = Lines {
         heading: 0,
@@ -156,7 +162,11 @@ impl<'a> Lines<'a> {
         words: &mut Vec<&'a str>,
         number: u64,
         line: &'a [u8],
-    ) -> Result<(), Refusal> {
+    ) -> Result<(), Refusal>
+        ensures utf8 { OnOk result (IsUtf8 line.now) }
+        ensures known { 0 < number → says_something (words_in line.now) ≡ true → OnOk result (IsTaken graph_heading graph_kinds (is_begun self.old) (words_in line.now) (is_begun self.new)) }
+        ensures nothing { says_something (words_in line.now) ≡ false → OnOk result (is_begun self.new ≡ is_begun self.old) }
+    {
         let Ok(line) = str::from_utf8(line) else {
             return Err(Refusal::Expected(Expected::Text));
         };
@@ -165,7 +175,10 @@ impl<'a> Lines<'a> {
     }
 
     // The words of a line.
-    fn read_words(&mut self, number: u64, line: &'a str, words: &[&'a str]) -> Result<(), Refusal> {
+    fn read_words(&mut self, number: u64, line: &'a str, words: &[&'a str]) -> Result<(), Refusal>
+        ensures known { 0 < number → says_something (map (λ t. t.now) words.now) ≡ true → OnOk result (IsTaken graph_heading graph_kinds (is_begun self.old) (map (λ t. t.now) words.now) (is_begun self.new)) }
+        ensures nothing { says_something (map (λ t. t.now) words.now) ≡ false → OnOk result (is_begun self.new ≡ is_begun self.old) }
+    {
         let Some((first, rest)) = words.split_first() else {
             return Ok(());
         };
@@ -190,7 +203,10 @@ impl<'a> Lines<'a> {
     }
 
     // graph [W K N]
-    fn begin(&mut self, number: u64, first: &str, told: &[&str]) -> Result<(), Refusal> {
+    fn begin(&mut self, number: u64, first: &str, told: &[&str]) -> Result<(), Refusal>
+        ensures graph { OnOk result (first.now ≡ codes "graph") }
+        ensures number { OnOk result (self.new.heading ≡ number) }
+    {
         if first != "graph" {
             return Err(Refusal::Expected(Expected::Graph));
         }
@@ -202,7 +218,9 @@ impl<'a> Lines<'a> {
     }
 
     // root NAME
-    fn add_root(&mut self, number: u64, name: &'a str) -> Result<(), Refusal> {
+    fn add_root(&mut self, number: u64, name: &'a str) -> Result<(), Refusal>
+        ensures { OnOk result (self.new.heading ≡ self.old.heading) }
+    {
         let most = u64::from(MOST_ROOTS);
         if self.roots.len() as u64 >= most {
             return Err(Refusal::Expected(Expected::Roots(most)));
@@ -218,7 +236,9 @@ impl<'a> Lines<'a> {
         line: &'a str,
         name: &'a str,
         size: &str,
-    ) -> Result<(), Refusal> {
+    ) -> Result<(), Refusal>
+        ensures { OnOk result (self.new.heading ≡ self.old.heading) }
+    {
         if matches!(name, "-" | "..") {
             return Err(Refusal::Expected(Expected::Name));
         }
@@ -272,7 +292,9 @@ fn short_size(text: &str) -> Result<(u32, u32), Expected> {
 }
 
 // A heap of the sizes that the first line has, or of chosen ones, in which each object has an address.
-fn lay_out(alloc: Global, lines: &mut Lines<'_>) -> Result<Draft, Refusal> {
+fn lay_out(alloc: Global, lines: &mut Lines<'_>) -> Result<Draft, Refusal>
+    ensures { OnOk result (is_begun lines.old ≡ true) }
+{
     let geometry = match sizes_of(lines) {
         Ok(geometry) => geometry,
         Err(expected) => return Err(Refusal::Expected(expected)),
@@ -287,7 +309,9 @@ fn lay_out(alloc: Global, lines: &mut Lines<'_>) -> Result<Draft, Refusal> {
     Ok(draft)
 }
 
-fn sizes_of(lines: &Lines<'_>) -> Result<Geometry, Expected> {
+fn sizes_of(lines: &Lines<'_>) -> Result<Geometry, Expected>
+    ensures { OnOk result (is_begun lines.now ≡ true) }
+{
     if lines.heading == 0 {
         return Err(Expected::Graph);
     }

@@ -1,11 +1,12 @@
-ghost use Rattle.std.specs.Prelude.{◌≡◌, ◌<◌, ◌+◌, ◌^◌, ℕ, Bool, List, [], ◌∷◌, ◌++◌, Option, None, Some, Ok, true, false, IsUtf8, length, map, replicate, decimal, codes, All, IsTrue, IfSome, IfOk, IfErr, OnOk, MatchOption, MatchResult};
+ghost use Rattle.std.specs.Prelude.{◌≡◌, ◌<◌, ◌+◌, ◌^◌, ℕ, Bool, List, [], ◌∷◌, ◌++◌, Option, None, Some, Ok, true, false, IsUtf8, length, map, replicate, decimal, codes, All, Contains, IsTrue, IfSome, IfOk, IfErr, OnOk, MatchOption, MatchResult};
 ghost use Rattle.g1_words.specs.declared.region.Kind.{Kind as KindOf};
 ghost use Rattle.g1_words.specs.declared.region.Region.{Region as RegionOf};
 ghost use Rattle.g1_words.specs.Kind.{kind_word};
 ghost use Rattle.g1_text.specs.Lines.{reference_word, current_word, cards_words, pinned_words};
-ghost use Rattle.g1_text.specs.Reading.{words_in, says_something, parts_of, HasLines};
+ghost use Rattle.std.specs.Option.{is_some};
+ghost use Rattle.g1_text.specs.Reading.{words_in, says_something, parts_of, lines_in, image_heading, image_kinds, HasLines, HasKnownLines};
 ghost use Rattle.g1_text.specs.Content.{Content, Counts, Line, Root, Dirty, Numbers, Remembered, Holds, words_of, Takes, MayFollow, with_region, one_found, Begins, Says, SaysAll, IsClosed};
-ghost use Rattle.g1_text.specs.Drafts.{content, counts_of, Becomes, said};
+ghost use Rattle.g1_text.specs.Drafts.{content, counts_of, Becomes, said, IsTaken, AreTaken};
 ghost use Rattle.g1_text.specs.Refused.{IsLineOrMemory};
 
 use crate::draft::{Draft, Heading, Placed, Told};
@@ -20,6 +21,7 @@ use std::str;
 pub(crate) fn read(alloc: Global, text: &[u8]) -> Result<Draft, Wrong>
     ensures fault { IfErr result IsLineOrMemory }
     ensures says { (lines : List (List (List ℕ))) (c : Content) → HasLines text.now lines → SaysAll None lines (Some c) → IsClosed c → MatchResult result (λ d. content d ≡ c) (λ e. e ≡ Wrong.Fault Fault.Memory) }
+    ensures known { IfOk result (λ _. HasKnownLines image_heading image_kinds text.now) }
 {
     let mut draft = None;
     let parts = read_lines(alloc, &mut draft, text)?;
@@ -34,6 +36,7 @@ pub(crate) fn read(alloc: Global, text: &[u8]) -> Result<Draft, Wrong>
 fn read_lines(alloc: Global, draft: &mut Option<Draft>, text: &[u8]) -> Result<u64, Wrong>
     ensures fault { IfErr result IsLineOrMemory }
     ensures says { (lines : List (List (List ℕ))) (c : Content) → HasLines text.now lines → SaysAll (said draft.old) lines (Some c) → MatchResult result (λ _. said draft.new ≡ Some c) (λ e. e ≡ Wrong.Fault Fault.Memory) }
+    ensures known { IfOk result (λ _. All IsUtf8 (parts_of text.now) × AreTaken image_heading image_kinds (is_some (said draft.old)) (lines_in text.now) (is_some (said draft.new))) }
 {
     let mut number = 0u64;
     let mut words = Vec::new(alloc);
@@ -82,6 +85,8 @@ fn read_line<'a>(
 ) -> Result<(), Refusal>
     ensures says { (c : Content) → IsUtf8 line.now → says_something (words_in line.now) ≡ true → Says (said draft.old) (words_in line.now) c → MatchResult result (λ _. said draft.new ≡ Some c) (λ e. e ≡ Refusal.Memory) }
     ensures nothing { IsUtf8 line.now → says_something (words_in line.now) ≡ false → MatchResult result (λ _. said draft.new ≡ said draft.old) (λ e. e ≡ Refusal.Memory) }
+    ensures utf8 { OnOk result (IsUtf8 line.now) }
+    ensures known { says_something (words_in line.now) ≡ true → OnOk result (IsTaken image_heading image_kinds (is_some (said draft.old)) (words_in line.now) (is_some (said draft.new))) }
 {
     let Ok(line) = str::from_utf8(line) else {
         return Err(Refusal::Expected(Expected::Text));
@@ -99,6 +104,7 @@ fn read_words(
 ) -> Result<(), Refusal>
     ensures says { (c : Content) → says_something words.entry ≡ true → Says (said draft.old) words.entry c → MatchResult result (λ _. said draft.new ≡ Some c) (λ e. e ≡ Refusal.Memory) }
     ensures nothing { says_something words.entry ≡ false → MatchResult result (λ _. said draft.new ≡ said draft.old) (λ e. e ≡ Refusal.Memory) }
+    ensures known { says_something words.entry ≡ true → OnOk result (IsTaken image_heading image_kinds (is_some (said draft.old)) words.entry (is_some (said draft.new))) }
 {
     let Some(first) = words.next() else {
         return Ok(());
@@ -117,7 +123,8 @@ fn begin_or_add(
     first: &str,
     words: Words<'_>,
 ) -> Result<(), Refusal>
-    ensures { (c : Content) → Says (said draft.old) (first.now ∷ words.entry) c → MatchResult result (λ _. said draft.new ≡ Some c) (λ e. e ≡ Refusal.Memory) }
+    ensures says { (c : Content) → Says (said draft.old) (first.now ∷ words.entry) c → MatchResult result (λ _. said draft.new ≡ Some c) (λ e. e ≡ Refusal.Memory) }
+    ensures known { OnOk result (IsTaken image_heading image_kinds (is_some (said draft.old)) (first.now ∷ words.entry) (is_some (said draft.new))) }
 {
     match draft {
         Some(draft) => draft.add(first, words, number),
@@ -130,7 +137,8 @@ fn begin_or_add(
 
 // heap W K N [roots R] [dirty D] [current none|C]
 fn begin(alloc: Global, first: &str, mut words: Words<'_>, line: u64) -> Result<Draft, Refusal>
-    ensures { (c : Content) → Begins (first.now ∷ words.entry) c → MatchResult result (λ d. content d ≡ c) (λ e. e ≡ Refusal.Memory) }
+    ensures says { (c : Content) → Begins (first.now ∷ words.entry) c → MatchResult result (λ d. content d ≡ c) (λ e. e ≡ Refusal.Memory) }
+    ensures known { IfOk result (λ _. first.now ≡ codes "heap") }
 {
     if first != "heap" {
         return Err(Refusal::Expected(Expected::Heading));
@@ -198,7 +206,8 @@ pub(crate) fn follows(told: Option<u64>, what: &'static str, number: u64) -> Res
 impl Draft {
     // Reads the words behind the first word of a line.
     fn add(&mut self, first: &str, words: Words<'_>, line: u64) -> Result<(), Refusal>
-        ensures { (l : Line) (c : Content) → first.now ∷ words.entry ≡ words_of l → Takes (content self.old) l c → Becomes result (content self.new) c }
+        ensures says { (l : Line) (c : Content) → first.now ∷ words.entry ≡ words_of l → Takes (content self.old) l c → Becomes result (content self.new) c }
+        ensures known { OnOk result (Contains image_kinds first.now) }
     {
         match first {
             "root" => self.add_root(words, line),

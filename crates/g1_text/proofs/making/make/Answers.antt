@@ -5,6 +5,7 @@ use Rattle.g1_text.specs.Content.{Content, IsContentOf, file_with}
 use Rattle.g1_text.specs.Counted.{IsMadeOf}
 use Rattle.g1_text.proofs.Counted.{uncovered}
 use Rattle.g1_text.proofs.FullText.{full_text_says}
+use Rattle.g1_text.proofs.Results.{on_ok}
 use Rattle.g1_text.proofs.making.make.Goals as goal
 
 pub returns-in_err-draft-clause-whole : goal.returns-in_err-draft-clause-whole
@@ -32,3 +33,6 @@ returns-clause-only c = λ lines d has says closed fit.
     let same = c.in_ok-draft.ensures.says lines d has says closed in
     let plain = ap (λ (s : Content). s.covered) same ∙ uncovered d lines says in
     subst (λ s. IfOk c.finish.result (λ v. IsMadeOf s v.items)) same (c.finish.ensures.only plain (subst (λ s. CountsFit (file_with s)) (sym same) fit))
+
+pub returns-clause-known : goal.returns-clause-known
+returns-clause-known c = on_ok c.finish.result c.in_ok-draft.ensures.known

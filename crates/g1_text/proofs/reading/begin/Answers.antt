@@ -7,27 +7,27 @@ use Rattle.g1_text.specs.Content.{begun}
 use Rattle.g1_text.proofs.Results.{ok_one, not_both}
 use Rattle.g1_text.proofs.reading.begin.Goals as goal
 
-pub returns-in_err-told : goal.returns-in_err-told
-returns-in_err-told c = λ after b.
+pub returns-in_err-told-clause-says : goal.returns-in_err-told-clause-says
+returns-in_err-told-clause-says c = λ after b.
     let rest = codes "roots" ∷ decimal b.roots ∷ codes "dirty" ∷ decimal b.dirty ∷ codes "current" ∷ current_word b.current ∷ [] in
     let read = c.sizes.ensures b.geometry.w b.geometry.k b.geometry.n rest (omega (arith, b.limits.w_most)) (omega (arith, b.limits.k_most)) (omega (arith, b.limits.n_most)) (ap (drop 1) b.line) in
     absurd (not_both c.in_err-told.was read.0)
 
-pub returns-in_err-heading : goal.returns-in_err-heading
-returns-in_err-heading c = λ after b.
+pub returns-in_err-heading-clause-says : goal.returns-in_err-heading-clause-says
+returns-in_err-heading-clause-says c = λ after b.
     let rest = codes "roots" ∷ decimal b.roots ∷ codes "dirty" ∷ decimal b.dirty ∷ codes "current" ∷ current_word b.current ∷ [] in
     let read = c.sizes.ensures b.geometry.w b.geometry.k b.geometry.n rest (omega (arith, b.limits.w_most)) (omega (arith, b.limits.k_most)) (omega (arith, b.limits.n_most)) (ap (drop 1) b.line) in
     absurd (not_both c.in_err-heading.was (c.heading.ensures b.roots b.dirty b.current b.root_count b.dirty_count b.region read.1))
 
-pub returns-in_default : goal.returns-in_default
-returns-in_default c = λ after b.
+pub returns-in_default-clause-says : goal.returns-in_default-clause-says
+returns-in_default-clause-says c = λ after b.
     let rest = codes "roots" ∷ decimal b.roots ∷ codes "dirty" ∷ decimal b.dirty ∷ codes "current" ∷ current_word b.current ∷ [] in
     let read = c.sizes.ensures b.geometry.w b.geometry.k b.geometry.n rest (omega (arith, b.limits.w_most)) (omega (arith, b.limits.k_most)) (omega (arith, b.limits.n_most)) (ap (drop 1) b.line) in
     let sizes = ok_one c.in_ok-told.was read.0 in
     absurd (c.in_default.ensures.err.1 (subst (λ x. IsWithinLimits x.w x.k x.n) (sym sizes) b.limits))
 
-pub returns : goal.returns
-returns c = λ after b.
+pub returns-clause-says : goal.returns-clause-says
+returns-clause-says c = λ after b.
     let rest = codes "roots" ∷ decimal b.roots ∷ codes "dirty" ∷ decimal b.dirty ∷ codes "current" ∷ current_word b.current ∷ [] in
     let read = c.sizes.ensures b.geometry.w b.geometry.k b.geometry.n rest (omega (arith, b.limits.w_most)) (omega (arith, b.limits.k_most)) (omega (arith, b.limits.n_most)) (ap (drop 1) b.line) in
     let sizes = ok_one c.in_ok-told.was read.0 in

@@ -1,9 +1,11 @@
-use Rattle.std.proofs.Common.{◌≤◌, length, sym, ◌∙◌, ap, subst}
+use Rattle.std.proofs.Common.{◌≤◌, false, length, sym, ◌∙◌, ap, subst}
 use Rattle.std.specs.Option.{is_some}
 use Rattle.std.proofs.lemmas.Bool.{false≢true}
+use Rattle.g1_text.specs.Reading.{lines_in, image_heading, image_kinds}
 use Rattle.g1_text.specs.Content.{Content}
-use Rattle.g1_text.specs.Drafts.{said}
+use Rattle.g1_text.specs.Drafts.{said, AreTaken}
 use Rattle.g1_text.proofs.Turns.{some_one}
+use Rattle.g1_text.proofs.Known.{known_text}
 use Rattle.g1_text.proofs.reading.read.Goals as goal
 
 pub returns-in_default-clause-says : goal.returns-in_default-clause-says
@@ -13,3 +15,9 @@ pub returns-clause-says : goal.returns-clause-says
 returns-clause-says c = λ lines after has all closed.
     let e = some_one (sym (ap said c.in-Some.is) ∙ c.in_ok-parts.ensures.says lines after has all) in
     c.in_ok-close.ensures (ap (λ s. s.beyond) e ∙ closed.0) (subst (λ (s : Content). s.geometry.n ≤ length s.regions) (sym e) closed.1) ∙ e
+
+pub returns-clause-known : goal.returns-clause-known
+returns-clause-known c =
+    let lines = c.in_ok-parts.ensures.known in
+    known_text image_heading image_kinds c.args.text.now
+    (lines.0, subst (λ o. AreTaken image_heading image_kinds false (lines_in c.args.text.now) (is_some (said o))) c.in-Some.is lines.1)

@@ -1,11 +1,12 @@
 use Rattle.std.proofs.Common.{◌≡◌, ℕ, Bool, true, false, List, ◌∷◌, get_or, eqb, eq-eqb, Decides, sym, ◌∙◌, ap, subst, refl, arith}
-use Rattle.std.specs.Prelude.{not}
+use Rattle.std.specs.Prelude.{not, OnOk}
 use Rattle.std.proofs.lemmas.Bool.{false≢true}
 use Rattle.std.proofs.lemmas.Bool.Decides.{nat_tests}
 use Rattle.std.proofs.lemmas.Str.Pattern.{starts_char}
-use Rattle.g1_text.specs.Reading.{says_something}
+use Rattle.std.specs.Option.{is_some}
+use Rattle.g1_text.specs.Reading.{says_something, image_heading, image_kinds}
 use Rattle.g1_text.specs.Content.{Says}
-use Rattle.g1_text.specs.Drafts.{said}
+use Rattle.g1_text.specs.Drafts.{said, IsTaken}
 use Rattle.g1_text.proofs.reading.read_words.Goals as goal
 
 module _ (words rest : List (List ℕ)) (first : List ℕ) (r : Bool) (is : words ≡ first ∷ rest) (tests : Decides r (get_or first 0 0 ≡ 35)) where
@@ -33,9 +34,21 @@ pub returns-then-starts_with-clause-nothing : goal.returns-then-starts_with-clau
 returns-then-starts_with-clause-nothing c = λ none. refl
 
 pub returns-clause-says : goal.returns-clause-says
-returns-clause-says c = λ after some says. c.begin_or_add.ensures after (subst (λ ws. Says (said c.args.draft.now) ws after) c.in-Some.ensures says)
+returns-clause-says c = λ after some says. c.begin_or_add.ensures.says after (subst (λ ws. Says (said c.args.draft.now) ws after) c.in-Some.ensures says)
 
 pub returns-clause-nothing : goal.returns-clause-nothing
 returns-clause-nothing c = λ none.
     let tests = starts_char 35 c.in-Some.first.now c.starts_with.result c.starts_with.ensures.cases (omega arith) (omega arith) in
     absurd (false≢true (sym none ∙ statement c.args.words c.next.new.self c.in-Some.first.now c.starts_with.result c.in-Some.ensures tests c.if-starts_with.false))
+
+pub returns-in_default-clause-known : goal.returns-in_default-clause-known
+returns-in_default-clause-known c = λ some. absurd (false≢true (sym (ap says_something c.in_default.ensures.0) ∙ some))
+
+pub returns-then-starts_with-clause-known : goal.returns-then-starts_with-clause-known
+returns-then-starts_with-clause-known c = λ some.
+    let tests = starts_char 35 c.in-Some.first.now c.starts_with.result c.starts_with.ensures.cases (omega arith) (omega arith) in
+    absurd (false≢true (sym (comment c.args.words c.next.new.self c.in-Some.first.now c.starts_with.result c.in-Some.ensures tests c.if-starts_with.true) ∙ some))
+
+pub returns-clause-known : goal.returns-clause-known
+returns-clause-known c = λ some.
+    subst (λ ws. OnOk c.begin_or_add.result (IsTaken image_heading image_kinds (is_some (said c.args.draft.now)) ws (is_some (said c.begin_or_add.new.draft)))) (sym c.in-Some.ensures) c.begin_or_add.ensures.known
