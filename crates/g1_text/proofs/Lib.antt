@@ -23,3 +23,5 @@ pub mod FullText
 pub mod OneSaid
 pub mod Counted
 pub mod Known
+pub mod Comments
+pub mod GraphLines

@@ -1,6 +1,6 @@
 -- The words of a line.
 use Rattle.std.proofs.Common.{◌≡◌, ℕ, suc, ◌<◌, ◌≤◌, true, false, List, [], ◌∷◌, ◌++◌, length, get_or, All, refl, sym, ◌∙◌, ap, subst, arith, append-nil, ◌⊎◌, inl, inr}
-use Rattle.std.specs.Prelude.{filter}
+use Rattle.std.specs.Prelude.{Some, None, filter}
 use Rattle.std.specs.List.{slice_split, AllPass}
 use Rattle.std.proofs.lemmas.Bool.Decides.{nat_tests}
 use Rattle.std.proofs.lemmas.List.{get_or_default}
@@ -66,10 +66,17 @@ cut_first : (bs word gap sep rest : List ℕ) → bs ≡ gap ++ (word ++ (sep ++
     → words_in bs ≡ word ∷ words_in rest
 cut_first bs word gap sep rest e some none white part = ap words_in e ∙ white_gap gap (word ++ (sep ++ rest)) white ∙ behind word sep rest some none part
 
+-- a line's first word, if it has one
+pub next_word : (s : _) (x : _) (t : _) → split_ascii_whitespace_steps s (Some x) t → words_in (split_ascii_whitespace_text s) ≡ x.now ∷ words_in (split_ascii_whitespace_text t)
+next_word s x t h =
+    let cut = h.3 in
+    cut_first (split_ascii_whitespace_text s) x.now cut.0 cut.1 (split_ascii_whitespace_text t) cut.2 h.0 (no_white x.now h.1) cut.3 cut.4
+
+pub no_word : (s : _) (t : _) → split_ascii_whitespace_steps s None t → length (words_in (split_ascii_whitespace_text s)) ≡ 0
+no_word s t h = no_words (split_ascii_whitespace_text s) h.0
+
 -- THE WORDS THAT `split_ascii_whitespace` GIVES
 pub YieldsList-from_words : {s : _} (line : List ℕ) → split_ascii_whitespace_text s ≡ line → YieldsList split_ascii_whitespace_steps (λ x. x.now) s (words_in line)
 YieldsList-from_words {s} line e =
     subst (λ l. YieldsList split_ascii_whitespace_steps (λ x. x.now) s (words_in l)) e
-    (YieldsList-from_shown split_ascii_whitespace_steps (λ x. x.now) (λ t. words_in (split_ascii_whitespace_text t))
-    (λ t u h. no_words (split_ascii_whitespace_text t) h.0)
-    (λ t x u h. let cut = h.3 in cut_first (split_ascii_whitespace_text t) x.now cut.0 cut.1 (split_ascii_whitespace_text u) cut.2 h.0 (no_white x.now h.1) cut.3 cut.4) s)
+    (YieldsList-from_shown split_ascii_whitespace_steps (λ x. x.now) (λ t. words_in (split_ascii_whitespace_text t)) (λ t u h. no_word t u h) (λ t x u h. next_word t x u h) s)

@@ -1,5 +1,5 @@
 -- The lines of a text as they are read: any white space stands between words, and blank lines and comments say nothing.
-use Rattle.std.specs.Prelude.{◌≡◌, ℕ, Bool, true, false, List, [], ◌∷◌, map, filter, slice_index, codes, not, ◌==◌, All, Contains, IsUtf8}
+use Rattle.std.specs.Prelude.{◌≡◌, ℕ, Bool, true, false, List, [], ◌∷◌, map, filter, slice_index, codes, not, ◌==◌, All, Contains, IsUtf8, MatchBool}
 use Rattle.std.specs.List.{slice_split}
 use Rattle.std.specs.Char.{is_ascii_whitespace}
 
@@ -58,3 +58,8 @@ graph_kinds = codes "root" ∷ codes "object" ∷ []
 pub record HasKnownLines (heading below : List (List ℕ)) (text : List ℕ) : Type 0 where
   pub utf8 : All IsUtf8 (parts_of text)
   pub known : AreKnown heading below (lines_in text)
+
+-- parts of a text are lines of objects by name: up to the first one that says something all are UTF-8, and that one is the heading
+abbrev pub AreGraphLines : List (List ℕ) → Type 0
+AreGraphLines [] = ⊥
+AreGraphLines (part ∷ parts) = IsUtf8 part × MatchBool (says_something (words_in part)) (IsOfKind graph_heading (words_in part)) (AreGraphLines parts)

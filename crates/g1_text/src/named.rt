@@ -1,7 +1,7 @@
 //! Lines of objects by name, without regions and addresses.
-ghost use Rattle.std.specs.Prelude.{◌≡◌, ◌<◌, true, false, IsUtf8, map, codes, All, IfErr, IfOk, OnOk};
+ghost use Rattle.std.specs.Prelude.{◌≡◌, ◌<◌, ◌↔◌, true, false, IsUtf8, map, codes, All, IsTrue, IfErr, IfOk, OnOk};
 ghost use Rattle.g1_image.specs.Image.{IsImageText};
-ghost use Rattle.g1_text.specs.Reading.{words_in, says_something, parts_of, lines_in, graph_heading, graph_kinds, HasKnownLines};
+ghost use Rattle.g1_text.specs.Reading.{words_in, says_something, parts_of, lines_in, graph_heading, graph_kinds, AreGraphLines, HasKnownLines};
 ghost use Rattle.g1_text.specs.Drafts.{is_begun, IsTaken, AreTaken};
 ghost use Rattle.g1_text.specs.Refused.{IsLineOrMemory};
 
@@ -33,7 +33,9 @@ pub struct Graph<'a> {
 }
 
 /// Whether a text has lines of objects by name: the first word outside comments is `graph`, and all lines up to it are UTF-8.
-pub fn is_graph(text: &[u8]) -> bool {
+pub fn is_graph(text: &[u8]) -> bool
+    ensures { IsTrue result ↔ AreGraphLines (parts_of text.now) }
+{
     let mut rest = Some(text);
     'lines: while let Some(left) = rest {
         let (line, behind) = first_line(left);
@@ -157,12 +159,7 @@ fn read_lines<'a>(alloc: Global, text: &'a [u8]) -> Result<Lines<'a>, Wrong>
 }
 
 impl<'a> Lines<'a> {
-    fn read(
-        &mut self,
-        words: &mut Vec<&'a str>,
-        number: u64,
-        line: &'a [u8],
-    ) -> Result<(), Refusal>
+    fn read(&mut self, words: &mut Vec<&'a str>, number: u64, line: &'a [u8]) -> Result<(), Refusal>
         ensures utf8 { OnOk result (IsUtf8 line.now) }
         ensures known { 0 < number → says_something (words_in line.now) ≡ true → OnOk result (IsTaken graph_heading graph_kinds (is_begun self.old) (words_in line.now) (is_begun self.new)) }
         ensures nothing { says_something (words_in line.now) ≡ false → OnOk result (is_begun self.new ≡ is_begun self.old) }

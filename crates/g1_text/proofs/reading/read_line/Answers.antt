@@ -19,4 +19,5 @@ returns-clause-nothing c = λ utf8 none.
 pub returns-clause-known : goal.returns-clause-known
 returns-clause-known c = λ some.
     let e = c.new.ensures ∙ ap (map (λ t. t.now)) c.as_slice.ensures.value ∙ c.in_ok-cut_words.ensures ∙ ap words_in c.in-Ok.ensures.cases.0 in
-    subst (λ ws. OnOk c.read_words.result (IsTaken image_heading image_kinds (is_some (said c.args.draft.now)) ws (is_some (said c.read_words.new.draft)))) e (c.read_words.ensures.known (ap says_something e ∙ some))
+    subst (λ ws. OnOk c.read_words.result (IsTaken image_heading image_kinds (is_some (said c.args.draft.now)) ws (is_some (said c.read_words.new.draft)))) e
+    (c.read_words.ensures.known (ap says_something e ∙ some))

@@ -1,23 +1,13 @@
-use Rattle.std.proofs.Common.{◌≡◌, ℕ, Bool, true, false, List, ◌∷◌, get_or, eqb, eq-eqb, Decides, sym, ◌∙◌, ap, subst, refl, arith}
-use Rattle.std.specs.Prelude.{not, OnOk}
+use Rattle.std.proofs.Common.{sym, ◌∙◌, ap, subst, refl, arith}
+use Rattle.std.specs.Prelude.{OnOk}
 use Rattle.std.proofs.lemmas.Bool.{false≢true}
-use Rattle.std.proofs.lemmas.Bool.Decides.{nat_tests}
 use Rattle.std.proofs.lemmas.Str.Pattern.{starts_char}
 use Rattle.std.specs.Option.{is_some}
 use Rattle.g1_text.specs.Reading.{says_something, image_heading, image_kinds}
 use Rattle.g1_text.specs.Content.{Says}
 use Rattle.g1_text.specs.Drafts.{said, IsTaken}
+use Rattle.g1_text.proofs.Comments.{comment, statement}
 use Rattle.g1_text.proofs.reading.read_words.Goals as goal
-
-module _ (words rest : List (List ℕ)) (first : List ℕ) (r : Bool) (is : words ≡ first ∷ rest) (tests : Decides r (get_or first 0 0 ≡ 35)) where
-  comment : r ≡ true → says_something words ≡ false
-  comment t = ap says_something is ∙ ap not (eq-eqb (get_or first 0 0) 35 (tests.0 t))
-
-  other_byte : (b : ℕ) → (b ≡ 35 → ⊥) → eqb b 35 ≡ false
-  other_byte b n = grind (arith, nat_tests)
-
-  statement : r ≡ false → says_something words ≡ true
-  statement f = ap says_something is ∙ ap not (other_byte (get_or first 0 0) (λ e. false≢true (sym f ∙ tests.1 e)))
 
 pub returns-in_default-clause-says : goal.returns-in_default-clause-says
 returns-in_default-clause-says c = λ after some says. absurd (false≢true (sym (ap says_something c.in_default.ensures.0) ∙ some))
@@ -51,4 +41,5 @@ returns-then-starts_with-clause-known c = λ some.
 
 pub returns-clause-known : goal.returns-clause-known
 returns-clause-known c = λ some.
-    subst (λ ws. OnOk c.begin_or_add.result (IsTaken image_heading image_kinds (is_some (said c.args.draft.now)) ws (is_some (said c.begin_or_add.new.draft)))) (sym c.in-Some.ensures) c.begin_or_add.ensures.known
+    subst (λ ws. OnOk c.begin_or_add.result (IsTaken image_heading image_kinds (is_some (said c.args.draft.now)) ws (is_some (said c.begin_or_add.new.draft))))
+    (sym c.in-Some.ensures) c.begin_or_add.ensures.known
