@@ -9,16 +9,16 @@ use std::thread::Threads;
 
 /// A call, what it is given, and who makes it.
 #[derive(Drop)]
-pub struct Call<'a, R> {
-    pub rt: &'a R,
-    pub alloc: Global,
-    pub name: &'a str,
-    pub given: &'a Given,
-    pub settings: Settings,
+pub(crate) struct Call<'a, R> {
+    pub(crate) rt: &'a R,
+    pub(crate) alloc: Global,
+    pub(crate) name: &'a str,
+    pub(crate) given: &'a Given,
+    pub(crate) settings: Settings,
 }
 
 /// What a call returns, made by this many workers in chunks of this size.
-pub fn answer<R: Threads + Sync>(
+pub(crate) fn answer<R: Threads + Sync>(
     rt: &R,
     alloc: Global,
     name: &str,

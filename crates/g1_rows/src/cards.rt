@@ -10,7 +10,7 @@ use g1_words::Heap;
 use std::alloc::AllocError;
 
 /// Asks about each of the cards that are named and that the heap has.
-pub fn run<R>(
+pub(crate) fn run<R>(
     call: &Call<'_, R>,
     heap: &Heap,
     starts: &Starts,
@@ -46,7 +46,7 @@ fn ask<R>(call: &Call<'_, R>, heap: &Heap, starts: &Starts, card: u32, watch: &m
 }
 
 /// Whether each number is above the one before it.
-pub fn rises(set: &[u32]) -> bool
+pub(crate) fn rises(set: &[u32]) -> bool
     ensures { IsTrue result → IsStrictlyIncreasing set.now }
 {
     for i in 0..set.len() {

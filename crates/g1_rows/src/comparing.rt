@@ -7,7 +7,7 @@ use g1_words::{Fault, Heap};
 use std::alloc::Global;
 
 /// Compares the image of one part with that of another.
-pub fn run<R>(call: &Call<'_, R>, watch: &mut Watch) -> Result<(), Fault> {
+pub(crate) fn run<R>(call: &Call<'_, R>, watch: &mut Watch) -> Result<(), Fault> {
     let before = decode(call.alloc, call.given.part(0))?;
     compare_with(call, before.heap(), watch)
 }

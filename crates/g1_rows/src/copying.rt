@@ -22,7 +22,7 @@ use g1_work::Open;
 use std::thread::Threads;
 
 /// The pause that collects the regions named.
-pub fn run<R: Threads + Sync>(
+pub(crate) fn run<R: Threads + Sync>(
     call: &Call<'_, R>,
     tracked: Tracked,
     list: &[u32],

@@ -43,9 +43,9 @@ struct Setting {
 
 /// The options and the parts that a call is given.
 #[derive(Drop)]
-pub struct Given {
+pub(crate) struct Given {
     settings: Vec<Setting>,
-    pub parts: Vec<Vec<u8>>,
+    pub(crate) parts: Vec<Vec<u8>>,
 }
 
 impl Given {
@@ -59,7 +59,7 @@ impl Given {
     /// # Errors
     ///
     /// `Fault::Line` if a word is no option, or one that is there; `Fault::Memory`.
-    pub fn of_words(alloc: Global, words: &str) -> Result<Given, Fault> {
+    pub(crate) fn of_words(alloc: Global, words: &str) -> Result<Given, Fault> {
         let mut given = Given::new(alloc);
         if !words.is_empty() {
             given.push_words(alloc, words)?;
@@ -68,7 +68,7 @@ impl Given {
     }
 
     /// Adds the options that these words say.
-    pub fn push_words(&mut self, alloc: Global, words: &str) -> Result<(), Fault> {
+    pub(crate) fn push_words(&mut self, alloc: Global, words: &str) -> Result<(), Fault> {
         for word in words.split(' ') {
             self.push_word(alloc, word)?;
         }
@@ -101,7 +101,7 @@ impl Given {
     }
 
     /// The same options with these parts.
-    pub fn with(&self, alloc: Global, parts: &[Vec<u8>]) -> Result<Given, AllocError> {
+    pub(crate) fn with(&self, alloc: Global, parts: &[Vec<u8>]) -> Result<Given, AllocError> {
         let mut same = Given::new(alloc);
         for setting in &self.settings {
             let name = String::from_str(alloc, setting.name.as_str())?;
@@ -124,7 +124,7 @@ impl Given {
     }
 
     /// The numbers of an option; none if it is not there.
-    pub fn numbers(&self, option: &str) -> &[u64] {
+    pub(crate) fn numbers(&self, option: &str) -> &[u64] {
         match self.setting(option) {
             Some(setting) => setting.numbers.as_slice(),
             None => &[],
@@ -132,12 +132,16 @@ impl Given {
     }
 
     /// The first number of an option, or another one.
-    pub fn first(&self, option: &str, other: u64) -> u64 {
+    pub(crate) fn first(&self, option: &str, other: u64) -> u64 {
         self.numbers(option).first().copied().unwrap_or(other)
     }
 
     /// The numbers of an option as regions or cards. One that is too great is none of any heap.
-    pub fn short_numbers(&self, alloc: Global, option: &str) -> Result<Vec<u32>, AllocError> {
+    pub(crate) fn short_numbers(
+        &self,
+        alloc: Global,
+        option: &str,
+    ) -> Result<Vec<u32>, AllocError> {
         let mut short = Vec::new(alloc);
         for number in self.numbers(option) {
             short.push(u32::try_from(*number).unwrap_or(u32::MAX))?;
@@ -146,7 +150,7 @@ impl Given {
     }
 
     /// The bytes of a part; none if it is not there.
-    pub fn part(&self, place: usize) -> &[u8] {
+    pub(crate) fn part(&self, place: usize) -> &[u8] {
         match self.parts.get(place) {
             Some(part) => part.as_slice(),
             None => &[],
@@ -172,7 +176,7 @@ impl Given {
     /// # Errors
     ///
     /// `Fault::Settings` if one of them is beyond its limits; `Fault::Memory`.
-    pub fn pause(&self, alloc: Global, workers: u64, chunk: u64) -> Result<Settings, Fault> {
+    pub(crate) fn pause(&self, alloc: Global, workers: u64, chunk: u64) -> Result<Settings, Fault> {
         let choice = match self.numbers("budget").first() {
             Some(budget) => Choice::Budget(*budget),
             None => Choice::Given(self.short_numbers(alloc, "regions")?),
@@ -181,7 +185,7 @@ impl Given {
     }
 
     /// Adds the options to a text.
-    pub fn push_shown(&self, text: &mut String) -> Result<(), AllocError> {
+    pub(crate) fn push_shown(&self, text: &mut String) -> Result<(), AllocError> {
         for setting in &self.settings {
             write!(text, " {}", setting.name)?;
             for number in &setting.numbers {

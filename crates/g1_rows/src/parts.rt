@@ -20,13 +20,13 @@ use std::alloc::{AllocError, Global};
 const DRAWN: [&str; 5] = ["root", "dirty", "region", "remembered", "object"];
 
 /// A line that is not understood.
-pub const BAD: Fault = Fault::Line(0);
+pub(crate) const BAD: Fault = Fault::Line(0);
 
 /// An image that has a name.
 #[derive(Drop)]
-pub struct Picture {
-    pub name: String,
-    pub bytes: Vec<u8>,
+pub(crate) struct Picture {
+    pub(crate) name: String,
+    pub(crate) bytes: Vec<u8>,
 }
 
 /// The parts that the lines say, and the lines of an image that isn't finished.
@@ -79,7 +79,11 @@ impl Laying {
 /// # Errors
 ///
 /// `Fault::Line` if a line says nothing; `Fault::Memory`.
-pub fn parts_of(alloc: Global, lines: &str, pictures: &[Picture]) -> Result<Vec<Vec<u8>>, Fault> {
+pub(crate) fn parts_of(
+    alloc: Global,
+    lines: &str,
+    pictures: &[Picture],
+) -> Result<Vec<Vec<u8>>, Fault> {
     let mut laying = Laying {
         parts: Vec::new(alloc),
         drawing: String::new(alloc),
@@ -95,7 +99,7 @@ pub fn parts_of(alloc: Global, lines: &str, pictures: &[Picture]) -> Result<Vec<
 }
 
 /// What a line begins with, up to a space.
-pub fn first_word(line: &str) -> &str {
+pub(crate) fn first_word(line: &str) -> &str {
     line.split_once(' ').unwrap_or((line, "")).0
 }
 
@@ -131,7 +135,7 @@ fn bytes_of_picture(alloc: Global, name: &str, pictures: &[Picture]) -> Result<V
 }
 
 /// The image of this name.
-pub fn picture_of<'a>(pictures: &'a [Picture], name: &str) -> Option<&'a Picture> {
+pub(crate) fn picture_of<'a>(pictures: &'a [Picture], name: &str) -> Option<&'a Picture> {
     for picture in pictures {
         if picture.name.as_str() == name {
             return Some(picture);
@@ -161,7 +165,7 @@ fn bytes_of(alloc: Global, digits: &str) -> Result<Vec<u8>, Fault> {
 }
 
 /// The bytes of a text, in which `\n` ends a line, and `\t` and `\r` are what they are elsewhere.
-pub fn unescape(alloc: Global, text: &str) -> Result<Vec<u8>, Fault> {
+pub(crate) fn unescape(alloc: Global, text: &str) -> Result<Vec<u8>, Fault> {
     let mut bytes = Vec::new(alloc);
     let mut is_escaped = false;
     for byte in text.bytes() {
@@ -181,7 +185,7 @@ pub fn unescape(alloc: Global, text: &str) -> Result<Vec<u8>, Fault> {
 }
 
 /// All parts, one after another.
-pub fn join(alloc: Global, parts: &[Vec<u8>]) -> Result<Vec<u8>, Fault> {
+pub(crate) fn join(alloc: Global, parts: &[Vec<u8>]) -> Result<Vec<u8>, Fault> {
     let mut bytes = Vec::new(alloc);
     for part in parts {
         bytes.extend_from_slice(part.as_slice())?;
@@ -190,13 +194,13 @@ pub fn join(alloc: Global, parts: &[Vec<u8>]) -> Result<Vec<u8>, Fault> {
 }
 
 /// Adds a line and its end.
-pub fn push_line(text: &mut String, line: &str) -> Result<(), AllocError> {
+pub(crate) fn push_line(text: &mut String, line: &str) -> Result<(), AllocError> {
     text.push_str(line)?;
     text.push_str("\n")
 }
 
 /// A trace's text and its replies, of lines `COMMAND [REPLY]`.
-pub fn trace_of(alloc: Global, lines: &str) -> Result<(Vec<u8>, Vec<u8>), AllocError> {
+pub(crate) fn trace_of(alloc: Global, lines: &str) -> Result<(Vec<u8>, Vec<u8>), AllocError> {
     let mut commands = Vec::new(alloc);
     let mut replies = Vec::new(alloc);
     for line in lines.split('\n') {

@@ -9,7 +9,10 @@ use g1_work::Open;
 use std::thread::Threads;
 
 /// The bytes after the pause, out of the bytes before it.
-pub fn from_bytes<R: Threads + Sync>(call: &Call<'_, R>, watch: &mut Watch) -> Result<(), Fault> {
+pub(crate) fn from_bytes<R: Threads + Sync>(
+    call: &Call<'_, R>,
+    watch: &mut Watch,
+) -> Result<(), Fault> {
     watch.at("pause_bytes");
     let bytes = call.given.part(0);
     let text = pause_bytes(call.rt, call.alloc, bytes, &call.settings, &Open)?;
@@ -18,7 +21,10 @@ pub fn from_bytes<R: Threads + Sync>(call: &Call<'_, R>, watch: &mut Watch) -> R
 }
 
 /// The same from a reader to a writer.
-pub fn from_stream<R: Threads + Sync>(call: &Call<'_, R>, watch: &mut Watch) -> Result<(), Fault> {
+pub(crate) fn from_stream<R: Threads + Sync>(
+    call: &Call<'_, R>,
+    watch: &mut Watch,
+) -> Result<(), Fault> {
     let room = Vec::with_capacity(call.alloc, ROOM)?;
     watch.at("pause_run");
     let text = sent(call, room)?;
@@ -44,7 +50,10 @@ fn sent<R: Threads + Sync>(call: &Call<'_, R>, room: Vec<u8>) -> Result<Vec<u8>,
 }
 
 /// The image after the pause, or the report.
-pub fn evacuated<R: Threads + Sync>(call: &Call<'_, R>, watch: &mut Watch) -> Result<(), Fault> {
+pub(crate) fn evacuated<R: Threads + Sync>(
+    call: &Call<'_, R>,
+    watch: &mut Watch,
+) -> Result<(), Fault> {
     let tracked = tracked(call)?;
     watch.at(call.name);
     match &answer(call, tracked) {

@@ -11,7 +11,7 @@ use g1_rem::{Tracked, image};
 use g1_words::Fault;
 
 /// The plan of the survivors of a set.
-pub fn placed<R>(
+pub(crate) fn placed<R>(
     call: &Call<'_, R>,
     tracked: &Tracked,
     set: &[u32],

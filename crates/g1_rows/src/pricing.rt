@@ -12,7 +12,7 @@ use g1_work::Open;
 use std::thread::Threads;
 
 /// The cost of a region with this many cards and live bytes.
-pub fn price<R>(call: &Call<'_, R>, watch: &mut Watch) {
+pub(crate) fn price<R>(call: &Call<'_, R>, watch: &mut Watch) {
     let (cards, bytes) = (call.given.first("count", 0), call.given.first("bytes", 0));
     let prices = call.settings.cost();
     watch.at("cost");
@@ -21,7 +21,7 @@ pub fn price<R>(call: &Call<'_, R>, watch: &mut Watch) {
 }
 
 /// The cost of a pause with this many dirty cards that collects none or two regions of these costs.
-pub fn add<R>(call: &Call<'_, R>, watch: &mut Watch) {
+pub(crate) fn add<R>(call: &Call<'_, R>, watch: &mut Watch) {
     let dirty = call.given.first("count", 0);
     let prices = call.settings.cost();
     watch.at("total");
@@ -33,7 +33,7 @@ pub fn add<R>(call: &Call<'_, R>, watch: &mut Watch) {
 }
 
 /// The live bytes, and what the budget buys by them and by the refined sets.
-pub fn run<R: Threads + Sync>(
+pub(crate) fn run<R: Threads + Sync>(
     call: &Call<'_, R>,
     tracked: &Tracked,
     budget: u64,

@@ -13,7 +13,7 @@ use std::rt::Files;
 use std::thread::Threads;
 
 /// Whether the lines of a row begin with a program.
-pub fn is_run(body: &str) -> bool {
+pub(crate) fn is_run(body: &str) -> bool {
     is_program(first_word(first_line(body)))
 }
 
@@ -22,7 +22,7 @@ pub fn is_run(body: &str) -> bool {
 /// # Errors
 ///
 /// `Fault::Line` if a line is not understood; `Fault::Device` if a file cannot be written, read or removed; `Fault::Memory`.
-pub fn first_miss<R: Threads + Files + Sync>(
+pub(crate) fn first_miss<R: Threads + Files + Sync>(
     trial: &Trial<'_, R>,
     body: &str,
 ) -> Result<Option<String>, Fault> {

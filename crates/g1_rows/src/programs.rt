@@ -27,7 +27,7 @@ struct Left {
 }
 
 /// Whether a program has this name.
-pub fn is_program(name: &str) -> bool {
+pub(crate) fn is_program(name: &str) -> bool {
     NAMES.contains(&name)
 }
 
@@ -37,7 +37,7 @@ pub fn is_program(name: &str) -> bool {
 /// # Errors
 ///
 /// `Fault::Line` if a line is not understood; `Fault::Device` if a file cannot be written, read or removed; `Fault::Memory`.
-pub fn is_so<R: Threads + Files + Sync>(
+pub(crate) fn is_so<R: Threads + Files + Sync>(
     trial: &Trial<'_, R>,
     line: &str,
     given: &str,

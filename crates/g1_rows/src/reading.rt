@@ -9,10 +9,13 @@ use std::alloc::Global;
 use std::thread::Threads;
 
 /// Room for the bytes of a small image: a writer of ours asks for no memory.
-pub const ROOM: usize = 4_096;
+pub(crate) const ROOM: usize = 4_096;
 
 /// The image of the bytes, whose references are covered.
-pub fn run<R: Threads + Sync>(call: &Call<'_, R>, watch: &mut Watch) -> Result<Tracked, Fault> {
+pub(crate) fn run<R: Threads + Sync>(
+    call: &Call<'_, R>,
+    watch: &mut Watch,
+) -> Result<Tracked, Fault> {
     watch.at("decode");
     cover(call, decode(call.alloc, call.given.part(0))?, watch)
 }
@@ -43,7 +46,7 @@ fn verified<R: Threads + Sync>(call: &Call<'_, R>, read: Image) -> Result<Tracke
 }
 
 /// The image of the bytes, if no call on the way is watched.
-pub fn tracked<R: Threads + Sync>(call: &Call<'_, R>) -> Result<Tracked, Fault> {
+pub(crate) fn tracked<R: Threads + Sync>(call: &Call<'_, R>) -> Result<Tracked, Fault> {
     match verified(call, decode(call.alloc, call.given.part(0))?) {
         Ok(tracked) => Ok(tracked),
         Err((_, fault)) => Err(fault),
@@ -51,7 +54,7 @@ pub fn tracked<R: Threads + Sync>(call: &Call<'_, R>) -> Result<Tracked, Fault> 
 }
 
 /// The image of the bytes, straight from a reader of them.
-pub fn receive<R>(call: &Call<'_, R>, watch: &mut Watch) -> Result<(), Fault> {
+pub(crate) fn receive<R>(call: &Call<'_, R>, watch: &mut Watch) -> Result<(), Fault> {
     watch.at("read");
     let read = received(call.alloc, call.given.part(0))?;
     watch.image(&read);
@@ -105,7 +108,7 @@ fn list_regions(alloc: Global, heap: &Heap, watch: &mut Watch) -> Result<(), Fau
 }
 
 /// Two rising lists of cards as one.
-pub fn merge<R>(call: &Call<'_, R>, watch: &mut Watch) -> Result<(), Fault> {
+pub(crate) fn merge<R>(call: &Call<'_, R>, watch: &mut Watch) -> Result<(), Fault> {
     let left = call.given.short_numbers(call.alloc, "left")?;
     let right = call.given.short_numbers(call.alloc, "right")?;
     let (left, right) = (left.as_slice(), right.as_slice());

@@ -25,10 +25,10 @@ use std::thread::Threads;
 
 /// What rows are tried with: the images that they name, and whether a script refuses their calls memory.
 #[derive(Drop)]
-pub struct Trial<'a, R> {
-    pub rt: &'a R,
-    pub alloc: Global,
-    pub pictures: &'a [Picture],
+pub(crate) struct Trial<'a, R> {
+    pub(crate) rt: &'a R,
+    pub(crate) alloc: Global,
+    pub(crate) pictures: &'a [Picture],
     is_refused: bool,
 }
 
@@ -40,7 +40,7 @@ struct Case {
 }
 
 /// Tries each row of a text. The images of all its blocks are drawn first.
-pub fn judge<R: Threads + Files + Sync>(
+pub(crate) fn judge<R: Threads + Files + Sync>(
     rt: &R,
     alloc: Global,
     text: &str,
@@ -104,7 +104,7 @@ fn draw(alloc: Global, block: &str, pictures: &mut Vec<Picture>) -> Result<(), F
     Ok(pictures.push(Picture { name, bytes })?)
 }
 
-pub fn first_line(block: &str) -> &str {
+pub(crate) fn first_line(block: &str) -> &str {
     block.split_once('\n').unwrap_or((block, "")).0
 }
 
@@ -224,7 +224,7 @@ fn miss_text(
 }
 
 /// Adds bytes as they are if they are lines of text, else as hexadecimal.
-pub fn push_shown(text: &mut String, bytes: &[u8]) -> Result<(), AllocError> {
+pub(crate) fn push_shown(text: &mut String, bytes: &[u8]) -> Result<(), AllocError> {
     for byte in bytes {
         if *byte != b'\n' && *byte != b' ' && !byte.is_ascii_graphic() {
             return push_digits(text, bytes);

@@ -17,9 +17,9 @@ use std::alloc::Global;
 
 /// What a stream or a file has, by its lines.
 #[derive(Drop)]
-pub struct Content {
-    pub name: String,
-    pub is_there: bool,
+pub(crate) struct Content {
+    pub(crate) name: String,
+    pub(crate) is_there: bool,
     lines: String,
 }
 
@@ -42,7 +42,7 @@ impl Content {
     /// # Errors
     ///
     /// `Fault::Line` if a line says nothing; `Fault::Memory`.
-    pub fn bytes(&self, alloc: Global, pictures: &[Picture]) -> Result<Vec<u8>, Fault> {
+    pub(crate) fn bytes(&self, alloc: Global, pictures: &[Picture]) -> Result<Vec<u8>, Fault> {
         let parts = parts_of(alloc, self.lines.as_str(), pictures)?;
         join(alloc, parts.as_slice())
     }
@@ -50,7 +50,7 @@ impl Content {
 
 /// Which calls of the streams fail.
 #[derive(Clone, Copy)]
-pub enum Devices {
+pub(crate) enum Devices {
     Well,
     EachRead,
     EachWrite,
@@ -59,13 +59,13 @@ pub enum Devices {
 
 /// What is on the streams and in the files.
 #[derive(Drop)]
-pub struct Scene {
-    pub devices: Devices,
-    pub status: u8,
-    pub errors: Vec<u8>,
-    pub is_usage: bool,
-    pub stream: Content,
-    pub files: Vec<Content>,
+pub(crate) struct Scene {
+    pub(crate) devices: Devices,
+    pub(crate) status: u8,
+    pub(crate) errors: Vec<u8>,
+    pub(crate) is_usage: bool,
+    pub(crate) stream: Content,
+    pub(crate) files: Vec<Content>,
     // Whether the next line belongs to the last file.
     is_in_file: bool,
 }
@@ -76,7 +76,7 @@ impl Scene {
     /// # Errors
     ///
     /// `Fault::Line` if a line is not understood; `Fault::Memory`.
-    pub fn of_lines(alloc: Global, lines: &str) -> Result<Scene, Fault> {
+    pub(crate) fn of_lines(alloc: Global, lines: &str) -> Result<Scene, Fault> {
         let mut scene = Scene {
             devices: Devices::Well,
             status: 0,
@@ -93,7 +93,7 @@ impl Scene {
     }
 
     /// Whether standard input must not be read.
-    pub fn is_closed(&self) -> bool {
+    pub(crate) fn is_closed(&self) -> bool {
         !self.stream.is_there && matches!(self.devices, Devices::Well | Devices::Gone)
     }
 
@@ -162,7 +162,7 @@ impl Scene {
 }
 
 /// Whether this is the text, in which a first or a last line `..` stands for any.
-pub fn fits(found: &[u8], wanted: &[u8]) -> bool {
+pub(crate) fn fits(found: &[u8], wanted: &[u8]) -> bool {
     let (is_open_before, wanted) = match wanted.strip_prefix(b"..\n") {
         Some(rest) => (true, rest),
         None => (false, wanted),

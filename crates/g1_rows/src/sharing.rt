@@ -9,7 +9,7 @@ use std::thread::Threads;
 
 /// A dealer: the shares of its seat, those of that and of another one, and when it has its share back; what each of
 /// five draws gives, as the count of chunks if there is none left; how many the other seat sees drawn after the first; and the cursor.
-pub fn deal<R>(call: &Call<'_, R>, watch: &mut Watch) -> Result<(), Fault> {
+pub(crate) fn deal<R>(call: &Call<'_, R>, watch: &mut Watch) -> Result<(), Fault> {
     let chunks = call.given.first("count", 1).min(1_000);
     watch.at("deal");
     let (dealer, mut seat) = Dealer::new(call.alloc, chunks)?;
@@ -37,7 +37,7 @@ pub fn deal<R>(call: &Call<'_, R>, watch: &mut Watch) -> Result<(), Fault> {
 
 /// A table of two claim words: the shares of its seat; those of that and of another one, and when it has its share back;
 /// whether each of four ranks lowers the first word; what the other seat sees there, before and after; and the words.
-pub fn claim<R>(call: &Call<'_, R>, watch: &mut Watch) -> Result<(), Fault> {
+pub(crate) fn claim<R>(call: &Call<'_, R>, watch: &mut Watch) -> Result<(), Fault> {
     watch.at("claim");
     let (claims, mut seat) = Claims::new(call.alloc, 2)?;
     let whole = g1_claim::shares(&seat);
@@ -81,7 +81,10 @@ impl Task for Squares {
 }
 
 /// The squares of this many chunks.
-pub fn square<R: Threads + Sync>(call: &Call<'_, R>, watch: &mut Watch) -> Result<(), Fault> {
+pub(crate) fn square<R: Threads + Sync>(
+    call: &Call<'_, R>,
+    watch: &mut Watch,
+) -> Result<(), Fault> {
     let states = vec![in call.alloc; (); call.settings.workers() as usize]?;
     let chunks = call.given.first("count", 0).min(1_000);
     watch.at("each_chunk");
@@ -104,7 +107,7 @@ impl Fill for Numbers {
 }
 
 /// Seven regions of two words.
-pub fn number<R: Threads + Sync>(call: &Call<'_, R>, watch: &mut Watch) {
+pub(crate) fn number<R: Threads + Sync>(call: &Call<'_, R>, watch: &mut Watch) {
     let mut words = [9; 14];
     watch.at("each_region_mut");
     each_region_mut(

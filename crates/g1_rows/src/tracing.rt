@@ -8,7 +8,7 @@ use std::alloc::{AllocError, Global};
 use std::thread::Threads;
 
 /// The sizes of the trace, and how many commands it has.
-pub fn parse<R>(call: &Call<'_, R>, watch: &mut Watch) -> Result<(), Fault> {
+pub(crate) fn parse<R>(call: &Call<'_, R>, watch: &mut Watch) -> Result<(), Fault> {
     watch.at("parse_trace");
     let trace = parse_trace(call.alloc, call.given.part(0))?;
     let commands = trace.commands.len() as u64;
@@ -17,7 +17,10 @@ pub fn parse<R>(call: &Call<'_, R>, watch: &mut Watch) -> Result<(), Fault> {
 }
 
 /// The whole trace, from text to text.
-pub fn run_whole<R: Threads + Sync>(call: &Call<'_, R>, watch: &mut Watch) -> Result<(), Fault> {
+pub(crate) fn run_whole<R: Threads + Sync>(
+    call: &Call<'_, R>,
+    watch: &mut Watch,
+) -> Result<(), Fault> {
     let team = Team::new(call.settings.workers(), call.settings.chunk());
     let prices = call.settings.cost();
     let bytes = call.given.part(0);
@@ -28,7 +31,10 @@ pub fn run_whole<R: Threads + Sync>(call: &Call<'_, R>, watch: &mut Watch) -> Re
 }
 
 /// The replies to the whole trace, parsed first.
-pub fn run_parsed<R: Threads + Sync>(call: &Call<'_, R>, watch: &mut Watch) -> Result<(), Fault> {
+pub(crate) fn run_parsed<R: Threads + Sync>(
+    call: &Call<'_, R>,
+    watch: &mut Watch,
+) -> Result<(), Fault> {
     let (workers, chunk) = (call.settings.workers(), call.settings.chunk());
     let prices = call.settings.cost();
     watch.at("run_trace");
@@ -49,7 +55,10 @@ fn text_of(alloc: Global, replies: &[Reply]) -> Result<Vec<u8>, AllocError> {
 }
 
 /// Gives the commands one by one. If `step` is watched, each of them is.
-pub fn run_steps<R: Threads + Sync>(call: &Call<'_, R>, watch: &mut Watch) -> Result<(), Fault> {
+pub(crate) fn run_steps<R: Threads + Sync>(
+    call: &Call<'_, R>,
+    watch: &mut Watch,
+) -> Result<(), Fault> {
     let trace = parse_trace(call.alloc, call.given.part(0))?;
     let mut mutator = begin(call.alloc, &trace, watch)?;
     for command in &trace.commands {

@@ -11,7 +11,7 @@ struct Tally {
 
 /// What came of rows, as lines, and how many are so.
 #[derive(Drop)]
-pub struct Verdicts {
+pub(crate) struct Verdicts {
     text: String,
     good: u64,
     bad: u64,
@@ -19,7 +19,7 @@ pub struct Verdicts {
 }
 
 impl Verdicts {
-    pub fn new(alloc: Global) -> Verdicts {
+    pub(crate) fn new(alloc: Global) -> Verdicts {
         Verdicts {
             text: String::new(alloc),
             good: 0,
@@ -29,22 +29,22 @@ impl Verdicts {
     }
 
     /// Whether there are rows, and each of them is so.
-    pub fn are_good(&self) -> bool {
+    pub(crate) fn are_good(&self) -> bool {
         self.good > 0 && self.bad == 0
     }
 
-    pub fn pass(&mut self, shows: &str) -> Result<(), AllocError> {
+    pub(crate) fn pass(&mut self, shows: &str) -> Result<(), AllocError> {
         self.good = self.good.saturating_add(1);
         write!(self.text, "ok: {shows}\n")
     }
 
-    pub fn fail(&mut self, shows: &str, why: &str) -> Result<(), AllocError> {
+    pub(crate) fn fail(&mut self, shows: &str, why: &str) -> Result<(), AllocError> {
         self.bad = self.bad.saturating_add(1);
         write!(self.text, "FAILED: {shows}\n{why}")
     }
 
     /// Counts a run of a call in which a request was refused, and whether the call returned `Memory`.
-    pub fn count(
+    pub(crate) fn count(
         &mut self,
         alloc: Global,
         call: &str,
@@ -68,7 +68,7 @@ impl Verdicts {
     }
 
     /// The lines, with a line for each call that was counted, and the counts of rows behind them.
-    pub fn into_text(self) -> Result<String, AllocError> {
+    pub(crate) fn into_text(self) -> Result<String, AllocError> {
         let Verdicts {
             mut text,
             good,

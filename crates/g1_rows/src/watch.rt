@@ -18,14 +18,14 @@ const END_OF_RUN: usize = 7_000_061;
 
 /// What a watched call returned, as bytes, and whether it was refused memory.
 #[derive(Drop)]
-pub struct Answer {
-    pub bytes: Vec<u8>,
-    pub is_refused: bool,
+pub(crate) struct Answer {
+    pub(crate) bytes: Vec<u8>,
+    pub(crate) is_refused: bool,
 }
 
 /// The call that is watched, whether it is under way, and what is printed of it.
 #[derive(Drop)]
-pub struct Watch {
+pub(crate) struct Watch {
     alloc: Global,
     call: String,
     on: bool,
@@ -40,7 +40,7 @@ pub struct Watch {
 
 impl Watch {
     /// Watches the call of this name.
-    pub fn new(alloc: Global, call: &str) -> Result<Watch, AllocError> {
+    pub(crate) fn new(alloc: Global, call: &str) -> Result<Watch, AllocError> {
         Ok(Watch {
             alloc,
             call: String::from_str(alloc, call)?,
@@ -53,7 +53,7 @@ impl Watch {
     }
 
     /// The call of this name comes next.
-    pub fn at(&mut self, call: &str) {
+    pub(crate) fn at(&mut self, call: &str) {
         if self.call.as_str() == call && !self.lost {
             self.on = true;
             self.lost = !self.signal(BEGIN);
@@ -61,7 +61,7 @@ impl Watch {
     }
 
     /// The call is over. Returns whether it was the one that is watched.
-    pub fn is_over(&mut self) -> bool {
+    pub(crate) fn is_over(&mut self) -> bool {
         let was_on = self.on && !self.lost;
         if was_on {
             self.on = false;
@@ -71,7 +71,7 @@ impl Watch {
     }
 
     /// All that was printed, a fault that ended the watched call included.
-    pub fn end(mut self, fault: Option<Fault>) -> Result<Answer, AllocError> {
+    pub(crate) fn end(mut self, fault: Option<Fault>) -> Result<Answer, AllocError> {
         if let Some(fault) = fault {
             if self.is_over() {
                 self.fault(&fault);
@@ -103,7 +103,7 @@ impl Watch {
     }
 
     /// Prints this if there was memory for it.
-    pub fn made(&mut self, text: Result<String, AllocError>) {
+    pub(crate) fn made(&mut self, text: Result<String, AllocError>) {
         match text {
             Ok(text) => self.print(text.as_bytes()),
             Err(_) => self.lost = true,
@@ -111,41 +111,41 @@ impl Watch {
     }
 
     /// The same of bytes.
-    pub fn bytes_made(&mut self, bytes: Result<Vec<u8>, AllocError>) {
+    pub(crate) fn bytes_made(&mut self, bytes: Result<Vec<u8>, AllocError>) {
         match bytes {
             Ok(bytes) => self.print(bytes.as_slice()),
             Err(_) => self.lost = true,
         }
     }
 
-    pub fn fault(&mut self, fault: &Fault) {
+    pub(crate) fn fault(&mut self, fault: &Fault) {
         let number = fault.number();
         let line = format!(in self.alloc; "fault {number}: {fault}\n");
         self.made(line);
     }
 
     /// A line of these numbers.
-    pub fn list<T: Display>(&mut self, numbers: &[T]) {
+    pub(crate) fn list<T: Display>(&mut self, numbers: &[T]) {
         let line = line_of(self.alloc, numbers);
         self.made(line);
     }
 
     /// A line of these numbers behind a word.
-    pub fn named<T: Display>(&mut self, name: &str, numbers: &[T]) {
+    pub(crate) fn named<T: Display>(&mut self, name: &str, numbers: &[T]) {
         self.print(name.as_bytes());
         self.print(b" ");
         self.list(numbers);
     }
 
     /// The call returned these numbers.
-    pub fn numbers<T: Display>(&mut self, numbers: &[T]) {
+    pub(crate) fn numbers<T: Display>(&mut self, numbers: &[T]) {
         if self.is_over() {
             self.list(numbers);
         }
     }
 
     /// The call returned these words of a heap: a header as its size and its slots.
-    pub fn words(&mut self, words: &[u64]) {
+    pub(crate) fn words(&mut self, words: &[u64]) {
         if self.is_over() {
             let line = line_of_words(self.alloc, words);
             self.made(line);
@@ -153,7 +153,7 @@ impl Watch {
     }
 
     /// The call returned a list for each region.
-    pub fn lists(&mut self, lists: &[Vec<u32>]) {
+    pub(crate) fn lists(&mut self, lists: &[Vec<u32>]) {
         if self.is_over() {
             for list in lists {
                 self.list(list.as_slice());
@@ -162,7 +162,7 @@ impl Watch {
     }
 
     /// The call returned pairs of numbers: a line for each, or `-` if there are none.
-    pub fn pairs(&mut self, pairs: &[(u64, u64)]) {
+    pub(crate) fn pairs(&mut self, pairs: &[(u64, u64)]) {
         if self.is_over() {
             for (slot, word) in pairs {
                 self.list(&[*slot, *word]);
@@ -174,21 +174,21 @@ impl Watch {
     }
 
     /// The call returned these bytes.
-    pub fn bytes(&mut self, bytes: &[u8]) {
+    pub(crate) fn bytes(&mut self, bytes: &[u8]) {
         if self.is_over() {
             self.print(bytes);
         }
     }
 
     /// The call returned something that the next image shows.
-    pub fn done(&mut self) {
+    pub(crate) fn done(&mut self) {
         if self.is_over() {
             self.owed = true;
         }
     }
 
     /// The call was refused, and handed this image back.
-    pub fn refused(&mut self, fault: &Fault, back: &Image) {
+    pub(crate) fn refused(&mut self, fault: &Fault, back: &Image) {
         if self.is_over() {
             self.fault(fault);
             self.print_image(back);
@@ -196,7 +196,7 @@ impl Watch {
     }
 
     /// The call returned this image.
-    pub fn image(&mut self, image: &Image) {
+    pub(crate) fn image(&mut self, image: &Image) {
         if self.is_over() || self.owed {
             self.print_image(image);
         }
@@ -211,7 +211,7 @@ impl Watch {
 }
 
 /// What `encode` promises is not needed here.
-pub fn text_of(alloc: Global, image: &Image) -> Result<Vec<u8>, Fault> {
+pub(crate) fn text_of(alloc: Global, image: &Image) -> Result<Vec<u8>, Fault> {
     encode(alloc, image)
 }
 
