@@ -23,3 +23,4 @@ pub mod Parts
 pub mod Leading
 pub mod Queues
 pub mod Listed
+pub mod Newness
