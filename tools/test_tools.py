@@ -269,7 +269,21 @@ TREE = {
     "crates/g1_a/specs/Low.antt": "use Rattle.std.specs.Prelude.{List}\n",
     "crates/g1_a/specs/Top.antt": "use Rattle.g1_a.specs.Low.{low}\nuse Rattle.g1_a.specs.declared.fault.Fault.{Fault}\n",
     "crates/g1_a/src/laws.rt": "pub fn first()\n{}\npub fn second()\n{}\n",
-    "crates/g1_a/src/lib.rt": "",
+    "crates/g1_a/src/lib.rt": "#[test]\nfn it_is_so(rt: HostRuntime) {}\n\nfn others() {}\n",
+    "docs/PROMISED.md": "| Promised | Kind | File | Name |\n|---|---|---|---|\n"
+                        "| h | row | `crates/g1_rows/data/a.rows` | `It is so.` `count 2 => 4` `.. six ..` |\n"
+                        "| i | test | `crates/g1_a/src/lib.rt` | `it_is_so` |\n| j | test | `tools/test_a.py` | `test_it` |\n"
+                        "| k | script | `tools/a.py` | `LIST` |\n| l | wrong body | `crates/g1_a/must-fail/` | `does_nothing` |\n"
+                        "| m | wrong body | `docs/PROVED.md` | `always_none` |\n| n | run | `crates/g1_a/stdout` | `a line` |\n",
+    "crates/g1_a/stdout": "one line\na line\n",
+    "docs/PROVED.md": "| Body | What it does |\n|---|---|\n| `always_none` | returns none |\n",
+    "crates/g1_a/must-fail/does_nothing.edit": "file: src/lib.rt\n",
+    "crates/g1_rows/args": "rows\na.rows\n",
+    "crates/g1_rows/stdout": "ok: Another one.\nok: It is so.\n2 ok, 0 failed\n",
+    "crates/g1_rows/data/a.rows": "# Rows.\n\n# Another one.\nadd\n----\n0\n\n# It is so.\nadd\n----\ncount 1 => 2\ncount 2 => 4\n"
+                                  "| two six four\n",
+    "tools/test_a.py": "class All:\n    def test_it(self):\n        pass\n",
+    "tools/a.py": "LIST = [1]\n",
     "crates/g1_b/specs/One.antt": "",
     "crates/g1_b/specs/Two.antt": "use Rattle.g1_a.specs.Top\n",
     "crates/g1_b/specs/Used.antt": "-- the next one\nabbrev pub next : ℕ → ℕ\nnext n = suc n\n\nmodule _ (k : Kind next) where\n"
@@ -353,6 +367,42 @@ class Tables(unittest.TestCase):
                 "crates/g1_b/specs/Cited.antt": TREE["crates/g1_b/specs/Cited.antt"].replace("g1_a.specs.Low.{low}", "g1_b.specs.Used.{Lone as low}"),
                 "crates/g1_b/src/main.rt": TREE["crates/g1_b/src/main.rt"].replace("AreSmall result", "AreSmall low")}):
             self.assertEqual(self.uncited(*lone), [])
+
+    def lost(self, name, old="", new="", gone=None):
+        """The one promise that is broken then, and why."""
+        (line,) = self.wrong(name, old, new, gone)
+        self.assertEqual(line[:10], "PROMISED: ")
+        return line[10:]
+
+    def test_what_is_promised_by_name_is_there(self):
+        rows, test = "crates/g1_rows/data/a.rows", "crates/g1_a/src/lib.rt"
+        self.assertEqual(self.lost(rows, "# It is so.", "# It is not so."), f"h: {rows} has no row 'It is so.'")
+        for old, new in (("count 2 => 4\n", ""), ("count 2 => 4", "count 2 => 44"), ("count 2 => 4", "0 count 2 => 4")):
+            self.assertEqual(self.lost(rows, old, new), f"h: the row 'It is so.' of {rows} has no line 'count 2 => 4'", new)
+        self.assertEqual(self.lost(rows, "two six four", "two"), f"h: the row 'It is so.' of {rows} has no line '.. six ..'")
+        self.assertEqual(self.lost("crates/g1_rows/stdout", "ok: It is so.\n", ""), "h: the driver does not write that 'It is so.' is so")
+        self.assertEqual(self.lost("crates/g1_rows/args", "a.rows", "b.rows"), f"h: the driver does not try {rows}")
+        for old, new in (("it_is_so", "it_is"), ("it_is_so", "it_is_so_too"), ("#[test]\n", "")):
+            self.assertEqual(self.lost(test, old, new), f"i: {test} has no it_is_so", new)
+        self.assertEqual(self.lost("tools/test_a.py", "test_it", "try_it"), "j: tools/test_a.py has no test_it")
+        self.assertEqual(self.lost("tools/a.py", "LIST =", "LISTS ="), "k: tools/a.py has no LIST")
+        edit = "crates/g1_a/must-fail/does_nothing.edit"
+        self.assertEqual(self.lost(None, gone=edit), f"l: there is no {edit}")
+        self.assertEqual(self.lost("docs/PROVED.md", "`always_none`", "`never_none`"), "m: docs/PROVED.md has no always_none")
+        self.assertEqual(self.lost("crates/g1_a/stdout", "a line", "a line more"), "n: crates/g1_a/stdout has no a line")
+        self.assertEqual(self.lost(None, gone="tools/a.py"), "k: there is no tools/a.py")
+
+    def test_each_promise_has_a_kind_and_a_name(self):
+        page = "docs/PROMISED.md"
+        self.assertEqual(self.lost(page, "| k | script |", "| k | scripts |"), "k: tools/a.py has nothing of the kind 'scripts'")
+        self.assertEqual(self.lost(page, "| `LIST` |", "| LIST |"), "k: it has no name")
+
+    def test_each_promise_of_the_repository_is_looked_at(self):
+        text = (TOP / "docs/PROMISED.md").read_text()
+        kinds = [line.split(" | ")[1] for line in text.splitlines() if line.startswith("| ") and line.count(" | ") == 3]
+        found = {kind: kinds.count(kind) for kind in ("row", "test", "script", "run", "wrong body")}
+        self.assertEqual(check_tables.check_promised(text, TOP)[0], sum(found.values()))
+        self.assertGreaterEqual(found["wrong body"], 50)
 
     def test_each_crate_is_in_one_row(self):
         page = "docs/MAP.md"
