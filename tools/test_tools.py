@@ -34,8 +34,11 @@ import check_tables  # noqa: E402
 import hprof2image  # noqa: E402
 import judge_opponent  # noqa: E402
 import manual  # noqa: E402
+import real_traces  # noqa: E402
 import release  # noqa: E402
 import stamp  # noqa: E402
+import test_scripts  # noqa: E402
+import unprivileged  # noqa: E402
 
 OBJECT, A, ARRAY = 0x10, 0x20, 0x30  # classes
 INT, BYTE, LONG, REFERENCE = 10, 8, 11, 2
@@ -692,6 +695,52 @@ class Installing(unittest.TestCase):
             self.run_shell(self.room / name / "install.sh")
         self.run_shell(self.prefix / "share/g1pause/uninstall.sh")
         self.assertEqual(self.installed(), {"bin/other"})
+
+
+class Planted(unittest.TestCase):
+    """No program in which an error is planted is run as the super-user."""
+
+    ASKS = "import os, sys, tempfile; tempfile.mkstemp(); sys.exit(7 if os.geteuid() == 0 else {})"
+
+    def run_in(self, call):
+        """What a call gives in a folder that the programs' user is let into."""
+        with tempfile.TemporaryDirectory() as room:
+            folder = pathlib.Path(room)
+            unprivileged.let_in(folder)
+            return call(folder)
+
+    def test_the_super_user_runs_them_as_nobody_and_others_as_they_are(self):
+        for user, expected in ((0, {"user": 65534, "group": 65534, "extra_groups": ()}), (1000, {})):
+            with unittest.mock.patch("os.geteuid", return_value=user):
+                self.assertEqual(unprivileged.unprivileged(), expected)
+
+    def test_they_write_in_their_own_folder_alone(self):
+        def written(folder):
+            ours = folder / "ours"
+            ours.write_text("as it was")
+            said = [unprivileged.can("sh", "-c", f"echo > '{folder}/{name}'") for name in ("nobody/new", "ours", "new")]
+            return said, ours.read_text()
+        may = os.geteuid() != 0
+        self.assertEqual(self.run_in(written), ([True, may, may], "\n" if may else "as it was"))
+
+    def test_what_that_user_cannot_read_is_reported(self):
+        with tempfile.TemporaryDirectory() as room, self.assertRaisesRegex(unprivileged.Unreadable, "^nobody cannot read .*gone"):
+            unprivileged.require_readable(pathlib.Path(room) / "gone")
+
+    def test_scripts_are_tried_on_broken_programs_so(self):
+        def passes(folder, status):
+            script = folder / "script.py"
+            script.write_text(self.ASKS.format(status))
+            return test_scripts.passes(folder, str(script), "program")
+        self.assertEqual([self.run_in(lambda folder: passes(folder, status)) for status in (0, 1)], [True, False])
+
+    def test_a_broken_barrier_is_tried_so(self):
+        def noticed(folder):
+            program = folder / "g1pause"
+            program.write_text(f"#!/bin/sh\nexec '{unprivileged.python()}' -c '{self.ASKS.format(8)}'\n")
+            program.chmod(0o755)
+            return real_traces.first_noticed(str(program), "lru_cache", [1])
+        self.assertEqual(self.run_in(noticed), "trace 1: status 8 ")
 
 
 class Scripts(unittest.TestCase):
