@@ -7,7 +7,7 @@ or by the rules of docs/COMMANDS.md and docs/HEAP_TEXT.md. `explain` of a pause 
 and takes at most 20 times the processor time of the pause.
 
 One heap has much of everything at once: 5,000 survivors in a chain, 300 cards that lead into the set, a humongous object of
-ten regions that is freed, 1,100 candidates, an object of 1,500 slots, a set of 70,000 cards. The lines of `explain`, the
+ten regions that is freed, one that the last survivor keeps, 1,100 candidates, an object of 1,500 slots, a set of 70,000 cards. The lines of `explain`, the
 paths of `why`, the summary, the image after, and what `same` reports of an error planted in it, are those that this script
 computes from the heap. The last line is 'N passed, M failed'.
 """
@@ -113,8 +113,9 @@ class Large:
     ENTERING = range(16, 18)  # the 300 slots, in objects of four words
     FREED = range(18, 28)  # the humongous object that nothing references
     MANY_SLOTS, SLOTS, STALE = range(28, 30), 1500, 1400  # a root references it
-    CANDIDATES = range(30, 1130)
-    REMEMBERING, CARDS = 30, 70_000  # a candidate whose set has as many cards
+    KEPT = range(30, 31)  # the last object of the chain alone references it
+    CANDIDATES = range(31, 1131)
+    REMEMBERING, CARDS = 31, 70_000  # a candidate whose set has as many cards
     REGIONS = 1160
     WHY = 300  # so many slots lead from a root to an object of the chain
 
@@ -126,6 +127,7 @@ class Large:
         self.lay_entered()
         self.lay_humongous(self.FREED, 10 * self.WIDTH - 3, 1)
         self.lay_humongous(self.MANY_SLOTS, self.SLOTS + 20, self.SLOTS)
+        self.lay_humongous(self.KEPT, self.WIDTH, 0)
         # All are null but some near powers of two, which reference the first object of the chain.
         slots = list(image.slots(self.MANY_SLOTS[0] * self.WIDTH))
         for number in (0, 63, 64, 255, 256, 1023, 1024, self.STALE, self.SLOTS - 1):
@@ -145,7 +147,7 @@ class Large:
         self.image.kinds[region], self.image.tops[region] = ORDINARY, top
 
     def lay_chain(self):
-        for number, (at, after) in enumerate(zip(self.chain, [*self.chain[1:], -1])):
+        for number, (at, after) in enumerate(zip(self.chain, [*self.chain[1:], self.KEPT[0] * self.WIDTH])):
             self.object(at, 3, after + 1, data=number)
             self.use(at // self.WIDTH, at % self.WIDTH + 3)
 
@@ -282,7 +284,7 @@ class Limits(Judge):
             self.explained_large(image, data, Choice(image, budget), [])
         paths = Heap(image)
         late = heap.MANY_SLOTS[0] * heap.WIDTH
-        for at in (heap.chain[heap.WHY], heap.chain[-1], late, heap.ENTERED * heap.WIDTH, heap.FREED[0] * heap.WIDTH,
+        for at in (heap.chain[heap.WHY], heap.chain[-1], heap.KEPT[0] * heap.WIDTH, late, heap.ENTERED * heap.WIDTH, heap.FREED[0] * heap.WIDTH,
                    heap.roots[-1] - 1, heap.chain[1] + 1, (heap.FREED[-1] + 1) * heap.WIDTH - 1):
             status, out, errors = paths.answer(at)
             told = self.run(self.g1heap, ["why", "-", str(at)], data)
