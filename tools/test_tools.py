@@ -34,8 +34,11 @@ import check_tables  # noqa: E402
 import hprof2image  # noqa: E402
 import judge_opponent  # noqa: E402
 import manual  # noqa: E402
+import real_traces  # noqa: E402
 import release  # noqa: E402
 import stamp  # noqa: E402
+import test_scripts  # noqa: E402
+import unprivileged  # noqa: E402
 
 OBJECT, A, ARRAY = 0x10, 0x20, 0x30  # classes
 INT, BYTE, LONG, REFERENCE = 10, 8, 11, 2
@@ -269,7 +272,21 @@ TREE = {
     "crates/g1_a/specs/Low.antt": "use Rattle.std.specs.Prelude.{List}\n",
     "crates/g1_a/specs/Top.antt": "use Rattle.g1_a.specs.Low.{low}\nuse Rattle.g1_a.specs.declared.fault.Fault.{Fault}\n",
     "crates/g1_a/src/laws.rt": "pub fn first()\n{}\npub fn second()\n{}\n",
-    "crates/g1_a/src/lib.rt": "",
+    "crates/g1_a/src/lib.rt": "#[test]\nfn it_is_so(rt: HostRuntime) {}\n\nfn others() {}\n",
+    "docs/PROMISED.md": "| Promised | Kind | File | Name |\n|---|---|---|---|\n"
+                        "| h | row | `crates/g1_rows/data/a.rows` | `It is so.` `count 2 => 4` `.. six ..` |\n"
+                        "| i | test | `crates/g1_a/src/lib.rt` | `it_is_so` |\n| j | test | `tools/test_a.py` | `test_it` |\n"
+                        "| k | script | `tools/a.py` | `LIST` |\n| l | wrong body | `crates/g1_a/must-fail/` | `does_nothing` |\n"
+                        "| m | wrong body | `docs/PROVED.md` | `always_none` |\n| n | run | `crates/g1_a/stdout` | `a line` |\n",
+    "crates/g1_a/stdout": "one line\na line\n",
+    "docs/PROVED.md": "| Body | What it does |\n|---|---|\n| `always_none` | returns none |\n",
+    "crates/g1_a/must-fail/does_nothing.edit": "file: src/lib.rt\n",
+    "crates/g1_rows/args": "rows\na.rows\n",
+    "crates/g1_rows/stdout": "ok: Another one.\nok: It is so.\n2 ok, 0 failed\n",
+    "crates/g1_rows/data/a.rows": "# Rows.\n\n# Another one.\nadd\n----\n0\n\n# It is so.\nadd\n----\ncount 1 => 2\ncount 2 => 4\n"
+                                  "| two six four\n",
+    "tools/test_a.py": "class All:\n    def test_it(self):\n        pass\n",
+    "tools/a.py": "LIST = [1]\n",
     "crates/g1_b/specs/One.antt": "",
     "crates/g1_b/specs/Two.antt": "use Rattle.g1_a.specs.Top\n",
     "crates/g1_b/specs/Used.antt": "-- the next one\nabbrev pub next : ℕ → ℕ\nnext n = suc n\n\nmodule _ (k : Kind next) where\n"
@@ -353,6 +370,42 @@ class Tables(unittest.TestCase):
                 "crates/g1_b/specs/Cited.antt": TREE["crates/g1_b/specs/Cited.antt"].replace("g1_a.specs.Low.{low}", "g1_b.specs.Used.{Lone as low}"),
                 "crates/g1_b/src/main.rt": TREE["crates/g1_b/src/main.rt"].replace("AreSmall result", "AreSmall low")}):
             self.assertEqual(self.uncited(*lone), [])
+
+    def lost(self, name, old="", new="", gone=None):
+        """The one promise that is broken then, and why."""
+        (line,) = self.wrong(name, old, new, gone)
+        self.assertEqual(line[:10], "PROMISED: ")
+        return line[10:]
+
+    def test_what_is_promised_by_name_is_there(self):
+        rows, test = "crates/g1_rows/data/a.rows", "crates/g1_a/src/lib.rt"
+        self.assertEqual(self.lost(rows, "# It is so.", "# It is not so."), f"h: {rows} has no row 'It is so.'")
+        for old, new in (("count 2 => 4\n", ""), ("count 2 => 4", "count 2 => 44"), ("count 2 => 4", "0 count 2 => 4")):
+            self.assertEqual(self.lost(rows, old, new), f"h: the row 'It is so.' of {rows} has no line 'count 2 => 4'", new)
+        self.assertEqual(self.lost(rows, "two six four", "two"), f"h: the row 'It is so.' of {rows} has no line '.. six ..'")
+        self.assertEqual(self.lost("crates/g1_rows/stdout", "ok: It is so.\n", ""), "h: the driver does not write that 'It is so.' is so")
+        self.assertEqual(self.lost("crates/g1_rows/args", "a.rows", "b.rows"), f"h: the driver does not try {rows}")
+        for old, new in (("it_is_so", "it_is"), ("it_is_so", "it_is_so_too"), ("#[test]\n", "")):
+            self.assertEqual(self.lost(test, old, new), f"i: {test} has no it_is_so", new)
+        self.assertEqual(self.lost("tools/test_a.py", "test_it", "try_it"), "j: tools/test_a.py has no test_it")
+        self.assertEqual(self.lost("tools/a.py", "LIST =", "LISTS ="), "k: tools/a.py has no LIST")
+        edit = "crates/g1_a/must-fail/does_nothing.edit"
+        self.assertEqual(self.lost(None, gone=edit), f"l: there is no {edit}")
+        self.assertEqual(self.lost("docs/PROVED.md", "`always_none`", "`never_none`"), "m: docs/PROVED.md has no always_none")
+        self.assertEqual(self.lost("crates/g1_a/stdout", "a line", "a line more"), "n: crates/g1_a/stdout has no a line")
+        self.assertEqual(self.lost(None, gone="tools/a.py"), "k: there is no tools/a.py")
+
+    def test_each_promise_has_a_kind_and_a_name(self):
+        page = "docs/PROMISED.md"
+        self.assertEqual(self.lost(page, "| k | script |", "| k | scripts |"), "k: tools/a.py has nothing of the kind 'scripts'")
+        self.assertEqual(self.lost(page, "| `LIST` |", "| LIST |"), "k: it has no name")
+
+    def test_each_promise_of_the_repository_is_looked_at(self):
+        text = (TOP / "docs/PROMISED.md").read_text()
+        kinds = [line.split(" | ")[1] for line in text.splitlines() if line.startswith("| ") and line.count(" | ") == 3]
+        found = {kind: kinds.count(kind) for kind in ("row", "test", "script", "run", "wrong body")}
+        self.assertEqual(check_tables.check_promised(text, TOP)[0], sum(found.values()))
+        self.assertGreaterEqual(found["wrong body"], 50)
 
     def test_each_crate_is_in_one_row(self):
         page = "docs/MAP.md"
@@ -642,6 +695,52 @@ class Installing(unittest.TestCase):
             self.run_shell(self.room / name / "install.sh")
         self.run_shell(self.prefix / "share/g1pause/uninstall.sh")
         self.assertEqual(self.installed(), {"bin/other"})
+
+
+class Planted(unittest.TestCase):
+    """No program in which an error is planted is run as the super-user."""
+
+    ASKS = "import os, sys, tempfile; tempfile.mkstemp(); sys.exit(7 if os.geteuid() == 0 else {})"
+
+    def run_in(self, call):
+        """What a call gives in a folder that the programs' user is let into."""
+        with tempfile.TemporaryDirectory() as room:
+            folder = pathlib.Path(room)
+            unprivileged.let_in(folder)
+            return call(folder)
+
+    def test_the_super_user_runs_them_as_nobody_and_others_as_they_are(self):
+        for user, expected in ((0, {"user": 65534, "group": 65534, "extra_groups": ()}), (1000, {})):
+            with unittest.mock.patch("os.geteuid", return_value=user):
+                self.assertEqual(unprivileged.unprivileged(), expected)
+
+    def test_they_write_in_their_own_folder_alone(self):
+        def written(folder):
+            ours = folder / "ours"
+            ours.write_text("as it was")
+            said = [unprivileged.can("sh", "-c", f"echo > '{folder}/{name}'") for name in ("nobody/new", "ours", "new")]
+            return said, ours.read_text()
+        may = os.geteuid() != 0
+        self.assertEqual(self.run_in(written), ([True, may, may], "\n" if may else "as it was"))
+
+    def test_what_that_user_cannot_read_is_reported(self):
+        with tempfile.TemporaryDirectory() as room, self.assertRaisesRegex(unprivileged.Unreadable, "^nobody cannot read .*gone"):
+            unprivileged.require_readable(pathlib.Path(room) / "gone")
+
+    def test_scripts_are_tried_on_broken_programs_so(self):
+        def passes(folder, status):
+            script = folder / "script.py"
+            script.write_text(self.ASKS.format(status))
+            return test_scripts.passes(folder, str(script), "program")
+        self.assertEqual([self.run_in(lambda folder: passes(folder, status)) for status in (0, 1)], [True, False])
+
+    def test_a_broken_barrier_is_tried_so(self):
+        def noticed(folder):
+            program = folder / "g1pause"
+            program.write_text(f"#!/bin/sh\nexec '{unprivileged.python()}' -c '{self.ASKS.format(8)}'\n")
+            program.chmod(0o755)
+            return real_traces.first_noticed(str(program), "lru_cache", [1])
+        self.assertEqual(self.run_in(noticed), "trace 1: status 8 ")
 
 
 class Scripts(unittest.TestCase):
