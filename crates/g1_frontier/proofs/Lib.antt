@@ -22,4 +22,3 @@ pub mod Searching
 pub mod Parts
 pub mod Leading
 pub mod Queues
-pub mod Listed
