@@ -5,6 +5,7 @@ ghost use Rattle.g1_words.specs.Survivors.{Survivors};
 ghost use Rattle.g1_frontier.specs.Window.{AreCards, AreOutside, LeadIn};
 ghost use Rattle.g1_frontier.specs.Scope.{IsScope};
 
+use crate::offering::HEADERS_AHEAD;
 use crate::scope::Scope;
 use g1_rem::slots_on;
 use g1_words::{Heap, Marks, Object};
@@ -17,10 +18,6 @@ pub struct Queue {
     /// A mark for each place, set if the object there was found.
     pub marks: Marks,
 }
-
-// So many headers are read before the slots behind them, so that the processor waits for them
-// together. They are few enough to be in its nearest cache when their slots are read.
-const HEADERS_AHEAD: usize = 32;
 
 // Reads the headers of the objects at these addresses, one load beside the other.
 fn read_headers(heap: &Heap, addresses: &[u64], ahead: &mut Vec<Object>) -> Result<(), AllocError>
