@@ -345,7 +345,7 @@ pub const EXPLAINED: Argument = Argument {
 pub const IMAGE_AFTER: Argument = Argument {
     id: "image",
     values: &["N", "FILE"],
-    help: "Also writes the image after command N to this file",
+    help: "Also writes the image after command N to this file, or - for it alone on standard output",
     range: COUNT_RANGE,
     ..VALUE
 };
