@@ -13,6 +13,7 @@ pub mod Runs
 pub mod Rows
 pub mod Slots
 pub mod Logs
+pub mod Dirty
 pub mod Drafts
 pub mod Stages
 pub mod Assembled

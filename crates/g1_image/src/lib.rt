@@ -22,6 +22,7 @@ mod behind;
 mod buffer;
 mod cards;
 mod checks;
+mod copying;
 mod cursor;
 mod decoding;
 mod draft;
@@ -43,6 +44,7 @@ mod streaming;
 mod table;
 mod writing;
 
+pub use copying::{copy, with_dirty};
 pub use cursor::MAGIC;
 pub use encoding::{FileParts, encode_parts};
 pub use image::Image;
