@@ -498,7 +498,7 @@ class Ocaml(unittest.TestCase):
 [ "$1" != -version ] || { echo 4.14.1; exit; }
 cat >judge <<'END'
 #!/bin/sh
-for name in before minor major compact changed; do echo object 1 >$name.txt; done
+for name in before minor major compact changed; do echo object at_$name >$name.txt; done
 END
 chmod +x judge
 """
@@ -541,6 +541,17 @@ chmod +x judge
             programs = {"ocamlopt": self.COMPILER, "g1heap": f"[ $3 != changed.txt ] || exit {found}"}
             done = self.run_judge(programs, os.environ["PATH"])
             self.assertEqual((done.returncode, done.stderr), (status, ""), found)
+
+    def test_collections_that_move_nothing_judge_nothing(self):
+        programs = {"ocamlopt": self.COMPILER.replace("at_$name", "at_one_place"), "g1heap": "[ $3 != changed.txt ]"}
+        done = self.run_judge(programs, os.environ["PATH"])
+        self.assertEqual((done.returncode, done.stdout.splitlines()[3]), (1, "judged nothing: no collection moved an object"))
+
+    def test_a_collection_is_compared_with_the_heap_before_it(self):
+        moved = self.COMPILER.replace("echo object at_$name", "{ echo object $name | sed 's/minor/before/; s/compact/major/'; }")
+        done = self.run_judge({"ocamlopt": moved, "g1heap": "[ $3 != changed.txt ] || exit 1; echo $2"}, os.environ["PATH"])
+        self.assertEqual(done.stdout.splitlines()[:3], ["minor: 0 objects moved: before.txt", "major: 1 objects moved: minor.txt",
+                                                        "compact: 0 objects moved: major.txt"])
 
 
 class Opponents(unittest.TestCase):
