@@ -13,6 +13,7 @@ Statuses: 0 all passed; 1 one failed; 2 usage, or a program is not there.
 """
 import argparse
 import dataclasses
+import os
 import pathlib
 import re
 import shutil
@@ -35,6 +36,7 @@ class Runtime:
     package: str
     run: list
     build: list = dataclasses.field(default_factory=list)
+    settings: dict = dataclasses.field(default_factory=dict)
 
     def command(self, words, room):
         return [word.format(file=HERE / self.file, room=room) for word in words]
@@ -48,16 +50,17 @@ RUNTIMES = {
     "chez": Runtime("chez.ss", "chezscheme", ["scheme", "--script", "{file}"]),
     "ghc": Runtime("ghc.hs", "ghc", ["{room}/walk"], ["ghc", "-O1", "-rtsopts", "-package", "ghc-heap", "-with-rtsopts=-A1g",
                                                       "-outputdir", "{room}", "-o", "{room}/walk", "{file}"]),
-    "mono": Runtime("mono.cs", "mono-runtime mono-mcs", ["mono", "{room}/walk.exe"], ["mcs", "-unsafe", "-out:{room}/walk.exe", "{file}"]),
+    "mono": Runtime("mono.cs", "mono-runtime mono-mcs", ["mono", "{room}/walk.exe"], ["mcs", "-unsafe", "-out:{room}/walk.exe", "{file}"],
+                    {"MONO_GC_PARAMS": "nursery-size=256m"}),
     "ruby": Runtime("ruby.rb", "ruby", ["ruby", "{file}"]),
     "sbcl": Runtime("sbcl.lisp", "sbcl", ["sbcl", "--dynamic-space-size", "4GB", "--script", "{file}"]),
     "v8": Runtime("v8.js", "nodejs", ["node", "--expose-gc", "--allow-natives-syntax", "--min-semi-space-size=64", "--compact-on-every-full-gc", "{file}"]),
 }
 
 
-def said_by(words, room, where=None):
+def said_by(words, room, where=None, settings=None):
     """What a command prints."""
-    ran = subprocess.run(words, cwd=room, stdout=where or subprocess.PIPE, stderr=subprocess.PIPE, text=True)
+    ran = subprocess.run(words, cwd=room, stdout=where or subprocess.PIPE, stderr=subprocess.PIPE, text=True, env={**os.environ, **(settings or {})})
     if ran.returncode:
         raise Problem(f"{pathlib.Path(words[0]).name}: status {ran.returncode}: {ran.stderr.strip()[-300:]}")
     return ran.stdout
@@ -69,7 +72,7 @@ def steps(runtime, room, depth):
     if runtime.build:
         said_by(runtime.command(runtime.build, room), room)
     with open(room / "said", "w+") as said:
-        said_by([*runtime.command(runtime.run, room), str(room), str(depth)], room, said)
+        said_by([*runtime.command(runtime.run, room), str(room), str(depth)], room, said, runtime.settings)
         said.seek(0)
         found = [line.split() for line in said if line.split(" ")[0].strip() in ("before", "again", "collection", "planted")]
     if not found or found[-1] != ["again"]:
@@ -82,6 +85,11 @@ def names(file):
         return [line.split(" ", 2)[1] for line in lines if line.startswith("object ")]
 
 
+def moved_between(room, before, after):
+    """How many objects have another name. The objects of two heaps are written in one order."""
+    return sum(one != other for one, other in zip(names(room / f"{before}.txt"), names(room / f"{after}.txt")))
+
+
 def compared(room, before, after):
     """What g1heap reports of two heaps."""
     ran = subprocess.run(["g1heap", "same", f"{before}.txt", f"{after}.txt"], cwd=room, capture_output=True, text=True)
@@ -89,8 +97,8 @@ def compared(room, before, after):
 
 
 def judged(room, found):
-    """A line for each step after the first, and whether it passed. The objects of two heaps are written in one order."""
-    last, moves, compared_moves = "before", 0, 0
+    """A line for each step after the first, and whether it passed."""
+    last, collections, moves = "before", 0, 0
     for kind, *words in found[1:]:
         name = words[0] if words else "again"
         line = compared(room, last, name)
@@ -98,11 +106,12 @@ def judged(room, found):
             good = line.startswith(f"differ {words[1]} ") and f"object {words[2]} before" in line
             yield f"planted {name}: {line}", good
             continue
-        moved = int(words[1]) if len(words) > 1 else sum(one != other for one, other in zip(names(room / f"{last}.txt"), names(room / f"{name}.txt")))
-        moves, compared_moves = moves + moved, compared_moves + (kind == "collection")
+        moved = int(words[1]) if len(words) > 1 else moved_between(room, last, name)
+        if kind == "collection":
+            collections, moves = collections + 1, moves + moved
         yield f"{name}: {line}, {moved} moved", bool(SAME.fullmatch(line))
         last = name
-    yield f"{compared_moves} collections, {moves} moves" + ("" if moves else ": judged nothing"), moves > 0
+    yield f"{collections} collections, {moves} moves" + ("" if moves else ": judged nothing"), moves > 0
 
 
 def judge(name, depth, keep):

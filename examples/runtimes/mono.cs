@@ -2,7 +2,7 @@
 // errors in it.
 //
 // A file has lines of objects by name, and a name is the object's address. Slots are the fields and elements that are
-// references; other fields are data words. A walk takes the addresses last, and allocates nothing meanwhile.
+// references; other fields are data words. A large nursery (nursery-size=256m) keeps collections out of a walk.
 using System;
 using System.Collections.Generic;
 using System.Globalization;
@@ -85,7 +85,6 @@ sealed class Node { public int key; public Node left, right; public string name;
 static unsafe class Judged {
     static string folder;
     static object[] heap;
-
     static Node Tree(int depth, int key, List<Node> nodes) {
         var node = new Node { key = key, name = "node " + key, weight = key / 3.0 };
         nodes.Add(node);

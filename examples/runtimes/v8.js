@@ -14,7 +14,6 @@ const [folder, depth] = [process.argv[2], Number(process.argv[3])];
 const float = new Float64Array(1);
 const bits = new BigUint64Array(float.buffer);
 const hashes = new Map();
-
 function hashOf(text) {
   if (!hashes.has(text)) hashes.set(text, crypto.createHash('sha256').update(text).digest().readBigUInt64BE(0));
   return hashes.get(text);
