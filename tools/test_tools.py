@@ -551,7 +551,7 @@ class Ocaml(unittest.TestCase):
 [ "$1" != -version ] || { echo 4.14.1; exit; }
 cat >judge <<'END'
 #!/bin/sh
-for name in before minor major compact changed; do echo object 1 >$name.txt; done
+for name in before minor major compact changed; do echo object at_$name >$name.txt; done
 END
 chmod +x judge
 """
@@ -594,6 +594,80 @@ chmod +x judge
             programs = {"ocamlopt": self.COMPILER, "g1heap": f"[ $3 != changed.txt ] || exit {found}"}
             done = self.run_judge(programs, os.environ["PATH"])
             self.assertEqual((done.returncode, done.stderr), (status, ""), found)
+
+    def test_collections_that_move_nothing_judge_nothing(self):
+        programs = {"ocamlopt": self.COMPILER.replace("at_$name", "at_one_place"), "g1heap": "[ $3 != changed.txt ]"}
+        done = self.run_judge(programs, os.environ["PATH"])
+        self.assertEqual((done.returncode, done.stdout.splitlines()[3]), (1, "judged nothing: no collection moved an object"))
+
+    def test_a_collection_is_compared_with_the_heap_before_it(self):
+        moved = self.COMPILER.replace("echo object at_$name", "{ echo object $name | sed 's/minor/before/; s/compact/major/'; }")
+        done = self.run_judge({"ocamlopt": moved, "g1heap": "[ $3 != changed.txt ] || exit 1; echo $2"}, os.environ["PATH"])
+        self.assertEqual(done.stdout.splitlines()[:3], ["minor: 0 objects moved: before.txt", "major: 1 objects moved: minor.txt",
+                                                        "compact: 0 objects moved: major.txt"])
+
+
+class Runtimes(unittest.TestCase):
+    """examples/runtimes/judge.py, with a ruby and a g1heap of a few lines."""
+
+    RUBY = """#!{python}
+import sys
+room = sys.argv[2]
+for step, names in {steps}:
+    open(f"{{room}}/{{step}}.txt", "w").write("graph\\n" + "".join(f"object {{name}} 1/0\\n" for name in names))
+for line in {lines}:
+    print(line)
+"""
+    HEAP = """#!{python}
+import sys
+verdict = {verdicts}.get(sys.argv[3].removesuffix(".txt"), "same objects 2 words 2")
+print(verdict)
+sys.exit(not verdict.startswith("same"))
+"""
+    STEPS = [("before", "ab"), ("minor", "ac"), ("wrong", "ac"), ("again", "ac")]
+    LINES = ["before", "collection minor", "planted wrong split c", "again"]
+    FOUND = "differ split at root 0: object c before, object a after"
+
+    def judged(self, steps=STEPS, lines=LINES, verdicts=None):
+        """The status and what is printed."""
+        with tempfile.TemporaryDirectory() as room:
+            texts = {"ruby": self.RUBY.format(python=sys.executable, steps=steps, lines=lines),
+                     "g1heap": self.HEAP.format(python=sys.executable, verdicts={"wrong": self.FOUND} if verdicts is None else verdicts)}
+            for name, text in texts.items():
+                (pathlib.Path(room) / name).write_text(text)
+                (pathlib.Path(room) / name).chmod(0o755)
+            done = subprocess.run([TOP / "examples/runtimes/judge.py", "ruby"], capture_output=True, text=True, check=False, timeout=60,
+                                  env={**os.environ, "PATH": f"{room}:{os.environ['PATH']}"})
+        return done.returncode, done.stdout.splitlines()
+
+    def test_a_good_collector_passes(self):
+        self.assertEqual(self.judged(), (0, ["ruby minor: same objects 2 words 2, 1 moved", f"ruby planted wrong: {self.FOUND}",
+                                             "ruby again: same objects 2 words 2, 0 moved", "ruby 1 collections, 1 moves", "4 passed, 0 failed"]))
+
+    def test_a_collection_that_changes_the_heap_fails(self):
+        status, lines = self.judged(verdicts={"minor": "differ null at root 0: null before, object a after", "wrong": self.FOUND})
+        self.assertEqual((status, lines[0], lines[-1]),
+                         (1, "ruby minor: differ null at root 0: null before, object a after, 1 moved  FAILED", "3 passed, 1 failed"))
+
+    def test_an_error_that_is_not_found_or_is_found_elsewhere_fails(self):
+        for verdict in ("same objects 2 words 2", self.FOUND.replace("object c", "object b"), self.FOUND.replace("split", "data")):
+            status, lines = self.judged(verdicts={"wrong": verdict})
+            self.assertEqual((status, lines[1], lines[-1]), (1, f"ruby planted wrong: {verdict}  FAILED", "3 passed, 1 failed"))
+
+    def test_collections_without_a_move_judge_nothing(self):
+        status, lines = self.judged(steps=[(step, "ab") for step, _ in self.STEPS])
+        self.assertEqual((status, lines[-2:]), (1, ["ruby 1 collections, 0 moves: judged nothing  FAILED", "3 passed, 1 failed"]))
+
+    def test_a_program_that_ends_early_fails(self):
+        self.assertEqual(self.judged(lines=self.LINES[:-1]), (1, ["ruby: its program did not come to its end  FAILED", "0 passed, 1 failed"]))
+        status, lines = self.judged(lines=["a", "b"], steps=3)
+        self.assertEqual((status, lines[-1]), (1, "0 passed, 1 failed"))
+        self.assertTrue(lines[0].startswith("ruby: ruby: status 1: "), lines)
+
+    def test_wrong_words_are_usage(self):
+        for words in (["perl"], ["--depth", "2"], ["--depth", "many"]):
+            done = subprocess.run([TOP / "examples/runtimes/judge.py", *words], capture_output=True, text=True, check=False, timeout=60)
+            self.assertEqual((done.returncode, done.stdout), (2, ""), words)
 
 
 class Opponents(unittest.TestCase):
