@@ -1,5 +1,5 @@
 #!/usr/bin/env python3
-"""Checks the tables of docs/DEFINITIONS.md, docs/MAP.md and docs/PROMISED.md against the tree: check_tables.py [CHECKOUT]
+"""Checks the tables of docs/DEFINITIONS.md, MAP.md and PROMISED.md against the tree: check_tables.py [--touched] [CHECKOUT]
 
 Of DEFINITIONS:
   - the numbered rows are the files that the headline depends on: those that docs/HEADLINE.md names, and what they import,
@@ -10,7 +10,9 @@ Of DEFINITIONS:
   - a clause cites each definition of specs/, itself or through definitions that it cites.
 Of MAP:
   - the tables of crates have each crate of crates/ once;
-  - each file that a row of changes names exists, in the folder that the row names or in a crate of that row.
+  - each file that a row of changes names exists, in the folder that the row names or in a crate of that row;
+  - a row with patterns has exactly the files that these find. `--touched` prints those rows with the files that they
+    should have.
 Of PROMISED, that each thing is there which it names:
   - a row of g1_rows with its lines, in a file that the driver tries, and in what the driver has to write;
   - a test; a function, a class or a constant of a script; a line of a program's stored run;
@@ -26,6 +28,7 @@ import sys
 sys.path.insert(0, str(pathlib.Path(__file__).resolve().parent / "lib"))
 
 import definitions  # noqa: E402
+import touched  # noqa: E402
 
 TOP = pathlib.Path(__file__).resolve().parent.parent
 CODE = re.compile(r"`([^`\n]+)`")
@@ -232,6 +235,25 @@ def check_promised(text, tree):
     return len(cells), [f"{promise}: {reason}" for promise, reason in said if reason]
 
 
+def check_touched(text, tree):
+    """What is wrong with the files of rows that have patterns."""
+    found, wrong = 0, []
+    for change, cell, listed in rows(section(text, "What a change touches"))[1:]:
+        needed, empty = touched.files(tree, cell)
+        named = set(codes(listed))
+        found += len(needed | named) + len(touched.patterns(cell))
+        wrong += [f"{change}: {problem}" for problem in empty]
+        wrong += [f"{change}: {name} is left out" for name in sorted(needed - named)]
+        wrong += [f"{change}: {name} has none of the patterns" for name in sorted(named - needed)]
+    return found, wrong
+
+
+def print_touched(text, tree):
+    """Prints the rows that have patterns, with the files that these find."""
+    for change, cell, _ in rows(section(text, "What a change touches"))[1:]:
+        print(f"| {change} | {cell} | {touched.compact(touched.files(tree, cell)[0])} |")
+
+
 def check(tree):
     """How many things were looked at, and what is wrong, with the page before it."""
     page = (tree / "docs/DEFINITIONS.md").read_text()
@@ -241,6 +263,7 @@ def check(tree):
              ("DEFINITIONS", *check_files(page, specs)), ("DEFINITIONS", *check_laws(page, tree)),
              ("DEFINITIONS", *check_cited(specs, tree)),
              ("MAP", *check_crates(table, tree)), ("MAP", *check_changes(table, tree)),
+             ("MAP", *check_touched(table, tree)),
              ("PROMISED", *check_promised((tree / "docs/PROMISED.md").read_text(), tree))]
     return sum(count for _, count, _ in found), [f"{name}: {text}" for name, _, wrong in found for text in wrong]
 
@@ -249,10 +272,15 @@ def main():
     parser = argparse.ArgumentParser(description=__doc__, formatter_class=argparse.RawDescriptionHelpFormatter)
     parser.add_argument("checkout", metavar="CHECKOUT", nargs="?", type=pathlib.Path, default=TOP,
                         help="the repository (default: the one that this script is in)")
-    tree = parser.parse_args().checkout
+    parser.add_argument("--touched", action="store_true", help="print the rows of MAP that have patterns, with the files that these find")
+    given = parser.parse_args()
+    tree = given.checkout
     for name in ("docs/DEFINITIONS.md", "docs/HEADLINE.md", "docs/MAP.md", "docs/PROMISED.md"):
         if not (tree / name).is_file():
             parser.error(f"{tree} is no checkout of the repository: there is no {name}")
+    if given.touched:
+        print_touched((tree / "docs/MAP.md").read_text(), tree)
+        return 0
     looked, wrong = check(tree)
     for problem in wrong:
         print(problem)

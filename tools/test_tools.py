@@ -267,7 +267,9 @@ TREE = {
                            "| `g1_b/specs/Cited.antt`, `Used.antt` | g |\n"
                            "\n## The laws\n\n| Function | It says |\n|---|---|\n| `g1_a::laws::first`, `second` | d |\n",
     "docs/MAP.md": "## The crates, lowest first\n\n| Crate | Room for |\n|---|---|\n| `g1_a`, `g1_b` | e |\n\n## Where to change what\n\n"
-                   "| Change | Begin with | Then |\n|---|---|---|\n| f | `g1_a/src/{laws,lib}.rt` | `main.rt` of g1_b |\n",
+                   "| Change | Begin with | Then |\n|---|---|---|\n| f | `g1_a/src/{laws,lib}.rt` | `main.rt` of g1_b |\n"
+                   "\n## What a change touches\n\n| Change | Patterns | Files |\n|---|---|---|\n"
+                   "| h | sources: `\\bf\\w+t\\b`; definitions: `IsLow\\|IsHigh` | `g1_a/src/laws.rt`, `g1_b/specs/{Cited,Used}.antt` |\n",
     "crates/g1_a/specs/Lib.antt": "pub mod Low\n",
     "crates/g1_a/specs/Low.antt": "use Rattle.std.specs.Prelude.{List}\n",
     "crates/g1_a/specs/Top.antt": "use Rattle.g1_a.specs.Low.{low}\nuse Rattle.g1_a.specs.declared.fault.Fault.{Fault}\n",
@@ -417,6 +419,24 @@ class Tables(unittest.TestCase):
         page = "docs/MAP.md"
         for old, new in (("{laws,lib}", "{laws,libs}"), ("`main.rt`", "`mains.rt`"), ("`main.rt` of g1_b", "`main.rt` of g1_a")):
             self.assertEqual(len(self.wrong(page, old, new)), 1, new)
+
+    def test_a_row_with_patterns_has_the_files_that_they_find(self):
+        page = "docs/MAP.md"
+        self.assertEqual(self.wrong(page, "{Cited,Used}", "{Used}"), ["MAP: h: g1_b/specs/Cited.antt is left out"])
+        self.assertEqual(self.wrong("crates/g1_b/src/main.rt", "", "// first\n"), ["MAP: h: g1_b/src/main.rt is left out"])
+        self.assertEqual(self.wrong(page, "`g1_a/src/laws.rt`, `g1_b", "`g1_a/src/{laws,lib}.rt`, `g1_b"),
+                         ["MAP: h: g1_a/src/lib.rt has none of the patterns"])
+        self.assertEqual(self.wrong(page, "IsLow\\|IsHigh`", "IsLow\\|IsHigh`, `IsNone`"), ["MAP: h: no file of definitions has IsNone"])
+
+    def test_the_files_that_patterns_find_are_printed_as_a_row_has_them(self):
+        with tempfile.TemporaryDirectory() as room:
+            for path, text in TREE.items():
+                target = pathlib.Path(room) / path
+                target.parent.mkdir(parents=True, exist_ok=True)
+                target.write_text(text)
+            with contextlib.redirect_stdout(io.StringIO()) as out:
+                check_tables.print_touched(TREE["docs/MAP.md"], pathlib.Path(room))
+        self.assertEqual(out.getvalue(), TREE["docs/MAP.md"].splitlines(keepends=True)[-1])
 
 
 SAYS = """#!{python}
