@@ -15,14 +15,14 @@ use Rattle.g1_words.proofs.Members.{In, In-from_contains, Contains-from_in, In-a
 use Rattle.g1_words.proofs.Ordered.{Ordered, Ordered-from_pairs, pairs_from_ordered}
 use Rattle.g1_words.proofs.Rising.{Ordered-append}
 use Rattle.g1_image.specs.Image.{IsUsedCard, IsLog}
-use Rattle.g1_image.specs.Dirty.{with_card, with_cards}
+use Rattle.g1_image.specs.Dirty.{with_dirty_card, with_dirty_cards}
 
 -- one card more
-pub cards_more : (log cards : List ℕ) (i d : ℕ) → i < length cards → with_cards log (take (i + 1) cards) ≡ with_card (with_cards log (take i cards)) (slice_index_or cards i d)
+pub cards_more : (log cards : List ℕ) (i d : ℕ) → i < length cards → with_dirty_cards log (take (i + 1) cards) ≡ with_dirty_card (with_dirty_cards log (take i cards)) (slice_index_or cards i d)
 cards_more log [] i d lt = absurd (omega (arith, lt))
 cards_more log (x ∷ xs) zero d lt = refl
 cards_more log (x ∷ xs) (suc i) d lt =
-    ap (λ k. with_cards log (take k (x ∷ xs))) (let e : suc i + 1 ≡ suc (i + 1) = omega arith in e) ∙ cards_more (with_card log x) xs i d (omega (arith, lt))
+    ap (λ k. with_dirty_cards log (take k (x ∷ xs))) (let e : suc i + 1 ≡ suc (i + 1) = omega arith in e) ∙ cards_more (with_dirty_card log x) xs i d (omega (arith, lt))
 
 -- distinct cards stand behind others as they are
 module _ (p : List ℕ) (x : ℕ) (xs : List ℕ) where
@@ -31,19 +31,19 @@ module _ (p : List ℕ) (x : ℕ) (xs : List ℕ) where
   apart (y ∷ l) o (inl e) = o.0 x (In-append_right l (x ∷ xs) x (inl refl)) e
   apart (y ∷ l) o (inr m) = apart l o.1 m
 
-  fresh : Ordered (λ c d. c ≢ d) (p ++ x ∷ xs) → with_card p x ≡ p ++ x ∷ []
+  fresh : Ordered (λ c d. c ≢ d) (p ++ x ∷ xs) → with_dirty_card p x ≡ p ++ x ∷ []
   fresh o = by (has p x) refl where
     by : (b : Bool) → has p x ≡ b → (if b then p else (p ++ x ∷ [])) ≡ p ++ x ∷ []
     by true e = absurd (apart p o (in_from_has p x e))
     by false e = refl
 
-behind : (p xs : List ℕ) → Ordered (λ c d. c ≢ d) (p ++ xs) → with_cards p xs ≡ p ++ xs
+behind : (p xs : List ℕ) → Ordered (λ c d. c ≢ d) (p ++ xs) → with_dirty_cards p xs ≡ p ++ xs
 behind p [] o = sym (append-nil p)
 behind p (x ∷ xs) o =
     let whole : (p ++ x ∷ []) ++ xs ≡ p ++ x ∷ xs = append_assoc p (x ∷ []) xs in
-    ap (λ l. with_cards l xs) (fresh p x xs o) ∙ behind (p ++ x ∷ []) xs (subst (Ordered (λ c d. c ≢ d)) (sym whole) o) ∙ whole
+    ap (λ l. with_dirty_cards l xs) (fresh p x xs o) ∙ behind (p ++ x ∷ []) xs (subst (Ordered (λ c d. c ≢ d)) (sym whole) o) ∙ whole
 
-pub cards_again : (xs : List ℕ) → AllPairs (λ c d. c ≢ d) xs → with_cards [] xs ≡ xs
+pub cards_again : (xs : List ℕ) → AllPairs (λ c d. c ≢ d) xs → with_dirty_cards [] xs ≡ xs
 cards_again xs distinct = behind [] xs (Ordered-from_pairs (λ c d. c ≢ d) xs distinct)
 
 all_in : (P : ℕ → Type 0) (xs : List ℕ) → All P xs → (x : ℕ) → In xs x → P x
@@ -81,14 +81,14 @@ module _ (h : Heap) (limits : IsWithinLimits h.geometry.w h.geometry.k h.geometr
         (Ordered-append (λ x y. x ≢ y) log (c ∷ []) (Ordered-from_pairs (λ x y. x ≢ y) log good.distinct) ((λ y k. absurd k), tt) (new none)) in
         record { used = all; distinct = distinct; count = few (log ++ c ∷ []) all distinct }
 
-    card_put : IsLog h (with_card log c)
+    card_put : IsLog h (with_dirty_card log c)
     card_put = by (has log c) refl where
       by : (b : Bool) → has log c ≡ b → IsLog h (if b then log else (log ++ c ∷ []))
       by true e = good
       by false e = one_more (λ m. let clash : true ≡ false = sym (has_from_in log c m) ∙ e in cc)
 
   -- used cards behind a log make a log
-  pub cards_put : (log cards : List ℕ) → IsLog h log → All (IsUsedCard h) cards → IsLog h (with_cards log cards)
+  pub cards_put : (log cards : List ℕ) → IsLog h log → All (IsUsedCard h) cards → IsLog h (with_dirty_cards log cards)
   cards_put log [] good used = good
   cards_put log (c ∷ cards) good used =
-      cards_put (with_card log c) cards (card_put log c good (used 0 0 (omega arith))) (λ k d lt. used (suc k) d (omega (arith, lt)))
+      cards_put (with_dirty_card log c) cards (card_put log c good (used 0 0 (omega arith))) (λ k d lt. used (suc k) d (omega (arith, lt)))

@@ -14,6 +14,9 @@ pub mod Rows
 pub mod Slots
 pub mod Logs
 pub mod Dirty
+pub mod StaleWords
+pub mod StaleSlots
+pub mod StaleImages
 pub mod Drafts
 pub mod Stages
 pub mod Assembled

@@ -14,6 +14,7 @@ pub mod Checks
 pub mod Drafted
 pub mod Cards
 pub mod Dirty
+pub mod Stale
 pub mod Laws
 pub mod Source
 pub mod Sink

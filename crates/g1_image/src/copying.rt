@@ -1,7 +1,7 @@
 //! Copies of an image: one that is equal to it, and one with more dirty cards.
 ghost use Rattle.std.specs.Prelude.{◌≡◌, ◌<◌, ℕ, [], All, AllPairs, ◌≢◌, map, length, slice_index, IfOk, IfSome, IfNone, IsTrue, ◌↔◌};
 ghost use Rattle.g1_image.specs.Image.{IsUsedCard, IsLog};
-ghost use Rattle.g1_image.specs.Dirty.{with_cards, with_log, dirtied};
+ghost use Rattle.g1_image.specs.Dirty.{with_dirty_cards, with_log, dirtied};
 
 use crate::image::Image;
 use g1_words::Heap;
@@ -32,7 +32,7 @@ fn copy_sets(alloc: Global, sets: &[Vec<u32>]) -> Result<Vec<Vec<u32>>, AllocErr
 
 /// Puts cards behind those of a log, each unless it is there already.
 fn put_cards(log: &mut IndexSet<u32>, cards: &[u32]) -> Result<(), AllocError>
-    ensures { IfOk result (λ u. log.new.keys ≡ with_cards log.old.keys cards.now) }
+    ensures { IfOk result (λ u. log.new.keys ≡ with_dirty_cards log.old.keys cards.now) }
 {
     for card in cards {
         log.insert(*card)?;
