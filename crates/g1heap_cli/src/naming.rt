@@ -67,18 +67,19 @@ fn add_runs(
     slots: &[u64],
 ) -> Result<(), AllocError> {
     let mut word = word_at(heap.roots(), root);
+    let mut step = String::new(alloc);
     for slot in slots {
-        let mut step = String::new(alloc);
+        step.clear();
         push_step(&mut step, heap, names, word.saturating_sub(1), *slot)?;
-        add_step(runs, step)?;
+        add_step(alloc, runs, step.as_str())?;
         word = word_at(heap.words(), word.saturating_add(*slot));
     }
     Ok(())
 }
 
 // The third of equal steps makes one run of the two before it, each of which was alone.
-fn add_step(runs: &mut Vec<Run>, step: String) -> Result<(), AllocError> {
-    let is_third = is_pair(runs.as_slice(), step.as_str());
+fn add_step(alloc: Global, runs: &mut Vec<Run>, step: &str) -> Result<(), AllocError> {
+    let is_third = is_pair(runs.as_slice(), step);
     if is_third {
         runs.pop();
     }
@@ -87,11 +88,12 @@ fn add_step(runs: &mut Vec<Run>, step: String) -> Result<(), AllocError> {
             run.count = RUN;
             return Ok(());
         }
-        if run.count >= RUN && run.step == step {
+        if run.count >= RUN && run.step.as_str() == step {
             run.count = run.count.saturating_add(1);
             return Ok(());
         }
     }
+    let step = String::from_str(alloc, step)?;
     runs.push(Run { step, count: 1 })?;
     Ok(())
 }
