@@ -2,8 +2,9 @@
 """Tests of the tools that need no program of ours: test_tools.py [-v]
 
 Heap dumps are made here by hand, with identifiers of 4 and of 8 bytes, and the images expected of them were laid out by
-hand. Pages with a wrong output, a command that fails, a file left behind or a picture that changed have to fail.
-A picture is made of what a stand-in for g1pause says. The examples have to be those that examples/make.py makes.
+hand. Each image that is made of one is read and judged by tools/lib/image_text.py, and that by texts laid here. Pages with a wrong output, a command that fails, a file left behind or a picture that changed have to fail.
+A picture is made of what a stand-in for g1pause says. The collector of tools/opponent.py is tried on heaps laid by hand, and
+the walk of examples/ocaml on values of OCaml, if a compiler is there. The examples have to be those that examples/make.py makes.
 Tables of definitions and of the map that leave something out, or name what is not there, have to fail, and so does a definition
 that no clause cites; those of the repository have to pass.
 A release of lines of shell and a checkout are installed, each over the other, and uninstalled: nothing of them may stay.
@@ -31,9 +32,12 @@ sys.path[:0] = [str(TOP / "tools"), str(TOP / "tools" / "lib")]
 
 import check_pages  # noqa: E402
 import check_tables  # noqa: E402
+import heap_image  # noqa: E402
 import hprof2image  # noqa: E402
+import image_text  # noqa: E402
 import judge_opponent  # noqa: E402
 import manual  # noqa: E402
+import opponent  # noqa: E402
 import real_traces  # noqa: E402
 import release  # noqa: E402
 import stamp  # noqa: E402
@@ -115,13 +119,16 @@ def by_hand():
 
 
 def converted(data, region_words=16, card_words=4, regions=6, blank=False):
-    """The image of a dump, and what is reported."""
+    """The image of a dump, which has no fault, and what is reported."""
     dump = hprof2image.Dump(io.BytesIO(data))
     index = hprof2image.Index(dump)
     conversion = hprof2image.Conversion(dump, index, region_words, card_words, regions, blank)
     errors, image = io.StringIO(), io.BytesIO()
     agree = hprof2image.told(conversion, index, errors)
     conversion.image.write(image)
+    fault = image_text.fault_of(image.getvalue(), True)
+    if fault is not None:
+        raise AssertionError(f"the image has fault {fault}")
     return image.getvalue(), errors.getvalue(), agree
 
 
@@ -133,6 +140,34 @@ class Dumps(unittest.TestCase):
             self.assertTrue(agree)
             self.assertIn("8 objects, 6 references, 192 bytes of data with the sum", told)
             self.assertIn("1 references to what is not in the dump", told)
+
+    def made_of(self, *objects):
+        """The regions and the remembered sets of an image, which begins with three classes of six words: at 0, 6 and 16."""
+        make = Maker(8)
+        classes = make.kind(OBJECT, 0), make.kind(A, OBJECT, fields=[REFERENCE, INT]), make.kind(ARRAY, OBJECT)
+        image, _told, agree = converted(make.dump(b"".join([*classes, *objects])), regions=6)
+        self.assertTrue(agree)
+        _w, _k, _n, regions, _roots, _log, sets, _used, _current = image_text.read(image)
+        return [region[:2] for region in regions], sets
+
+    def test_a_set_has_each_card_of_the_slots_that_lead_in(self):
+        """By hand: objects of four words at 22, 26 and 32. The slots at 23 and 27, on the cards 5 and 6, reference the last
+        one; the slot at 17, of the third class, references the first class."""
+        make = Maker(8)
+        regions, sets = self.made_of(make.instance(0x100, A, 0x300, 7), make.instance(0x200, A, 0x300, 7), make.instance(0x300, A, 0, 7))
+        self.assertEqual((regions[:4], sets), ([(1, 12), (1, 14), (1, 4), (0, 0)], [[4], [], [5, 6], [], [], []]))
+
+    def test_a_set_rises_where_a_humongous_object_stands_above_a_later_one(self):
+        """By hand: an array of 13 words has region 2, and the object of four words behind it in the dump is at 22. The slots at
+        33 and 23, on the cards 8 and 5, reference the first class."""
+        make = Maker(8)
+        regions, sets = self.made_of(make.objects(0x100, ARRAY, OBJECT, *[0] * 10), make.instance(0x200, A, OBJECT, 7))
+        self.assertEqual((regions[:4], sets), ([(1, 12), (1, 10), (2, 13), (0, 0)], [[4, 5, 8], [], [], [], [], []]))
+
+    def test_an_object_of_three_quarters_of_a_region_is_not_humongous(self):
+        make = Maker(8)
+        self.assertEqual(self.made_of(make.objects(0x100, ARRAY, *[0] * 10))[0][:4], [(1, 12), (1, 6), (1, 12), (0, 0)])
+        self.assertEqual(self.made_of(make.objects(0x100, ARRAY, *[0] * 11))[0][:4], [(1, 12), (1, 6), (2, 13), (0, 0)])
 
     def test_a_blank_image_has_labels_and_no_data(self):
         words = [word for part in WORDS for word in part]
@@ -460,6 +495,24 @@ print({{"show": "heap 16 4 4 roots 1 dirty 0 current none\\nregion 0 " + ("free 
   "live": "region 0 live 0\\nregion 1 live 0\\nregion 2 live 16\\nregion 3 live 0"}}[sys.argv[1]])
 """
 
+# A dead humongous object of 20 words, and one of 20 words of which nothing is said to be dead.
+HUMONGOUS = """#!{python}
+import sys
+print({{"show": "heap 16 4 5 roots 1 dirty 0 current none\\nregion 0 humongous top 16 objects 1 cards 0\\n"
+  "region 1 continuation top 4 objects 0 cards 0\\nregion 2 humongous top 16 objects 1 cards 0\\n"
+  "region 3 continuation top 4 objects 0 cards 0\\nregion 4 free top 0 objects 0 cards 0",
+  "live": "region 0 live 0\\nregion 1 live 0\\nregion 2 live 160\\nregion 3 live 0\\nregion 4 live 0"}}[sys.argv[1]])
+"""
+
+# Region 0 receives what survives of region 1.
+FILLED = """#!{python}
+import sys
+new = open(0, "rb").read(1) != b""
+free, used = "free top 0 objects 0 cards 0", "ordinary top 2 objects 1 cards 0"
+print({{"show": "heap 16 4 2 roots 1 dirty 0 current none\\nregion 0 " + (used if new else free) + "\\nregion 1 " + (free if new else used),
+  "live": "region 0 live 0\\nregion 1 live 0"}}[sys.argv[1]])
+"""
+
 LARGE = """#!{python}
 print("heap 16 4 65 roots 0 dirty 0 current none")
 """
@@ -469,6 +522,9 @@ import sys
 print("heap 16 4 1 roots 0 dirty 0 current none")
 print({{"print": "region 0 free top 0 objects 0 cards 0", "explain": "set -"}}[sys.argv[1]])
 """
+
+# What explain is asked stands in its line.
+ASKED = STEPS.replace('"set -"', '" ".join(sys.argv[3:])')
 
 
 class Pictures(unittest.TestCase):
@@ -500,6 +556,57 @@ class Pictures(unittest.TestCase):
         self.assertIn("<title>region 2 ordinary, top 8, live 25%, 4 cards, pinned, cost 1, taken</title>", text)
         self.assertIn("<title>region 3 free</title>", text)
         self.assertIn("<title>region 1 continuation, top 4, live 100%, 0 cards</title>", text)
+
+    def boxes(self, text, name):
+        """The rectangles of a class in the picture, without the legend: left, top, width and height of each."""
+        path = re.search(rf'<path class="{name}" d="([^"]+)"', text)
+        found = re.findall(r"M([\d.]+) ([\d.]+)h([\d.]+)v([\d.]+)h-", path[1]) if path else []
+        return [tuple(map(float, box)) for box in found if box[2:] != ("13", "13")]
+
+    def assert_near(self, found, expected):
+        self.assertEqual(len(found), len(expected))
+        for number, other in zip(found, expected):
+            self.assertAlmostEqual(number, other, delta=0.03)
+
+    def test_words_stand_on_the_floor_as_high_as_they_are_many(self):
+        """Of region 2, of 16 words, two are live and six are garbage."""
+        text = self.picture()
+        (left, top, width, side), = self.boxes(text, "ordinary")
+        (live,), (garbage,) = self.boxes(text, "live-ordinary"), self.boxes(text, "garbage-ordinary")
+        self.assert_near(live, (left, top + side - side * 2 / 16, width, side * 2 / 16))
+        self.assert_near(garbage, (left, top + side - side * 8 / 16, width, side * 6 / 16))
+
+    def test_bars_compare_the_sets_of_regions(self):
+        """Region 0 remembers one card and region 2 four, which is the most."""
+        text = self.picture()
+        (_, top, _, side), = self.boxes(text, "ordinary")
+        bars = self.boxes(text, "cards")
+        self.assert_near([height for *_, height in bars], [side / 4, side])
+        self.assert_near([bar[1] + bar[3] for bar in bars], [top + side, top + side])
+
+    def test_each_region_of_a_humongous_object_is_live_or_garbage(self):
+        text = self.run_picture(says=HUMONGOUS, check=True).stdout
+        self.assertIn("live 20 words, garbage 20, free 40", text)
+        cells = self.boxes(text, "humongous")
+        garbage, live = self.boxes(text, "garbage-humongous"), self.boxes(text, "live-humongous")
+        side = cells[0][3]
+        self.assertEqual([box[0] for box in garbage + live], [box[0] for box in cells])
+        self.assert_near([height for *_, height in garbage + live], [side, side / 4] * 2)
+        self.assertIn("<title>region 1 continuation, top 4, live 0%, 0 cards</title>", text)
+        self.assertIn("<title>region 3 continuation, top 4, live 100%, 0 cards</title>", text)
+
+    def test_region_0_may_be_filled(self):
+        text = self.run_picture("{room}/after", says=FILLED, check=True).stdout
+        self.assertEqual([text.count(f'class="{name}"') for name in ("filled", "freed")], [2, 2])  # and in the legend
+        _before, (left, top, _, _) = self.boxes(text, "ordinary")
+        x, y, line = map(float, re.search(r'class="filled" x="([\d.]+)" y="([\d.]+)"[^>]*stroke-width="([\d.]+)"', text).groups())
+        self.assert_near((x, y), (left + line / 2, top + line / 2))
+
+    def test_the_steps_are_those_of_the_choice(self):
+        for words, asked in (("--budget 5", "--budget 5"), ("--set 0", "--set 0"), ("--budget 70 --card 7 --byte 0", "--card 7 --byte 0 --budget 70"),
+                             ("", "")):
+            text = self.run_picture("--steps", "--g1heap", "{program}", *words.split(), says=ASKED, check=True).stdout
+            self.assertIn(f'"explain":["heap 16 4 1 roots 0 dirty 0 current none","{asked}"]', text)
 
     def test_frames_of_neighbours_do_not_touch(self):
         frames = re.findall(r'class="set" x="([0-9.]+)" y="[0-9.]+" width="([0-9.]+)"[^>]*stroke-width="([0-9.]+)"', self.picture("--set", "0,1"))
