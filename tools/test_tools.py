@@ -15,6 +15,7 @@ import contextlib
 import io
 import os
 import pathlib
+import random
 import re
 import shlex
 import shutil
@@ -795,6 +796,217 @@ sys.exit(not verdict.startswith("same"))
         for words in (["perl"], ["--depth", "2"], ["--depth", "many"]):
             done = subprocess.run([TOP / "examples/runtimes/judge.py", *words], capture_output=True, text=True, check=False, timeout=60)
             self.assertEqual((done.returncode, done.stdout), (2, ""), words)
+
+
+@unittest.skipUnless(shutil.which("ocamlopt") and shutil.which("cc"), "no ocamlopt")
+class OcamlWalk(unittest.TestCase):
+    """The walk of examples/ocaml, compiled, on values of which it is known by hand what they reference."""
+
+    VALUES = """
+external walk : string -> 'a -> int = "g1_walk"
+type two = First of int | Second of int
+let rec even n = n = 0 || odd (n - one)
+and odd n = n <> 0 && even (n - one)
+and one = 1
+let closures k = let rec f x = if x = 0 then k else g (x - 1) and g x = if x = 0 then k else f (x - 1) in (f, g)
+let () =
+  ignore (even 2);
+  let f, g = closures (Array.length Sys.argv) in
+  Printf.printf "%d %d %d\n" (walk "pair.txt" (f, g)) (walk "first.txt" (First Sys.word_size)) (walk "second.txt" (Second Sys.word_size))
+"""
+
+    def setUp(self):
+        room = tempfile.TemporaryDirectory()
+        self.addCleanup(room.cleanup)
+        self.folder = pathlib.Path(room.name)
+        version = subprocess.run(["ocamlopt", "-version"], capture_output=True, text=True, check=True).stdout
+        if not re.match(r"4\.1[3-9]\.", version):
+            self.skipTest(f"the walk is for OCaml 4.13 and later 4.x, and ocamlopt is {version.strip()}")
+
+    def compiled(self, *files):
+        for file in files:
+            shutil.copy(TOP / "examples/ocaml" / file, self.folder)
+        ml = [file for file in ("values.ml", "judge.ml") if (self.folder / file).exists()]
+        subprocess.run(["ocamlopt", "-o", "program", "walk_stubs.c", *ml], cwd=self.folder, capture_output=True, check=True)
+
+    def run_program(self, *words):
+        return subprocess.run([self.folder / "program", *words], cwd=self.folder, capture_output=True, text=True, check=True, timeout=60).stdout
+
+    def objects(self, name):
+        """Each object of a file: its sizes and words, with names by the order of the objects."""
+        lines = [line.split() for line in (self.folder / name).read_text().splitlines()]
+        numbers = {line[1]: f"o{at}" for at, line in enumerate(line for line in lines if line[0] == "object")}
+        found = []
+        for line in (line for line in lines if line[0] == "object"):
+            slots = int(line[2].split("/")[1])
+            found.append([line[2], *(numbers.get(word, word) for word in line[3:3 + slots]), *line[3 + slots:]])
+        return found
+
+    def test_closures_in_one_block_are_one_object_and_tags_are_compared(self):
+        (self.folder / "values.ml").write_text(self.VALUES)
+        self.compiled("walk_stubs.c")
+        self.assertEqual(self.run_program(), "2 1 1\n")
+        pair, closure = self.objects("pair.txt")
+        self.assertEqual(pair, ["6/2", "o1", "o1", "0", "0", "0"])  # both functions are in the one block, whose tag is 247
+        sizes, *words = closure
+        self.assertEqual(words[int(sizes.split("/")[1])], "247")
+        # The field is the immediate 64, which is written as 129; tags count constructors.
+        self.assertEqual(self.objects("first.txt"), [["4/1", "-", "0", "129"]])
+        self.assertEqual(self.objects("second.txt"), [["4/1", "-", "1", "129"]])
+
+    def test_the_change_of_the_example_is_one_slot(self):
+        self.compiled("walk_stubs.c", "judge.ml")
+        self.run_program("3")
+        before, *same, changed = [self.objects(f"{name}.txt") for name in ("before", "minor", "major", "compact", "changed")]
+        for objects in same:
+            self.assertEqual(objects, before)
+        differ = [(old, new) for old, new in zip(before, changed) if old != new]
+        self.assertTrue(differ)
+        old, new = differ[0]
+        slots = int(old[0].split("/")[1])
+        self.assertEqual(old[0], new[0])
+        self.assertNotEqual(old[1:1 + slots], new[1:1 + slots])
+
+
+class Texts(unittest.TestCase):
+    """What tools/lib/image_text.py says of texts that are laid here by numbers. Regions have 16 words and cards have 4."""
+
+    # Region 0 has an object whose slots reference the object of region 1 and the humongous one of regions 2 and 3, and one
+    # whose slot references the first of these, too. The heading: sizes, roots, dirty cards, current.
+    GOOD = {"heading": [16, 4, 5, 1, 1, 0], "table": [[1, 11, 0], [1, 2, 1], [2, 16, 0], [3, 4, 0], [0, 0, 0]], "roots": [17],
+            "log": [8], "sets": [[], [0, 1], [0], [], []],
+            "words": [[header(4, 2), 17, 33, 5, header(7, 1), 17, *[0] * 5], [header(2, 0), 9], [header(20, 1), *[0] * 15], [0] * 4, []]}
+
+    def fault(self, cover=True, magic=b"G1IMAGE2", **changed):
+        parts = {**self.GOOD, **changed}
+        out = [magic, struct.pack("<6I", *parts["heading"]), *(struct.pack("<3I", *row) for row in parts["table"])]
+        out += [struct.pack("<Q", word) for word in parts["roots"]] + [struct.pack("<I", card) for card in parts["log"]]
+        out += [struct.pack(f"<{1 + len(cards)}I", len(cards), *cards) for cards in parts["sets"]]
+        out += [struct.pack("<Q", word) for words in parts["words"] for word in words]
+        return image_text.fault_of(b"".join(out), cover)
+
+    def with_row(self, number, *row):
+        return {"table": [list(row) if at == number else other for at, other in enumerate(self.GOOD["table"])]}
+
+    def with_set(self, number, *cards):
+        return {"sets": [list(cards) if at == number else other for at, other in enumerate(self.GOOD["sets"])]}
+
+    def with_word(self, address, word):
+        words = [part[:] for part in self.GOOD["words"]]
+        words[address // 16][address % 16] = word
+        return {"words": words}
+
+    def test_a_good_text_is_an_images(self):
+        self.assertIsNone(self.fault())
+        self.assertIsNone(self.fault(log=[4], **self.with_set(1, 0, 1, 8)))  # stale cards
+        self.assertIsNone(self.fault(log=[1], **self.with_set(1, 0)))  # a dirty card covers
+
+    def test_each_rule_on_cards_is_kept(self):
+        for number, cards in ((1, (0, 0, 1)), (1, (1, 0)), (1, (0, 1, 4)), (1, (0, 1, 16)), (1, (0, 1, 20)), (3, (0,)), (4, (0,)), (0, (1,))):
+            self.assertEqual(self.fault(**self.with_set(number, *cards)), f"8: card of region {number}", cards)
+        for log, place in (([16], 0), ([20], 0), ([8, 8], 1), ([8, 0, 8], 2)):
+            self.assertEqual(self.fault(log=log, heading=[16, 4, 5, 1, len(log), 0]), f"8: card in log place {place}", log)
+
+    def test_only_a_card_of_the_slot_covers_it(self):
+        for cards, slot in (((), 1), ((0,), 5), ((1,), 1)):
+            changed = self.with_set(1, *cards)
+            self.assertEqual(self.fault(**changed), f"9: uncovered slot {slot}", cards)
+            self.assertIsNone(self.fault(False, **changed), cards)
+        self.assertEqual(self.fault(**self.with_set(2)), "9: uncovered slot 2")
+
+    def test_only_ordinary_regions_are_pinned(self):
+        for number, row in ((2, (2, 16, 1)), (3, (3, 4, 1)), (4, (0, 0, 1)), (0, (1, 11, 2))):
+            self.assertEqual(self.fault(**self.with_row(number, *row)), f"16: flags of region {number}")
+
+    def test_kinds_tops_and_current_are_judged(self):
+        for number, row in ((0, (4, 11, 0)), (4, (5, 0, 0))):
+            self.assertEqual(self.fault(**self.with_row(number, *row)), f"5: kind of region {number}")
+        self.assertEqual(self.fault(heading=[16, 4, 5, 1, 1, 2]), "6: shape of region 2")
+        self.assertEqual(self.fault(heading=[16, 4, 5, 1, 1, 4]), "6: shape of region 4")
+        self.assertIsNone(self.fault(heading=[16, 4, 5, 1, 1, 5]))
+        for address, word, number in ((0, header(5, 2), 0), (4, header(8, 1), 0), (16, header(13, 0), 1), (32, header(33, 1), 2), (32, header(12, 1), 2),
+                                      (32, header(20, 20), 2), (0, header(4, 4), 0), (0, 0, 0)):
+            self.assertEqual(self.fault(**self.with_word(address, word)), f"6: shape of region {number}", (address, word))
+
+    def test_references_lead_to_objects(self):
+        for root in (1 + 1, 6 + 1, 64 + 1, 2**64 - 1):
+            self.assertEqual(self.fault(roots=[root]), "7: reference in root 0", root)
+        for word in (18, 49, 65, 2**64 - 1):
+            self.assertEqual(self.fault(**self.with_word(5, word)), "7: reference in slot 5", word)
+        self.assertIsNone(self.fault(roots=[0]))
+
+    def test_sizes_and_lengths_are_judged(self):
+        self.assertEqual(self.fault(magic=b"G1IMAGE3"), "1: magic")
+        for at, number in ((0, 24), (1, 32), (1, 2), (2, 0), (2, 4097), (3, 65537), (5, 6)):
+            heading = self.GOOD["heading"][:]
+            heading[at] = number
+            self.assertEqual(self.fault(heading=heading), "2: geometry", (at, number))
+        self.assertEqual(self.fault(heading=[16, 4, 5, 1, 2**32 - 1, 0]), "3: short")
+        self.assertEqual(self.fault(words=self.GOOD["words"][:3]), "3: short")
+        self.assertEqual(self.fault(words=[*self.GOOD["words"], [0]]), "4: trailing")
+
+
+class Heaps(unittest.TestCase):
+    """tools/lib/heap_image.py and the collector of tools/opponent.py, on a heap that is laid here."""
+
+    def setUp(self):
+        """Two slots of region 0, on the cards 0 and 2, reference the object of region 1, which a root references, too. Region
+        2 is pinned."""
+        image = self.image = heap_image.Image(16, 4, 5)
+        image.words[0:4] = [header(4, 2), 17, 0, 5]
+        image.words[4:10] = [header(6, 4), 0, 0, 0, 17, 6]
+        image.words[16:18] = [header(2, 0), 9]
+        image.words[32:34] = [header(2, 1), 33]
+        image.kinds[:3], image.tops[:3] = [1, 1, 1], [10, 2, 2]
+        image.roots, image.sets[1], image.log, image.current, image.pinned[2] = [17, 33], [0, 2], [9, 4], 0, True
+
+    def test_an_image_comes_back_from_its_bytes(self):
+        self.assertIsNone(image_text.fault_of(self.image.to_bytes(), True))
+        for current in (0, 1, 2, None):
+            self.image.current = current
+            again = heap_image.from_bytes(self.image.to_bytes())
+            self.assertEqual(vars(again), vars(self.image))
+
+    def test_an_image_of_version_1_has_no_pins(self):
+        self.image.pinned[2] = False
+        data = self.image.to_bytes()
+        table = b"".join(data[32 + 12 * region:40 + 12 * region] for region in range(5))
+        again = heap_image.from_bytes(b"G1IMAGE1" + data[8:32] + table + data[92:])
+        self.assertEqual(vars(again), vars(self.image))
+
+    def test_exact_sets_have_each_card_of_the_slots_that_lead_in(self):
+        self.image.sets = [[9], [], [0], [], []]
+        self.image.make_exact()
+        self.assertEqual(self.image.sets, [[], [0, 2], [], [], []])
+
+    def test_what_no_pause_collects_is_refused(self):
+        self.image.kinds[3:], self.image.tops[3:] = [2, 3], [16, 4]
+        self.image.words[48] = header(20, 0)
+        self.assertEqual([opponent.refused(self.image, region) for region in range(-1, 6)], [True, False, False, True, True, True, True])
+        self.image.kinds[1] = 0
+        self.assertTrue(opponent.refused(self.image, 1))
+
+    def test_the_opponent_leaves_an_image_after_a_pause(self):
+        for seed in range(20):
+            collector = opponent.Opponent(self.image, [1], random.Random(seed))
+            after = collector.evacuate()
+            self.assertIsNone(image_text.fault_of(after.to_bytes(), True))
+            to = collector.copies[16]
+            self.assertIn(to // 16, (3, 4))
+            self.assertEqual((after.roots, after.words[1], after.words[8], after.words[to:to + 2]), ([to + 1, 33], to + 1, to + 1, [header(2, 0), 9]))
+            self.assertEqual((after.kinds[1], after.tops[1], after.words[16:32]), (0, 0, [0] * 16))
+            self.assertEqual((after.log, after.current, after.pinned), ([], None, [False, False, True, False, False]))
+            self.assertEqual(after.sets[to // 16], [0, 2])
+            self.assertEqual(after.words[32:34], [header(2, 1), 33])
+        self.assertEqual(self.image.current, 0)  # the image before is as it was
+
+    def test_the_script_refuses_a_pinned_region(self):
+        with tempfile.TemporaryDirectory() as room:
+            (pathlib.Path(room) / "image").write_bytes(self.image.to_bytes())
+            words = [sys.executable, str(TOP / "tools/opponent.py"), "image", "after", "--set"]
+            for region, status in (("2", 1), ("3", 1), ("1", 0)):
+                done = subprocess.run([*words, region], cwd=room, capture_output=True, text=True, check=False)
+                self.assertEqual((done.returncode, (pathlib.Path(room) / "after").exists()), (status, status == 0), done.stderr)
 
 
 class Opponents(unittest.TestCase):
