@@ -96,18 +96,24 @@ class Opponent:
                     yield from image.slots(address)
 
     def evacuate(self):
-        image, words = self.image, self.image.words
+        words = self.image.words
         outside = [slot for slot in self.slots_outside() if self.leads_in(words[slot])]
-        waiting = [words[slot] - 1 for slot in outside] + [w - 1 for w in image.roots if self.leads_in(w)]
+        self.copy_all([words[slot] - 1 for slot in outside] + [w - 1 for w in self.image.roots if self.leads_in(w)])
+        for worker in self.workers:
+            worker.retire()
+        self.update(outside)
+        self.free_set()
+        self.remember()
+        return self.image
+
+    def copy_all(self, waiting):
+        """Copies these objects and all of the set that they lead to, in a random order."""
+        image, words = self.image, self.image.words
         while waiting:
             address = waiting.pop(self.rng.randrange(len(waiting)))
             if address not in self.copies:
                 self.copies[address] = self.copy(address)
                 waiting += [words[slot] - 1 for slot in image.slots(address) if self.leads_in(words[slot])]
-        for worker in self.workers:
-            worker.retire()
-        self.update(outside)
-        return image
 
     def copy(self, address):
         size = self.image.size(address)
@@ -119,15 +125,21 @@ class Opponent:
         return self.copies[word - 1] + 1 if self.leads_in(word) else word
 
     def update(self, outside):
-        image, width = self.image, self.image.region_words
+        image = self.image
         image.roots = [self.forward(word) for word in image.roots]
         for slot in outside + [slot for to in self.copies.values() for slot in image.slots(to)]:
             image.words[slot] = self.forward(image.words[slot])
+
+    def free_set(self):
+        image, width = self.image, self.image.region_words
         for region in self.chosen:
             image.kinds[region], image.tops[region] = FREE, 0
             image.words[region * width:(region + 1) * width] = [0] * width
-        image.log, image.current = [], None
-        image.make_exact()
+
+    def remember(self):
+        """The sets after: all cards that a reference into a region lies on, and no others."""
+        self.image.log, self.image.current = [], None
+        self.image.make_exact()
 
 
 def main():
