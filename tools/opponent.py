@@ -12,6 +12,7 @@ So the image after is not the one that g1pause gives, and yet shows the same gra
 import argparse
 import pathlib
 import random
+import struct
 import sys
 
 sys.path.insert(0, str(pathlib.Path(__file__).resolve().parent / "lib"))
@@ -140,7 +141,12 @@ def main():
     parser.add_argument("--buffer", type=int, default=12, metavar="WORDS")
     parser.add_argument("--fill", action="store_true")
     options = parser.parse_args()
-    image = from_bytes(pathlib.Path(options.image).read_bytes())
+    try:
+        image = from_bytes(pathlib.Path(options.image).read_bytes())
+    except OSError as error:
+        parser.error(f"{options.image}: {error.strerror}")
+    except (IndexError, struct.error):
+        parser.error(f"{options.image} is no image")
     for region in options.set:
         if refused(image, region):
             sys.exit(f"no pause collects region {region} of {options.image}")

@@ -14,6 +14,7 @@ import tempfile
 
 sys.path.insert(0, str(pathlib.Path(__file__).resolve().parent / "lib"))
 
+import progress  # noqa: E402
 from programs import add_driver, add_program  # noqa: E402
 from refusing import BEGIN, END, Judge, compiled  # noqa: E402
 
@@ -145,6 +146,7 @@ def main():
     add_driver(parser, nargs="?")
     options = parser.parse_args()
     judge = Judge()
+    progress.show("tried", lambda: judge.passed)
     with tempfile.TemporaryDirectory() as room:
         try_programs(judge, pathlib.Path(room), options.binary)
         if options.driver:
