@@ -40,6 +40,10 @@ from hostile import INPUTS
 import plot
 
 HERE = pathlib.Path(__file__).resolve().parent
+sys.path.insert(0, str(HERE.parent / "tools" / "lib"))
+
+import progress  # noqa: E402 (it is in tools/lib/)
+
 MB, MS = 1_000_000, 1000
 MAGIC = b"G1IMAGE"
 BEGIN, END = "<!-- figures begin -->", "<!-- figures end -->"
@@ -503,6 +507,7 @@ def main():
         bench = Bench(options, room)
         lines = []
         begin, day = load(), time.strftime("%Y-%m-%d", time.gmtime())
+        progress.show("answers", lambda: bench.same + bench.other + bench.unended)
         run_tables(options, bench, room, lines)
         about = [f"Seen on {day} on {machine()}; load {begin} before and {load()} after (1, 5, 15 minutes). {options.rounds} round{'s' * (options.rounds > 1)}. "
                  f"The program's SHA-256 begins with {digest(bench.program)}, the reference's with {digest(bench.reference)}.",

@@ -14,6 +14,10 @@ import sys
 import tempfile
 
 HERE = pathlib.Path(__file__).resolve().parent
+sys.path.insert(0, str(HERE.parent / "tools" / "lib"))
+
+import progress  # noqa: E402 (it is in tools/lib/)
+
 OUT = HERE.parent / "out"
 MB = 1_000_000
 
@@ -51,15 +55,15 @@ def main():
     options = parser.parse_args()
     for program in (options.g1heap, options.g1pause):
         if not pathlib.Path(program).is_file():
-            parser.error(f"{program} is not there: build it by tools/build.py, or name it by --g1heap or --g1pause")
+            parser.error(f"{program} is not there: tools/build.py --unproved builds it, or name it by --g1heap or --g1pause")
     with tempfile.TemporaryDirectory() as folder:
         image, after = pathlib.Path(folder) / "before.img", pathlib.Path(folder) / "after.img"
-        for width in (65536, 4096):
+        for width in progress.over((65536, 4096), "heaps"):
             subprocess.run([sys.executable, str(HERE / "images.py"), str(width), str(image), "--seed", options.seed],
                            check=True, stdout=subprocess.DEVNULL)
             budget = paused(options.g1pause, image, after)
             live, same = [], []
-            for _ in range(options.rounds):
+            for _ in progress.over(range(options.rounds), "rounds"):
                 live.append(run([options.g1pause, "live"], image))
                 same.append(run([options.g1heap, "same", str(image), str(after)]))
             once, both = (statistics.median(cpu for cpu, _, _ in runs) for runs in (live, same))

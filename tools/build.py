@@ -6,11 +6,13 @@
 
 The programs are then out/g1pause and out/g1heap. Beside them is out/PROVED or out/UNPROVED, which says what they are,
 with the sums of the sources and of the programs. Where the programs are those of the sources, nothing is built again.
+The --version of a program without a proof says so, with the commit of its crates.
 
-While it proves, the screen has a line for each crate: its number of all, its name and the time that it took. What the
-prover says goes to out/build.log. All crates were proved in 23 minutes on four processors. A proof takes 6 GB of room on
-the disk, and no more crates are proved at once than there are 3 GB of free memory for. It may be interrupted: what is
-proved is kept, and the next call goes on from there.
+While it works, a line every few seconds says what it does and for how long, in place on a terminal. While it proves, the
+screen also has a line for each crate: its number of all, its name and the time that it took. What the prover says goes
+to out/build.log. All crates were proved in 23 minutes on four processors. A proof takes 6 GB of room on the disk, and no
+more crates are proved at once than there are 3 GB of free memory for. It may be interrupted: what is proved is kept, and
+the next call goes on from there.
 
 It needs the Rattle kit: its command `rt` on the path. Statuses: 0 built; 1 not proved or not built; 2 usage, or no
 rt; 130 interrupted.
@@ -19,6 +21,7 @@ import argparse
 import itertools
 import os
 import pathlib
+import re
 import shutil
 import subprocess
 import sys
@@ -27,7 +30,8 @@ from concurrent.futures import ThreadPoolExecutor
 
 sys.path.insert(0, str(pathlib.Path(__file__).resolve().parent / "lib"))
 
-import proving  # noqa: E402 (it is in lib/)
+import progress  # noqa: E402 (it is in lib/)
+import proving  # noqa: E402
 import stamp  # noqa: E402
 import unproved  # noqa: E402
 
@@ -42,13 +46,8 @@ def say(text):
     print(text, flush=True)
 
 
-def in_words(seconds):
-    seconds = round(seconds)
-    return f"{seconds // 60} min {seconds % 60} s" if seconds >= 60 else f"{seconds} s"
-
-
 def took(start):
-    return in_words(time.monotonic() - start)
+    return progress.in_words(time.monotonic() - start)
 
 
 def put(program, name, word):
@@ -63,19 +62,34 @@ def put(program, name, word):
     os.replace(new, OUT / name)
 
 
+def with_tree(name):
+    """The change by which a program's --version names the commit, and says that it is unproved."""
+    file = f"crates/{name}_cli/src/usage.rt"
+    version = re.search(r'version: "([^"]+)"', (TOP / file).read_text(encoding="utf-8"))
+    if not version:
+        raise unproved.NotBuilt(f"{file}: it has no version")
+    about = ", ".join(filter(None, [stamp.tree(), "unproved"]))
+    return file, version[0], f'version: "{version[1]} ({about})"'
+
+
 def build_unproved(jobs):
     """Builds both programs without any proof. Each is put into out/ as soon as it is built."""
     start, sums = time.monotonic(), stamp.sources()
+    stages = dict.fromkeys(stamp.PROGRAMS, "waits")
 
     def build(name):
         program = OUT / f"{name}.unproved"
-        unproved.build_unproved(CRATES / name, program)
+        unproved.build_changed(TOP, [with_tree(name)], name, program, lambda stage: stages.update({name: stage}))
         put(program, name, "UNPROVED")
         program.unlink()
+        del stages[name]
         say(f"out/{name} is built, in {took(start)}")
 
+    def how_far():
+        return ", ".join(f"{name} {stage}" for name, stage in list(stages.items()))
+
     say("building g1pause and g1heap without a proof, which takes a few minutes")
-    with ThreadPoolExecutor(min(jobs, len(stamp.PROGRAMS))) as pool:
+    with progress.doing("without a proof", how_far), ThreadPoolExecutor(min(jobs, len(stamp.PROGRAMS))) as pool:
         list(pool.map(build, stamp.PROGRAMS))
     stamp.write(OUT, "UNPROVED", stamp.kit(), sums, stamp.PROGRAMS)
     say(f"both are built. {NOT_PROVED}")
@@ -98,11 +112,11 @@ def build_proved(jobs):
     counted = itertools.count(1)
 
     def proved(name, seconds):
-        say(f"{next(counted):3} of {len(names)}  {name:12} {in_words(seconds)}")
+        say(f"{next(counted):3} of {len(names)}  {name:12} {progress.in_words(seconds)}")
 
     say(f"proving {len(names)} crates; what the prover says is in out/build.log")
     proving.prove_all(TOP, names, jobs, proved)
-    for name in stamp.PROGRAMS:
+    for name in progress.over(stamp.PROGRAMS, "asking rt whether the programs are those of the sources"):
         ask_rt(name)
     if sums != stamp.sources():
         raise proving.Failed("the sources changed while they were proved: call it again")

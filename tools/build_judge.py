@@ -1,12 +1,26 @@
 #!/usr/bin/env python3
-"""build_judge.py [FOLDER]: makes libg1judge.a, the judge as a static library, in FOLDER (judge/out)
+"""Makes libg1judge.a, the judge as a static library: build_judge.py [--unproved] [--jobs N] [FOLDER]
 
-It has `rt lib` prove and compile the crate g1judge, with all crates below it, if they changed since they were last
-proved; compiles judge/memory.c, the three functions by which the proved code gets its memory; and puts both into one
-archive. $CC, $CFLAGS and $AR are the C compiler, its flags and the archiver (cc, -O2, ar). The last line says how many
-bytes the archive has.
-With --no-rt it takes the archive that `rt lib` left in crates/g1judge/out.
+  build_judge.py             proves the crate g1judge and all crates below it, and compiles them
+  build_judge.py --unproved  compiles them without any proof, at full speed, in two minutes
+
+Beside the compiled calls it puts judge/memory.c into the archive, the three functions by which they get their memory.
+The archive goes to FOLDER (judge/out). $CC, $CFLAGS and $AR are the C compiler, its flags and the archiver (cc, -O2, ar).
+The last line says how many bytes the archive has.
+
+In an archive without a proof, and in each program that is linked with it, `strings` finds
+'libg1judge: nothing is proved of it'. tools/release.py refuses it. Its calls are the same, and so is g1_version().
+
+While it works, a line every few seconds says what it does and for how long, in place on a terminal. While it proves, the
+screen also has a line for each crate, and what the prover says goes to out/build.log. It may be interrupted: what is
+proved is kept, and the next call goes on from there.
+With --no-rt it takes the archive that was last proved, from crates/g1judge/out.
+
+It needs the Rattle kit: its command `rt` on the path. Statuses: 0 made; 1 not proved or not made; 2 usage, or no rt;
+130 interrupted.
 """
+import argparse
+import itertools
 import os
 import pathlib
 import shlex
@@ -14,51 +28,147 @@ import shutil
 import subprocess
 import sys
 import tempfile
+import time
 
-TOP = pathlib.Path(__file__).resolve().parent.parent
+sys.path.insert(0, str(pathlib.Path(__file__).resolve().parent / "lib"))
+
+import progress  # noqa: E402 (it is in lib/)
+import proving  # noqa: E402
+import stamp  # noqa: E402
+import unproved  # noqa: E402
+
+TOP = stamp.TOP
 CRATE = TOP / "crates/g1judge"
+LOG = TOP / "out" / proving.LOG
+ARCHIVE = "libg1judge.a"
+# Each call is called once, so that rt try compiles it. What it is called with does not matter.
+TEST = """
+#[test]
+fn calls_each(rt: HostRuntime) {
+    let mut answer = Answer { image: 0, fault: 0, place: 0, kind: 0, at: 0, root: 0, slots: 0, before: 0, after: 0, first: 0, second: 0, third: 0, objects: 0, words: 0 };
+    let mut path = [0u64; 4];
+    let bytes = [0u8; 4];
+    let set = [0u32; 1];
+    let _ = g1_version();
+    let _ = g1_same(rt.alloc(), &bytes, &bytes, &mut path, &mut answer);
+    let _ = g1_image(rt.alloc(), &bytes, &mut answer);
+    let _ = g1_covered(rt.alloc(), &bytes, &mut answer);
+    let _ = g1_kept(rt.alloc(), &bytes, &bytes, &set, &mut answer);
+}
+"""
+MARK = "libg1judge: nothing is proved of it"
+NEEDS = {"memcpy", "memmove", "memset", "rattle_alloc", "rattle_realloc", "rattle_dealloc"}
+JUDGE = unproved.Library("g1judge", "crates/g1judge/src/exports.rt", TEST, NEEDS, MARK)
 
 
-def run(words, folder=TOP):
+class Failed(Exception):
+    """Why there is no archive."""
+
+
+def say(text):
+    print(text, flush=True)
+
+
+def run(words):
     """Runs a command; if it fails, its own lines say why, and one more says which it was."""
     try:
-        status = subprocess.run(words, cwd=folder).returncode
+        status = subprocess.run(words, cwd=TOP, check=False).returncode
     except OSError as error:
-        sys.exit(f"build_judge.py: {words[0]}: {error.strerror}")
+        raise Failed(f"{words[0]}: {error.strerror}") from None
     if status:
-        sys.exit(f"build_judge.py: {shlex.join(map(str, words))}: status {status}")
+        raise Failed(f"{shlex.join(map(str, words))}: status {status}")
 
 
-def build(out):
-    """The archive of the crate, with the object of memory.c put in beside it."""
-    proved = CRATE / "out/libg1judge.a"
-    if not proved.is_file():
-        sys.exit(f"build_judge.py: {proved.relative_to(TOP)} is missing: call without --no-rt")
-    out.mkdir(parents=True, exist_ok=True)
-    with tempfile.TemporaryDirectory() as room:
-        archive, memory = pathlib.Path(room, "libg1judge.a"), pathlib.Path(room, "memory.o")
-        shutil.copyfile(proved, archive)
-        flags = shlex.split(os.environ.get("CFLAGS", "-O2"))
-        run([*shlex.split(os.environ.get("CC", "cc")), "-std=c11", "-fPIC", *flags, "-I", TOP / "include", "-c",
-             TOP / "judge/memory.c", "-o", memory])
-        run([*shlex.split(os.environ.get("AR", "ar")), "rs", archive, memory])
-        shutil.copyfile(archive, out / "libg1judge.a")
-    return out / "libg1judge.a"
+def memory_object(room):
+    """The object of judge/memory.c."""
+    made = room / "memory.o"
+    flags = shlex.split(os.environ.get("CFLAGS", "-O2"))
+    run([*shlex.split(os.environ.get("CC", "cc")), "-std=c11", "-fPIC", *flags, "-I", TOP / "include", "-c",
+         TOP / "judge/memory.c", "-o", made])
+    return made
+
+
+def archive(room, *objects):
+    run([*shlex.split(os.environ.get("AR", "ar")), "rcs", room / ARCHIVE, *objects])
+
+
+def proved_archive():
+    """The archive that rt left, if there is one."""
+    found = CRATE / "out" / ARCHIVE
+    if not found.is_file():
+        raise Failed(f"{found.relative_to(TOP)} is missing: call without --no-rt")
+    return found
+
+
+def prove(jobs):
+    """Proves all crates of the judge. Then rt says in the crate itself that its archive is that of the sources."""
+    names, counted = stamp.needed(["g1judge"], stamp.rows()), itertools.count(1)
+
+    def proved(name, seconds):
+        say(f"{next(counted):3} of {len(names)}  {name:12} {progress.in_words(seconds)}")
+
+    LOG.parent.mkdir(exist_ok=True)
+    say(f"proving {len(names)} crates; what the prover says is in out/build.log")
+    proving.prove_all(TOP, names, jobs, proved)
+    with open(LOG, "a", encoding="utf-8") as log, progress.doing("asking rt whether the archive is that of the sources"):
+        done = subprocess.run(["rt", "lib"], cwd=CRATE, stdin=subprocess.DEVNULL, stdout=log, stderr=log, check=False)
+    if done.returncode:
+        raise Failed("g1judge is not proved: out/build.log says why, at its end")
+
+
+def build(options, room):
+    """Makes the archive in the room."""
+    if options.unproved:
+        say("building the judge without a proof, which takes two minutes")
+        stage = ["begins"]
+        with progress.doing("without a proof", lambda: f"g1judge {stage[0]}"):
+            unproved.build_library(TOP, JUDGE, room / "judge.o", lambda text: stage.__setitem__(0, text))
+        archive(room, room / "judge.o", memory_object(room))
+        return
+    if not options.no_rt:
+        prove(options.jobs)
+    shutil.copyfile(proved_archive(), room / ARCHIVE)
+    archive(room, memory_object(room))
+
+
+def arguments():
+    parser = argparse.ArgumentParser(description=__doc__, formatter_class=argparse.RawDescriptionHelpFormatter)
+    parser.add_argument("folder", metavar="FOLDER", nargs="?", type=pathlib.Path, default=TOP / "judge/out")
+    parser.add_argument("--unproved", action="store_true", help="without any proof, in two minutes")
+    parser.add_argument("--no-rt", action="store_true", help="take the archive that was last proved")
+    parser.add_argument("--jobs", metavar="N", type=int, default=os.cpu_count() or 1,
+                        help="at most N at a time (default: as many as there are processors)")
+    options = parser.parse_args()
+    if options.jobs < 1:
+        parser.error("--jobs is 1 or more")
+    if options.unproved and options.no_rt:
+        parser.error("--no-rt takes a proved archive, so it does not go with --unproved")
+    if not options.no_rt and not shutil.which("rt"):
+        parser.error("there is no rt on the path: it comes with the Rattle kit, in its folder bin/")
+    return options
 
 
 def main():
-    words = sys.argv[1:]
-    if "--help" in words:
-        return print(__doc__)
-    proves = "--no-rt" not in words
-    folders = [word for word in words if word != "--no-rt"]
-    if len(folders) > 1 or any(word.startswith("-") for word in folders):
-        sys.exit("usage: build_judge.py [--no-rt] [FOLDER]")
-    if proves:
-        run(["rt", "lib"], CRATE)
-    made = build(pathlib.Path(folders[0]) if folders else TOP / "judge/out")
-    print(f"{made}: {made.stat().st_size} bytes")
+    options, begun = arguments(), time.monotonic()
+    try:
+        with tempfile.TemporaryDirectory() as folder:
+            build(options, pathlib.Path(folder))
+            options.folder.mkdir(parents=True, exist_ok=True)
+            made = options.folder / ARCHIVE
+            new = made.with_name(f"{ARCHIVE}.new")
+            shutil.copyfile(pathlib.Path(folder, ARCHIVE), new)
+            os.replace(new, made)
+    except (Failed, proving.Failed, unproved.NotBuilt) as error:
+        print(f"build_judge.py: {error}", file=sys.stderr)
+        return 1
+    except KeyboardInterrupt:
+        print("build_judge.py: interrupted; what is proved is kept for the next call", file=sys.stderr)
+        return 130
+    took = progress.in_words(time.monotonic() - begun)
+    proof = ", and nothing is proved of it: tools/build_judge.py proves it" if options.unproved else ""
+    print(f"{made}: {made.stat().st_size} bytes, in {took}{proof}")
+    return 0
 
 
 if __name__ == "__main__":
-    main()
+    sys.exit(main())

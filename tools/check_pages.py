@@ -7,7 +7,8 @@ the built programs, and takes those of out/, which tools/build.py builds, or tho
 What is a command: a block of code (indented by four spaces, or fenced) whose first word is one of those in
 tools/lib/pages.py. Each of its lines is run by itself, except that some go on: after a backslash at their end, or up
 to the last line of a <<END. What such a line is to print is in the block directly behind it, with only empty lines between:
-standard output and standard error together. A command with no such block has to end with status 0.
+standard output and standard error together, without the lines by which a script says how far it is. A command with no
+such block has to end with status 0.
   <!-- figures vary -->        above that block: numbers in it may be others
   <!-- not run: WHY -->        above a block of commands: it is left out, which is said
   <!-- needs: PROGRAM .. -->   anywhere: the page is left out if one of these is not on the path, which is said
@@ -36,6 +37,7 @@ import tempfile
 sys.path.insert(0, str(pathlib.Path(__file__).resolve().parent / "lib"))
 
 import pages  # noqa: E402 (it is in lib/)
+import progress  # noqa: E402
 import stamp  # noqa: E402
 
 TOP = stamp.TOP
@@ -66,7 +68,7 @@ def judge(step, folder, at):
     if not status_file.exists():
         return "was not reached"
     status = int(status_file.read_text())
-    printed = (folder / f"{at}.out").read_text(errors="replace").splitlines()
+    printed = progress.without_signs((folder / f"{at}.out").read_text(errors="replace").splitlines())
     if step.expected is None:
         return None if status == 0 else f"ended with status {status}: {' / '.join(printed[:3])}"
     if same_lines(step.expected, printed, step.vary):
@@ -217,7 +219,7 @@ def missing(text, programs):
 def check_all(files, programs):
     """How many things of these pages are right, and what is wrong."""
     ran, wrong, scripts = 0, [], set()
-    for page in files:
+    for page in progress.over(files, "pages"):
         name = str(page.relative_to(TOP)) if TOP in page.parents else str(page)
         text = page.read_text()
         scripts |= {script for _, script in pages.scripts_in(text)

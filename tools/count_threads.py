@@ -16,6 +16,7 @@ import tempfile
 
 sys.path.insert(0, str(pathlib.Path(__file__).resolve().parent / "lib"))
 
+import progress  # noqa: E402
 from images import SHARED, SHARED_AFTER, all_dirty, numbers  # noqa: E402
 from image_text import in_version_two  # noqa: E402
 from programs import add_driver  # noqa: E402
@@ -109,6 +110,7 @@ def main():
         print("one processor: nothing is counted")
         return 0
     judge = Judge()
+    progress.show("tried", lambda: judge.passed)
     with tempfile.TemporaryDirectory() as room:
         folder = pathlib.Path(room)
         words = ["-shared", "-fPIC", f"-DBEGIN={BEGIN}", f"-DEND={END}"]

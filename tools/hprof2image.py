@@ -47,8 +47,9 @@ are its roots, so that `g1heap same` can compare two dumps of one program:
 With --blank all primitive data are zeros, in the same number of words. A dump holds all strings of its program, names
 and secrets too: an image that others are to see should have none of them.
 
-Standard error has what was counted in the dump and what in the finished image; they have to agree. On a terminal, and
-with --progress, it says how far the work is.
+Standard error has what was counted in the dump and what in the finished image; they have to agree. If the work takes
+longer than a few seconds, it also says how far it is: in place on a terminal, else a line every four seconds, or with
+--progress every two.
 Statuses: 0 done; 1 the counts do not agree; 2 usage, a field that is not there, or W, K or N out of its range; 3 the
 file is no such dump; 4 a reference leads to nothing; 5 the objects do not fit; 6 a file can't be read or written, or
 there is too little memory. If the status is not 0, no image is written, except for a beginning of it if the writing failed.
@@ -463,7 +464,7 @@ def convert(options, output, errors):
         check_limits(*options.sizes)
     if output.isatty():
         raise Refusal(2, "standard output is a terminal: add > IMAGE")
-    progress = Progress(errors, options.progress)
+    progress = Progress(options.progress)
     try:
         index, conversion = made(options, progress)
     finally:
@@ -488,7 +489,7 @@ def arguments():
                         help="take a reference to what the dump does not have as null")
     parser.add_argument("--names", metavar="FILE", help="write the names of roots, types and objects")
     parser.add_argument("--blank", action="store_true", help="zeros in place of primitive data")
-    parser.add_argument("--progress", action="store_true", help="say how far the work is, also if this is no terminal")
+    parser.add_argument("--progress", action="store_true", help="say how far the work is every two seconds, and not every four")
     options = parser.parse_args()
     if len(options.sizes) not in (0, 3):
         parser.error("W, K and N are given together, or none of them")

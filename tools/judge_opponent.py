@@ -26,6 +26,7 @@ import tempfile
 
 sys.path.insert(0, str(pathlib.Path(__file__).resolve().parent / "lib"))
 
+import progress  # noqa: E402
 from heap_image import FREE, NULL, ORDINARY, from_bytes  # noqa: E402
 from opponent import NoRoom, Opponent  # noqa: E402
 from plant_errors import ERRORS, MORE_ERRORS, Planter  # noqa: E402
@@ -368,6 +369,7 @@ def main():
     options = parser.parse_args()
     rng = random.Random(options.seed)
     cases = 0
+    progress.show("cases", lambda: cases, options.cases)
     with tempfile.TemporaryDirectory() as folder:
         judge = Judge(options, pathlib.Path(folder))
         while cases < options.cases:

@@ -20,6 +20,7 @@ import tempfile
 
 sys.path.insert(0, str(pathlib.Path(__file__).resolve().parent / "lib"))
 
+import progress  # noqa: E402
 from explained import Choice, Pause, explained  # noqa: E402
 from heap_image import CONTINUATION, FIRST, FREE, NULL, ORDINARY, Image  # noqa: E402
 from judge_opponent import judged  # noqa: E402
@@ -365,6 +366,7 @@ def main():
     add_program(parser, "g1heap")
     options = parser.parse_args()
     limits = Limits(options.g1pause, options.g1heap)
+    progress.show("tried", lambda: limits.passed)
     with tempfile.TemporaryDirectory() as room:
         for made, rows in ROWS:
             limits.image(made.__name__, made(), rows, pathlib.Path(room))

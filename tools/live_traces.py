@@ -18,6 +18,7 @@ import tempfile
 
 sys.path.insert(0, str(pathlib.Path(__file__).resolve().parent / "lib"))
 
+import progress  # noqa: E402
 from programs import add_program  # noqa: E402
 from random_traces import Maker  # noqa: E402
 
@@ -111,7 +112,7 @@ def main():
     parser.add_argument("--count", type=int, default=300, help="how many traces (default: 300)")
     options = parser.parse_args()
     tries = Tries(options.g1pause, options.g1heap)
-    for number in range(options.count):
+    for number in progress.over(range(options.count), "traces"):
         tries.trace(random.Random(f"{options.seed} {number}"))
     print(f"{tries.passed} passed, {tries.failed} failed")
     return 1 if tries.failed or not tries.passed else 0

@@ -24,6 +24,7 @@ from concurrent.futures import ThreadPoolExecutor
 
 sys.path.insert(0, str(pathlib.Path(__file__).resolve().parent / "lib"))
 
+import progress  # noqa: E402
 from image_text import FIRST, FREE, MAGIC, NEXT, ORDINARY, fault_of, header, in_version_two  # noqa: E402
 from programs import add_program  # noqa: E402
 
@@ -349,7 +350,7 @@ def main():
         return number, cover, want, answer(binary, data, cover) == want
 
     with ThreadPoolExecutor(4) as pool:
-        for number, cover, want, good in pool.map(one, range(count)):
+        for number, cover, want, good in progress.over(pool.map(one, range(count)), "images", count):
             met[kind_of(want)] += 1
             passed, failed = passed + good, failed + (not good)
             if not good:

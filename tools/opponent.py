@@ -14,6 +14,7 @@ status is 75. With --loop it reads lines `IMAGE OUT R,R` and replies `ok` or `ro
 import argparse
 import pathlib
 import random
+import struct
 import sys
 
 sys.path.insert(0, str(pathlib.Path(__file__).resolve().parent / "lib"))
@@ -146,9 +147,19 @@ class Opponent:
         self.image.make_exact()
 
 
+def image_of(file):
+    """The image that a file has."""
+    try:
+        return from_bytes(pathlib.Path(file).read_bytes())
+    except OSError as error:
+        sys.exit(f"{file}: {error.strerror}")
+    except (IndexError, struct.error):
+        sys.exit(f"{file} is no image")
+
+
 def answer(image, out, chosen, options):
     """Writes the heap after. False if the free regions do not suffice."""
-    before = from_bytes(pathlib.Path(image).read_bytes())
+    before = image_of(image)
     for region in chosen:
         if refused(before, region):
             sys.exit(f"no pause collects region {region} of {image}")

@@ -54,6 +54,10 @@ import tempfile
 from concurrent.futures import ThreadPoolExecutor
 from dataclasses import dataclass, field
 
+sys.path.insert(0, str(pathlib.Path(__file__).resolve().parent / "lib"))
+
+import progress  # noqa: E402 (it is in lib/)
+
 ROOT = pathlib.Path(__file__).resolve().parent.parent
 HEAD = re.compile(r"( *)(?:pub(?:\([^)]*\))? )?(?:const |unsafe |extern \"C\" )*fn (\w+)")
 IMPL = re.compile(r"impl(<.*?>)? (?:([\w:]+)(<.*>)? for )?([\w:]+)")
@@ -591,6 +595,7 @@ def main():
     if options.all == bool(options.crates):
         parser.error("either --all or crates")
     try:
+        progress.show("trying the wrong bodies", lambda: None)
         rows = try_with_this_kit(options.crates, options.unchanged, options.jobs)
     except (Stop, OSError, AttributeError) as error:
         print(f"planted.py: {error}", file=sys.stderr)

@@ -23,6 +23,7 @@ import tempfile
 
 sys.path.insert(0, str(pathlib.Path(__file__).resolve().parent / "lib"))
 
+import progress  # noqa: E402
 from heap_image import CONTINUATION, FIRST, FREE, NULL, ORDINARY, from_bytes  # noqa: E402
 from image_text import in_version_two  # noqa: E402
 from programs import add_program, program  # noqa: E402
@@ -151,9 +152,10 @@ def main():
     rng = random.Random(options.seed)
     with tempfile.TemporaryDirectory() as folder:
         tries = Tries(options, pathlib.Path(folder))
-        for path in [pathlib.Path(x) for x in options.images] or sorted(EXAMPLES.glob("*.img")):
+        images = [pathlib.Path(x) for x in options.images] or sorted(EXAMPLES.glob("*.img"))
+        for path in progress.over(images, "images"):
             tries.image(path.name, in_version_two(path.read_bytes()), True)
-        for number in range(options.random):
+        for number in progress.over(range(options.random), "random images"):
             tries.image(f"random image {number}", drawn(rng).to_bytes(), number % 50 == 0, ("\n", "\r\n")[number % 2])
     print(f"{tries.passed} passed, {tries.failed} failed")
     return 1 if tries.failed or not tries.passed else 0

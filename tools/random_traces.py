@@ -16,6 +16,7 @@ import sys
 
 sys.path.insert(0, str(pathlib.Path(__file__).resolve().parent / "lib"))
 
+import progress  # noqa: E402
 from programs import add_program  # noqa: E402
 
 EVERYTHING = 2**64 - 1
@@ -229,7 +230,7 @@ def main():
     parser.add_argument("--count", type=int, default=2000, metavar="N")
     options = parser.parse_args()
     tries = Tries(options.program)
-    for number in range(options.count):
+    for number in progress.over(range(options.count), "traces"):
         tries.judge(number, random.Random(f"{options.seed} {number}"))
     print("met: " + ", ".join(f"{what} {tries.met[what]}" for what in WANTED))
     missed = [what for what in WANTED if tries.met[what] == 0]

@@ -19,6 +19,7 @@ import sys
 sys.path.insert(0, str(pathlib.Path(__file__).resolve().parent / "lib"))
 
 import heap_image  # noqa: E402
+import progress  # noqa: E402
 from heap_image import CONTINUATION, FIRST, FREE, ORDINARY, Image  # noqa: E402
 from image_text import fault_of  # noqa: E402
 from programs import add_program  # noqa: E402
@@ -169,7 +170,7 @@ def main():
     parser.add_argument("--first", action="store_true", help="end at the first failure")
     options = parser.parse_args()
     ranges = Ranges(options.binary)
-    for number in range(options.count):
+    for number in progress.over(range(options.count), "images"):
         ranges.image(random.Random(f"{options.seed} {number}"), number)
     return ranges.end()
 

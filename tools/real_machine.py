@@ -20,6 +20,7 @@ import time
 
 sys.path.insert(0, str(pathlib.Path(__file__).resolve().parent / "lib"))
 
+import progress  # noqa: E402
 from images import ONE_OBJECT, ONE_OBJECT_AFTER, SHARED, SHARED_AFTER  # noqa: E402
 from programs import add_program, program  # noqa: E402
 from refusing import Judge, compiled, preloading  # noqa: E402
@@ -295,6 +296,7 @@ def main():
     parser.add_argument("--heap", metavar="HEAP", type=program, help="the built program g1heap")
     options = parser.parse_args()
     machine = Machine(options.binary)
+    progress.show("tried", lambda: machine.passed)
     machine.streams()
     for ignored in (False, True):
         machine.broken_pipe(ignored)

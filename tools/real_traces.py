@@ -22,6 +22,7 @@ import tempfile
 sys.path.insert(0, str(pathlib.Path(__file__).resolve().parent / "lib"))
 
 from programs import add_program  # noqa: E402
+import progress  # noqa: E402
 import traced  # noqa: E402
 import unproved  # noqa: E402
 from unprivileged import let_in, unprivileged  # noqa: E402
@@ -137,8 +138,8 @@ def main():
             sys.exit(not power(names, range(options.seed, options.seed + options.runs)))
         except unproved.NotBuilt as error:
             parser.error(str(error).strip().splitlines()[-1])
-    answers = [judged(options.g1pause, name, seed, options.write)
-               for name in names for seed in range(options.seed, options.seed + options.runs)]
+    runs = [(name, seed) for name in names for seed in range(options.seed, options.seed + options.runs)]
+    answers = [judged(options.g1pause, name, seed, options.write) for name, seed in progress.over(runs, "traces")]
     print(f"{sum(answers)} passed, {len(answers) - sum(answers)} failed")
     sys.exit(not all(answers))
 

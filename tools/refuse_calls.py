@@ -18,6 +18,7 @@ import tempfile
 
 sys.path.insert(0, str(pathlib.Path(__file__).resolve().parent / "lib"))
 
+import progress  # noqa: E402
 from images import all_dirty, long_chain, many_slots  # noqa: E402
 from programs import add_driver  # noqa: E402
 from refusing import Judge, Refusing, run  # noqa: E402
@@ -100,6 +101,7 @@ def main():
     options = parser.parse_args()
     with tempfile.TemporaryDirectory() as room:
         sweep = Sweep(options.driver, pathlib.Path(room))
+        progress.show("tried", lambda: sweep.passed)
         sweep.rows()
         sweep.sizes()
         return sweep.end()

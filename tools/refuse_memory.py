@@ -24,6 +24,7 @@ from images import (DIRTY, GAP, GAP_AFTER, HELD, HELD_AFTER, HUMONGOUS, HUMONGOU
                     ONE_OBJECT_AFTER, OUTSIDE_SLOT, OUTSIDE_SLOT_AFTER, OWN_SLOT, OWN_SLOT_AFTER, SHARED, SHARED_AFTER,
                     SHARED_BUT_CARD_0, SHARED_BUT_CARD_1, SHARED_WITHOUT_CARDS, THREE, THREE_AFTER, UNCOVERED,
                     UNNAMED_OWNER, UNNAMED_OWNER_AFTER)
+import progress  # noqa: E402
 from programs import add_program  # noqa: E402
 from refusing import Judge, Refusing, run  # noqa: E402
 
@@ -120,6 +121,7 @@ def main():
     options = parser.parse_args()
     with tempfile.TemporaryDirectory() as room:
         sweep = Sweep(options.binary, pathlib.Path(room))
+        progress.show("runs", lambda: sweep.passed)
         sweep.all()
         return sweep.end()
 

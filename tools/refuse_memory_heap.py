@@ -19,6 +19,7 @@ import tempfile
 
 sys.path.insert(0, str(pathlib.Path(__file__).resolve().parent / "lib"))
 
+import progress  # noqa: E402
 from programs import add_program  # noqa: E402
 from refusing import Judge, Refusing, compiled, preloading, run  # noqa: E402
 
@@ -158,6 +159,7 @@ def main():
     examples = pathlib.Path(__file__).resolve().parent.parent / "examples"
     with tempfile.TemporaryDirectory() as room:
         sweep = Sweep(pathlib.Path(room))
+        progress.show("runs", lambda: sweep.passed)
         unopened(sweep, pathlib.Path(room), binary, str(examples / "one_object.img"))
         folder = pathlib.Path(room) / "answers"
         folder.mkdir()

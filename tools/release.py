@@ -28,6 +28,7 @@ import tempfile
 
 sys.path.insert(0, str(pathlib.Path(__file__).resolve().parent / "lib"))
 
+import build_judge  # noqa: E402
 import manual  # noqa: E402 (it is in lib/)
 import stamp  # noqa: E402
 import unproved  # noqa: E402
@@ -105,6 +106,14 @@ def programs(version, seconds, room):
     return files
 
 
+def proved_archive(path):
+    """The bytes of the judge's archive, if it is not one without a proof."""
+    content = path.read_bytes()
+    if build_judge.MARK.encode() in content:
+        raise Refused(f"{path.name} has no proof: call tools/build_judge.py")
+    return content
+
+
 def judge(room):
     """The headers of the judge, and its library, which its own script has rt prove."""
     files = {f"include/{path.name}": path.read_bytes() for path in sorted(TOP.glob("include/*.h"))}
@@ -113,7 +122,7 @@ def judge(room):
         done = subprocess.run([script, room], capture_output=True, text=True, check=False)
         if done.returncode:
             raise Refused(f"tools/build_judge.py: {(done.stderr or done.stdout).strip().splitlines()[-1]}")
-        files["lib/libg1judge.a"] = (room / "libg1judge.a").read_bytes()
+        files["lib/libg1judge.a"] = proved_archive(room / "libg1judge.a")
     return files
 
 

@@ -25,6 +25,7 @@ import tempfile
 
 sys.path.insert(0, str(pathlib.Path(__file__).resolve().parent / "lib"))
 
+import progress  # noqa: E402
 from covered import draw_choice, draw_image  # noqa: E402
 from heap_image import CONTINUATION, FIRST, FREE, NULL, ORDINARY, from_bytes  # noqa: E402
 from image_text import in_version_two  # noqa: E402
@@ -342,12 +343,13 @@ def main():
     rng = random.Random(options.seed)
     with tempfile.TemporaryDirectory() as folder:
         tries = Tries(options, pathlib.Path(folder))
-        for path in [pathlib.Path(x) for x in options.images] or sorted(EXAMPLES.glob("*.img")):
+        images = [pathlib.Path(x) for x in options.images] or sorted(EXAMPLES.glob("*.img"))
+        for path in progress.over(images, "images"):
             data = in_version_two(path.read_bytes())
             tries.one(path.name, data, [], [])
             for number in range(4):
                 tries.one(path.name, data, *draw_choice(rng, from_bytes(data)))
-        for number in range(options.random):
+        for number in progress.over(range(options.random), "random images"):
             image = draw_image(rng)
             tries.one(f"random image {number}", image.to_bytes(), *draw_choice(rng, image))
     print(f"{tries.passed} passed, {tries.failed} failed")

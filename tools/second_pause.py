@@ -22,6 +22,7 @@ import sys
 
 sys.path.insert(0, str(pathlib.Path(__file__).resolve().parent / "lib"))
 
+import progress  # noqa: E402
 from image_text import FIRST, ORDINARY, fault_of, free_regions, graph, named_humongous, read  # noqa: E402
 from programs import add_program  # noqa: E402
 from refusing import Judge, run  # noqa: E402
@@ -107,7 +108,7 @@ def main():
     examples = pathlib.Path(__file__).resolve().parent.parent / "examples"
     images = options.images or sorted(examples.glob("*.img"))
     tries = Tries(binary)
-    for image in images:
+    for image in progress.over(images, "images"):
         tries.pauses(image.name, image.read_bytes())
     return tries.end()
 

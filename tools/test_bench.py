@@ -25,6 +25,7 @@ sys.path[:0] = [str(TOP / "bench"), str(TOP / "tools"), str(TOP / "tools" / "lib
 import compare  # noqa: E402
 import hostile  # noqa: E402
 import plot  # noqa: E402
+import progress  # noqa: E402
 from image_text import fault_of, graph, read  # noqa: E402
 
 ECHO = "cat"
@@ -72,7 +73,7 @@ class Folder(unittest.TestCase):
         command = [sys.executable, str(TOP / "bench/compare.py"), "--program", self.program("ours", ours), "--reference",
                    self.reference(theirs), "--rounds", "1", *words]
         done = subprocess.run(command, capture_output=True, text=True)
-        self.assertEqual(done.stderr, "")
+        self.assertEqual(progress.without_signs(done.stderr.splitlines()), [])
         return done.returncode, done.stdout
 
 

@@ -5,6 +5,7 @@ Builds the callers of judge/test.c and of examples/vm with the C compiler ($CC, 
 tools/build_judge.py makes it; a second time with the sanitizers for addresses and undefined behaviour. Then it tries
 
   headers  both, alone and in either order, as C and as C++
+  mark     that nothing is proved of the archive, in each program linked with it if it is in the archive, and else in none
   calls    all pairs of the example images, with room for the path, with none, with too little: status, fault, path and
            numbers are compared with what `g1heap same` prints; each image, and N damaged ones, with image_text.py
   kept     all pairs of the example images, with no region, each region, one that is not there, one twice, and two: status,
@@ -21,7 +22,7 @@ tools/build_judge.py makes it; a second time with the sanitizers for addresses a
   page     the commands of docs/LINK.md, in a fresh copy of the checkout
 
 It needs a C compiler. --heap is out/g1heap, which tools/build.py --unproved builds, and --archive is
-judge/out/libg1judge.a, which tools/build_judge.py makes, if they are not given. The last line is 'N passed, M failed', and
+judge/out/libg1judge.a, which tools/build_judge.py [--unproved] makes, if they are not given. The last line is 'N passed, M failed', and
 the status is 0 only if none failed and one passed.
 """
 import argparse
@@ -37,9 +38,11 @@ import tempfile
 
 sys.path.insert(0, str(pathlib.Path(__file__).resolve().parent / "lib"))
 
+import build_judge  # noqa: E402
 import check_pages  # noqa: E402
 import image_text  # noqa: E402
 import losses  # noqa: E402
+import progress  # noqa: E402
 from heap_image import FIRST, CONTINUATION, FREE, NULL, ORDINARY, Image, from_bytes  # noqa: E402
 from opponent import NoRoom, Opponent, refused  # noqa: E402
 from plant_errors import ERRORS as COLLECTOR_ERRORS, MORE_ERRORS, Planter  # noqa: E402
@@ -214,6 +217,17 @@ def check_headers(tally, programs, options):
                          "-Werror", "-fsyntax-only", "-I", TOP / "include", "-"]
                 ran = subprocess.run(words, input=text, capture_output=True, text=True)
                 tally.expect(f"headers: {language} {standard} {names}", (ran.returncode, ran.stderr[:2000]), (0, ""))
+
+
+def check_mark(tally, programs, options):
+    """A program can't lose the line that says that nothing is proved, and a proved archive doesn't have it."""
+    mark, made = build_judge.MARK.encode(), programs.room / "sections"
+    subprocess.run([*shlex.split(os.environ.get("CC", "cc")), "-std=c11", "-O2", "-Wl,--gc-sections", "-s", "-pthread", "-I",
+                    TOP / "include", TOP / "judge/test.c", options.archive, "-o", made], check=True)
+    marked = mark in options.archive.read_bytes()
+    for program in (made, *(programs.room / name for name in ("test", "test_checked", "vm", "vm_checked"))):
+        tally.expect(f"mark: {program.name}", mark in program.read_bytes(), marked)
+    print(f"mark: {'there' if marked else 'not there'}")
 
 
 def numbers(line):
@@ -729,7 +743,7 @@ def check_page(tally, programs, options):
     print(f"page: {steps} commands")
 
 
-CHECKS = {"headers": check_headers, "calls": check_calls, "kept": check_kept, "null": check_null, "threads": check_threads,
+CHECKS = {"headers": check_headers, "mark": check_mark, "calls": check_calls, "kept": check_kept, "null": check_null, "threads": check_threads,
           "refuse": check_refuse, "writer": check_writer, "vm": check_vm, "rust": check_rust, "page": check_page}
 
 
@@ -743,9 +757,10 @@ def main():
     parser.add_argument("--only", choices=CHECKS)
     options = parser.parse_args()
     if not options.archive.is_file():
-        parser.error(f"{options.archive} is not there: tools/build_judge.py makes judge/out/libg1judge.a")
+        parser.error(f"{options.archive} is not there: tools/build_judge.py --unproved makes judge/out/libg1judge.a")
     options.archive = options.archive.resolve()
     tally = Tally()
+    progress.show("tried", lambda: tally.passed)
     with tempfile.TemporaryDirectory() as room:
         try:
             programs = Programs(room, options.archive)

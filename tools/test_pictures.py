@@ -19,6 +19,7 @@ TOP = pathlib.Path(__file__).resolve().parent.parent
 sys.path.insert(0, str(TOP / "tools/lib"))
 
 import browser  # noqa: E402 (it is in lib/)
+import progress  # noqa: E402
 from programs import add_program  # noqa: E402
 
 # An example and its set; the last one is refused.
@@ -136,7 +137,7 @@ def main():
         return 2
     passed = failed = 0
     with browser.Browser(program) as page:
-        for name, chosen in PAUSES:
+        for name, chosen in progress.over(PAUSES, "pauses"):
             try:
                 print(f"{name}: {check_pause(options, page, name, chosen)} steps")
                 passed += 1

@@ -15,6 +15,7 @@ import tempfile
 
 sys.path.insert(0, str(pathlib.Path(__file__).resolve().parent / "lib"))
 
+import progress  # noqa: E402
 from programs import add_driver, add_program  # noqa: E402
 from refusing import BEGIN, END, Judge, compiled  # noqa: E402
 from unprivileged import Unreadable, let_in, python, require_readable, unprivileged  # noqa: E402
@@ -154,6 +155,7 @@ def main():
     except Unreadable as error:
         parser.error(str(error))
     judge = Judge()
+    progress.show("tried", lambda: judge.passed)
     with tempfile.TemporaryDirectory() as room:
         let_in(pathlib.Path(room))
         try_programs(judge, pathlib.Path(room), options.binary)

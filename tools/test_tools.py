@@ -6,6 +6,7 @@ have to be those that examples/make.py makes.
 Tables of definitions and of the map that leave something out, or name what is not there, have to fail, and so does a definition
 that no clause cites; those of the repository have to pass.
 A release of lines of shell and a checkout are installed, each over the other, and uninstalled: nothing of them may stay.
+A script that takes long has to say how far it is, in place on a terminal.
 Each script has to answer --help, and to say what it wants where it is called without arguments.
 """
 import argparse
@@ -13,6 +14,7 @@ import contextlib
 import io
 import os
 import pathlib
+import pty
 import re
 import shlex
 import shutil
@@ -31,11 +33,13 @@ import check_pages  # noqa: E402
 import check_tables  # noqa: E402
 import judge_opponent  # noqa: E402
 import manual  # noqa: E402
+import progress  # noqa: E402
 import real_traces  # noqa: E402
 import release  # noqa: E402
 import stamp  # noqa: E402
 import test_scripts  # noqa: E402
 import unprivileged  # noqa: E402
+
 
 class Pages(unittest.TestCase):
     def wrong(self, page):
@@ -333,7 +337,7 @@ chmod +x judge
 
     def test_what_is_missing_is_one_line(self):
         compiler, judge = "echo 4.14.1", "true"
-        for programs, line in (({"g1heap": judge}, "no ocamlopt on the path"), ({"ocamlopt": compiler}, "no g1heap on the path")):
+        for programs, line in (({"g1heap": judge}, "no ocamlopt on the path"), ({"ocamlopt": compiler}, "no g1heap on the path: tools/build.py --unproved builds out/g1heap")):
             self.assertEqual(self.judged(programs), (2, f"judge.sh: {line}"))
 
     def test_an_ocaml_of_another_kind_is_one_line(self):
@@ -572,6 +576,56 @@ class Planted(unittest.TestCase):
             program.chmod(0o755)
             return real_traces.first_noticed(str(program), "lru_cache", [1])
         self.assertEqual(self.run_in(noticed), "trace 1: status 8 ")
+
+
+class SignsOfLife(unittest.TestCase):
+    """What a script of two cases and of four requests each says while it works, a line each tenth of a second."""
+
+    SCRIPT = """
+import sys, time
+sys.path.insert(0, sys.argv[1])
+import progress
+progress.SIGNS.every = progress.IN_PLACE = 0.1
+progress.FIRST = 0
+for case in progress.over([1, 2], "cases"):
+    for request in progress.over(range(4), "requests"):
+        time.sleep(0.2)
+    print("case", case, "is done", flush=True)
+time.sleep(0.4)
+print("the end")
+"""
+
+    def words(self, room):
+        (pathlib.Path(room) / "slow.py").write_text(self.SCRIPT)
+        return [sys.executable, f"{room}/slow.py", str(TOP / "tools" / "lib")]
+
+    def test_a_pipe_has_a_line_for_each_sign(self):
+        with tempfile.TemporaryDirectory() as room:
+            done = subprocess.run(self.words(room), capture_output=True, text=True, check=True)
+        self.assertEqual(done.stdout, "case 1 is done\ncase 2 is done\nthe end\n")
+        lines = done.stderr.splitlines()
+        self.assertGreater(len(lines), 4)
+        for line in lines:
+            self.assertRegex(line, r"^slow\.py: cases: [12] of 2(, requests: [1-4] of 4)?, [0-3] s$")
+        self.assertEqual(progress.without_signs([*lines, "the end", "slow.py: 12 s", ""]), ["the end", "slow.py: 12 s", ""])
+
+    def test_a_terminal_keeps_no_sign(self):
+        ours, theirs = pty.openpty()
+        with tempfile.TemporaryDirectory() as room, subprocess.Popen(self.words(room), stdout=theirs, stderr=theirs) as process:
+            os.close(theirs)
+            said = b""
+            with contextlib.suppress(OSError), open(ours, "rb", buffering=0) as file:  # a closed terminal is an error of Linux
+                while data := file.read(4096):
+                    said += data
+            process.wait()
+        text = said.decode()
+        self.assertGreater(text.count("requests:"), 4)
+        left = [line.rpartition("\x1b[K")[2] for line in text.replace("\r\n", "\n").split("\n")]
+        self.assertEqual(left, ["case 1 is done", "case 2 is done", "the end", ""])
+
+    def test_no_silence_is_longer_than_five_seconds(self):
+        self.assertLess(progress.EVERY, 5)
+        self.assertEqual([progress.in_words(seconds) for seconds in (4, 59.4, 60, 131)], ["4 s", "59 s", "1 min 0 s", "2 min 11 s"])
 
 
 class Scripts(unittest.TestCase):

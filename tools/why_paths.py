@@ -16,6 +16,7 @@ import sys
 
 sys.path.insert(0, str(pathlib.Path(__file__).resolve().parent / "lib"))
 
+import progress  # noqa: E402
 from covered import draw_image  # noqa: E402
 from heap_image import FIRST, FREE, NULL, from_bytes  # noqa: E402
 from image_text import in_version_two  # noqa: E402
@@ -166,9 +167,10 @@ def main():
         return rng.sample(objects, min(4, len(objects))) + [rng.randrange(words + 4)]
 
     tries = Tries(options.g1heap)
-    for path in [pathlib.Path(x) for x in options.images] or sorted(EXAMPLES.glob("*.img")):
+    images = [pathlib.Path(x) for x in options.images] or sorted(EXAMPLES.glob("*.img"))
+    for path in progress.over(images, "images"):
         tries.image(path.name, in_version_two(path.read_bytes()), all_objects)
-    for number in range(options.random):
+    for number in progress.over(range(options.random), "random images"):
         tries.image(f"random image {number}", draw_image(rng).to_bytes(), some)
     print(", ".join(f"{count} {word}" for word, count in sorted(tries.words.items())))
     print(f"{tries.passed} passed, {tries.failed} failed")

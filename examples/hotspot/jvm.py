@@ -9,6 +9,10 @@ import sys
 
 HERE = pathlib.Path(__file__).resolve().parent
 TOP = HERE.parent.parent
+sys.path.insert(0, str(TOP / "tools" / "lib"))
+
+import progress  # noqa: E402 (it is in tools/lib/)
+
 CONVERTER, PATHS = TOP / "tools" / "hprof2image.py", TOP / "tools" / "hprof_path.py"
 ROOT = "Judge.root"
 MOST_HEAP = "-Xmx160m"
@@ -38,8 +42,9 @@ class TooLarge(Problem):
 def run(*words, output=None):
     """Runs a program: its status, and what it said."""
     try:
-        done = subprocess.run([str(word) for word in words], stdout=output or subprocess.PIPE, stderr=subprocess.PIPE,
-                              stdin=subprocess.DEVNULL, timeout=SECONDS, check=False)
+        with progress.doing(pathlib.Path(words[0]).name):
+            done = subprocess.run([str(word) for word in words], stdout=output or subprocess.PIPE, stderr=subprocess.PIPE,
+                                  stdin=subprocess.DEVNULL, timeout=SECONDS, check=False)
     except OSError as error:
         raise Problem(f"{words[0]}: {error.strerror}") from None
     except subprocess.TimeoutExpired:
@@ -68,7 +73,7 @@ def heap_program():
     built = TOP / "out" / "g1heap"
     found = str(built) if built.exists() else shutil.which("g1heap")
     if not found:
-        raise Problem("there is no g1heap: build it by tools/build.py, or name it by G1HEAP=FILE")
+        raise Problem("there is no g1heap: tools/build.py --unproved builds it, or name it by G1HEAP=FILE")
     return found
 
 
@@ -157,7 +162,8 @@ def count(text):
 def ended(script, work):
     """Ends a script with its status. What stops it is said in one line."""
     try:
-        return work()
+        with progress.doing("judging"):
+            return work()
     except Problem as problem:
         print(f"{script}: {problem}", file=sys.stderr)
         return 2

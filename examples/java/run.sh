@@ -12,7 +12,7 @@ the program. Last it makes a page with the pictures of the heap before and after
 
 The images and the page are kept in FOLDER, if one is named. With --image it begins at this image, and so it does
 with the small one that lies here where there is no java, javac or jcmd. The
-programs are those of out/, which tools/build.py builds, or of the variables G1PAUSE and G1HEAP.
+programs are those of out/, which tools/build.py --unproved builds, or of the variables G1PAUSE and G1HEAP.
 Statuses: 0 done; 1 something was not as it must be; 2 usage.
 END
 }
@@ -33,7 +33,7 @@ if [ -z "$image" ] && { [ $# -lt 5 ] || [ ! -f "$here/$1.java" ]; }; then
     exit 2
 fi
 if [ ! -x "$program" ]; then
-    echo "run.sh: $program is not there: build it by tools/build.py, or name it by G1PAUSE=FILE" >&2
+    echo "run.sh: $program is not there: tools/build.py --unproved builds it, or name it by G1PAUSE=FILE" >&2
     exit 2
 fi
 
@@ -55,16 +55,34 @@ check_words() {
 [ -n "$image" ] || check_words "$@"
 room=$(mktemp -d)
 java_process=
+signs_process=
 clean() {
     [ -z "$java_process" ] || kill "$java_process" 2>/dev/null || true
+    [ -z "$signs_process" ] || kill "$signs_process" 2>/dev/null || true
     rm -rf "$room"
 }
 trap clean EXIT
 trap 'exit 1' INT TERM
 
+# Says every few seconds what is done, and for how long.
+signs() {
+    begun=$(date +%s)
+    while sleep 4 >/dev/null 2>&1; do
+        echo "run.sh: $(cat "$room/step"), $(($(date +%s) - begun)) s" >&2
+    done
+}
+
+step() {
+    echo "$1" >"$room/step"
+}
+step begins
+signs &
+signs_process=$!
+
 # Runs the program until it says that it is ready, and dumps its heap, dead objects included. Threads have no buffers
 # of their own to allocate from, since the JVM would fill what is left of them with dead arrays.
 dump() {
+    step "java: $1"
     javac -d "$room/classes" "$here/$1.java"
     mkfifo "$room/hold"
     # The file is opened before the pipe. So it is there when `exec` has opened the pipe's other end.
@@ -91,6 +109,7 @@ make_image() {
     elif has_java; then
         dump "$1" "$2"
         echo "dump of $1 with $2 entries: $(wc -c <"$room/heap.hprof") bytes"
+        step "image of the dump"
         # The counts are printed, the image is kept.
         # shellcheck disable=SC2069
         "$top/tools/hprof2image.py" "$room/heap.hprof" "$3" "$4" "$5" 2>&1 >"$room/before.img"
@@ -134,6 +153,7 @@ pause_once() {
 
 two_pauses() {
     echo "budget $1"
+    step "pauses by the budget $1"
     pause_once "$room/before.img" "$room/after$2.img" "$1" || return 0
     pause_once "$room/after$2.img" "$room/again$2.img" "$1" || return 0
 }
@@ -144,6 +164,7 @@ echo "to collect all regions with garbage costs $all"
 two_pauses $((all / 20)) 1
 two_pauses $((all / 5)) 2
 two_pauses $((all / 2)) 3
+step "picture"
 after=$room/after2.img
 [ -s "$after" ] || after= # there was no room for it
 "$top/tools/picture.py" --program "$program" --budget $((all / 5)) --html "$room/before.img" ${after:+"$after"} \

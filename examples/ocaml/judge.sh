@@ -21,9 +21,8 @@ case $depth in
     [3-9] | 1[0-8]) ;;
     *) stop "DEPTH is '$depth', and has to be from 3 to 18" ;;
 esac
-for program in ocamlopt g1heap; do
-    command -v "$program" > /dev/null || stop "no $program on the path"
-done
+command -v ocamlopt > /dev/null || stop "no ocamlopt on the path"
+command -v g1heap > /dev/null || stop "no g1heap on the path: tools/build.py --unproved builds out/g1heap"
 version=$(ocamlopt -version)
 case $version in
     4.1[3-9].*) ;;

@@ -16,6 +16,7 @@ HERE = pathlib.Path(__file__).resolve().parent
 sys.path[:0] = [str(HERE), str(HERE.parent.parent / "tools/lib")]
 
 import live_heap  # noqa: E402 (it is in tools/lib/)
+import progress  # noqa: E402
 import scheme  # noqa: E402
 
 
@@ -29,6 +30,7 @@ def main():
     if not os.access(options.g1heap, os.X_OK):
         parser.error(f"there is no program {options.g1heap}: tools/build.py --unproved builds out/g1heap")
     heap = live_heap.Heap(options.g1heap, words=256, card=16, regions=options.regions, roots=60000)
+    progress.show("commands", lambda: heap.commands)
     try:
         result = scheme.run(heap) if options.all else [scheme.run_text(heap, scheme.QUEENS)]
     except live_heap.Full as error:

@@ -7,8 +7,9 @@ import hashlib
 import mmap
 import struct
 import sys
-import time
 from array import array
+
+import progress
 
 VERSIONS = (b"JAVA PROFILE 1.0.1\0", b"JAVA PROFILE 1.0.2\0")
 TEXT, LOAD_CLASS, HEAP_DUMP, HEAP_DUMP_SEGMENT, HEAP_DUMP_END = 0x01, 0x02, 0x0C, 0x1C, 0x2C
@@ -43,25 +44,19 @@ def check_words(total, known="the objects take"):
 
 
 class Progress:
-    """Says how far a long work is: one line that changes on a terminal, else a line every two seconds."""
+    """Says how far a long work is, more often if that is wanted."""
 
-    def __init__(self, file, wanted):
-        self.file, self.terminal = file, file.isatty()
-        self.wanted = wanted or self.terminal
-        self.next = time.monotonic() + 0.5
+    def __init__(self, wanted):
+        if wanted:
+            progress.SIGNS.every = 2
+        self.step = progress.Step("begins")
+        progress.SIGNS.begin(self.step)
 
     def __call__(self, text, done, whole=None):
-        now = time.monotonic()
-        if not self.wanted or now < self.next:
-            return
-        self.next = now + (0.2 if self.terminal else 2)
-        how_far = f"{done:,} of {whole:,}" if whole else f"{done:,}"
-        print(f"\r\033[K{text}: {how_far}" if self.terminal else f"{text}: {how_far}",
-              end="" if self.terminal else "\n", file=self.file, flush=True)
+        self.step.what, self.step.done, self.step.whole = text, done, whole
 
     def end(self):
-        if self.wanted and self.terminal:
-            print("\r\033[K", end="", file=self.file, flush=True)
+        progress.SIGNS.end(self.step)
 
 
 def quiet(_text, _done, _whole=None):

@@ -14,6 +14,7 @@ import subprocess
 import time
 from concurrent.futures import FIRST_COMPLETED, ThreadPoolExecutor, wait
 
+import progress
 import stamp
 
 MOST_JOBS = 4  # of one crate
@@ -120,7 +121,7 @@ class Lanes:
     def __init__(self, top, names, jobs):
         self.top, self.jobs, self.uses = top, jobs, stamp.rows(top)
         chain = weights(names, self.uses, top / "crates")
-        self.left = sorted(names, key=lambda name: -chain[name])
+        self.names, self.left = names, sorted(names, key=lambda name: -chain[name])
         self.proved, self.running, self.processes = set(), {}, set()
 
     def prove(self, name, jobs):
@@ -159,10 +160,15 @@ class Lanes:
                 failed.append(name)
         return failed
 
+    def how_far(self):
+        """The crates that are being proved, and how many are proved."""
+        names = [name for name, _ in list(self.running.values())]
+        return f"{', '.join(names)}; {len(self.proved)} of {len(self.names)} proved"
+
     def work(self, log, say):
         """Proves all crates, up to the first that is not proved."""
         failed = []
-        with ThreadPoolExecutor(self.jobs) as pool:
+        with progress.doing("proving", self.how_far), ThreadPoolExecutor(self.jobs) as pool:
             self.begin(pool)
             try:
                 while self.running:

@@ -49,6 +49,20 @@ def sources(top=TOP, names=PROGRAMS):
     return found.hexdigest()
 
 
+def tree(top=TOP):
+    """The commit that the crates are of, as a short word, or nothing if git does not say."""
+    def git(*words):
+        done = subprocess.run(["git", *words, "--", "crates", "crates.txt", "HANDLES"], cwd=top, capture_output=True, text=True,
+                              check=False)
+        return done.stdout.strip() if done.returncode == 0 else ""
+
+    try:
+        commit = git("log", "-1", "--format=%h", "--abbrev=8")
+        return f"{commit} changed" if commit and git("status", "--porcelain") else commit
+    except OSError:  # there is no git
+        return ""
+
+
 def kit():
     return subprocess.run(["rt", "version"], capture_output=True, text=True, check=True).stdout.strip()
 
