@@ -20,5 +20,6 @@
 mod claims;
 pub mod laws;
 mod rule;
+mod witness;
 
 pub use claims::{ClaimSeat, Claims, EMPTY, shares};
