@@ -1,4 +1,5 @@
 pub mod Kept
 pub mod Totals
+pub mod History
 pub mod Steps
 pub mod Interleaving

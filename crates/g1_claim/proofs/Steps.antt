@@ -1,7 +1,7 @@
 -- Each step of a claim table keeps its rule.
 use Rattle.std.proofs.Common.{◌≡◌, ◌≢◌, ℕ, zero, suc, ◌+◌, ◌<◌, ◌≤◌, Bool, true, false, cond, ◌&&◌, eqb, ltb, min, ◌^◌, List, [], ◌∷◌, ◌++◌, length, get_or, set, sym, refl, ap, ◌∙◌, subst}
 use Rattle.std.proofs.Common.{⊎_elim, inl, inr, ◌⊎◌, arith, eq-eqb, ne_eqb, lt-ltb, le-ltb, length-set, get_or-set_same, get_or-set_other, replicate}
-use Rattle.std.proofs.lemmas.List.{length-replicate}
+use Rattle.std.proofs.lemmas.List.{length-replicate, map-append}
 use mathlib.Core.Logic.{dite}
 use mathlib.Core.Option.{none, some, some-injective, some-ne-none}
 use native.Mathlib.Decide.{ℕ_discrete, dec_lt}
@@ -10,9 +10,13 @@ use Rattle.atomic_table.specs.Table.{step, keeps, Allows, Splits, Joins}
 use Rattle.atomic_table.proofs.Lists.{at_set, at_snoc, set_again, set_here, set_else}
 use Rattle.g1_claim.specs.declared.rule.Hand.{Hand}
 use Rattle.g1_claim.specs.declared.rule.Sight.{Sight}
+use Rattle.g1_claim.specs.declared.rule.Offer.{Offer}
+use Rattle.g1_claim.specs.declared.witness.Witness.{Witness}
+use Rattle.g1_claim.specs.History.{History, Begins, least_in, times_in, bids, AreSeen, AreAll}
+use Rattle.g1_claim.proofs.History.{begins_all, begins_on, hands_set, hands_at, witnesses_set, witnesses_snoc, leads_told}
 use Rattle.g1_claim.specs.Claims.{empty, offer, sight, least_rank, least_value, one_if, times_offered, times_won, IsWordOf, IsWonOnce, IsSettled, AreWon}
 use Rattle.g1_claim.specs.Rule.{hand, first_hand, hands_total, offers_at, wins_of, least_offered, IsWord, after_offer, after_sight, left_hand, right_hand, both_hands, spent_hand}
-use Rattle.g1_claim.specs.Rule.{Leads, begin, place_offer, see, split, join, Claimed, Sat, Found, LeastBy, lowered, saw, looked, Won, Beaten, IsKnown}
+use Rattle.g1_claim.specs.Rule.{Leads, begin, place_offer, see, split, join, Claimed, Sat, AreWitnesses, hands_of, witness, first_witness, left_witness, right_witness, both_witnesses, spent_witness, Found, LeastBy, lowered, saw, looked, Won, Beaten, IsKnown}
 use Rattle.g1_claim.proofs.Kept.{AreBacked, IsIdle, Claiming}
 use Rattle.g1_claim.proofs.Totals.{least_rank_top, least_rank-append, least_value_top, least_value-append, times_offered-append, times_won-append, hands_total-set, hands_total-snoc}
 use Rattle.g1_claim.proofs.Totals.{total_le, lowest-set, lowest-set_top, lowest-snoc, lowest_le, lowest_top, shares_of, total_alone, lowest_alone, none_below_all, backed_on, backed-append}
@@ -339,21 +343,21 @@ module _ (v : Hand) (words : List ℕ) (vs : List Hand) (kept : Claiming words v
   known = (at_most_all, once_each, settled, seen)
 
 -- that holds after any interleaving, and there are as many words as places
-pub leads_keeps : (n : ℕ) (words : List ℕ) (hands : List Hand) → Leads n words hands → (length words ≡ n) × Claiming words hands
-leads_keeps n words hands begin = (length-replicate n empty, begins (replicate n empty) n refl)
-leads_keeps n _ _ (place_offer words hands k p r v before at some_share inside small) =
-    let kept = leads_keeps n words hands before in
+pub leads_keeps : (n : ℕ) (words : List ℕ) (hands : List Hand) (log : History) → Leads n words hands log → (length words ≡ n) × Claiming words hands
+leads_keeps n _ _ _ begin = (length-replicate n empty, begins (replicate n empty) n refl)
+leads_keeps n _ _ _ (place_offer words hands log k p r v before at some_share inside small) =
+    let kept = leads_keeps n words hands log before in
     let there = subst (λ m. p < m) (sym kept.0) inside in
     (length-set words p (min (get_or words p 0) r) ∙ kept.0, offer_keeps words hands k v p r kept.1 at there small some_share)
-leads_keeps n _ _ (see words hands k p v before at some_share inside) =
-    let kept = leads_keeps n words hands before in
+leads_keeps n _ _ _ (see words hands log k p v before at some_share inside) =
+    let kept = leads_keeps n words hands log before in
     let there = subst (λ m. p < m) (sym kept.0) inside in
     (kept.0, sight_keeps words hands k v p kept.1 at there some_share)
-leads_keeps n _ _ (split words hands k v before at two) =
-    let kept = leads_keeps n words hands before in
+leads_keeps n _ _ _ (split words hands log k v before at two) =
+    let kept = leads_keeps n words hands log before in
     (kept.0, after_split words hands k v kept.1 at two)
-leads_keeps n _ _ (join words hands k other v u before at some_share apart there _) =
-    let kept = leads_keeps n words hands before in
+leads_keeps n _ _ _ (join words hands log k other v u before at some_share apart there _) =
+    let kept = leads_keeps n words hands log before in
     (kept.0, after_join words hands k v other u kept.1 at apart (set_else hands k other (both_hands v u) apart ∙ there) some_share)
 
 -- the calls of the table
@@ -363,57 +367,140 @@ within [] i y e = absurd (some-ne-none y (sym e))
 within (z ∷ zs) zero y e = omega arith
 within (z ∷ zs) (suc i) y e = let r = within zs i y e in omega arith
 
-pub offers : (n slots id : ℕ) (me : Sat) (i r : ℕ) → 0 < me.0.shares → i < n → r < 2 ^ 32
+-- the offers of a hand have been seen by whoever has seen the whole history
+own : (n : ℕ) (words : List ℕ) (hands : List Hand) (log : History) (k : ℕ) (v : Hand) → Leads n words hands log → get_elem? hands k ≡ some v → AreSeen v.offers log
+own n words hands log k v leads at p r = let t = total_le (λ u. times_in p r (bids u.offers)) hands k v at in let all = (leads_told n words hands log leads).all p r in omega arith
+
+pub offers : (n slots id : ℕ) (me : Sat) (i r : ℕ) → 0 < me.0.hand.shares → i < n → r < 2 ^ 32
     → Allows (Claimed n) slots id me i (λ x. min x r) (lowered (step slots i r 0 none) me)
-offers n slots id me i r share place small s ruled _ at _ = let inside : i < length s.words = subst (λ (k : ℕ). i < k) (sym ruled.0) place in
-    let w : Hand = after_offer me.0 i r (ltb r (get_or s.words i 0)) in
-    let after = place_offer s.words s.views id i r me.0 ruled.1 at share place small in
-    let kept = leads_keeps n (set s.words i (min (get_or s.words i 0) r)) (set s.views id w) after in
-    let here = subst (λ (k : ℕ). Leads k s.words s.views) (sym ruled.0) ruled.1 in (
+offers n slots id me i r share place small s ruled _ at _ =
+    let inside : i < length s.words = subst (λ (k : ℕ). i < k) (sym ruled.0) place in
+    let vs : List Hand = hands_of s.views in let v : Hand = me.0.hand in let log : History = ruled.1.0 in let x : ℕ = get_or s.words i 0 in
+    let later : History = log ++ (i, r) ∷ [] in let w : Witness = witness (after_offer v i r (ltb r x)) later me.0.told in
+    let stood : get_elem? vs id ≡ some v = hands_at s.views id me.0 at in let mine = ruled.1.2 id me.0 at in
+    let after : Leads n (set s.words i (min x r)) (set vs id w.hand) later = place_offer s.words vs log id i r v ruled.1.1 stood share place small in
+    let now : get_elem? (set vs id w.hand) id ≡ some w.hand = set_here vs id w.hand (within vs id v stood) in
+    let here = subst (λ (k : ℕ). Leads k s.words vs log) (sym ruled.0) ruled.1.1 in
+    let was = (leads_told n s.words vs log ruled.1.1).least i place in (
       w,
       keeps,
       tt,
-      (length-set s.words i (min (get_or s.words i 0) r) ∙ ruled.0, after),
       (
-        refl,
-        (s.words, s.views, (here, (id, at)), inside, refl),
-        known w (set s.words i (min (get_or s.words i 0) r)) (set s.views id w) kept.1 id
-            (set_here s.views id w (within s.views id me.0 at)),
+        length-set s.words i (min x r) ∙ ruled.0,
+        (
+          later,
+          subst (λ (hs : List Hand). Leads n (set s.words i (min x r)) hs later) (sym (hands_set s.views id w)) after,
+          witnesses_set log later s.views id w ruled.1.2 (λ seen b. begins_on log ((i, r) ∷ []) seen b) (begins_all later) (begins_on log ((i, r) ∷ []) me.0.told mine.1),
+        ),
+      ),
+      (
+        (refl, refl),
+        (s.words, vs, ((log, here), (id, stood)), inside, refl),
+        known w.hand (set s.words i (min x r)) (set vs id w.hand) (leads_keeps n (set s.words i (min x r)) (set vs id w.hand) later after).1 id now,
+        (mine.0.0, ap (λ (l : History). l ++ (i, r) ∷ []) mine.0.1, ap (ltb r) (was ∙ ap (least_in i) mine.0.1)),
+        own n (set s.words i (min x r)) (set vs id w.hand) later id w.hand after now,
       ),
     )
 
-pub looks : (n slots id : ℕ) (me : Sat) (i : ℕ) → 0 < me.0.shares → i < n → Allows (Claimed n) slots id me i (λ x. x) (saw (step slots i 0 0 none) me)
-looks n slots id me i share place s ruled _ at _ = let inside : i < length s.words = subst (λ (k : ℕ). i < k) (sym ruled.0) place in
-    let x : ℕ = get_or s.words i 0 in let w : Hand = after_sight me.0 i x in let now : List Hand = set s.views id w in
-    let after = see s.words s.views id i me.0 ruled.1 at share place in
-    let kept = leads_keeps n s.words now after in
-    let here = subst (λ (k : ℕ). Leads k s.words s.views) (sym ruled.0) ruled.1 in (
+pub looks : (n slots id : ℕ) (me : Sat) (i : ℕ) → 0 < me.0.hand.shares → i < n → Allows (Claimed n) slots id me i (λ x. x) (saw (step slots i 0 0 none) me)
+looks n slots id me i share place s ruled _ at _ =
+    let inside : i < length s.words = subst (λ (k : ℕ). i < k) (sym ruled.0) place in
+    let vs : List Hand = hands_of s.views in let v : Hand = me.0.hand in let log : History = ruled.1.0 in let x : ℕ = get_or s.words i 0 in
+    let w : Witness = witness (after_sight v i x) log me.0.told in
+    let stood : get_elem? vs id ≡ some v = hands_at s.views id me.0 at in let mine = ruled.1.2 id me.0 at in
+    let after : Leads n s.words (set vs id w.hand) log = see s.words vs log id i v ruled.1.1 stood share place in
+    let now : get_elem? (set vs id w.hand) id ≡ some w.hand = set_here vs id w.hand (within vs id v stood) in
+    let here = subst (λ (k : ℕ). Leads k s.words vs log) (sym ruled.0) ruled.1.1 in (
       w,
       keeps,
       tt,
-      (length-set s.words i x ∙ ruled.0, subst (λ (ws : List ℕ). Leads n ws now) (sym (set_same s.words i inside)) after),
-      (refl, (s.words, s.views, (here, (id, at)), inside, refl), known w s.words now kept.1 id (set_here s.views id w (within s.views id me.0 at))),
+      (
+        length-set s.words i x ∙ ruled.0,
+        (
+          log,
+          subst (λ (z : List ℕ × List Hand). Leads n z.0 z.1 log) (λ j. (sym (set_same s.words i inside) j, sym (hands_set s.views id w) j)) after,
+          witnesses_set log log s.views id w ruled.1.2 (λ seen b. b) (begins_all log) mine.1,
+        ),
+      ),
+      (
+        (refl, refl),
+        (s.words, vs, ((log, here), (id, stood)), inside, refl),
+        known w.hand s.words (set vs id w.hand) (leads_keeps n s.words (set vs id w.hand) log after).1 id now,
+        (mine.0, (leads_told n s.words vs log ruled.1.1).least i place),
+        own n s.words (set vs id w.hand) log id w.hand after now,
+      ),
     )
 
-pub splits : (n id : ℕ) (v : Hand) → 1 < v.shares → Splits (Claimed n) id v (left_hand v) (right_hand v)
-splits n id v two s ruled at = (ruled.0, split s.words s.views id v ruled.1 at two)
+pub splits : (n id : ℕ) (w : Witness) → 1 < w.hand.shares → Splits (Claimed n) id w (left_witness w) (right_witness w)
+splits n id w two s ruled at =
+    let vs : List Hand = hands_of s.views in let log : History = ruled.1.0 in let mine = ruled.1.2 id w at in
+    let hands : hands_of (set s.views id (left_witness w) ++ right_witness w ∷ []) ≡ set vs id (left_hand w.hand) ++ right_hand w.hand ∷ [] =
+    map-append (λ (u : Witness). u.hand) (set s.views id (left_witness w)) (right_witness w ∷ []) ∙ ap (λ (l : List Hand). l ++ right_hand w.hand ∷ []) (hands_set s.views id (left_witness w)) in (
+      ruled.0,
+      (
+        log,
+        subst (λ (hs : List Hand). Leads n s.words hs log) (sym hands) (split s.words vs log id w.hand ruled.1.1 (hands_at s.views id w at) two),
+        witnesses_snoc log (set s.views id (left_witness w)) (right_witness w) (witnesses_set log log s.views id (left_witness w) ruled.1.2 (λ seen b. b) mine.0 mine.1) mine.0 (log, refl),
+      ),
+    )
 
-pub joins : (n id : ℕ) (v : Hand) (other : ℕ) (u : Hand) → 0 < v.shares → 0 < u.shares → Joins (Claimed n) id v other u (both_hands v u) spent_hand
-joins n id v other u share more s ruled at two at' = (ruled.0, join s.words s.views id other v u ruled.1 at share two (sym (set_else s.views id other (both_hands v u) two) ∙ at') more)
+pub joins : (n id : ℕ) (w : Witness) (other : ℕ) (u : Witness) → 0 < w.hand.shares → 0 < u.hand.shares → Joins (Claimed n) id w other u (both_witnesses w u) spent_witness
+joins n id w other u share more s ruled at two at' =
+    let vs : List Hand = hands_of s.views in let log : History = ruled.1.0 in let both : Witness = both_witnesses w u in
+    let there : get_elem? s.views other ≡ some u = sym (set_else s.views id other both two) ∙ at' in
+    let mine = ruled.1.2 id w at in let theirs = ruled.1.2 other u there in
+    let hands : hands_of (set (set s.views id both) other spent_witness) ≡ set (set vs id both.hand) other spent_hand =
+    hands_set (set s.views id both) other spent_witness ∙ ap (λ (l : List Hand). set l other spent_hand) (hands_set s.views id both) in (
+      ruled.0,
+      (
+        log,
+        subst (λ (hs : List Hand). Leads n s.words hs log) (sym hands) (join s.words vs log id other w.hand u.hand ruled.1.1 (hands_at s.views id w at) share two (hands_at s.views other u there) more),
+        witnesses_set log log (set s.views id both) other spent_witness (witnesses_set log log s.views id both ruled.1.2 (λ seen b. b) mine.0 theirs.0) (λ seen b. b) (log, refl) (log, refl),
+      ),
+    )
 
 pub stands : (n slots id : ℕ) (me : Sat) → 0 < n → Allows (Claimed n) slots id me 0 (λ x. x) (looked (step slots 0 0 0 none) me)
-stands n slots id me some_word s ruled _ at _ = let inside : 0 < length s.words = subst (λ (k : ℕ). 0 < k) (sym ruled.0) some_word in
-    let same = set_same s.words 0 inside in let alike = set_again s.views id me.0 at in (
-      me.0,
+stands n slots id me some_word s ruled _ at _ =
+    let inside : 0 < length s.words = subst (λ (k : ℕ). 0 < k) (sym ruled.0) some_word in
+    let vs : List Hand = hands_of s.views in let v : Hand = me.0.hand in let log : History = ruled.1.0 in let w : Witness = witness v log me.0.told in
+    let stood : get_elem? vs id ≡ some v = hands_at s.views id me.0 at in let mine = ruled.1.2 id me.0 at in (
+      w,
       keeps,
       tt,
-      subst (λ (z : List ℕ × List Hand). (length z.0 ≡ n) × Leads n z.0 z.1) (λ i. (sym same i, sym alike i)) ruled,
-      (refl, known me.0 s.words s.views (leads_keeps n s.words s.views ruled.1).1 id at),
+      (
+        length-set s.words 0 (get_or s.words 0 0) ∙ ruled.0,
+        (
+          log,
+          subst (λ (z : List ℕ × List Hand). Leads n z.0 z.1 log) (λ j. (sym (set_same s.words 0 inside) j, sym (hands_set s.views id w ∙ set_again vs id v stood) j)) ruled.1.1,
+          witnesses_set log log s.views id w ruled.1.2 (λ seen b. b) (begins_all log) mine.1,
+        ),
+      ),
+      ((refl, refl), known v s.words vs (leads_keeps n s.words vs log ruled.1.1).1 id stood, (mine.0, mine.1), own n s.words vs log id v ruled.1.1 stood),
     )
 
 -- a new table keeps its rule
-pub opens : (words : List ℕ) (n : ℕ) → words ≡ replicate n empty → (length words ≡ n) × Leads n words (first_hand ∷ [])
-opens words n is = (ap length is ∙ length-replicate n empty, subst (λ (ws : List ℕ). Leads n ws (first_hand ∷ [])) (sym is) begin)
+pub opens : (words : List ℕ) (n : ℕ) → words ≡ replicate n empty
+    → (length words ≡ n) × ((log : History) × Leads n words (hands_of (first_witness ∷ [])) log × AreWitnesses log (first_witness ∷ []))
+opens words n is = (
+  ap length is ∙ length-replicate n empty,
+  ([], subst (λ (ws : List ℕ). Leads n ws (first_hand ∷ []) []) (sym is) begin, first),
+)
+  where
+    first : AreWitnesses [] (first_witness ∷ [])
+    first zero w e = subst (λ (z : Witness). Begins [] z.seen × Begins [] z.told) (some-injective first_witness w e) (([], refl), ([], refl))
+    first (suc k) w e = absurd (some-ne-none w (sym e))
+
+-- what the words of a closed table are
+pub closed_history : (n id : ℕ) (w : Witness) (words : List ℕ) (views : List Witness) → Claimed n record { words = words; homes = []; views = views } → get_elem? views id ≡ some w → w.hand.shares ≡ 64
+    → (log : History) × Begins log w.seen × AreAll w.hand.offers log × ((p : ℕ) → p < n → get_or words p 0 ≡ least_in p log)
+closed_history n id w words views ruled at whole =
+    let vs : List Hand = hands_of views in let log : History = ruled.1.0 in let told = leads_told n words vs log ruled.1.1 in
+    let kept = (leads_keeps n words vs log ruled.1.1).1 in let stood : get_elem? vs id ≡ some w.hand = hands_at views id w at in (
+      log,
+      (ruled.1.2 id w at).0,
+      (λ p r. sym (total_alone (λ u. times_in p r (bids u.offers)) 0 vs id w.hand stood refl (λ k u e z. ap (λ (os : List Offer). times_in p r (bids os)) (kept.idle k u e z).0) (kept.shares ∙ sym whole)) ∙ told.all p r),
+      told.least,
+    )
 
 -- what is known of a new seat, and of the two that a split makes
 pub first_known : IsKnown first_hand
@@ -428,20 +515,20 @@ right_known v = (omega arith, (λ p r. omega arith), (λ all. absurd (omega arit
 -- what callers learn of a step
 
 pub found_floor : (v : Hand) (p n : ℕ) → Found v p n → n ≤ least_value p v.known
-found_floor v p n f = let h = (leads_keeps (length f.0) f.0 f.1 f.2.0).1.floors f.2.1.0 v f.2.1.1 p f.3 in let e = f.4 in omega arith
+found_floor v p n f = let h = (leads_keeps (length f.0) f.0 f.1 f.2.0.0 f.2.0.1).1.floors f.2.1.0 v f.2.1.1 p f.3 in let e = f.4 in omega arith
 
 pub found_word : (v : Hand) (p n : ℕ) → Found v p n → v.shares ≡ 64 → IsWordOf p n v.offers
-found_word v p n f whole = subst (λ (k : ℕ). IsWordOf p k v.offers) f.4 (word_of v f.0 f.1 (leads_keeps (length f.0) f.0 f.1 f.2.0).1 f.2.1.0 f.2.1.1 whole p f.3)
+found_word v p n f whole = subst (λ (k : ℕ). IsWordOf p k v.offers) f.4 (word_of v f.0 f.1 (leads_keeps (length f.0) f.0 f.1 f.2.0.0 f.2.0.1).1 f.2.1.0 f.2.1.1 whole p f.3)
 
 pub found_won : (v : Hand) (p n : ℕ) → Found v p n → (n ≡ empty) ⊎ Won v p n
-found_won v p n f = let w : IsWord p n f.1 = subst (λ (k : ℕ). IsWord p k f.1) f.4 ((leads_keeps (length f.0) f.0 f.1 f.2.0).1.words_least p f.3) in
+found_won v p n f = let w : IsWord p n f.1 = subst (λ (k : ℕ). IsWord p k f.1) f.4 ((leads_keeps (length f.0) f.0 f.1 f.2.0.0 f.2.0.1).1.words_least p f.3) in
     ⊎_elim (λ (e : (n ≡ empty) × (offers_at p f.1 ≡ 0)). inl e.0) (λ (e : wins_of p n f.1 ≡ 1). inr (f.0, f.1, f.2, e)) w.1
 
 pub found_beaten : (v : Hand) (p n r : ℕ) → Found v p n → n ≤ r → r < 2 ^ 32 → Beaten v p r
 found_beaten v p n r f le small = (n, le, ⊎_elim (λ (e : n ≡ empty). absurd (omega arith)) (λ (w : Won v p n). w) (found_won v p n f))
 
 pub found_least : (v : Hand) (p n : ℕ) → Found v p n → LeastBy v p n
-found_least v p n f = (f.0, f.1, f.2, f.3, sym f.4 ∙ ((leads_keeps (length f.0) f.0 f.1 f.2.0).1.words_least p f.3).0)
+found_least v p n f = (f.0, f.1, f.2, f.3, sym f.4 ∙ ((leads_keeps (length f.0) f.0 f.1 f.2.0.0 f.2.0.1).1.words_least p f.3).0)
 
 pub read_word : (l : List ℕ) (i n : ℕ) → get_elem? l i ≡ some n → get_or l i 0 ≡ n
 read_word [] i n e = absurd (some-ne-none n (sym e))

@@ -10,10 +10,12 @@ pub record TableView : Type 0 where
   pub id : TableId
   pub places : ℕ
 
--- a seat: of which table it is, and what it holds: its shares, the offers that it made, what it saw by `least`, and what it knows of the words
+-- a seat: of which table it is, what it holds: its shares, the offers that it made, what it saw by `least`, and what it knows of the words; and the
+-- beginning that it has seen of the table's history: the place and the rank of each offer, by whatever seat, in the order of their steps
 pub record SeatView : Type 0 where
   pub table : TableId
   pub hand : Hand
+  pub seen : List (ℕ × ℕ)
 
 -- the seat is one of this table's
 abbrev pub IsSeatOf : TableView → SeatView → Type 0

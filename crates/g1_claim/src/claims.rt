@@ -2,9 +2,11 @@ ghost use Rattle.std.specs.Prelude.{◌≡◌, ℕ, ◌+◌, ◌-◌, ◌<◌, �
 ghost use Rattle.g1_words.specs.declared.fault.Fault.TheVariants.{Memory};
 ghost use Rattle.g1_words.specs.Geometry.{most_words};
 ghost use Rattle.g1_claim.specs.Claims.{all_shares, IsSeatOf, least_rank, least_value, IsWordOf, IsSettled, IsWonOnce, AreWon};
+ghost use Rattle.g1_claim.specs.History.{History, Begins, least_in, IsOffer, AreSeen, AreAll};
 ghost use Rattle.g1_claim.specs.Rule.{first_hand, after_offer, after_sight, left_hand, right_hand, both_hands, Found, LeastBy, Won, Beaten};
 
-use crate::rule::{BothHands, Hand, LeastWins, Look, Lower, OneShare, See};
+use crate::rule::{BothHands, LeastWins, Look, Lower, OneShare, See};
+use crate::witness::Witness;
 use atomic_table::{Seat, Table};
 use g1_words::Fault;
 use std::alloc::Global;
@@ -22,7 +24,7 @@ const SHARES: u32 = 64;
 #[derive(Drop)]
 pub struct Claims {
     // One word more than places, so that a table of no places can be split too.
-    table: Table<(), Hand, u64, LeastWins, Global>,
+    table: Table<(), Witness, u64, LeastWins, Global>,
     // As long as the table, so that `close` returns the words without a request for memory.
     words: Vec<u64>,
 }
@@ -42,10 +44,11 @@ impl Model for Claims {
 /// The right of one thread to offer at the places of a table, for some of its 64 shares.
 ///
 /// Contracts see its shares, the ranks that it offered with their answers, what it saw by `least`,
-/// and what it knows of the words. These lists take no bytes.
+/// what it knows of the words, and the beginning that it has seen of the table's one history: the
+/// offers of all seats, in the order of their steps. These lists take no bytes.
 #[derive(Drop)]
 pub struct ClaimSeat {
-    seat: Seat<(), Hand>,
+    seat: Seat<(), Witness>,
     shares: u32,
 }
 
@@ -56,9 +59,9 @@ impl Model for ClaimSeat {
 
     ghost Value = { SeatView };
 
-    ghost view = { λ s. record { table = s.seat.table_id; hand = s.seat.me.0 } };
+    ghost view = { λ s. record { table = s.seat.table_id; hand = s.seat.me.0.hand; seen = s.seat.me.0.seen } };
 
-    ghost invariant = { λ s. (s.shares ≡ s.seat.me.0.shares) × (0 < s.shares) × (s.seat.me.1 ≡ []) × IsKnown s.seat.me.0 };
+    ghost invariant = { λ s. (s.shares ≡ s.seat.me.0.hand.shares) × (0 < s.shares) × (s.seat.me.1 ≡ []) × IsKnown s.seat.me.0.hand };
 }
 
 impl Claims {
@@ -71,6 +74,7 @@ impl Claims {
         ensures places { IfOk result (λ r. r.0.places ≡ places) }
         ensures seat { IfOk result (λ r. IsSeatOf r.0 r.1) }
         ensures hand { IfOk result (λ r. r.1.hand ≡ first_hand) }
+        ensures seen { IfOk result (λ r. r.1.seen ≡ []) }
         ensures err { IfErr result (λ e. e ≡ Memory) }
     {
         let count = places + 1;
@@ -97,6 +101,8 @@ impl Claims {
         ensures offered { seat.new.hand ≡ after_offer seat.old.hand place rank result }
         ensures lowered { (n : ℕ) × Found seat.old.hand place n × (result ≡ ltb rank n) }
         ensures so_far { (n : ℕ) × LeastBy seat.old.hand place n × (result ≡ ltb rank n) }
+        ensures history { IsOffer seat.old.seen place rank result seat.new.seen }
+        ensures own { AreSeen seat.new.hand.offers seat.new.seen }
         ensures below_known { IsTrue result → rank < least_value place seat.old.hand.known }
         ensures beaten { IsFalse result → Beaten seat.old.hand place rank }
         ensures least { seat.old.hand.shares ≡ all_shares → (IsTrue result ↔ (rank < least_rank place seat.old.hand.offers)) }
@@ -121,6 +127,8 @@ impl Claims {
         ensures seen { seat.new.hand ≡ after_sight seat.old.hand place result }
         ensures found { Found seat.old.hand place result }
         ensures so_far { LeastBy seat.old.hand place result }
+        ensures history { Begins seat.new.seen seat.old.seen × (result ≡ least_in place seat.new.seen) }
+        ensures own { AreSeen seat.new.hand.offers seat.new.seen }
         ensures won { (result ≡ EMPTY) ⊎ Won seat.old.hand place result }
         ensures known { result ≤ least_value place seat.old.hand.known }
         ensures least { seat.old.hand.shares ≡ all_shares → IsWordOf place result seat.old.hand.offers }
@@ -140,8 +148,10 @@ impl Claims {
         requires two { 1 < seat.old.hand.shares }
         ensures table { IsSeatOf self.now seat.new }
         ensures left { seat.new.hand ≡ left_hand seat.old.hand }
+        ensures same { seat.new.seen ≡ seat.old.seen }
         ensures other { IsSeatOf self.now result }
         ensures right { result.hand ≡ right_hand seat.old.hand }
+        ensures seen { result.seen ≡ seat.old.seen }
     {
         let other = self.table.shared.split_seat::<OneShare>(&mut seat.seat);
         seat.shares -= 1;
@@ -158,6 +168,8 @@ impl Claims {
         requires other { IsSeatOf self.now other }
         ensures table { IsSeatOf self.now seat.new }
         ensures both { seat.new.hand ≡ both_hands seat.old.hand other.hand }
+        ensures history { Begins seat.new.seen seat.old.seen × Begins seat.new.seen other.seen }
+        ensures own { AreSeen seat.new.hand.offers seat.new.seen }
         ensures most { seat.new.hand.shares ≤ all_shares }
         ensures once { IsWonOnce seat.new.hand.offers }
         ensures settled { seat.new.hand.shares ≡ all_shares → IsSettled seat.new.hand.offers }
@@ -178,6 +190,7 @@ impl Claims {
         requires whole { seat.hand.shares ≡ all_shares }
         ensures places { vec_len result ≡ self.places }
         ensures words { (p : ℕ) → p < self.places → IsWordOf p (slice_index result.items p) seat.hand.offers }
+        ensures history { (log : History) × Begins log seat.seen × AreAll seat.hand.offers log × ((p : ℕ) → p < self.places → slice_index result.items p ≡ least_in p log) }
         ensures once { IsWonOnce seat.hand.offers }
         ensures sights { AreWon seat.hand.sights seat.hand.offers }
     {

@@ -1,7 +1,7 @@
 //! What a seat keeps, and what any interleaving of the steps of all seats comes to.
 ghost use Rattle.std.specs.Prelude.{◌≡◌};
 ghost use Rattle.g1_claim.specs.Claims.{all_shares, IsSettled, IsWonOnce, AreWon};
-ghost use Rattle.g1_claim.specs.Interleaving.{LeastSoFar, WonSoFar};
+ghost use Rattle.g1_claim.specs.Interleaving.{LeastSoFar, WonSoFar, HistorySoFar, LaterIsLess};
 
 use crate::claims::{ClaimSeat, shares};
 
@@ -16,8 +16,12 @@ pub fn settled(seat: &ClaimSeat)
 
 /// Whatever the order of the steps, a word is the least rank that any seat has offered at its place
 /// so far, and exactly one offer of that rank answered true; or nobody has offered there and it is
-/// `EMPTY`.
+/// `EMPTY`. It is the least rank that the history has there, and the history has the offers of all
+/// seats and no others. So of two sights at a place the one that has seen more of the history is not
+/// greater.
 pub fn interleavings()
     ensures least { LeastSoFar }
     ensures won { WonSoFar }
+    ensures history { HistorySoFar }
+    ensures later { LaterIsLess }
 {}

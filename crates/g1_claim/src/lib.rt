@@ -11,6 +11,9 @@
 //! 3. One load of a word returns the least rank so far.
 //! 4. Seats are joined again. Once a seat has all 64 shares, each word is the least of the ranks
 //!    that this seat holds for its place, and closing the table with it gives the words.
+//! 5. The offers of all seats, in the order of their steps, are the table's one history. A load or
+//!    an offer sees all of it so far, and a seat keeps what it saw through splits and joins. So a
+//!    load never returns more than an earlier one at its place that its seat knows of.
 //!
 //! What holds of the words between any two steps is one definition, `Claimed` of `specs/Rule`: some
 //! interleaving of the seats' steps leads to them. What such interleavings come to are the laws in
@@ -20,5 +23,6 @@
 mod claims;
 pub mod laws;
 mod rule;
+mod witness;
 
 pub use claims::{ClaimSeat, Claims, EMPTY, shares};

@@ -4,6 +4,7 @@ ghost use Rattle.std.specs.Borrow.{ftrue};
 ghost use Rattle.g1_claim.specs.declared.rule.Offer.{Offer};
 ghost use Rattle.g1_claim.specs.declared.rule.Sight.{Sight};
 
+use crate::witness::Witness;
 use atomic_table::{Join, Play, Split, TableRule};
 use std::marker::Model;
 
@@ -35,18 +36,18 @@ impl Model for Hand {
 
 pub struct LeastWins;
 
-impl TableRule<(), Hand, u64> for LeastWins {
-    ghost use Rattle.g1_claim.specs.Rule.{Claimed, first_hand};
+impl TableRule<(), Witness, u64> for LeastWins {
+    ghost use Rattle.g1_claim.specs.Rule.{Claimed, first_witness};
 
     ghost holds = { Claimed };
 
-    ghost first = { λ _. first_hand };
+    ghost first = { λ _. first_witness };
 }
 
 // The step of `offer`.
 pub struct Lower;
 
-impl Play<(), Hand> for Lower {
+impl Play<(), Witness> for Lower {
     ghost use Rattle.g1_claim.specs.Rule.{lowered};
 
     ghost then = { lowered };
@@ -55,7 +56,7 @@ impl Play<(), Hand> for Lower {
 // The load of `least`.
 pub struct See;
 
-impl Play<(), Hand> for See {
+impl Play<(), Witness> for See {
     ghost use Rattle.g1_claim.specs.Rule.{saw};
 
     ghost then = { saw };
@@ -64,7 +65,7 @@ impl Play<(), Hand> for See {
 // The load of `join`, which tells what the joined seat holds.
 pub struct Look;
 
-impl Play<(), Hand> for Look {
+impl Play<(), Witness> for Look {
     ghost use Rattle.g1_claim.specs.Rule.{looked};
 
     ghost then = { looked };
@@ -72,20 +73,20 @@ impl Play<(), Hand> for Look {
 
 pub struct OneShare;
 
-impl Split<Hand> for OneShare {
-    ghost use Rattle.g1_claim.specs.Rule.{left_hand, right_hand};
+impl Split<Witness> for OneShare {
+    ghost use Rattle.g1_claim.specs.Rule.{left_witness, right_witness};
 
-    ghost left = { left_hand };
+    ghost left = { left_witness };
 
-    ghost right = { right_hand };
+    ghost right = { right_witness };
 }
 
 pub struct BothHands;
 
-impl Join<Hand> for BothHands {
-    ghost use Rattle.g1_claim.specs.Rule.{both_hands, spent_hand};
+impl Join<Witness> for BothHands {
+    ghost use Rattle.g1_claim.specs.Rule.{both_witnesses, spent_witness};
 
-    ghost both = { both_hands };
+    ghost both = { both_witnesses };
 
-    ghost spent = { spent_hand };
+    ghost spent = { spent_witness };
 }

@@ -2,7 +2,10 @@ use Rattle.std.proofs.Common.{◌≡◌, ℕ, ◌<◌, List, length, get_or, sym
 use Rattle.std.specs.Slots.{slots_items}
 use Rattle.g1_claim.specs.declared.rule.Hand.{Hand}
 use Rattle.g1_claim.specs.Claims.{SeatView, TableView, IsWordOf, IsWonOnce, AreWon}
-use Rattle.g1_claim.proofs.Steps.{read_word, word_of, leads_keeps}
+use Rattle.g1_claim.specs.History.{History, Begins, AreAll}
+use Rattle.g1_claim.specs.Rule.{hands_of}
+use Rattle.g1_claim.proofs.History.{hands_at}
+use Rattle.g1_claim.proofs.Steps.{read_word, word_of, leads_keeps, closed_history}
 use Rattle.g1_claim.proofs.claims.Claims.close.Goals as goal
 
 pub loop-place-preserved : goal.loop-place-preserved
@@ -33,8 +36,25 @@ returns-clause-words c p in_table =
     let done = c.loop-place-test.false in
     let last = c.len-place-end.ensures in
     let read = c.loop-place.invariant.written p (omega arith) ∙ ap (λ (l : List ℕ). get_or l p 0) (sym end.2) in
-    let here = word_of c.seat.inside.seat.me.0 words end.0.views (leads_keeps _ words end.0.views ruled.1).1 c.seat.inside.seat.id end.1.1 all p inside in
+    let here = word_of c.seat.inside.seat.me.0.hand words (hands_of end.0.views) (leads_keeps _ words (hands_of end.0.views) ruled.1.0 ruled.1.1).1 c.seat.inside.seat.id (hands_at end.0.views c.seat.inside.seat.id c.seat.inside.seat.me.0 end.1.1) all p inside in
     subst (λ (z : ℕ × Hand). IsWordOf p z.0 z.1.offers) (λ i. (sym read i, is i)) here
+
+pub returns-clause-history : goal.returns-clause-history
+returns-clause-history c =
+    let end = c.close_with-closed.ensures.values.2 in
+    let is = ap (λ (s : SeatView). s.hand) c.seat.view_is in
+    let seen = ap (λ (s : SeatView). s.seen) c.seat.view_is in
+    let all = ap (λ (h : Hand). h.shares) is ∙ c.requires.whole in
+    let size = ap (λ (t : TableView). t.places) c.self.view_is in
+    let kept = c.self.invariant in
+    let done = c.loop-place-test.false in
+    let last = c.len-place-end.ensures in
+    let h = closed_history _ c.seat.inside.seat.id c.seat.inside.seat.me.0 end.0.words end.0.views end.1.0 end.1.1 all in (
+      h.0,
+      subst (λ (l : History). Begins h.0 l) seen h.1,
+      subst (λ (x : Hand). AreAll x.offers h.0) is h.2,
+      (λ p in_table. c.loop-place.invariant.written p (omega arith) ∙ ap (λ (l : List ℕ). get_or l p 0) (sym end.2) ∙ h.3 p (omega arith)),
+    )
 
 pub returns-clause-once : goal.returns-clause-once
 returns-clause-once c = subst (λ (s : SeatView). IsWonOnce s.hand.offers) c.seat.view_is c.seat.invariant.3.1

@@ -1,4 +1,5 @@
 use Rattle.std.proofs.Common.{◌≡◌, sym, ap, ◌∙◌, arith}
+use Rattle.g1_claim.specs.declared.rule.Hand.{Hand}
 use Rattle.g1_claim.specs.Claims.{SeatView, TableView}
 use Rattle.g1_claim.specs.Rule.{Sat}
 use Rattle.g1_claim.proofs.Steps.{joins, stands}
@@ -23,9 +24,8 @@ load-requires c =
 pub invariant_of-seat : goal.invariant_of-seat
 invariant_of-seat c =
     let loaded = c.load.ensures.2 in
-    let me = loaded.0 ∙ c.join_seat.ensures.2 in
-    let sum = ap (λ (m : Sat). m.0.shares) me in
+    let sum = ap (λ (h : Hand). h.shares) (loaded.0.0 ∙ ap (λ (m : Sat). m.0.hand) c.join_seat.ensures.2) in
     let most = loaded.1.0 in
     let mine = c.seat.invariant in
     let theirs = c.other.invariant in
-    (omega arith, omega arith, ap (λ (m : Sat). m.1) me ∙ mine.2, loaded.1)
+    (omega arith, omega arith, loaded.0.1 ∙ ap (λ (m : Sat). m.1) c.join_seat.ensures.2 ∙ mine.2, loaded.1)
