@@ -30,10 +30,11 @@ COUNT = re.compile(rb"^(\w+): (\d+) runs were refused memory, (\d+) returned Mem
 # Calls that never return Memory.
 FREE = {"laid", "first", "slots_on", "leads_into", "pinned", "forward", "commit", "cost", "total", "each_region_mut"}
 CALLS = FREE | {
-    "settings", "decode", "read", "encode", "write", "objects_in", "verify", "merged", "starts", "refine", "given",
-    "cards_into", "claim_round", "discover", "place", "plan", "patches", "gather", "new_rem", "prepare", "prepare_on",
-    "live_bytes", "order", "choose", "deal", "claim", "each_chunk", "evacuate", "report", "pause_bytes", "pause_run",
-    "compare", "parse_trace", "mutator_new", "step", "run_trace", "run_text",
+    "settings", "decode", "read", "read_stale", "copy", "with_dirty", "encode", "write", "objects_in", "verify",
+    "merged", "starts", "refine", "given", "cards_into", "claim_round", "discover", "place", "plan", "patches",
+    "gather", "new_rem", "prepare", "prepare_on", "live_bytes", "order", "choose", "deal", "claim", "each_chunk",
+    "evacuate", "report", "pause_bytes", "pause_run", "compare", "parse_trace", "mutator_new", "step", "run_trace",
+    "run_text",
 }
 # A count whose bytes aren't there: nothing is asked for, so no refusal is met.
 NOTHING_THERE = b"# Nothing is asked for.\ndecode\nraw G1IMAGE2 16 4 4 0 4294967295 4\n----\nfault 3: short\n"

@@ -12,9 +12,9 @@ use Rattle.g1_image.specs.declared.cursor.Heading.{Heading}
 use Rattle.g1_image.specs.declared.cursor.Version.TheVariants.{One}
 use Rattle.g1_image.specs.Text.{Entry, Version, magic, heading_text, table_words}
 use Rattle.g1_image.specs.Reading.{IsBytes}
-use Rattle.g1_image.specs.Faults.{FaultOf, IsTextFault, TableFault, MayFail}
+use Rattle.g1_image.specs.Faults.{FaultOf, TableFault, MayFail}
 use Rattle.g1_image.specs.Reading.{FailsIf}
-use Rattle.g1_image.specs.Stale.{FaultWithout}
+use Rattle.g1_image.specs.Stale.{IsTextFault, FaultWithout}
 use Rattle.g1_image.specs.Plain.{PlainIs, FrontFits, front_text}
 use Rattle.g1_image.specs.Source.{HoldsOfLeft, ReadFails, IsReadOut, input_mark}
 use Rattle.g1_image.specs.Ahead.{TakeFails, TextFails}

@@ -1,5 +1,5 @@
 -- Stale words: roots and slots that are not null and reference no object. They are read as null.
-use Rattle.std.specs.Prelude.{◌≡◌, ◌<◌, ◌*◌, ◌^◌, ◌⊎◌, ℕ, List, [], ◌∷◌, ◌++◌, length, set, slice_index, All, AllPairs, Contains}
+use Rattle.std.specs.Prelude.{◌≡◌, ◌<◌, ◌*◌, ◌^◌, ◌⊎◌, ℕ, List, [], ◌∷◌, ◌++◌, length, set, slice_index, All, AllPairs, Contains, ⊤}
 use Rattle.g1_words.specs.Heap.{Heap}
 use Rattle.g1_words.specs.Valid.{AllShaped, HasObject, IsReference, IsSlotOf}
 use Rattle.g1_words.specs.declared.object.Object.{Object}
@@ -55,6 +55,16 @@ pub record IsTextWithout (bytes : List ℕ) (i : Image) (roots slots : List (ℕ
   pub stale_roots : Lists (IsStaleRoot (heap_of file)) roots
   pub stale_slots : Lists (IsStaleSlot (heap_of file)) slots
   pub image : i ≡ record { heap = without (heap_of file) roots slots; remembered = file.remembered; log = file.log }
+
+-- a fault that is found before the parts of a whole file are looked at
+abbrev pub IsTextFault : Fault → Type 0
+IsTextFault fault.Magic = ⊤
+IsTextFault fault.Geometry = ⊤
+IsTextFault fault.Short = ⊤
+IsTextFault fault.Trailing = ⊤
+IsTextFault fault.Memory = ⊤
+IsTextFault (fault.Device d) = ⊤
+IsTextFault _ = ⊥
 
 -- the fault of the bytes of which a stale word is none
 abbrev pub FaultWithout : List ℕ → Fault → Type 0

@@ -1,7 +1,8 @@
 ghost use Rattle.std.specs.Prelude.{◌≡◌, ◌≤◌, ◌<◌, ◌+◌, ◌^◌, ◌++◌, ℕ, List, length, drop, slice_index, ◌≢◌, IfSome, IfNone, OnOk, IfOk, IfErr, IsTrue, ◌↔◌};
 ghost use Rattle.g1_image.specs.Text.{u32 as u32_text, heading_text, digit, magic};
 ghost use Rattle.g1_image.specs.Reading.{IsBytes};
-ghost use Rattle.g1_image.specs.Faults.{HeadingFits, IsGoodHeading, IsTextFault, FaultOf};
+ghost use Rattle.g1_image.specs.Faults.{HeadingFits, IsGoodHeading, FaultOf};
+ghost use Rattle.g1_image.specs.Stale.{IsTextFault};
 
 use byteorder::{ByteOrder, LittleEndian};
 use g1_words::{Fault, Geometry, MOST_ROOTS};

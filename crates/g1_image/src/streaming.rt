@@ -3,9 +3,9 @@ ghost use Rattle.std.specs.Prelude.{◌≡◌, ◌≢◌, ◌≤◌, ◌<◌, �
 ghost use Rattle.std.specs.Io.KnownBytes.{IsAtEnd, Consumes};
 ghost use Rattle.g1_image.specs.Source.{HoldsOfLeft, IsReadOut, input_mark};
 ghost use Rattle.g1_image.specs.Image.{IsTextOf};
-ghost use Rattle.g1_image.specs.Faults.{FaultOf, IsTextFault, MayFail};
+ghost use Rattle.g1_image.specs.Faults.{FaultOf, MayFail};
 ghost use Rattle.g1_image.specs.Front.{IsGoodFront, text_of, IsLaidOut};
-ghost use Rattle.g1_image.specs.Stale.{IsTextWithout, FaultWithout};
+ghost use Rattle.g1_image.specs.Stale.{IsTextFault, IsTextWithout, FaultWithout};
 ghost use Rattle.g1_image.specs.Ahead.{to_take, KnowsEnd, TextFails};
 
 use crate::ahead::Ahead;

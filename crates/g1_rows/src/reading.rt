@@ -2,7 +2,7 @@
 use crate::calling::Call;
 use crate::cards::rises;
 use crate::watch::{Watch, text_of};
-use g1_image::{FromReader, Image, ToWriter, decode, read};
+use g1_image::{FromReader, Image, Stale, ToWriter, copy, decode, read, read_stale, with_dirty};
 use g1_rem::{Tracked, image, merged, verify};
 use g1_words::{Fault, Heap, objects_in, pinned};
 use std::alloc::Global;
@@ -66,6 +66,42 @@ fn received(alloc: Global, bytes: &[u8]) -> Result<Image, Fault> {
     let mut reader = bytes;
     let mut source = FromReader::new(&mut reader);
     read(alloc, &mut source)
+}
+
+/// The image of the bytes with null in its stale words, and these words.
+pub(crate) fn receive_stale<R>(call: &Call<'_, R>, watch: &mut Watch) -> Result<(), Fault> {
+    watch.at("read_stale");
+    let (image, stale) = received_stale(call.alloc, call.given.part(0))?;
+    watch.stale(&image, &stale);
+    Ok(())
+}
+
+/// What `read_stale` promises is not needed here.
+fn received_stale(alloc: Global, bytes: &[u8]) -> Result<(Image, Stale), Fault> {
+    let mut reader = bytes;
+    let mut source = FromReader::new(&mut reader);
+    read_stale(alloc, &mut source)
+}
+
+/// A copy of the image of the bytes.
+pub(crate) fn duplicate<R>(call: &Call<'_, R>, watch: &mut Watch) -> Result<(), Fault> {
+    let given = decode(call.alloc, call.given.part(0))?;
+    watch.at("copy");
+    let copied = copy(call.alloc, &given)?;
+    watch.image(&copied);
+    Ok(())
+}
+
+/// The image of the bytes with more dirty cards, or an empty list.
+pub(crate) fn add_dirty<R>(call: &Call<'_, R>, watch: &mut Watch) -> Result<(), Fault> {
+    let given = decode(call.alloc, call.given.part(0))?;
+    let cards = call.given.short_numbers(call.alloc, "cards")?;
+    watch.at("with_dirty");
+    match with_dirty(call.alloc, &given, cards.as_slice())? {
+        Some(dirtied) => watch.image(&dirtied),
+        None => watch.numbers::<u32>(&[]),
+    }
+    Ok(())
 }
 
 /// The image, its bytes, and its regions.

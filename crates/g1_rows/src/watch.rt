@@ -5,7 +5,7 @@
 //! `tools/refuse_calls.py` places a library before the allocator. Requests of sizes that nothing else makes show it where
 //! the watched call begins and ends, and where a run of it ends. It refuses the request of the end if it refused another
 //! one in that run.
-use g1_image::{Image, encode};
+use g1_image::{Image, Stale, encode};
 use g1_words::Fault;
 use std::alloc::{AllocError, Global};
 use std::fmt::Display;
@@ -198,6 +198,19 @@ impl Watch {
     /// The call returned this image.
     pub(crate) fn image(&mut self, image: &Image) {
         if self.is_over() || self.owed {
+            self.print_image(image);
+        }
+    }
+
+    /// The call returned this image, in which these words were stale.
+    pub(crate) fn stale(&mut self, image: &Image, stale: &Stale) {
+        if self.is_over() {
+            for (number, word) in &stale.roots {
+                self.named("root", &[*number, *word]);
+            }
+            for (address, word) in &stale.slots {
+                self.named("slot", &[*address, *word]);
+            }
             self.print_image(image);
         }
     }
