@@ -12,7 +12,7 @@ and `same --all`, is compared with a judge of this script's own, which walks bot
 heaps are compared as lines of objects by name, too. `same --set` has to find it wherever roots or objects outside the set
 lead to it, or a region is not as a pause of the set leaves it, with `--fill` and without, and `same --covered` wherever
 a slot is not covered. Some heaps have more than 256 roots, and some have an object outside the set that is equal to one
-of the set.
+of the set. Before all, `same --all` lists a chain of which all data words differ.
 The last line is 'N passed, M failed', after a count for each kind of error. With 20 cases or more each kind has to be
 planted: one that never was counts as failed.
 """
@@ -20,6 +20,7 @@ import argparse
 import collections
 import pathlib
 import random
+import struct
 import subprocess
 import sys
 import tempfile
@@ -134,6 +135,24 @@ def graph_lines(rng, image, letter, stray):
     for word in reversed(image.roots):  # the roots keep their order
         lines.insert(0, f"root {name(word)}")
     return "\n".join(["graph", *lines, ""])
+
+
+LONG_CHAIN = 400
+
+
+def long_chain(first):
+    """A chain of objects in two regions, each with a data word: these rise from `first`. The longest line of a difference
+    that `same --all` has of two such heaps is some 3 KB, and all together are more than half a megabyte."""
+    head = struct.pack("<6I", 1024, 64, 2, 1, 0, 2)
+    tops, table = (1023, 177), b""
+    for top in tops:
+        table += struct.pack("<3I", ORDINARY, top, 0)
+    addresses = [1024 * region + place for region, top in enumerate(tops) for place in range(0, top, 3)]
+    words = b""
+    for number, address in enumerate(addresses):
+        following = addresses[number + 1] + 1 if number + 1 < len(addresses) else NULL
+        words += struct.pack("<2I2Q", 1, 3, following, first + number)
+    return from_bytes(b"G1IMAGE2" + head + table + struct.pack("<Q", 1) + bytes(4 * 2) + words)
 
 
 def region_line(before, after, chosen, fill):
@@ -268,6 +287,14 @@ class Judge:
         self.judge(f"{name}, --set: {told}", self.same(after, "--covered", *words) == told)
         self.plant_all(name, before, opponent, after, chosen, rng)
 
+    def long_lines(self):
+        """Many lines that together are long, each with its whole path."""
+        before, after = long_chain(0), long_chain(1)
+        (self.folder / "before").write_bytes(before.to_bytes())
+        for most in (1, LONG_CHAIN // 2, LONG_CHAIN, 10 * LONG_CHAIN):
+            wanted = 1, judged_all(before, after, most), ""
+            self.judge(f"a chain of which all data differ, --all {most}", self.same(after, "--all", str(most)) == wanted)
+
     def plant_all(self, name, before, opponent, after, chosen, rng):
         """Plants an error of each kind."""
         planter = Planter(before, opponent, after, rng)
@@ -372,6 +399,7 @@ def main():
     progress.show("cases", lambda: cases, options.cases)
     with tempfile.TemporaryDirectory() as folder:
         judge = Judge(options, pathlib.Path(folder))
+        judge.long_lines()
         while cases < options.cases:
             cases += judge.case(f"case {cases}", rng)
     return judge.end()

@@ -5,7 +5,8 @@ Makes random traces with pauses at random places, and compares three replies to 
 `G1HEAP trace`, and those of `G1HEAP trace --live` over a pipe, where each line is written only when the reply to the line
 before has been read. Comments and empty lines between the lines change nothing, numbers of commands are right, and the image
 after a random command is covered and is the one that the shorter trace ends in. A spoiled line is refused by its number, no
-image is written then, and what a live trace replied before it stays.
+image is written then, and what a live trace replied before it stays. A live trace whose reader goes away ends at its next
+reply, and says nothing.
 
 The last line is 'N passed, M failed'.
 """
@@ -43,6 +44,22 @@ def live(g1heap, costs, lines):
         child.stdin.close()
         rest = child.stdout.read()
         return child.wait(SECONDS), replies, rest
+
+
+def left_alone(g1heap):
+    """The status and the standard error of a live trace whose reader goes away after a reply. It never has the input's end."""
+    with subprocess.Popen([g1heap, "trace", "--live"], stdin=subprocess.PIPE, stdout=subprocess.PIPE, stderr=subprocess.PIPE) as child:
+        child.stdin.write(b"heap 16 4 4 1\nnew 0 0 1\n")
+        child.stdin.flush()
+        child.stdout.readline()
+        child.stdout.close()
+        child.stdin.write(b"drop 0\n")
+        child.stdin.flush()
+        try:
+            return child.wait(SECONDS), child.stderr.read()
+        except subprocess.TimeoutExpired:
+            child.kill()
+            return None, b""
 
 
 def with_comments(lines, dice):
@@ -112,6 +129,7 @@ def main():
     parser.add_argument("--count", type=int, default=300, help="how many traces (default: 300)")
     options = parser.parse_args()
     tries = Tries(options.g1pause, options.g1heap)
+    tries.judge("a reader that goes away", left_alone(options.g1heap) == (141, b""), [])
     for number in progress.over(range(options.count), "traces"):
         tries.trace(random.Random(f"{options.seed} {number}"))
     print(f"{tries.passed} passed, {tries.failed} failed")

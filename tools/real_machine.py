@@ -4,7 +4,9 @@
 Runs the built program against what a real machine does: streams that are closed, full or broken, limits on files, on
 memory and on threads, a process that is stopped and goes on, calls that a signal interrupts, and reads that give few
 bytes. What the program has to do in each case stands in docs/HOSTILE.md. It needs Linux and a C compiler. HEAP is the
-built g1heap: its commands that read images get the short images, too. The last line is 'N passed, M failed'.
+built g1heap: its commands that read images get the short images, too, and it writes files: into a full disk, to a pipe,
+over a link, beside a file that has the name of its part, and on a machine that has no memory to make one. No case writes
+to a device by its name, except that standard output is the full one. The last line is 'N passed, M failed'.
 """
 import argparse
 import ctypes
@@ -128,6 +130,22 @@ ssize_t read(int file, void *into, size_t size) {
     if (!real) real = dlsym(RTLD_NEXT, "read");
     size_t most = atol(getenv("READ_MOST"));
     return real(file, into, file == 0 && size > most ? most : size);
+}
+"""
+
+
+# The system has no memory to make or to open a file to be written.
+UNMADE = r"""
+#define _GNU_SOURCE
+#include <dlfcn.h>
+#include <errno.h>
+#include <fcntl.h>
+
+int open(const char *path, int flags, ...) {
+    static int (*real)(const char *, int, ...);
+    if (!real) real = dlsym(RTLD_NEXT, "open");
+    if (flags & (O_WRONLY | O_RDWR)) { errno = ENOMEM; return -1; }
+    return real(path, flags);
 }
 """
 
@@ -277,6 +295,81 @@ class Machine(Judge):
                    counts[1] is not None and len(set(counts.values())) == 1)
 
 
+class HeapFiles(Judge):
+    """What g1heap writes, and where."""
+
+    def __init__(self, heap, folder):
+        super().__init__()
+        self.heap, self.folder = heap, folder
+        self.image, self.answer = folder / "image", folder / "answer"
+        self.image.write_bytes(ONE_OBJECT)
+        self.lines = subprocess.run([heap, "print", str(self.image)], capture_output=True, timeout=120, check=True).stdout
+
+    def run(self, words, data=b"", before=None, **streams):
+        streams.setdefault("stdout", subprocess.PIPE)
+        done = subprocess.run([self.heap, *map(str, words)], input=data, stderr=subprocess.PIPE, timeout=120, preexec_fn=before, **streams)
+        return done.stdout or b"", done.stderr, done.returncode
+
+    def told(self, file, what):
+        return b"", f"g1heap: {file}: {what}\n".encode(), 7 if "can't" in what else 6
+
+    def judge_files(self, name, good, names):
+        """Also these files are beside the image, and no others. They are taken away."""
+        found = {path.name for path in self.folder.iterdir()} - {"image"}
+        for path in found:
+            (self.folder / path).unlink()
+        self.judge(name, good and found == set(names))
+
+    def streams(self):
+        with open("/dev/full", "wb") as full:
+            for words in (["print"], ["explain"], ["why", "-", "16"], ["make", "-o", "-"], ["same", self.image, "-"], ["--help"]):
+                data = self.lines if words[0] == "make" else ONE_OBJECT
+                answer = self.run(words, data, stdout=full)
+                self.judge(f"g1heap {words[0]}, full standard output: {answer}", answer == (b"", b"g1heap: fault 14: output\n", 6))
+        for command in ("print", "make", "explain", "trace"):
+            answer = self.run([command, self.folder])
+            self.judge(f"g1heap {command} of a folder: {answer}", answer == self.told(self.folder, "fault 14: input"))
+
+    def files(self):
+        limit = 100
+
+        def before():
+            signal.signal(signal.SIGXFSZ, signal.SIG_IGN)
+            resource.setrlimit(resource.RLIMIT_FSIZE, (limit, limit))
+
+        self.answer.write_bytes(b"as it was")
+        answer = self.run(["print", "-o", self.answer], ONE_OBJECT, before=before)
+        kept = self.answer.read_bytes() == b"as it was"
+        self.judge_files(f"a file-size limit, -o: {answer}", answer == self.told(self.answer, "fault 14: output") and kept, ["answer"])
+        self.answer.write_bytes(b"as it was")
+        (self.folder / "answer.part1").write_bytes(b"somebody's")
+        good = self.run(["print", "-o", self.answer], ONE_OBJECT) == (b"", b"", 0) and self.answer.read_bytes() == self.lines
+        kept = (self.folder / "answer.part1").read_bytes() == b"somebody's"
+        self.judge_files("-o beside a file that has the name of its part", good and kept, ["answer", "answer.part1"])
+        (self.folder / "target").write_bytes(b"as it was")
+        self.answer.symlink_to(self.folder / "target")
+        good = self.run(["print", "-o", self.answer], ONE_OBJECT) == (b"", b"", 0) and not self.answer.is_symlink()
+        kept = (self.folder / "target").read_bytes() == b"as it was" and self.answer.read_bytes() == self.lines
+        self.judge_files("-o over a link", good and kept, ["answer", "target"])
+
+    def pipes(self):
+        os.mkfifo(self.answer)
+        reader = os.open(self.answer, os.O_RDONLY | os.O_NONBLOCK)
+        answer = self.run(["make", "-o", self.answer], self.lines)
+        out = os.read(reader, 1 << 16)
+        os.close(reader)
+        self.judge_files(f"-o to a pipe: {answer}", (answer, out) == ((b"", b"", 0), ONE_OBJECT) and self.answer.is_fifo(), ["answer"])
+
+    def memory(self):
+        environment = preloading(compiled(self.folder, "unmade.so", UNMADE, "-shared", "-fPIC", "-ldl"))
+        for words, data in ((["make"], self.lines), (["print"], ONE_OBJECT), (["explain"], ONE_OBJECT)):
+            answer = self.run([*words, "-o", self.answer], data, env=environment)
+            self.judge(f"no memory to make a file, {words[0]}: {answer}", answer == (b"", b"g1heap: fault 13: memory\n", 6))
+        trace = b"heap 16 4 4 1\nnew 0 0 1\n"
+        answer = self.run(["trace", "--image", "1", self.answer], trace, env=environment)
+        self.judge(f"no memory to make a file, trace: {answer}", answer == (b"", b"g1heap: fault 13: memory\n", 6))
+
+
 def no_threads():
     """From here on `clone` and `clone3` fail, as where the right to start threads is gone. Root is not held by a limit on
     processes, so a filter of system calls does it."""
@@ -308,6 +401,14 @@ def main():
     with tempfile.TemporaryDirectory() as room:
         machine.interrupted(pathlib.Path(room))
         machine.few_bytes(pathlib.Path(room))
+    if options.heap:
+        with tempfile.TemporaryDirectory() as room:
+            files = HeapFiles(options.heap, pathlib.Path(room))
+            files.streams()
+            files.files()
+            files.pipes()
+            files.memory()
+        machine.passed, machine.failed = machine.passed + files.passed, machine.failed + files.failed
     return machine.end()
 
 

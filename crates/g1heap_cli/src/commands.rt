@@ -68,8 +68,7 @@ fn answer<T: Threads + Sync + Files, R: Read, W: Write>(
     match request {
         Request::Help(text) => Ok(deliver_text(0, text.as_bytes(), writer)?),
         Request::Same(same) => {
-            let text = String::new(alloc);
-            let mut answer = LineWriter { text, writer };
+            let mut answer = LineWriter::new(alloc, writer);
             let status = compare_files(rt, alloc, same, reader, &mut answer)?;
             Ok(answer.write(status)?)
         }
