@@ -1,16 +1,19 @@
 #!/usr/bin/env python3
 """count_threads.py DRIVER
 
-Counts the threads that calls of the library start and no gate sees: those that merge remembered sets, look at the cards
-that lead into a search and make a pause ready. DRIVER, the built crates/g1_rows, runs each on an image with more cards
-than one thread is given, as a row whose answer is written here, and says where the call begins and ends. The call has to
-start at least one thread, and no more than there may be workers; on an image of few cards it has to start none, and none
-to list dirty cards, however many they are. On a machine of one processor nothing is counted.
+Counts the threads that calls of the library start: those that merge remembered sets, search and make a pause ready.
+DRIVER, the built crates/g1_rows, runs each on an image with more cards than one thread is given, as a row whose answer
+is written here, and says where the call begins and ends. The call has to start at least one thread, and no more than
+there may be workers; on an image of few cards it has to start none, and none to list dirty cards, however many they are.
+A search for live bytes and a pause have many roots and no cards, and four workers that draw the usual chunk: they have to
+start at least three threads in the round of the roots, and none with one worker. On a machine of one processor nothing is
+counted.
 It needs a C compiler. The last line is 'N passed, M failed'.
 """
 import argparse
 import os
 import pathlib
+import struct
 import sys
 import tempfile
 
@@ -76,6 +79,23 @@ def all_remembered(first=0):
     return b"G1IMAGE1" + front + numbers(*[0] * first) + sets + numbers(0) + numbers(0, 1) * (FULL - first)
 
 
+# Enough roots for four workers.
+ROOTS = 16_384
+
+
+def many_roots(first=0):
+    """Each of 96 regions has one object without slots, and all roots reference that of region 1. The regions before the
+    first one are free."""
+    front = numbers(1024, 4, FULL + 1, ROOTS, 0, FULL + 1) + numbers(*[0, 0] * first, *[1, 1] * (FULL - first), 0, 0)
+    sets = numbers(*[0] * (FULL + 1))
+    return in_version_two(b"G1IMAGE1" + front + struct.pack("<Q", 1024 + 1) * ROOTS + sets + numbers(0, 1) * (FULL - first))
+
+
+# By four workers or by one, with the usual chunk: the call, and what it answers.
+BY_ROUNDS = {
+    "live_bytes workers {} chunk 64 budget 0": lambda: lists([8 * (region == 1) for region in range(FULL + 1)]),
+    "pause_bytes workers {} chunk 64 regions 0": lambda: many_roots(1),
+}
 # Of a pause that collects region 0 of that image: the call, and what it answers.
 LARGE = {
     "refine": lambda: lists(*(cards_of_others(region) for region in range(FULL)), []),
@@ -92,11 +112,11 @@ SMALL = {
 }
 
 
-def count(library, report, driver, call, image, answer):
+def count(library, report, driver, words, image, answer):
     """The threads that the call started, or nothing if it answered otherwise."""
     environment = preloading(library, THREADS_REPORT=str(report))
     report.unlink(missing_ok=True)
-    out, errors, status = run([driver, "rows"], row(f"{call} workers {WORKERS} chunk 64", image, answer), environment)
+    out, errors, status = run([driver, "rows"], row(words, image, answer), environment)
     good = status == 0 and not errors and out.endswith(b"\n1 ok, 0 failed\n")
     return int(report.read_text()) if good and report.exists() else None
 
@@ -117,14 +137,19 @@ def main():
         library = compiled(folder, "count.so", LIBRARY, *words)
         counted = (library, folder / "threads", options.driver)
         large = [(f"{call} regions 0", all_remembered(), answer()) for call, answer in LARGE.items()]
+        team = f"workers {WORKERS} chunk 64"
         for call, image, answer in large:
-            started = count(*counted, call, image, answer)
+            started = count(*counted, f"{call} {team}", image, answer)
             judge.judge(f"{call} of many cards: {started} threads", started is not None and 1 <= started < WORKERS)
         for call, answer in SMALL.items():
-            started = count(*counted, f"{call} regions 1", SHARED, answer)
+            started = count(*counted, f"{call} regions 1 {team}", SHARED, answer)
             judge.judge(f"{call} of few cards: {started} threads", started == 0)
-        started = count(*counted, "refine regions 0", all_dirty(), lists([64 * 16_384], *[[]] * 64))
+        started = count(*counted, f"refine regions 0 {team}", all_dirty(), lists([64 * 16_384], *[[]] * 64))
         judge.judge(f"refine of many dirty cards: {started} threads", started == 0)
+        for call, answer in BY_ROUNDS.items():
+            started = [count(*counted, call.format(workers), many_roots(), answer()) for workers in (4, 1)]
+            judge.judge(f"{call.format(4)}: {started[0]} threads", started[0] is not None and started[0] >= 3)
+            judge.judge(f"{call.format(1)}: {started[1]} threads", started[1] == 0)
     return judge.end()
 
 

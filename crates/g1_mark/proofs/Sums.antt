@@ -24,7 +24,7 @@ ordered_part R f [] x o i = absurd i
 ordered_part R f (y ∷ xs) x o (inl e) = subst (λ z. Ordered R (f z)) e (ordered_left R (f y) (flat_map f xs) o)
 ordered_part R f (y ∷ xs) x o (inr i) = ordered_part R f xs x (ordered_right R (f y) (flat_map f xs) o) i
 
-size_kept : (o : Object) (os : List Object) (b : Bool) → sizes (cond b (o ∷ os) os) ≡ cond b o.size 0 + sizes os
+pub size_kept : (o : Object) (os : List Object) (b : Bool) → sizes (cond b (o ∷ os) os) ≡ cond b o.size 0 + sizes os
 size_kept o os true = sum_by-cons (λ (q : Object). q.size) o os
 size_kept o os false = omega arith
 

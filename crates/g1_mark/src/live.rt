@@ -7,7 +7,7 @@ ghost use Rattle.g1_work.specs.Team.{IsTeam};
 ghost use Rattle.g1_rem.specs.Starts.{IsStartsOf};
 ghost use Rattle.g1_mark.specs.Marked.{used};
 
-use crate::bytes::{bytes_at, used_regions};
+use crate::bytes::{bytes_at_by, used_regions};
 use g1_frontier::discover;
 use g1_rem::Starts;
 use g1_words::{Fault, Heap};
@@ -71,5 +71,5 @@ pub fn live_bytes<R: Threads + Sync, G: Gate + Sync>(
 {
     let team = Team::new(workers, chunk);
     let live = live_objects(rt, alloc, heap, starts, team, gate)?;
-    Ok(bytes_at(alloc, heap, live.as_slice())?)
+    Ok(bytes_at_by(rt, alloc, heap, live.as_slice(), workers)?)
 }
