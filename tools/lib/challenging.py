@@ -15,7 +15,7 @@ import time
 from random_heaps import PROFILES, draw_set
 from reducible import take_apart
 from reducing import Enough, Reducer
-from running import Ended
+from running import Ended, remove
 
 JUDGE_SECONDS = 60
 ROOM = 5  # the status of g1pause for a pause without room
@@ -107,8 +107,7 @@ class Trial:
     def once(self, chosen):
         """What is wrong with one answer; None if it is right, or if there is no room."""
         self.runs += 1
-        if self.after.is_symlink() or self.after.exists():
-            self.after.unlink()
+        remove(self.after)
         try:
             found = self.collector.run(self.before, self.after, chosen)
         except Ended as ended:
