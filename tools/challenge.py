@@ -21,6 +21,7 @@ was never room; 130 ended by a signal before an answer was wrong.
 """
 import argparse
 import pathlib
+import re
 import shlex
 import shutil
 import signal
@@ -282,10 +283,12 @@ class Challenge:
         if challenging.is_file(trial.after):
             shutil.copyfile(trial.after, out / "after.img")
         lines = self.heap_lines("print", str(trial.before))
+        pause = self.heap_lines("explain", str(trial.before), "--set", regions)
         (out / "verdict.txt").write_text(f"{(last or wrong).text}\n")
         (out / "before.txt").write_text(lines)
-        (out / "explain.txt").write_text(self.heap_lines("explain", str(trial.before), "--set", regions))
-        print("\n".join(shown(lines)))
+        (out / "explain.txt").write_text(pause)
+        steps = re.split("^set .*\n", pause, maxsplit=1, flags=re.MULTILINE)[-1]
+        print("\n".join([*shown(lines), "what our own pause does:", *shown(steps, 20)]))
         if not last:
             print("  it was right when it was run once more")
         print(f"{out}/ has before.img, before.txt, verdict.txt, explain.txt{', after.img' * (out / 'after.img').exists()}\n"

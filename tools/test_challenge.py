@@ -6,13 +6,12 @@ they are not there, can't be run, never end, fill the disk, flood their streams,
 temporary file may be left. The reducer may not lose the error, wherever it is stopped. Each kind of heaps at random has to give
 images that are covered, by the reading of tools/lib/image_text.py. It needs the built programs of out/.
 """
+import hashlib
 import os
 import pathlib
 import random
-import re
-import shlex
+import shutil
 import signal
-import stat
 import subprocess
 import sys
 import tempfile
@@ -162,7 +161,6 @@ class Wrong(Case):
     def test_one_heap(self):
         """A collector that is wrong on one heap alone: that heap is found, and nothing smaller."""
         image, chosen, _ = challenging.draw("1", 5)
-        import hashlib
         digest = hashlib.sha256(image.to_bytes()).hexdigest()
         command = self.script(WRONG_ON_ONE)
         status, out, _ = self.challenge("--tries", 60, "--", command, digest, *FILES)
@@ -322,6 +320,29 @@ class Signals(Case):
         self.assertIn(status, (1, 130))
         self.assertIn("wrong after", out)
         self.assertIn("and not done", out)
+
+
+class Machine(Case):
+    """The machine of examples/vm as a server of heaps, with each of its errors."""
+
+    def setUp(self):
+        super().setUp()
+        if shutil.which("cc") is None:
+            self.skipTest("no C compiler")
+        sources = [TOP / "examples" / "loop" / "loop.c", TOP / "examples" / "vm" / "collector.c"]
+        subprocess.run(["cc", "-std=c11", "-O2", "-Wall", "-Wextra", "-Werror", "-pthread", "-I", TOP / "include", "-I",
+                        TOP / "examples" / "vm", *sources, "-o", self.room / "loop"], check=True)
+
+    def test_right(self):
+        status, out, errors = self.challenge("--loop", "--graph", "--heaps", 300, "--", "./loop")
+        self.assertEqual((status, errors), (0, ""), out)
+
+    def test_errors(self):
+        for error, said in (("slot", "differ stale"), ("twice", "differ split"), ("torn", "differ data")):
+            command = self.script(f"VM_BUG={error} exec ./loop")
+            status, out, _ = self.challenge("--loop", "--graph", "--heaps", 5000, "--tries", 50, "--", command)
+            self.assertEqual(status, 1, error)
+            self.assertIn(said, out.splitlines()[1])
 
 
 class Reducing(unittest.TestCase):
