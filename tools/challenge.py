@@ -21,6 +21,7 @@ was never room; 130 ended by a signal before an answer was wrong.
 """
 import argparse
 import pathlib
+import re
 import shlex
 import shutil
 import signal
@@ -42,6 +43,7 @@ from programs import BUILD, OUT  # noqa: E402
 from random_heaps import PROFILES  # noqa: E402
 
 HEAPS = 1000
+TRIES = 500
 NO_ROOM = 75
 
 
@@ -100,7 +102,7 @@ def parser_of():
     asked.add_argument("--exact", action="store_true", help="the bytes of our own pause")
     asked.add_argument("--graph", action="store_true", help="only the graph, for a collector that lays out anew")
     small = parser.add_argument_group("the smallest heap")
-    small.add_argument("--tries", type=int, default=500, metavar="N", help="runs of COMMAND to make it smaller (default: 500)")
+    small.add_argument("--tries", type=int, metavar="N", help=f"runs of COMMAND to make it smaller (default: {TRIES} times --again)")
     small.add_argument("--same-kind", action="store_true", help="it has to go wrong in the same way")
     small.add_argument("--out", default="challenge", metavar="FOLDER", help="gets it (default: challenge)")
     parser.add_argument("--g1heap", default=built("g1heap"), metavar="FILE", help="the judge (default: out/g1heap)")
@@ -115,6 +117,7 @@ def options_of(words):
         ours, command = words[:words.index("--")], words[words.index("--") + 1:]
     options = parser.parse_args(ours)
     options.words, options.command = ours, command
+    options.tries = TRIES * options.again if options.tries is None else options.tries
     if options.profiles:
         return options
     try:
@@ -271,22 +274,23 @@ class Challenge:
     def write(self, trial, image, chosen, wrong):
         """Puts the smallest heap and what there is to say of it into the folder, and prints it."""
         out, regions = pathlib.Path(self.options.out), ",".join(map(str, chosen))
-        trial.before.write_bytes(image.to_bytes())
         trial.collector.renew()
-        said = trial.once(chosen)
+        last = trial.heap(image, chosen, self.options.again)
         out.mkdir(parents=True, exist_ok=True)
         for name in ("after.img", "before.img"):
             (out / name).unlink(missing_ok=True)
         shutil.copyfile(trial.before, out / "before.img")
         if challenging.is_file(trial.after):
             shutil.copyfile(trial.after, out / "after.img")
-        (out / "verdict.txt").write_text(f"{said or wrong.text}\n")
         lines = self.heap_lines("print", str(trial.before))
+        pause = self.heap_lines("explain", str(trial.before), "--set", regions)
+        (out / "verdict.txt").write_text(f"{(last or wrong).text}\n")
         (out / "before.txt").write_text(lines)
-        (out / "explain.txt").write_text(self.heap_lines("explain", str(trial.before), "--set", regions))
-        print("\n".join(shown(lines)))
-        if not said:
-            print(f"  it was right this time{wrong.often()}")
+        (out / "explain.txt").write_text(pause)
+        steps = re.split("^set .*\n", pause, maxsplit=1, flags=re.MULTILINE)[-1]
+        print("\n".join([*shown(lines), "what our own pause does:", *shown(steps, 20)]))
+        if not last:
+            print("  it was right when it was run once more")
         print(f"{out}/ has before.img, before.txt, verdict.txt, explain.txt{', after.img' * (out / 'after.img').exists()}\n"
               f"again: {self.again(chosen)}")
 

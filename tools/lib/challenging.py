@@ -15,7 +15,7 @@ import time
 from random_heaps import PROFILES, draw_set
 from reducible import take_apart
 from reducing import Enough, Reducer
-from running import Ended
+from running import Ended, remove
 
 JUDGE_SECONDS = 60
 ROOM = 5  # the status of g1pause for a pause without room
@@ -50,8 +50,13 @@ class Asked:
         if done.returncode not in (0, 1, 3, 4):
             raise Failed(f"g1heap same: status {done.returncode}: {done.stderr.strip()}")
         if done.returncode:
-            return (done.stdout or done.stderr).replace(str(after), "after").splitlines()[0]
+            return (done.stdout or done.stderr.partition(": ")[2]).replace(str(after), "after").splitlines()[0]
         return self.differs(before, after, chosen) if self.exact else None
+
+    def has_room(self, before, chosen):
+        """Whether our own pause finds room."""
+        words = [self.g1heap, "explain", str(before), "--set", ",".join(map(str, chosen))]
+        return subprocess.run(words, capture_output=True, timeout=JUDGE_SECONDS, check=False).returncode == 0
 
     def answer(self, before, chosen):
         """The bytes of our own pause. None if it finds no room."""
@@ -107,8 +112,7 @@ class Trial:
     def once(self, chosen):
         """What is wrong with one answer; None if it is right, or if there is no room."""
         self.runs += 1
-        if self.after.is_symlink() or self.after.exists():
-            self.after.unlink()
+        remove(self.after)
         try:
             found = self.collector.run(self.before, self.after, chosen)
         except Ended as ended:
@@ -203,14 +207,19 @@ class Hunt:
 
 def reduce(trial, image, chosen, wrong, tries, times=1, wanted=None, ends=()):
     """The smallest heap found that goes wrong, in so many runs of the collector: its image, set and Wrong, and whether the
-    tries sufficed. An exception of `ends` stops it, too, with what it has."""
+    tries sufficed. An exception of `ends` stops it, too, with what it has. If our own pause has room, it has room in the smallest,
+    too: so there is a right answer to compare with."""
     smallest, first = [image, chosen, wrong], trial.runs
+    trial.before.write_bytes(image.to_bytes())
+    needs_room = trial.asked.has_room(trial.before, chosen)
 
     def is_wrong(tried, regions):
         if trial.runs - first >= tries:
             raise Enough()
         trial.collector.renew()
         said = trial.heap(tried, regions, times, wanted)
+        if said and needs_room and not trial.asked.has_room(trial.before, regions):
+            return False
         if said:
             smallest[:] = tried, regions, said
         return said is not None

@@ -60,6 +60,14 @@ def draw(seed, number):
     return Trace(*Maker(random.Random(f"{seed} {number}")).trace())
 
 
+ROOTS = {"new": (1,), "get": (1, 2), "put": (1, 3), "set": (1,), "say": (1,), "same": (1, 2), "copy": (1, 2), "drop": (1,), "pause": ()}
+
+
+def renamed(line, old, new):
+    """A command on another root in place of one."""
+    return [new if place in ROOTS[line[0]] and word == old else word for place, word in enumerate(line)]
+
+
 def smaller_lines(line):
     """A command with smaller numbers."""
     numbers = [int(word) for word in line[1:]]
@@ -102,6 +110,7 @@ class TraceReducer:
         size = None
         while size != (size := len(self.trace.text())):
             self.shorten()
+            self.merge()
             for at in range(len(self.trace.lines)):
                 self.simplify(at)
             while any(self.attempt(head, self.trace.lines) for head in smaller_heads(self.trace.head)):
@@ -117,6 +126,13 @@ class TraceReducer:
                 if not self.attempt(self.trace.head, lines[:at] + lines[at + step:]):
                     at += step
             step //= 2
+
+    def merge(self):
+        """Has commands on two roots be on the lower one."""
+        for old in range(int(self.trace.head.split()[4]) - 1, 0, -1):
+            for new in range(old):
+                if self.attempt(self.trace.head, [renamed(line, str(old), str(new)) for line in self.trace.lines]):
+                    break
 
     def simplify(self, at):
         lines = self.trace.lines

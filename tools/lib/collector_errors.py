@@ -64,15 +64,6 @@ class RootsBeyond256(Opponent):
         self.image.roots[256:] = roots[256:]
 
 
-class EqualRoots(Opponent):
-    """a second root to one object is not updated"""
-
-    def update(self, outside):
-        roots = self.image.roots
-        super().update(outside)
-        self.image.roots = [old if old in roots[:i] else new for i, (old, new) in enumerate(zip(roots, self.image.roots))]
-
-
 class HumongousTails(Opponent):
     """slots of a humongous object behind its first region are not updated"""
 
@@ -122,13 +113,6 @@ class PinnedOwners(Opponent):
 
     def slots_outside(self):
         return (s for s in super().slots_outside() if not self.image.pinned[self.image.region_of(s)])
-
-
-class LastRegion(Opponent):
-    """slots in the last region of the heap are not updated"""
-
-    def slots_outside(self):
-        return (s for s in super().slots_outside() if self.image.region_of(s) != self.image.regions - 1)
 
 
 class FirstObject(Opponent):
@@ -183,6 +167,20 @@ class OneReferenceACard(ByCards):
 
     def slots_of_card(self, card):
         return [slot for slot in super().slots_of_card(card) if self.leads_in(self.image.words[slot])][:1]
+
+
+class ClearedEarly(ByCards):
+    """a card that was looked at for one region of the set is not looked at again for the next"""
+
+    def slots_outside(self):
+        everything = list(super().slots_outside())
+        cleared = set()
+        for region in sorted(self.chosen):
+            cards = ({*self.set_of(region), *self.dirty()} & set(self.cards())) - cleared
+            cleared |= cards
+            for slot in everything:
+                if slot // self.image.card_words in cards and self.image.region_of(self.image.words[slot] - 1) == region:
+                    yield slot
 
 
 class LastWordOfCard(ByCards):
@@ -337,15 +335,6 @@ class PinsLost(Opponent):
         self.image.pinned = [False] * self.image.regions
 
 
-class RegionNotFreed(Opponent):
-    """a region of the set without survivors is not freed"""
-
-    def free_set(self):
-        copied = {self.image.region_of(address) for address in self.copies}
-        self.chosen = self.chosen & copied
-        super().free_set()
-
-
 class CardsOfCopies(Opponent):
     """the sets after lack the cards of slots in copies"""
 
@@ -421,9 +410,9 @@ class TopOfFull(Opponent):
             image.tops[region] -= image.tops[region] == image.region_words
 
 
-ERRORS = (LastRoot, NullRootEnds, RootsBeyond256, EqualRoots, HumongousTails, RunBorders, LastSlots, SlotsBeyond256,
-          DeadOwners, PinnedOwners, LastRegion, FirstObject, LastWordOfRegion, FullRegions, LogForgotten, SetsCut,
-          FirstCard, OneReferenceACard, LastWordOfCard, StartsOnTheCard, StaleCards, TornCopies, SmallSlotCounts,
+ERRORS = (LastRoot, NullRootEnds, RootsBeyond256, HumongousTails, RunBorders, LastSlots, SlotsBeyond256, DeadOwners,
+          PinnedOwners, FirstObject, LastWordOfRegion, FullRegions, LogForgotten, SetsCut, FirstCard,
+          OneReferenceACard, ClearedEarly, LastWordOfCard, StartsOnTheCard, StaleCards, TornCopies, SmallSlotCounts,
           SecondCopy, OneWordObjects, LargestObjects, ShortQueue, DeepChains, SelfReferences, InteriorRegions,
-          DataUpdated, EqualObjects, PinsLost, RegionNotFreed, CardsOfCopies, CardsOfTails, LastCard, SetsOfTheFreed,
-          ReusedSets, LogKept, CurrentKept, TopOfFull)
+          DataUpdated, EqualObjects, PinsLost, CardsOfCopies, CardsOfTails, LastCard, SetsOfTheFreed, ReusedSets,
+          LogKept, CurrentKept, TopOfFull)

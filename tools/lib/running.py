@@ -8,6 +8,7 @@ import pathlib
 import resource
 import select
 import shlex
+import shutil
 import signal
 import subprocess
 import threading
@@ -51,6 +52,14 @@ def last_line(path):
         lines = file.read().decode(errors="replace").split("\n")
     kept = [line.strip() for line in lines if line.strip()]
     return "".join(c if c.isprintable() else "?" for c in kept[-1][-200:]) if kept else ""
+
+
+def remove(path):
+    """Removes a file or a folder, if it is there."""
+    if path.is_dir() and not path.is_symlink():
+        shutil.rmtree(path)
+    else:
+        path.unlink(missing_ok=True)
 
 
 class Group:
@@ -121,12 +130,21 @@ class Command:
         with open(before if self.by_streams else os.devnull, "rb") as stdin, open(errors, "wb") as stderr, \
                 open(after if self.by_streams else self.folder / "printed", "wb") as stdout:
             self.group = Group(self.words_of(before, after, chosen), self.folder, stdin=stdin, stdout=stdout, stderr=stderr)
-            status = self.group.wait(self.seconds)
+            status = self.wait({"errors", "printed", before.name, after.name})
         if status == self.no_room:
             return False
         if status:
             raise Ended(how_it_ended(status, last_line(errors)))
         return True
+
+    def wait(self, ours):
+        """The status. What it left in its folder is removed."""
+        try:
+            return self.group.wait(self.seconds)
+        finally:
+            for path in self.folder.iterdir():
+                if path.name not in ours:
+                    remove(path)
 
     def renew(self):
         """Nothing of one run is left for the next."""
@@ -150,6 +168,8 @@ class Server:
     def run(self, before, after, chosen):
         os.truncate(self.folder / "errors", 0) if self.group else self.start()
         try:
+            if select.select([self.group.process.stdout], [], [], 0)[0]:
+                self.reply_unasked()
             try:
                 self.group.process.stdin.write(f"{before} {after} {','.join(map(str, chosen))}\n".encode())
             except OSError:
@@ -174,6 +194,11 @@ class Server:
         if line.strip() not in (b"ok", b"room"):
             raise Ended(f"the reply {line.decode(errors='replace').strip()[:60]!r}, which is neither ok nor room")
         return line.strip()
+
+    def reply_unasked(self):
+        """What it wrote, or that it ended, since the heap before."""
+        part = os.read(self.group.process.stdout.fileno(), LONGEST_REPLY)
+        raise Ended("a reply of more than one line, to the heap before" if part else self.end_of(self.group))
 
     def end_of(self, group):
         """How it ended, if it closed its streams and ended."""
