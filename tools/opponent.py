@@ -18,6 +18,7 @@ import sys
 sys.path.insert(0, str(pathlib.Path(__file__).resolve().parent / "lib"))
 
 from heap_image import FREE, NULL, ORDINARY, from_bytes  # noqa: E402
+from programs import regions  # noqa: E402
 
 
 def refused(image, region):
@@ -135,12 +136,13 @@ def main():
     parser = argparse.ArgumentParser(description=__doc__, formatter_class=argparse.RawDescriptionHelpFormatter)
     parser.add_argument("image")
     parser.add_argument("out")
-    parser.add_argument("--set", type=int, nargs="+", required=True, metavar="R")
+    parser.add_argument("--set", type=regions, nargs="+", required=True, metavar="R")
     parser.add_argument("--seed", type=int, default=1, metavar="S")
     parser.add_argument("--threads", type=int, default=3, metavar="T")
     parser.add_argument("--buffer", type=int, default=12, metavar="WORDS")
     parser.add_argument("--fill", action="store_true")
     options = parser.parse_args()
+    options.set = [region for some in options.set for region in some]
     try:
         image = from_bytes(pathlib.Path(options.image).read_bytes())
     except OSError as error:
